@@ -1,0 +1,60 @@
+ghost use Rattle.std.specs.Prelude.{◌≡◌, not};
+
+/// The three kinds of diagram.
+#[derive(Debug, Clone, Copy, PartialEq, Eq)]
+pub enum Kind {
+    /// A binary decision diagram (Bryant 1986), with complemented else arcs (Brace, Rudell and Bryant 1990).
+    Bdd,
+    /// An algebraic decision diagram: whole numbers at its leaves.
+    Add,
+    /// A zero-suppressed decision diagram (Minato 1993): a family of combinations.
+    Zdd,
+}
+
+/// An arc: the slot that it leads to, below 2^23, and whether it complements the function there.
+#[derive(Debug, Clone, Copy, PartialEq, Eq)]
+pub struct Edge {
+    pub index: u32,
+    pub complement: bool,
+}
+
+impl Edge {
+    /// The arc to this slot.
+    pub fn new(index: u32, complement: bool) -> Edge
+        ensures { result ≡ record { index = index; complement = complement } }
+    {
+        Edge { index, complement }
+    }
+
+    /// The slot that the arc leads to.
+    pub fn index(&self) -> u32
+        ensures { result ≡ self.now.index }
+    {
+        self.index
+    }
+
+    /// Whether the arc complements the function there.
+    pub fn complement(&self) -> bool
+        ensures { result ≡ self.now.complement }
+    {
+        self.complement
+    }
+
+    /// The arc to the same slot with the other complement.
+    pub fn flip(&self) -> Edge
+        ensures { result ≡ record self.now { complement = not self.now.complement } }
+    {
+        Edge {
+            index: self.index,
+            complement: !self.complement,
+        }
+    }
+}
+
+/// A node line of a stored diagram (DDDMP-2.0): a variable, the line of its then child, and that of its else child, negative where the arc is complemented.
+#[derive(Debug, Clone, Copy, PartialEq, Eq)]
+pub struct Line {
+    pub var: u32,
+    pub hi: u32,
+    pub lo: i32,
+}

@@ -1,0 +1,128 @@
+-- Scripts of one session, computed: what the plain table replies to each call. Names are the calls' own numbers.
+use Rattle.std.specs.Prelude.{◌≡◌, ℕ, ◌^◌, suc, ◌==◌, Bool, true, false, not, ◌&&◌, ℤ, pos, negsuc, List, [], ◌∷◌, Option, Some, None, refl}
+use Rattle.edge_bits.specs.Assignments.{set_bit}
+use Rattle.function_laws.specs.declared.history.Name.{Name}
+use Rattle.function_laws.specs.declared.history.Function.{Function}
+use Rattle.function_laws.specs.declared.history.Function.TheVariants.{Bdd, Add, Zdd}
+use Rattle.function_laws.specs.declared.history.Sifting.{Sifting}
+use Rattle.function_laws.specs.declared.history.Call.{Call}
+use Rattle.function_laws.specs.declared.history.Call.TheVariants.{One, Zero, Var, And, Or, Cofactor, Exists, Forall, AndExists, Compose, VectorCompose, Support, Constant, FromBdd, Plus, Minus, Empty, Base, Single, Union, Meet, Diff, Subset1, Subset0, Change, Product, Quotient, Same, Leq, Eval, Sweep, Swap, Sift, AddVar, AddElement}
+use Rattle.function_laws.specs.declared.history.Reply.{Reply}
+use Rattle.function_laws.specs.declared.history.Reply.TheVariants.{Made, Chose, Fetched, Numbered, Done, Truth, Value, Overflow, Most, Full}
+use Rattle.function_laws.specs.Lists.{any_below, all_below, list_of}
+use Rattle.function_laws.specs.Values.{constant, exists_all, forall_all, set_each, differs}
+use Rattle.function_laws.specs.Tables.{Table, Sizes, opening}
+use Rattle.function_laws.specs.Steps.{Outcome, makes, restricts, fetches, counts, overflows, is_most, compares, tells, shows, is_done, outcome, after}
+
+abbrev n : ℕ → Name
+n i = record { row = i; generation = 0 }
+
+abbrev same_truths : List Bool → List Bool → Bool
+same_truths [] [] = true
+same_truths (a ∷ as') (b ∷ bs) = not (differs a b) && same_truths as' bs
+same_truths _ _ = false
+
+abbrev same_numbers : ℤ → ℤ → Bool
+same_numbers (pos a) (pos b) = a == b
+same_numbers (negsuc a) (negsuc b) = a == b
+same_numbers _ _ = false
+
+abbrev same_wholes : List ℤ → List ℤ → Bool
+same_wholes [] [] = true
+same_wholes (a ∷ as') (b ∷ bs) = same_numbers a b && same_wholes as' bs
+same_wholes _ _ = false
+
+abbrev same_functions : Function → Function → Bool
+same_functions (Bdd f) (Bdd g) = same_truths f g
+same_functions (Add f) (Add g) = same_wholes f g
+same_functions (Zdd f) (Zdd g) = same_truths f g
+same_functions _ _ = false
+
+abbrev reply_for : Name → Option Outcome → Reply
+reply_for r (Some (makes f)) = Made r
+reply_for r (Some (restricts f c)) = Chose r f
+reply_for r (Some (fetches f posted)) = Fetched r posted
+reply_for r (Some (counts f m)) = Numbered r m
+reply_for r (Some overflows) = Overflow
+reply_for r (Some is_most) = Most
+reply_for r (Some (compares f g)) = Truth (same_functions f g)
+reply_for r (Some (tells b)) = Truth b
+reply_for r (Some (shows z)) = Value z
+reply_for r (Some is_done) = Done
+reply_for r None = Full 0 0
+
+abbrev shown : Reply → Reply
+shown (Made r) = Done
+shown (Chose r g) = Done
+shown (Numbered r m) = Value (pos m)
+shown reply = reply
+
+abbrev play : ℕ → Table → List Call → List Reply
+play i t [] = []
+play i t (c ∷ cs) = let reply = reply_for (n i) (outcome t 0 c) in shown reply ∷ play (suc i) (after t 0 c reply) cs
+
+abbrev sizes : ℕ → ℕ → Sizes
+sizes v e = record { variables = v; elements = e; most_variables = 3; most_elements = 3 }
+
+abbrev run : ℕ → ℕ → List Call → List Reply
+run v e calls = play 0 (opening (sizes v e)) calls
+
+abbrev nothing : Sifting
+nothing = record { variables = []; elements = []; functions = [] }
+
+abbrev yes' : Reply
+yes' = Truth true
+
+-- row 2
+two : run 0 0 (One ∷ Zero ∷ Same (n 0) (n 1) ∷ Eval (n 0) [] ∷ []) ≡ Done ∷ Done ∷ Truth false ∷ Value (pos 1) ∷ []
+unfolding list_of
+two = refl
+
+-- row 8
+over : run 1 0 (Var 0 ∷ Constant (pos 70368744177663) ∷ FromBdd (n 0) ∷ Plus (n 1) (n 2) ∷ Eval (n 1) (false ∷ []) ∷ [])
+    ≡ Done ∷ Done ∷ Done ∷ Overflow ∷ Value (pos 70368744177663) ∷ []
+unfolding list_of set_bit
+over = refl
+
+under : run 1 0 (Var 0 ∷ FromBdd (n 0) ∷ Constant (negsuc 70368744177663) ∷ Minus (n 2) (n 1) ∷ []) ≡ Done ∷ Done ∷ Done ∷ Overflow ∷ []
+unfolding list_of
+under = refl
+
+-- row 10
+families : run 0 2 (Base ∷ Single 0 ∷ Change (n 1) 1 ∷ Change (n 0) 1 ∷ Union (n 2) (n 3) ∷ Empty ∷ Subset1 (n 4) 1 ∷ Subset0 (n 4) 1 ∷ Change (n 4) 1
+    ∷ Same (n 6) (n 8) ∷ Same (n 7) (n 5) ∷ Quotient (n 4) (n 5) ∷ Same (n 11) (n 5) ∷ Quotient (n 4) (n 3) ∷ Same (n 13) (n 6)
+    ∷ Product (n 1) (n 2) ∷ Same (n 15) (n 2) ∷ Meet (n 4) (n 2) ∷ Same (n 17) (n 2) ∷ Diff (n 4) (n 2) ∷ Same (n 19) (n 3)
+    ∷ Eval (n 4) (true ∷ true ∷ []) ∷ Eval (n 4) (true ∷ false ∷ []) ∷ [])
+    ≡ Done ∷ Done ∷ Done ∷ Done ∷ Done ∷ Done ∷ Done ∷ Done ∷ Done ∷ yes' ∷ yes' ∷ Done ∷ yes' ∷ Done ∷ yes' ∷ Done ∷ yes' ∷ Done ∷ yes' ∷ Done ∷ yes'
+    ∷ Value (pos 1) ∷ Value (pos 0) ∷ []
+unfolding list_of set_bit any_below all_below
+families = refl
+
+-- row 20
+operators : run 3 0 (Var 0 ∷ Var 1 ∷ Var 2 ∷ And (n 0) (n 1) ∷ Exists (n 3) (0 ∷ []) ∷ Same (n 4) (n 1) ∷ Zero ∷ Forall (n 3) (0 ∷ []) ∷ Same (n 7) (n 6)
+    ∷ AndExists (n 0) (n 1) (0 ∷ []) ∷ Same (n 9) (n 1) ∷ Compose (n 3) 0 (n 2) ∷ Support (n 3) ∷ Same (n 12) (n 3)
+    ∷ VectorCompose (n 3) ((0, n 1) ∷ (1, n 0) ∷ []) ∷ Same (n 14) (n 3) ∷ Cofactor (n 3) 0 true ∷ Same (n 16) (n 1) ∷ Or (n 0) (n 1)
+    ∷ Leq (n 3) (n 18) ∷ Leq (n 18) (n 3) ∷ Swap 0 ∷ Eval (n 11) (false ∷ true ∷ true ∷ []) ∷ Sift nothing ∷ Sweep ∷ Eval (n 11) (false ∷ true ∷ true ∷ []) ∷ [])
+    ≡ Done ∷ Done ∷ Done ∷ Done ∷ Done ∷ yes' ∷ Done ∷ Done ∷ yes' ∷ Done ∷ yes' ∷ Done ∷ Done ∷ yes' ∷ Done ∷ yes' ∷ Done ∷ yes' ∷ Done
+    ∷ yes' ∷ Truth false ∷ Done ∷ Value (pos 1) ∷ Done ∷ Done ∷ Value (pos 1) ∷ []
+unfolding list_of set_bit any_below all_below exists_all forall_all set_each
+operators = refl
+
+-- a variable added while it runs; an element; the greatest number
+grown : run 1 0 (Var 0 ∷ AddVar ∷ And (n 0) (n 1) ∷ Eval (n 2) (true ∷ true ∷ []) ∷ Eval (n 2) (true ∷ []) ∷ Exists (n 2) (1 ∷ []) ∷ Same (n 5) (n 0) ∷ [])
+    ≡ Done ∷ Value (pos 1) ∷ Done ∷ Value (pos 1) ∷ Value (pos 0) ∷ Done ∷ yes' ∷ []
+unfolding list_of set_bit exists_all
+grown = refl
+
+grown_element : run 0 1 (Base ∷ Single 0 ∷ Union (n 0) (n 1) ∷ Eval (n 2) (true ∷ []) ∷ AddElement ∷ Eval (n 2) (true ∷ true ∷ []) ∷ Eval (n 2) (true ∷ false ∷ []) ∷ [])
+    ≡ Done ∷ Done ∷ Done ∷ Value (pos 1) ∷ Value (pos 1) ∷ Value (pos 0) ∷ Value (pos 1) ∷ []
+unfolding list_of
+grown_element = refl
+
+most : run 3 0 (AddVar ∷ []) ≡ Most ∷ []
+most = refl
+
+-- with 16,384 variables nothing is computed
+wide : outcome (opening (record { variables = 16384; elements = 16384; most_variables = 16384; most_elements = 16384 })) 0 One
+    ≡ Some (makes (Bdd (list_of (2 ^ 16384) (constant true))))
+wide = refl
