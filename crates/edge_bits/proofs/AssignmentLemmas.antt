@@ -1,8 +1,8 @@
 -- The laws of one bit of an assignment.
-use Rattle.std.proofs.Common.{◌≡◌, ◌≢◌, ℕ, zero, suc, ◌+◌, ◌-◌, ◌*◌, ◌/◌, ◌%◌, ◌^◌, ◌<◌, ◌≤◌, eqb, ◌⊎◌, inl, inr, ⊎_elim, Bool, true, false, refl, sym, ap, ◌∙◌, arith, subst}
+use Rattle.std.proofs.Common.{◌≡◌, ◌≢◌, ℕ, zero, suc, ◌+◌, ◌-◌, ◌*◌, ◌/◌, ◌%◌, ◌^◌, ◌<◌, ◌≤◌, eqb, ⊎_elim, Bool, true, false, refl, sym, ap, ◌∙◌, arith, subst}
 use Rattle.std.specs.Int.{bit_at}
 use Rattle.std.proofs.Math.Nat.{mod-lt}
-use Rattle.std.proofs.lemmas.Nat.{pow_pos, pow-add, shr_split}
+use Rattle.std.proofs.lemmas.Nat.{pow_pos, shr_split}
 use Rattle.std.proofs.lemmas.Nat.Bits.{bit_at_lowest, bit_at-suc, bit_at-lt, bit_at_cat_low, bit_at_cat_high, bit_at-zero, bit_at_above, same_from_bits}
 use Rattle.std.proofs.lemmas.Bool.{cases_order, cases_eq}
 use Rattle.edge_bits.specs.Words.{digit}

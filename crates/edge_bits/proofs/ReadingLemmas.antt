@@ -1,6 +1,6 @@
 -- A reading through a node is the choice of its children's readings, and stays with a greater limit.
-use Rattle.std.specs.Prelude.{◌≡◌, ℕ, zero, suc, ◌+◌, ℤ, Bool, true, false, not, cond, Option, Some, None, option_map, if◌then◌else◌}
-use Rattle.std.proofs.Common.{refl, sym, ap, ◌∙◌}
+use Rattle.std.specs.Prelude.{◌≡◌, ℕ, zero, suc, ℤ, Bool, true, false, cond, Option, Some, None, option_map, if◌then◌else◌}
+use Rattle.std.proofs.Common.{refl, ap, ◌∙◌}
 use Rattle.edge_bits.specs.declared.edges.Edge.{Edge}
 use Rattle.edge_bits.specs.declared.words.Node.{Node}
 use Rattle.edge_bits.specs.declared.words.Word.{Word}

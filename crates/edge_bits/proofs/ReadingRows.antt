@@ -1,9 +1,9 @@
 -- Some readings, computed.
-use Rattle.std.specs.Prelude.{◌≡◌, ℕ, ◌^◌, ◌+◌, ◌*◌, Bool, true, false, Some, None, List, [], ◌∷◌, pos, negsuc, refl, map, Option}
+use Rattle.std.specs.Prelude.{◌≡◌, ℕ, Bool, true, false, Some, None, List, [], ◌∷◌, pos, negsuc, refl, map}
 use Rattle.edge_bits.specs.declared.edges.Edge.{Edge}
 use Rattle.edge_bits.specs.declared.words.Word.{Word}
 use Rattle.edge_bits.specs.declared.words.Word.TheVariants.{Inner, Leaf}
-use Rattle.edge_bits.specs.Words.{pack_of, unpack_of}
+use Rattle.edge_bits.specs.Words.{pack_of}
 use Rattle.edge_bits.specs.Assignments.{set_bit}
 use Rattle.edge_bits.specs.Reading.{slots_of, read_bdd, read_add, read_zdd}
 

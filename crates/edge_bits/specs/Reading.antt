@@ -1,7 +1,6 @@
 -- The value of an edge at an assignment, in a list of node words.
 use Rattle.std.specs.Prelude.{◌≡◌, ℕ, suc, zero, ◌+◌, ◌-◌, ◌==◌, Bool, true, false, not, ◌&&◌, if◌then◌else◌, ℤ, pos, List, Option, Some, None, slice_index, option_map}
 use Rattle.edge_bits.specs.declared.edges.Edge.{Edge}
-use Rattle.edge_bits.specs.declared.words.Node.{Node}
 use Rattle.edge_bits.specs.declared.words.Word.{Word}
 use Rattle.edge_bits.specs.declared.words.Word.TheVariants.{Inner, Leaf}
 use Rattle.edge_bits.specs.Words.{unpack_of}

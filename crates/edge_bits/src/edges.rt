@@ -11,10 +11,12 @@ pub enum Kind {
     Zdd,
 }
 
-/// An arc: the slot that it leads to, below 2^23, and whether it complements the function there.
+/// An arc to a node. In ADDs and ZDDs no arc is complemented.
 #[derive(Debug, Clone, Copy, PartialEq, Eq)]
 pub struct Edge {
+    /// The slot that it leads to, below 2^23.
     pub index: u32,
+    /// Whether it complements the function there.
     pub complement: bool,
 }
 
@@ -51,10 +53,13 @@ impl Edge {
     }
 }
 
-/// A node line of a stored diagram (DDDMP-2.0): a variable, the line of its then child, and that of its else child, negative where the arc is complemented.
+/// A node line of a stored diagram (DDDMP-2.0). Lines are counted from 1.
 #[derive(Debug, Clone, Copy, PartialEq, Eq)]
 pub struct Line {
+    /// The variable.
     pub var: u32,
+    /// The line of the then child.
     pub hi: u32,
+    /// The line of the else child, negative where the arc is complemented.
     pub lo: i32,
 }

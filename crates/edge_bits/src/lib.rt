@@ -1,4 +1,4 @@
-//! Kinds of diagram, edges, and the words of the one node table.
+//! Kinds of diagram, edges, the words of the one node table, and the lists that public types hold.
 #![tactic(auto)]
 
 mod edges;
@@ -8,3 +8,6 @@ mod words;
 pub use edges::{Edge, Kind, Line};
 pub use lists::{List, Memory};
 pub use words::{Node, Word, pack, unpack};
+
+#[cfg(test)]
+mod tests;

@@ -1,9 +1,9 @@
-ghost use Rattle.std.specs.Prelude.{◌≡◌, ◌∷◌, ◌++◌, [], ◌<◌, length, IfOk, OnOk, OnErr, slice_get, slice_index_or, List as ListOf};
+ghost use Rattle.std.specs.Prelude.{◌≡◌, ◌∷◌, ◌++◌, [], ◌↔◌, length, IsTrue, IfErr, OnOk, OnErr};
 
 use std::alloc::{AllocError, AllocFailed, Global};
 use std::marker::Model;
 
-/// Want of memory.
+/// Want of memory: the allocator refused. It is the one error that no clause ties to a cause.
 #[derive(Debug, Clone, Copy, PartialEq, Eq)]
 pub struct Memory;
 
@@ -19,7 +19,7 @@ impl<T: Drop> From<AllocFailed<T>> for Memory {
     }
 }
 
-/// A `Vec` that contracts see as the list of its elements.
+/// A `Vec` that contracts see as the list of its elements. It keeps its allocator.
 #[derive(Drop)]
 pub struct List<T> {
     items: Vec<T>,
@@ -62,6 +62,7 @@ impl<T> List<T> {
     pub fn push(&mut self, item: T) -> Result<(), AllocFailed<T>>
         ensures ok { OnOk result (self.new ≡ self.old ++ item ∷ []) }
         ensures err { OnErr result (self.new ≡ self.old) }
+        ensures given_back { IfErr result (λ failed. failed.value ≡ item) }
     {
         self.items.push(item)
     }
@@ -71,6 +72,13 @@ impl<T> List<T> {
         ensures { result ≡ length self.now }
     {
         self.items.len()
+    }
+
+    /// Whether there are none.
+    pub fn is_empty(&self) -> bool
+        ensures { IsTrue result ↔ (self.now ≡ []) }
+    {
+        self.items.is_empty()
     }
 
     /// The elements.

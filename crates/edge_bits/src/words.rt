@@ -3,22 +3,29 @@ ghost use Rattle.edge_bits.specs.Words.{IsInRange, pack_of, unpack_of, variable_
 
 use crate::edges::Edge;
 
-/// A node: its variable or element, the slot of its then child, and its else arc.
-#[derive(Clone, Copy, PartialEq, Eq, Drop)]
+/// A node of a diagram.
+#[derive(Debug, Clone, Copy, PartialEq, Eq)]
 pub struct Node {
+    /// The variable, 0 to 16,383, or 16,384 and the number of the element. A word has room for numbers below 2^15.
     pub var: u16,
+    /// The slot of the then child, below 2^23. A then arc is never complemented.
     pub hi: u32,
+    /// The else arc.
     pub lo: Edge,
 }
 
 /// What the word of a slot in use says.
-#[derive(Clone, Copy, PartialEq, Eq, Drop)]
+#[derive(Debug, Clone, Copy, PartialEq, Eq)]
 pub enum Word {
+    /// A node with two children.
     Inner(Node),
+    /// A leaf with its value, from -2^46 to 2^46 - 1.
     Leaf(i64),
 }
 
-/// The 64 bits of a word.
+/// The 64 bits of a word whose fields are in range: bit 63 is set; bits 62 to 47 are the variable, or 65,535 for a leaf.
+/// Of a node bits 46 to 24 are the then slot, bit 23 is the else arc's complement and bits 22 to 0 are its slot.
+/// Of a leaf bits 46 to 0 are the value in two's complement.
 pub fn pack(word: Word) -> u64
     requires { IsInRange word }
     ensures layout { result ≡ pack_of word }
@@ -44,7 +51,7 @@ pub fn pack(word: Word) -> u64
     }
 }
 
-/// The word of these 64 bits; none where the slot isn't in use, or the variable field is 32,768 to 65,534.
+/// The word of these 64 bits. None where bit 63 is clear, since the slot isn't in use then, or the variable field is 32,768 to 65,534.
 pub fn unpack(bits: u64) -> Option<Word>
     ensures value { result ≡ unpack_of bits }
     ensures none { IsNone result ↔ ((bits < 2 ^ 63) ⊎ ((32768 ≤ variable_field bits) × (variable_field bits < 65535))) }

@@ -14,6 +14,7 @@ use Rattle.function_laws.specs.Values.{constant, exists_all, forall_all, set_eac
 use Rattle.function_laws.specs.Tables.{Table, Sizes, opening}
 use Rattle.function_laws.specs.Steps.{Outcome, makes, restricts, fetches, counts, overflows, is_most, compares, tells, shows, is_done, outcome, after}
 
+-- the name of call i
 abbrev n : ℕ → Name
 n i = record { row = i; generation = 0 }
 
@@ -38,6 +39,7 @@ same_functions (Add f) (Add g) = same_wholes f g
 same_functions (Zdd f) (Zdd g) = same_truths f g
 same_functions _ _ = false
 
+-- the reply that tells the outcome, with this new name
 abbrev reply_for : Name → Option Outcome → Reply
 reply_for r (Some (makes f)) = Made r
 reply_for r (Some (restricts f c)) = Chose r f
@@ -51,12 +53,14 @@ reply_for r (Some (shows z)) = Value z
 reply_for r (Some is_done) = Done
 reply_for r None = Full 0 0
 
+-- a reply without its name
 abbrev shown : Reply → Reply
 shown (Made r) = Done
 shown (Chose r g) = Done
 shown (Numbered r m) = Value (pos m)
 shown reply = reply
 
+-- the replies to the calls, the name of the first of them being n i
 abbrev play : ℕ → Table → List Call → List Reply
 play i t [] = []
 play i t (c ∷ cs) = let reply = reply_for (n i) (outcome t 0 c) in shown reply ∷ play (suc i) (after t 0 c reply) cs
@@ -67,50 +71,50 @@ sizes v e = record { variables = v; elements = e; most_variables = 3; most_eleme
 abbrev run : ℕ → ℕ → List Call → List Reply
 run v e calls = play 0 (opening (sizes v e)) calls
 
-abbrev nothing : Sifting
-nothing = record { variables = []; elements = []; functions = [] }
+abbrev sifting : Sifting
+sifting = record { variables = []; elements = []; functions = [] }
 
-abbrev yes' : Reply
-yes' = Truth true
+abbrev same : Reply
+same = Truth true
 
--- row 2
-two : run 0 0 (One ∷ Zero ∷ Same (n 0) (n 1) ∷ Eval (n 0) [] ∷ []) ≡ Done ∷ Done ∷ Truth false ∷ Value (pos 1) ∷ []
+-- true and false with no variables
+constants : run 0 0 (One ∷ Zero ∷ Same (n 0) (n 1) ∷ Eval (n 0) [] ∷ []) ≡ Done ∷ Done ∷ Truth false ∷ Value (pos 1) ∷ []
 unfolding list_of
-two = refl
+constants = refl
 
--- row 8
-over : run 1 0 (Var 0 ∷ Constant (pos 70368744177663) ∷ FromBdd (n 0) ∷ Plus (n 1) (n 2) ∷ Eval (n 1) (false ∷ []) ∷ [])
+-- a sum and a difference out of range, and the operand afterwards
+sum_overflows : run 1 0 (Var 0 ∷ Constant (pos 70368744177663) ∷ FromBdd (n 0) ∷ Plus (n 1) (n 2) ∷ Eval (n 1) (false ∷ []) ∷ [])
     ≡ Done ∷ Done ∷ Done ∷ Overflow ∷ Value (pos 70368744177663) ∷ []
 unfolding list_of set_bit
-over = refl
+sum_overflows = refl
 
-under : run 1 0 (Var 0 ∷ FromBdd (n 0) ∷ Constant (negsuc 70368744177663) ∷ Minus (n 2) (n 1) ∷ []) ≡ Done ∷ Done ∷ Done ∷ Overflow ∷ []
+difference_overflows : run 1 0 (Var 0 ∷ FromBdd (n 0) ∷ Constant (negsuc 70368744177663) ∷ Minus (n 2) (n 1) ∷ []) ≡ Done ∷ Done ∷ Done ∷ Overflow ∷ []
 unfolding list_of
-under = refl
+difference_overflows = refl
 
--- row 10
+-- families: a quotient by the empty family among them
 families : run 0 2 (Base ∷ Single 0 ∷ Change (n 1) 1 ∷ Change (n 0) 1 ∷ Union (n 2) (n 3) ∷ Empty ∷ Subset1 (n 4) 1 ∷ Subset0 (n 4) 1 ∷ Change (n 4) 1
     ∷ Same (n 6) (n 8) ∷ Same (n 7) (n 5) ∷ Quotient (n 4) (n 5) ∷ Same (n 11) (n 5) ∷ Quotient (n 4) (n 3) ∷ Same (n 13) (n 6)
     ∷ Product (n 1) (n 2) ∷ Same (n 15) (n 2) ∷ Meet (n 4) (n 2) ∷ Same (n 17) (n 2) ∷ Diff (n 4) (n 2) ∷ Same (n 19) (n 3)
     ∷ Eval (n 4) (true ∷ true ∷ []) ∷ Eval (n 4) (true ∷ false ∷ []) ∷ [])
-    ≡ Done ∷ Done ∷ Done ∷ Done ∷ Done ∷ Done ∷ Done ∷ Done ∷ Done ∷ yes' ∷ yes' ∷ Done ∷ yes' ∷ Done ∷ yes' ∷ Done ∷ yes' ∷ Done ∷ yes' ∷ Done ∷ yes'
+    ≡ Done ∷ Done ∷ Done ∷ Done ∷ Done ∷ Done ∷ Done ∷ Done ∷ Done ∷ same ∷ same ∷ Done ∷ same ∷ Done ∷ same ∷ Done ∷ same ∷ Done ∷ same ∷ Done ∷ same
     ∷ Value (pos 1) ∷ Value (pos 0) ∷ []
 unfolding list_of set_bit any_below all_below
 families = refl
 
--- row 20
+-- the operators on three variables, with a swap, a sift and a sweep between two evaluations
 operators : run 3 0 (Var 0 ∷ Var 1 ∷ Var 2 ∷ And (n 0) (n 1) ∷ Exists (n 3) (0 ∷ []) ∷ Same (n 4) (n 1) ∷ Zero ∷ Forall (n 3) (0 ∷ []) ∷ Same (n 7) (n 6)
     ∷ AndExists (n 0) (n 1) (0 ∷ []) ∷ Same (n 9) (n 1) ∷ Compose (n 3) 0 (n 2) ∷ Support (n 3) ∷ Same (n 12) (n 3)
     ∷ VectorCompose (n 3) ((0, n 1) ∷ (1, n 0) ∷ []) ∷ Same (n 14) (n 3) ∷ Cofactor (n 3) 0 true ∷ Same (n 16) (n 1) ∷ Or (n 0) (n 1)
-    ∷ Leq (n 3) (n 18) ∷ Leq (n 18) (n 3) ∷ Swap 0 ∷ Eval (n 11) (false ∷ true ∷ true ∷ []) ∷ Sift nothing ∷ Sweep ∷ Eval (n 11) (false ∷ true ∷ true ∷ []) ∷ [])
-    ≡ Done ∷ Done ∷ Done ∷ Done ∷ Done ∷ yes' ∷ Done ∷ Done ∷ yes' ∷ Done ∷ yes' ∷ Done ∷ Done ∷ yes' ∷ Done ∷ yes' ∷ Done ∷ yes' ∷ Done
-    ∷ yes' ∷ Truth false ∷ Done ∷ Value (pos 1) ∷ Done ∷ Done ∷ Value (pos 1) ∷ []
+    ∷ Leq (n 3) (n 18) ∷ Leq (n 18) (n 3) ∷ Swap 0 ∷ Eval (n 11) (false ∷ true ∷ true ∷ []) ∷ Sift sifting ∷ Sweep ∷ Eval (n 11) (false ∷ true ∷ true ∷ []) ∷ [])
+    ≡ Done ∷ Done ∷ Done ∷ Done ∷ Done ∷ same ∷ Done ∷ Done ∷ same ∷ Done ∷ same ∷ Done ∷ Done ∷ same ∷ Done ∷ same ∷ Done ∷ same ∷ Done
+    ∷ same ∷ Truth false ∷ Done ∷ Value (pos 1) ∷ Done ∷ Done ∷ Value (pos 1) ∷ []
 unfolding list_of set_bit any_below all_below exists_all forall_all set_each
 operators = refl
 
--- a variable added while it runs; an element; the greatest number
+-- a variable added while it runs, an element, and one too many
 grown : run 1 0 (Var 0 ∷ AddVar ∷ And (n 0) (n 1) ∷ Eval (n 2) (true ∷ true ∷ []) ∷ Eval (n 2) (true ∷ []) ∷ Exists (n 2) (1 ∷ []) ∷ Same (n 5) (n 0) ∷ [])
-    ≡ Done ∷ Value (pos 1) ∷ Done ∷ Value (pos 1) ∷ Value (pos 0) ∷ Done ∷ yes' ∷ []
+    ≡ Done ∷ Value (pos 1) ∷ Done ∷ Value (pos 1) ∷ Value (pos 0) ∷ Done ∷ same ∷ []
 unfolding list_of set_bit exists_all
 grown = refl
 
@@ -122,7 +126,7 @@ grown_element = refl
 most : run 3 0 (AddVar ∷ []) ≡ Most ∷ []
 most = refl
 
--- with 16,384 variables nothing is computed
+-- with 16,384 variables no list is computed
 wide : outcome (opening (record { variables = 16384; elements = 16384; most_variables = 16384; most_elements = 16384 })) 0 One
     ≡ Some (makes (Bdd (list_of (2 ^ 16384) (constant true))))
 wide = refl

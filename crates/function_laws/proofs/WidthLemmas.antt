@@ -1,18 +1,17 @@
 -- Functions of the first n variables are one if the lists of their 2 ^ n values are.
-use Rattle.std.proofs.Common.{◌≡◌, ◌≢◌, ℕ, zero, suc, ◌+◌, ◌^◌, ◌<◌, ◌≤◌, Bool, true, false, ◌⊎◌, ⊎_elim, refl, sym, ap, ◌∙◌, arith, subst, pow_mono, add-one, zero-lt-suc}
+use Rattle.std.proofs.Common.{◌≡◌, ℕ, zero, suc, ◌+◌, ◌^◌, ◌<◌, ◌≤◌, Bool, true, false, ⊎_elim, sym, ◌∙◌, arith, subst, pow_mono}
 use Rattle.std.proofs.Math.Nat.{pow-suc}
 use Rattle.std.specs.Int.{bit_at}
 use Rattle.std.proofs.lemmas.Nat.{pow_pos}
 use Rattle.std.proofs.lemmas.Nat.Bits.{bit_at_above}
 use Rattle.std.proofs.lemmas.Bool.{cases_eq}
-use Rattle.edge_bits.specs.Words.{digit}
-use Rattle.edge_bits.specs.Assignments.{bit, set_bit}
+use Rattle.edge_bits.specs.Assignments.{set_bit}
 use Rattle.edge_bits.proofs.AssignmentLemmas.{bit_at-set_same, bit_at-set_other, below_from_bits}
 use Rattle.function_laws.specs.Lists.{list_of}
 use Rattle.function_laws.specs.Values.{IsOf, IsFree, cofactor}
 use Rattle.function_laws.specs.Restricting.{IsFreeBelow}
 use Rattle.function_laws.proofs.ListLemmas.{same-list_of}
-use Rattle.function_laws.proofs.ValueLemmas.{everywhere, IsFree-same_cofactors, IsFree-cofactor, IsFree-cofactor_other}
+use Rattle.function_laws.proofs.ValueLemmas.{everywhere, IsFree-same_cofactors, IsFree-cofactor_other}
 
 -- without its top bit a number is below the power
 clear_top : (m k : ℕ) → k < 2 ^ suc m → set_bit k m false < 2 ^ m

@@ -4,29 +4,38 @@ use std::collections::LinkedList;
 /// A row of one session.
 #[derive(Clone, Copy, PartialEq, Eq, Drop)]
 pub struct Name {
+    /// The place of the row.
     pub row: u32,
+    /// How many rows the session had added before it.
     pub generation: u64,
 }
 
-/// The whole list of a function's values.
+/// The whole list of a function's values, the value at assignment k at place k.
 #[derive(Drop)]
 pub enum Function {
+    /// A function of the n variables: 2^n truth values.
     Bdd(LinkedList<bool>),
+    /// A function of the n variables: 2^n whole numbers from -2^46 to 2^46 - 1.
     Add(LinkedList<i64>),
+    /// A family of combinations of the m elements: 2^m truth values.
     Zdd(LinkedList<bool>),
 }
 
-/// What a sift found at its start: both orders, and the functions that it pinned.
+/// What a sift found at its start.
 #[derive(Drop)]
 pub struct Sifting {
+    /// The variables by position.
     pub variables: LinkedList<u32>,
+    /// The elements by position.
     pub elements: LinkedList<u32>,
+    /// The functions that it pinned.
     pub functions: LinkedList<Function>,
 }
 
-/// A call with a place.
+/// A call with a place. Operands are names of the session; variables, elements, levels and cells are numbers from 0 on.
 #[derive(Drop)]
 pub enum Call {
+    // BDDs.
     One,
     Zero,
     Var(u32),
@@ -34,15 +43,20 @@ pub enum Call {
     And(Name, Name),
     Or(Name, Name),
     Xor(Name, Name),
+    /// The second where the first holds, else the third.
     Ite(Name, Name, Name),
     Cofactor(Name, u32, bool),
     Exists(Name, LinkedList<u32>),
     Forall(Name, LinkedList<u32>),
     AndExists(Name, Name, LinkedList<u32>),
+    /// The last put for the variable in the first.
     Compose(Name, u32, Name),
+    /// Each of the list put for its variable, all at once.
     VectorCompose(Name, LinkedList<(u32, Name)>),
+    /// The first, where the second holds.
     Restrict(Name, Name),
     Support(Name),
+    // ADDs, and BDDs of them.
     Constant(i64),
     FromBdd(Name),
     Plus(Name, Name),
@@ -51,10 +65,12 @@ pub enum Call {
     Min(Name, Name),
     Max(Name, Name),
     Threshold(Name, Name),
+    /// The second where the first, a BDD, holds, else the third.
     AddIte(Name, Name, Name),
     SumOver(Name, u32),
     AtLeast(Name, i64),
     Pattern(Name),
+    // Families.
     Empty,
     Base,
     Single(u32),
@@ -66,41 +82,57 @@ pub enum Call {
     Change(Name, u32),
     Product(Name, Name),
     Quotient(Name, Name),
+    // Rows and the board.
     Copy(Name),
     DropRow(Name),
     Same(Name, Name),
+    /// The second holds wherever the first does.
     Leq(Name, Name),
+    /// The value at the bits of variables 0, 1, .., or of elements.
     Eval(Name, LinkedList<bool>),
     Post(u32, Name),
+    /// The name stands for the function where the cell has none of its kind.
     Fetch(u32, Name),
+    // What changes no function.
     Sweep,
     Swap(u32),
     SwapElements(u32),
     Sift(Sifting),
     SiftElements(Sifting),
+    // One more variable or element.
     AddVar,
     AddElement,
 }
 
-/// What a call replied. `Full` has the slots in use, and those that were needed.
+/// What a call replied.
 #[derive(Drop)]
 pub enum Reply {
+    /// A new name.
     Made(Name),
+    /// A new name, and the function that a restrict chose.
     Chose(Name, LinkedList<bool>),
+    /// A new name, and whether its function came from the board.
     Fetched(Name, bool),
+    /// A new name, and the number of the new variable or element.
     Numbered(Name, u32),
     Done,
+    /// Yes or no.
     Truth(bool),
     Value(i64),
+    /// A value of the result is out of range.
     Overflow,
+    /// There are as many variables or elements as there may be.
     Most,
+    /// The node table is full: the slots in use, and those that were needed.
     Full(u32, u32),
 }
 
 /// A call at its place.
 #[derive(Drop)]
 pub struct Entry {
+    /// How many calls of all sessions stand before it.
     pub place: u64,
+    /// The session's number.
     pub session: u32,
     pub call: Call,
     pub reply: Reply,
