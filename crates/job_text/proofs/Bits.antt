@@ -1,0 +1,34 @@
+-- 0-1 words and their bits.
+use Rattle.std.proofs.Common.{◌≡◌, ℕ, ◌==◌, ◌&&◌, ◌||◌, Bool, true, false, not, cond, List, [], ◌∷◌, length, map, refl, ap, sym, ◌∙◌, arith, codes, suc}
+use Rattle.std.specs.List.{list_all}
+use Rattle.std.specs.Str.{bytes_eq}
+use Rattle.std.proofs.lemmas.Bool.{false≢true}
+use Rattle.std.proofs.lemmas.Bool.Decides.{nat_tests}
+use Rattle.job_text.specs.Text.{bit_word}
+use Rattle.job_text.specs.Faults.{is_bits, bits_in}
+
+and_true : (a b : Bool) → (a && b) ≡ true → (a ≡ true) × (b ≡ true)
+and_true true b h = (refl, h)
+and_true false b h = absurd (false≢true h)
+
+bit_back : (x : ℕ) → (x == 48 || x == 49) ≡ true → cond (x == 49) 49 48 ≡ x
+bit_back x h = grind (arith, nat_tests)
+
+bits_back : (w : List ℕ) → list_all (λ b. b == 48 || b == 49) w ≡ true → map (λ c. cond c 49 48) (map (λ b. b == 49) w) ≡ w
+bits_back [] h = refl
+bits_back (x ∷ w) h =
+    let k = and_true (x == 48 || x == 49) (list_all (λ b. b == 48 || b == 49) w) h in
+    ap (λ y. y ∷ map (λ c. cond c 49 48) (map (λ b. b == 49) w)) (bit_back x k.0) ∙ ap (λ v. x ∷ v) (bits_back w k.1)
+
+length_bits : (w : List ℕ) → length (map (λ b. b == 49) w) ≡ length w
+length_bits [] = refl
+length_bits (x ∷ w) = ap suc (length_bits w)
+
+pub bits_lem : (w : List ℕ) (bs : List Bool) → bytes_eq w (codes "none") ≡ false → (length w == 0) ≡ false → list_all (λ b. b == 48 || b == 49) w ≡ true → bs ≡ map (λ b. b == 49) w
+    → (is_bits w ≡ true) × (w ≡ bit_word bs) × (length bs ≡ bits_in w)
+bits_lem [] bs word some all e = absurd (false≢true (sym some))
+bits_lem (x ∷ w) bs word some all e = (
+  ap (λ b. b || (not (length (x ∷ w) == 0) && list_all (λ b. b == 48 || b == 49) (x ∷ w))) word ∙ ap (λ b. not b && list_all (λ b. b == 48 || b == 49) (x ∷ w)) some ∙ all,
+  sym (bits_back (x ∷ w) all) ∙ ap bit_word (sym e),
+  ap length e ∙ length_bits (x ∷ w) ∙ ap (λ b. cond b 0 (length (x ∷ w))) (sym word),
+)

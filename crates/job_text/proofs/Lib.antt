@@ -1,0 +1,9 @@
+pub mod Acts
+pub mod Bits
+pub mod Digits
+pub mod Forms
+pub mod Meanings
+pub mod OneReading
+pub mod Reading
+pub mod Registers
+pub mod Split

@@ -1,0 +1,163 @@
+-- A text has one reading.
+use Rattle.std.proofs.Common.{◌≡◌, ℕ, suc, ◌+◌, ◌&&◌, Bool, true, false, not, cond, List, [], ◌∷◌, ◌++◌, length, map, filter, Some, None, inl, inr, refl, ap, sym, ◌∙◌, subst, arith, codes}
+use Rattle.std.specs.List.{list_all, flat_map, All}
+use Rattle.std.specs.Str.Parse.{digits_value}
+use Rattle.std.proofs.lemmas.Bool.{false≢true}
+use Rattle.std.proofs.lemmas.List.{append-nil}
+use Rattle.job_text.specs.declared.job.Command.{Command}
+use Rattle.job_text.specs.declared.job.Job.{Job}
+use Rattle.job_text.specs.declared.job.Register.{Register}
+use Rattle.job_text.specs.declared.faults.FaultKind.{FaultKind}
+use Rattle.job_text.specs.declared.faults.FaultKind.TheVariants as kinds
+use Rattle.job_text.specs.Text.{Word, is_allowed, lines_of, words_of}
+use Rattle.job_text.specs.Grammar.{CommandsSay, registers_after, section_lines, said_lines, IsJobText}
+use Rattle.job_text.specs.Faults.{Context, opening, words_fault, line_fault, context_after, context_behind, Faultless, FaultyLine}
+use Rattle.job_text.specs.Readings.{OneJob, OneFault, JobOrFault}
+use Rattle.job_text.proofs.Acts.{same_commands}
+use Rattle.job_text.proofs.Reading.{registers_behind, has_words, not_zero, command_line, vars_line}
+
+-- Where there is a fault, that line is not without one.
+at_bad : (c : Context) (good : List (List ℕ)) (bad : List ℕ) (rest : List (List ℕ)) (fault : FaultKind) → Faultless c (good ++ bad ∷ rest) → line_fault (context_behind c good) bad ≡ Some fault → ⊥
+at_bad c [] bad rest fault h e = cc (h.0)
+at_bad c (x ∷ good) bad rest fault h e = at_bad (context_after c (words_of x)) good bad rest fault h.1 e
+
+one_bad : (c : Context) (good good' : List (List ℕ)) (bad bad' : List ℕ) (rest rest' : List (List ℕ)) (fault fault' : FaultKind) → good ++ bad ∷ rest ≡ good' ++ bad' ∷ rest'
+    → Faultless c good → Faultless c good' → line_fault (context_behind c good) bad ≡ Some fault → line_fault (context_behind c good') bad' ≡ Some fault' → (length good ≡ length good') × (fault ≡ fault')
+one_bad c [] [] bad bad' rest rest' fault fault' e h h' f f' =
+    let same : bad ≡ bad' = cc in
+    let both : Some fault ≡ Some fault' = sym f ∙ ap (line_fault c) same ∙ f' in
+    (refl, cc)
+one_bad c [] (y ∷ good') bad bad' rest rest' fault fault' e h h' f f' =
+    let same : bad ≡ y = cc in
+    let both : Some fault ≡ None = sym f ∙ ap (line_fault c) same ∙ h'.0 in
+    cc
+one_bad c (x ∷ good) [] bad bad' rest rest' fault fault' e h h' f f' =
+    let same : bad' ≡ x = cc in
+    let both : Some fault' ≡ None = sym f' ∙ ap (line_fault c) same ∙ h.0 in
+    cc
+one_bad c (x ∷ good) (y ∷ good') bad bad' rest rest' fault fault' e h h' f f' =
+    let same : y ≡ x = cc in
+    let tails : good ++ bad ∷ rest ≡ good' ++ bad' ∷ rest' = cc in
+    let more = one_bad (context_after c (words_of x)) good good' bad bad' rest rest' fault fault' tails h.1
+    (subst (λ (t : List ℕ). Faultless (context_after c (words_of t)) good') same h'.1) f
+    (subst (λ (t : List ℕ). line_fault (context_behind (context_after c (words_of t)) good') bad' ≡ Some fault') same f') in
+    (ap suc more.0, more.1)
+
+bad_within : (text : List ℕ) (place : ℕ) (fault : FaultKind) → FaultyLine text place fault → Faultless opening (lines_of text) → ⊥
+bad_within text place fault h good =
+    at_bad opening h.good h.bad h.rest fault (subst (λ (t : List (List ℕ)). Faultless opening t) h.lines good) h.faulty
+
+pub one_fault : OneFault
+one_fault text place place' fault fault' (inl h) (inl h') =
+    let one = one_bad opening h.good h'.good h.bad h'.bad h.rest h'.rest fault fault' (sym h.lines ∙ h'.lines) h.faultless h'.faultless h.faulty h'.faulty in
+    (h.counted ∙ ap (λ k. k + 1) one.0 ∙ sym h'.counted, one.1)
+one_fault text place place' fault fault' (inl h) (inr h') = absurd (bad_within text place fault h h'.faultless)
+one_fault text place place' fault fault' (inr h) (inl h') = absurd (bad_within text place' fault' h' h.faultless)
+one_fault text place place' fault fault' (inr h) (inr h') = (h.counted ∙ sym h'.counted, h.word ∙ sym h'.word)
+
+-- Lines by their words
+abbrev SaidWell : Context → List (List Word) → Type 0
+SaidWell c [] = Unit {0}
+SaidWell c (words ∷ said) = (words_fault c words ≡ None) × SaidWell (context_after c words) said
+
+abbrev behind_said : Context → List (List Word) → Context
+behind_said c [] = c
+behind_said c (words ∷ said) = behind_said (context_after c words) said
+
+and_true : (a b : Bool) → (a && b) ≡ true → (a ≡ true) × (b ≡ true)
+and_true true b h = (refl, h)
+and_true false b h = absurd (false≢true h)
+
+said_cons : (line : List ℕ) (lines : List (List ℕ)) (word : Word) (words : List Word) → words_of line ≡ word ∷ words → said_lines (line ∷ lines) ≡ (word ∷ words) ∷ said_lines lines
+said_cons line lines word words e =
+    ap (λ t. filter has_words (t ∷ map words_of lines)) e
+    ∙ ap (λ b. cond (not b) ((word ∷ words) ∷ said_lines lines) (said_lines lines)) (not_zero (length words))
+
+-- these lines have no fault, where those with words have none
+abbrev GoesWell : List (List ℕ) → Context → Type 0
+GoesWell lines c = Faultless c lines × (context_behind c lines ≡ behind_said c (said_lines lines))
+
+one_line : (c : Context) (line : List ℕ) (lines : List (List ℕ)) → list_all is_allowed line ≡ true → ((c' : Context) → SaidWell c' (said_lines lines) → GoesWell lines c')
+    → (own : List Word) → words_of line ≡ own → SaidWell c (said_lines (line ∷ lines)) → GoesWell (line ∷ lines) c
+one_line c line lines clean more [] e h =
+    let said : said_lines (line ∷ lines) ≡ said_lines lines = ap (λ t. filter has_words (t ∷ map words_of lines)) e in
+    let next : context_after c (words_of line) ≡ c = ap (context_after c) e in
+    let rest = more c (subst (SaidWell c) said h) in (
+      (ap (λ b. cond b (words_fault c (words_of line)) (Some kinds.Word)) clean ∙ ap (words_fault c) e, subst (λ (t : Context). Faultless t lines) (sym next) rest.0),
+      ap (λ t. context_behind t lines) next ∙ rest.1 ∙ ap (behind_said c) (sym said),
+    )
+one_line c line lines clean more (word ∷ words) e h =
+    let said : said_lines (line ∷ lines) ≡ (word ∷ words) ∷ said_lines lines = said_cons line lines word words e in
+    let next : context_after c (words_of line) ≡ context_after c (word ∷ words) = ap (context_after c) e in
+    let split : SaidWell c ((word ∷ words) ∷ said_lines lines) = subst (SaidWell c) said h in
+    let rest = more (context_after c (word ∷ words)) split.1 in (
+      (ap (λ b. cond b (words_fault c (words_of line)) (Some kinds.Word)) clean ∙ ap (words_fault c) e ∙ split.0, subst (λ (t : Context). Faultless t lines) (sym next) rest.0),
+      ap (λ t. context_behind t lines) next ∙ rest.1 ∙ ap (behind_said c) (sym said),
+    )
+
+from_said : (c : Context) (lines : List (List ℕ)) → list_all (list_all is_allowed) lines ≡ true → SaidWell c (said_lines lines) → GoesWell lines c
+from_said c [] clean h = (tt, refl)
+from_said c (line ∷ lines) clean h =
+    let both = and_true (list_all is_allowed line) (list_all (list_all is_allowed) lines) clean in
+    one_line c line lines both.0 (λ c' g. from_said c' lines both.1 g) (words_of line) refl h
+
+commands_well : (c : Context) (n : ℕ) (rs : List Register) (commands : List Command) → c ≡ record { vars = Some n; registers = Some rs } → CommandsSay n rs commands
+    → SaidWell c (map (λ (command : Command). command.words) commands)
+    × (behind_said c (map (λ (command : Command). command.words) commands) ≡ record { vars = Some n; registers = Some (registers_behind rs commands) })
+commands_well c n rs [] e h = (tt, e)
+commands_well c n rs (command ∷ commands) e h =
+    let line = command_line c n rs command.words command.act e h.0 in
+    let more = commands_well (context_after c command.words) n (registers_after rs command.words) commands line.1 h.1 in
+    ((line.0, more.0), more.1)
+
+one_of : (xs : List (List Command)) → length xs ≡ 1 → (x : List Command) × (xs ≡ x ∷ [])
+one_of [] e = absurd (omega arith)
+one_of (x ∷ []) e = (x, refl)
+one_of (x ∷ y ∷ xs) e = absurd (omega arith)
+
+-- the lines with words of a job
+job_lines : (text : List ℕ) (job : Job) (h : IsJobText text job) → (commands : List Command) × (job.sections ≡ commands ∷ []) × CommandsSay job.vars [] commands
+    × (said_lines (lines_of text) ≡ (codes "vars" ∷ h.number ∷ []) ∷ section_lines commands)
+job_lines text job h =
+    let one = one_of job.sections h.is_job.one_section in
+    let says : All (CommandsSay job.vars []) (one.0 ∷ []) = subst (λ (t : List (List Command)). All (CommandsSay job.vars []) t) one.1 h.is_job.commands in (
+      one.0,
+      one.1,
+      says 0 one.0 (omega arith),
+      h.lines ∙ ap (λ t. (codes "vars" ∷ h.number ∷ []) ∷ flat_map section_lines t) one.1 ∙ ap (λ t. (codes "vars" ∷ h.number ∷ []) ∷ t) (append-nil (section_lines one.0)),
+    )
+
+job_faultless : (text : List ℕ) (job : Job) → IsJobText text job → (rs : List Register) × Faultless opening (lines_of text) × (context_behind opening (lines_of text) ≡ record { vars = Some job.vars; registers = Some rs })
+job_faultless text job h =
+    let said = job_lines text job h in
+    let first = vars_line h.number job.vars h.vars h.is_job.few_variables in
+    let session : context_after (context_after opening (codes "vars" ∷ h.number ∷ [])) (codes "session" ∷ []) ≡ record { vars = Some job.vars; registers = Some [] } = ap (λ t. context_after t (codes "session" ∷ [])) first.1 in
+    let rest = commands_well (context_after (context_after opening (codes "vars" ∷ h.number ∷ [])) (codes "session" ∷ [])) job.vars [] said.0 session said.2 in
+    let well : SaidWell opening ((codes "vars" ∷ h.number ∷ []) ∷ section_lines said.0) = (first.0, (ap (λ t. words_fault t (codes "session" ∷ [])) first.1, rest.0)) in
+    let all = from_said opening (lines_of text) h.clean (subst (SaidWell opening) (sym said.3) well) in
+    (registers_behind [] said.0, all.0, all.1 ∙ ap (behind_said opening) said.3 ∙ rest.1)
+
+pub job_or_fault : JobOrFault
+job_or_fault text job place fault h (inl bad) = bad_within text place fault bad (job_faultless text job h).1
+job_or_fault text job place fault h (inr early) =
+    let good = job_faultless text job h in
+    let none : None ≡ Some good.0 = sym early.early ∙ ap (λ (c : Context). c.registers) good.2 in
+    cc
+
+same_job : (one other : Job) → one.vars ≡ other.vars → one.elements ≡ other.elements → one.limit ≡ other.limit → one.sections ≡ other.sections → one ≡ other
+same_job one other v e l s =
+    ap (λ t. record { vars = t; elements = one.elements; limit = one.limit; sections = one.sections }) v
+    ∙ ap (λ t. record { vars = other.vars; elements = t; limit = one.limit; sections = one.sections }) e
+    ∙ ap (λ t. record { vars = other.vars; elements = other.elements; limit = t; sections = one.sections }) l
+    ∙ ap (λ t. record { vars = other.vars; elements = other.elements; limit = other.limit; sections = t }) s
+
+pub one_job : OneJob
+one_job text one other h h' =
+    let said = job_lines text one h in
+    let said' = job_lines text other h' in
+    let lines : (codes "vars" ∷ h.number ∷ []) ∷ section_lines said.0 ≡ (codes "vars" ∷ h'.number ∷ []) ∷ section_lines said'.0 = sym said.3 ∙ said'.3 in
+    let numbers : h.number ≡ h'.number = cc in
+    let words : map (λ (command : Command). command.words) said.0 ≡ map (λ (command : Command). command.words) said'.0 = cc in
+    let vars : one.vars ≡ other.vars = sym h.vars.1 ∙ ap (digits_value 10) numbers ∙ h'.vars.1 in
+    same_job one other vars (h.is_job.no_elements ∙ sym h'.is_job.no_elements) (h.is_job.default_limit ∙ sym h'.is_job.default_limit)
+    (said.1 ∙ ap (λ t. t ∷ []) (same_commands one.vars [] said.0 said'.0 tt said.2 (subst (λ (n : ℕ). CommandsSay n [] said'.0) (sym vars) said'.2) words) ∙ sym said'.1)

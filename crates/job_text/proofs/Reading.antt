@@ -1,0 +1,280 @@
+-- A job is read line by line.
+use Rattle.std.proofs.Common.{◌≡◌, ℕ, suc, ◌+◌, ◌≤◌, ◌==◌, ◌&&◌, Bool, true, false, not, cond, List, [], ◌∷◌, ◌++◌, length, map, filter, Some, None, Result, Ok, Err, IfOk, IfErr, inr, refl, ap, sym, ◌∙◌, subst, arith, codes, append_assoc, length-append}
+use Rattle.std.specs.Prelude.{nat_le}
+use Rattle.std.specs.List.{list_all, All}
+use Rattle.std.specs.Str.Parse.{digits_value}
+use Rattle.std.proofs.lemmas.Bool.Decides.{nat_tests}
+use Rattle.std.proofs.lemmas.List.{append-nil, map-append}
+use Rattle.std.proofs.lemmas.List.Folds.{list_all-append}
+use Rattle.std.proofs.lemmas.List.Elements.{filter-append, All-cons}
+use Rattle.job_text.specs.declared.job.Act.{Act}
+use Rattle.job_text.specs.declared.job.Command.{Command}
+use Rattle.job_text.specs.declared.job.Job.{Job}
+use Rattle.job_text.specs.declared.job.Register.{Register}
+use Rattle.job_text.specs.declared.draft.Draft.{Draft}
+use Rattle.job_text.specs.declared.draft.Draft.TheVariants.{Nothing, Sized, Begun}
+use Rattle.job_text.specs.declared.draft.Section.{Section}
+use Rattle.job_text.specs.declared.faults.FaultKind.{FaultKind}
+use Rattle.job_text.specs.declared.faults.FaultKind.TheVariants as kinds
+use Rattle.job_text.specs.declared.faults.JobError.{JobError}
+use Rattle.job_text.specs.declared.faults.JobError.TheVariants as errors
+use Rattle.job_text.specs.Text.{Word, IsNumber, is_number, is_allowed, lines_of, words_of, line_words}
+use Rattle.job_text.specs.Grammar.{Says, CommandsSay, registers_after, is_assignment, is_drop, without, section_lines, said_lines, IsJobText}
+use Rattle.job_text.specs.Faults.{Context, opening, words_fault, line_fault, context_after, context_behind, Faultless, FaultyLine, HasFault, command_fault}
+use Rattle.job_text.specs.Drafts.{context_in, Adds, adds_nothing, adds_vars, adds_session, adds_command, IsSmall, EndStop}
+use Rattle.job_text.proofs.Meanings.{says_well, two_words}
+
+abbrev pub has_words : List Word → Bool
+has_words words = not (length words == 0)
+
+-- the registers behind these commands
+abbrev pub registers_behind : List Register → List Command → List Register
+registers_behind registers [] = registers
+registers_behind registers (command ∷ commands) = registers_behind (registers_after registers command.words) commands
+
+-- the lines with words that make a draft
+abbrev pub Spelled : Draft → List (List Word) → Type 0
+Spelled Nothing said = said ≡ []
+Spelled (Sized n) said = (number : Word) × IsNumber number n × (said ≡ (codes "vars" ∷ number ∷ []) ∷ [])
+Spelled (Begun section) said = (number : Word) × IsNumber number section.scope.vars
+    × (said ≡ (codes "vars" ∷ number ∷ []) ∷ section_lines section.commands)
+    × CommandsSay section.scope.vars [] section.commands
+    × (section.scope.registers ≡ registers_behind [] section.commands)
+
+-- These lines have no fault, and make this draft.
+pub record IsRead (lines : List (List ℕ)) (draft : Draft) : Type 0 where
+  pub faultless : Faultless opening lines
+  pub context : context_behind opening lines ≡ context_in draft
+  pub clean : list_all (list_all is_allowed) lines ≡ true
+  pub spelled : Spelled draft (said_lines lines)
+  pub small : IsSmall draft (length lines)
+
+pub nothing_read : IsRead [] Nothing
+nothing_read = record { faultless = tt; context = refl; clean = refl; spelled = refl; small = tt }
+
+-- One line more
+clean_words : (b : Bool) (own words : List Word) → cond b (Some own) None ≡ Some words → (b ≡ true) × (own ≡ words)
+clean_words true own words h = (refl, cc)
+clean_words false own words h = cc
+
+pub no_words : (b : Bool) (own : List Word) → cond b (Some own) None ≡ None → b ≡ false
+no_words true own h = cc
+no_words false own h = refl
+
+pub faultless_more : (c : Context) (lines : List (List ℕ)) (line : List ℕ) → Faultless c lines → line_fault (context_behind c lines) line ≡ None → Faultless c (lines ++ line ∷ [])
+faultless_more c [] line h e = (e, tt)
+faultless_more c (x ∷ lines) line h e = (h.0, faultless_more (context_after c (words_of x)) lines line h.1 e)
+
+pub context_more : (c : Context) (lines : List (List ℕ)) (line : List ℕ) → context_behind c (lines ++ line ∷ []) ≡ context_after (context_behind c lines) (words_of line)
+context_more c [] line = refl
+context_more c (x ∷ lines) line = context_more (context_after c (words_of x)) lines line
+
+said_more : (lines : List (List ℕ)) (line : List ℕ) → said_lines (lines ++ line ∷ []) ≡ said_lines lines ++ filter has_words (words_of line ∷ [])
+said_more lines line = ap (filter has_words) (map-append words_of lines (line ∷ [])) ∙ filter-append has_words (map words_of lines) (words_of line ∷ [])
+
+pub not_zero : (n : ℕ) → (suc n == 0) ≡ false
+not_zero n = grind (arith, nat_tests)
+
+pub some_words : (word : Word) (words : List Word) → filter has_words ((word ∷ words) ∷ []) ≡ (word ∷ words) ∷ []
+some_words word words = ap (λ b. cond (not b) ((word ∷ words) ∷ []) []) (not_zero (length words))
+
+pub say_more : (n : ℕ) (rs : List Register) (commands : List Command) (words : List Word) (act : Act) → CommandsSay n rs commands → Says n (registers_behind rs commands) words act
+    → CommandsSay n rs (commands ++ record { words = words; act = act } ∷ [])
+say_more n rs [] words act h says = (says, tt)
+say_more n rs (c ∷ commands) words act h says = (h.0, say_more n (registers_after rs c.words) commands words act h.1 says)
+
+behind_more : (rs : List Register) (commands : List Command) (words : List Word) (act : Act) → registers_behind rs (commands ++ record { words = words; act = act } ∷ []) ≡ registers_after (registers_behind rs commands) words
+behind_more rs [] words act = refl
+behind_more rs (c ∷ commands) words act = behind_more (registers_after rs c.words) commands words act
+
+section_more : (commands : List Command) (words : List Word) (act : Act) → section_lines (commands ++ record { words = words; act = act } ∷ []) ≡ section_lines commands ++ words ∷ []
+section_more commands words act = ap (λ t. (codes "session" ∷ []) ∷ t) (map-append (λ (c : Command). c.words) commands (record { words = words; act = act } ∷ []))
+
+-- What a line that adds something has: no fault, and what it leaves.
+in_range : (d n : ℕ) → d ≡ n → n ≤ 1024 → nat_le d 1024 ≡ true
+in_range d n e h = grind (arith, nat_tests)
+
+vars_fault : (b c : Bool) → b ≡ true → c ≡ true → cond (true && b) (cond c None (Some kinds.Range)) (Some kinds.Word) ≡ None
+vars_fault b c e f = ap (λ t. cond (true && t) (cond c None (Some kinds.Range)) (Some kinds.Word)) e ∙ ap (λ t. cond t None (Some kinds.Range)) f
+
+pub command_line : (c : Context) (n : ℕ) (rs : List Register) (words : List Word) (act : Act) → c ≡ record { vars = Some n; registers = Some rs } → Says n rs words act
+    → (words_fault c words ≡ None) × (context_after c words ≡ record { vars = Some n; registers = Some (registers_after rs words) })
+command_line c n rs words act e says =
+    let two = two_words n rs words act says in (
+      ap (λ t. words_fault t words) e ∙ ap (words_fault (record { vars = Some n; registers = Some rs })) two.3
+          ∙ sym (ap (command_fault n rs) two.3) ∙ says_well n rs words act says,
+      ap (λ t. context_after t words) e ∙ ap (context_after (record { vars = Some n; registers = Some rs })) two.3
+          ∙ sym (ap (λ t. record { vars = Some n; registers = Some (registers_after rs t) }) two.3),
+    )
+
+pub vars_line : (number : Word) (n : ℕ) → IsNumber number n → n ≤ 1024
+    → (words_fault opening (codes "vars" ∷ number ∷ []) ≡ None) × (context_after opening (codes "vars" ∷ number ∷ []) ≡ record { vars = Some n; registers = None })
+vars_line number n h le = (
+  vars_fault (is_number number) (nat_le (digits_value 10 number) 1024) h.0 (in_range (digits_value 10 number) n h.1 le),
+  ap (λ k. record { vars = Some k; registers = None }) h.1,
+)
+
+pub adds_well : (old new : Draft) (words : List Word) → Adds old words new → (words_fault (context_in old) words ≡ None) × (context_after (context_in old) words ≡ context_in new)
+adds_well old new words (adds_nothing e f) =
+    (ap (words_fault (context_in old)) e, ap (context_after (context_in old)) e ∙ sym (ap context_in f))
+adds_well old new words (adds_vars h) =
+    let line = vars_line h.0 h.1 h.3 h.4 in (
+      ap (λ t. words_fault (context_in t) words) h.5 ∙ ap (words_fault opening) h.2 ∙ line.0,
+      ap (λ t. context_after (context_in t) words) h.5 ∙ ap (context_after opening) h.2 ∙ line.1 ∙ sym (ap context_in h.6),
+    )
+adds_well old new words (adds_session h) = (
+  ap (λ t. words_fault (context_in t) words) h.2 ∙ ap (words_fault (context_in (Sized h.0))) h.1,
+  ap (λ t. context_after (context_in t) words) h.2 ∙ ap (context_after (context_in (Sized h.0))) h.1 ∙ sym (ap context_in h.3),
+)
+adds_well old new words (adds_command h) =
+    let line = command_line (context_in old) (h.0).scope.vars (h.0).scope.registers words h.1 (ap context_in h.2) h.3 in
+    (line.0, line.1 ∙ sym (ap context_in h.4))
+
+-- What it makes of the lines with words
+pub adds_spelled : (old new : Draft) (words : List Word) (said : List (List Word)) → Adds old words new → Spelled old said → Spelled new (said ++ filter has_words (words ∷ []))
+adds_spelled old new words said (adds_nothing e f) h =
+    subst (λ (t : List (List Word)). Spelled new t) (sym (append-nil said) ∙ ap (λ ws. said ++ filter has_words (ws ∷ [])) (sym e))
+    (subst (λ (t : Draft). Spelled t said) (sym f) h)
+adds_spelled old new words said (adds_vars g) h =
+    let empty : said ≡ [] = subst (λ (t : Draft). Spelled t said) g.5 h in
+    subst (λ (t : Draft). Spelled t (said ++ filter has_words (words ∷ []))) (sym g.6)
+    (g.0, g.3, ap (λ t. t ++ filter has_words (words ∷ [])) empty ∙ ap (λ ws. filter has_words (ws ∷ [])) g.2 ∙ some_words (codes "vars") (g.0 ∷ []))
+adds_spelled old new words said (adds_session g) h =
+    let k : Spelled (Sized g.0) said = subst (λ (t : Draft). Spelled t said) g.2 h in
+    subst (λ (t : Draft). Spelled t (said ++ filter has_words (words ∷ []))) (sym g.3) (
+      k.0,
+      k.1,
+      ap (λ t. t ++ filter has_words (words ∷ [])) k.2 ∙ ap (λ ws. (codes "vars" ∷ k.0 ∷ []) ∷ filter has_words (ws ∷ [])) g.1
+          ∙ ap (λ t. (codes "vars" ∷ k.0 ∷ []) ∷ t) (some_words (codes "session") []),
+      tt,
+      refl,
+    )
+adds_spelled old new words said (adds_command g) h =
+    let k : Spelled (Begun g.0) said = subst (λ (t : Draft). Spelled t said) g.2 h in
+    let n = (g.0).scope.vars in
+    let rs = (g.0).scope.registers in
+    let two = two_words n rs words g.1 g.3 in
+    let one : filter has_words (words ∷ []) ≡ words ∷ [] = ap (λ ws. filter has_words (ws ∷ [])) two.3 ∙ some_words two.0 (two.1 ∷ two.2) ∙ sym (ap (λ ws. ws ∷ []) two.3) in
+    subst (λ (t : Draft). Spelled t (said ++ filter has_words (words ∷ []))) (sym g.4) (
+      k.0,
+      k.1,
+      ap (λ t. said ++ t) one ∙ ap (λ t. t ++ words ∷ []) k.2 ∙ ap (λ t. (codes "vars" ∷ k.0 ∷ []) ∷ t) (sym (section_more (g.0).commands words g.1)),
+      say_more n [] (g.0).commands words g.1 k.3 (subst (λ (t : List Register). Says n t words g.1) k.4 g.3),
+      ap (λ t. registers_after t words) k.4 ∙ sym (behind_more [] (g.0).commands words g.1),
+    )
+
+-- and of the number of registers
+length_without : (w : Word) (rs : List Register) → length (map (without w) rs) ≡ length rs
+length_without w [] = refl
+length_without w (r ∷ rs) = ap suc (length_without w rs)
+
+grows : (assigns drops : Bool) (rs : List Register) (one : Register) (w : Word) → length (cond assigns (rs ++ one ∷ []) (cond drops (map (without w) rs) rs)) ≤ length rs + 1
+grows true drops rs one w = omega (arith, length-append rs (one ∷ []))
+grows false true rs one w = omega (arith, length_without w rs)
+grows false false rs one w = omega arith
+
+registers_grow : (rs : List Register) (words : List Word) → length (registers_after rs words) ≤ length rs + 1
+registers_grow rs words = grows (is_assignment words) (is_drop words) rs _ _
+
+pub small_up : (draft : Draft) (a b : ℕ) → a ≤ b → IsSmall draft a → IsSmall draft b
+small_up Nothing a b le h = tt
+small_up (Sized n) a b le h = h
+small_up (Begun section) a b le h = (h.0, omega (arith, h.1))
+
+pub adds_small : (old new : Draft) (words : List Word) (count : ℕ) → Adds old words new → IsSmall old count → IsSmall new (count + 1)
+adds_small old new words count (adds_nothing e f) h = subst (λ (t : Draft). IsSmall t (count + 1)) (sym f) (small_up old count (count + 1) (omega arith) h)
+adds_small old new words count (adds_vars g) h = subst (λ (t : Draft). IsSmall t (count + 1)) (sym g.6) g.4
+adds_small old new words count (adds_session g) h =
+    let k : IsSmall (Sized g.0) count = subst (λ (t : Draft). IsSmall t count) g.2 h in
+    subst (λ (t : Draft). IsSmall t (count + 1)) (sym g.3) (k, omega arith)
+adds_small old new words count (adds_command g) h =
+    let k : IsSmall (Begun g.0) count = subst (λ (t : Draft). IsSmall t count) g.2 h in
+    subst (λ (t : Draft). IsSmall t (count + 1)) (sym g.4) (k.0, omega (arith, registers_grow (g.0).scope.registers words, k.1))
+
+pub read_more : (lines : List (List ℕ)) (line : List ℕ) (old new : Draft) (words : List Word) → IsRead lines old → line_words line ≡ Some words → Adds old words new → IsRead (lines ++ line ∷ []) new
+read_more lines line old new words read e adds =
+    let own = clean_words (list_all is_allowed line) (words_of line) words e in
+    let well = adds_well old new words adds in
+    record {
+      faultless = faultless_more opening lines line read.faultless
+          (ap (λ b. cond b (words_fault (context_behind opening lines) (words_of line)) (Some kinds.Word)) own.0
+          ∙ ap (λ c. words_fault c (words_of line)) read.context ∙ ap (words_fault (context_in old)) own.1 ∙ well.0);
+      context = context_more opening lines line ∙ ap (λ c. context_after c (words_of line)) read.context ∙ ap (context_after (context_in old)) own.1 ∙ well.1;
+      clean = list_all-append (list_all is_allowed) lines (line ∷ []) ∙ ap (λ b. b && (list_all is_allowed line && true)) read.clean ∙ ap (λ b. b && true) own.0;
+      spelled = subst (λ (t : List (List Word)). Spelled new t) (sym (said_more lines line ∙ ap (λ ws. said_lines lines ++ filter has_words (ws ∷ [])) own.1))
+          (adds_spelled old new words (said_lines lines) adds read.spelled);
+      small = subst (λ (k : ℕ). IsSmall new k) (sym (length-append lines (line ∷ []))) (adds_small old new words (length lines) adds read.small);
+    }
+
+pub lines_more : (all lines : List (List ℕ)) (text rest front : List ℕ) → all ≡ lines ++ lines_of rest → lines_of rest ≡ front ∷ lines_of text → all ≡ (lines ++ front ∷ []) ++ lines_of text
+lines_more all lines text rest front h e = h ∙ ap (λ t. lines ++ t) e ∙ sym (append_assoc lines (front ∷ []) (lines_of text))
+
+-- The first faulty line
+pub faulty : (text : List ℕ) (lines : List (List ℕ)) (front rest after : List ℕ) (place : ℕ) (draft : Draft) (kind : FaultKind)
+    → lines_of text ≡ lines ++ lines_of rest → lines_of rest ≡ front ∷ lines_of after → IsRead lines draft → place ≡ length lines → line_fault (context_in draft) front ≡ Some kind → FaultyLine text (place + 1) kind
+faulty text lines front rest after place draft fault h e read n f =
+    record {
+      good = lines;
+      bad = front;
+      rest = lines_of after;
+      lines = h ∙ ap (λ t. lines ++ t) e;
+      counted = ap (λ k. k + 1) n;
+      faultless = read.faultless;
+      faulty = ap (λ c. line_fault c front) read.context ∙ f;
+    }
+
+pub unclean_line : (c : Context) (line : List ℕ) → line_words line ≡ None → line_fault c line ≡ Some kinds.Word
+unclean_line c line e = ap (λ b. cond b (words_fault c (words_of line)) (Some kinds.Word)) (no_words (list_all is_allowed line) (words_of line) e)
+
+pub faulty_words : (c : Context) (line : List ℕ) (words : List Word) (kind : FaultKind) → line_words line ≡ Some words → words_fault c words ≡ Some kind → line_fault c line ≡ Some kind
+faulty_words c line words fault e f =
+    let own = clean_words (list_all is_allowed line) (words_of line) words e in
+    ap (λ b. cond b (words_fault c (words_of line)) (Some kinds.Word)) own.0 ∙ ap (words_fault c) own.1 ∙ f
+
+-- The end of the text
+no_lines : lines_of [] ≡ []
+unfolding lines_of
+no_lines = refl
+
+is_zero : (n : ℕ) → (n == 0) ≡ true → n ≡ 0
+is_zero n h = grind (arith, nat_tests)
+
+empty_is : (xs : List ℕ) → (length xs == 0) ≡ true → xs ≡ []
+empty_is [] h = refl
+empty_is (x ∷ xs) h = absurd (omega (arith, is_zero (length (x ∷ xs)) h))
+
+pub all_read : (all lines : List (List ℕ)) (rest : List ℕ) → all ≡ lines ++ lines_of rest → (length rest == 0) ≡ true → lines ≡ all
+all_read all lines rest h e = sym (h ∙ ap (λ t. lines ++ lines_of t) (empty_is rest e) ∙ ap (λ t. lines ++ t) no_lines ∙ append-nil lines)
+
+all_one : (P : List Command → Type 0) (commands : List Command) → P commands → All P (commands ∷ [])
+all_one P commands h = All-cons P commands [] h (λ k d lt. absurd (omega arith))
+
+pub job_from : (text : List ℕ) (draft : Draft) (r : Result Job JobError) → IsRead (lines_of text) draft
+    → IfOk r (λ job. (section : Section) × (draft ≡ Begun section) × (job ≡ record { vars = section.scope.vars; elements = 0; limit = 262144; sections = section.commands ∷ [] }))
+    → IfOk r (λ job. IsJobText text job)
+job_from text draft (Err e) read h = h
+job_from text draft (Ok job) read h =
+    let section = h.0 in
+    let spelled : Spelled (Begun section) (said_lines (lines_of text)) = subst (λ (t : Draft). Spelled t (said_lines (lines_of text))) h.1 read.spelled in
+    let small : IsSmall (Begun section) (length (lines_of text)) = subst (λ (t : Draft). IsSmall t (length (lines_of text))) h.1 read.small in
+    subst (λ (t : Job). IsJobText text t) (sym h.2)
+    (record {
+      clean = read.clean;
+      number = spelled.0;
+      vars = spelled.1;
+      lines = spelled.2 ∙ ap (λ t. (codes "vars" ∷ spelled.0 ∷ []) ∷ t) (sym (append-nil (section_lines section.commands)));
+      is_job = record {
+        few_variables = small.0;
+        no_elements = refl;
+        default_limit = refl;
+        one_section = refl;
+        commands = all_one (CommandsSay section.scope.vars []) section.commands spelled.3;
+      };
+    })
+
+pub end_from : (text : List ℕ) (count : ℕ) (draft : Draft) (r : Result Job JobError) → IsRead (lines_of text) draft → count ≡ length (lines_of text)
+    → IfErr r (λ error. EndStop draft count error) → IfErr r (λ error. HasFault text error)
+end_from text count draft (Ok job) read n h = h
+end_from text count draft (Err errors.Memory) read n h = h
+end_from text count draft (Err (errors.Fault fault)) read n h =
+    inr (record { faultless = read.faultless; early = ap (λ (c : Context). c.registers) read.context ∙ h.0; counted = h.1 ∙ ap (λ k. k + 1) n; word = h.2 })

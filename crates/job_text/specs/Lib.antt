@@ -1,0 +1,6 @@
+pub mod Text
+pub mod Grammar
+pub mod Faults
+pub mod Readings
+pub mod Drafts
+pub mod Histories

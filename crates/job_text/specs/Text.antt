@@ -1,0 +1,56 @@
+-- A text as lines, and a line as words.
+use Rattle.std.specs.Prelude.{◌≡◌, ℕ, ◌==◌, nat_le, Bool, true, ◌&&◌, ◌||◌, not, List, [], ◌∷◌, map, filter, length, slice_index, Option, Some, None, codes, if◌then◌else◌}
+use Rattle.std.specs.List.{slice_split, before_first, list_all}
+use Rattle.std.specs.Char.{is_ascii_digit}
+use Rattle.std.specs.Str.Parse.{digits_value}
+
+abbrev pub Word : Type 0
+Word = List ℕ
+
+-- a byte that may stand in a line
+abbrev pub is_allowed : ℕ → Bool
+is_allowed b = b == 9 || b == 13 || (nat_le 32 b && nat_le b 126)
+
+abbrev pub is_separator : ℕ → Bool
+is_separator b = b == 32 || b == 9 || b == 13
+
+-- a last line that is empty is none: it lies behind the last line feed
+abbrev pub without_empty_end : List (List ℕ) → List (List ℕ)
+without_empty_end [] = []
+without_empty_end ([] ∷ []) = []
+without_empty_end (line ∷ lines) = line ∷ without_empty_end lines
+
+-- what stands between line feeds
+unfoldable pub lines_of : List ℕ → List (List ℕ)
+lines_of text = without_empty_end (slice_split (λ b. b == 10) text)
+
+-- what stands between blanks, tabs and carriage returns, up to a `#`
+unfoldable pub words_of : List ℕ → List Word
+words_of line = filter (λ word. not (length word == 0)) (slice_split is_separator (before_first (λ b. b == 35) line))
+
+-- the words of a line, and none where a byte may not stand
+abbrev pub line_words : List ℕ → Option (List Word)
+line_words line = if list_all is_allowed line then Some (words_of line) else None
+
+-- `0`, or digits that do not begin with 0
+unfoldable pub is_number : Word → Bool
+is_number word = not (length word == 0) && list_all is_ascii_digit word && (not (slice_index word 0 == 48) || length word == 1)
+
+-- a word that is a number, and its value
+abbrev pub IsNumber : Word → ℕ → Type 0
+IsNumber word n = (is_number word ≡ true) × (digits_value 10 word ≡ n)
+
+abbrev pub is_letter : ℕ → Bool
+is_letter b = (nat_le 65 b && nat_le b 90) || (nat_le 97 b && nat_le b 122)
+
+abbrev pub is_name_byte : ℕ → Bool
+is_name_byte b = is_letter b || is_ascii_digit b || b == 95
+
+-- a letter, and then letters, digits and `_`: at most 32 bytes
+unfoldable pub is_name : Word → Bool
+is_name word = is_letter (slice_index word 0) && list_all is_name_byte word && nat_le (length word) 32
+
+-- 0-1 words: `none` for no bits
+abbrev pub bit_word : List Bool → Word
+bit_word [] = codes "none"
+bit_word (b ∷ bs) = map (λ c. if c then 49 else 48) (b ∷ bs)

@@ -1,0 +1,65 @@
+//! Why a text is not read.
+
+ghost use Rattle.std.specs.Prelude.{◌≡◌};
+
+use std::alloc::{AllocError, AllocFailed};
+
+/// What is wrong with a line.
+#[derive(Debug, Clone, Copy, PartialEq, Eq)]
+pub enum FaultKind {
+    /// An unknown word, a wrong number of words, a word of another form than is due, a line out of its order, or a byte that may not stand in a text.
+    Word,
+    /// A register that was not assigned before in this section, or was dropped.
+    Name,
+    /// A register of another kind of diagram than is due.
+    Kind,
+    /// A number out of its range, or bits of a wrong length.
+    Range,
+    /// A session too many.
+    Limit,
+    /// A target that was assigned before in this section.
+    Again,
+}
+
+/// The first faulty line of a text, counted from 1, and its first fault.
+#[derive(Debug, Clone, Copy, PartialEq, Eq)]
+pub struct JobFault {
+    pub line: u64,
+    pub what: FaultKind,
+}
+
+/// Why a text was not read.
+#[derive(Debug, Clone, Copy, PartialEq, Eq)]
+pub enum JobError {
+    /// Memory was wanting.
+    Memory,
+    /// The text is not that of a job.
+    Fault(JobFault),
+}
+
+/// Why a line was not taken.
+#[derive(Debug, Clone, Copy, PartialEq, Eq)]
+pub enum Stop {
+    Memory,
+    Fault(FaultKind),
+}
+
+impl From<AllocError> for Stop {
+    ghost use Rattle.job_text.specs.declared.faults.Stop.TheVariants.{Memory};
+
+    ghost from_gives = { λ _ e. e ≡ Memory };
+
+    fn from(_: AllocError) -> Stop {
+        Stop::Memory
+    }
+}
+
+impl<T: Drop> From<AllocFailed<T>> for Stop {
+    ghost use Rattle.job_text.specs.declared.faults.Stop.TheVariants.{Memory};
+
+    ghost from_gives = { λ _ e. e ≡ Memory };
+
+    fn from(_: AllocFailed<T>) -> Stop {
+        Stop::Memory
+    }
+}

@@ -1,0 +1,37 @@
+use edge_bits::List;
+
+/// What a command does. Registers go by number of assignment in their section, from 0.
+#[derive(Drop)]
+pub enum Act {
+    /// `r = var V`: the projection of a variable.
+    Var(u32),
+    /// `r = and A B`: the conjunction of two registers.
+    And(u32, u32),
+    /// `drop A`: the register is let go.
+    Drop(u32),
+    /// `eval A bits`: the value of a register, where bit i is the value of variable i.
+    Eval(u32, List<bool>),
+}
+
+/// A command: its words as in the text, and what it does.
+#[derive(Drop)]
+pub struct Command {
+    pub words: List<List<u8>>,
+    pub act: Act,
+}
+
+/// A script: the numbers of variables and elements, at most 1,024 each, the limit of slots, and the commands of each session.
+#[derive(Drop)]
+pub struct Job {
+    pub vars: u32,
+    pub elements: u32,
+    pub limit: u32,
+    pub sections: List<List<Command>>,
+}
+
+/// A register of a section: its name, and whether it was not dropped.
+#[derive(Drop)]
+pub struct Register {
+    pub name: List<u8>,
+    pub live: bool,
+}

@@ -1,0 +1,15 @@
+//! Jobs: the scripts that are played, their grammar, and the text of their histories.
+#![tactic(auto)]
+
+mod commands;
+mod draft;
+mod faults;
+mod history_line;
+mod job;
+mod reader;
+mod text;
+
+pub use faults::{FaultKind, JobError, JobFault};
+pub use history_line::{Reply, line};
+pub use job::{Act, Command, Job, Register};
+pub use reader::{parse, texts_have_one_reading};
