@@ -1,0 +1,106 @@
+-- A whole play.
+use Rattle.std.proofs.Common.{◌≡◌, ◌≢◌, ℕ, zero, suc, ◌+◌, ◌<◌, ◌≤◌, Bool, true, false, cond, List, [], ◌∷◌, ◌++◌, length, map, Option, Some, None, refl, sym, ap, ap₂, ◌∙◌, subst, arith, zero-add}
+use Rattle.std.specs.Prelude.{◌==◌, All, filter, slice_get}
+use Rattle.std.specs.List.{flat_map, list_any, range_with_len}
+use Rattle.std.proofs.lemmas.Bool.{eq-eqb}
+use Rattle.std.proofs.lemmas.List.{length-map}
+use Rattle.std.proofs.lemmas.List.Elements.{All-nil}
+use Rattle.std.proofs.lemmas.List.FromFn.{length-map-range_with_len}
+use Rattle.std.proofs.lemmas.Option.{slice_get_within}
+use Rattle.function_laws.specs.Tables.{Sizes, opening}
+use Rattle.function_laws.specs.Histories.{IsLegal}
+use Rattle.job_text.specs.declared.job.Command.{Command}
+use Rattle.job_text.specs.declared.job.Job.{Job}
+use Rattle.job_text.specs.Grammar.{IsJob}
+use Rattle.job_text.specs.Histories.{Held, HistoryLine, IsHistory, IsPlayed, IsSession, left_text, registers_of, sizes_of, text_of, told_of}
+use Rattle.net_jobs.specs.declared.playing.Progress.{Progress}
+use Rattle.net_jobs.specs.Agreement.{Agrees, name_of, sizes_for}
+use Rattle.net_jobs.specs.Playing.{DropsTheRest, SaysThrough, Stands, StandsAt}
+
+-- at the beginning nothing was said
+pub stands_first : (n : ℕ) (commands : List Command) → Stands n commands [] [] [] 0 []
+stands_first n commands = record {
+  legal = tt;
+  agrees = record { sizes_are = refl; live = λ row f has. cc; not_given = λ row from. refl };
+  told = All-nil (λ line. told_of line.entry.reply ≡ Some line.reply);
+  alone = All-nil (λ line. line.entry.session ≡ 0);
+  words = refl;
+  names = refl;
+  count = refl;
+  dropped = λ row. refl;
+  written = refl;
+  number = refl;
+}
+
+-- the generations of the registers
+map-name_of : (n from : ℕ) → map (λ name. name.generation) (map name_of (range_with_len from n)) ≡ range_with_len from n
+map-name_of zero from = refl
+map-name_of (suc n) from = ap (λ xs. from ∷ xs) (map-name_of n (from + 1))
+
+generations_of : (registers : List Held) → map (λ register. register.name.generation) registers ≡ map (λ name. name.generation) (map (λ register. register.name) registers)
+generations_of [] = refl
+generations_of (register ∷ registers) = ap (λ xs. register.name.generation ∷ xs) (generations_of registers)
+
+-- all lines are of session 0
+all_kept : (lines : List HistoryLine) → All (λ line. line.entry.session ≡ 0) lines → filter (λ line. line.entry.session == 0) lines ≡ lines
+all_kept [] alone = refl
+all_kept (line ∷ lines) alone =
+    ap (λ b. cond b (line ∷ filter (λ line. line.entry.session == 0) lines) (filter (λ line. line.entry.session == 0) lines)) (eq-eqb line.entry.session 0 (alone 0 line (omega arith)))
+    ∙ ap (λ xs. line ∷ xs) (all_kept lines (λ k d below. alone (suc k) d (omega arith)))
+
+module _ (job : Job) (commands : List Command) (mid end : Progress) (is_job : IsJob job) (section : slice_get job.sections 0 ≡ Some commands)
+    (vars : mid.session.vars ≡ job.vars) (same_vars : end.session.vars ≡ mid.session.vars)
+    (says : (said : List HistoryLine) × StandsAt commands mid said × SaysThrough commands said)
+    (drops_rest : (said : List HistoryLine) → StandsAt commands mid said → DropsTheRest commands end said) where
+  abbrev said : List HistoryLine
+  said = says.0
+
+  abbrev rest : DropsTheRest commands end said
+  rest = drops_rest said says.1
+
+  is_session : IsSession commands (said ++ rest.dropped)
+  is_session = record {
+    said = said;
+    dropped = rest.dropped;
+    parts = refl;
+    in_order = says.2.in_order;
+    goes_on = says.2.goes_on;
+    to_the_end = says.2.to_the_end;
+    generations = generations_of (registers_of said) ∙ ap (map (λ name. name.generation)) says.1.names ∙ map-name_of (length mid.session.rows.items) 0
+        ∙ ap (range_with_len 0) (sym (sym (length-map (registers_of said) (λ register. register.name)) ∙ ap length says.1.names ∙ length-map-range_with_len name_of 0 (length mid.session.rows.items)));
+    drops_the_rest = rest.rest;
+  }
+
+  sizes_are : sizes_of job ≡ sizes_for end.session.vars
+  sizes_are = ap₂ sizes (sym (same_vars ∙ vars)) is_job.no_elements
+    where
+      sizes : ℕ → ℕ → Sizes
+      sizes n m = record { variables = n; elements = m; most_variables = n; most_elements = m }
+
+  only_section : (s : ℕ) (others : List Command) → slice_get job.sections s ≡ Some others → (s ≡ 0) × (others ≡ commands)
+  only_section s others is = (first, back others commands (sym is ∙ ap (slice_get job.sections) first ∙ section))
+    where
+      first : s ≡ 0
+      first = omega (arith, slice_get_within job.sections s others is, is_job.one_section)
+
+      back : (xs ys : List Command) → Some xs ≡ Some ys → xs ≡ ys
+      back xs ys e = cc
+
+  is_history : IsHistory job (said ++ rest.dropped)
+  is_history = record {
+    legal = subst (λ (z : Sizes). IsLegal z (map (λ line. line.entry) (said ++ rest.dropped))) (sym sizes_are) rest.stands.legal;
+    told = rest.stands.told;
+    sessions = λ s others is.
+        let only = only_section s others is in
+        subst (λ i. IsSession others (filter (λ line. line.entry.session == i) (said ++ rest.dropped))) (sym only.0)
+        (subst (λ xs. IsSession others xs) (sym (all_kept (said ++ rest.dropped) rest.stands.alone))
+        (subst (λ (cs : List Command). IsSession cs (said ++ rest.dropped)) (sym only.1) is_session));
+    no_other = λ k d below. omega (arith, rest.stands.alone k d below, is_job.one_section);
+  }
+
+  pub played : (text : List ℕ) → text ≡ end.text.items ++ left_text (5 + job.vars) → IsPlayed job text
+  played text is = record {
+    lines = said ++ rest.dropped;
+    history = is_history;
+    bytes = is ∙ ap (λ xs. xs ++ left_text (5 + job.vars)) rest.stands.written;
+  }

@@ -1,0 +1,9 @@
+pub mod DropLemmas
+pub mod EndLemmas
+pub mod Known
+pub mod ListLemmas
+pub mod LoopLemmas
+pub mod PlayLemmas
+pub mod SessionLemmas
+pub mod SizeLemmas
+pub mod StandsLemmas

@@ -1,0 +1,302 @@
+-- The loop over the commands of a session.
+use Rattle.std.proofs.Common.{◌≡◌, ◌≢◌, ℕ, zero, suc, ◌+◌, ◌-◌, ◌<◌, ◌≤◌, ◌⊎◌, ⊎_elim, Bool, true, false, not, cond, ◌&&◌, ◌||◌, List, [], ◌∷◌, ◌++◌, length, map, take, drop, Option, Some, None, IfSome, refl, sym, ap, ap₂, ◌∙◌, subst, arith, zero-add, codes, drop-cons, get_or}
+use Rattle.std.proofs.Math.ListN.{set, length-set}
+use Rattle.std.specs.Prelude.{◌==◌, slice_get, option_map}
+use Rattle.std.specs.Str.{bytes_eq}
+use Rattle.std.specs.List.{cons_option, list_any, list_all, range_with_len}
+use Rattle.std.proofs.lemmas.Bool.{false≢true}
+use Rattle.std.proofs.lemmas.List.{append-nil, length_push, length-map}
+use Rattle.std.proofs.lemmas.List.FromFn.{get_or-map-range_with_len, length-map-range_with_len}
+use Rattle.std.proofs.lemmas.List.Elements.{filter_map-append}
+use Rattle.std.proofs.lemmas.List.Folds.{list_any-append}
+use Rattle.std.proofs.lemmas.Option.{slice_get_within, slice_get-map, slice_get-get_or}
+use Rattle.std.proofs.lemmas.Slice.Eq.{bytes_eq-Decides}
+use Rattle.function_laws.specs.declared.history.Name.{Name}
+use Rattle.function_laws.specs.declared.history.Call.{Call}
+use Rattle.job_text.specs.declared.job.Act.{Act}
+use Rattle.job_text.specs.declared.job.Act.TheVariants.{Var, And, Drop, Eval}
+use Rattle.job_text.specs.declared.job.Command.{Command}
+use Rattle.job_text.specs.declared.job.Register.{Register}
+use Rattle.job_text.specs.Text.{Word, is_name}
+use Rattle.job_text.specs.Grammar.{CommandsSay, Refers, Says, is_assignment, is_drop, registers_after, target_of, without}
+use Rattle.job_text.specs.Histories.{Calls, Held, HistoryLine, IsNamed, SayInOrder, given_by, held_as, held_by, registers_of, stops}
+use Rattle.net_jobs.specs.declared.playing.Progress.{Progress}
+use Rattle.net_jobs.specs.Agreement.{Has, Rows, name_of}
+use Rattle.net_jobs.specs.Playing.{CanCall, Covers, GrowsOrLeft, IsHeld, RowsGoOn, SaysOne, SaysThrough, Stands, StandsAt, call_with, makes, rows_left}
+use Rattle.net_jobs.proofs.PlayLemmas.{grown_length}
+use Rattle.net_jobs.proofs.ListLemmas.{slice_get-push, slice_get-push_new, slice_get-push_old, slice_get-set_other}
+
+-- what a command says lets it be called
+pub can_call : (n : ℕ) (registers : List Register) (rows : Rows) (words : List Word) (act : Act) → Says n registers words act → Covers registers rows → CanCall n rows act
+can_call n registers rows words (Var v) says covers = says.5
+can_call n registers rows words (And a b) says covers = (covers.held a says.1 says.5.1, covers.held b says.2 says.6.1)
+can_call n registers rows words (Drop a) says covers = covers.held a says.0 says.2.1
+can_call n registers rows words (Eval a bits) says covers = (covers.held a says.0 says.2.1, says.3)
+
+-- a row that was held is held among more rows
+held-push : (rows : Rows) (f : List Bool) (a : ℕ) → IsHeld rows a → IsHeld (rows ++ Some f ∷ []) a
+held-push rows f a held = (held.0, slice_get-push_old rows (Some f) a (slice_get_within rows a (Some held.0) held.1) ∙ held.1)
+
+covers-push : (registers : List Register) (rows : Rows) (register : Register) (f : List Bool) → Covers registers rows
+    → Covers (registers ++ register ∷ []) (rows ++ Some f ∷ [])
+covers-push registers rows register f covers = record {
+  as_many = length_push registers register ∙ ap (λ k. k + 1) covers.as_many ∙ sym (length_push rows (Some f));
+  held = λ a word is. ⊎_elim
+      (λ old. held-push rows f a (covers.held a word old.1))
+      (λ new. subst (λ i. IsHeld (rows ++ Some f ∷ []) i) (sym (new.0 ∙ covers.as_many)) (f, slice_get-push_new rows (Some f)))
+      (slice_get-push registers register (record { name = word; live = true }) a is);
+}
+
+and_both : (a b : Bool) → (a && b) ≡ true → (a ≡ true) × (b ≡ true)
+and_both true b is = (refl, is)
+and_both false b is = absurd (false≢true is)
+
+not_true : (b : Bool) → not b ≡ true → b ≡ false
+not_true true is = absurd (false≢true is)
+not_true false is = refl
+
+same_word : (w : Word) → bytes_eq w w ≡ true
+same_word w = (bytes_eq-Decides w w).1 refl
+
+-- a register that is live after a drop was live before, and has another name
+without-live : (dropped word : Word) (o : Option Register) → option_map (without dropped) o ≡ Some (record { name = word; live = true })
+    → (o ≡ Some (record { name = word; live = true })) × (bytes_eq word dropped ≡ false)
+without-live dropped word None is = cc
+without-live dropped word (Some register) is =
+    let same : without dropped register ≡ record { name = word; live = true } = cc in
+    let name : register.name ≡ word = ap (λ (r : Register). r.name) same in
+    let flags : (register.live && not (bytes_eq register.name dropped)) ≡ true = ap (λ (r : Register). r.live) same in
+    let both = and_both register.live (not (bytes_eq register.name dropped)) flags in (
+      ap₂ (λ (w : Word) (b : Bool). Some (record { name = w; live = b })) name both.0,
+      ap (λ w. bytes_eq w dropped) (sym name) ∙ not_true (bytes_eq register.name dropped) both.1,
+    )
+
+covers-drop : (registers : List Register) (rows : Rows) (word : Word) (a : ℕ) → slice_get registers a ≡ Some (record { name = word; live = true })
+    → Covers registers rows → Covers (map (without word) registers) (set rows a None)
+covers-drop registers rows word a is covers = record {
+  as_many = length-map registers (without word) ∙ covers.as_many ∙ sym (length-set rows a None);
+  held = λ k name at.
+      let before = without-live word name (slice_get registers k) (sym (slice_get-map (without word) registers k) ∙ at) in
+      let apart : k ≢ a = λ same.
+      let first : Register = record { name = name; live = true } in
+      let second : Register = record { name = word; live = true } in
+      let both : Some first ≡ Some second = sym before.0 ∙ ap (slice_get registers) same ∙ is in
+      let one : first ≡ second = cc in
+      let equal : name ≡ word = ap (λ (r : Register). r.name) one in
+      false≢true (sym before.1 ∙ ap (λ w. bytes_eq w word) equal ∙ same_word word) in
+      let held = covers.held k name before.0 in
+      (held.0, slice_get-set_other rows None a k apart ∙ held.1);
+}
+
+-- a name is no `=`
+not_equals : (x : Word) → is_name x ≡ true → bytes_eq x (codes "=") ≡ false
+unfolding is_name
+not_equals x is = by_test (bytes_eq x (codes "=")) refl
+  where
+    by_test : (b : Bool) → bytes_eq x (codes "=") ≡ b → bytes_eq x (codes "=") ≡ false
+    by_test false e = e
+    by_test true e = absurd (false≢true (ap is_name (sym ((bytes_eq-Decides x (codes "=")).0 e)) ∙ is))
+
+-- the registers after a command that goes on are rows
+pub covers-after : (n : ℕ) (registers : List Register) (old new : Rows) (words : List Word) (act : Act) → Says n registers words act → Covers registers old
+    → GrowsOrLeft (makes act) old new act → Covers (registers_after registers words) new
+covers-after n registers old new words (Var v) says covers after =
+    subst (λ rs. Covers rs new) (sym (ap (registers_after registers) says.3))
+    (subst (λ rows. Covers (registers ++ record { name = says.0; live = true } ∷ []) rows) (sym after.1) (covers-push registers old (record { name = says.0; live = true }) after.0 covers))
+covers-after n registers old new words (And a b) says covers after =
+    subst (λ rs. Covers rs new) (sym (ap (registers_after registers) says.4))
+    (subst (λ rows. Covers (registers ++ record { name = says.0; live = true } ∷ []) rows) (sym after.1) (covers-push registers old (record { name = says.0; live = true }) after.0 covers))
+covers-after n registers old new words (Drop a) says covers after =
+    subst (λ rs. Covers rs new) (sym (ap (registers_after registers) says.1))
+    (subst (λ rows. Covers (map (without says.0) registers) rows) (sym after) (covers-drop registers old says.0 a says.2.1 covers))
+covers-after n registers old new words (Eval a bits) says covers after =
+    subst (λ rs. Covers rs new) (sym (ap (registers_after registers) says.1 ∙ ap (λ b. cond b (registers ++ record { name = codes "eval"; live = true } ∷ []) registers) (not_equals says.0 says.2.0)))
+    (subst (λ rows. Covers registers rows) (sym after) covers)
+
+-- what is named among some registers is named among more
+named-more : (registers more : List Held) (a : ℕ) (name : Name) → IsNamed registers a name → IsNamed (registers ++ more) a name
+named-more registers more a name is = (is.0, slice_get-more registers more a _ is.1)
+  where
+    slice_get-more : (xs ys : List Held) (i : ℕ) (x : Held) → slice_get xs i ≡ Some x → slice_get (xs ++ ys) i ≡ Some x
+    slice_get-more [] ys i x is = cc
+    slice_get-more (y ∷ xs) ys zero x is = is
+    slice_get-more (y ∷ xs) ys (suc i) x is = slice_get-more xs ys i x is
+
+calls-more : (registers more : List Held) (act : Act) (call : Call) → Calls registers act call → Calls (registers ++ more) act call
+calls-more registers more (Var v) call is = is
+calls-more registers more (And a b) call is = (is.0, is.1, named-more registers more a is.0 is.2, named-more registers more b is.1 is.3, is.4)
+calls-more registers more (Drop a) call is = (is.0, named-more registers more a is.0 is.1, is.2)
+calls-more registers more (Eval a bits) call is = (is.0, named-more registers more a is.0 is.1, is.2)
+
+in_order-more : (registers more : List Held) (lines : List HistoryLine) (commands : List Command) → SayInOrder registers lines commands → SayInOrder (registers ++ more) lines commands
+in_order-more registers more [] commands says = says
+in_order-more registers more (line ∷ lines) [] says = says
+in_order-more registers more (line ∷ lines) (command ∷ commands) says =
+    (says.0, calls-more registers more command.act line.entry.call says.1, in_order-more registers more lines commands says.2)
+
+in_order-push : (registers : List Held) (lines : List HistoryLine) (commands : List Command) (line : HistoryLine) (command : Command) → SayInOrder registers lines commands
+    → slice_get commands (length lines) ≡ Some command → line.words ≡ command.words → Calls registers command.act line.entry.call
+    → SayInOrder registers (lines ++ line ∷ []) commands
+in_order-push registers [] [] line command says at words call = cc
+in_order-push registers [] (first ∷ commands) line command says at words call =
+    let same : first ≡ command = cc in
+    (words ∙ ap (λ (c : Command). c.words) (sym same), subst (λ (c : Command). Calls registers c.act line.entry.call) (sym same) call, tt)
+in_order-push registers (x ∷ lines) [] line command says at words call = says
+in_order-push registers (x ∷ lines) (first ∷ commands) line command says at words call =
+    (says.0, says.1, in_order-push registers lines commands line command says.2 at words call)
+
+-- the registers after one more line
+registers-grow : (said : List HistoryLine) (line : HistoryLine) → registers_of (said ++ line ∷ []) ≡ registers_of said ++ cons_option (held_by line) []
+registers-grow said line = filter_map-append held_by said (line ∷ [])
+
+some_inner : (o : Option Held) (name : Name) → option_map (λ register. register.name) o ≡ Some name → (word : Word) × (o ≡ Some (record { word = word; name = name }))
+some_inner None name is = cc
+some_inner (Some register) name is =
+    let same : register.name ≡ name = cc in
+    (register.word, ap (λ (n : Name). Some (record { word = register.word; name = n })) same)
+
+module _ (n : ℕ) (commands : List Command) (rows : Rows) (assigned text : List ℕ) (place : ℕ) (said : List HistoryLine)
+    (stands : Stands n commands rows assigned text place said) where
+  -- a row's name is that of its register
+  named : (a : ℕ) → IsHeld rows a → IsNamed (registers_of said) a (name_of a)
+  named a held =
+      let below : a < length rows = slice_get_within rows a (Some held.0) held.1 in
+      let at : slice_get (map name_of (range_with_len 0 (length rows))) a ≡ Some (name_of a) =
+      slice_get-get_or (map name_of (range_with_len 0 (length rows))) a (name_of a) (omega (arith, length-map-range_with_len name_of 0 (length rows)))
+      ∙ ap (λ (x : Name). Some x) (get_or-map-range_with_len name_of 0 (length rows) a a (name_of a) below (zero-add a)) in
+      some_inner (slice_get (registers_of said) a) (name_of a)
+      (sym (slice_get-map (λ register. register.name) (registers_of said) a) ∙ ap (λ xs. slice_get xs a) stands.names ∙ at)
+
+  calls_of : (act : Act) → CanCall n rows act → Calls (registers_of said) act (call_with act)
+  calls_of (Var v) can = refl
+  calls_of (And a b) can = (name_of a, name_of b, named a can.0, named b can.1, refl)
+  calls_of (Drop a) can = (name_of a, named a can, refl)
+  calls_of (Eval a bits) can = (name_of a, named a can.0, refl)
+
+  -- the commands were said in order, with one more
+  pub in_order-after : (line : HistoryLine) (command : Command) → SayInOrder (registers_of said) said commands → slice_get commands (length said) ≡ Some command
+      → line.words ≡ command.words → line.entry.call ≡ call_with command.act → CanCall n rows command.act
+      → SayInOrder (registers_of (said ++ line ∷ [])) (said ++ line ∷ []) commands
+  in_order-after line command says at words call can =
+      subst (λ rs. SayInOrder rs (said ++ line ∷ []) commands) (sym (registers-grow said line))
+      (in_order-more (registers_of said) (cons_option (held_by line) []) (said ++ line ∷ []) commands
+      (in_order-push (registers_of said) said commands line command says at words
+      (subst (λ (c : Call). Calls (registers_of said) command.act c) (sym call) (calls_of command.act can))))
+
+-- So many commands were said, none of which stopped the session.
+pub record SaysUpTo (commands : List Command) (play : Progress) (i : ℕ) : Type 0 where
+  pub registers : List Register
+  pub rest : CommandsSay play.session.vars registers (drop i commands)
+  pub covers : Covers registers play.session.rows.items
+  pub said : List HistoryLine
+  pub stands : StandsAt commands play said
+  pub in_order : SayInOrder (registers_of said) said commands
+  pub none_stops : list_any (λ line. stops line.reply) said ≡ false
+  pub count : length said ≡ i
+  pub few_rows : length play.session.rows.items ≤ i
+
+-- the commands from a place on begin with that one
+rest_at : (n : ℕ) (registers : List Register) (commands : List Command) (i : ℕ) (command : Command) → slice_get commands i ≡ Some command
+    → CommandsSay n registers (drop i commands) → Says n registers command.words command.act × CommandsSay n (registers_after registers command.words) (drop (i + 1) commands)
+rest_at n registers [] i command is rest = cc
+rest_at n registers (first ∷ commands) zero command is rest =
+    let same : first ≡ command = cc in
+    subst (λ (c : Command). Says n registers c.words c.act × CommandsSay n (registers_after registers c.words) commands) same rest
+rest_at n registers (first ∷ commands) (suc i) command is rest =
+    let next : suc i + 1 ≡ suc (i + 1) = omega arith in
+    let inner = rest_at n registers commands i command is rest in
+    (inner.0, subst (λ k. CommandsSay n (registers_after registers command.words) (drop k (first ∷ commands))) (sym next) inner.1)
+
+pub can_at : (commands : List Command) (play : Progress) (i : ℕ) (command : Command) → SaysUpTo commands play i → slice_get commands i ≡ Some command
+    → CanCall play.session.vars play.session.rows.items command.act
+can_at commands play i command up is =
+    can_call play.session.vars up.registers play.session.rows.items command.words command.act (rest_at play.session.vars up.registers commands i command is up.rest).0 up.covers
+
+in_order_one : (commands : List Command) (old new : Progress) (i : ℕ) (goes_on : Bool) (command : Command) (up : SaysUpTo commands old i) → slice_get commands i ≡ Some command
+    → (one : SaysOne commands command goes_on old new up.said) → SayInOrder (registers_of (up.said ++ one.line ∷ [])) (up.said ++ one.line ∷ []) commands
+in_order_one commands old new i goes_on command up is one =
+    in_order-after old.session.vars commands old.session.rows.items old.assigned.items old.text.items old.place up.said up.stands one.line command up.in_order
+    (ap (slice_get commands) up.count ∙ is) one.words_are one.call_is (can_at commands old i command up is)
+
+or_both : (a b : Bool) → a ≡ false → b ≡ false → (a || (b || false)) ≡ false
+or_both true b first second = absurd (false≢true (sym first))
+or_both false true first second = absurd (false≢true (sym second))
+or_both false false first second = refl
+
+pub next_command : (commands : List Command) (old new : Progress) (i : ℕ) (command : Command) (up : SaysUpTo commands old i) → slice_get commands i ≡ Some command
+    → SaysOne commands command true old new up.said → RowsGoOn true old.session.rows.items new.session.rows.items command.act → new.session.vars ≡ old.session.vars
+    → SaysUpTo commands new (i + 1)
+next_command commands old new i command up is one rows vars =
+    let rest = rest_at old.session.vars up.registers commands i command is up.rest in
+    let grown : GrowsOrLeft (makes command.act) old.session.rows.items new.session.rows.items command.act = rows refl in
+    record {
+      registers = registers_after up.registers command.words;
+      rest = subst (λ n. CommandsSay n (registers_after up.registers command.words) (drop (i + 1) commands)) (sym vars) rest.1;
+      covers = covers-after old.session.vars up.registers old.session.rows.items new.session.rows.items command.words command.act rest.0 up.covers grown;
+      said = up.said ++ one.line ∷ [];
+      stands = one.stands;
+      in_order = in_order_one commands old new i true command up is one;
+      none_stops = list_any-append (λ line. stops line.reply) up.said (one.line ∷ [])
+          ∙ or_both (list_any (λ line. stops line.reply) up.said) (stops one.line.reply) up.none_stops one.stops_if;
+      count = length_push up.said one.line ∙ ap (λ k. k + 1) up.count;
+      few_rows = omega (arith, up.few_rows, grown_length (makes command.act) old.session.rows.items new.session.rows.items command.act grown);
+    }
+
+none_all : (b c d : Bool) → (b || c) ≡ false → (c ≡ false → d ≡ true) → (not b && d) ≡ true
+none_all true c d none rest = absurd (false≢true (sym none))
+none_all false c d none rest = rest none
+
+none_stops_all : (said : List HistoryLine) → list_any (λ line. stops line.reply) said ≡ false → list_all (λ line. not (stops line.reply)) said ≡ true
+none_stops_all [] none = refl
+none_stops_all (line ∷ said) none =
+    none_all (stops line.reply) (list_any (λ line. stops line.reply) said) (list_all (λ line. not (stops line.reply)) said) none (none_stops_all said)
+
+take_front : (said : List HistoryLine) (line : HistoryLine) → take (length (said ++ line ∷ []) - 1) (said ++ line ∷ []) ≡ said
+take_front said line =
+    let one_less : length (said ++ line ∷ []) - 1 ≡ length said = omega (arith, length_push said line) in
+    ap (λ k. take k (said ++ line ∷ [])) one_less ∙ take_append said (line ∷ [])
+  where
+    take_append : (xs ys : List HistoryLine) → take (length xs) (xs ++ ys) ≡ xs
+    take_append [] ys = refl
+    take_append (x ∷ xs) ys = ap (λ zs. x ∷ zs) (take_append xs ys)
+
+front_goes_on : (said : List HistoryLine) → list_any (λ line. stops line.reply) said ≡ false → list_all (λ line. not (stops line.reply)) (take (length said - 1) said) ≡ true
+front_goes_on said none = by_take (length said - 1) said (none_stops_all said none)
+  where
+    by_take : (k : ℕ) (xs : List HistoryLine) → list_all (λ line. not (stops line.reply)) xs ≡ true → list_all (λ line. not (stops line.reply)) (take k xs) ≡ true
+    by_take zero xs all = refl
+    by_take (suc k) [] all = refl
+    by_take (suc k) (x ∷ xs) all =
+        let both = and_both (not (stops x.reply)) (list_all (λ line. not (stops line.reply)) xs) all in
+        ap₂ (λ a b. a && b) both.0 (by_take k xs both.1)
+
+-- at the end of the commands
+pub says_all : (commands : List Command) (play : Progress) (i : ℕ) → SaysUpTo commands play i → length commands ≡ i
+    → (said : List HistoryLine) × StandsAt commands play said × SaysThrough commands said
+says_all commands play i up end = (
+  up.said,
+  up.stands,
+  record {
+    in_order = up.in_order;
+    goes_on = front_goes_on up.said up.none_stops;
+    to_the_end = λ none. up.count ∙ sym end;
+  },
+)
+
+-- where a command stopped the session
+pub says_stop : (commands : List Command) (old new : Progress) (i : ℕ) (command : Command) (up : SaysUpTo commands old i) → slice_get commands i ≡ Some command
+    → SaysOne commands command false old new up.said → (said : List HistoryLine) × StandsAt commands new said × SaysThrough commands said
+says_stop commands old new i command up is one = (
+  up.said ++ one.line ∷ [],
+  one.stands,
+  record {
+    in_order = in_order_one commands old new i false command up is one;
+    goes_on = ap (list_all (λ line. not (stops line.reply))) (take_front up.said one.line) ∙ none_stops_all up.said up.none_stops;
+    to_the_end = λ none. absurd (false≢true (sym none ∙ list_any-append (λ line. stops line.reply) up.said (one.line ∷ [])
+        ∙ ap (λ b. list_any (λ line. stops line.reply) up.said || (b || false)) one.stops_if ∙ or_end (list_any (λ line. stops line.reply) up.said)));
+  },
+)
+  where
+    or_end : (b : Bool) → (b || true) ≡ true
+    or_end true = refl
+    or_end false = refl

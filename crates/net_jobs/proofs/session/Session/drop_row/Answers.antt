@@ -1,0 +1,5 @@
+use Rattle.net_jobs.proofs.SessionLemmas.{step-drop_row}
+use Rattle.net_jobs.proofs.session.Session.drop_row.Goals as goal
+
+pub returns-clause-step : goal.returns-clause-step
+returns-clause-step c = step-drop_row c.args.self.now.vars c.args.self.now.rows.items c.args.f c.requires

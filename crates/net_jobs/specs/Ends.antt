@@ -1,0 +1,55 @@
+-- How a run may end: each status with its cause, and the text that is told.
+use Rattle.std.specs.Prelude.{◌≡◌, ℕ, ◌<◌, ◌≤◌, List, [], ◌∷◌, ◌++◌, Option, Some, None, IsSome, length, codes, if◌then◌else◌}
+use Rattle.std.specs.Io.KnownBytes.{Consumes, IsAtEnd}
+use Rattle.std.specs.Fmt.{decimal}
+use Rattle.std.specs.Str.{bytes_eq}
+use Rattle.job_text.specs.declared.job.Job.{Job}
+use Rattle.job_text.specs.declared.faults.JobFault.{JobFault}
+use Rattle.job_text.specs.declared.faults.FaultKind.{FaultKind}
+use Rattle.job_text.specs.declared.faults.FaultKind.TheVariants as kinds
+use Rattle.job_text.specs.Grammar.{IsJobText}
+use Rattle.job_text.specs.Faults.{IsFaultText}
+use Rattle.job_text.specs.Histories.{IsPlayed}
+use Rattle.net_jobs.specs.declared.status.Status.{Status}
+use Rattle.net_jobs.specs.declared.status.Status.TheVariants as status
+
+-- what the words ask for
+pub data Order : Type 0 where
+  play : Order
+
+-- the words of a command: `play` alone
+unfoldable pub order_of : List (List ℕ) → Option Order
+order_of (word ∷ []) = if bytes_eq word (codes "play") then Some play else None
+order_of _ = None
+
+-- These bytes are all of the input, as far as the source tells: it had them left, is at its end, and they are not too many.
+pub record IsWhole (left rest : Option (List ℕ)) (bytes : List ℕ) : Type 0 where
+  pub taken : Consumes left rest bytes
+  pub end : IsAtEnd rest
+  pub short : length bytes ≤ 67108864
+
+-- the name of a kind of fault
+abbrev pub kind_word : FaultKind → List ℕ
+kind_word kinds.Word = codes "word"
+kind_word kinds.Name = codes "name"
+kind_word kinds.Kind = codes "kind"
+kind_word kinds.Range = codes "range"
+kind_word kinds.Limit = codes "limit"
+kind_word kinds.Again = codes "again"
+
+abbrev pub fault_line : JobFault → List ℕ
+fault_line fault = codes "fault: job " ++ decimal fault.line ++ codes " " ++ kind_word fault.what ++ codes "\n"
+
+-- What there is to tell: a status with its cause, and its text. The source had `left` left when the run began and has `rest`
+-- left; `failed` says that its count of faults rose. Want of memory alone has no cause. A failing sink is told of by itself.
+abbrev pub Due : Option Order → Option (List ℕ) → Option (List ℕ) → Type 0 → Status → List ℕ → Type 0
+Due order left rest failed status.Ok text =
+    (order ≡ Some play) × (bytes : List ℕ) × (job : Job) × IsWhole left rest bytes × IsJobText bytes job × IsPlayed job text
+Due order left rest failed status.Usage text = (order ≡ None) × (text ≡ codes "fault: usage\n")
+Due order left rest failed status.Memory text = text ≡ codes "fault: memory\n"
+Due order left rest failed status.ReadFault text = IsSome order × failed × (text ≡ codes "fault: read\n")
+Due order left rest failed status.WriteFault text = ⊥
+Due order left rest failed status.Job text =
+    (order ≡ Some play) × (bytes : List ℕ) × (fault : JobFault) × IsWhole left rest bytes × IsFaultText bytes fault.line fault.what × (text ≡ fault_line fault)
+Due order left rest failed status.TooLong text =
+    IsSome order × (bytes : List ℕ) × Consumes left rest bytes × (67108864 < length bytes) × (text ≡ codes "fault: too long\n")

@@ -1,0 +1,140 @@
+-- How far a play has come: what its rows, its registers and its text have to do with the lines said so far.
+use Rattle.std.specs.Prelude.{◌≡◌, ℕ, ◌+◌, ◌<◌, ◌≤◌, Bool, true, false, not, ◌&&◌, List, [], ◌∷◌, ◌++◌, length, map, take, Option, Some, None, slice_get, slice_set, slice_index, All, if◌then◌else◌, ◌-◌}
+use Rattle.std.specs.List.{flat_map, list_any, list_all, range_with_len}
+use Rattle.function_laws.specs.declared.history.Name.{Name}
+use Rattle.function_laws.specs.declared.history.Call.{Call}
+use Rattle.function_laws.specs.declared.history.Call.TheVariants as calls
+use Rattle.function_laws.specs.declared.history.Reply.{Reply as LawReply}
+use Rattle.function_laws.specs.Tables.{opening}
+use Rattle.function_laws.specs.Histories.{IsLegal, table_after}
+use Rattle.job_text.specs.declared.job.Act.{Act}
+use Rattle.job_text.specs.declared.job.Act.TheVariants.{Var, And, Drop, Eval}
+use Rattle.job_text.specs.declared.job.Command.{Command}
+use Rattle.job_text.specs.declared.job.Register.{Register}
+use Rattle.job_text.specs.Text.{Word}
+use Rattle.job_text.specs.Grammar.{target_of}
+use Rattle.job_text.specs.Histories.{Held, HistoryLine, Calls, SayInOrder, drop_of, drops, given_by, left_of, line_text, registers_of, stops, text_of, told_of}
+use Rattle.net_jobs.specs.declared.playing.Answer.{Answer}
+use Rattle.net_jobs.specs.declared.playing.Progress.{Progress}
+use Rattle.net_jobs.specs.Agreement.{Agrees, Has, IsStepOf, Rows, is_dropped, name_of, sizes_for}
+
+-- the row was not dropped
+abbrev pub IsHeld : Rows → ℕ → Type 0
+IsHeld rows row = (f : List Bool) × Has rows row f
+
+-- the conditions of a command's call: its variable is one of n, its registers are rows that were not dropped, it has n bits
+abbrev pub CanCall : ℕ → Rows → Act → Type 0
+CanCall n rows (Var v) = v < n
+CanCall n rows (And a b) = IsHeld rows a × IsHeld rows b
+CanCall n rows (Drop a) = IsHeld rows a
+CanCall n rows (Eval a bits) = IsHeld rows a × (length bits ≡ n)
+
+-- the call of a command, where the register of each number is the row of that number
+abbrev pub call_with : Act → Call
+call_with (Var v) = calls.Var v
+call_with (And a b) = calls.And (name_of a) (name_of b)
+call_with (Drop a) = calls.DropRow (name_of a)
+call_with (Eval a bits) = calls.Eval (name_of a) bits
+
+-- the command makes a row, unless it stops the session
+abbrev pub makes : Act → Bool
+makes (Var v) = true
+makes (And a b) = true
+makes (Drop a) = false
+makes (Eval a bits) = false
+
+-- the rows after a command that made none
+abbrev pub rows_left : Rows → Act → Rows
+rows_left rows (Drop a) = slice_set rows a None
+rows_left rows _ = rows
+
+-- the reply gives the name of a new row at the end, or none
+abbrev pub RowsAfter : Bool → Rows → Rows → Act → LawReply → Type 0
+RowsAfter true old new act reply = (given_by reply ≡ Some (name_of (length old))) × ((values : List Bool) × (new ≡ old ++ Some values ∷ []))
+RowsAfter false old new act reply = (given_by reply ≡ None) × (new ≡ rows_left old act)
+
+-- one more row at the end, or what is left of them
+abbrev pub GrowsOrLeft : Bool → Rows → Rows → Act → Type 0
+GrowsOrLeft true old new act = (values : List Bool) × (new ≡ old ++ Some values ∷ [])
+GrowsOrLeft false old new act = new ≡ rows_left old act
+
+-- the rows after a command, where the session goes on
+abbrev pub RowsGoOn : Bool → Rows → Rows → Act → Type 0
+RowsGoOn goes_on old new act = goes_on ≡ true → GrowsOrLeft (makes act) old new act
+
+-- The command was called, and this was answered.
+pub record IsAnswered (n : ℕ) (old new : Rows) (act : Act) (answer : Answer) : Type 0 where
+  pub reply : LawReply
+  pub told : told_of reply ≡ Some answer.reply
+  pub made_if : answer.made ≡ (makes act && not (stops answer.reply))
+  pub step : IsStepOf n old new (call_with act) reply
+  pub rows : RowsAfter answer.made old new act reply
+
+abbrev pub target_in : Option Command → Word
+target_in None = []
+target_in (Some command) = target_of command.words
+
+-- the word of the register that the command at this place assigns
+abbrev pub target_at : List Command → ℕ → Word
+target_at commands i = target_in (slice_get commands i)
+
+-- the places of the commands that made the rows, after one more at place i
+abbrev pub assigned_after : Bool → List ℕ → ℕ → List ℕ
+assigned_after made assigned i = if made then assigned ++ i ∷ [] else assigned
+
+-- These lines were said, and are a legal history. The rows are those of the table that it leaves, in the order in which
+-- they were made; `assigned` has for each of them the place of the command that made it; the text is that of the lines.
+pub record Stands (n : ℕ) (commands : List Command) (rows : Rows) (assigned text : List ℕ) (place : ℕ) (said : List HistoryLine) : Type 0 where
+  pub legal : IsLegal (sizes_for n) (map (λ line. line.entry) said)
+  pub agrees : Agrees (sizes_for n) rows (table_after (opening (sizes_for n)) (map (λ line. line.entry) said))
+  pub told : All (λ line. told_of line.entry.reply ≡ Some line.reply) said
+  pub alone : All (λ line. line.entry.session ≡ 0) said
+  pub words : map (λ register. register.word) (registers_of said) ≡ map (target_at commands) assigned
+  pub names : map (λ register. register.name) (registers_of said) ≡ map name_of (range_with_len 0 (length rows))
+  pub count : length assigned ≡ length rows
+  pub dropped : (row : ℕ) → list_any (λ line. drops (name_of row) line.entry.call) said ≡ is_dropped rows row
+  pub written : text ≡ flat_map text_of said
+  pub number : place ≡ length said
+
+-- Each register of the grammar that was not dropped is a row that was not dropped.
+pub record Covers (registers : List Register) (rows : Rows) : Type 0 where
+  pub as_many : length registers ≡ length rows
+  pub held : (a : ℕ) (word : Word) → slice_get registers a ≡ Some (record { name = word; live = true }) → IsHeld rows a
+
+-- the commands were said in order, up to the first that stopped or to their end
+pub record SaysThrough (commands : List Command) (said : List HistoryLine) : Type 0 where
+  pub in_order : SayInOrder (registers_of said) said commands
+  pub goes_on : list_all (λ line. not (stops line.reply)) (take (length said - 1) said) ≡ true
+  pub to_the_end : list_any (λ line. stops line.reply) said ≡ false → length said ≡ length commands
+
+-- the same of a play
+abbrev pub StandsAt : List Command → Progress → List HistoryLine → Type 0
+StandsAt commands play said = Stands play.session.vars commands play.session.rows.items play.assigned.items play.text.items play.place said
+
+-- One more line was said, for this command, from one play to the next; and whether the session goes on.
+pub record SaysOne (commands : List Command) (command : Command) (goes_on : Bool) (old new : Progress) (said : List HistoryLine) : Type 0 where
+  pub line : HistoryLine
+  pub stands : StandsAt commands new (said ++ line ∷ [])
+  pub words_are : line.words ≡ command.words
+  pub call_is : line.entry.call ≡ call_with command.act
+  pub stops_if : stops line.reply ≡ not goes_on
+
+-- the line of a drop: the register's word, and the name of its row
+abbrev pub register_at : List Command → List ℕ → ℕ → Held
+register_at commands assigned row = record { word = target_at commands (slice_index assigned row); name = name_of row }
+
+-- what a line says
+abbrev pub spoken : HistoryLine → List Word × Call
+spoken line = (line.words, line.entry.call)
+
+-- The row of this number was dropped, where it was not before.
+pub record DropsOne (commands : List Command) (old new : Progress) (said : List HistoryLine) (row : ℕ) : Type 0 where
+  pub lines : List HistoryLine
+  pub stands : StandsAt commands new (said ++ lines)
+  pub drops_it : map spoken lines ≡ (if is_dropped old.session.rows.items row then [] else drop_of (register_at commands old.assigned.items row) ∷ [])
+
+-- The rows of the registers that are left were dropped, in order.
+pub record DropsTheRest (commands : List Command) (new : Progress) (said : List HistoryLine) : Type 0 where
+  pub dropped : List HistoryLine
+  pub stands : StandsAt commands new (said ++ dropped)
+  pub rest : map spoken dropped ≡ map drop_of (left_of said)

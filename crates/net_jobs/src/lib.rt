@@ -1,0 +1,20 @@
+//! Jobs from bytes to bytes: what a program reads from and writes to, the sessions that play a job, and the top call.
+#![tactic(auto)]
+
+mod gate;
+mod memory;
+mod playing;
+mod reading;
+mod session;
+mod sink;
+mod source;
+mod status;
+mod top;
+mod writing;
+
+pub use gate::{Gate, Open};
+pub use memory::{Bytes, Discard, Pieces, SureBytes};
+pub use sink::Sink;
+pub use source::{Failed, Source};
+pub use status::Status;
+pub use top::run;

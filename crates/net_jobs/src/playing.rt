@@ -1,0 +1,254 @@
+//! The commands of a job, one after another, and the text of their history.
+
+ghost use Rattle.std.specs.Prelude.{◌≡◌, ◌≢◌, ◌<◌, ◌≤◌, ◌^◌, ◌+◌, ◌++◌, [], length, string_bytes, vec_len, All, slice_get, IfOk, IfSome, OnOk, Some, not, List as ListOf, ◌∷◌, codes, ℕ};
+ghost use Rattle.job_text.specs.Grammar.{CommandsSay, IsJob, target_of};
+ghost use Rattle.job_text.specs.Histories.{HistoryLine, IsPlayed, drop_of, left_of, left_text, line_text, stops};
+ghost use Rattle.net_jobs.specs.Agreement.{is_dropped, name_of};
+ghost use Rattle.net_jobs.specs.Playing.{CanCall, DropsOne, DropsTheRest, IsAnswered, RowsGoOn, SaysOne, SaysThrough, StandsAt, assigned_after, target_at};
+
+use crate::gate::Gate;
+use crate::session::Session;
+use edge_bits::{List, Memory};
+use function_laws::Name;
+use job_text::{Act, Command, Job, Reply, line};
+use std::alloc::{AllocError, Global};
+
+/// What a command was answered, and whether it made a row.
+#[derive(Clone, Copy)]
+pub struct Answer {
+    pub reply: Reply,
+    pub made: bool,
+}
+
+/// A play of one session so far: its rows, for each of them the place of the command that assigned it, the text of the
+/// lines said, and their number.
+#[derive(Drop)]
+pub struct Progress {
+    pub session: Session,
+    pub assigned: Vec<usize>,
+    pub text: Vec<u8>,
+    pub place: u64,
+}
+
+/// The name of the register that was assigned as this number.
+fn register(number: u32) -> Name
+    ensures { result ≡ name_of number }
+{
+    Name {
+        row: number,
+        generation: u64::from(number),
+    }
+}
+
+/// Makes the call of a command.
+fn perform(alloc: Global, session: &mut Session, act: &Act) -> Result<Answer, Memory>
+    requires can { CanCall session.old.vars session.old.rows.items act.now }
+    requires room { vec_len session.old.rows < 2 ^ 32 }
+    ensures ok { IfOk result (λ answer. IsAnswered session.old.vars session.old.rows.items session.new.rows.items act.now answer) }
+    ensures vars { session.new.vars ≡ session.old.vars }
+{
+    match act {
+        Act::Var(v) => {
+            let _name = session.var(alloc, *v)?;
+            Ok(Answer {
+                reply: Reply::Done,
+                made: true,
+            })
+        }
+        Act::And(a, b) => {
+            let _name = session.and(alloc, register(*a), register(*b))?;
+            Ok(Answer {
+                reply: Reply::Done,
+                made: true,
+            })
+        }
+        Act::Drop(a) => {
+            session.drop_row(register(*a));
+            Ok(Answer {
+                reply: Reply::Done,
+                made: false,
+            })
+        }
+        Act::Eval(a, bits) => Ok(Answer {
+            reply: Reply::Number(session.eval(register(*a), bits.as_slice())),
+            made: false,
+        }),
+    }
+}
+
+/// Makes the call of a command and adds its line to the text.
+fn speak(alloc: Global, play: &mut Progress, command: &Command) -> Result<Answer, Memory>
+    requires can { CanCall play.old.session.vars play.old.session.rows.items command.now.act }
+    requires room { vec_len play.old.session.rows < 2 ^ 32 }
+    requires place { play.old.place < 2 ^ 63 }
+    ensures answered { IfOk result (λ answer. IsAnswered play.old.session.vars play.old.session.rows.items play.new.session.rows.items command.now.act answer) }
+    ensures text { IfOk result (λ answer. play.new.text.items ≡ play.old.text.items ++ line_text play.old.place 0 command.now.words answer.reply) }
+    ensures place { OnOk result (play.new.place ≡ play.old.place + 1) }
+    ensures vars { OnOk result (play.new.session.vars ≡ play.old.session.vars) }
+    ensures assigned { OnOk result (play.new.assigned.items ≡ play.old.assigned.items) }
+{
+    let answer = perform(alloc, &mut play.session, &command.act)?;
+    let said = line(alloc, play.place, 0, command, answer.reply)?;
+    play.text.extend_from_slice(&said)?;
+    play.place += 1;
+    Ok(answer)
+}
+
+/// Whether a session goes on after the reply.
+fn goes_on(reply: Reply) -> bool
+    ensures { result ≡ not (stops reply) }
+{
+    !matches!(reply, Reply::Full | Reply::Overflow)
+}
+
+/// Notes that the command at this place made a row, where it did.
+fn note(assigned: &mut Vec<usize>, made: bool, i: usize) -> Result<(), Memory>
+    ensures { OnOk result (assigned.new.items ≡ assigned_after made assigned.old.items i) }
+{
+    if made {
+        assigned.push(i)?;
+    }
+    Ok(())
+}
+
+/// Plays the command at this place: whether the session goes on.
+fn say(alloc: Global, play: &mut Progress, commands: &[Command], i: usize) -> Result<bool, Memory>
+    requires within { i < length commands.now }
+    requires can { IfSome (slice_get commands.now i) (λ command. CanCall play.old.session.vars play.old.session.rows.items command.act) }
+    requires room { vec_len play.old.session.rows < 2 ^ 32 }
+    requires place { play.old.place < 2 ^ 63 }
+    ensures said { IfOk result (λ goes_on. (said : ListOf HistoryLine) → StandsAt commands.now play.old said
+        → IfSome (slice_get commands.now i) (λ command. SaysOne commands.now command goes_on play.old play.new said)) }
+    ensures rows { IfOk result (λ goes_on. IfSome (slice_get commands.now i) (λ command. RowsGoOn goes_on play.old.session.rows.items play.new.session.rows.items command.act)) }
+    ensures few { OnOk result (vec_len play.new.session.rows ≤ vec_len play.old.session.rows + 1) }
+    ensures vars { OnOk result (play.new.session.vars ≡ play.old.session.vars) }
+    ensures place { OnOk result (play.new.place ≡ play.old.place + 1) }
+{
+    let answer = speak(alloc, play, &commands[i])?;
+    note(&mut play.assigned, answer.made, i)?;
+    Ok(goes_on(answer.reply))
+}
+
+/// Plays the commands in order, up to the first that stops the session or to their end. The gate is passed before each.
+fn say_all<G: Gate>(
+    alloc: Global,
+    play: &mut Progress,
+    commands: &[Command],
+    gate: &G,
+) -> Result<(), Memory>
+    requires few { length commands.now < 2 ^ 32 }
+    requires say { CommandsSay play.old.session.vars [] commands.now }
+    requires rows { play.old.session.rows.items ≡ [] }
+    requires start { StandsAt commands.now play.old [] }
+    ensures said { OnOk result ((said : ListOf HistoryLine) × StandsAt commands.now play.new said × SaysThrough commands.now said) }
+    ensures place { OnOk result (play.new.place ≤ length commands.now) }
+    ensures rows { OnOk result (vec_len play.new.session.rows ≤ length commands.now) }
+    ensures vars { OnOk result (play.new.session.vars ≡ play.old.session.vars) }
+{
+    for i in 0..commands.len() {
+        gate.pass(0, i as u32);
+        if !say(alloc, play, commands, i)? {
+            return Ok(());
+        }
+    }
+    Ok(())
+}
+
+/// A copy of the word of the register that the command at this place assigned.
+fn word_at(alloc: Global, commands: &[Command], i: usize) -> Result<List<u8>, Memory>
+    ensures { IfOk result (λ word. word ≡ target_at commands.now i) }
+{
+    let Some(command) = commands.get(i) else {
+        return Ok(List::new(alloc));
+    };
+    let Some(word) = command.words.as_slice().first() else {
+        return Ok(List::new(alloc));
+    };
+    Ok(List::from_vec(Vec::from_slice(alloc, word.as_slice())?))
+}
+
+/// The command that drops a register, by its word and its number.
+fn drop_command(alloc: Global, word: List<u8>, number: u32) -> Result<Command, Memory>
+    ensures words { IfOk result (λ command. command.words ≡ codes "drop" ∷ word ∷ []) }
+    ensures act { IfOk result (λ command. command.act ≡ Act.Drop number) }
+{
+    let mut words = List::new(alloc);
+    words.push(List::from_vec(Vec::from_slice(alloc, b"drop")?))?;
+    words.push(word)?;
+    Ok(Command {
+        words,
+        act: Act::Drop(number),
+    })
+}
+
+/// Drops the row of this number, where it was not dropped, and adds the line of the drop to the text.
+fn drop_at(
+    alloc: Global,
+    play: &mut Progress,
+    commands: &[Command],
+    row: usize,
+) -> Result<(), Memory>
+    requires within { row < vec_len play.old.session.rows }
+    requires assigned { vec_len play.old.assigned ≡ vec_len play.old.session.rows }
+    requires room { vec_len play.old.session.rows < 2 ^ 32 }
+    requires place { play.old.place < 2 ^ 63 }
+    ensures said { OnOk result ((said : ListOf HistoryLine) → StandsAt commands.now play.old said → DropsOne commands.now play.old play.new said row) }
+    ensures others { OnOk result ((other : ℕ) → other ≢ row → is_dropped play.new.session.rows.items other ≡ is_dropped play.old.session.rows.items other) }
+    ensures assigned { OnOk result (play.new.assigned.items ≡ play.old.assigned.items) }
+    ensures rows { OnOk result (vec_len play.new.session.rows ≡ vec_len play.old.session.rows) }
+    ensures vars { OnOk result (play.new.session.vars ≡ play.old.session.vars) }
+    ensures place { OnOk result (play.new.place ≤ play.old.place + 1) }
+{
+    if !play.session.is_live(row) {
+        return Ok(());
+    }
+    let word = word_at(alloc, commands, play.assigned[row])?;
+    let command = drop_command(alloc, word, row as u32)?;
+    let _answer = speak(alloc, play, &command)?;
+    Ok(())
+}
+
+/// Drops the rows that are left, in order of assignment.
+fn drop_all(alloc: Global, play: &mut Progress, commands: &[Command]) -> Result<(), Memory>
+    requires assigned { vec_len play.old.assigned ≡ vec_len play.old.session.rows }
+    requires room { vec_len play.old.session.rows < 2 ^ 32 }
+    requires place { play.old.place < 2 ^ 32 }
+    ensures said { OnOk result ((said : ListOf HistoryLine) → StandsAt commands.now play.old said → DropsTheRest commands.now play.new said) }
+    ensures vars { OnOk result (play.new.session.vars ≡ play.old.session.vars) }
+{
+    for row in 0..play.assigned.len() {
+        drop_at(alloc, play, commands, row)?;
+    }
+    Ok(())
+}
+
+/// The last line of a history: the number of slots in use at its end.
+fn left_line(alloc: Global, count: u32) -> Result<String, AllocError>
+    ensures { IfOk result (λ line. string_bytes line ≡ left_text count) }
+{
+    format!(in alloc; "left {count}\n")
+}
+
+/// Plays a job: the text of its history, and then the number of permanent slots, five and one for each variable. Session 0
+/// passes the gate before each command, with the command's number from 0.
+pub fn play<G: Gate>(alloc: Global, job: &Job, gate: &G) -> Result<Vec<u8>, Memory>
+    requires job { IsJob job.now }
+    requires few { All (λ commands. length commands < 2 ^ 32) job.now.sections }
+    ensures { IfOk result (λ text. IsPlayed job.now text.items) }
+{
+    let [section] = job.sections.as_slice() else {
+        unreachable!();
+    };
+    let commands = section.as_slice();
+    let mut play = Progress {
+        session: Session::new(alloc, job.vars)?,
+        assigned: Vec::new(alloc),
+        text: Vec::new(alloc),
+        place: 0,
+    };
+    say_all(alloc, &mut play, commands, gate)?;
+    drop_all(alloc, &mut play, commands)?;
+    let mut text = play.text;
+    text.extend_from_slice(left_line(alloc, 5 + job.vars)?.as_bytes())?;
+    Ok(text)
+}

@@ -1,0 +1,38 @@
+ghost use Rattle.std.specs.Prelude.{◌≡◌};
+ghost use Rattle.net_jobs.specs.Codes.{code_of};
+
+/// How a run ended.
+#[derive(Debug, Clone, Copy, PartialEq, Eq)]
+pub enum Status {
+    /// The whole text was written.
+    Ok,
+    /// The words are not a command.
+    Usage,
+    /// Memory was wanting.
+    Memory,
+    /// A read failed.
+    ReadFault,
+    /// A write failed.
+    WriteFault,
+    /// The text is not that of a job.
+    Job,
+    /// More bytes came than are read.
+    TooLong,
+}
+
+impl Status {
+    /// The exit status of the process.
+    pub fn code(self) -> u8
+        ensures { result ≡ code_of self }
+    {
+        match self {
+            Status::Ok => 0,
+            Status::Usage => 2,
+            Status::Memory => 5,
+            Status::ReadFault => 6,
+            Status::WriteFault => 7,
+            Status::Job => 9,
+            Status::TooLong => 10,
+        }
+    }
+}

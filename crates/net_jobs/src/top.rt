@@ -1,0 +1,176 @@
+//! The top call.
+
+ghost use Rattle.std.specs.Prelude.{◌≡◌, ◌≢◌, ◌++◌, codes, ℕ, List, None, IfOk, IfErr, map, string_bytes, is_some};
+ghost use Rattle.std.specs.Fmt.{decimal};
+ghost use Rattle.std.specs.Io.KnownBytes.{Appends};
+ghost use Rattle.net_jobs.specs.Causes.{Rose, AppendsFront};
+ghost use Rattle.net_jobs.specs.Ends.{Due, fault_line, kind_word, order_of};
+ghost use Rattle.net_jobs.specs.Refusals.{refusal_line, status_of};
+ghost use Rattle.net_jobs.specs.declared.status.Status.{Status};
+ghost use Rattle.net_jobs.specs.declared.status.Status.TheVariants.{WriteFault};
+
+use crate::gate::Gate;
+use crate::playing::play;
+use crate::reading::{ReadStop, read_to_end};
+use crate::sink::Sink;
+use crate::source::Source;
+use crate::status::Status;
+use crate::writing::write_to_end;
+use edge_bits::Memory;
+use job_text::{FaultKind, JobError, JobFault, parse};
+use std::alloc::{AllocError, Global};
+use std::sync::Wait;
+use std::thread::Threads;
+
+/// The most bytes of a text that is read.
+const MAX_LEN: usize = 67_108_864;
+
+/// Why there is no history to tell.
+#[derive(Debug, Clone, Copy, PartialEq, Eq)]
+pub enum Refusal {
+    Usage,
+    Memory,
+    Read,
+    TooLong,
+    Job(JobFault),
+}
+
+/// Whether the words are `play` alone.
+#[tactic(auto, unfolding(crate::specs::Ends::order_of))]
+fn is_play(words: &[String]) -> bool
+    ensures { result ≡ is_some (order_of (map string_bytes words.now)) }
+{
+    match words {
+        [word] => word.as_str() == "play",
+        _ => false,
+    }
+}
+
+/// The history of the job that the source holds, where the words ask for it; else why there is none.
+fn find<S: Source, G: Gate>(
+    alloc: Global,
+    words: &[String],
+    source: &mut S,
+    gate: &G,
+) -> Result<Vec<u8>, Refusal>
+    ensures text { IfOk result (λ text. Due (order_of (map string_bytes words.now)) (S.left source.old) (S.left source.new)
+        (Rose (S.faults source.old) (S.faults source.new)) Status.Ok text.items) }
+    ensures refusal { IfErr result (λ refusal. Due (order_of (map string_bytes words.now)) (S.left source.old) (S.left source.new)
+        (Rose (S.faults source.old) (S.faults source.new)) (status_of refusal) (refusal_line refusal)) }
+    ensures untouched { order_of (map string_bytes words.now) ≡ None → source.new ≡ source.old }
+{
+    if !is_play(words) {
+        return Err(Refusal::Usage);
+    }
+    let text = match read_to_end(alloc, MAX_LEN, source) {
+        Ok(text) => text,
+        Err(ReadStop::Memory) => return Err(Refusal::Memory),
+        Err(ReadStop::Failed) => return Err(Refusal::Read),
+        Err(ReadStop::TooLong) => return Err(Refusal::TooLong),
+    };
+    let job = match parse(alloc, &text) {
+        Ok(job) => job,
+        Err(JobError::Memory) => return Err(Refusal::Memory),
+        Err(JobError::Fault(fault)) => return Err(Refusal::Job(fault)),
+    };
+    match play(alloc, &job, gate) {
+        Ok(text) => Ok(text),
+        Err(Memory) => Err(Refusal::Memory),
+    }
+}
+
+impl Refusal {
+    /// The status with which a refused run ends.
+    fn status(self) -> Status
+        ensures { result ≡ status_of self }
+    {
+        match self {
+            Refusal::Usage => Status::Usage,
+            Refusal::Memory => Status::Memory,
+            Refusal::Read => Status::ReadFault,
+            Refusal::TooLong => Status::TooLong,
+            Refusal::Job(_) => Status::Job,
+        }
+    }
+
+    /// The one line of a refused run.
+    fn line(self, alloc: Global) -> Result<String, AllocError>
+        ensures { IfOk result (λ line. string_bytes line ≡ refusal_line self) }
+    {
+        match self {
+            Refusal::Usage => String::from_str(alloc, "fault: usage\n"),
+            Refusal::Memory => String::from_str(alloc, "fault: memory\n"),
+            Refusal::Read => String::from_str(alloc, "fault: read\n"),
+            Refusal::TooLong => String::from_str(alloc, "fault: too long\n"),
+            Refusal::Job(fault) => job_line(alloc, fault.line, kind_name(fault.what)),
+        }
+    }
+}
+
+/// The name of a kind of fault.
+fn kind_name(kind: FaultKind) -> &'static str
+    ensures { result.now ≡ kind_word kind }
+{
+    match kind {
+        FaultKind::Word => "word",
+        FaultKind::Name => "name",
+        FaultKind::Kind => "kind",
+        FaultKind::Range => "range",
+        FaultKind::Limit => "limit",
+        FaultKind::Again => "again",
+    }
+}
+
+/// The line of a faulty job.
+fn job_line(alloc: Global, line: u64, kind: &str) -> Result<String, AllocError>
+    ensures { IfOk result (λ text. string_bytes text ≡ codes "fault: job " ++ decimal line ++ codes " " ++ kind.now ++ codes "\n") }
+{
+    format!(in alloc; "fault: job {line} {kind}\n")
+}
+
+/// Writes what there is to tell. A failing sink is told of in place of any other end.
+fn tell<K: Sink>(sink: &mut K, text: &[u8], status: Status) -> Status
+    requires { status ≢ WriteFault }
+    ensures told { result ≢ WriteFault → (result ≡ status) × Appends (K.written sink.old) (K.written sink.new) text.now }
+    ensures cut_off { result ≡ WriteFault → Rose (K.faults sink.old) (K.faults sink.new) × AppendsFront (K.written sink.old) (K.written sink.new) text.now }
+{
+    match write_to_end(sink, text) {
+        Ok(()) => status,
+        Err(_) => Status::WriteFault,
+    }
+}
+
+/// Runs the command that the words ask for, from the source to the sink. The words are those after the program's name.
+///
+/// `play` reads the text of a job and writes the text of its history. The checks come in this order: words, reading,
+/// length, format, work, writing; a refused run writes its one line alone.
+pub fn run<R: Threads + Wait, S: Source, K: Sink, G: Gate>(
+    _rt: &R,
+    alloc: Global,
+    words: &[String],
+    source: &mut S,
+    sink: &mut K,
+    gate: &G,
+) -> Status
+    // The status has its cause, and its whole text was written.
+    ensures told { result ≢ WriteFault → (text : List ℕ)
+        × Due (order_of (map string_bytes words.now)) (S.left source.old) (S.left source.new) (Rose (S.faults source.old) (S.faults source.new)) result text
+        × Appends (K.written sink.old) (K.written sink.new) text }
+
+    // The sink failed, and a front of what there was to tell was written.
+    ensures cut_off { result ≡ WriteFault → Rose (K.faults sink.old) (K.faults sink.new)
+        × ((status : Status) × (text : List ℕ)
+        × Due (order_of (map string_bytes words.now)) (S.left source.old) (S.left source.new) (Rose (S.faults source.old) (S.faults source.new)) status text
+        × AppendsFront (K.written sink.old) (K.written sink.new) text) }
+
+    // Where the words ask for nothing, nothing is read.
+    ensures untouched { order_of (map string_bytes words.now) ≡ None → source.new ≡ source.old }
+{
+    match find(alloc, words, source, gate) {
+        Ok(text) => tell(sink, &text, Status::Ok),
+        Err(refusal) => match refusal.line(alloc) {
+            Ok(line) => tell(sink, line.as_bytes(), refusal.status()),
+            Err(_) => tell(sink, b"fault: memory\n", Status::Memory),
+        },
+    }
+}

@@ -1,0 +1,57 @@
+//! Texts that are no jobs, and the first fault of each.
+
+use crate::told::play;
+use std::test::Fail;
+
+#[test]
+fn faulty_jobs(rt: HostRuntime) -> Result<(), Fail> {
+    let rows = [
+        ("", "1 word"),
+        ("# nothing\n", "2 word"),
+        ("vars 2000", "1 range"),
+        ("vars 1025", "1 range"),
+        ("vars 99999999999999999999999999", "1 range"),
+        ("vars 01", "1 word"),
+        ("vars -1", "1 word"),
+        ("vars", "1 word"),
+        ("vars 1 2", "1 word"),
+        ("session\n", "1 word"),
+        ("vars 1\nvars 1\nsession", "2 word"),
+        ("vars 1\na = var 0\nsession", "2 word"),
+        ("vars 1\n\n", "3 word"),
+        ("vars 1\nsession\nsession", "3 limit"),
+        ("vars 1\nsession\na = var 0\na = var 0", "4 again"),
+        ("vars 1\nsession\na = var 0\ndrop a\na = var 0", "5 again"),
+        ("vars 1\nsession\na = var 0\ndrop a\ndrop a", "5 name"),
+        ("vars 1\nsession\nb = and a a", "3 name"),
+        ("vars 1\nsession\na = and a a", "3 name"),
+        ("vars 1\nsession\na = var 0\na = and b b", "4 again"),
+        ("vars 1\nsession\na = var 1", "3 range"),
+        ("vars 1\nsession\na = var 0\neval a 11", "4 range"),
+        ("vars 1\nsession\na = var 0\neval a none", "4 range"),
+        ("vars 1\nsession\na = var 0\neval b 11", "4 name"),
+        ("vars 1\nsession\na = var 0\neval a 12", "4 word"),
+        ("vars 1\nsession\na = var 0\neval a 0 # \x01", "4 word"),
+        ("vars 1\nsession\na = var", "3 word"),
+        ("vars 1\nsession\na = noun 0", "3 word"),
+        ("vars 1\nsession\n1a = var 0", "3 word"),
+        (
+            "vars 1\nsession\na_23456789012345678901234567890123 = var 0",
+            "3 word",
+        ),
+    ];
+    for (job, fault) in rows {
+        let told = play(&rt, rt.alloc(), job)?;
+        let want = format!(in rt.alloc(); "fault: job {fault}\n")?;
+        assert_eq!(rt; told.status.code(), 9, "of {job}");
+        assert_eq!(rt; told.text.as_slice(), want.as_bytes(), "of {job}");
+    }
+    Ok(())
+}
+
+#[test]
+fn the_longest_name_is_taken(rt: HostRuntime) -> Result<(), Fail> {
+    let job = "vars 1\nsession\na_234567890123456789012345678901 = var 0\n";
+    assert_eq!(rt; play(&rt, rt.alloc(), job)?.status.code(), 0);
+    Ok(())
+}

@@ -1,0 +1,11 @@
+//! Worked rows: what the program answers to given words and texts.
+#![tactic(auto)]
+
+#[cfg(test)]
+mod faults;
+#[cfg(test)]
+mod outside;
+#[cfg(test)]
+mod plays;
+#[cfg(test)]
+mod told;

@@ -1,0 +1,52 @@
+//! A run in memory, and what it told.
+
+ghost use Rattle.std.specs.Prelude.{◌<◌};
+
+use net_jobs::{Bytes, Open, Pieces, Source, Status, SureBytes, run};
+use std::alloc::{AllocError, Global};
+use std::sync::Wait;
+use std::thread::Threads;
+
+/// How a run ended, and what it wrote.
+#[derive(Drop)]
+pub struct Told {
+    pub status: Status,
+    pub text: Vec<u8>,
+}
+
+/// The words of a command line.
+pub fn words(alloc: Global, line: &str) -> Result<Vec<String>, AllocError> {
+    let mut words = Vec::new(alloc);
+    for word in line.split_whitespace() {
+        words.push(word.to_string(alloc)?)?;
+    }
+    Ok(words)
+}
+
+/// A run of this command line on a source.
+pub fn run_on<R: Threads + Wait, S: Source>(
+    rt: &R,
+    alloc: Global,
+    line: &str,
+    source: &mut S,
+) -> Result<Told, AllocError> {
+    let words = words(alloc, line)?;
+    let mut sink = Pieces::new(Vec::new(alloc), 4096, Vec::new(alloc));
+    let status = run(rt, alloc, &words, source, &mut sink, &Open);
+    let text = Vec::from_slice(alloc, sink.written())?;
+    Ok(Told { status, text })
+}
+
+/// `play` on this text.
+pub fn play<R: Threads + Wait>(rt: &R, alloc: Global, text: &str) -> Result<Told, AllocError> {
+    let items = Vec::from_slice(alloc, text.as_bytes())?;
+    run_on(rt, alloc, "play", &mut SureBytes::new(items))
+}
+
+/// A source of these bytes, some at a time, of which the calls whose flag is set fail.
+pub fn pieces(alloc: Global, text: &str, step: usize, fails: &[bool]) -> Result<Bytes, AllocError>
+    requires { 0 < step }
+{
+    let items = Vec::from_slice(alloc, text.as_bytes())?;
+    Ok(Bytes::new(items, step, Vec::from_slice(alloc, fails)?))
+}
