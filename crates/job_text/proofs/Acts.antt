@@ -10,7 +10,7 @@ use Rattle.job_text.specs.declared.job.Act.{Act}
 use Rattle.job_text.specs.declared.job.Act.TheVariants as acts
 use Rattle.job_text.specs.declared.job.Command.{Command}
 use Rattle.job_text.specs.declared.job.Register.{Register}
-use Rattle.job_text.specs.Text.{Word, bit_word}
+use Rattle.job_text.specs.Text.{Word, is_name, bit_word}
 use Rattle.job_text.specs.Grammar.{Says, CommandsSay, registers_after, is_assignment, is_drop, target_of, without}
 use Rattle.job_text.proofs.Meanings.{no_equals, no_none, digits_of}
 
@@ -51,9 +51,15 @@ differ_unless false false rs r w h fresh = h
 
 -- what says something has a fresh target where it assigns
 fresh_target : (n : ℕ) (rs : List Register) (words : List Word) (act : Act) → Says n rs words act → is_assignment words ≡ true → NoneIs (target_of words) (names_of rs)
+fresh_target n rs words acts.One h e = subst (λ (w : Word). NoneIs w (names_of rs)) (sym (ap target_of h.2)) (none_of_fresh h.0 rs (h.1).1)
+fresh_target n rs words acts.Zero h e = subst (λ (w : Word). NoneIs w (names_of rs)) (sym (ap target_of h.2)) (none_of_fresh h.0 rs (h.1).1)
 fresh_target n rs words (acts.Var v) h e = subst (λ (w : Word). NoneIs w (names_of rs)) (sym (ap target_of h.3)) (none_of_fresh h.0 rs (h.2).1)
+fresh_target n rs words (acts.Not a) h e = subst (λ (w : Word). NoneIs w (names_of rs)) (sym (ap target_of h.3)) (none_of_fresh h.0 rs (h.2).1)
 fresh_target n rs words (acts.And a b) h e = subst (λ (w : Word). NoneIs w (names_of rs)) (sym (ap target_of h.4)) (none_of_fresh h.0 rs (h.3).1)
+fresh_target n rs words (acts.Or a b) h e = subst (λ (w : Word). NoneIs w (names_of rs)) (sym (ap target_of h.4)) (none_of_fresh h.0 rs (h.3).1)
+fresh_target n rs words (acts.Ite a b d) h e = subst (λ (w : Word). NoneIs w (names_of rs)) (sym (ap target_of h.5)) (none_of_fresh h.0 rs (h.4).1)
 fresh_target n rs words (acts.Drop a) h e = cc (ap is_assignment h.1)
+fresh_target n rs words (acts.Same a b) h e = cc (ap is_assignment h.2, no_equals h.0 (h.3).0)
 fresh_target n rs words (acts.Eval a bs) h e = cc (ap is_assignment h.1, no_equals h.0 (h.2).0)
 
 pub still_differ : (n : ℕ) (rs : List Register) (words : List Word) (act : Act) → AllDiffer (names_of rs) → Says n rs words act → AllDiffer (names_of (registers_after rs words))
@@ -114,26 +120,46 @@ word_at words k = get_or words k []
 
 abbrev made_by : List Register → Word → List Word → Act
 made_by rs command words =
-    cond (bytes_eq command (codes "var")) (acts.Var (digits_value 10 (word_at words 0)))
-    (acts.And (place_of rs (word_at words 0)) (place_of rs (word_at words 1)))
+    cond (bytes_eq command (codes "true")) acts.One
+    (cond (bytes_eq command (codes "false")) acts.Zero
+    (cond (bytes_eq command (codes "var")) (acts.Var (digits_value 10 (word_at words 0)))
+    (cond (bytes_eq command (codes "not")) (acts.Not (place_of rs (word_at words 0)))
+    (cond (bytes_eq command (codes "and")) (acts.And (place_of rs (word_at words 0)) (place_of rs (word_at words 1)))
+    (cond (bytes_eq command (codes "or")) (acts.Or (place_of rs (word_at words 0)) (place_of rs (word_at words 1)))
+    (acts.Ite (place_of rs (word_at words 0)) (place_of rs (word_at words 1)) (place_of rs (word_at words 2))))))))
 
 abbrev told_by : List Register → Word → List Word → Act
 told_by rs command words =
     cond (bytes_eq command (codes "drop")) (acts.Drop (place_of rs (word_at words 0)))
-    (acts.Eval (place_of rs (word_at words 0)) (bits_from (word_at words 1)))
+    (cond (bytes_eq command (codes "same")) (acts.Same (place_of rs (word_at words 0)) (place_of rs (word_at words 1)))
+    (acts.Eval (place_of rs (word_at words 0)) (bits_from (word_at words 1))))
 
 abbrev act_of : List Register → List Word → Act
 act_of rs words = cond (bytes_eq (word_at words 1) (codes "=")) (made_by rs (word_at words 2) (drop 3 words)) (told_by rs (word_at words 0) (drop 1 words))
 
+-- a command that assigns nothing
+told : (rs : List Register) (command x : Word) (words : List Word) → is_name x ≡ true → act_of rs (command ∷ x ∷ words) ≡ told_by rs command (x ∷ words)
+told rs command x words h = ap (λ t. cond t (made_by rs (word_at (command ∷ x ∷ words) 2) (drop 3 (command ∷ x ∷ words))) (told_by rs command (x ∷ words))) (no_equals x h)
+
 said_act : (n : ℕ) (rs : List Register) (words : List Word) (act : Act) → AllDiffer (names_of rs) → Says n rs words act → act_of rs words ≡ act
+said_act n rs words acts.One differ h = ap (act_of rs) h.2
+said_act n rs words acts.Zero differ h = ap (act_of rs) h.2
 said_act n rs words (acts.Var v) differ h = ap (act_of rs) h.3 ∙ ap acts.Var (h.4).1
+said_act n rs words (acts.Not a) differ h = ap (act_of rs) h.3 ∙ ap acts.Not (at_place rs h.1 a differ (h.4).1)
 said_act n rs words (acts.And a b) differ h =
     ap (act_of rs) h.4 ∙ ap (λ t. acts.And t (place_of rs h.2)) (at_place rs h.1 a differ (h.5).1) ∙ ap (acts.And a) (at_place rs h.2 b differ (h.6).1)
+said_act n rs words (acts.Or a b) differ h =
+    ap (act_of rs) h.4 ∙ ap (λ t. acts.Or t (place_of rs h.2)) (at_place rs h.1 a differ (h.5).1) ∙ ap (acts.Or a) (at_place rs h.2 b differ (h.6).1)
+said_act n rs words (acts.Ite a b d) differ h =
+    ap (act_of rs) h.5 ∙ ap (λ t. acts.Ite t (place_of rs h.2) (place_of rs h.3)) (at_place rs h.1 a differ (h.6).1)
+    ∙ ap (λ t. acts.Ite a t (place_of rs h.3)) (at_place rs h.2 b differ (h.7).1) ∙ ap (acts.Ite a b) (at_place rs h.3 d differ (h.8).1)
 said_act n rs words (acts.Drop a) differ h =
-    ap (act_of rs) h.1 ∙ ap (λ t. cond t (made_by rs [] []) (acts.Drop (place_of rs h.0))) (no_equals h.0 (h.2).0) ∙ ap acts.Drop (at_place rs h.0 a differ (h.2).1)
+    ap (act_of rs) h.1 ∙ told rs (codes "drop") h.0 [] (h.2).0 ∙ ap acts.Drop (at_place rs h.0 a differ (h.2).1)
+said_act n rs words (acts.Same a b) differ h =
+    ap (act_of rs) h.2 ∙ told rs (codes "same") h.0 (h.1 ∷ []) (h.3).0
+    ∙ ap (λ t. acts.Same t (place_of rs h.1)) (at_place rs h.0 a differ (h.3).1) ∙ ap (acts.Same a) (at_place rs h.1 b differ (h.4).1)
 said_act n rs words (acts.Eval a bs) differ h =
-    ap (act_of rs) h.1
-    ∙ ap (λ t. cond t (made_by rs (bit_word bs) []) (acts.Eval (place_of rs h.0) (bits_from (bit_word bs)))) (no_equals h.0 (h.2).0)
+    ap (act_of rs) h.1 ∙ told rs (codes "eval") h.0 (bit_word bs ∷ []) (h.2).0
     ∙ ap (λ t. acts.Eval t (bits_from (bit_word bs))) (at_place rs h.0 a differ (h.2).1) ∙ ap (acts.Eval a) (bits_back bs)
 
 one_act : (n : ℕ) (rs : List Register) (words words' : List Word) (act act' : Act) → AllDiffer (names_of rs) → words ≡ words' → Says n rs words act → Says n rs words' act' → act ≡ act'

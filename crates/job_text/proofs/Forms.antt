@@ -1,11 +1,12 @@
 -- Lines as commands.
-use Rattle.std.proofs.Common.{◌≡◌, ℕ, ◌<◌, ◌≤◌, ◌-◌, false, cond, List, [], ◌∷◌, length, Result, Ok, Err, IfErr, get_or, take, drop, refl, ap, sym, ◌∙◌, arith, codes}
+use Rattle.std.proofs.Common.{◌≡◌, ℕ, ◌<◌, ◌≤◌, ◌-◌, false, cond, List, [], ◌∷◌, length, Result, Ok, Err, IfErr, IfOk, subst, get_or, take, drop, refl, ap, sym, ◌∙◌, arith, codes}
 use Rattle.std.proofs.lemmas.List.{take_rest}
 use Rattle.job_text.specs.declared.job.Register.{Register}
 use Rattle.job_text.specs.declared.faults.Stop.{Stop}
 use Rattle.job_text.specs.declared.faults.Stop.TheVariants as stops
 use Rattle.job_text.specs.Text.{Word}
-use Rattle.job_text.specs.Grammar.{is_assignment}
+use Rattle.job_text.specs.declared.job.Act.{Act}
+use Rattle.job_text.specs.Grammar.{Says, is_assignment}
 use Rattle.job_text.specs.Drafts.{CommandStop, AssignmentStop, TellingStop}
 use Rattle.job_text.specs.Faults.{command_fault, fault_in, slots_of, assignment_slots, telling_slots}
 
@@ -41,3 +42,14 @@ two [] a b h k p q = absurd (omega arith)
 two (x ∷ []) a b h k p q = absurd (omega arith)
 two (x ∷ y ∷ []) a b h k p q = ap (λ t. t ∷ y ∷ []) (sym p) ∙ ap (λ t. a ∷ t ∷ []) (sym q)
 two (x ∷ y ∷ z ∷ ws) a b h k p q = absurd (omega arith)
+
+-- four words or more
+pub four : (ws : List Word) → 4 ≤ length ws → (a b c d : Word) × (rest : List Word) × (ws ≡ a ∷ b ∷ c ∷ d ∷ rest)
+four [] h = absurd (omega arith)
+four (a ∷ []) h = absurd (omega arith)
+four (a ∷ b ∷ []) h = absurd (omega arith)
+four (a ∷ b ∷ c ∷ []) h = absurd (omega arith)
+four (a ∷ b ∷ c ∷ d ∷ rest) h = (a, b, c, d, rest, refl)
+
+pub says_along : (n : ℕ) (rs : List Register) (ws ws' : List Word) (r : Result Act Stop) → ws ≡ ws' → IfOk r (λ act. Says n rs ws' act) → IfOk r (λ act. Says n rs ws act)
+says_along n rs ws ws' r e h = subst (λ (t : List Word). IfOk r (λ act. Says n rs t act)) (sym e) h

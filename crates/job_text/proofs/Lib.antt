@@ -1,9 +1,10 @@
 pub mod Acts
 pub mod Bits
+pub mod Completeness
 pub mod Digits
 pub mod Forms
 pub mod Meanings
 pub mod OneReading
 pub mod Reading
-pub mod Registers
+pub mod RegisterLists
 pub mod Split

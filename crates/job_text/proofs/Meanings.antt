@@ -8,7 +8,7 @@ use Rattle.std.proofs.lemmas.Bool.{false≢true}
 use Rattle.std.proofs.lemmas.Bool.Decides.{nat_tests}
 use Rattle.std.proofs.lemmas.Slice.Eq.{bytes_eq-Decides}
 use Rattle.job_text.specs.declared.job.Act.{Act}
-use Rattle.job_text.specs.declared.job.Act.TheVariants.{Var, And, Drop, Eval}
+use Rattle.job_text.specs.declared.job.Act.TheVariants.{One, Zero, Var, Not, And, Or, Ite, Drop, Same, Eval}
 use Rattle.job_text.specs.declared.job.Register.{Register}
 use Rattle.job_text.specs.declared.faults.FaultKind.TheVariants as kinds
 use Rattle.job_text.specs.Text.{Word, IsNumber, is_name, bit_word}
@@ -125,21 +125,42 @@ no_equals w h = by_cases (bytes_eq w (codes "=")) refl
 -- what says something is no faulty command
 pub says_well : (n : ℕ) (rs : List Register) (words : List Word) (act : Act) → Says n rs words act → command_fault n rs words ≡ None
 unfolding command_fault
+says_well n rs words One h = ap (λ ws. fault_in n rs (slots_of ws)) h.2 ∙ fits_all n rs ((fresh, h.0) ∷ []) (fresh_fits n rs h.0 h.1, tt)
+says_well n rs words Zero h = ap (λ ws. fault_in n rs (slots_of ws)) h.2 ∙ fits_all n rs ((fresh, h.0) ∷ []) (fresh_fits n rs h.0 h.1, tt)
 says_well n rs words (Var v) h =
     ap (λ ws. fault_in n rs (slots_of ws)) h.3
     ∙ fits_all n rs ((fresh, h.0) ∷ (variable, h.1) ∷ []) (fresh_fits n rs h.0 h.2, (variable_fits n rs h.1 v h.4 h.5, tt))
+says_well n rs words (Not a) h =
+    ap (λ ws. fault_in n rs (slots_of ws)) h.3
+    ∙ fits_all n rs ((fresh, h.0) ∷ (held, h.1) ∷ []) (fresh_fits n rs h.0 h.2, (held_fits n rs h.1 a h.4, tt))
 says_well n rs words (And a b) h =
     ap (λ ws. fault_in n rs (slots_of ws)) h.4
     ∙ fits_all n rs ((fresh, h.0) ∷ (held, h.1) ∷ (held, h.2) ∷ []) (fresh_fits n rs h.0 h.3, (held_fits n rs h.1 a h.5, (held_fits n rs h.2 b h.6, tt)))
+says_well n rs words (Or a b) h =
+    ap (λ ws. fault_in n rs (slots_of ws)) h.4
+    ∙ fits_all n rs ((fresh, h.0) ∷ (held, h.1) ∷ (held, h.2) ∷ []) (fresh_fits n rs h.0 h.3, (held_fits n rs h.1 a h.5, (held_fits n rs h.2 b h.6, tt)))
+says_well n rs words (Ite a b c) h =
+    ap (λ ws. fault_in n rs (slots_of ws)) h.5
+    ∙ fits_all n rs ((fresh, h.0) ∷ (held, h.1) ∷ (held, h.2) ∷ (held, h.3) ∷ [])
+    (fresh_fits n rs h.0 h.4, (held_fits n rs h.1 a h.6, (held_fits n rs h.2 b h.7, (held_fits n rs h.3 c h.8, tt))))
 says_well n rs words (Drop a) h =
     ap (λ ws. fault_in n rs (slots_of ws)) h.1 ∙ fits_all n rs ((held, h.0) ∷ []) (held_fits n rs h.0 a h.2, tt)
+says_well n rs words (Same a b) h =
+    ap (λ ws. fault_in n rs (slots_of ws)) h.2 ∙ ap (fault_in n rs) (telling_is (codes "same") (h.0 ∷ h.1 ∷ []) (no_equals h.0 (h.3).0))
+    ∙ fits_all n rs ((held, h.0) ∷ (held, h.1) ∷ []) (held_fits n rs h.0 a h.3, (held_fits n rs h.1 b h.4, tt))
 says_well n rs words (Eval a bs) h =
     ap (λ ws. fault_in n rs (slots_of ws)) h.1 ∙ ap (fault_in n rs) (telling_is (codes "eval") (h.0 ∷ bit_word bs ∷ []) (no_equals h.0 (h.2).0))
     ∙ fits_all n rs ((held, h.0) ∷ (bits, bit_word bs) ∷ []) (held_fits n rs h.0 a h.2, (bits_fit n rs bs h.3, tt))
 
 -- a command has two words or more
 pub two_words : (n : ℕ) (rs : List Register) (words : List Word) (act : Act) → Says n rs words act → (first second : Word) × (rest : List Word) × (words ≡ first ∷ second ∷ rest)
+two_words n rs words One h = (h.0, codes "=", codes "true" ∷ [], h.2)
+two_words n rs words Zero h = (h.0, codes "=", codes "false" ∷ [], h.2)
 two_words n rs words (Var v) h = (h.0, codes "=", codes "var" ∷ h.1 ∷ [], h.3)
+two_words n rs words (Not a) h = (h.0, codes "=", codes "not" ∷ h.1 ∷ [], h.3)
 two_words n rs words (And a b) h = (h.0, codes "=", codes "and" ∷ h.1 ∷ h.2 ∷ [], h.4)
+two_words n rs words (Or a b) h = (h.0, codes "=", codes "or" ∷ h.1 ∷ h.2 ∷ [], h.4)
+two_words n rs words (Ite a b c) h = (h.0, codes "=", codes "ite" ∷ h.1 ∷ h.2 ∷ h.3 ∷ [], h.5)
 two_words n rs words (Drop a) h = (codes "drop", h.0, [], h.1)
+two_words n rs words (Same a b) h = (codes "same", h.0, h.1 ∷ [], h.2)
 two_words n rs words (Eval a bs) h = (codes "eval", h.0, bit_word bs ∷ [], h.1)

@@ -1,5 +1,5 @@
 -- A text has one reading.
-use Rattle.std.proofs.Common.{◌≡◌, ℕ, suc, ◌+◌, ◌&&◌, Bool, true, false, not, cond, List, [], ◌∷◌, ◌++◌, length, map, filter, Some, None, inl, inr, refl, ap, sym, ◌∙◌, subst, arith, codes}
+use Rattle.std.proofs.Common.{◌≡◌, ℕ, suc, ◌+◌, ◌≤◌, ◌&&◌, Bool, true, false, not, cond, List, [], ◌∷◌, ◌++◌, length, map, filter, Some, None, inl, inr, refl, ap, sym, ◌∙◌, subst, arith, codes}
 use Rattle.std.specs.List.{list_all, flat_map, All}
 use Rattle.std.specs.Str.Parse.{digits_value}
 use Rattle.std.proofs.lemmas.Bool.{false≢true}
@@ -10,11 +10,11 @@ use Rattle.job_text.specs.declared.job.Register.{Register}
 use Rattle.job_text.specs.declared.faults.FaultKind.{FaultKind}
 use Rattle.job_text.specs.declared.faults.FaultKind.TheVariants as kinds
 use Rattle.job_text.specs.Text.{Word, is_allowed, lines_of, words_of}
-use Rattle.job_text.specs.Grammar.{CommandsSay, registers_after, section_lines, said_lines, IsJobText}
-use Rattle.job_text.specs.Faults.{Context, opening, words_fault, line_fault, context_after, context_behind, Faultless, FaultyLine}
+use Rattle.job_text.specs.Grammar.{CommandsSay, registers_after, section_lines, said_lines, LimitLines, IsJobText}
+use Rattle.job_text.specs.Faults.{Context, at_start, sized, within, has_begun, words_fault, line_fault, context_after, context_behind, Faultless, FaultyLine}
 use Rattle.job_text.specs.Readings.{OneJob, OneFault, JobOrFault}
 use Rattle.job_text.proofs.Acts.{same_commands}
-use Rattle.job_text.proofs.Reading.{registers_behind, has_words, not_zero, command_line, vars_line}
+use Rattle.job_text.proofs.Reading.{registers_behind, has_words, not_zero, command_line, vars_line, limit_line}
 
 -- Where there is a fault, that line is not without one.
 at_bad : (c : Context) (good : List (List ℕ)) (bad : List ℕ) (rest : List (List ℕ)) (fault : FaultKind) → Faultless c (good ++ bad ∷ rest) → line_fault (context_behind c good) bad ≡ Some fault → ⊥
@@ -43,13 +43,13 @@ one_bad c (x ∷ good) (y ∷ good') bad bad' rest rest' fault fault' e h h' f f
     (subst (λ (t : List ℕ). line_fault (context_behind (context_after c (words_of t)) good') bad' ≡ Some fault') same f') in
     (ap suc more.0, more.1)
 
-bad_within : (text : List ℕ) (place : ℕ) (fault : FaultKind) → FaultyLine text place fault → Faultless opening (lines_of text) → ⊥
+bad_within : (text : List ℕ) (place : ℕ) (fault : FaultKind) → FaultyLine text place fault → Faultless at_start (lines_of text) → ⊥
 bad_within text place fault h good =
-    at_bad opening h.good h.bad h.rest fault (subst (λ (t : List (List ℕ)). Faultless opening t) h.lines good) h.faulty
+    at_bad at_start h.good h.bad h.rest fault (subst (λ (t : List (List ℕ)). Faultless at_start t) h.lines good) h.faulty
 
 pub one_fault : OneFault
 one_fault text place place' fault fault' (inl h) (inl h') =
-    let one = one_bad opening h.good h'.good h.bad h'.bad h.rest h'.rest fault fault' (sym h.lines ∙ h'.lines) h.faultless h'.faultless h.faulty h'.faulty in
+    let one = one_bad at_start h.good h'.good h.bad h'.bad h.rest h'.rest fault fault' (sym h.lines ∙ h'.lines) h.faultless h'.faultless h.faulty h'.faulty in
     (h.counted ∙ ap (λ k. k + 1) one.0 ∙ sym h'.counted, one.1)
 one_fault text place place' fault fault' (inl h) (inr h') = absurd (bad_within text place fault h h'.faultless)
 one_fault text place place' fault fault' (inr h) (inl h') = absurd (bad_within text place' fault' h' h.faultless)
@@ -101,14 +101,32 @@ from_said c (line ∷ lines) clean h =
     let both = and_true (list_all is_allowed line) (list_all (list_all is_allowed) lines) clean in
     one_line c line lines both.0 (λ c' g. from_said c' lines both.1 g) (words_of line) refl h
 
-commands_well : (c : Context) (n : ℕ) (rs : List Register) (commands : List Command) → c ≡ record { vars = Some n; registers = Some rs } → CommandsSay n rs commands
+commands_well : (c : Context) (n : ℕ) (rs : List Register) (commands : List Command) → c ≡ within n rs → CommandsSay n rs commands
     → SaidWell c (map (λ (command : Command). command.words) commands)
-    × (behind_said c (map (λ (command : Command). command.words) commands) ≡ record { vars = Some n; registers = Some (registers_behind rs commands) })
+    × (behind_said c (map (λ (command : Command). command.words) commands) ≡ within n (registers_behind rs commands))
 commands_well c n rs [] e h = (tt, e)
 commands_well c n rs (command ∷ commands) e h =
     let line = command_line c n rs command.words command.act e h.0 in
     let more = commands_well (context_after c command.words) n (registers_after rs command.words) commands line.1 h.1 in
     ((line.0, more.0), more.1)
+
+-- the lines of the limit and the section, behind `vars`
+section_well : (c : Context) (n : ℕ) (limited : Bool) (commands : List Command) → c ≡ sized n limited → CommandsSay n [] commands
+    → SaidWell c (section_lines commands) × (behind_said c (section_lines commands) ≡ within n (registers_behind [] commands))
+section_well c n limited commands e h =
+    let rest = commands_well (context_after c (codes "session" ∷ [])) n [] commands (ap (λ t. context_after t (codes "session" ∷ [])) e) h in
+    ((ap (λ t. words_fault t (codes "session" ∷ [])) e, rest.0), rest.1)
+
+behind_limit : (c : Context) (n limit : ℕ) (limits : List (List Word)) (commands : List Command) → c ≡ sized n false → LimitLines limit limits → 5 + n ≤ limit → limit ≤ 8388607 → CommandsSay n [] commands
+    → SaidWell c (limits ++ section_lines commands) × (behind_said c (limits ++ section_lines commands) ≡ within n (registers_behind [] commands))
+behind_limit c n limit limits commands e (inl h) low high says =
+    subst (λ (t : List (List Word)). SaidWell c (t ++ section_lines commands) × (behind_said c (t ++ section_lines commands) ≡ within n (registers_behind [] commands))) (sym h.0)
+    (section_well c n false commands e says)
+behind_limit c n limit limits commands e (inr h) low high says =
+    let line = codes "limit" ∷ h.0 ∷ [] in
+    let rest = section_well (context_after c line) n true commands (ap (λ t. context_after t line) e) says in
+    subst (λ (t : List (List Word)). SaidWell c (t ++ section_lines commands) × (behind_said c (t ++ section_lines commands) ≡ within n (registers_behind [] commands))) (sym h.1)
+    ((ap (λ t. words_fault t line) e ∙ limit_line n h.0 limit h.2 low high, rest.0), rest.1)
 
 one_of : (xs : List (List Command)) → length xs ≡ 1 → (x : List Command) × (xs ≡ x ∷ [])
 one_of [] e = absurd (omega arith)
@@ -117,32 +135,32 @@ one_of (x ∷ y ∷ xs) e = absurd (omega arith)
 
 -- the lines with words of a job
 job_lines : (text : List ℕ) (job : Job) (h : IsJobText text job) → (commands : List Command) × (job.sections ≡ commands ∷ []) × CommandsSay job.vars [] commands
-    × (said_lines (lines_of text) ≡ (codes "vars" ∷ h.number ∷ []) ∷ section_lines commands)
+    × (said_lines (lines_of text) ≡ (codes "vars" ∷ h.number ∷ []) ∷ h.limits ++ section_lines commands)
 job_lines text job h =
     let one = one_of job.sections h.is_job.one_section in
     let says : All (CommandsSay job.vars []) (one.0 ∷ []) = subst (λ (t : List (List Command)). All (CommandsSay job.vars []) t) one.1 h.is_job.commands in (
       one.0,
       one.1,
       says 0 one.0 (omega arith),
-      h.lines ∙ ap (λ t. (codes "vars" ∷ h.number ∷ []) ∷ flat_map section_lines t) one.1 ∙ ap (λ t. (codes "vars" ∷ h.number ∷ []) ∷ t) (append-nil (section_lines one.0)),
+      h.lines ∙ ap (λ t. (codes "vars" ∷ h.number ∷ []) ∷ h.limits ++ flat_map section_lines t) one.1
+          ∙ ap (λ t. (codes "vars" ∷ h.number ∷ []) ∷ h.limits ++ t) (append-nil (section_lines one.0)),
     )
 
-job_faultless : (text : List ℕ) (job : Job) → IsJobText text job → (rs : List Register) × Faultless opening (lines_of text) × (context_behind opening (lines_of text) ≡ record { vars = Some job.vars; registers = Some rs })
+job_faultless : (text : List ℕ) (job : Job) → IsJobText text job → (rs : List Register) × Faultless at_start (lines_of text) × (context_behind at_start (lines_of text) ≡ within job.vars rs)
 job_faultless text job h =
     let said = job_lines text job h in
+    let line = codes "vars" ∷ h.number ∷ [] in
     let first = vars_line h.number job.vars h.vars h.is_job.few_variables in
-    let session : context_after (context_after opening (codes "vars" ∷ h.number ∷ [])) (codes "session" ∷ []) ≡ record { vars = Some job.vars; registers = Some [] } = ap (λ t. context_after t (codes "session" ∷ [])) first.1 in
-    let rest = commands_well (context_after (context_after opening (codes "vars" ∷ h.number ∷ [])) (codes "session" ∷ [])) job.vars [] said.0 session said.2 in
-    let well : SaidWell opening ((codes "vars" ∷ h.number ∷ []) ∷ section_lines said.0) = (first.0, (ap (λ t. words_fault t (codes "session" ∷ [])) first.1, rest.0)) in
-    let all = from_said opening (lines_of text) h.clean (subst (SaidWell opening) (sym said.3) well) in
-    (registers_behind [] said.0, all.0, all.1 ∙ ap (behind_said opening) said.3 ∙ rest.1)
+    let rest = behind_limit (context_after at_start line) job.vars job.limit h.limits said.0 first.1 h.limit h.is_job.lowest_limit h.is_job.highest_limit said.2 in
+    let well : SaidWell at_start (line ∷ h.limits ++ section_lines said.0) = (first.0, rest.0) in
+    let all = from_said at_start (lines_of text) h.clean (subst (SaidWell at_start) (sym said.3) well) in
+    (registers_behind [] said.0, all.0, all.1 ∙ ap (behind_said at_start) said.3 ∙ rest.1)
 
 pub job_or_fault : JobOrFault
 job_or_fault text job place fault h (inl bad) = bad_within text place fault bad (job_faultless text job h).1
 job_or_fault text job place fault h (inr early) =
     let good = job_faultless text job h in
-    let none : None ≡ Some good.0 = sym early.early ∙ ap (λ (c : Context). c.registers) good.2 in
-    cc
+    false≢true (sym early.early ∙ ap has_begun good.2)
 
 same_job : (one other : Job) → one.vars ≡ other.vars → one.elements ≡ other.elements → one.limit ≡ other.limit → one.sections ≡ other.sections → one ≡ other
 same_job one other v e l s =
@@ -151,13 +169,32 @@ same_job one other v e l s =
     ∙ ap (λ t. record { vars = other.vars; elements = other.elements; limit = t; sections = one.sections }) l
     ∙ ap (λ t. record { vars = other.vars; elements = other.elements; limit = other.limit; sections = t }) s
 
+-- the limit and the section's lines are told apart
+same_rest : (limit limit' : ℕ) (limits limits' : List (List Word)) (commands commands' : List Command) → LimitLines limit limits → LimitLines limit' limits' → limits ++ section_lines commands ≡ limits' ++ section_lines commands'
+    → (limit ≡ limit') × (map (λ (command : Command). command.words) commands ≡ map (λ (command : Command). command.words) commands')
+same_rest limit limit' limits limits' commands commands' (inl h) (inl h') e =
+    let lines : section_lines commands ≡ section_lines commands' = sym (ap (λ t. t ++ section_lines commands) h.0) ∙ e ∙ ap (λ t. t ++ section_lines commands') h'.0 in
+    (h.1 ∙ sym h'.1, cc)
+same_rest limit limit' limits limits' commands commands' (inl h) (inr h') e =
+    let lines : section_lines commands ≡ (codes "limit" ∷ h'.0 ∷ []) ∷ section_lines commands' = sym (ap (λ t. t ++ section_lines commands) h.0) ∙ e ∙ ap (λ t. t ++ section_lines commands') h'.1 in
+    cc
+same_rest limit limit' limits limits' commands commands' (inr h) (inl h') e =
+    let lines : (codes "limit" ∷ h.0 ∷ []) ∷ section_lines commands ≡ section_lines commands' = sym (ap (λ t. t ++ section_lines commands) h.1) ∙ e ∙ ap (λ t. t ++ section_lines commands') h'.0 in
+    cc
+same_rest limit limit' limits limits' commands commands' (inr h) (inr h') e =
+    let lines : (codes "limit" ∷ h.0 ∷ []) ∷ section_lines commands ≡ (codes "limit" ∷ h'.0 ∷ []) ∷ section_lines commands' =
+    sym (ap (λ t. t ++ section_lines commands) h.1) ∙ e ∙ ap (λ t. t ++ section_lines commands') h'.1 in
+    let numbers : h.0 ≡ h'.0 = cc in
+    (sym (h.2).1 ∙ ap (digits_value 10) numbers ∙ (h'.2).1, cc)
+
 pub one_job : OneJob
 one_job text one other h h' =
     let said = job_lines text one h in
     let said' = job_lines text other h' in
-    let lines : (codes "vars" ∷ h.number ∷ []) ∷ section_lines said.0 ≡ (codes "vars" ∷ h'.number ∷ []) ∷ section_lines said'.0 = sym said.3 ∙ said'.3 in
+    let lines : (codes "vars" ∷ h.number ∷ []) ∷ h.limits ++ section_lines said.0 ≡ (codes "vars" ∷ h'.number ∷ []) ∷ h'.limits ++ section_lines said'.0 = sym said.3 ∙ said'.3 in
     let numbers : h.number ≡ h'.number = cc in
-    let words : map (λ (command : Command). command.words) said.0 ≡ map (λ (command : Command). command.words) said'.0 = cc in
+    let behind : h.limits ++ section_lines said.0 ≡ h'.limits ++ section_lines said'.0 = cc in
+    let rest = same_rest one.limit other.limit h.limits h'.limits said.0 said'.0 h.limit h'.limit behind in
     let vars : one.vars ≡ other.vars = sym h.vars.1 ∙ ap (digits_value 10) numbers ∙ h'.vars.1 in
-    same_job one other vars (h.is_job.no_elements ∙ sym h'.is_job.no_elements) (h.is_job.default_limit ∙ sym h'.is_job.default_limit)
-    (said.1 ∙ ap (λ t. t ∷ []) (same_commands one.vars [] said.0 said'.0 tt said.2 (subst (λ (n : ℕ). CommandsSay n [] said'.0) (sym vars) said'.2) words) ∙ sym said'.1)
+    same_job one other vars (h.is_job.no_elements ∙ sym h'.is_job.no_elements) rest.0
+    (said.1 ∙ ap (λ t. t ∷ []) (same_commands one.vars [] said.0 said'.0 tt said.2 (subst (λ (n : ℕ). CommandsSay n [] said'.0) (sym vars) said'.2) rest.1) ∙ sym said'.1)

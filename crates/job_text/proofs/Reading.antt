@@ -1,5 +1,5 @@
 -- A job is read line by line.
-use Rattle.std.proofs.Common.{◌≡◌, ℕ, suc, ◌+◌, ◌≤◌, ◌==◌, ◌&&◌, Bool, true, false, not, cond, List, [], ◌∷◌, ◌++◌, length, map, filter, Some, None, Result, Ok, Err, IfOk, IfErr, inr, refl, ap, sym, ◌∙◌, subst, arith, codes, append_assoc, length-append}
+use Rattle.std.proofs.Common.{◌≡◌, ℕ, suc, ◌+◌, ◌≤◌, ◌==◌, ◌&&◌, Bool, true, false, not, cond, List, [], ◌∷◌, ◌++◌, length, map, filter, Option, Some, None, Result, Ok, Err, IfOk, IfErr, IfSome, unwrap_or, inl, inr, refl, ap, sym, ◌∙◌, subst, arith, codes, append_assoc, length-append}
 use Rattle.std.specs.Prelude.{nat_le}
 use Rattle.std.specs.List.{list_all, All}
 use Rattle.std.specs.Str.Parse.{digits_value}
@@ -19,9 +19,9 @@ use Rattle.job_text.specs.declared.faults.FaultKind.TheVariants as kinds
 use Rattle.job_text.specs.declared.faults.JobError.{JobError}
 use Rattle.job_text.specs.declared.faults.JobError.TheVariants as errors
 use Rattle.job_text.specs.Text.{Word, IsNumber, is_number, is_allowed, lines_of, words_of, line_words}
-use Rattle.job_text.specs.Grammar.{Says, CommandsSay, registers_after, is_assignment, is_drop, without, section_lines, said_lines, IsJobText}
-use Rattle.job_text.specs.Faults.{Context, opening, words_fault, line_fault, context_after, context_behind, Faultless, FaultyLine, HasFault, command_fault}
-use Rattle.job_text.specs.Drafts.{context_in, Adds, adds_nothing, adds_vars, adds_session, adds_command, IsSmall, EndStop}
+use Rattle.job_text.specs.Grammar.{Says, CommandsSay, registers_after, is_assignment, is_drop, without, section_lines, said_lines, LimitLines, IsJobText}
+use Rattle.job_text.specs.Faults.{Context, at_start, sized, within, has_begun, words_fault, line_fault, context_after, context_behind, Faultless, FaultyLine, HasFault, command_fault}
+use Rattle.job_text.specs.Drafts.{context_in, Adds, adds_nothing, adds_vars, adds_limit, adds_session, adds_command, IsSmall, EndStop}
 use Rattle.job_text.proofs.Meanings.{says_well, two_words}
 
 abbrev pub has_words : List Word → Bool
@@ -32,19 +32,25 @@ abbrev pub registers_behind : List Register → List Command → List Register
 registers_behind registers [] = registers
 registers_behind registers (command ∷ commands) = registers_behind (registers_after registers command.words) commands
 
+-- the line of a limit that was given
+abbrev pub GivenLimit : Option ℕ → List (List Word) → Type 0
+GivenLimit None lines = lines ≡ []
+GivenLimit (Some limit) lines = (number : Word) × (lines ≡ (codes "limit" ∷ number ∷ []) ∷ []) × IsNumber number limit
+
 -- the lines with words that make a draft
 abbrev pub Spelled : Draft → List (List Word) → Type 0
 Spelled Nothing said = said ≡ []
-Spelled (Sized n) said = (number : Word) × IsNumber number n × (said ≡ (codes "vars" ∷ number ∷ []) ∷ [])
-Spelled (Begun section) said = (number : Word) × IsNumber number section.scope.vars
-    × (said ≡ (codes "vars" ∷ number ∷ []) ∷ section_lines section.commands)
+Spelled (Sized n given) said = (number : Word) × (limits : List (List Word)) × IsNumber number n × GivenLimit given limits
+    × (said ≡ (codes "vars" ∷ number ∷ []) ∷ limits)
+Spelled (Begun limit section) said = (number : Word) × (limits : List (List Word)) × IsNumber number section.scope.vars × LimitLines limit limits
+    × (said ≡ (codes "vars" ∷ number ∷ []) ∷ limits ++ section_lines section.commands)
     × CommandsSay section.scope.vars [] section.commands
     × (section.scope.registers ≡ registers_behind [] section.commands)
 
 -- These lines have no fault, and make this draft.
 pub record IsRead (lines : List (List ℕ)) (draft : Draft) : Type 0 where
-  pub faultless : Faultless opening lines
-  pub context : context_behind opening lines ≡ context_in draft
+  pub faultless : Faultless at_start lines
+  pub context : context_behind at_start lines ≡ context_in draft
   pub clean : list_all (list_all is_allowed) lines ≡ true
   pub spelled : Spelled draft (said_lines lines)
   pub small : IsSmall draft (length lines)
@@ -94,43 +100,57 @@ section_more commands words act = ap (λ t. (codes "session" ∷ []) ∷ t) (map
 in_range : (d n : ℕ) → d ≡ n → n ≤ 1024 → nat_le d 1024 ≡ true
 in_range d n e h = grind (arith, nat_tests)
 
-vars_fault : (b c : Bool) → b ≡ true → c ≡ true → cond (true && b) (cond c None (Some kinds.Range)) (Some kinds.Word) ≡ None
-vars_fault b c e f = ap (λ t. cond (true && t) (cond c None (Some kinds.Range)) (Some kinds.Word)) e ∙ ap (λ t. cond t None (Some kinds.Range)) f
+limit_in_range : (d l n : ℕ) → d ≡ l → 5 + n ≤ l → l ≤ 8388607 → (nat_le (5 + n) d && nat_le d 8388607) ≡ true
+limit_in_range d l n e low high = grind (arith, nat_tests)
 
-pub command_line : (c : Context) (n : ℕ) (rs : List Register) (words : List Word) (act : Act) → c ≡ record { vars = Some n; registers = Some rs } → Says n rs words act
-    → (words_fault c words ≡ None) × (context_after c words ≡ record { vars = Some n; registers = Some (registers_after rs words) })
+number_well : (b c : Bool) (fault : FaultKind) → b ≡ true → c ≡ true → cond (true && b) (cond c None (Some fault)) (Some kinds.Word) ≡ None
+number_well b c fault e f = ap (λ t. cond (true && t) (cond c None (Some fault)) (Some kinds.Word)) e ∙ ap (λ t. cond t None (Some fault)) f
+
+pub command_line : (c : Context) (n : ℕ) (rs : List Register) (words : List Word) (act : Act) → c ≡ within n rs → Says n rs words act
+    → (words_fault c words ≡ None) × (context_after c words ≡ within n (registers_after rs words))
 command_line c n rs words act e says =
     let two = two_words n rs words act says in (
-      ap (λ t. words_fault t words) e ∙ ap (words_fault (record { vars = Some n; registers = Some rs })) two.3
-          ∙ sym (ap (command_fault n rs) two.3) ∙ says_well n rs words act says,
-      ap (λ t. context_after t words) e ∙ ap (context_after (record { vars = Some n; registers = Some rs })) two.3
-          ∙ sym (ap (λ t. record { vars = Some n; registers = Some (registers_after rs t) }) two.3),
+      ap (λ t. words_fault t words) e ∙ ap (words_fault (within n rs)) two.3 ∙ sym (ap (command_fault n rs) two.3) ∙ says_well n rs words act says,
+      ap (λ t. context_after t words) e ∙ ap (context_after (within n rs)) two.3 ∙ sym (ap (λ t. within n (registers_after rs t)) two.3),
     )
 
 pub vars_line : (number : Word) (n : ℕ) → IsNumber number n → n ≤ 1024
-    → (words_fault opening (codes "vars" ∷ number ∷ []) ≡ None) × (context_after opening (codes "vars" ∷ number ∷ []) ≡ record { vars = Some n; registers = None })
+    → (words_fault at_start (codes "vars" ∷ number ∷ []) ≡ None) × (context_after at_start (codes "vars" ∷ number ∷ []) ≡ sized n false)
 vars_line number n h le = (
-  vars_fault (is_number number) (nat_le (digits_value 10 number) 1024) h.0 (in_range (digits_value 10 number) n h.1 le),
-  ap (λ k. record { vars = Some k; registers = None }) h.1,
+  number_well (is_number number) (nat_le (digits_value 10 number) 1024) kinds.Range h.0 (in_range (digits_value 10 number) n h.1 le),
+  ap (λ k. sized k false) h.1,
 )
+
+pub limit_line : (n : ℕ) (number : Word) (limit : ℕ) → IsNumber number limit → 5 + n ≤ limit → limit ≤ 8388607 → words_fault (sized n false) (codes "limit" ∷ number ∷ []) ≡ None
+limit_line n number limit h low high =
+    number_well (is_number number) (nat_le (5 + n) (digits_value 10 number) && nat_le (digits_value 10 number) 8388607) kinds.Limit h.0
+    (limit_in_range (digits_value 10 number) limit n h.1 low high)
 
 pub adds_well : (old new : Draft) (words : List Word) → Adds old words new → (words_fault (context_in old) words ≡ None) × (context_after (context_in old) words ≡ context_in new)
 adds_well old new words (adds_nothing e f) =
     (ap (words_fault (context_in old)) e, ap (context_after (context_in old)) e ∙ sym (ap context_in f))
 adds_well old new words (adds_vars h) =
     let line = vars_line h.0 h.1 h.3 h.4 in (
-      ap (λ t. words_fault (context_in t) words) h.5 ∙ ap (words_fault opening) h.2 ∙ line.0,
-      ap (λ t. context_after (context_in t) words) h.5 ∙ ap (context_after opening) h.2 ∙ line.1 ∙ sym (ap context_in h.6),
+      ap (λ t. words_fault (context_in t) words) h.5 ∙ ap (words_fault at_start) h.2 ∙ line.0,
+      ap (λ t. context_after (context_in t) words) h.5 ∙ ap (context_after at_start) h.2 ∙ line.1 ∙ sym (ap context_in h.6),
     )
+adds_well old new words (adds_limit h) = (
+  ap (λ t. words_fault (context_in t) words) h.7 ∙ ap (words_fault (sized h.1 false)) h.3 ∙ limit_line h.1 h.0 h.2 h.4 h.5 h.6,
+  ap (λ t. context_after (context_in t) words) h.7 ∙ ap (context_after (sized h.1 false)) h.3 ∙ sym (ap context_in h.8),
+)
 adds_well old new words (adds_session h) = (
-  ap (λ t. words_fault (context_in t) words) h.2 ∙ ap (words_fault (context_in (Sized h.0))) h.1,
-  ap (λ t. context_after (context_in t) words) h.2 ∙ ap (context_after (context_in (Sized h.0))) h.1 ∙ sym (ap context_in h.3),
+  ap (λ t. words_fault (context_in t) words) h.3 ∙ ap (words_fault (context_in (Sized h.0 h.1))) h.2,
+  ap (λ t. context_after (context_in t) words) h.3 ∙ ap (context_after (context_in (Sized h.0 h.1))) h.2 ∙ sym (ap context_in h.4),
 )
 adds_well old new words (adds_command h) =
-    let line = command_line (context_in old) (h.0).scope.vars (h.0).scope.registers words h.1 (ap context_in h.2) h.3 in
-    (line.0, line.1 ∙ sym (ap context_in h.4))
+    let line = command_line (context_in old) (h.1).scope.vars (h.1).scope.registers words h.2 (ap context_in h.3) h.4 in
+    (line.0, line.1 ∙ sym (ap context_in h.5))
 
 -- What it makes of the lines with words
+limit_lines : (given : Option ℕ) (limits : List (List Word)) → GivenLimit given limits → LimitLines (unwrap_or given 262144) limits
+limit_lines None limits h = inl (h, refl)
+limit_lines (Some limit) limits h = inr h
+
 pub adds_spelled : (old new : Draft) (words : List Word) (said : List (List Word)) → Adds old words new → Spelled old said → Spelled new (said ++ filter has_words (words ∷ []))
 adds_spelled old new words said (adds_nothing e f) h =
     subst (λ (t : List (List Word)). Spelled new t) (sym (append-nil said) ∙ ap (λ ws. said ++ filter has_words (ws ∷ [])) (sym e))
@@ -138,29 +158,44 @@ adds_spelled old new words said (adds_nothing e f) h =
 adds_spelled old new words said (adds_vars g) h =
     let empty : said ≡ [] = subst (λ (t : Draft). Spelled t said) g.5 h in
     subst (λ (t : Draft). Spelled t (said ++ filter has_words (words ∷ []))) (sym g.6)
-    (g.0, g.3, ap (λ t. t ++ filter has_words (words ∷ [])) empty ∙ ap (λ ws. filter has_words (ws ∷ [])) g.2 ∙ some_words (codes "vars") (g.0 ∷ []))
+    (g.0, [], g.3, refl, ap (λ t. t ++ filter has_words (words ∷ [])) empty ∙ ap (λ ws. filter has_words (ws ∷ [])) g.2 ∙ some_words (codes "vars") (g.0 ∷ []))
+adds_spelled old new words said (adds_limit g) h =
+    let k : Spelled (Sized g.1 None) said = subst (λ (t : Draft). Spelled t said) g.7 h in
+    subst (λ (t : Draft). Spelled t (said ++ filter has_words (words ∷ []))) (sym g.8) (
+      k.0,
+      (codes "limit" ∷ g.0 ∷ []) ∷ [],
+      k.2,
+      (g.0, refl, g.4),
+      ap (λ t. t ++ filter has_words (words ∷ [])) (k.4 ∙ ap (λ t. (codes "vars" ∷ k.0 ∷ []) ∷ t) k.3) ∙ ap (λ ws. (codes "vars" ∷ k.0 ∷ []) ∷ filter has_words (ws ∷ [])) g.3
+          ∙ ap (λ t. (codes "vars" ∷ k.0 ∷ []) ∷ t) (some_words (codes "limit") (g.0 ∷ [])),
+    )
 adds_spelled old new words said (adds_session g) h =
-    let k : Spelled (Sized g.0) said = subst (λ (t : Draft). Spelled t said) g.2 h in
-    subst (λ (t : Draft). Spelled t (said ++ filter has_words (words ∷ []))) (sym g.3) (
+    let k : Spelled (Sized g.0 g.1) said = subst (λ (t : Draft). Spelled t said) g.3 h in
+    subst (λ (t : Draft). Spelled t (said ++ filter has_words (words ∷ []))) (sym g.4) (
       k.0,
       k.1,
-      ap (λ t. t ++ filter has_words (words ∷ [])) k.2 ∙ ap (λ ws. (codes "vars" ∷ k.0 ∷ []) ∷ filter has_words (ws ∷ [])) g.1
-          ∙ ap (λ t. (codes "vars" ∷ k.0 ∷ []) ∷ t) (some_words (codes "session") []),
+      k.2,
+      limit_lines g.1 k.1 k.3,
+      ap (λ t. t ++ filter has_words (words ∷ [])) k.4 ∙ ap (λ ws. (codes "vars" ∷ k.0 ∷ []) ∷ k.1 ++ filter has_words (ws ∷ [])) g.2
+          ∙ ap (λ t. (codes "vars" ∷ k.0 ∷ []) ∷ k.1 ++ t) (some_words (codes "session") []),
       tt,
       refl,
     )
 adds_spelled old new words said (adds_command g) h =
-    let k : Spelled (Begun g.0) said = subst (λ (t : Draft). Spelled t said) g.2 h in
-    let n = (g.0).scope.vars in
-    let rs = (g.0).scope.registers in
-    let two = two_words n rs words g.1 g.3 in
+    let k : Spelled (Begun g.0 g.1) said = subst (λ (t : Draft). Spelled t said) g.3 h in
+    let n = (g.1).scope.vars in
+    let rs = (g.1).scope.registers in
+    let two = two_words n rs words g.2 g.4 in
     let one : filter has_words (words ∷ []) ≡ words ∷ [] = ap (λ ws. filter has_words (ws ∷ [])) two.3 ∙ some_words two.0 (two.1 ∷ two.2) ∙ sym (ap (λ ws. ws ∷ []) two.3) in
-    subst (λ (t : Draft). Spelled t (said ++ filter has_words (words ∷ []))) (sym g.4) (
+    subst (λ (t : Draft). Spelled t (said ++ filter has_words (words ∷ []))) (sym g.5) (
       k.0,
       k.1,
-      ap (λ t. said ++ t) one ∙ ap (λ t. t ++ words ∷ []) k.2 ∙ ap (λ t. (codes "vars" ∷ k.0 ∷ []) ∷ t) (sym (section_more (g.0).commands words g.1)),
-      say_more n [] (g.0).commands words g.1 k.3 (subst (λ (t : List Register). Says n t words g.1) k.4 g.3),
-      ap (λ t. registers_after t words) k.4 ∙ sym (behind_more [] (g.0).commands words g.1),
+      k.2,
+      k.3,
+      ap (λ t. said ++ t) one ∙ ap (λ t. t ++ words ∷ []) k.4 ∙ append_assoc ((codes "vars" ∷ k.0 ∷ []) ∷ k.1) (section_lines (g.1).commands) (words ∷ [])
+          ∙ ap (λ t. (codes "vars" ∷ k.0 ∷ []) ∷ k.1 ++ t) (sym (section_more (g.1).commands words g.2)),
+      say_more n [] (g.1).commands words g.2 k.5 (subst (λ (t : List Register). Says n t words g.2) k.6 g.4),
+      ap (λ t. registers_after t words) k.6 ∙ sym (behind_more [] (g.1).commands words g.2),
     )
 
 -- and of the number of registers
@@ -178,28 +213,36 @@ registers_grow rs words = grows (is_assignment words) (is_drop words) rs _ _
 
 pub small_up : (draft : Draft) (a b : ℕ) → a ≤ b → IsSmall draft a → IsSmall draft b
 small_up Nothing a b le h = tt
-small_up (Sized n) a b le h = h
-small_up (Begun section) a b le h = (h.0, omega (arith, h.1))
+small_up (Sized n given) a b le h = h
+small_up (Begun limit section) a b le h = (h.0, h.1, h.2, omega (arith, h.3))
+
+default_limit : (n : ℕ) (given : Option ℕ) → n ≤ 1024 → IfSome given (λ limit. (5 + n ≤ limit) × (limit ≤ 8388607)) → (5 + n ≤ unwrap_or given 262144) × (unwrap_or given 262144 ≤ 8388607)
+default_limit n None le h = (omega arith, omega arith)
+default_limit n (Some limit) le h = h
 
 pub adds_small : (old new : Draft) (words : List Word) (count : ℕ) → Adds old words new → IsSmall old count → IsSmall new (count + 1)
 adds_small old new words count (adds_nothing e f) h = subst (λ (t : Draft). IsSmall t (count + 1)) (sym f) (small_up old count (count + 1) (omega arith) h)
-adds_small old new words count (adds_vars g) h = subst (λ (t : Draft). IsSmall t (count + 1)) (sym g.6) g.4
+adds_small old new words count (adds_vars g) h = subst (λ (t : Draft). IsSmall t (count + 1)) (sym g.6) (g.4, tt)
+adds_small old new words count (adds_limit g) h =
+    let k : IsSmall (Sized g.1 None) count = subst (λ (t : Draft). IsSmall t count) g.7 h in
+    subst (λ (t : Draft). IsSmall t (count + 1)) (sym g.8) (k.0, (g.5, g.6))
 adds_small old new words count (adds_session g) h =
-    let k : IsSmall (Sized g.0) count = subst (λ (t : Draft). IsSmall t count) g.2 h in
-    subst (λ (t : Draft). IsSmall t (count + 1)) (sym g.3) (k, omega arith)
+    let k : IsSmall (Sized g.0 g.1) count = subst (λ (t : Draft). IsSmall t count) g.3 h in
+    let limit = default_limit g.0 g.1 k.0 k.1 in
+    subst (λ (t : Draft). IsSmall t (count + 1)) (sym g.4) (k.0, limit.0, limit.1, omega arith)
 adds_small old new words count (adds_command g) h =
-    let k : IsSmall (Begun g.0) count = subst (λ (t : Draft). IsSmall t count) g.2 h in
-    subst (λ (t : Draft). IsSmall t (count + 1)) (sym g.4) (k.0, omega (arith, registers_grow (g.0).scope.registers words, k.1))
+    let k : IsSmall (Begun g.0 g.1) count = subst (λ (t : Draft). IsSmall t count) g.3 h in
+    subst (λ (t : Draft). IsSmall t (count + 1)) (sym g.5) (k.0, k.1, k.2, omega (arith, registers_grow (g.1).scope.registers words, k.3))
 
 pub read_more : (lines : List (List ℕ)) (line : List ℕ) (old new : Draft) (words : List Word) → IsRead lines old → line_words line ≡ Some words → Adds old words new → IsRead (lines ++ line ∷ []) new
 read_more lines line old new words read e adds =
     let own = clean_words (list_all is_allowed line) (words_of line) words e in
     let well = adds_well old new words adds in
     record {
-      faultless = faultless_more opening lines line read.faultless
-          (ap (λ b. cond b (words_fault (context_behind opening lines) (words_of line)) (Some kinds.Word)) own.0
+      faultless = faultless_more at_start lines line read.faultless
+          (ap (λ b. cond b (words_fault (context_behind at_start lines) (words_of line)) (Some kinds.Word)) own.0
           ∙ ap (λ c. words_fault c (words_of line)) read.context ∙ ap (words_fault (context_in old)) own.1 ∙ well.0);
-      context = context_more opening lines line ∙ ap (λ c. context_after c (words_of line)) read.context ∙ ap (context_after (context_in old)) own.1 ∙ well.1;
+      context = context_more at_start lines line ∙ ap (λ c. context_after c (words_of line)) read.context ∙ ap (context_after (context_in old)) own.1 ∙ well.1;
       clean = list_all-append (list_all is_allowed) lines (line ∷ []) ∙ ap (λ b. b && (list_all is_allowed line && true)) read.clean ∙ ap (λ b. b && true) own.0;
       spelled = subst (λ (t : List (List Word)). Spelled new t) (sym (said_more lines line ∙ ap (λ ws. said_lines lines ++ filter has_words (ws ∷ [])) own.1))
           (adds_spelled old new words (said_lines lines) adds read.spelled);
@@ -250,25 +293,28 @@ all_one : (P : List Command → Type 0) (commands : List Command) → P commands
 all_one P commands h = All-cons P commands [] h (λ k d lt. absurd (omega arith))
 
 pub job_from : (text : List ℕ) (draft : Draft) (r : Result Job JobError) → IsRead (lines_of text) draft
-    → IfOk r (λ job. (section : Section) × (draft ≡ Begun section) × (job ≡ record { vars = section.scope.vars; elements = 0; limit = 262144; sections = section.commands ∷ [] }))
+    → IfOk r (λ job. (limit : ℕ) × (section : Section) × (draft ≡ Begun limit section) × (job ≡ record { vars = section.scope.vars; elements = 0; limit = limit; sections = section.commands ∷ [] }))
     → IfOk r (λ job. IsJobText text job)
 job_from text draft (Err e) read h = h
 job_from text draft (Ok job) read h =
-    let section = h.0 in
-    let spelled : Spelled (Begun section) (said_lines (lines_of text)) = subst (λ (t : Draft). Spelled t (said_lines (lines_of text))) h.1 read.spelled in
-    let small : IsSmall (Begun section) (length (lines_of text)) = subst (λ (t : Draft). IsSmall t (length (lines_of text))) h.1 read.small in
-    subst (λ (t : Job). IsJobText text t) (sym h.2)
+    let section = h.1 in
+    let spelled : Spelled (Begun h.0 section) (said_lines (lines_of text)) = subst (λ (t : Draft). Spelled t (said_lines (lines_of text))) h.2 read.spelled in
+    let small : IsSmall (Begun h.0 section) (length (lines_of text)) = subst (λ (t : Draft). IsSmall t (length (lines_of text))) h.2 read.small in
+    subst (λ (t : Job). IsJobText text t) (sym h.3)
     (record {
       clean = read.clean;
       number = spelled.0;
-      vars = spelled.1;
-      lines = spelled.2 ∙ ap (λ t. (codes "vars" ∷ spelled.0 ∷ []) ∷ t) (sym (append-nil (section_lines section.commands)));
+      vars = spelled.2;
+      limits = spelled.1;
+      limit = spelled.3;
+      lines = spelled.4 ∙ ap (λ t. (codes "vars" ∷ spelled.0 ∷ []) ∷ spelled.1 ++ t) (sym (append-nil (section_lines section.commands)));
       is_job = record {
         few_variables = small.0;
         no_elements = refl;
-        default_limit = refl;
+        lowest_limit = small.1;
+        highest_limit = small.2;
         one_section = refl;
-        commands = all_one (CommandsSay section.scope.vars []) section.commands spelled.3;
+        commands = all_one (CommandsSay section.scope.vars []) section.commands spelled.5;
       };
     })
 
@@ -277,4 +323,4 @@ pub end_from : (text : List ℕ) (count : ℕ) (draft : Draft) (r : Result Job J
 end_from text count draft (Ok job) read n h = h
 end_from text count draft (Err errors.Memory) read n h = h
 end_from text count draft (Err (errors.Fault fault)) read n h =
-    inr (record { faultless = read.faultless; early = ap (λ (c : Context). c.registers) read.context ∙ h.0; counted = h.1 ∙ ap (λ k. k + 1) n; word = h.2 })
+    inr (record { faultless = read.faultless; early = ap has_begun read.context ∙ h.0; counted = h.1 ∙ ap (λ k. k + 1) n; word = h.2 })

@@ -1,5 +1,5 @@
 -- What is wrong with a text: its first faulty line, and on it the first fault.
-use Rattle.std.specs.Prelude.{◌≡◌, ℕ, ◌+◌, ◌==◌, nat_lt, nat_le, Bool, false, ◌&&◌, ◌||◌, not, List, [], ◌∷◌, ◌++◌, Option, Some, None, length, codes, if◌then◌else◌, ◌⊎◌, find}
+use Rattle.std.specs.Prelude.{◌≡◌, ℕ, ◌+◌, ◌==◌, nat_lt, nat_le, Bool, true, false, ◌&&◌, ◌||◌, not, List, [], ◌∷◌, ◌++◌, Option, Some, None, length, codes, if◌then◌else◌, ◌⊎◌, find}
 use Rattle.std.specs.List.{list_all, list_any, zip}
 use Rattle.std.specs.Option.{option_map}
 use Rattle.std.specs.Str.{bytes_eq}
@@ -26,33 +26,40 @@ pub data Place : Type 0 where
 -- the commands that assign, by the word behind `r =`, and what is due behind it
 abbrev pub assigning : List (Word × List Place)
 assigning =
-    (codes "var", variable ∷ [])
+    (codes "true", [])
+    ∷ (codes "false", [])
+    ∷ (codes "var", variable ∷ [])
+    ∷ (codes "not", held ∷ [])
     ∷ (codes "and", held ∷ held ∷ [])
+    ∷ (codes "or", held ∷ held ∷ [])
+    ∷ (codes "ite", held ∷ held ∷ held ∷ [])
     ∷ []
 
 -- the other commands, by their first word
 abbrev pub telling : List (Word × List Place)
 telling =
     (codes "drop", held ∷ [])
+    ∷ (codes "same", held ∷ held ∷ [])
     ∷ (codes "eval", held ∷ bits ∷ [])
     ∷ []
 
--- the places of a command in a table
-abbrev pub places_of : List (Word × List Place) → Word → Option (List Place)
-places_of table word = option_map (λ row. row.1) (find (λ row. bytes_eq word row.0) table)
+-- there are as many words as places
+abbrev pub as_many : List Place → List Word → Bool
+as_many [] [] = true
+as_many (place ∷ places) (word ∷ words) = as_many places words
+as_many _ _ = false
 
--- each place with its word, where there are as many of both
-abbrev pub filled : Option (List Place) → List Word → Option (List (Place × Word))
-filled None words = None
-filled (Some places) words = if length places == length words then Some (zip places words) else None
+-- the places of a command in a table, each with its word
+abbrev pub filled : List (Word × List Place) → Word → List Word → Option (List (Place × Word))
+filled table command words = option_map (λ row. zip row.1 words) (find (λ row. as_many row.1 words && bytes_eq command row.0) table)
 
 -- of `r = COMMAND WORDS`
 abbrev pub assignment_slots : Word → Word → List Word → Option (List (Place × Word))
-assignment_slots r command words = option_map (λ slots. (fresh, r) ∷ slots) (filled (places_of assigning command) words)
+assignment_slots r command words = option_map (λ slots. (fresh, r) ∷ slots) (filled assigning command words)
 
 -- of `COMMAND WORDS`
 abbrev pub telling_slots : Word → List Word → Option (List (Place × Word))
-telling_slots command words = filled (places_of telling command) words
+telling_slots command words = filled telling command words
 
 -- the places of a line and their words, where it has the form of a command; where the second word is `=`, it assigns
 abbrev pub slots_of : List Word → Option (List (Place × Word))
@@ -112,24 +119,24 @@ abbrev pub is_session : List Word → Bool
 is_session (word ∷ []) = bytes_eq word (codes "session")
 is_session _ = false
 
--- What the lines so far leave to the next one: the number of variables, and the registers of the section that has begun.
-pub record Context : Type 0 where
-  pub vars : Option ℕ
-  pub registers : Option (List Register)
+-- What the lines so far leave to the next one.
+pub data Context : Type 0 where
+  -- the line `vars` is due
+  at_start : Context
+  -- there are so many variables, and the limit was given or not; no section has begun
+  sized : ℕ → Bool → Context
+  -- there are so many variables, and these registers of the section
+  within : ℕ → List Register → Context
 
--- before the first line
-abbrev pub opening : Context
-opening = record { vars = None; registers = None }
-
--- the fault of a line that has words
-abbrev pub order_fault : Option ℕ → Option (List Register) → List Word → Option FaultKind
-order_fault None registers words = number_fault (codes "vars") (λ n. nat_le n 1024) kinds.Range words
-order_fault (Some n) None words = if is_session words then None else Some kinds.Word
-order_fault (Some n) (Some registers) words = if is_session words then Some kinds.Limit else command_fault n registers words
-
+-- the fault of a line of these words
 abbrev pub words_fault : Context → List Word → Option FaultKind
 words_fault context [] = None
-words_fault context (word ∷ words) = order_fault context.vars context.registers (word ∷ words)
+words_fault at_start (word ∷ words) = number_fault (codes "vars") (λ n. nat_le n 1024) kinds.Range (word ∷ words)
+words_fault (sized n limited) (word ∷ words) =
+    if is_session (word ∷ words) then None else if limited then Some kinds.Word else
+    number_fault (codes "limit") (λ limit. nat_le (5 + n) limit && nat_le limit 8388607) kinds.Limit (word ∷ words)
+words_fault (within n registers) (word ∷ words) =
+    if is_session (word ∷ words) then Some kinds.Limit else command_fault n registers (word ∷ words)
 
 -- the fault of a line: first the bytes that may not stand in one
 abbrev pub line_fault : Context → List ℕ → Option FaultKind
@@ -140,15 +147,16 @@ abbrev pub number_behind : List Word → ℕ
 number_behind (first ∷ second ∷ words) = digits_value 10 second
 number_behind _ = 0
 
--- what a line that has words and no fault leaves
-abbrev pub order_after : Option ℕ → Option (List Register) → List Word → Context
-order_after None registers words = record { vars = Some (number_behind words); registers = registers }
-order_after (Some n) None words = record { vars = Some n; registers = Some [] }
-order_after (Some n) (Some registers) words = record { vars = Some n; registers = Some (registers_after registers words) }
-
+-- what a line of these words leaves, where it has no fault
 abbrev pub context_after : Context → List Word → Context
 context_after context [] = context
-context_after context (word ∷ words) = order_after context.vars context.registers (word ∷ words)
+context_after at_start (word ∷ words) = sized (number_behind (word ∷ words)) false
+context_after (sized n limited) (word ∷ words) = if is_session (word ∷ words) then within n [] else sized n true
+context_after (within n registers) (word ∷ words) = within n (registers_after registers (word ∷ words))
+
+abbrev pub has_begun : Context → Bool
+has_begun (within n registers) = true
+has_begun _ = false
 
 -- what the lines leave, one after another
 abbrev pub context_behind : Context → List (List ℕ) → Context
@@ -167,13 +175,13 @@ pub record FaultyLine (text : List ℕ) (place : ℕ) (kind : FaultKind) : Type 
   pub rest : List (List ℕ)
   pub lines : lines_of text ≡ good ++ bad ∷ rest
   pub counted : place ≡ length good + 1
-  pub faultless : Faultless opening good
-  pub faulty : line_fault (context_behind opening good) bad ≡ Some kind
+  pub faultless : Faultless at_start good
+  pub faulty : line_fault (context_behind at_start good) bad ≡ Some kind
 
 -- No line is faulty, but no section has begun at the end.
 pub record EndsEarly (text : List ℕ) (place : ℕ) (kind : FaultKind) : Type 0 where
-  pub faultless : Faultless opening (lines_of text)
-  pub early : (context_behind opening (lines_of text)).registers ≡ None
+  pub faultless : Faultless at_start (lines_of text)
+  pub early : has_begun (context_behind at_start (lines_of text)) ≡ false
   pub counted : place ≡ length (lines_of text) + 1
   pub word : kind ≡ kinds.Word
 

@@ -1,9 +1,9 @@
 -- The texts of jobs: what each command is spelled, and which lines make a job.
-use Rattle.std.specs.Prelude.{◌≡◌, ◌≢◌, ℕ, ◌<◌, ◌≤◌, ◌==◌, Bool, true, false, not, List, [], ◌∷◌, ◌++◌, Some, All, length, map, filter, drop, ◌&&◌, slice_get, codes, if◌then◌else◌}
+use Rattle.std.specs.Prelude.{◌≡◌, ◌≢◌, ℕ, ◌<◌, ◌≤◌, ◌==◌, Bool, true, false, not, List, [], ◌∷◌, ◌++◌, Some, All, length, map, filter, drop, ◌&&◌, slice_get, codes, ◌+◌, ◌⊎◌, if◌then◌else◌}
 use Rattle.std.specs.List.{list_all, flat_map}
 use Rattle.std.specs.Str.{bytes_eq}
 use Rattle.job_text.specs.declared.job.Act.{Act}
-use Rattle.job_text.specs.declared.job.Act.TheVariants.{Var, And, Drop, Eval}
+use Rattle.job_text.specs.declared.job.Act.TheVariants.{One, Zero, Var, Not, And, Or, Ite, Drop, Same, Eval}
 use Rattle.job_text.specs.declared.job.Command.{Command}
 use Rattle.job_text.specs.declared.job.Job.{Job}
 use Rattle.job_text.specs.declared.job.Register.{Register}
@@ -19,9 +19,16 @@ Refers registers word a = (is_name word ≡ true) × (slice_get registers a ≡ 
 
 -- The words say this, where n variables and these registers are there.
 abbrev pub Says : ℕ → List Register → List Word → Act → Type 0
+Says n registers words One = (r : Word) × IsFresh registers r × (words ≡ r ∷ codes "=" ∷ codes "true" ∷ [])
+Says n registers words Zero = (r : Word) × IsFresh registers r × (words ≡ r ∷ codes "=" ∷ codes "false" ∷ [])
 Says n registers words (Var v) = (r w : Word) × IsFresh registers r × (words ≡ r ∷ codes "=" ∷ codes "var" ∷ w ∷ []) × IsNumber w v × (v < n)
+Says n registers words (Not a) = (r x : Word) × IsFresh registers r × (words ≡ r ∷ codes "=" ∷ codes "not" ∷ x ∷ []) × Refers registers x a
 Says n registers words (And a b) = (r x y : Word) × IsFresh registers r × (words ≡ r ∷ codes "=" ∷ codes "and" ∷ x ∷ y ∷ []) × Refers registers x a × Refers registers y b
+Says n registers words (Or a b) = (r x y : Word) × IsFresh registers r × (words ≡ r ∷ codes "=" ∷ codes "or" ∷ x ∷ y ∷ []) × Refers registers x a × Refers registers y b
+Says n registers words (Ite a b c) = (r x y z : Word) × IsFresh registers r × (words ≡ r ∷ codes "=" ∷ codes "ite" ∷ x ∷ y ∷ z ∷ [])
+    × Refers registers x a × Refers registers y b × Refers registers z c
 Says n registers words (Drop a) = (x : Word) × (words ≡ codes "drop" ∷ x ∷ []) × Refers registers x a
+Says n registers words (Same a b) = (x y : Word) × (words ≡ codes "same" ∷ x ∷ y ∷ []) × Refers registers x a × Refers registers y b
 Says n registers words (Eval a bits) = (x : Word) × (words ≡ codes "eval" ∷ x ∷ bit_word bits ∷ []) × Refers registers x a × (length bits ≡ n)
 
 -- the name that a command assigns
@@ -67,15 +74,22 @@ said_lines lines = filter (λ words. not (length words == 0)) (map words_of line
 pub record IsJob (job : Job) : Type 0 where
   pub few_variables : job.vars ≤ 1024
   pub no_elements : job.elements ≡ 0
-  pub default_limit : job.limit ≡ 262144
+  pub lowest_limit : 5 + job.vars ≤ job.limit
+  pub highest_limit : job.limit ≤ 8388607
   pub one_section : length job.sections ≡ 1
   pub commands : All (CommandsSay job.vars []) job.sections
 
+-- the line that gives the limit; there is none for 262,144
+abbrev pub LimitLines : ℕ → List (List Word) → Type 0
+LimitLines limit lines = ((lines ≡ []) × (limit ≡ 262144)) ⊎ ((number : Word) × (lines ≡ (codes "limit" ∷ number ∷ []) ∷ []) × IsNumber number limit)
+
 -- The text is this job's: no byte of a line is out of range, and its lines that have words are `vars` with the number
--- of variables, and then those of the sections.
+-- of variables, then that of the limit, and then those of the sections.
 pub record IsJobText (text : List ℕ) (job : Job) : Type 0 where
   pub clean : list_all (list_all is_allowed) (lines_of text) ≡ true
   pub number : Word
   pub vars : IsNumber number job.vars
-  pub lines : said_lines (lines_of text) ≡ (codes "vars" ∷ number ∷ []) ∷ flat_map section_lines job.sections
+  pub limits : List (List Word)
+  pub limit : LimitLines job.limit limits
+  pub lines : said_lines (lines_of text) ≡ (codes "vars" ∷ number ∷ []) ∷ limits ++ flat_map section_lines job.sections
   pub is_job : IsJob job

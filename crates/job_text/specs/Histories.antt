@@ -1,5 +1,5 @@
 -- The text of a history of a job.
-use Rattle.std.specs.Prelude.{◌≡◌, ℕ, ◌+◌, ◌-◌, ◌<◌, ◌==◌, not, Bool, true, false, ◌&&◌, List, [], ◌∷◌, ◌++◌, ℤ, pos, codes, length, filter, map, slice_get, take, Some, None, Option, All}
+use Rattle.std.specs.Prelude.{◌≡◌, ℕ, ◌+◌, ◌-◌, ◌<◌, ◌==◌, not, Bool, true, false, ◌&&◌, List, [], ◌∷◌, ◌++◌, pos, codes, length, filter, map, slice_get, take, Some, None, Option, All}
 use Rattle.std.specs.Fmt.{decimal, signed_decimal}
 use Rattle.std.specs.List.{flat_map, filter_map, list_any, list_all, range_with_len}
 use Rattle.function_laws.specs.declared.history.Name.{Name}
@@ -13,7 +13,7 @@ use Rattle.function_laws.specs.Histories.{IsLegal}
 use Rattle.job_text.specs.declared.history_line.Reply.{Reply}
 use Rattle.job_text.specs.declared.history_line.Reply.TheVariants as reply
 use Rattle.job_text.specs.declared.job.Act.{Act}
-use Rattle.job_text.specs.declared.job.Act.TheVariants.{Var, And, Drop, Eval}
+use Rattle.job_text.specs.declared.job.Act.TheVariants.{One, Zero, Var, Not, And, Or, Ite, Drop, Same, Eval}
 use Rattle.job_text.specs.declared.job.Command.{Command}
 use Rattle.job_text.specs.declared.job.Job.{Job}
 use Rattle.job_text.specs.Text.{Word}
@@ -100,9 +100,15 @@ IsNamed registers a name = (word : Word) × (slice_get registers a ≡ Some (rec
 
 -- what a command calls, by the registers
 abbrev pub Calls : List Held → Act → Call → Type 0
+Calls registers One call = call ≡ calls.One
+Calls registers Zero call = call ≡ calls.Zero
 Calls registers (Var v) call = call ≡ calls.Var v
+Calls registers (Not a) call = (x : Name) × IsNamed registers a x × (call ≡ calls.Not x)
 Calls registers (And a b) call = (x y : Name) × IsNamed registers a x × IsNamed registers b y × (call ≡ calls.And x y)
+Calls registers (Or a b) call = (x y : Name) × IsNamed registers a x × IsNamed registers b y × (call ≡ calls.Or x y)
+Calls registers (Ite a b c) call = (x y z : Name) × IsNamed registers a x × IsNamed registers b y × IsNamed registers c z × (call ≡ calls.Ite x y z)
 Calls registers (Drop a) call = (x : Name) × IsNamed registers a x × (call ≡ calls.DropRow x)
+Calls registers (Same a b) call = (x y : Name) × IsNamed registers a x × IsNamed registers b y × (call ≡ calls.Same x y)
 Calls registers (Eval a bits) call = (x : Name) × IsNamed registers a x × (call ≡ calls.Eval x bits)
 
 -- each line has the words of the command at its place, and calls what that says; there may be further commands

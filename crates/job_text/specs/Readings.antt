@@ -1,9 +1,13 @@
 -- A text has one reading: it is that of one job, or it has one first fault.
-use Rattle.std.specs.Prelude.{◌≡◌, ℕ, List}
+use Rattle.std.specs.Prelude.{◌≡◌, ◌⊎◌, ℕ, List}
 use Rattle.job_text.specs.declared.faults.FaultKind.{FaultKind}
 use Rattle.job_text.specs.declared.job.Job.{Job}
 use Rattle.job_text.specs.Grammar.{IsJobText}
 use Rattle.job_text.specs.Faults.{IsFaultText}
+
+-- each text is that of a job or has a fault
+abbrev pub EachHasOne : Type 0
+EachHasOne = (text : List ℕ) → ((job : Job) × IsJobText text job) ⊎ ((place : ℕ) × (kind : FaultKind) × IsFaultText text place kind)
 
 -- no text is that of two jobs
 abbrev pub OneJob : Type 0

@@ -4,9 +4,10 @@ ghost use Rattle.std.specs.Prelude.{◌≡◌, ◌++◌, ◌∷◌, [], ◌<◌,
 ghost use Rattle.job_text.specs.Grammar.{Says, registers_after, without, is_drop};
 ghost use Rattle.job_text.specs.Drafts.{CommandStop, with_act};
 
-use crate::commands::{Scope, as_assignment};
 use crate::faults::Stop;
-use crate::job::{Act, Command, Register};
+use crate::job::{Act, Command};
+use crate::registers::registers_behind;
+use crate::scope::Scope;
 use edge_bits::List;
 use std::alloc::Global;
 
@@ -22,10 +23,10 @@ pub struct Section {
 pub enum Draft {
     /// Nothing was read.
     Nothing,
-    /// The number of variables was read.
-    Sized(u32),
+    /// The number of variables was read, and the limit if it was given.
+    Sized { vars: u32, limit: Option<u32> },
     /// A section has begun.
-    Begun(Section),
+    Begun { limit: u32, section: Section },
 }
 
 impl Section {
@@ -64,62 +65,4 @@ impl Section {
             commands,
         })
     }
-}
-
-/// The registers after a command of these words.
-fn registers_behind(
-    alloc: Global,
-    registers: List<Register>,
-    words: &[List<u8>],
-) -> Result<List<Register>, Stop>
-    ensures ok { IfOk result (λ after. after ≡ registers_after registers words.now) }
-    ensures stop { IfErr result (λ stop. stop ≡ Stop.Memory) }
-{
-    if let Some((target, _, _)) = as_assignment(words) {
-        let mut registers = registers;
-        registers.push(named(alloc, target)?)?;
-        return Ok(registers);
-    }
-    match as_drop(words) {
-        Some(word) => Ok(dropped(registers, word)),
-        None => Ok(registers),
-    }
-}
-
-/// The word behind `drop`.
-fn as_drop(words: &[List<u8>]) -> Option<&[u8]>
-    ensures { MatchOption result (is_drop words.now ≡ false) (λ x. words.now ≡ codes "drop" ∷ x.now ∷ []) }
-{
-    match words {
-        [first, word] => {
-            if first.as_slice() == b"drop".as_slice() {
-                Some(word.as_slice())
-            } else {
-                None
-            }
-        }
-        _ => None,
-    }
-}
-
-/// A register of this name.
-fn named(alloc: Global, name: &[u8]) -> Result<Register, Stop>
-    ensures ok { IfOk result (λ register. register ≡ record { name = name.now; live = true }) }
-    ensures stop { IfErr result (λ stop. stop ≡ Stop.Memory) }
-{
-    let name = List::from_vec(Vec::from_slice(alloc, name)?);
-    Ok(Register { name, live: true })
-}
-
-/// The registers, where those of this name are dropped.
-fn dropped(registers: List<Register>, word: &[u8]) -> List<Register>
-    ensures { result ≡ map (without word.now) registers }
-{
-    let mut rows = registers.into_vec();
-    for i in 0..rows.len() {
-        if rows[i].name.as_slice() == word {
-            rows[i].live = false;
-        }
-    }
-    List::from_vec(rows)
 }

@@ -15,7 +15,7 @@ pub enum FaultKind {
     Kind,
     /// A number out of its range, or bits of a wrong length.
     Range,
-    /// A session too many.
+    /// A session too many, or a limit out of its range.
     Limit,
     /// A target that was assigned before in this section.
     Again,

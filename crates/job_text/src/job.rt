@@ -3,12 +3,24 @@ use edge_bits::List;
 /// What a command does. Registers go by number of assignment in their section, from 0.
 #[derive(Drop)]
 pub enum Act {
+    /// `r = true`: the function that holds everywhere.
+    One,
+    /// `r = false`: the function that holds nowhere.
+    Zero,
     /// `r = var V`: the projection of a variable.
     Var(u32),
+    /// `r = not A`: the complement of a register.
+    Not(u32),
     /// `r = and A B`: the conjunction of two registers.
     And(u32, u32),
+    /// `r = or A B`: the disjunction of two registers.
+    Or(u32, u32),
+    /// `r = ite A B C`: the second register where the first holds, elsewhere the third.
+    Ite(u32, u32, u32),
     /// `drop A`: the register is let go.
     Drop(u32),
+    /// `same A B`: whether two registers have the same function.
+    Same(u32, u32),
     /// `eval A bits`: the value of a register, where bit i is the value of variable i.
     Eval(u32, List<bool>),
 }

@@ -7,6 +7,8 @@ mod faults;
 mod history_line;
 mod job;
 mod reader;
+mod registers;
+mod scope;
 mod text;
 
 pub use faults::{FaultKind, JobError, JobFault};

@@ -1,11 +1,11 @@
 //! The reader of jobs, line by line.
 
-ghost use Rattle.std.specs.Prelude.{◌≡◌, ◌++◌, ◌∷◌, [], ◌<◌, ◌≤◌, ◌+◌, ◌^◌, length, IfOk, IfErr, IfSome, IfNone, min, Bool, true, codes, nat_le, List as ListOf, ℕ};
+ghost use Rattle.std.specs.Prelude.{◌≡◌, ◌++◌, ◌∷◌, [], ◌<◌, ◌≤◌, ◌+◌, ◌^◌, length, IfOk, IfErr, IfSome, IfNone, min, Bool, true, codes, nat_le, ◌&&◌, List as ListOf, ℕ};
 ghost use Rattle.std.specs.Str.Parse.{digits_value};
 ghost use Rattle.job_text.specs.Text.{is_number, IsNumber};
 ghost use Rattle.job_text.specs.Grammar.{IsJobText};
 ghost use Rattle.job_text.specs.Faults.{HasFault, number_fault, is_session};
-ghost use Rattle.job_text.specs.Readings.{OneJob, OneFault, JobOrFault};
+ghost use Rattle.job_text.specs.Readings.{EachHasOne, OneJob, OneFault, JobOrFault};
 ghost use Rattle.job_text.specs.Drafts.{Adds, LineStop, EndStop, IsSmall};
 ghost use Rattle.job_text.specs.declared.faults.FaultKind.{FaultKind as Kind};
 ghost use Rattle.job_text.specs.declared.faults.FaultKind.TheVariants as kinds;
@@ -19,6 +19,8 @@ use edge_bits::List;
 use std::alloc::Global;
 
 const MAX_VARS: u32 = 1024;
+
+const MAX_LIMIT: u32 = 8_388_607;
 
 const DEFAULT_LIMIT: u32 = 262_144;
 
@@ -54,6 +56,22 @@ fn vars_line(words: &[List<u8>]) -> Result<u32, FaultKind>
     }
 }
 
+/// `limit L`
+fn limit_line(vars: u32, words: &[List<u8>]) -> Result<u32, FaultKind>
+    requires { vars ≤ 1024 }
+    ensures ok { IfOk result (λ limit. (w : ListOf ℕ) × (words.now ≡ codes "limit" ∷ w ∷ []) × IsNumber w limit × (5 + vars ≤ limit) × (limit ≤ 8388607)) }
+    ensures fault { IfErr result (λ kind. number_fault (codes "limit") (λ limit. nat_le (5 + vars) limit && nat_le limit 8388607) kinds.Limit words.now ≡ Some kind) }
+{
+    let Some(limit) = number_line(words, b"limit".as_slice()) else {
+        return Err(FaultKind::Word);
+    };
+    if 5 + vars <= limit && limit <= MAX_LIMIT {
+        Ok(limit)
+    } else {
+        Err(FaultKind::Limit)
+    }
+}
+
 /// `session`
 fn session_line(words: &[List<u8>]) -> bool
     ensures { result ≡ is_session words.now }
@@ -75,41 +93,67 @@ fn with_line(alloc: Global, draft: Draft, words: List<List<u8>>) -> Result<Draft
     }
     match draft {
         Draft::Nothing => match vars_line(words.as_slice()) {
-            Ok(n) => Ok(Draft::Sized(n)),
+            Ok(vars) => Ok(Draft::Sized { vars, limit: None }),
             Err(kind) => Err(Stop::Fault(kind)),
         },
-        Draft::Sized(n) => sized_line(alloc, n, words.as_slice()),
-        Draft::Begun(section) => begun_line(alloc, section, words),
+        Draft::Sized { vars, limit } => sized_line(alloc, vars, limit, words.as_slice()),
+        Draft::Begun { limit, section } => begun_line(alloc, limit, section, words),
     }
 }
 
 /// A line between `vars` and the first `session`.
-fn sized_line(alloc: Global, n: u32, words: &[List<u8>]) -> Result<Draft, Stop>
-    requires { 0 < length words.now }
-    ensures ok { IfOk result (λ next. Adds (Draft.Sized n) words.now next) }
-    ensures stop { IfErr result (λ stop. LineStop (Draft.Sized n) words.now stop) }
+fn sized_line(
+    alloc: Global,
+    vars: u32,
+    limit: Option<u32>,
+    words: &[List<u8>],
+) -> Result<Draft, Stop>
+    requires some { 0 < length words.now }
+    requires vars { vars ≤ 1024 }
+    ensures ok { IfOk result (λ next. Adds (Draft.Sized vars limit) words.now next) }
+    ensures stop { IfErr result (λ stop. LineStop (Draft.Sized vars limit) words.now stop) }
 {
     if session_line(words) {
-        return Ok(Draft::Begun(Section::new(alloc, n)));
+        let limit = limit.unwrap_or(DEFAULT_LIMIT);
+        return Ok(Draft::Begun {
+            limit,
+            section: Section::new(alloc, vars),
+        });
     }
-    Err(Stop::Fault(FaultKind::Word))
+    if limit.is_some() {
+        return Err(Stop::Fault(FaultKind::Word));
+    }
+    match limit_line(vars, words) {
+        Ok(limit) => Ok(Draft::Sized {
+            vars,
+            limit: Some(limit),
+        }),
+        Err(kind) => Err(Stop::Fault(kind)),
+    }
 }
 
 /// A line of a section.
-fn begun_line(alloc: Global, section: Section, words: List<List<u8>>) -> Result<Draft, Stop>
+fn begun_line(
+    alloc: Global,
+    limit: u32,
+    section: Section,
+    words: List<List<u8>>,
+) -> Result<Draft, Stop>
     requires some { 0 < length words }
     requires vars { section.scope.vars ≤ 1024 }
     requires registers { length section.scope.registers ≤ 67108864 }
-    ensures ok { IfOk result (λ next. Adds (Draft.Begun section) words next) }
-    ensures stop { IfErr result (λ stop. LineStop (Draft.Begun section) words stop) }
+    ensures ok { IfOk result (λ next. Adds (Draft.Begun limit section) words next) }
+    ensures stop { IfErr result (λ stop. LineStop (Draft.Begun limit section) words stop) }
 {
     if session_line(words.as_slice()) {
         return Err(Stop::Fault(FaultKind::Limit));
     }
-    Ok(Draft::Begun(section.with_command(alloc, words)?))
+    let section = section.with_command(alloc, words)?;
+    Ok(Draft::Begun { limit, section })
 }
 
-/// The job of a text, or the first fault of its first faulty line.
+/// The job of a text of at most 67,108,864 bytes, or its first faulty line and the first fault on it.
+/// Want of memory may be the answer to any text.
 pub fn parse(alloc: Global, text: &[u8]) -> Result<Job, JobError>
     requires { length text.now ≤ 67108864 }
     ensures job { IfOk result (λ job. IsJobText text.now job) }
@@ -143,12 +187,12 @@ pub fn parse(alloc: Global, text: &[u8]) -> Result<Job, JobError>
 /// The job, where a section has begun.
 fn finish(alloc: Global, draft: Draft, lines: u64) -> Result<Job, JobError>
     requires { lines < 2 ^ 32 }
-    ensures job { IfOk result (λ job. (section : SectionOf) × (draft ≡ Draft.Begun section)
-        × (job ≡ record { vars = section.scope.vars; elements = 0; limit = 262144; sections = section.commands ∷ [] })) }
+    ensures job { IfOk result (λ job. (limit : ℕ) × (section : SectionOf) × (draft ≡ Draft.Begun limit section)
+        × (job ≡ record { vars = section.scope.vars; elements = 0; limit = limit; sections = section.commands ∷ [] })) }
     ensures fault { IfErr result (λ error. EndStop draft lines error) }
 {
     match draft {
-        Draft::Begun(section) => {
+        Draft::Begun { limit, section } => {
             let Section { scope, commands } = section;
             let mut sections = List::new(alloc);
             if sections.push(commands).is_err() {
@@ -157,7 +201,7 @@ fn finish(alloc: Global, draft: Draft, lines: u64) -> Result<Job, JobError>
             Ok(Job {
                 vars: scope.vars,
                 elements: 0,
-                limit: DEFAULT_LIMIT,
+                limit,
                 sections,
             })
         }
@@ -168,8 +212,9 @@ fn finish(alloc: Global, draft: Draft, lines: u64) -> Result<Job, JobError>
     }
 }
 
-/// No text is that of two jobs, none has two faults, and none is that of a job and has a fault.
+/// Each text, of any length, is that of one job or has one fault, and not both.
 pub fn texts_have_one_reading()
+    ensures each_has_one { EachHasOne }
     ensures one_job { OneJob }
     ensures one_fault { OneFault }
     ensures job_or_fault { JobOrFault }

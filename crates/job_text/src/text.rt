@@ -1,9 +1,10 @@
 //! Lines and words.
 
-ghost use Rattle.std.specs.Prelude.{◌≡◌, ◌∷◌, ◌<◌, ◌≤◌, ◌^◌, ◌-◌, min, length, IfOk, IfSome, IfNone, Some, None, true, false, position, map, filter, not, is_some, ◌==◌};
+ghost use Rattle.std.specs.Prelude.{◌≡◌, ◌∷◌, ◌<◌, ◌≤◌, ◌^◌, ◌-◌, min, length, IfOk, MatchOption, ◌||◌, IfSome, IfNone, Some, None, true, false, position, map, filter, not, is_some, ◌==◌};
 ghost use Rattle.std.specs.List.{list_all, before_first, position_or_len, slice_split};
 ghost use Rattle.std.specs.Str.Parse.{digits_value};
-ghost use Rattle.job_text.specs.Text.{lines_of, words_of, line_words, is_allowed, is_separator, is_number, is_name, is_letter, is_name_byte};
+ghost use Rattle.job_text.specs.Faults.{is_bits, bits_in};
+ghost use Rattle.job_text.specs.Text.{bit_word, lines_of, words_of, line_words, is_allowed, is_separator, is_number, is_name, is_letter, is_name_byte};
 ghost use Rattle.std.specs.Char.{is_ascii_digit};
 
 use edge_bits::List;
@@ -147,4 +148,27 @@ pub fn number_value(word: &[u8]) -> u32
         value = (value * 10 + u64::from(b.saturating_sub(b'0'))).min(u64::from(MOST));
     }
     value as u32
+}
+
+/// The word's bits, where it is a 0-1 word.
+pub fn bits_of(alloc: Global, word: &[u8]) -> Result<Option<List<bool>>, AllocError>
+    ensures { IfOk result (λ found. MatchOption found (is_bits word.now ≡ false) (λ bits. (is_bits word.now ≡ true) × (word.now ≡ bit_word bits) × (length bits ≡ bits_in word.now))) }
+{
+    if word == b"none".as_slice() {
+        return Ok(Some(List::new(alloc)));
+    }
+    if word.is_empty() || !all_bits(word) {
+        return Ok(None);
+    }
+    let mut bits = List::new(alloc);
+    for b in word {
+        bits.push(*b == b'1')?;
+    }
+    Ok(Some(bits))
+}
+
+fn all_bits(word: &[u8]) -> bool
+    ensures { result ≡ list_all (λ b. b == 48 || b == 49) word.now }
+{
+    word.iter().all(|b| *b == b'0' || *b == b'1')
 }

@@ -1,23 +1,25 @@
 -- The drops at the end of a session.
-use Rattle.std.proofs.Common.{◌≡◌, ◌≢◌, ℕ, zero, suc, ◌+◌, ◌<◌, ◌≤◌, ◌⊎◌, ⊎_elim, Bool, true, false, not, cond, ◌&&◌, ◌||◌, List, [], ◌∷◌, ◌++◌, length, map, take, Option, Some, None, refl, sym, ap, ap₂, ◌∙◌, subst, arith, zero-add, codes, append_assoc, get_or}
-use Rattle.std.proofs.Math.ListN.{set, length-set}
-use Rattle.std.specs.Prelude.{◌==◌, slice_get, slice_index, filter, if◌then◌else◌, option_map}
+use Rattle.std.proofs.Common.{◌≡◌, ◌≢◌, ℕ, zero, suc, ◌+◌, ◌<◌, ◌≤◌, Bool, true, false, not, ◌&&◌, List, [], ◌∷◌, ◌++◌, length, map, take, Option, Some, None, refl, sym, ap, ap₂, ◌∙◌, subst, arith, zero-add, codes, append_assoc}
+use Rattle.std.proofs.Math.ListN.{set}
+use Rattle.std.specs.Prelude.{slice_get, slice_index, filter, if◌then◌else◌, option_map}
 use Rattle.std.specs.List.{list_any, range_with_len}
 use Rattle.std.proofs.lemmas.Bool.{false≢true}
 use Rattle.std.proofs.lemmas.List.{append-nil, length-map, map-append, take_all}
 use Rattle.std.proofs.lemmas.List.FromFn.{length-map-range_with_len, get_or-map-range_with_len}
-use Rattle.std.proofs.lemmas.Option.{slice_get_within, slice_get-map, slice_get-get_or}
+use Rattle.std.proofs.lemmas.Option.{slice_get-map, slice_get-get_or}
 use Rattle.function_laws.specs.declared.history.Name.{Name}
 use Rattle.function_laws.specs.declared.history.Call.{Call}
 use Rattle.job_text.specs.declared.job.Act.{Act}
 use Rattle.job_text.specs.declared.job.Act.TheVariants.{Drop}
 use Rattle.job_text.specs.declared.job.Command.{Command}
 use Rattle.job_text.specs.Text.{Word}
-use Rattle.job_text.specs.Histories.{Held, HistoryLine, drop_of, drops, left_of, line_text, registers_of, stops}
+use Rattle.job_text.specs.Histories.{Held, HistoryLine, drop_of, drops, line_text, registers_of, stops}
 use Rattle.net_jobs.specs.declared.playing.Answer.{Answer}
 use Rattle.net_jobs.specs.declared.playing.Progress.{Progress}
-use Rattle.net_jobs.specs.Agreement.{Has, Rows, is_dropped, is_gone, name_of}
-use Rattle.net_jobs.specs.Playing.{CanCall, DropsOne, DropsTheRest, IsAnswered, IsHeld, RowsAfter, Stands, StandsAt, assigned_after, call_with, makes, register_at, rows_left, spoken, target_at}
+use Rattle.node_slots.specs.Stores.{plain_view}
+use Rattle.node_slots.specs.Views.{View}
+use Rattle.net_jobs.specs.Agreement.{AreStored, Rows, is_dropped, is_gone, name_of}
+use Rattle.net_jobs.specs.Playing.{CanCall, DropsOne, DropsTheRest, IsAnswered, IsHeld, RowsAfter, StandsAt, assigned_after, call_with, makes, register_at, rows_left, spoken, target_at}
 use Rattle.net_jobs.proofs.ListLemmas.{slice_get-set_other}
 use Rattle.net_jobs.proofs.StandsLemmas.{said_line, stands-after, stands-along}
 
@@ -38,29 +40,32 @@ held_at (Some f ∷ rows) zero below kept = (f, refl)
 held_at (row ∷ rows) (suc i) below kept = held_at rows i (omega arith) kept
 
 -- a drop makes no row
-made_none : (n : ℕ) (old new : Rows) (act : Act) (answer : Answer) (row : ℕ) → act ≡ Drop row → IsAnswered n old new act answer → answer.made ≡ false
-made_none n old new act answer row is answered = answered.made_if ∙ ap (λ a. makes a && not (stops answer.reply)) is
+made_none : (w w' : View) (old new : Rows) (act : Act) (answer : Answer) (row : ℕ) → act ≡ Drop row → IsAnswered w old w' new act answer → answer.made ≡ false
+made_none w w' old new act answer row is answered = answered.made_if ∙ ap (λ a. makes a && not (stops answer.reply)) is
 
-pub rows_dropped : (n : ℕ) (old new : Rows) (act : Act) (answer : Answer) (row : ℕ) → act ≡ Drop row → IsAnswered n old new act answer → new ≡ set old row None
-rows_dropped n old new act answer row is answered =
-    (subst (λ m. RowsAfter m old new act answered.reply) (made_none n old new act answer row is answered) answered.rows).1 ∙ ap (rows_left old) is
+pub rows_dropped : (w w' : View) (old new : Rows) (act : Act) (answer : Answer) (row : ℕ) → act ≡ Drop row → IsAnswered w old w' new act answer → new ≡ set old row None
+rows_dropped w w' old new act answer row is answered =
+    (subst (λ m. RowsAfter m old new act answered.reply) (made_none w w' old new act answer row is answered) answered.rows).1 ∙ ap (rows_left old) is
 
 pub others_kept : (old new : Rows) (row other : ℕ) → new ≡ set old row None → other ≢ row → is_dropped new other ≡ is_dropped old other
 others_kept old new row other is apart = ap (λ rows. is_dropped rows other) is ∙ ap is_gone (slice_get-set_other old None row other apart)
 
 -- a row that was not dropped says its drop
 pub drops_one : (commands : List Command) (old new : Progress) (said : List HistoryLine) (row : ℕ) (words : List Word) (act : Act) (answer : Answer)
-    → StandsAt commands old said → IsAnswered old.session.vars old.session.rows.items new.session.rows.items act answer → CanCall old.session.vars old.session.rows.items act
+    → StandsAt commands old said → IsAnswered (plain_view old.session.store) old.session.rows.items (plain_view new.session.store) new.session.rows.items act answer
+    → CanCall (plain_view old.session.store).vars old.session.rows.items act
     → act ≡ Drop row → words ≡ codes "drop" ∷ target_at commands (slice_index old.assigned.items row) ∷ [] → is_dropped old.session.rows.items row ≡ false
-    → new.session.vars ≡ old.session.vars → new.assigned.items ≡ old.assigned.items → new.text.items ≡ old.text.items ++ line_text old.place 0 words answer.reply
+    → new.assigned.items ≡ old.assigned.items → new.text.items ≡ old.text.items ++ line_text old.place 0 words answer.reply
     → new.place ≡ old.place + 1 → DropsOne commands old new said row
-drops_one commands old new said row words act answer stands answered can is words_are kept vars assigned text place =
-    let made = made_none old.session.vars old.session.rows.items new.session.rows.items act answer row is answered in
+drops_one commands old new said row words act answer stands answered can is words_are kept assigned text place =
+    let w = plain_view old.session.store in
+    let w' = plain_view new.session.store in
+    let made = made_none w w' old.session.rows.items new.session.rows.items act answer row is answered in
     record {
-      lines = said_line old.session.vars commands old.session.rows.items new.session.rows.items old.assigned.items old.text.items old.place 0 said words act answer stands answered can ∷ [];
-      stands = stands-along old.session.vars new.session.vars commands new.session.rows.items (assigned_after answer.made old.assigned.items 0) new.assigned.items new.text.items new.place _
-          vars (assigned ∙ sym (ap (λ m. assigned_after m old.assigned.items 0) made))
-          (stands-after old.session.vars commands old.session.rows.items new.session.rows.items old.assigned.items old.text.items old.place 0 said words act answer stands answered can
+      lines = said_line w w' commands old.session.rows.items new.session.rows.items old.assigned.items old.text.items old.place 0 said words act answer stands answered can ∷ [];
+      stands = stands-along w' commands new.session.rows.items (assigned_after answer.made old.assigned.items 0) new.assigned.items new.text.items new.place _
+          (assigned ∙ sym (ap (λ m. assigned_after m old.assigned.items 0) made))
+          (stands-after w w' commands old.session.rows.items new.session.rows.items old.assigned.items old.text.items old.place 0 said words act answer stands answered can
           new.text.items new.place (λ true_made. absurd (false≢true (sym made ∙ true_made))) text place);
       drops_it = ap₂ (λ (w : List Word) (c : Call). (w, c) ∷ []) words_are (ap call_with is)
           ∙ sym (ap (λ b. if b then [] else drop_of (register_at commands old.assigned.items row) ∷ []) kept);
@@ -85,7 +90,8 @@ pub record DropsUpTo (commands : List Command) (start play : Progress) (row : �
   pub others : (other : ℕ) → row ≤ other → is_dropped play.session.rows.items other ≡ is_dropped start.session.rows.items other
   pub assigned : play.assigned.items ≡ start.assigned.items
   pub rows : length play.session.rows.items ≡ length start.session.rows.items
-  pub vars : play.session.vars ≡ start.session.vars
+  pub vars : (plain_view play.session.store).vars ≡ (plain_view start.session.store).vars
+  pub stored : AreStored (plain_view play.session.store) play.session.rows.items
   pub place : play.place ≤ start.place + row
 
 register_from : (o : Option Held) (word : Word) (name : Name) → option_map (λ register. register.word) o ≡ Some word → option_map (λ register. register.name) o ≡ Some name
@@ -139,9 +145,10 @@ said_if false left register is = sym (ap (λ b. map drop_of (if b then register 
 pub next_drop : (commands : List Command) (start old new : Progress) (row : ℕ) → DropsUpTo commands start old row → row < length start.session.rows.items
     → ((said : List HistoryLine) → StandsAt commands old said → DropsOne commands old new said row)
     → ((other : ℕ) → other ≢ row → is_dropped new.session.rows.items other ≡ is_dropped old.session.rows.items other)
-    → new.assigned.items ≡ old.assigned.items → length new.session.rows.items ≡ length old.session.rows.items → new.session.vars ≡ old.session.vars → new.place ≤ old.place + 1
+    → new.assigned.items ≡ old.assigned.items → length new.session.rows.items ≡ length old.session.rows.items → (plain_view new.session.store).vars ≡ (plain_view old.session.store).vars
+    → AreStored (plain_view new.session.store) new.session.rows.items → new.place ≤ old.place + 1
     → DropsUpTo commands start new (row + 1)
-next_drop commands start old new row up below one others assigned rows vars place = record {
+next_drop commands start old new row up below one others assigned rows vars stored place = record {
   lines = λ said stands.
       let before = up.lines said stands in
       let next = one (said ++ before.0) before.1 in
@@ -164,16 +171,18 @@ next_drop commands start old new row up below one others assigned rows vars plac
   assigned = assigned ∙ up.assigned;
   rows = rows ∙ up.rows;
   vars = vars ∙ up.vars;
+  stored = stored;
   place = omega (arith, up.place, place);
 }
 
-pub first_drop : (commands : List Command) (start : Progress) → DropsUpTo commands start start 0
-first_drop commands start = record {
+pub first_drop : (commands : List Command) (start : Progress) → AreStored (plain_view start.session.store) start.session.rows.items → DropsUpTo commands start start 0
+first_drop commands start stored = record {
   lines = λ said stands. ([], subst (λ lines. StandsAt commands start lines) (sym (append-nil said)) stands, refl);
   others = λ other from. refl;
   assigned = refl;
   rows = refl;
   vars = refl;
+  stored = stored;
   place = omega arith;
 }
 

@@ -1,27 +1,30 @@
 -- A whole play.
-use Rattle.std.proofs.Common.{◌≡◌, ◌≢◌, ℕ, zero, suc, ◌+◌, ◌<◌, ◌≤◌, Bool, true, false, cond, List, [], ◌∷◌, ◌++◌, length, map, Option, Some, None, refl, sym, ap, ap₂, ◌∙◌, subst, arith, zero-add}
+use Rattle.std.proofs.Common.{◌≡◌, ℕ, zero, suc, ◌+◌, cond, List, [], ◌∷◌, ◌++◌, length, map, Some, refl, sym, ap, ap₂, ◌∙◌, subst, arith}
 use Rattle.std.specs.Prelude.{◌==◌, All, filter, slice_get}
-use Rattle.std.specs.List.{flat_map, list_any, range_with_len}
+use Rattle.std.specs.List.{range_with_len}
 use Rattle.std.proofs.lemmas.Bool.{eq-eqb}
 use Rattle.std.proofs.lemmas.List.{length-map}
 use Rattle.std.proofs.lemmas.List.Elements.{All-nil}
 use Rattle.std.proofs.lemmas.List.FromFn.{length-map-range_with_len}
 use Rattle.std.proofs.lemmas.Option.{slice_get_within}
-use Rattle.function_laws.specs.Tables.{Sizes, opening}
+use Rattle.function_laws.specs.Tables.{Sizes}
 use Rattle.function_laws.specs.Histories.{IsLegal}
 use Rattle.job_text.specs.declared.job.Command.{Command}
 use Rattle.job_text.specs.declared.job.Job.{Job}
-use Rattle.job_text.specs.Grammar.{IsJob}
-use Rattle.job_text.specs.Histories.{Held, HistoryLine, IsHistory, IsPlayed, IsSession, left_text, registers_of, sizes_of, text_of, told_of}
+use Rattle.job_text.specs.Grammar.{CommandsSay, IsJob}
+use Rattle.job_text.specs.Histories.{Held, HistoryLine, IsHistory, IsPlayed, IsSession, left_text, registers_of, sizes_of, told_of}
 use Rattle.net_jobs.specs.declared.playing.Progress.{Progress}
-use Rattle.net_jobs.specs.Agreement.{Agrees, name_of, sizes_for}
+use Rattle.node_slots.specs.Stores.{plain_view}
+use Rattle.node_slots.specs.Views.{View}
+use Rattle.net_jobs.specs.Agreement.{name_of, sizes_for}
 use Rattle.net_jobs.specs.Playing.{DropsTheRest, SaysThrough, Stands, StandsAt}
 
 -- at the beginning nothing was said
-pub stands_first : (n : ℕ) (commands : List Command) → Stands n commands [] [] [] 0 []
-stands_first n commands = record {
+pub stands_first : (w : View) (commands : List Command) → Stands w commands [] [] [] 0 []
+stands_first w commands = record {
   legal = tt;
-  agrees = record { sizes_are = refl; live = λ row f has. cc; not_given = λ row from. refl };
+  agrees = record { sizes_are = refl; live = λ row e has. cc; not_given = λ row from. refl };
+  stored = λ row e has. cc;
   told = All-nil (λ line. told_of line.entry.reply ≡ Some line.reply);
   alone = All-nil (λ line. line.entry.session ≡ 0);
   words = refl;
@@ -48,8 +51,19 @@ all_kept (line ∷ lines) alone =
     ap (λ b. cond b (line ∷ filter (λ line. line.entry.session == 0) lines) (filter (λ line. line.entry.session == 0) lines)) (eq-eqb line.entry.session 0 (alone 0 line (omega arith)))
     ∙ ap (λ xs. line ∷ xs) (all_kept lines (λ k d below. alone (suc k) d (omega arith)))
 
+-- the one session's commands are those of the grammar
+first_says : (n : ℕ) (sections : List (List Command)) (commands : List Command) → All (CommandsSay n []) sections → slice_get sections 0 ≡ Some commands → CommandsSay n [] commands
+first_says n [] commands all is = cc
+first_says n (first ∷ sections) commands all is = subst (λ (cs : List Command). CommandsSay n [] cs) (same is) (all 0 first (omega arith))
+  where
+    same : Some first ≡ Some commands → first ≡ commands
+    same e = cc
+
+pub commands_say : (job : Job) (n : ℕ) (commands : List Command) → IsJob job → n ≡ job.vars → slice_get job.sections 0 ≡ Some commands → CommandsSay n [] commands
+commands_say job n commands is_job vars section = subst (λ m. CommandsSay m [] commands) (sym vars) (first_says job.vars job.sections commands is_job.commands section)
+
 module _ (job : Job) (commands : List Command) (mid end : Progress) (is_job : IsJob job) (section : slice_get job.sections 0 ≡ Some commands)
-    (vars : mid.session.vars ≡ job.vars) (same_vars : end.session.vars ≡ mid.session.vars)
+    (vars : (plain_view mid.session.store).vars ≡ job.vars) (same_vars : (plain_view end.session.store).vars ≡ (plain_view mid.session.store).vars)
     (says : (said : List HistoryLine) × StandsAt commands mid said × SaysThrough commands said)
     (drops_rest : (said : List HistoryLine) → StandsAt commands mid said → DropsTheRest commands end said) where
   abbrev said : List HistoryLine
@@ -71,7 +85,7 @@ module _ (job : Job) (commands : List Command) (mid end : Progress) (is_job : Is
     drops_the_rest = rest.rest;
   }
 
-  sizes_are : sizes_of job ≡ sizes_for end.session.vars
+  sizes_are : sizes_of job ≡ sizes_for (plain_view end.session.store).vars
   sizes_are = ap₂ sizes (sym (same_vars ∙ vars)) is_job.no_elements
     where
       sizes : ℕ → ℕ → Sizes

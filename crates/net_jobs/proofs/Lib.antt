@@ -7,3 +7,4 @@ pub mod PlayLemmas
 pub mod SessionLemmas
 pub mod SizeLemmas
 pub mod StandsLemmas
+pub mod WalkingLemmas

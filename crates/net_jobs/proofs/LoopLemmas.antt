@@ -1,11 +1,11 @@
 -- The loop over the commands of a session.
-use Rattle.std.proofs.Common.{◌≡◌, ◌≢◌, ℕ, zero, suc, ◌+◌, ◌-◌, ◌<◌, ◌≤◌, ◌⊎◌, ⊎_elim, Bool, true, false, not, cond, ◌&&◌, ◌||◌, List, [], ◌∷◌, ◌++◌, length, map, take, drop, Option, Some, None, IfSome, refl, sym, ap, ap₂, ◌∙◌, subst, arith, zero-add, codes, drop-cons, get_or}
+use Rattle.std.proofs.Common.{◌≡◌, ◌≢◌, ℕ, zero, suc, ◌+◌, ◌-◌, ◌<◌, ◌≤◌, ⊎_elim, Bool, true, false, not, cond, ◌&&◌, ◌||◌, List, [], ◌∷◌, ◌++◌, length, map, take, drop, Option, Some, None, refl, sym, ap, ap₂, ◌∙◌, subst, arith, zero-add, codes}
 use Rattle.std.proofs.Math.ListN.{set, length-set}
-use Rattle.std.specs.Prelude.{◌==◌, slice_get, option_map}
+use Rattle.std.specs.Prelude.{slice_get, option_map}
 use Rattle.std.specs.Str.{bytes_eq}
 use Rattle.std.specs.List.{cons_option, list_any, list_all, range_with_len}
 use Rattle.std.proofs.lemmas.Bool.{false≢true}
-use Rattle.std.proofs.lemmas.List.{append-nil, length_push, length-map}
+use Rattle.std.proofs.lemmas.List.{length_push, length-map}
 use Rattle.std.proofs.lemmas.List.FromFn.{get_or-map-range_with_len, length-map-range_with_len}
 use Rattle.std.proofs.lemmas.List.Elements.{filter_map-append}
 use Rattle.std.proofs.lemmas.List.Folds.{list_any-append}
@@ -14,30 +14,39 @@ use Rattle.std.proofs.lemmas.Slice.Eq.{bytes_eq-Decides}
 use Rattle.function_laws.specs.declared.history.Name.{Name}
 use Rattle.function_laws.specs.declared.history.Call.{Call}
 use Rattle.job_text.specs.declared.job.Act.{Act}
-use Rattle.job_text.specs.declared.job.Act.TheVariants.{Var, And, Drop, Eval}
+use Rattle.job_text.specs.declared.job.Act.TheVariants.{One, Zero, Var, Not, And, Or, Ite, Drop, Same, Eval}
 use Rattle.job_text.specs.declared.job.Command.{Command}
 use Rattle.job_text.specs.declared.job.Register.{Register}
 use Rattle.job_text.specs.Text.{Word, is_name}
-use Rattle.job_text.specs.Grammar.{CommandsSay, Refers, Says, is_assignment, is_drop, registers_after, target_of, without}
-use Rattle.job_text.specs.Histories.{Calls, Held, HistoryLine, IsNamed, SayInOrder, given_by, held_as, held_by, registers_of, stops}
+use Rattle.job_text.specs.Grammar.{CommandsSay, Says, registers_after, without}
+use Rattle.job_text.specs.Histories.{Calls, Held, HistoryLine, IsNamed, SayInOrder, held_by, registers_of, stops}
 use Rattle.net_jobs.specs.declared.playing.Progress.{Progress}
-use Rattle.net_jobs.specs.Agreement.{Has, Rows, name_of}
-use Rattle.net_jobs.specs.Playing.{CanCall, Covers, GrowsOrLeft, IsHeld, RowsGoOn, SaysOne, SaysThrough, Stands, StandsAt, call_with, makes, rows_left}
+use Rattle.edge_bits.specs.declared.edges.Edge.{Edge}
+use Rattle.node_slots.specs.Stores.{plain_view}
+use Rattle.node_slots.specs.Views.{View}
+use Rattle.net_jobs.specs.Agreement.{Rows, name_of}
+use Rattle.net_jobs.specs.Playing.{CanCall, Covers, GrowsOrLeft, IsHeld, RowsGoOn, SaysOne, SaysThrough, Stands, StandsAt, call_with, makes}
 use Rattle.net_jobs.proofs.PlayLemmas.{grown_length}
 use Rattle.net_jobs.proofs.ListLemmas.{slice_get-push, slice_get-push_new, slice_get-push_old, slice_get-set_other}
 
 -- what a command says lets it be called
 pub can_call : (n : ℕ) (registers : List Register) (rows : Rows) (words : List Word) (act : Act) → Says n registers words act → Covers registers rows → CanCall n rows act
+can_call n registers rows words One says covers = tt
+can_call n registers rows words Zero says covers = tt
 can_call n registers rows words (Var v) says covers = says.5
+can_call n registers rows words (Not a) says covers = covers.held a says.1 says.4.1
 can_call n registers rows words (And a b) says covers = (covers.held a says.1 says.5.1, covers.held b says.2 says.6.1)
+can_call n registers rows words (Or a b) says covers = (covers.held a says.1 says.5.1, covers.held b says.2 says.6.1)
+can_call n registers rows words (Ite a b c) says covers = (covers.held a says.1 says.6.1, covers.held b says.2 says.7.1, covers.held c says.3 says.8.1)
 can_call n registers rows words (Drop a) says covers = covers.held a says.0 says.2.1
+can_call n registers rows words (Same a b) says covers = (covers.held a says.0 says.3.1, covers.held b says.1 says.4.1)
 can_call n registers rows words (Eval a bits) says covers = (covers.held a says.0 says.2.1, says.3)
 
 -- a row that was held is held among more rows
-held-push : (rows : Rows) (f : List Bool) (a : ℕ) → IsHeld rows a → IsHeld (rows ++ Some f ∷ []) a
+held-push : (rows : Rows) (f : Edge) (a : ℕ) → IsHeld rows a → IsHeld (rows ++ Some f ∷ []) a
 held-push rows f a held = (held.0, slice_get-push_old rows (Some f) a (slice_get_within rows a (Some held.0) held.1) ∙ held.1)
 
-covers-push : (registers : List Register) (rows : Rows) (register : Register) (f : List Bool) → Covers registers rows
+covers-push : (registers : List Register) (rows : Rows) (register : Register) (f : Edge) → Covers registers rows
     → Covers (registers ++ register ∷ []) (rows ++ Some f ∷ [])
 covers-push registers rows register f covers = record {
   as_many = length_push registers register ∙ ap (λ k. k + 1) covers.as_many ∙ sym (length_push rows (Some f));
@@ -100,15 +109,33 @@ not_equals x is = by_test (bytes_eq x (codes "=")) refl
 -- the registers after a command that goes on are rows
 pub covers-after : (n : ℕ) (registers : List Register) (old new : Rows) (words : List Word) (act : Act) → Says n registers words act → Covers registers old
     → GrowsOrLeft (makes act) old new act → Covers (registers_after registers words) new
+covers-after n registers old new words One says covers after =
+    subst (λ rs. Covers rs new) (sym (ap (registers_after registers) says.2))
+    (subst (λ rows. Covers (registers ++ record { name = says.0; live = true } ∷ []) rows) (sym after.1) (covers-push registers old (record { name = says.0; live = true }) after.0 covers))
+covers-after n registers old new words Zero says covers after =
+    subst (λ rs. Covers rs new) (sym (ap (registers_after registers) says.2))
+    (subst (λ rows. Covers (registers ++ record { name = says.0; live = true } ∷ []) rows) (sym after.1) (covers-push registers old (record { name = says.0; live = true }) after.0 covers))
 covers-after n registers old new words (Var v) says covers after =
+    subst (λ rs. Covers rs new) (sym (ap (registers_after registers) says.3))
+    (subst (λ rows. Covers (registers ++ record { name = says.0; live = true } ∷ []) rows) (sym after.1) (covers-push registers old (record { name = says.0; live = true }) after.0 covers))
+covers-after n registers old new words (Not a) says covers after =
     subst (λ rs. Covers rs new) (sym (ap (registers_after registers) says.3))
     (subst (λ rows. Covers (registers ++ record { name = says.0; live = true } ∷ []) rows) (sym after.1) (covers-push registers old (record { name = says.0; live = true }) after.0 covers))
 covers-after n registers old new words (And a b) says covers after =
     subst (λ rs. Covers rs new) (sym (ap (registers_after registers) says.4))
     (subst (λ rows. Covers (registers ++ record { name = says.0; live = true } ∷ []) rows) (sym after.1) (covers-push registers old (record { name = says.0; live = true }) after.0 covers))
+covers-after n registers old new words (Or a b) says covers after =
+    subst (λ rs. Covers rs new) (sym (ap (registers_after registers) says.4))
+    (subst (λ rows. Covers (registers ++ record { name = says.0; live = true } ∷ []) rows) (sym after.1) (covers-push registers old (record { name = says.0; live = true }) after.0 covers))
+covers-after n registers old new words (Ite a b c) says covers after =
+    subst (λ rs. Covers rs new) (sym (ap (registers_after registers) says.5))
+    (subst (λ rows. Covers (registers ++ record { name = says.0; live = true } ∷ []) rows) (sym after.1) (covers-push registers old (record { name = says.0; live = true }) after.0 covers))
 covers-after n registers old new words (Drop a) says covers after =
     subst (λ rs. Covers rs new) (sym (ap (registers_after registers) says.1))
     (subst (λ rows. Covers (map (without says.0) registers) rows) (sym after) (covers-drop registers old says.0 a says.2.1 covers))
+covers-after n registers old new words (Same a b) says covers after =
+    subst (λ rs. Covers rs new) (sym (ap (registers_after registers) says.2 ∙ ap (λ b. cond b (registers ++ record { name = codes "same"; live = true } ∷ []) registers) (not_equals says.0 says.3.0)))
+    (subst (λ rows. Covers registers rows) (sym after) covers)
 covers-after n registers old new words (Eval a bits) says covers after =
     subst (λ rs. Covers rs new) (sym (ap (registers_after registers) says.1 ∙ ap (λ b. cond b (registers ++ record { name = codes "eval"; live = true } ∷ []) registers) (not_equals says.0 says.2.0)))
     (subst (λ rows. Covers registers rows) (sym after) covers)
@@ -123,9 +150,16 @@ named-more registers more a name is = (is.0, slice_get-more registers more a _ i
     slice_get-more (y ∷ xs) ys (suc i) x is = slice_get-more xs ys i x is
 
 calls-more : (registers more : List Held) (act : Act) (call : Call) → Calls registers act call → Calls (registers ++ more) act call
+calls-more registers more One call is = is
+calls-more registers more Zero call is = is
 calls-more registers more (Var v) call is = is
+calls-more registers more (Not a) call is = (is.0, named-more registers more a is.0 is.1, is.2)
 calls-more registers more (And a b) call is = (is.0, is.1, named-more registers more a is.0 is.2, named-more registers more b is.1 is.3, is.4)
+calls-more registers more (Or a b) call is = (is.0, is.1, named-more registers more a is.0 is.2, named-more registers more b is.1 is.3, is.4)
+calls-more registers more (Ite a b c) call is =
+    (is.0, is.1, is.2, named-more registers more a is.0 is.3, named-more registers more b is.1 is.4, named-more registers more c is.2 is.5, is.6)
 calls-more registers more (Drop a) call is = (is.0, named-more registers more a is.0 is.1, is.2)
+calls-more registers more (Same a b) call is = (is.0, is.1, named-more registers more a is.0 is.2, named-more registers more b is.1 is.3, is.4)
 calls-more registers more (Eval a bits) call is = (is.0, named-more registers more a is.0 is.1, is.2)
 
 in_order-more : (registers more : List Held) (lines : List HistoryLine) (commands : List Command) → SayInOrder registers lines commands → SayInOrder (registers ++ more) lines commands
@@ -155,8 +189,8 @@ some_inner (Some register) name is =
     let same : register.name ≡ name = cc in
     (register.word, ap (λ (n : Name). Some (record { word = register.word; name = n })) same)
 
-module _ (n : ℕ) (commands : List Command) (rows : Rows) (assigned text : List ℕ) (place : ℕ) (said : List HistoryLine)
-    (stands : Stands n commands rows assigned text place said) where
+module _ (w : View) (commands : List Command) (rows : Rows) (assigned text : List ℕ) (place : ℕ) (said : List HistoryLine)
+    (stands : Stands w commands rows assigned text place said) where
   -- a row's name is that of its register
   named : (a : ℕ) → IsHeld rows a → IsNamed (registers_of said) a (name_of a)
   named a held =
@@ -167,15 +201,21 @@ module _ (n : ℕ) (commands : List Command) (rows : Rows) (assigned text : List
       some_inner (slice_get (registers_of said) a) (name_of a)
       (sym (slice_get-map (λ register. register.name) (registers_of said) a) ∙ ap (λ xs. slice_get xs a) stands.names ∙ at)
 
-  calls_of : (act : Act) → CanCall n rows act → Calls (registers_of said) act (call_with act)
+  calls_of : (act : Act) → CanCall w.vars rows act → Calls (registers_of said) act (call_with act)
+  calls_of One can = refl
+  calls_of Zero can = refl
   calls_of (Var v) can = refl
+  calls_of (Not a) can = (name_of a, named a can, refl)
   calls_of (And a b) can = (name_of a, name_of b, named a can.0, named b can.1, refl)
+  calls_of (Or a b) can = (name_of a, name_of b, named a can.0, named b can.1, refl)
+  calls_of (Ite a b c) can = (name_of a, name_of b, name_of c, named a can.0, named b can.1, named c can.2, refl)
   calls_of (Drop a) can = (name_of a, named a can, refl)
+  calls_of (Same a b) can = (name_of a, name_of b, named a can.0, named b can.1, refl)
   calls_of (Eval a bits) can = (name_of a, named a can.0, refl)
 
   -- the commands were said in order, with one more
   pub in_order-after : (line : HistoryLine) (command : Command) → SayInOrder (registers_of said) said commands → slice_get commands (length said) ≡ Some command
-      → line.words ≡ command.words → line.entry.call ≡ call_with command.act → CanCall n rows command.act
+      → line.words ≡ command.words → line.entry.call ≡ call_with command.act → CanCall w.vars rows command.act
       → SayInOrder (registers_of (said ++ line ∷ [])) (said ++ line ∷ []) commands
   in_order-after line command says at words call can =
       subst (λ rs. SayInOrder rs (said ++ line ∷ []) commands) (sym (registers-grow said line))
@@ -186,7 +226,7 @@ module _ (n : ℕ) (commands : List Command) (rows : Rows) (assigned text : List
 -- So many commands were said, none of which stopped the session.
 pub record SaysUpTo (commands : List Command) (play : Progress) (i : ℕ) : Type 0 where
   pub registers : List Register
-  pub rest : CommandsSay play.session.vars registers (drop i commands)
+  pub rest : CommandsSay (plain_view play.session.store).vars registers (drop i commands)
   pub covers : Covers registers play.session.rows.items
   pub said : List HistoryLine
   pub stands : StandsAt commands play said
@@ -208,14 +248,14 @@ rest_at n registers (first ∷ commands) (suc i) command is rest =
     (inner.0, subst (λ k. CommandsSay n (registers_after registers command.words) (drop k (first ∷ commands))) (sym next) inner.1)
 
 pub can_at : (commands : List Command) (play : Progress) (i : ℕ) (command : Command) → SaysUpTo commands play i → slice_get commands i ≡ Some command
-    → CanCall play.session.vars play.session.rows.items command.act
+    → CanCall (plain_view play.session.store).vars play.session.rows.items command.act
 can_at commands play i command up is =
-    can_call play.session.vars up.registers play.session.rows.items command.words command.act (rest_at play.session.vars up.registers commands i command is up.rest).0 up.covers
+    can_call (plain_view play.session.store).vars up.registers play.session.rows.items command.words command.act (rest_at (plain_view play.session.store).vars up.registers commands i command is up.rest).0 up.covers
 
 in_order_one : (commands : List Command) (old new : Progress) (i : ℕ) (goes_on : Bool) (command : Command) (up : SaysUpTo commands old i) → slice_get commands i ≡ Some command
     → (one : SaysOne commands command goes_on old new up.said) → SayInOrder (registers_of (up.said ++ one.line ∷ [])) (up.said ++ one.line ∷ []) commands
 in_order_one commands old new i goes_on command up is one =
-    in_order-after old.session.vars commands old.session.rows.items old.assigned.items old.text.items old.place up.said up.stands one.line command up.in_order
+    in_order-after (plain_view old.session.store) commands old.session.rows.items old.assigned.items old.text.items old.place up.said up.stands one.line command up.in_order
     (ap (slice_get commands) up.count ∙ is) one.words_are one.call_is (can_at commands old i command up is)
 
 or_both : (a b : Bool) → a ≡ false → b ≡ false → (a || (b || false)) ≡ false
@@ -224,15 +264,15 @@ or_both false true first second = absurd (false≢true (sym second))
 or_both false false first second = refl
 
 pub next_command : (commands : List Command) (old new : Progress) (i : ℕ) (command : Command) (up : SaysUpTo commands old i) → slice_get commands i ≡ Some command
-    → SaysOne commands command true old new up.said → RowsGoOn true old.session.rows.items new.session.rows.items command.act → new.session.vars ≡ old.session.vars
+    → SaysOne commands command true old new up.said → RowsGoOn true old.session.rows.items new.session.rows.items command.act → (plain_view new.session.store).vars ≡ (plain_view old.session.store).vars
     → SaysUpTo commands new (i + 1)
 next_command commands old new i command up is one rows vars =
-    let rest = rest_at old.session.vars up.registers commands i command is up.rest in
+    let rest = rest_at (plain_view old.session.store).vars up.registers commands i command is up.rest in
     let grown : GrowsOrLeft (makes command.act) old.session.rows.items new.session.rows.items command.act = rows refl in
     record {
       registers = registers_after up.registers command.words;
       rest = subst (λ n. CommandsSay n (registers_after up.registers command.words) (drop (i + 1) commands)) (sym vars) rest.1;
-      covers = covers-after old.session.vars up.registers old.session.rows.items new.session.rows.items command.words command.act rest.0 up.covers grown;
+      covers = covers-after (plain_view old.session.store).vars up.registers old.session.rows.items new.session.rows.items command.words command.act rest.0 up.covers grown;
       said = up.said ++ one.line ∷ [];
       stands = one.stands;
       in_order = in_order_one commands old new i true command up is one;

@@ -1,47 +1,123 @@
 -- What a command is answered.
-use Rattle.std.proofs.Common.{◌≡◌, ℕ, ◌++◌, ◌∷◌, [], Bool, true, false, List, length, Option, Some, None, refl, sym, ap, ◌&&◌, not, ◌+◌, ◌≤◌, ◌∙◌, subst, arith, ℤ}
-use Rattle.std.proofs.Math.ListN.{length-set}
+use Rattle.std.proofs.Common.{Result, Ok, Err, IfOk, IsErrOf, MatchResult, ◌≡◌, ℕ, ◌+◌, ◌≤◌, ◌++◌, ◌∷◌, [], ⊎_elim, Bool, true, false, ◌&&◌, not, List, length, Some, None, refl, sym, ap, ◌∙◌, subst, arith}
+use Rattle.std.proofs.Math.ListN.{set, length-set}
+use Rattle.std.proofs.lemmas.Bool.{false≢true}
 use Rattle.std.proofs.lemmas.List.{length_push}
+use Rattle.edge_bits.specs.declared.edges.Edge.{Edge}
+use Rattle.edge_bits.specs.declared.edges.Kind.TheVariants as kinds
 use Rattle.function_laws.specs.declared.history.Name.{Name}
 use Rattle.function_laws.specs.declared.history.Call.{Call}
 use Rattle.function_laws.specs.declared.history.Reply.{Reply as LawReply}
-use Rattle.function_laws.specs.declared.history.Reply.TheVariants.{Made, Value, Done}
+use Rattle.function_laws.specs.declared.history.Reply.TheVariants.{Made, Full}
+use Rattle.job_text.specs.declared.history_line.Reply.{Reply}
 use Rattle.job_text.specs.declared.history_line.Reply.TheVariants as reply
 use Rattle.job_text.specs.declared.job.Act.{Act}
-use Rattle.job_text.specs.declared.job.Act.TheVariants.{Var, And, Drop, Eval}
-use Rattle.job_text.specs.Histories.{stops}
+use Rattle.job_text.specs.declared.job.Act.TheVariants.{One, Zero, Var, Not, And, Or, Ite, Drop, Same, Eval}
+use Rattle.job_text.specs.Histories.{given_by, stops, told_of}
+use Rattle.edge_bits.specs.declared.lists.Memory.{Memory}
+use Rattle.node_store.specs.declared.grow.Stop.{Stop}
+use Rattle.node_store.specs.declared.grow.Stop.TheVariants as stop
+use Rattle.node_slots.specs.Views.{View, Grown, Is}
 use Rattle.net_jobs.specs.declared.playing.Answer.{Answer}
-use Rattle.net_jobs.specs.Agreement.{Adds, IsStepOf, Rows}
+use Rattle.net_jobs.specs.Agreement.{Adds, AreStored, IsStepOf, Refuses, Rows}
 use Rattle.net_jobs.specs.Playing.{GrowsOrLeft, IsAnswered, RowsAfter, RowsGoOn, call_with, makes, rows_left}
+use Rattle.net_jobs.proofs.ListLemmas.{slice_get-push, slice_get-set}
+use Rattle.net_jobs.proofs.SessionLemmas.{stored-grown}
 
-pub answered-made : (n : ℕ) (old new : Rows) (act : Act) (call : Call) (name : Name) → call_with act ≡ call → makes act ≡ true → Adds n old new call name
-    → IsAnswered n old new act (record { reply = reply.Done; made = true })
-answered-made n old new act call name is made adds = record {
+and_none : (b : Bool) → (b && false) ≡ false
+and_none true = refl
+and_none false = refl
+
+-- a command that makes a row drops none
+left_if_makes : (rows : Rows) (act : Act) → makes act ≡ true → rows_left rows act ≡ rows
+left_if_makes rows One made = refl
+left_if_makes rows Zero made = refl
+left_if_makes rows (Var v) made = refl
+left_if_makes rows (Not a) made = refl
+left_if_makes rows (And a b) made = refl
+left_if_makes rows (Or a b) made = refl
+left_if_makes rows (Ite a b c) made = refl
+left_if_makes rows (Drop a) made = cc
+left_if_makes rows (Same a b) made = refl
+left_if_makes rows (Eval a bits) made = refl
+
+-- one more row that is stored
+stored-push : (w : View) (rows : Rows) (e : Edge) → AreStored w rows → Is kinds.Bdd w e → AreStored w (rows ++ Some e ∷ [])
+stored-push w rows e stored is row x has = ⊎_elim
+    (λ old. stored row x old.1)
+    (λ new. let same : e ≡ x = cc in subst (λ (y : Edge). Is kinds.Bdd w y) same is)
+    (slice_get-push rows (Some e) (Some x) row has)
+
+-- a row that was dropped
+pub stored-set : (w : View) (rows : Rows) (a : ℕ) → AreStored w rows → AreStored w (set rows a None)
+stored-set w rows a stored row x has = ⊎_elim
+    (λ same. let never : None ≡ Some x = same.1 in cc)
+    (λ other. stored row x other.1)
+    (slice_get-set rows None (Some x) a row has)
+
+pub answered-made : (w w' : View) (old new : Rows) (act : Act) (name : Name) → makes act ≡ true → Grown w w' → AreStored w old → Adds w old w' new (call_with act) name
+    → IsAnswered w old w' new act (record { reply = reply.Done; made = true })
+answered-made w w' old new act name made grown stored adds = record {
   reply = Made name;
   told = refl;
   made_if = ap (λ b. b && true) (sym made);
-  step = subst (λ (c : Call). IsStepOf n old new c (Made name)) (sym is) adds.step;
-  rows = (ap Some adds.name_is, adds.row);
+  step = adds.step;
+  rows = (ap Some adds.name_is, (adds.row.0, adds.row.1));
+  grown = grown;
+  stored = subst (λ (rows : Rows). AreStored w' rows) (sym adds.row.1) (stored-push w' old adds.row.0 (stored-grown w w' old grown stored) adds.row.2);
+  full = λ e. cc;
 }
 
-pub answered-done : (n : ℕ) (old new : Rows) (act : Act) (call : Call) → call_with act ≡ call → makes act ≡ false → IsStepOf n old new call Done → new ≡ rows_left old act
-    → IsAnswered n old new act (record { reply = reply.Done; made = false })
-answered-done n old new act call is made step left = record {
-  reply = Done;
+-- the slots that are told as in use are not said here
+pub answered-full : (w w' : View) (old new : Rows) (act : Act) → makes act ≡ true → Grown w w' → AreStored w old → Refuses w old w' new (call_with act)
+    → IsAnswered w old w' new act (record { reply = reply.Full; made = false })
+answered-full w w' old new act made grown stored refuses = record {
+  reply = Full 0 1;
   told = refl;
-  made_if = ap (λ b. b && true) (sym made);
-  step = subst (λ (c : Call). IsStepOf n old new c Done) (sym is) step;
-  rows = (refl, left);
+  made_if = sym (and_none (makes act));
+  step = subst (λ (rows : Rows). IsStepOf w old w' rows (call_with act) (Full 0 1)) (sym refuses.rows_stay) (refuses.step 0 1);
+  rows = (refl, refuses.rows_stay ∙ sym (left_if_makes old act made));
+  grown = grown;
+  stored = subst (λ (rows : Rows). AreStored w' rows) (sym refuses.rows_stay) (stored-grown w w' old grown stored);
+  full = λ e. refuses.rose;
 }
 
-pub answered-value : (n : ℕ) (old : Rows) (act : Act) (call : Call) (z : ℤ) → call_with act ≡ call → makes act ≡ false → IsStepOf n old old call (Value z) → old ≡ rows_left old act
-    → IsAnswered n old old act (record { reply = reply.Number z; made = false })
-answered-value n old act call z is made step left = record {
-  reply = Value z;
-  told = refl;
-  made_if = ap (λ b. b && true) (sym made);
-  step = subst (λ (c : Call). IsStepOf n old old c (Value z)) (sym is) step;
-  rows = (refl, left);
+pub makes_default : (act : Act) → ((a : ℕ) → act ≡ Drop a → ⊥) → ((a b : ℕ) → act ≡ Same a b → ⊥) → ((a : ℕ) (bits : List Bool) → act ≡ Eval a bits → ⊥) → makes act ≡ true
+makes_default One not_drop not_same not_eval = refl
+makes_default Zero not_drop not_same not_eval = refl
+makes_default (Var v) not_drop not_same not_eval = refl
+makes_default (Not a) not_drop not_same not_eval = refl
+makes_default (And a b) not_drop not_same not_eval = refl
+makes_default (Or a b) not_drop not_same not_eval = refl
+makes_default (Ite a b c) not_drop not_same not_eval = refl
+makes_default (Drop a) not_drop not_same not_eval = absurd (not_drop a refl)
+makes_default (Same a b) not_drop not_same not_eval = absurd (not_same a b refl)
+makes_default (Eval a bits) not_drop not_same not_eval = absurd (not_eval a bits refl)
+
+-- a command that makes a row, and what it is answered
+pub answered-operated : (w w' : View) (old new : Rows) (act : Act) (made : Result Name Stop) (result : Result Answer Memory) → makes act ≡ true → Grown w w' → AreStored w old
+    → IfOk made (λ name. Adds w old w' new (call_with act) name) → (IsErrOf made stop.Full → Refuses w old w' new (call_with act))
+    → IfOk result (λ answer. MatchResult made (λ _. answer ≡ record { reply = reply.Done; made = true }) (λ x. (x ≡ stop.Full) × (answer ≡ record { reply = reply.Full; made = false })))
+    → IfOk result (λ answer. IsAnswered w old w' new act answer)
+answered-operated w w' old new act made (Err x) makes_one grown stored adds refuses is = tt
+answered-operated w w' old new act (Ok name) (Ok answer) makes_one grown stored adds refuses is =
+    subst (λ (a : Answer). IsAnswered w old w' new act a) (sym is) (answered-made w w' old new act name makes_one grown stored adds)
+answered-operated w w' old new act (Err x) (Ok answer) makes_one grown stored adds refuses is =
+    subst (λ (a : Answer). IsAnswered w old w' new act a) (sym is.1) (answered-full w w' old new act makes_one grown stored (refuses (ap Err is.0)))
+
+-- a call that makes no row
+pub answered-other : (w w' : View) (old new : Rows) (act : Act) (call : Call) (answer : LawReply) (told : Reply) → call_with act ≡ call → makes act ≡ false → stops told ≡ false
+    → told_of answer ≡ Some told → given_by answer ≡ None → Grown w w' → AreStored w' new → IsStepOf w old w' new call answer → new ≡ rows_left old act
+    → IsAnswered w old w' new act (record { reply = told; made = false })
+answered-other w w' old new act call answer told is none goes tells gives grown stored step left = record {
+  reply = answer;
+  told = tells;
+  made_if = ap (λ b. b && not (stops told)) (sym none);
+  step = subst (λ (c : Call). IsStepOf w old w' new c answer) (sym is) step;
+  rows = (gives, left);
+  grown = grown;
+  stored = stored;
+  full = λ e. absurd (false≢true (sym goes ∙ e));
 }
 
 not-not : (b : Bool) → not (not b) ≡ b
@@ -60,16 +136,22 @@ and_true true c is = is
 and_true false c is = refl
 
 -- the rows where the session goes on
-pub rows_go_on : (n : ℕ) (old new : Rows) (act : Act) (answer : Answer) (goes_on : Bool) → IsAnswered n old new act answer → goes_on ≡ not (stops answer.reply)
+pub rows_go_on : (w w' : View) (old new : Rows) (act : Act) (answer : Answer) (goes_on : Bool) → IsAnswered w old w' new act answer → goes_on ≡ not (stops answer.reply)
     → RowsGoOn goes_on old new act
-rows_go_on n old new act answer goes_on answered is on =
+rows_go_on w w' old new act answer goes_on answered is on =
     subst (λ m. GrowsOrLeft m old new act) (answered.made_if ∙ and_true (makes act) (not (stops answer.reply)) (sym is ∙ on))
     (grows_or_left answer.made old new act answered.reply answered.rows)
 
 left_length : (rows : Rows) (act : Act) → length (rows_left rows act) ≡ length rows
-left_length rows (Var v) = refl
-left_length rows (And a b) = refl
 left_length rows (Drop a) = length-set rows a None
+left_length rows One = refl
+left_length rows Zero = refl
+left_length rows (Var v) = refl
+left_length rows (Not a) = refl
+left_length rows (And a b) = refl
+left_length rows (Or a b) = refl
+left_length rows (Ite a b c) = refl
+left_length rows (Same a b) = refl
 left_length rows (Eval a bits) = refl
 
 -- at most one more row
@@ -77,5 +159,5 @@ pub grown_length : (made : Bool) (old new : Rows) (act : Act) → GrowsOrLeft ma
 grown_length true old new act after = omega (arith, ap length after.1, length_push old (Some after.0))
 grown_length false old new act after = omega (arith, ap length after, left_length old act)
 
-pub answered-few : (n : ℕ) (old new : Rows) (act : Act) (answer : Answer) → IsAnswered n old new act answer → length new ≤ length old + 1
-answered-few n old new act answer answered = grown_length answer.made old new act (grows_or_left answer.made old new act answered.reply answered.rows)
+pub answered-few : (w w' : View) (old new : Rows) (act : Act) (answer : Answer) → IsAnswered w old w' new act answer → length new ≤ length old + 1
+answered-few w w' old new act answer answered = grown_length answer.made old new act (grows_or_left answer.made old new act answered.reply answered.rows)

@@ -1,156 +1,231 @@
 -- The calls of a session are steps of each table with which it agrees.
-use Rattle.std.proofs.Common.{◌≡◌, ◌≢◌, ℕ, ◌+◌, ◌<◌, ◌≤◌, ◌^◌, Bool, true, false, cond, ◌&&◌, ◌||◌, ◌⊎◌, ⊎_elim, List, [], ◌∷◌, ◌++◌, length, Option, Some, None, refl, sym, ap, ap₂, ◌∙◌, arith, subst, pos, ℤ, take, drop, zero-add, suc, ◌-◌, ◌*◌, get_or, IsTrue, add_comm, drop-cons, Result, Ok, Err, IfOk, ◌%◌, pow_mono}
-use Rattle.std.proofs.Math.Nat.{pow-suc}
+use Rattle.std.proofs.Common.{◌≡◌, ◌≢◌, ℕ, ◌+◌, ◌<◌, ◌≤◌, ◌^◌, Bool, true, false, cond, ◌&&◌, ◌||◌, ⊎_elim, List, [], ◌∷◌, ◌++◌, length, Option, Some, None, option_and_then, ◌↔◌, not, if◌then◌else◌, refl, sym, ap, ap₂, ◌∙◌, arith, subst, pos, ℤ, take, take_all, Result, Ok, Err, IfOk, IsTrue, IsErrOf, OnErr}
 use Rattle.std.proofs.Math.ListN.{set, length-set}
 use Rattle.std.proofs.lemmas.Bool.{eq-eqb, ne_eqb}
-use Rattle.std.proofs.lemmas.List.{length_push, take_all}
-use Rattle.std.specs.Prelude.{slice_get, ◌==◌}
-use Rattle.std.specs.List.{range_with_len}
-use Rattle.std.proofs.lemmas.List.FromFn.{get_or-range_with_len, length-range_with_len}
-use Rattle.std.proofs.lemmas.List.Folds.{list_any_at}
+use Rattle.std.proofs.lemmas.List.{length_push}
+use Rattle.edge_bits.specs.declared.edges.Edge.{Edge}
+use Rattle.edge_bits.specs.declared.edges.Kind.TheVariants as kinds
 use Rattle.edge_bits.specs.Words.{digit}
 use Rattle.function_laws.specs.declared.history.Name.{Name}
 use Rattle.function_laws.specs.declared.history.Call.{Call}
-use Rattle.function_laws.specs.declared.history.Call.TheVariants.{Var, And, Eval, DropRow}
+use Rattle.function_laws.specs.declared.history.Call.TheVariants.{One, Zero, Var, Not, And, Or, Ite, Same, Eval, DropRow}
 use Rattle.function_laws.specs.declared.history.Function.{Function}
 use Rattle.function_laws.specs.declared.history.Function.TheVariants.{Bdd}
-use Rattle.function_laws.specs.declared.history.Reply.TheVariants.{Made, Value, Done}
-use Rattle.function_laws.specs.Lists.{is_size, list_of, truth}
-use Rattle.function_laws.specs.Values.{conjunction, if_then_else, projection, assignment_of}
-use Rattle.function_laws.specs.Functions.{and_of, ite_of}
+use Rattle.function_laws.specs.declared.history.Reply.TheVariants.{Made, Truth, Value, Done}
+use Rattle.function_laws.specs.Lists.{list_of, truth}
+use Rattle.function_laws.specs.Values.{constant, negation, conjunction, disjunction, if_then_else, projection, assignment_of}
+use Rattle.function_laws.specs.Functions.{not_of, or_of, ite_of}
 use Rattle.function_laws.specs.Tables.{Table, Sizes, same_name, with_name, with_row}
-use Rattle.function_laws.specs.Steps.{makes, shows, outcome, IsAllowed, after, value_at}
-use Rattle.function_laws.proofs.ListLemmas.{list_of-same, length-list_of}
+use Rattle.function_laws.specs.Steps.{makes, compares, shows, outcome, IsAllowed, after, may_be_full, value_at, as_bdd, with_one, with_two, with_three, when, same_kind}
+use Rattle.edge_bits.proofs.AssignmentLemmas.{bit-set_other}
+use Rattle.function_laws.proofs.ListLemmas.{length-list_of, truth-list_of, list_of-same}
+use Rattle.function_laws.proofs.WidthLemmas.{same-from_lists}
+use Rattle.function_laws.proofs.BridgeLemmas.{and_of-list_of, place_two-list_of}
 use Rattle.function_laws.proofs.StepLemmas.{made_is_allowed, after-made, value_is_allowed, done_is_allowed, outcome-and, outcome-var, outcome-eval, outcome-drop_row}
-use Rattle.net_jobs.specs.Agreement.{Adds, Agrees, Has, IsConjunction, IsLive, IsStepOf, Rows, name_of, sizes_for}
+use Rattle.node_store.specs.declared.grow.Stop.{Stop}
+use Rattle.node_store.specs.declared.grow.Stop.TheVariants as stop
+use Rattle.node_store.specs.Kinds.{flipped}
+use Rattle.node_slots.specs.Views.{View, Denotes, Grown, Is, Permanent, Rose, bdd_at}
+use Rattle.node_store.specs.ViewLaws.{Is-from, Is-grown, values_at-grown, values_at-is}
+use Rattle.net_jobs.specs.Agreement.{Adds, Agrees, AreStored, Has, IsKept, IsLive, IsStepOf, Refuses, Rows, list_at, name_of, sizes_for}
 use Rattle.net_jobs.proofs.ListLemmas.{slice_get-push, slice_get-set}
-
-cond_and : (a b : Bool) → cond a b a ≡ (a && b)
-cond_and true b = refl
-cond_and false b = refl
-
--- the conjunction as an if then else
-pub ite-and : (f g : List Bool) → ite_of f g f ≡ and_of f g
-ite-and f g = list_of-same (length f) (if_then_else (truth f) (truth g) (truth f)) (conjunction (truth f) (truth g)) (λ k below. cond_and (truth f k) (truth g k))
+use Rattle.net_jobs.proofs.WalkingLemmas.{assignment_of-below}
 
 -- the names of two rows
-own_name : (i : ℕ) → same_name (name_of i) (name_of i) ≡ true
-own_name i = ap (λ b. b && b) (eq-eqb i i refl)
-
 other_name : (i j : ℕ) → i ≢ j → same_name (name_of i) (name_of j) ≡ false
 other_name i j apart = ap (λ b. b && b) (ne_eqb i j apart)
 
-abbrev as_function : Option (List Bool) → Option Function
-as_function None = None
-as_function (Some f) = Some (Bdd f)
+-- what an edge denotes lasts
+list_at-grown : (w w' : View) (e : Edge) → Grown w w' → Is kinds.Bdd w e → list_at w' e ≡ list_at w e
+list_at-grown w w' e grown is = ap₂ (λ n f. list_of (2 ^ n) f) grown.vars (values_at-grown kinds.Bdd grown is)
+
+pub list-made : (w w' : View) (e : Edge) (f : ℕ → Bool) → Grown w w' → Denotes kinds.Bdd w' e f → list_of (2 ^ w.vars) f ≡ list_at w' e
+list-made w w' e f grown is = ap₂ (λ n g. list_of (2 ^ n) g) (sym grown.vars) (sym (values_at-is kinds.Bdd is))
+
+pub stored-grown : (w w' : View) (rows : Rows) → Grown w w' → AreStored w rows → AreStored w' rows
+stored-grown w w' rows grown stored row e has = Is-grown kinds.Bdd grown (stored row e has)
+
+pub agrees-grown : (w w' : View) (rows : Rows) (t : Table) → Grown w w' → AreStored w rows → Agrees w rows t → Agrees w' rows t
+agrees-grown w w' rows t grown stored agrees = record {
+  sizes_are = agrees.sizes_are ∙ ap sizes_for (sym grown.vars);
+  live = λ row e has. agrees.live row e has ∙ ap (λ f. Some (Bdd f)) (sym (list_at-grown w w' e grown (stored row e has)));
+  not_given = agrees.not_given;
+}
+
+abbrev as_function : View → Option Edge → Option Function
+as_function w None = None
+as_function w (Some e) = Some (Bdd (list_at w e))
 
 -- the table after one more row
-agrees_push : (z : Sizes) (rows : Rows) (t : Table) (f : List Bool) → Agrees z rows t
-    → Agrees z (rows ++ Some f ∷ []) (with_name t 0 (name_of (length rows)) (Bdd f))
-agrees_push z rows t f agrees = record {
+agrees_push : (w : View) (rows : Rows) (t : Table) (e : Edge) → Agrees w rows t
+    → Agrees w (rows ++ Some e ∷ []) (with_name t 0 (name_of (length rows)) (Bdd (list_at w e)))
+agrees_push w rows t e agrees = record {
   sizes_are = agrees.sizes_are;
-  live = λ row g has. ⊎_elim
-      (λ old. ap (λ c. cond c (Some (Bdd f)) (t.live 0 (name_of row))) (other_name row (length rows) (omega (arith, old.0))) ∙ agrees.live row g old.1)
-      (λ new. ap (λ c. cond c (Some (Bdd f)) (t.live 0 (name_of row))) (ap (λ b. b && b) (eq-eqb row (length rows) new.0)) ∙ ap as_function new.1)
-      (slice_get-push rows (Some f) (Some g) row has);
-  not_given = λ row from. ap (λ c. c || t.given 0 (name_of row)) (other_name row (length rows) (omega (arith, from, length_push rows (Some f)))) ∙ agrees.not_given row (omega (arith, from, length_push rows (Some f)));
+  live = λ row x has. ⊎_elim
+      (λ old. ap (λ c. cond c (Some (Bdd (list_at w e))) (t.live 0 (name_of row))) (other_name row (length rows) (omega (arith, old.0))) ∙ agrees.live row x old.1)
+      (λ new. ap (λ c. cond c (Some (Bdd (list_at w e))) (t.live 0 (name_of row))) (ap (λ b. b && b) (eq-eqb row (length rows) new.0)) ∙ ap (as_function w) new.1)
+      (slice_get-push rows (Some e) (Some x) row has);
+  not_given = λ row from. ap (λ c. c || t.given 0 (name_of row)) (other_name row (length rows) (omega (arith, from, length_push rows (Some e)))) ∙ agrees.not_given row (omega (arith, from, length_push rows (Some e)));
 }
 
 -- the table after a row was dropped
-agrees_drop : (z : Sizes) (rows : Rows) (t : Table) (i : ℕ) → Agrees z rows t → Agrees z (set rows i None) (with_row t 0 (name_of i) None)
-agrees_drop z rows t i agrees = record {
+agrees_drop : (w : View) (rows : Rows) (t : Table) (i : ℕ) → Agrees w rows t → Agrees w (set rows i None) (with_row t 0 (name_of i) None)
+agrees_drop w rows t i agrees = record {
   sizes_are = agrees.sizes_are;
-  live = λ row g has. ⊎_elim
-      (λ same. let never : None ≡ Some g = same.1 in cc)
-      (λ other. ap (λ c. cond c None (t.live 0 (name_of row))) (other_name row i other.0) ∙ agrees.live row g other.1)
-      (slice_get-set rows None (Some g) i row has);
+  live = λ row e has. ⊎_elim
+      (λ same. let never : None ≡ Some e = same.1 in cc)
+      (λ other. ap (λ c. cond c None (t.live 0 (name_of row))) (other_name row i other.0) ∙ agrees.live row e other.1)
+      (slice_get-set rows None (Some e) i row has);
   not_given = λ row from. agrees.not_given row (omega (arith, from, length-set rows i None));
 }
 
--- a call whose outcome is this function adds a row
-pub adds : (n : ℕ) (rows new : Rows) (call : Call) (name : Name) (f : List Bool) → name ≡ name_of (length rows) → new ≡ rows ++ Some f ∷ []
-    → ((t : Table) → Agrees (sizes_for n) rows t → outcome t 0 call ≡ Some (makes (Bdd f))) → Adds n rows new call name
-adds n rows new call name f is_name is_new is_outcome = record {
+-- a call whose outcome is what an edge denotes adds a row
+pub adds : (w w' : View) (rows new : Rows) (call : Call) (name : Name) (e : Edge) → Grown w w' → AreStored w rows → Is kinds.Bdd w' e
+    → name ≡ name_of (length rows) → new ≡ rows ++ Some e ∷ []
+    → ((t : Table) → Agrees w rows t → outcome t 0 call ≡ Some (makes (Bdd (list_at w' e)))) → Adds w rows w' new call name
+adds w w' rows new call name e grown stored is is_name is_new is_outcome = record {
   name_is = is_name;
-  row = (f, is_new);
+  row = (e, is_new, is);
   step = λ t agrees.
-      let allowed : IsAllowed t 0 call (Made (name_of (length rows))) = made_is_allowed t 0 call (name_of (length rows)) (Bdd f) (is_outcome t agrees) (agrees.not_given (length rows) (omega arith)) in
-      let left : Agrees (sizes_for n) (rows ++ Some f ∷ []) (after t 0 call (Made (name_of (length rows)))) =
-      subst (λ (u : Table). Agrees (sizes_for n) (rows ++ Some f ∷ []) u) (sym (after-made t 0 call (name_of (length rows)) (Bdd f) (is_outcome t agrees))) (agrees_push (sizes_for n) rows t f agrees) in (
+      let made : Name = name_of (length rows) in
+      let allowed : IsAllowed t 0 call (Made made) = made_is_allowed t 0 call made (Bdd (list_at w' e)) (is_outcome t agrees) (agrees.not_given (length rows) (omega arith)) in
+      let left : Agrees w' (rows ++ Some e ∷ []) (after t 0 call (Made made)) =
+      subst (λ (u : Table). Agrees w' (rows ++ Some e ∷ []) u) (sym (after-made t 0 call made (Bdd (list_at w' e)) (is_outcome t agrees)))
+      (agrees_push w' rows t e (agrees-grown w w' rows t grown stored agrees)) in (
         subst (λ (r : Name). IsAllowed t 0 call (Made r)) (sym is_name) allowed,
-        subst (λ (r : Name). Agrees (sizes_for n) new (after t 0 call (Made r))) (sym is_name)
-            (subst (λ (u : Rows). Agrees (sizes_for n) u (after t 0 call (Made (name_of (length rows))))) (sym is_new) left),
+        subst (λ (r : Name). Agrees w' new (after t 0 call (Made r))) (sym is_name)
+            (subst (λ (u : Rows). Agrees w' u (after t 0 call (Made made))) (sym is_new) left),
       );
 }
 
-pub adds-var : (n v : ℕ) (rows new : Rows) (name : Name) (f : List Bool) → v < n → f ≡ list_of (2 ^ n) (projection v)
-    → name ≡ name_of (length rows) → new ≡ rows ++ Some f ∷ [] → Adds n rows new (Var v) name
-adds-var n v rows new name f within is is_name is_new = adds n rows new (Var v) name f is_name is_new
-    (λ t agrees. let size : t.sizes.variables ≡ n = ap (λ (z : Sizes). z.variables) agrees.sizes_are in
-    outcome-var t 0 v (subst (λ m. v < m) (sym size) within) ∙ ap (λ m. Some (makes (Bdd (list_of (2 ^ m) (projection v))))) size ∙ ap (λ x. Some (makes (Bdd x))) (sym is))
+-- a call that makes nodes may be refused
+pub refuses : (w w' : View) (rows new : Rows) (call : Call) → Grown w w' → AreStored w rows → Rose w w' → new ≡ rows → IsTrue (may_be_full call)
+    → ((t : Table) → Agrees w rows t → (f : Function) × (outcome t 0 call ≡ Some (makes f))) → Refuses w rows w' new call
+refuses w w' rows new call grown stored rose same may is_outcome = record {
+  rose = rose;
+  rows_stay = same;
+  step = λ in_use need t agrees.
+      let out = is_outcome t agrees in
+      ((makes out.0, out.1, refl, may), agrees-grown w w' rows t grown stored agrees);
+}
 
-pub adds-and : (n : ℕ) (rows new : Rows) (a b name : Name) (values : List Bool) → IsLive rows a → IsLive rows b → IsConjunction n rows a b values
-    → name ≡ name_of (length rows) → new ≡ rows ++ Some values ∷ [] → Adds n rows new (And a b) name
-adds-and n rows new a b name values first second is is_name is_new = adds n rows new (And a b) name values is_name is_new
-    (λ t agrees.
-    let f_is : t.live 0 a ≡ Some (Bdd is.0) = ap (t.live 0) first.0 ∙ agrees.live a.row is.0 is.2 in
-    let g_is : t.live 0 b ≡ Some (Bdd is.1) = ap (t.live 0) second.0 ∙ agrees.live b.row is.1 is.3 in
-    outcome-and t 0 a b is.0 is.1 f_is g_is ∙ ap (λ x. Some (makes (Bdd x))) (sym is.5))
+-- operations on lists are those on functions
+not_of-list_of : (size : ℕ) (f : ℕ → Bool) → not_of (list_of size f) ≡ list_of size (negation f)
+not_of-list_of size f =
+    ap (λ n. list_of n (negation (truth (list_of size f)))) (length-list_of size f)
+    ∙ list_of-same size (negation (truth (list_of size f))) (negation f) (λ k below. ap not (truth-list_of size k f below))
 
-pub length-conjunction : (n : ℕ) (rows : Rows) (a b : Name) (values : List Bool) → IsConjunction n rows a b values → length values ≡ 2 ^ n
-length-conjunction n rows a b values is = ap length is.5 ∙ length-list_of (length is.0) (conjunction (truth is.0) (truth is.1)) ∙ is.4
+ite_of-list_of : (size : ℕ) (f g h : ℕ → Bool) → ite_of (list_of size f) (list_of size g) (list_of size h) ≡ list_of size (if_then_else f g h)
+ite_of-list_of size f g h =
+    ap (λ n. list_of n (if_then_else (truth (list_of size f)) (truth (list_of size g)) (truth (list_of size h)))) (length-list_of size f)
+    ∙ list_of-same size (if_then_else (truth (list_of size f)) (truth (list_of size g)) (truth (list_of size h))) (if_then_else f g h)
+    (λ k below. ap₂ (λ a b. if a then b else truth (list_of size h) k) (truth-list_of size k f below) (truth-list_of size k g below)
+    ∙ ap (λ c. if f k then g k else c) (truth-list_of size k h below))
 
-pub step-eval : (n : ℕ) (rows : Rows) (a : Name) (bits f : List Bool) (z : ℤ) → IsLive rows a → Has rows a.row f → length bits ≡ n
-    → z ≡ pos (digit (truth f (assignment_of bits))) → IsStepOf n rows rows (Eval a bits) (Value z)
-step-eval n rows a bits f z live has long is t agrees =
-    let size : t.sizes.variables ≡ n = ap (λ (z : Sizes). z.variables) agrees.sizes_are in
-    let f_is : t.live 0 a ≡ Some (Bdd f) = ap (t.live 0) live.0 ∙ agrees.live a.row f has in
-    let all : take t.sizes.variables bits ≡ bits = take_all t.sizes.variables bits (omega (arith, size, long)) in
-    let value : value_at t.sizes (Bdd f) bits ≡ z = ap (λ bs. pos (digit (truth f (assignment_of bs)))) all ∙ sym is in
-    (value_is_allowed t 0 (Eval a bits) z (outcome-eval t 0 a bits (Bdd f) f_is ∙ ap (λ x. Some (shows x)) value), agrees)
+list_inside : (f g : List Bool) → Bdd f ≡ Bdd g → f ≡ g
+list_inside f g e = cc
 
-pub step-drop_row : (n : ℕ) (rows : Rows) (a : Name) → IsLive rows a → IsStepOf n rows (set rows a.row None) (DropRow a) Done
-step-drop_row n rows a live t agrees =
-    let f_is : t.live 0 a ≡ Some (Bdd live.1.0) = ap (t.live 0) live.0 ∙ agrees.live a.row live.1.0 live.1.1 in (
-      done_is_allowed t 0 (DropRow a) (outcome-drop_row t 0 a (Bdd live.1.0) f_is),
-      subst (λ (r : Name). Agrees (sizes_for n) (set rows a.row None) (with_row t 0 r None)) (sym live.0) (agrees_drop (sizes_for n) rows t a.row agrees),
-    )
+module _ (w : View) (rows : Rows) where
+  live_at : (t : Table) (a : Name) (e : Edge) → Agrees w rows t → IsLive rows a → Has rows a.row e → t.live 0 a ≡ Some (Bdd (list_at w e))
+  live_at t a e agrees live has = ap (t.live 0) live.0 ∙ agrees.live a.row e has
 
--- so many values are the values of a function
-pub is_size-power : (n : ℕ) → n ≤ 16 → IsTrue (is_size (2 ^ n))
-unfolding is_size
-is_size-power n few =
-    let place : get_or (range_with_len 0 17) n 0 ≡ n = get_or-range_with_len 0 17 n 0 (omega arith) ∙ zero-add n in
-    list_any_at (λ m. 2 ^ m == 2 ^ n) (range_with_len 0 17) n 0 (omega (arith, length-range_with_len 0 17)) (eq-eqb _ _ (ap (λ m. 2 ^ m) place))
+  pub outcome-of_var : (v : ℕ) (t : Table) → v < w.vars → Agrees w rows t → outcome t 0 (Var v) ≡ Some (makes (Bdd (list_of (2 ^ w.vars) (projection v))))
+  outcome-of_var v t within agrees =
+      let size : t.sizes.variables ≡ w.vars = ap (λ (z : Sizes). z.variables) agrees.sizes_are in
+      outcome-var t 0 v (subst (λ m. v < m) (sym size) within) ∙ ap (λ m. Some (makes (Bdd (list_of (2 ^ m) (projection v))))) size
 
--- the assignment of some bits has a further bit before them
-pub assignment-more : (bits : List Bool) (i place : ℕ) → 0 < i → i ≤ length bits → place ≡ assignment_of (drop i bits)
-    → 2 * place + digit (get_or bits (i - 1) false) ≡ assignment_of (drop (i - 1) bits)
-assignment-more bits i place some within before =
-    let j = i - 1 in
-    let b = get_or bits j false in
-    let at : drop j bits ≡ b ∷ drop (suc j) bits = drop-cons bits j false (omega arith) in
-    let next : suc j ≡ i = omega arith in
-    ap (λ p. 2 * p + digit b) (before ∙ ap (λ n. assignment_of (drop n bits)) (sym next))
-    ∙ add_comm (2 * assignment_of (drop (suc j) bits)) (digit b) ∙ ap assignment_of (sym at)
+  pub outcome-of_and : (a b : Name) (e d : Edge) (t : Table) → IsLive rows a → IsLive rows b → Has rows a.row e → Has rows b.row d → Agrees w rows t
+      → outcome t 0 (And a b) ≡ Some (makes (Bdd (list_of (2 ^ w.vars) (conjunction (bdd_at w e) (bdd_at w d)))))
+  outcome-of_and a b e d t first second is_e is_d agrees =
+      outcome-and t 0 a b (list_at w e) (list_at w d) (live_at t a e agrees first is_e) (live_at t b d agrees second is_d)
+      ∙ ap (λ f. Some (makes (Bdd f))) (and_of-list_of (2 ^ w.vars) (bdd_at w e) (bdd_at w d))
 
-pub double-below : (place n i : ℕ) (b : Bool) → 0 < i → i ≤ n → place < 2 ^ (n - i) → 2 * place + digit b < 2 ^ (n - (i - 1))
-double-below place n i b some within below =
-    let next : n - (i - 1) ≡ suc (n - i) = omega arith in
-    subst (λ e. 2 * place + digit b < 2 ^ e) (sym next) (by_digit b)
-  where
-    by_digit : (b : Bool) → 2 * place + digit b < 2 ^ suc (n - i)
-    by_digit true = omega (arith, below, pow-suc 2 (n - i))
-    by_digit false = omega (arith, below, pow-suc 2 (n - i))
+  pub outcome-of_one : (t : Table) → Agrees w rows t → outcome t 0 One ≡ Some (makes (Bdd (list_of (2 ^ w.vars) (constant true))))
+  outcome-of_one t agrees = ap (λ (z : Sizes). Some (makes (Bdd (list_of (2 ^ z.variables) (constant true))))) agrees.sizes_are
 
-pub digit-if : (b : Bool) (x : ℕ) → (b ≡ true → x ≡ 1) → (b ≡ false → x ≡ 0) → x ≡ digit b
-digit-if true x one none = one refl
-digit-if false x one none = none refl
+  pub outcome-of_zero : (t : Table) → Agrees w rows t → outcome t 0 Zero ≡ Some (makes (Bdd (list_of (2 ^ w.vars) (constant false))))
+  outcome-of_zero t agrees = ap (λ (z : Sizes). Some (makes (Bdd (list_of (2 ^ z.variables) (constant false))))) agrees.sizes_are
 
--- two facts of a result's value give a third
-pub if_ok_two : {T E : Type 0} (r : Result T E) (P Q R : T → Type 0) → IfOk r P → IfOk r Q → ((x : T) → P x → Q x → R x) → IfOk r R
-if_ok_two (Ok x) P Q R p q f = f x p q
-if_ok_two (Err e) P Q R p q f = tt
+  pub outcome-of_not : (a : Name) (e : Edge) (t : Table) → IsLive rows a → Has rows a.row e → Agrees w rows t
+      → outcome t 0 (Not a) ≡ Some (makes (Bdd (list_of (2 ^ w.vars) (negation (bdd_at w e)))))
+  outcome-of_not a e t first is_e agrees =
+      ap (λ x. with_one (as_bdd x) (λ f. makes (Bdd (not_of f)))) (live_at t a e agrees first is_e)
+      ∙ ap (λ f. Some (makes (Bdd f))) (not_of-list_of (2 ^ w.vars) (bdd_at w e))
 
-pub size_is : (n k : ℕ) → n ≤ 16 → k ≤ (1 * 2 ^ n) % 4294967296 → (1 * 2 ^ n) % 4294967296 ≤ k → k ≡ 2 ^ n
-size_is n k few above below = omega (arith, above, below, pow_mono {j = 16} few)
+  pub outcome-of_or : (a b : Name) (e d : Edge) (t : Table) → IsLive rows a → IsLive rows b → Has rows a.row e → Has rows b.row d → Agrees w rows t
+      → outcome t 0 (Or a b) ≡ Some (makes (Bdd (list_of (2 ^ w.vars) (disjunction (bdd_at w e) (bdd_at w d)))))
+  outcome-of_or a b e d t first second is_e is_d agrees =
+      ap₂ (λ x y. with_two (as_bdd x) (as_bdd y) (λ f g. makes (Bdd (or_of f g)))) (live_at t a e agrees first is_e) (live_at t b d agrees second is_d)
+      ∙ ap (λ f. Some (makes (Bdd f))) (place_two-list_of (λ p q. p || q) (2 ^ w.vars) (bdd_at w e) (bdd_at w d))
+
+  pub outcome-of_ite : (a b c : Name) (e d i : Edge) (t : Table) → IsLive rows a → IsLive rows b → IsLive rows c → Has rows a.row e → Has rows b.row d → Has rows c.row i
+      → Agrees w rows t → outcome t 0 (Ite a b c) ≡ Some (makes (Bdd (list_of (2 ^ w.vars) (if_then_else (bdd_at w e) (bdd_at w d) (bdd_at w i)))))
+  outcome-of_ite a b c e d i t first second third is_e is_d is_i agrees =
+      ap₂ (λ x y. with_three (as_bdd x) (as_bdd y) (as_bdd (t.live 0 c)) (λ f g h. makes (Bdd (ite_of f g h)))) (live_at t a e agrees first is_e) (live_at t b d agrees second is_d)
+      ∙ ap (λ z. with_three (Some (list_at w e)) (Some (list_at w d)) (as_bdd z) (λ f g h. makes (Bdd (ite_of f g h)))) (live_at t c i agrees third is_i)
+      ∙ ap (λ f. Some (makes (Bdd f))) (ite_of-list_of (2 ^ w.vars) (bdd_at w e) (bdd_at w d) (bdd_at w i))
+
+  pub step-same : (a b : Name) (e d : Edge) (told : Bool) → AreStored w rows → IsLive rows a → IsLive rows b → Has rows a.row e → Has rows b.row d
+      → IsTrue told ↔ (bdd_at w e ≡ bdd_at w d) → IsStepOf w rows w rows (Same a b) (Truth told)
+  step-same a b e d told stored first second is_e is_d is_told t agrees =
+      let out : outcome t 0 (Same a b) ≡ Some (compares (Bdd (list_at w e)) (Bdd (list_at w d))) =
+      ap₂ (λ x y. option_and_then (λ f. option_and_then (λ g. when (same_kind f g) (Some (compares f g))) y) x) (live_at t a e agrees first is_e) (live_at t b d agrees second is_d) in
+      let same : bdd_at w e ≡ bdd_at w d → Bdd (list_at w e) ≡ Bdd (list_at w d) = λ s. ap (λ f. Bdd (list_of (2 ^ w.vars) f)) s in
+      let back : Bdd (list_at w e) ≡ Bdd (list_at w d) → bdd_at w e ≡ bdd_at w d = λ s.
+      same-from_lists w.vars (bdd_at w e) (bdd_at w d) (stored a.row e is_e).beyond (stored b.row d is_d).beyond (list_inside (list_at w e) (list_at w d) s) in
+      ((compares (Bdd (list_at w e)) (Bdd (list_at w d)), out, (λ yes. same (is_told.0 yes), λ s. is_told.1 (back s))), agrees)
+
+  pub step-eval : (w' : View) (a : Name) (bits : List Bool) (e : Edge) (z : ℤ) → Grown w w' → AreStored w rows → IsLive rows a → Has rows a.row e → length bits ≡ w.vars
+      → z ≡ pos (digit (bdd_at w e (assignment_of bits))) → IsStepOf w rows w' rows (Eval a bits) (Value z)
+  step-eval w' a bits e z grown stored live has long is t agrees =
+      let size : t.sizes.variables ≡ w.vars = ap (λ (z : Sizes). z.variables) agrees.sizes_are in
+      let all : take t.sizes.variables bits ≡ bits = take_all t.sizes.variables bits (omega (arith, size, long)) in
+      let below : assignment_of bits < 2 ^ w.vars = subst (λ n. assignment_of bits < 2 ^ n) long (assignment_of-below bits) in
+      let value : value_at t.sizes (Bdd (list_at w e)) bits ≡ z =
+      ap (λ bs. pos (digit (truth (list_at w e) (assignment_of bs)))) all
+      ∙ ap (λ b. pos (digit b)) (truth-list_of (2 ^ w.vars) (assignment_of bits) (bdd_at w e) below) ∙ sym is in (
+        value_is_allowed t 0 (Eval a bits) z (outcome-eval t 0 a bits (Bdd (list_at w e)) (live_at t a e agrees live has) ∙ ap (λ x. Some (shows x)) value),
+        agrees-grown w w' rows t grown stored agrees,
+      )
+
+  pub step-drop_row : (a : Name) → IsLive rows a → IsStepOf w rows w (set rows a.row None) (DropRow a) Done
+  step-drop_row a live t agrees = (
+    done_is_allowed t 0 (DropRow a) (outcome-drop_row t 0 a (Bdd (list_at w live.1.0)) (live_at t a live.1.0 agrees live live.1.1)),
+    subst (λ (r : Name). Agrees w (set rows a.row None) (with_row t 0 r None)) (sym live.0) (agrees_drop w rows t a.row agrees),
+  )
+
+-- an operation that made an edge adds a row
+pub op_adds : (w w' : View) (rows new : Rows) (call : Call) (made : Result Edge Stop) (result : Result Name Stop) (f : ℕ → Bool) → Grown w w' → AreStored w rows
+    → IfOk made (λ e. Denotes kinds.Bdd w' e f) → IfOk result (λ name. IsKept made rows new name)
+    → ((t : Table) → Agrees w rows t → outcome t 0 call ≡ Some (makes (Bdd (list_of (2 ^ w.vars) f))))
+    → IfOk result (λ name. Adds w rows w' new call name)
+op_adds w w' rows new call made (Err e) f grown stored denotes kept is_outcome = tt
+op_adds w w' rows new call made (Ok name) f grown stored denotes kept is_outcome =
+    let is = subst (λ (r : Result Edge Stop). IfOk r (λ e. Denotes kinds.Bdd w' e f)) kept.1 denotes in
+    adds w w' rows new call name kept.0 grown stored (Is-from kinds.Bdd is) kept.2 kept.3
+    (λ t agrees. is_outcome t agrees ∙ ap (λ xs. Some (makes (Bdd xs))) (list-made w w' kept.0 f grown is))
+
+-- an operation that was refused for want of a slot
+pub op_refuses : (w w' : View) (rows new : Rows) (call : Call) (made : Result Edge Stop) (result : Result Name Stop) (f : ℕ → Bool) → Grown w w' → AreStored w rows
+    → (IsErrOf made stop.Full → Rose w w') → (IsErrOf result stop.Full → IsErrOf made stop.Full) → OnErr result (new ≡ rows) → IsTrue (may_be_full call)
+    → ((t : Table) → Agrees w rows t → outcome t 0 call ≡ Some (makes (Bdd (list_of (2 ^ w.vars) f))))
+    → IsErrOf result stop.Full → Refuses w rows w' new call
+op_refuses w w' rows new call made (Ok name) f grown stored rose full same may is_outcome e = cc
+op_refuses w w' rows new call made (Err x) f grown stored rose full same may is_outcome e =
+    refuses w w' rows new call grown stored (rose (full e)) same may (λ t agrees. (Bdd (list_of (2 ^ w.vars) f), is_outcome t agrees))
+
+-- the slot of a projection
+pub projection_denotes : (w w' : View) (v : ℕ) (e : Edge) → Grown w w' → Permanent w' → v < w.vars → w.vars ≤ 1024 → e ≡ record { index = 5 + v; complement = false }
+    → Denotes kinds.Bdd w' e (projection v)
+projection_denotes w w' v e grown permanent within few is =
+    subst (λ (x : Edge). Denotes kinds.Bdd w' x (projection v)) (sym is) (record {
+      is = permanent.projections v (omega arith, omega (arith, grown.vars));
+      beyond = λ u from k b. bit-set_other k u v b (omega (arith, from, grown.vars));
+      fits = tt;
+    })
+
+-- the slot of logic one, and its complement
+pub one_denotes : (w' : View) (b : Bool) (e : Edge) → Permanent w' → e ≡ record { index = 0; complement = not b } → Denotes kinds.Bdd w' e (constant b)
+one_denotes w' true e permanent is = subst (λ (x : Edge). Denotes kinds.Bdd w' x (constant true)) (sym is) (record { is = permanent.one; beyond = λ u from k b. refl; fits = tt })
+one_denotes w' false e permanent is =
+    subst (λ (x : Edge). Denotes kinds.Bdd w' x (constant false)) (sym is) (record { is = ap (flipped true) permanent.one; beyond = λ u from k b. refl; fits = tt })

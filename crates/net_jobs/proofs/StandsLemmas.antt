@@ -1,8 +1,8 @@
 -- A play that has said one more line.
-use Rattle.std.proofs.Common.{◌≡◌, ◌≢◌, ℕ, zero, suc, ◌+◌, ◌<◌, ◌≤◌, ◌⊎◌, ⊎_elim, Bool, true, false, not, cond, ◌&&◌, ◌||◌, List, [], ◌∷◌, ◌++◌, length, map, Option, Some, None, refl, sym, ap, ap₂, ◌∙◌, subst, arith, zero-add}
+use Rattle.std.proofs.Common.{◌≡◌, ℕ, zero, suc, ◌+◌, ◌<◌, ⊎_elim, Bool, true, false, not, ◌&&◌, ◌||◌, List, [], ◌∷◌, ◌++◌, length, map, Some, None, refl, sym, ap, ap₂, ◌∙◌, subst, zero-add}
 use Rattle.std.proofs.Math.ListN.{set, length-set}
-use Rattle.std.specs.Prelude.{◌==◌, slice_get, All, if◌then◌else◌}
-use Rattle.std.specs.List.{cons_option, flat_map, filter_map, list_any, range_with_len}
+use Rattle.std.specs.Prelude.{◌==◌}
+use Rattle.std.specs.List.{cons_option, flat_map, range_with_len}
 use Rattle.std.proofs.lemmas.Bool.{cases_eq, eq-eqb, ne_eqb}
 use Rattle.std.proofs.lemmas.List.{append-nil, length_push, length-map, map-append}
 use Rattle.std.proofs.lemmas.List.FromFn.{map-range_with_len_more}
@@ -19,18 +19,20 @@ use Rattle.function_laws.specs.Steps.{IsAllowed, after}
 use Rattle.function_laws.specs.Histories.{IsLegal, table_after}
 use Rattle.function_laws.proofs.HistoryLemmas.{IsLegalFrom-push, table_after-push}
 use Rattle.job_text.specs.declared.job.Act.{Act}
-use Rattle.job_text.specs.declared.job.Act.TheVariants.{Var, And, Drop, Eval}
+use Rattle.job_text.specs.declared.job.Act.TheVariants.{One, Zero, Var, Not, And, Or, Ite, Drop, Same, Eval}
 use Rattle.job_text.specs.declared.job.Command.{Command}
 use Rattle.job_text.specs.Text.{Word}
 use Rattle.job_text.specs.Grammar.{target_of}
 use Rattle.job_text.specs.Histories.{Held, HistoryLine, drops, given_by, held_as, held_by, line_text, registers_of, stops, text_of, told_of}
 use Rattle.net_jobs.specs.declared.playing.Answer.{Answer}
-use Rattle.net_jobs.specs.Agreement.{Agrees, IsStepOf, Rows, is_dropped, is_gone, name_of, sizes_for}
+use Rattle.edge_bits.specs.declared.edges.Edge.{Edge}
+use Rattle.node_slots.specs.Views.{View}
+use Rattle.net_jobs.specs.Agreement.{Agrees, Rows, is_dropped, is_gone, name_of, sizes_for}
 use Rattle.net_jobs.specs.Playing.{CanCall, IsAnswered, RowsAfter, Stands, assigned_after, call_with, makes, rows_left, target_at}
-use Rattle.net_jobs.proofs.ListLemmas.{slice_get-push_new, slice_get-push_old, slice_get-set_other, slice_get-set_same}
+use Rattle.net_jobs.proofs.ListLemmas.{slice_get-set_other, slice_get-set_same}
 
 -- one more row was not dropped, and the others are as before
-dropped-push : (rows : Rows) (f : List Bool) (row : ℕ) → is_dropped (rows ++ Some f ∷ []) row ≡ is_dropped rows row
+dropped-push : (rows : Rows) (f : Edge) (row : ℕ) → is_dropped (rows ++ Some f ∷ []) row ≡ is_dropped rows row
 dropped-push [] f zero = refl
 dropped-push [] f (suc row) = refl
 dropped-push (x ∷ rows) f zero = refl
@@ -64,29 +66,41 @@ registers-kept said line is =
     filter_map-append held_by said (line ∷ []) ∙ ap (λ o. registers_of said ++ cons_option (held_as line.words o) []) is ∙ append-nil (registers_of said)
 
 -- what was dropped after one more call
-dropped-after : (n : ℕ) (rows new : Rows) (act : Act) (answer : Answer) (answered : IsAnswered n rows new act answer) → CanCall n rows act → (row : ℕ)
+dropped-after : (w w' : View) (rows new : Rows) (act : Act) (answer : Answer) (answered : IsAnswered w rows w' new act answer) → CanCall w.vars rows act → (row : ℕ)
     → (is_dropped rows row || drops (name_of row) (call_with act)) ≡ is_dropped new row
-dropped-after n rows new act answer answered can row = by_made answer.made answered.made_if answered.rows
+dropped-after w w' rows new act answer answered can row = by_made answer.made answered.made_if answered.rows
   where
     by_made : (made : Bool) → made ≡ (makes act && not (stops answer.reply)) → RowsAfter made rows new act answered.reply
         → (is_dropped rows row || drops (name_of row) (call_with act)) ≡ is_dropped new row
     by_made made is after = by_act act can made is after
       where
-        by_act : (act : Act) → CanCall n rows act → (made : Bool) → made ≡ (makes act && not (stops answer.reply)) → RowsAfter made rows new act answered.reply
+        by_act : (act : Act) → CanCall w.vars rows act → (made : Bool) → made ≡ (makes act && not (stops answer.reply)) → RowsAfter made rows new act answered.reply
             → (is_dropped rows row || drops (name_of row) (call_with act)) ≡ is_dropped new row
+        by_act One can true is after = or_false (is_dropped rows row) ∙ sym (dropped-push rows after.1.0 row) ∙ ap (λ r. is_dropped r row) (sym after.1.1)
+        by_act One can false is after = or_false (is_dropped rows row) ∙ ap (λ r. is_dropped r row) (sym after.1)
+        by_act Zero can true is after = or_false (is_dropped rows row) ∙ sym (dropped-push rows after.1.0 row) ∙ ap (λ r. is_dropped r row) (sym after.1.1)
+        by_act Zero can false is after = or_false (is_dropped rows row) ∙ ap (λ r. is_dropped r row) (sym after.1)
         by_act (Var v) can true is after = or_false (is_dropped rows row) ∙ sym (dropped-push rows after.1.0 row) ∙ ap (λ r. is_dropped r row) (sym after.1.1)
         by_act (Var v) can false is after = or_false (is_dropped rows row) ∙ ap (λ r. is_dropped r row) (sym after.1)
+        by_act (Not a) can true is after = or_false (is_dropped rows row) ∙ sym (dropped-push rows after.1.0 row) ∙ ap (λ r. is_dropped r row) (sym after.1.1)
+        by_act (Not a) can false is after = or_false (is_dropped rows row) ∙ ap (λ r. is_dropped r row) (sym after.1)
         by_act (And a b) can true is after = or_false (is_dropped rows row) ∙ sym (dropped-push rows after.1.0 row) ∙ ap (λ r. is_dropped r row) (sym after.1.1)
         by_act (And a b) can false is after = or_false (is_dropped rows row) ∙ ap (λ r. is_dropped r row) (sym after.1)
+        by_act (Or a b) can true is after = or_false (is_dropped rows row) ∙ sym (dropped-push rows after.1.0 row) ∙ ap (λ r. is_dropped r row) (sym after.1.1)
+        by_act (Or a b) can false is after = or_false (is_dropped rows row) ∙ ap (λ r. is_dropped r row) (sym after.1)
+        by_act (Ite a b c) can true is after = or_false (is_dropped rows row) ∙ sym (dropped-push rows after.1.0 row) ∙ ap (λ r. is_dropped r row) (sym after.1.1)
+        by_act (Ite a b c) can false is after = or_false (is_dropped rows row) ∙ ap (λ r. is_dropped r row) (sym after.1)
         by_act (Drop a) can true is after = cc
         by_act (Drop a) can false is after =
             sym (dropped-set rows a row (slice_get_within rows a (Some can.0) can.1)) ∙ ap (λ r. is_dropped r row) (sym after.1)
+        by_act (Same a b) can true is after = cc
+        by_act (Same a b) can false is after = or_false (is_dropped rows row) ∙ ap (λ r. is_dropped r row) (sym after.1)
         by_act (Eval a bits) can true is after = cc
         by_act (Eval a bits) can false is after = or_false (is_dropped rows row) ∙ ap (λ r. is_dropped r row) (sym after.1)
 
-module _ (n : ℕ) (commands : List Command) (rows new : Rows) (assigned text : List ℕ) (place i : ℕ) (said : List HistoryLine)
-    (words : List Word) (act : Act) (answer : Answer) (stands : Stands n commands rows assigned text place said)
-    (answered : IsAnswered n rows new act answer) (can : CanCall n rows act) where
+module _ (w w' : View) (commands : List Command) (rows new : Rows) (assigned text : List ℕ) (place i : ℕ) (said : List HistoryLine)
+    (words : List Word) (act : Act) (answer : Answer) (stands : Stands w commands rows assigned text place said)
+    (answered : IsAnswered w rows w' new act answer) (can : CanCall w.vars rows act) where
   -- the line of the call
   abbrev pub said_line : HistoryLine
   said_line = record { entry = record { place = place; session = 0; call = call_with act; reply = answered.reply }; words = words; reply = answer.reply }
@@ -95,22 +109,24 @@ module _ (n : ℕ) (commands : List Command) (rows new : Rows) (assigned text : 
   entries = map (λ line. line.entry) said
 
   abbrev before : Table
-  before = table_after (opening (sizes_for n)) entries
+  before = table_after (opening (sizes_for w.vars)) entries
 
-  steps : IsAllowed before 0 (call_with act) answered.reply × Agrees (sizes_for n) new (after before 0 (call_with act) answered.reply)
+  steps : IsAllowed before 0 (call_with act) answered.reply × Agrees w' new (after before 0 (call_with act) answered.reply)
   steps = answered.step before stands.agrees
 
   entries-push : map (λ line. line.entry) (said ++ said_line ∷ []) ≡ entries ++ said_line.entry ∷ []
   entries-push = map-append (λ line. line.entry) said (said_line ∷ [])
 
-  legal-after : IsLegal (sizes_for n) (map (λ line. line.entry) (said ++ said_line ∷ []))
-  legal-after = subst (λ (es : List Entry). IsLegal (sizes_for n) es) (sym entries-push)
-      (IsLegalFrom-push 0 (opening (sizes_for n)) entries said_line.entry stands.legal
-      (stands.number ∙ sym (length-map said (λ line. line.entry)) ∙ sym (zero-add (length entries))) steps.0)
+  legal-after : IsLegal (sizes_for w'.vars) (map (λ line. line.entry) (said ++ said_line ∷ []))
+  legal-after = subst (λ n. IsLegal (sizes_for n) (map (λ line. line.entry) (said ++ said_line ∷ []))) (sym answered.grown.vars)
+      (subst (λ (es : List Entry). IsLegal (sizes_for w.vars) es) (sym entries-push)
+      (IsLegalFrom-push 0 (opening (sizes_for w.vars)) entries said_line.entry stands.legal
+      (stands.number ∙ sym (length-map said (λ line. line.entry)) ∙ sym (zero-add (length entries))) steps.0))
 
-  agrees-after : Agrees (sizes_for n) new (table_after (opening (sizes_for n)) (map (λ line. line.entry) (said ++ said_line ∷ [])))
-  agrees-after = subst (λ (t : Table). Agrees (sizes_for n) new t)
-      (sym (ap (table_after (opening (sizes_for n))) entries-push ∙ table_after-push (opening (sizes_for n)) entries said_line.entry)) steps.1
+  agrees-after : Agrees w' new (table_after (opening (sizes_for w'.vars)) (map (λ line. line.entry) (said ++ said_line ∷ [])))
+  agrees-after = subst (λ n. Agrees w' new (table_after (opening (sizes_for n)) (map (λ line. line.entry) (said ++ said_line ∷ [])))) (sym answered.grown.vars)
+      (subst (λ (t : Table). Agrees w' new t)
+      (sym (ap (table_after (opening (sizes_for w.vars))) entries-push ∙ table_after-push (opening (sizes_for w.vars)) entries said_line.entry)) steps.1)
 
   registers-after : (made : Bool) → RowsAfter made rows new act answered.reply → (made ≡ true → target_at commands i ≡ target_of words)
       → (map (λ register. register.word) (registers_of (said ++ said_line ∷ [])) ≡ map (target_at commands) (assigned_after made assigned i))
@@ -136,18 +152,25 @@ module _ (n : ℕ) (commands : List Command) (rows new : Rows) (assigned text : 
       )
     where
       length-left : (act : Act) → length (rows_left rows act) ≡ length rows
+      length-left One = refl
+      length-left Zero = refl
       length-left (Var v) = refl
+      length-left (Not a) = refl
       length-left (And a b) = refl
+      length-left (Or a b) = refl
+      length-left (Ite a b c) = refl
       length-left (Drop a) = length-set rows a None
+      length-left (Same a b) = refl
       length-left (Eval a bits) = refl
 
   pub stands-after : (new_text : List ℕ) (next : ℕ) → (answer.made ≡ true → target_at commands i ≡ target_of words) → new_text ≡ text ++ line_text place 0 words answer.reply → next ≡ place + 1
-      → Stands n commands new (assigned_after answer.made assigned i) new_text next (said ++ said_line ∷ [])
+      → Stands w' commands new (assigned_after answer.made assigned i) new_text next (said ++ said_line ∷ [])
   stands-after new_text next word is_text is_next =
       let registers = registers-after answer.made answered.rows word in
       record {
         legal = legal-after;
         agrees = agrees-after;
+        stored = answered.stored;
         told = All-append (λ line. told_of line.entry.reply ≡ Some line.reply) said (said_line ∷ []) stands.told
             (All-cons (λ line. told_of line.entry.reply ≡ Some line.reply) said_line [] answered.told (All-nil (λ line. told_of line.entry.reply ≡ Some line.reply)));
         alone = All-append (λ line. line.entry.session ≡ 0) said (said_line ∷ []) stands.alone
@@ -156,13 +179,12 @@ module _ (n : ℕ) (commands : List Command) (rows new : Rows) (assigned text : 
         names = registers.1;
         count = registers.2;
         dropped = λ row. list_any-append (λ line. drops (name_of row) line.entry.call) said (said_line ∷ [])
-            ∙ ap₂ (λ a b. a || b) (stands.dropped row) (or_false (drops (name_of row) (call_with act))) ∙ dropped-after n rows new act answer answered can row;
+            ∙ ap₂ (λ a b. a || b) (stands.dropped row) (or_false (drops (name_of row) (call_with act))) ∙ dropped-after w w' rows new act answer answered can row;
         written = is_text ∙ ap (λ xs. xs ++ line_text place 0 words answer.reply) stands.written
             ∙ ap (λ xs. flat_map text_of said ++ xs) (sym (append-nil (line_text place 0 words answer.reply))) ∙ sym (flat_map-append text_of said (said_line ∷ []));
         number = is_next ∙ ap (λ k. k + 1) stands.number ∙ sym (length_push said said_line);
       }
 
-pub stands-along : (n m : ℕ) (commands : List Command) (rows : Rows) (xs ys text : List ℕ) (place : ℕ) (said : List HistoryLine) → m ≡ n → ys ≡ xs
-    → Stands n commands rows xs text place said → Stands m commands rows ys text place said
-stands-along n m commands rows xs ys text place said same_n same_xs stands =
-    subst (λ k. Stands k commands rows ys text place said) (sym same_n) (subst (λ zs. Stands n commands rows zs text place said) (sym same_xs) stands)
+pub stands-along : (w : View) (commands : List Command) (rows : Rows) (xs ys text : List ℕ) (place : ℕ) (said : List HistoryLine) → ys ≡ xs
+    → Stands w commands rows xs text place said → Stands w commands rows ys text place said
+stands-along w commands rows xs ys text place said same stands = subst (λ zs. Stands w commands rows zs text place said) (sym same) stands

@@ -1,47 +1,61 @@
 -- How far a play has come: what its rows, its registers and its text have to do with the lines said so far.
-use Rattle.std.specs.Prelude.{◌≡◌, ℕ, ◌+◌, ◌<◌, ◌≤◌, Bool, true, false, not, ◌&&◌, List, [], ◌∷◌, ◌++◌, length, map, take, Option, Some, None, slice_get, slice_set, slice_index, All, if◌then◌else◌, ◌-◌}
+use Rattle.std.specs.Prelude.{◌≡◌, ℕ, ◌<◌, Bool, true, false, not, ◌&&◌, List, [], ◌∷◌, ◌++◌, length, map, take, Option, Some, None, slice_get, slice_set, slice_index, All, if◌then◌else◌, ◌-◌}
 use Rattle.std.specs.List.{flat_map, list_any, list_all, range_with_len}
-use Rattle.function_laws.specs.declared.history.Name.{Name}
 use Rattle.function_laws.specs.declared.history.Call.{Call}
 use Rattle.function_laws.specs.declared.history.Call.TheVariants as calls
 use Rattle.function_laws.specs.declared.history.Reply.{Reply as LawReply}
 use Rattle.function_laws.specs.Tables.{opening}
 use Rattle.function_laws.specs.Histories.{IsLegal, table_after}
 use Rattle.job_text.specs.declared.job.Act.{Act}
-use Rattle.job_text.specs.declared.job.Act.TheVariants.{Var, And, Drop, Eval}
+use Rattle.job_text.specs.declared.job.Act.TheVariants.{One, Zero, Var, Not, And, Or, Ite, Drop, Same, Eval}
 use Rattle.job_text.specs.declared.job.Command.{Command}
 use Rattle.job_text.specs.declared.job.Register.{Register}
 use Rattle.job_text.specs.Text.{Word}
 use Rattle.job_text.specs.Grammar.{target_of}
-use Rattle.job_text.specs.Histories.{Held, HistoryLine, Calls, SayInOrder, drop_of, drops, given_by, left_of, line_text, registers_of, stops, text_of, told_of}
+use Rattle.job_text.specs.Histories.{Held, HistoryLine, SayInOrder, drop_of, drops, given_by, left_of, registers_of, stops, text_of, told_of}
 use Rattle.net_jobs.specs.declared.playing.Answer.{Answer}
 use Rattle.net_jobs.specs.declared.playing.Progress.{Progress}
-use Rattle.net_jobs.specs.Agreement.{Agrees, Has, IsStepOf, Rows, is_dropped, name_of, sizes_for}
+use Rattle.edge_bits.specs.declared.edges.Edge.{Edge}
+use Rattle.node_slots.specs.Stores.{plain_view}
+use Rattle.node_slots.specs.Views.{View, Grown, Rose}
+use Rattle.net_jobs.specs.Agreement.{Agrees, AreStored, Has, IsStepOf, Rows, is_dropped, name_of, sizes_for}
 
 -- the row was not dropped
 abbrev pub IsHeld : Rows → ℕ → Type 0
-IsHeld rows row = (f : List Bool) × Has rows row f
+IsHeld rows row = (e : Edge) × Has rows row e
 
 -- the conditions of a command's call: its variable is one of n, its registers are rows that were not dropped, it has n bits
 abbrev pub CanCall : ℕ → Rows → Act → Type 0
+CanCall n rows One = Unit {0}
+CanCall n rows Zero = Unit {0}
 CanCall n rows (Var v) = v < n
+CanCall n rows (Not a) = IsHeld rows a
 CanCall n rows (And a b) = IsHeld rows a × IsHeld rows b
+CanCall n rows (Or a b) = IsHeld rows a × IsHeld rows b
+CanCall n rows (Ite a b c) = IsHeld rows a × IsHeld rows b × IsHeld rows c
 CanCall n rows (Drop a) = IsHeld rows a
+CanCall n rows (Same a b) = IsHeld rows a × IsHeld rows b
 CanCall n rows (Eval a bits) = IsHeld rows a × (length bits ≡ n)
 
 -- the call of a command, where the register of each number is the row of that number
 abbrev pub call_with : Act → Call
+call_with One = calls.One
+call_with Zero = calls.Zero
 call_with (Var v) = calls.Var v
+call_with (Not a) = calls.Not (name_of a)
 call_with (And a b) = calls.And (name_of a) (name_of b)
+call_with (Or a b) = calls.Or (name_of a) (name_of b)
+call_with (Ite a b c) = calls.Ite (name_of a) (name_of b) (name_of c)
 call_with (Drop a) = calls.DropRow (name_of a)
+call_with (Same a b) = calls.Same (name_of a) (name_of b)
 call_with (Eval a bits) = calls.Eval (name_of a) bits
 
 -- the command makes a row, unless it stops the session
 abbrev pub makes : Act → Bool
-makes (Var v) = true
-makes (And a b) = true
 makes (Drop a) = false
+makes (Same a b) = false
 makes (Eval a bits) = false
+makes _ = true
 
 -- the rows after a command that made none
 abbrev pub rows_left : Rows → Act → Rows
@@ -50,12 +64,12 @@ rows_left rows _ = rows
 
 -- the reply gives the name of a new row at the end, or none
 abbrev pub RowsAfter : Bool → Rows → Rows → Act → LawReply → Type 0
-RowsAfter true old new act reply = (given_by reply ≡ Some (name_of (length old))) × ((values : List Bool) × (new ≡ old ++ Some values ∷ []))
+RowsAfter true old new act reply = (given_by reply ≡ Some (name_of (length old))) × ((e : Edge) × (new ≡ old ++ Some e ∷ []))
 RowsAfter false old new act reply = (given_by reply ≡ None) × (new ≡ rows_left old act)
 
 -- one more row at the end, or what is left of them
 abbrev pub GrowsOrLeft : Bool → Rows → Rows → Act → Type 0
-GrowsOrLeft true old new act = (values : List Bool) × (new ≡ old ++ Some values ∷ [])
+GrowsOrLeft true old new act = (e : Edge) × (new ≡ old ++ Some e ∷ [])
 GrowsOrLeft false old new act = new ≡ rows_left old act
 
 -- the rows after a command, where the session goes on
@@ -63,12 +77,16 @@ abbrev pub RowsGoOn : Bool → Rows → Rows → Act → Type 0
 RowsGoOn goes_on old new act = goes_on ≡ true → GrowsOrLeft (makes act) old new act
 
 -- The command was called, and this was answered.
-pub record IsAnswered (n : ℕ) (old new : Rows) (act : Act) (answer : Answer) : Type 0 where
+pub record IsAnswered (w : View) (old : Rows) (w' : View) (new : Rows) (act : Act) (answer : Answer) : Type 0 where
   pub reply : LawReply
   pub told : told_of reply ≡ Some answer.reply
   pub made_if : answer.made ≡ (makes act && not (stops answer.reply))
-  pub step : IsStepOf n old new (call_with act) reply
+  pub step : IsStepOf w old w' new (call_with act) reply
   pub rows : RowsAfter answer.made old new act reply
+  pub grown : Grown w w'
+  pub stored : AreStored w' new
+  -- full is told only where the store's count of its answers Full rose
+  pub full : stops answer.reply ≡ true → Rose w w'
 
 abbrev pub target_in : Option Command → Word
 target_in None = []
@@ -84,9 +102,10 @@ assigned_after made assigned i = if made then assigned ++ i ∷ [] else assigned
 
 -- These lines were said, and are a legal history. The rows are those of the table that it leaves, in the order in which
 -- they were made; `assigned` has for each of them the place of the command that made it; the text is that of the lines.
-pub record Stands (n : ℕ) (commands : List Command) (rows : Rows) (assigned text : List ℕ) (place : ℕ) (said : List HistoryLine) : Type 0 where
-  pub legal : IsLegal (sizes_for n) (map (λ line. line.entry) said)
-  pub agrees : Agrees (sizes_for n) rows (table_after (opening (sizes_for n)) (map (λ line. line.entry) said))
+pub record Stands (w : View) (commands : List Command) (rows : Rows) (assigned text : List ℕ) (place : ℕ) (said : List HistoryLine) : Type 0 where
+  pub legal : IsLegal (sizes_for w.vars) (map (λ line. line.entry) said)
+  pub agrees : Agrees w rows (table_after (opening (sizes_for w.vars)) (map (λ line. line.entry) said))
+  pub stored : AreStored w rows
   pub told : All (λ line. told_of line.entry.reply ≡ Some line.reply) said
   pub alone : All (λ line. line.entry.session ≡ 0) said
   pub words : map (λ register. register.word) (registers_of said) ≡ map (target_at commands) assigned
@@ -109,7 +128,7 @@ pub record SaysThrough (commands : List Command) (said : List HistoryLine) : Typ
 
 -- the same of a play
 abbrev pub StandsAt : List Command → Progress → List HistoryLine → Type 0
-StandsAt commands play said = Stands play.session.vars commands play.session.rows.items play.assigned.items play.text.items play.place said
+StandsAt commands play said = Stands (plain_view play.session.store) commands play.session.rows.items play.assigned.items play.text.items play.place said
 
 -- One more line was said, for this command, from one play to the next; and whether the session goes on.
 pub record SaysOne (commands : List Command) (command : Command) (goes_on : Bool) (old new : Progress) (said : List HistoryLine) : Type 0 where

@@ -10,6 +10,7 @@ mod sink;
 mod source;
 mod status;
 mod top;
+mod walking;
 mod writing;
 
 pub use gate::{Gate, Open};

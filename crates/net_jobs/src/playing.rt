@@ -1,16 +1,19 @@
 //! The commands of a job, one after another, and the text of their history.
 
-ghost use Rattle.std.specs.Prelude.{◌≡◌, ◌≢◌, ◌<◌, ◌≤◌, ◌^◌, ◌+◌, ◌++◌, [], length, string_bytes, vec_len, All, slice_get, IfOk, IfSome, OnOk, Some, not, List as ListOf, ◌∷◌, codes, ℕ};
+ghost use Rattle.std.specs.Prelude.{◌≡◌, ◌≢◌, ◌<◌, ◌≤◌, ◌^◌, ◌+◌, ◌++◌, [], length, string_bytes, vec_len, All, slice_get, IfOk, IfSome, IsErrOf, MatchResult, OnOk, true, false, Some, not, List as ListOf, ◌∷◌, codes, ℕ};
 ghost use Rattle.job_text.specs.Grammar.{CommandsSay, IsJob, target_of};
 ghost use Rattle.job_text.specs.Histories.{HistoryLine, IsPlayed, drop_of, left_of, left_text, line_text, stops};
-ghost use Rattle.net_jobs.specs.Agreement.{is_dropped, name_of};
-ghost use Rattle.net_jobs.specs.Playing.{CanCall, DropsOne, DropsTheRest, IsAnswered, RowsGoOn, SaysOne, SaysThrough, StandsAt, assigned_after, target_at};
+ghost use Rattle.node_slots.specs.Stores.{plain_view};
+ghost use Rattle.node_slots.specs.Views.{Grown};
+ghost use Rattle.net_jobs.specs.Agreement.{Adds, AreStored, Refuses, is_dropped, name_of};
+ghost use Rattle.net_jobs.specs.Playing.{CanCall, DropsOne, DropsTheRest, IsAnswered, RowsGoOn, SaysOne, SaysThrough, StandsAt, assigned_after, call_with, makes, target_at};
 
 use crate::gate::Gate;
 use crate::session::Session;
 use edge_bits::{List, Memory};
 use function_laws::Name;
 use job_text::{Act, Command, Job, Reply, line};
+use node_slots::{PlainStore, Stop};
 use std::alloc::{AllocError, Global};
 
 /// What a command was answered, and whether it made a row.
@@ -40,54 +43,84 @@ fn register(number: u32) -> Name
     }
 }
 
-/// Makes the call of a command.
-fn perform(alloc: Global, session: &mut Session, act: &Act) -> Result<Answer, Memory>
-    requires can { CanCall session.old.vars session.old.rows.items act.now }
-    requires room { vec_len session.old.rows < 2 ^ 32 }
-    ensures ok { IfOk result (λ answer. IsAnswered session.old.vars session.old.rows.items session.new.rows.items act.now answer) }
-    ensures vars { session.new.vars ≡ session.old.vars }
+/// What an operation that makes a row is answered.
+fn answer_of(made: Result<Name, Stop>) -> Result<Answer, Memory>
+    ensures ok { IfOk result (λ answer. MatchResult made (λ _. answer ≡ record { reply = Reply.Done; made = true })
+        (λ stop. (stop ≡ Stop.Full) × (answer ≡ record { reply = Reply.Full; made = false }))) }
 {
-    match act {
-        Act::Var(v) => {
-            let _name = session.var(alloc, *v)?;
-            Ok(Answer {
-                reply: Reply::Done,
-                made: true,
-            })
-        }
-        Act::And(a, b) => {
-            let _name = session.and(alloc, register(*a), register(*b))?;
-            Ok(Answer {
-                reply: Reply::Done,
-                made: true,
-            })
-        }
-        Act::Drop(a) => {
-            session.drop_row(register(*a));
-            Ok(Answer {
-                reply: Reply::Done,
-                made: false,
-            })
-        }
-        Act::Eval(a, bits) => Ok(Answer {
-            reply: Reply::Number(session.eval(register(*a), bits.as_slice())),
+    match made {
+        Ok(_) => Ok(Answer {
+            reply: Reply::Done,
+            made: true,
+        }),
+        Err(Stop::Full) => Ok(Answer {
+            reply: Reply::Full,
             made: false,
         }),
+        Err(Stop::Memory) => Err(Memory),
     }
+}
+
+/// Makes the call of a command that makes a row.
+fn operate(session: &mut Session, act: &Act) -> Result<Name, Stop>
+    requires can { CanCall (plain_view session.old.store).vars session.old.rows.items act.now }
+    requires makes { makes act.now ≡ true }
+    requires stored { AreStored (plain_view session.old.store) session.old.rows.items }
+    requires room { vec_len session.old.rows < 2 ^ 32 }
+    ensures ok { IfOk result (λ name. Adds (plain_view session.old.store) session.old.rows.items (plain_view session.new.store) session.new.rows.items (call_with act.now) name) }
+    ensures full { IsErrOf result Stop.Full → Refuses (plain_view session.old.store) session.old.rows.items (plain_view session.new.store) session.new.rows.items (call_with act.now) }
+    ensures grown { Grown (plain_view session.old.store) (plain_view session.new.store) }
+{
+    match act {
+        Act::One => session.one(),
+        Act::Zero => session.zero(),
+        Act::Var(v) => session.var(*v),
+        Act::Not(a) => session.not(register(*a)),
+        Act::And(a, b) => session.and(register(*a), register(*b)),
+        Act::Or(a, b) => session.or(register(*a), register(*b)),
+        Act::Ite(a, b, c) => session.ite(register(*a), register(*b), register(*c)),
+        Act::Drop(_) | Act::Same(_, _) | Act::Eval(_, _) => unreachable!(),
+    }
+}
+
+/// Makes the call of a command.
+fn perform(session: &mut Session, act: &Act) -> Result<Answer, Memory>
+    requires can { CanCall (plain_view session.old.store).vars session.old.rows.items act.now }
+    requires stored { AreStored (plain_view session.old.store) session.old.rows.items }
+    requires room { vec_len session.old.rows < 2 ^ 32 }
+    ensures ok { IfOk result (λ answer. IsAnswered (plain_view session.old.store) session.old.rows.items (plain_view session.new.store) session.new.rows.items act.now answer) }
+{
+    let reply = match act {
+        Act::Drop(a) => {
+            session.drop_row(register(*a));
+            Reply::Done
+        }
+        Act::Same(a, b) => {
+            if session.same(register(*a), register(*b)) {
+                Reply::Yes
+            } else {
+                Reply::No
+            }
+        }
+        Act::Eval(a, bits) => Reply::Number(session.eval(register(*a), bits.as_slice())),
+        _ => return answer_of(operate(session, act)),
+    };
+    Ok(Answer { reply, made: false })
 }
 
 /// Makes the call of a command and adds its line to the text.
 fn speak(alloc: Global, play: &mut Progress, command: &Command) -> Result<Answer, Memory>
-    requires can { CanCall play.old.session.vars play.old.session.rows.items command.now.act }
+    requires can { CanCall (plain_view play.old.session.store).vars play.old.session.rows.items command.now.act }
+    requires stored { AreStored (plain_view play.old.session.store) play.old.session.rows.items }
     requires room { vec_len play.old.session.rows < 2 ^ 32 }
     requires place { play.old.place < 2 ^ 63 }
-    ensures answered { IfOk result (λ answer. IsAnswered play.old.session.vars play.old.session.rows.items play.new.session.rows.items command.now.act answer) }
+    ensures answered { IfOk result (λ answer. IsAnswered (plain_view play.old.session.store) play.old.session.rows.items (plain_view play.new.session.store) play.new.session.rows.items command.now.act answer) }
     ensures text { IfOk result (λ answer. play.new.text.items ≡ play.old.text.items ++ line_text play.old.place 0 command.now.words answer.reply) }
     ensures place { OnOk result (play.new.place ≡ play.old.place + 1) }
-    ensures vars { OnOk result (play.new.session.vars ≡ play.old.session.vars) }
+    ensures vars { OnOk result ((plain_view play.new.session.store).vars ≡ (plain_view play.old.session.store).vars) }
     ensures assigned { OnOk result (play.new.assigned.items ≡ play.old.assigned.items) }
 {
-    let answer = perform(alloc, &mut play.session, &command.act)?;
+    let answer = perform(&mut play.session, &command.act)?;
     let said = line(alloc, play.place, 0, command, answer.reply)?;
     play.text.extend_from_slice(&said)?;
     play.place += 1;
@@ -114,14 +147,15 @@ fn note(assigned: &mut Vec<usize>, made: bool, i: usize) -> Result<(), Memory>
 /// Plays the command at this place: whether the session goes on.
 fn say(alloc: Global, play: &mut Progress, commands: &[Command], i: usize) -> Result<bool, Memory>
     requires within { i < length commands.now }
-    requires can { IfSome (slice_get commands.now i) (λ command. CanCall play.old.session.vars play.old.session.rows.items command.act) }
+    requires can { IfSome (slice_get commands.now i) (λ command. CanCall (plain_view play.old.session.store).vars play.old.session.rows.items command.act) }
+    requires stored { AreStored (plain_view play.old.session.store) play.old.session.rows.items }
     requires room { vec_len play.old.session.rows < 2 ^ 32 }
     requires place { play.old.place < 2 ^ 63 }
     ensures said { IfOk result (λ goes_on. (said : ListOf HistoryLine) → StandsAt commands.now play.old said
         → IfSome (slice_get commands.now i) (λ command. SaysOne commands.now command goes_on play.old play.new said)) }
     ensures rows { IfOk result (λ goes_on. IfSome (slice_get commands.now i) (λ command. RowsGoOn goes_on play.old.session.rows.items play.new.session.rows.items command.act)) }
     ensures few { OnOk result (vec_len play.new.session.rows ≤ vec_len play.old.session.rows + 1) }
-    ensures vars { OnOk result (play.new.session.vars ≡ play.old.session.vars) }
+    ensures vars { OnOk result ((plain_view play.new.session.store).vars ≡ (plain_view play.old.session.store).vars) }
     ensures place { OnOk result (play.new.place ≡ play.old.place + 1) }
 {
     let answer = speak(alloc, play, &commands[i])?;
@@ -137,13 +171,13 @@ fn say_all<G: Gate>(
     gate: &G,
 ) -> Result<(), Memory>
     requires few { length commands.now < 2 ^ 32 }
-    requires say { CommandsSay play.old.session.vars [] commands.now }
+    requires say { CommandsSay (plain_view play.old.session.store).vars [] commands.now }
     requires rows { play.old.session.rows.items ≡ [] }
     requires start { StandsAt commands.now play.old [] }
     ensures said { OnOk result ((said : ListOf HistoryLine) × StandsAt commands.now play.new said × SaysThrough commands.now said) }
     ensures place { OnOk result (play.new.place ≤ length commands.now) }
     ensures rows { OnOk result (vec_len play.new.session.rows ≤ length commands.now) }
-    ensures vars { OnOk result (play.new.session.vars ≡ play.old.session.vars) }
+    ensures vars { OnOk result ((plain_view play.new.session.store).vars ≡ (plain_view play.old.session.store).vars) }
 {
     for i in 0..commands.len() {
         gate.pass(0, i as u32);
@@ -190,13 +224,15 @@ fn drop_at(
 ) -> Result<(), Memory>
     requires within { row < vec_len play.old.session.rows }
     requires assigned { vec_len play.old.assigned ≡ vec_len play.old.session.rows }
+    requires stored { AreStored (plain_view play.old.session.store) play.old.session.rows.items }
     requires room { vec_len play.old.session.rows < 2 ^ 32 }
     requires place { play.old.place < 2 ^ 63 }
     ensures said { OnOk result ((said : ListOf HistoryLine) → StandsAt commands.now play.old said → DropsOne commands.now play.old play.new said row) }
+    ensures stored { OnOk result (AreStored (plain_view play.new.session.store) play.new.session.rows.items) }
     ensures others { OnOk result ((other : ℕ) → other ≢ row → is_dropped play.new.session.rows.items other ≡ is_dropped play.old.session.rows.items other) }
     ensures assigned { OnOk result (play.new.assigned.items ≡ play.old.assigned.items) }
     ensures rows { OnOk result (vec_len play.new.session.rows ≡ vec_len play.old.session.rows) }
-    ensures vars { OnOk result (play.new.session.vars ≡ play.old.session.vars) }
+    ensures vars { OnOk result ((plain_view play.new.session.store).vars ≡ (plain_view play.old.session.store).vars) }
     ensures place { OnOk result (play.new.place ≤ play.old.place + 1) }
 {
     if !play.session.is_live(row) {
@@ -211,10 +247,11 @@ fn drop_at(
 /// Drops the rows that are left, in order of assignment.
 fn drop_all(alloc: Global, play: &mut Progress, commands: &[Command]) -> Result<(), Memory>
     requires assigned { vec_len play.old.assigned ≡ vec_len play.old.session.rows }
+    requires stored { AreStored (plain_view play.old.session.store) play.old.session.rows.items }
     requires room { vec_len play.old.session.rows < 2 ^ 32 }
     requires place { play.old.place < 2 ^ 32 }
     ensures said { OnOk result ((said : ListOf HistoryLine) → StandsAt commands.now play.old said → DropsTheRest commands.now play.new said) }
-    ensures vars { OnOk result (play.new.session.vars ≡ play.old.session.vars) }
+    ensures vars { OnOk result ((plain_view play.new.session.store).vars ≡ (plain_view play.old.session.store).vars) }
 {
     for row in 0..play.assigned.len() {
         drop_at(alloc, play, commands, row)?;
@@ -241,14 +278,18 @@ pub fn play<G: Gate>(alloc: Global, job: &Job, gate: &G) -> Result<Vec<u8>, Memo
     };
     let commands = section.as_slice();
     let mut play = Progress {
-        session: Session::new(alloc, job.vars)?,
+        session: Session {
+            store: PlainStore::new(alloc, job.vars, job.elements, job.limit)?,
+            rows: Vec::new(alloc),
+        },
         assigned: Vec::new(alloc),
         text: Vec::new(alloc),
         place: 0,
     };
     say_all(alloc, &mut play, commands, gate)?;
     drop_all(alloc, &mut play, commands)?;
+    let left = play.session.store.clear();
     let mut text = play.text;
-    text.extend_from_slice(left_line(alloc, 5 + job.vars)?.as_bytes())?;
+    text.extend_from_slice(left_line(alloc, left)?.as_bytes())?;
     Ok(text)
 }

@@ -1,43 +1,48 @@
-//! A session whose rows are whole lists of values, one for each assignment: the plain program of the definitions.
+//! A session whose rows are edges of a store.
 
-ghost use Rattle.std.specs.Prelude.{◌≡◌, ◌<◌, ◌≤◌, ◌^◌, ◌+◌, ◌*◌, ◌++◌, ◌∷◌, [], length, vec_len, IfOk, OnErr, Some, None, not, slice_set, List as ListOf, Bool};
+ghost use Rattle.std.specs.Prelude.{◌≡◌, ◌<◌, ◌≤◌, ◌^◌, ◌+◌, ◌++◌, ◌∷◌, [], not, length, vec_len, IfOk, IsErrOf, OnErr, Some, None, slice_set, ◌↔◌, IsTrue};
+ghost use Rattle.edge_bits.specs.declared.edges.Kind.TheVariants as kinds;
 ghost use Rattle.function_laws.specs.declared.history.Call.TheVariants as calls;
 ghost use Rattle.function_laws.specs.declared.history.Reply.TheVariants as replies;
-ghost use Rattle.function_laws.specs.Lists.{list_of};
-ghost use Rattle.function_laws.specs.Values.{assignment_of, projection};
-ghost use Rattle.net_jobs.specs.Agreement.{Adds, Has, IsConjunction, IsLive, IsLong, IsStepOf, is_dropped, name_of};
+ghost use Rattle.node_slots.specs.Stores.{plain_view};
+ghost use Rattle.node_slots.specs.Views.{Grown, Is, Permanent};
+ghost use Rattle.net_jobs.specs.Agreement.{Adds, AreStored, Has, IsKept, IsLive, IsStepOf, Refuses, is_dropped, name_of};
 
-use edge_bits::{List, Memory};
-use function_laws::{Name, ite_of};
+use crate::walking::value_at;
+use edge_bits::{Edge, Kind, Memory};
+use function_laws::Name;
+use node_slots::{Grow, PlainStore, Stop};
 use std::alloc::Global;
 
-/// The most variables of which functions are kept as lists.
-const MAX_LISTED: u32 = 16;
-
-/// The functions of a session by the number of their row, and none where a row was dropped.
+/// The edges of a session by the number of their row, and none where a row was dropped.
 #[derive(Drop)]
 pub struct Session {
-    pub vars: u32,
-    pub rows: Vec<Option<List<bool>>>,
-    ghost few_variables: { vars ≤ 16 },
-    ghost long: { IsLong vars rows.items },
+    pub store: PlainStore,
+    pub rows: Vec<Option<Edge>>,
+}
+
+/// A new row of the edge that was made, if it was made. An error changes nothing.
+fn keep(rows: &mut Vec<Option<Edge>>, made: Result<Edge, Stop>) -> Result<Name, Stop>
+    requires room { vec_len rows.old < 2 ^ 32 }
+    ensures ok { IfOk result (λ name. IsKept made rows.old.items rows.new.items name) }
+    ensures full { IsErrOf result Stop.Full → IsErrOf made Stop.Full }
+    ensures err { OnErr result (rows.new.items ≡ rows.old.items) }
+{
+    let edge = match made {
+        Ok(edge) => edge,
+        Err(stop) => return Err(stop),
+    };
+    let row = rows.len() as u32;
+    match rows.push(Some(edge)) {
+        Ok(()) => Ok(Name {
+            row,
+            generation: u64::from(row),
+        }),
+        Err(_) => Err(Stop::Memory),
+    }
 }
 
 impl Session {
-    /// A session without rows over so many variables. More of them than are kept as lists are a want of memory.
-    pub fn new(alloc: Global, vars: u32) -> Result<Session, Memory>
-        ensures vars { IfOk result (λ session. session.vars ≡ vars) }
-        ensures rows { IfOk result (λ session. session.rows.items ≡ []) }
-    {
-        if vars > MAX_LISTED {
-            return Err(Memory);
-        }
-        Ok(Session {
-            vars,
-            rows: Vec::new(alloc),
-        })
-    }
-
     /// Whether the row of this number was not dropped.
     pub fn is_live(&self, row: usize) -> bool
         requires { row < vec_len self.now.rows }
@@ -46,118 +51,155 @@ impl Session {
         self.rows[row].is_some()
     }
 
-    /// The values of a row that was not dropped.
-    fn row(&self, name: Name) -> &[bool]
+    /// The edge of a row that was not dropped.
+    fn edge(&self, name: Name) -> Edge
         requires { IsLive self.now.rows.items name }
-        ensures values { Has self.now.rows.items name.row result.now }
-        ensures long { length result.now ≡ 2 ^ self.now.vars }
+        ensures { Has self.now.rows.items name.row result }
     {
-        match &self.rows[name.row as usize] {
-            Some(values) => values.as_slice(),
+        match self.rows[name.row as usize] {
+            Some(edge) => edge,
             None => unreachable!(),
         }
     }
 
-    /// A new row of these values. An error changes nothing.
-    fn add(&mut self, values: Vec<bool>) -> Result<Name, Memory>
-        requires long { vec_len values ≡ 2 ^ self.old.vars }
+    /// Logic one, as a new row.
+    pub fn one(&mut self) -> Result<Name, Stop>
+        requires stored { AreStored (plain_view self.old.store) self.old.rows.items }
         requires room { vec_len self.old.rows < 2 ^ 32 }
-        ensures name { IfOk result (λ name. name ≡ name_of (vec_len self.old.rows)) }
-        ensures row { IfOk result (λ _. self.new.rows.items ≡ self.old.rows.items ++ Some values.items ∷ []) }
-        ensures vars { self.new.vars ≡ self.old.vars }
-        ensures err { OnErr result (self.new.rows.items ≡ self.old.rows.items) }
+        ensures ok { IfOk result (λ name. Adds (plain_view self.old.store) self.old.rows.items (plain_view self.new.store) self.new.rows.items calls.One name) }
+        ensures full { IsErrOf result Stop.Full → ⊥ }
+        ensures grown { Grown (plain_view self.old.store) (plain_view self.new.store) }
     {
-        let row = self.rows.len() as u32;
-        self.rows.push(Some(List::from_vec(values)))?;
-        Ok(Name {
-            row,
-            generation: u64::from(row),
-        })
+        let _levels = self.store.levels(Kind::Bdd);
+        keep(&mut self.rows, Ok(Edge::new(0, false)))
+    }
+
+    /// Logic zero, as a new row.
+    pub fn zero(&mut self) -> Result<Name, Stop>
+        requires stored { AreStored (plain_view self.old.store) self.old.rows.items }
+        requires room { vec_len self.old.rows < 2 ^ 32 }
+        ensures ok { IfOk result (λ name. Adds (plain_view self.old.store) self.old.rows.items (plain_view self.new.store) self.new.rows.items calls.Zero name) }
+        ensures full { IsErrOf result Stop.Full → ⊥ }
+        ensures grown { Grown (plain_view self.old.store) (plain_view self.new.store) }
+    {
+        let _levels = self.store.levels(Kind::Bdd);
+        keep(&mut self.rows, Ok(Edge::new(0, true)))
     }
 
     /// The projection of a variable, as a new row.
-    pub fn var(&mut self, alloc: Global, v: u32) -> Result<Name, Memory>
-        requires variable { v < self.old.vars }
+    pub fn var(&mut self, v: u32) -> Result<Name, Stop>
+        requires variable { v < (plain_view self.old.store).vars }
+        requires stored { AreStored (plain_view self.old.store) self.old.rows.items }
         requires room { vec_len self.old.rows < 2 ^ 32 }
-        ensures ok { IfOk result (λ name. Adds self.old.vars self.old.rows.items self.new.rows.items (calls.Var v) name) }
-        ensures vars { self.new.vars ≡ self.old.vars }
-        ensures err { OnErr result (self.new.rows.items ≡ self.old.rows.items) }
+        ensures ok { IfOk result (λ name. Adds (plain_view self.old.store) self.old.rows.items (plain_view self.new.store) self.new.rows.items (calls.Var v) name) }
+        ensures full { IsErrOf result Stop.Full → ⊥ }
+        ensures grown { Grown (plain_view self.old.store) (plain_view self.new.store) }
     {
-        let values = projection_values(alloc, self.vars, v)?;
-        self.add(values)
+        let _few = self.store.vars();
+        let _levels = self.store.levels(Kind::Bdd);
+        keep(&mut self.rows, Ok(Edge::new(5 + v, false)))
     }
 
     /// The conjunction of two rows, as a new row.
-    pub fn and(&mut self, alloc: Global, f: Name, g: Name) -> Result<Name, Memory>
+    pub fn and(&mut self, f: Name, g: Name) -> Result<Name, Stop>
+        requires stored { AreStored (plain_view self.old.store) self.old.rows.items }
         requires first { IsLive self.old.rows.items f }
         requires second { IsLive self.old.rows.items g }
         requires room { vec_len self.old.rows < 2 ^ 32 }
-        ensures ok { IfOk result (λ name. Adds self.old.vars self.old.rows.items self.new.rows.items (calls.And f g) name) }
-        ensures vars { self.new.vars ≡ self.old.vars }
-        ensures err { OnErr result (self.new.rows.items ≡ self.old.rows.items) }
+        ensures ok { IfOk result (λ name. Adds (plain_view self.old.store) self.old.rows.items (plain_view self.new.store) self.new.rows.items (calls.And f g) name) }
+        ensures full { IsErrOf result Stop.Full → Refuses (plain_view self.old.store) self.old.rows.items (plain_view self.new.store) self.new.rows.items (calls.And f g) }
+        ensures grown { Grown (plain_view self.old.store) (plain_view self.new.store) }
     {
-        let values = self.conjunction(alloc, f, g)?;
-        self.add(values)
+        let first = self.edge(f);
+        let second = self.edge(g);
+        let made = ite_core::and(&mut self.store, first, second);
+        keep(&mut self.rows, made)
     }
 
-    /// The values of the conjunction of two rows.
-    fn conjunction(&self, alloc: Global, f: Name, g: Name) -> Result<Vec<bool>, Memory>
+    /// The complement of a row, as a new row.
+    pub fn not(&mut self, f: Name) -> Result<Name, Stop>
+        requires stored { AreStored (plain_view self.old.store) self.old.rows.items }
+        requires first { IsLive self.old.rows.items f }
+        requires room { vec_len self.old.rows < 2 ^ 32 }
+        ensures ok { IfOk result (λ name. Adds (plain_view self.old.store) self.old.rows.items (plain_view self.new.store) self.new.rows.items (calls.Not f) name) }
+        ensures full { IsErrOf result Stop.Full → ⊥ }
+        ensures grown { Grown (plain_view self.old.store) (plain_view self.new.store) }
+    {
+        let first = self.edge(f);
+        let made = ite_core::not(&mut self.store, first);
+        keep(&mut self.rows, made)
+    }
+
+    /// The disjunction of two rows, as a new row.
+    pub fn or(&mut self, f: Name, g: Name) -> Result<Name, Stop>
+        requires stored { AreStored (plain_view self.old.store) self.old.rows.items }
+        requires first { IsLive self.old.rows.items f }
+        requires second { IsLive self.old.rows.items g }
+        requires room { vec_len self.old.rows < 2 ^ 32 }
+        ensures ok { IfOk result (λ name. Adds (plain_view self.old.store) self.old.rows.items (plain_view self.new.store) self.new.rows.items (calls.Or f g) name) }
+        ensures full { IsErrOf result Stop.Full → Refuses (plain_view self.old.store) self.old.rows.items (plain_view self.new.store) self.new.rows.items (calls.Or f g) }
+        ensures grown { Grown (plain_view self.old.store) (plain_view self.new.store) }
+    {
+        let first = self.edge(f);
+        let second = self.edge(g);
+        let made = ite_core::or(&mut self.store, first, second);
+        keep(&mut self.rows, made)
+    }
+
+    /// If the first row then the second else the third, as a new row.
+    pub fn ite(&mut self, f: Name, g: Name, h: Name) -> Result<Name, Stop>
+        requires stored { AreStored (plain_view self.old.store) self.old.rows.items }
+        requires first { IsLive self.old.rows.items f }
+        requires second { IsLive self.old.rows.items g }
+        requires third { IsLive self.old.rows.items h }
+        requires room { vec_len self.old.rows < 2 ^ 32 }
+        ensures ok { IfOk result (λ name. Adds (plain_view self.old.store) self.old.rows.items (plain_view self.new.store) self.new.rows.items (calls.Ite f g h) name) }
+        ensures full { IsErrOf result Stop.Full → Refuses (plain_view self.old.store) self.old.rows.items (plain_view self.new.store) self.new.rows.items (calls.Ite f g h) }
+        ensures grown { Grown (plain_view self.old.store) (plain_view self.new.store) }
+    {
+        let first = self.edge(f);
+        let second = self.edge(g);
+        let third = self.edge(h);
+        let made = ite_core::ite(&mut self.store, first, second, third);
+        keep(&mut self.rows, made)
+    }
+
+    /// Whether two rows have one function.
+    pub fn same(&self, f: Name, g: Name) -> bool
+        requires stored { AreStored (plain_view self.now.store) self.now.rows.items }
         requires first { IsLive self.now.rows.items f }
         requires second { IsLive self.now.rows.items g }
-        ensures { IfOk result (λ values. IsConjunction self.now.vars self.now.rows.items f g values.items) }
+        ensures { IsStepOf (plain_view self.now.store) self.now.rows.items (plain_view self.now.store) self.now.rows.items (calls.Same f g) (replies.Truth result) }
     {
-        let first = self.row(f);
-        let second = self.row(g);
-        ite_of(alloc, first, second, first)
+        let first = self.edge(f);
+        let second = self.edge(g);
+        self.store.same(first, second)
     }
 
     /// The value of a row where bit i is the value of variable i: 0 or 1.
-    pub fn eval(&self, f: Name, bits: &[bool]) -> i64
-        requires row { IsLive self.now.rows.items f }
-        requires bits { length bits.now ≡ self.now.vars }
-        ensures { IsStepOf self.now.vars self.now.rows.items self.now.rows.items (calls.Eval f bits.now) (replies.Value result) }
+    pub fn eval(&mut self, f: Name, bits: &[bool]) -> i64
+        requires stored { AreStored (plain_view self.old.store) self.old.rows.items }
+        requires row { IsLive self.old.rows.items f }
+        requires bits { length bits.now ≡ (plain_view self.old.store).vars }
+        ensures step { IsStepOf (plain_view self.old.store) self.old.rows.items (plain_view self.new.store) self.old.rows.items (calls.Eval f bits.now) (replies.Value result) }
+        ensures rows { self.new.rows.items ≡ self.old.rows.items }
+        ensures grown { Grown (plain_view self.old.store) (plain_view self.new.store) }
     {
-        let values = self.row(f);
-        let place = place_of(bits);
-        if values[place] { 1 } else { 0 }
+        let edge = self.edge(f);
+        if value_at(&mut self.store, edge, bits) {
+            1
+        } else {
+            0
+        }
     }
 
     /// Lets a row go.
     pub fn drop_row(&mut self, f: Name)
         requires { IsLive self.old.rows.items f }
         ensures row { self.new.rows.items ≡ slice_set self.old.rows.items f.row None }
-        ensures vars { self.new.vars ≡ self.old.vars }
-        ensures step { IsStepOf self.old.vars self.old.rows.items self.new.rows.items (calls.DropRow f) replies.Done }
+        ensures store { self.new.store ≡ self.old.store }
+        ensures step { IsStepOf (plain_view self.old.store) self.old.rows.items (plain_view self.old.store) self.new.rows.items (calls.DropRow f) replies.Done }
     {
         self.rows[f.row as usize] = None;
     }
-}
-
-/// The values of a projection, one for each assignment of so many variables.
-fn projection_values(alloc: Global, vars: u32, v: u32) -> Result<Vec<bool>, Memory>
-    requires variable { v < vars }
-    requires vars { vars ≤ 16 }
-    ensures { IfOk result (λ values. values.items ≡ list_of (2 ^ vars) (projection v)) }
-{
-    let size = 1u32 << vars;
-    let mut values = Vec::new(alloc);
-    for k in 0..size {
-        values.push((k >> v) % 2 == 1)?;
-    }
-    Ok(values)
-}
-
-/// The number of an assignment, from its bits.
-fn place_of(bits: &[bool]) -> usize
-    requires { length bits.now ≤ 16 }
-    ensures place { result ≡ assignment_of bits.now }
-    ensures within { result < 2 ^ length bits.now }
-{
-    let mut place = 0usize;
-    let mut i = bits.len();
-    while i > 0 {
-        i -= 1;
-        place = 2 * place + if bits[i] { 1 } else { 0 };
-    }
-    place
 }

@@ -8,4 +8,6 @@ mod outside;
 #[cfg(test)]
 mod plays;
 #[cfg(test)]
+mod stores;
+#[cfg(test)]
 mod told;

@@ -36,3 +36,66 @@ fn a_history_ends_well(rt: HostRuntime) -> Result<(), Fail> {
     assert_eq!(rt; play(&rt, rt.alloc(), CONJUNCTION)?.status.code(), 0);
     Ok(())
 }
+
+/// Jobs, and the whole history of each.
+const REPLIES: &[(&str, &str)] = &[
+    (
+        "vars 0\nsession\nt = true\nf = false\nsame t f\neval t none\n",
+        "0 0 t = true -> ok\n1 0 f = false -> ok\n2 0 same t f -> no\n3 0 eval t none -> 1\n4 0 drop t -> ok\n5 0 drop f -> ok\nleft 5\n",
+    ),
+    (
+        "vars 4\nsession\na = var 0\nb = var 1\nc = var 2\nd = var 3\np = ite a b c\nq = ite a b d\nsame p q\neval p 0001\neval q 0001\n",
+        "0 0 a = var 0 -> ok\n1 0 b = var 1 -> ok\n2 0 c = var 2 -> ok\n3 0 d = var 3 -> ok\n4 0 p = ite a b c -> ok\n5 0 q = ite a b d -> ok\n6 0 same p q -> no\n7 0 eval p 0001 -> 0\n8 0 eval q 0001 -> 1\n9 0 drop a -> ok\n10 0 drop b -> ok\n11 0 drop c -> ok\n12 0 drop d -> ok\n13 0 drop p -> ok\n14 0 drop q -> ok\nleft 9\n",
+    ),
+    (
+        "vars 2\nlimit 7\nsession\na = var 0\nb = var 1\nc = and a b\neval c 11\neval c 10\n",
+        "0 0 a = var 0 -> ok\n1 0 b = var 1 -> ok\n2 0 c = and a b -> full\n3 0 drop a -> ok\n4 0 drop b -> ok\nleft 7\n",
+    ),
+    (
+        "vars 2\nlimit 8\nsession\na = var 0\nb = var 1\nc = and a b\neval c 11\neval c 10\n",
+        "0 0 a = var 0 -> ok\n1 0 b = var 1 -> ok\n2 0 c = and a b -> ok\n3 0 eval c 11 -> 1\n4 0 eval c 10 -> 0\n5 0 drop a -> ok\n6 0 drop b -> ok\n7 0 drop c -> ok\nleft 7\n",
+    ),
+    (
+        "vars 2\nlimit 8\nsession\na = var 0\nb = var 1\nc = and a b\nd = or a b\neval d 00\n",
+        "0 0 a = var 0 -> ok\n1 0 b = var 1 -> ok\n2 0 c = and a b -> ok\n3 0 d = or a b -> full\n4 0 drop a -> ok\n5 0 drop b -> ok\n6 0 drop c -> ok\nleft 7\n",
+    ),
+    (
+        "vars 2\nlimit 7\nsession\na = var 0\nb = not a\nc = and a b\nd = or a b\nf = false\nsame c f\nsame d a\ndrop b\n",
+        "0 0 a = var 0 -> ok\n1 0 b = not a -> ok\n2 0 c = and a b -> ok\n3 0 d = or a b -> ok\n4 0 f = false -> ok\n5 0 same c f -> yes\n6 0 same d a -> no\n7 0 drop b -> ok\n8 0 drop a -> ok\n9 0 drop c -> ok\n10 0 drop d -> ok\n11 0 drop f -> ok\nleft 7\n",
+    ),
+    (
+        "vars 2\nsession\na = var 0\nb = var 1\nc = not a\nd = not b\no = or a b\nn = and c d\nm = not n\nsame o m\nx = ite a d b\neval x 01\neval x 11\neval o 00\n",
+        "0 0 a = var 0 -> ok\n1 0 b = var 1 -> ok\n2 0 c = not a -> ok\n3 0 d = not b -> ok\n4 0 o = or a b -> ok\n5 0 n = and c d -> ok\n6 0 m = not n -> ok\n7 0 same o m -> yes\n8 0 x = ite a d b -> ok\n9 0 eval x 01 -> 1\n10 0 eval x 11 -> 0\n11 0 eval o 00 -> 0\n12 0 drop a -> ok\n13 0 drop b -> ok\n14 0 drop c -> ok\n15 0 drop d -> ok\n16 0 drop o -> ok\n17 0 drop n -> ok\n18 0 drop m -> ok\n19 0 drop x -> ok\nleft 7\n",
+    ),
+];
+
+#[test]
+fn histories_of_operations(rt: HostRuntime) -> Result<(), Fail> {
+    for (job, history) in REPLIES {
+        let told = play(&rt, rt.alloc(), job)?;
+        assert_eq!(rt; told.text.as_slice(), history.as_bytes(), "of {job}");
+        assert_eq!(rt; told.status.code(), 0, "of {job}");
+    }
+    Ok(())
+}
+
+/// As many variables as there may be.
+const VARIABLES: u32 = 1024;
+
+#[test]
+fn a_job_of_many_variables(rt: HostRuntime) -> Result<(), Fail> {
+    let alloc = rt.alloc();
+    let mut job = format!(in alloc; "vars {VARIABLES}\nsession\nx0 = true\n")?;
+    for v in 0..12 {
+        let next = v + 1;
+        job.push_str(&format!(in alloc; "v{v} = var {v}\nx{next} = and x{v} v{v}\n")?)?;
+    }
+    job.push_str("eval x12 ")?;
+    for _ in 0..VARIABLES {
+        job.push_str("1")?;
+    }
+    let told = play(&rt, alloc, &job)?;
+    assert_eq!(rt; told.status.code(), 0);
+    assert!(rt; told.text.as_slice().ends_with(b"left 1029\n"));
+    Ok(())
+}

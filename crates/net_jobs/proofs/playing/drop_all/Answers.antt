@@ -1,9 +1,9 @@
-use Rattle.std.proofs.Common.{◌≡◌, ◌∙◌, sym, arith, length, ◌<◌, ◌≤◌, ◌+◌}
+use Rattle.std.proofs.Common.{◌≡◌, arith, length, ◌<◌}
 use Rattle.net_jobs.proofs.DropLemmas.{first_drop, last_drop, next_drop}
 use Rattle.net_jobs.proofs.playing.drop_all.Goals as goal
 
 pub loop-row-init : goal.loop-row-init
-loop-row-init c = first_drop c.args.commands.now c.args.play.now
+loop-row-init c = first_drop c.args.commands.now c.args.play.now c.requires.stored
 
 pub loop-row-preserved : goal.loop-row-preserved
 loop-row-preserved c =
@@ -15,7 +15,7 @@ loop-row-preserved c =
     let same : length new.session.rows.items ≡ length old.session.rows.items =
     omega (arith, new.session.rows.ok.0, old.session.rows.ok.0, c.in_ok-drop_at.ensures.rows) in
     next_drop c.args.commands.now start old new c.loop-row.row c.loop-row.invariant below c.in_ok-drop_at.ensures.said c.in_ok-drop_at.ensures.others
-    c.in_ok-drop_at.ensures.assigned same c.in_ok-drop_at.ensures.vars c.in_ok-drop_at.ensures.place
+    c.in_ok-drop_at.ensures.assigned same c.in_ok-drop_at.ensures.vars c.in_ok-drop_at.ensures.stored c.in_ok-drop_at.ensures.place
 
 pub returns-clause-said : goal.returns-clause-said
 returns-clause-said c =

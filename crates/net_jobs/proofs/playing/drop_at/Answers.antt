@@ -2,10 +2,10 @@ use Rattle.std.proofs.Common.{◌≡◌, ◌∙◌, ◌∷◌, [], ◌<◌, sym,
 use Rattle.std.specs.Prelude.{slice_index}
 use Rattle.std.proofs.lemmas.List.{get_or_read}
 use Rattle.job_text.specs.declared.job.Act.{Act}
-use Rattle.job_text.specs.declared.job.Act.TheVariants.{Drop}
+use Rattle.node_slots.specs.Stores.{plain_view}
 use Rattle.net_jobs.specs.Agreement.{is_dropped}
 use Rattle.net_jobs.specs.Playing.{CanCall, target_at}
-use Rattle.net_jobs.proofs.DropLemmas.{drops_one, held_at, kept_if, others_kept, rows_dropped}
+use Rattle.net_jobs.proofs.DropLemmas.{drops_none, drops_one, gone_if, held_at, kept_if, others_kept, rows_dropped}
 use Rattle.net_jobs.proofs.playing.drop_at.Goals as goal
 
 pub returns-clause-said : goal.returns-clause-said
@@ -20,14 +20,29 @@ returns-clause-said c =
     let place : c.index.result.now ≡ slice_index old.assigned.items row =
     get_or_read old.assigned.items _ _ (omega (arith, old.assigned.ok.0, c.requires.assigned, c.requires.within)) c.index.ensures 0 in
     λ said stands. drops_one commands old c.speak.new.play said row command.words command.act c.in_ok-_answer._answer stands c.in_ok-_answer.ensures.answered
-    (subst (λ (a : Act). CanCall old.session.vars rows.items a) (sym c.in_ok-command.ensures.act) (held_at rows.items row below kept))
+    (subst (λ (a : Act). CanCall (plain_view old.session.store).vars rows.items a) (sym c.in_ok-command.ensures.act) (held_at rows.items row below kept))
     c.in_ok-command.ensures.act
     (c.in_ok-command.ensures.words ∙ ap (λ w. codes "drop" ∷ w ∷ []) (c.in_ok-word.ensures ∙ ap (target_at commands) place))
-    kept c.in_ok-_answer.ensures.vars c.in_ok-_answer.ensures.assigned c.in_ok-_answer.ensures.text c.in_ok-_answer.ensures.place
+    kept c.in_ok-_answer.ensures.assigned c.in_ok-_answer.ensures.text c.in_ok-_answer.ensures.place
 
 pub returns-clause-others : goal.returns-clause-others
 returns-clause-others c = λ other apart.
     let old = c.args.play.now.session in
     let new = c.speak.new.play.session in
     others_kept old.rows.items new.rows.items c.args.row other
-    (rows_dropped old.vars old.rows.items new.rows.items (c.in_ok-command.command).act c.in_ok-_answer._answer c.args.row c.in_ok-command.ensures.act c.in_ok-_answer.ensures.answered) apart
+    (rows_dropped (plain_view old.store) (plain_view new.store) old.rows.items new.rows.items (c.in_ok-command.command).act c.in_ok-_answer._answer c.args.row c.in_ok-command.ensures.act c.in_ok-_answer.ensures.answered) apart
+
+pub returns-then-not-is_live-clause-said : goal.returns-then-not-is_live-clause-said
+returns-then-not-is_live-clause-said c =
+    let old = c.args.play.now in
+    let rows = old.session.rows.items in
+    λ said stands. drops_none c.args.commands.now old said c.args.row (gone_if c.is_live.result (is_dropped rows c.args.row) c.is_live.ensures c.if-not-is_live.true) stands
+
+pub speak-requires-clause-can : goal.speak-requires-clause-can
+speak-requires-clause-can c =
+    let old = c.args.play.now in
+    let rows = old.session.rows in
+    let row = c.args.row in
+    let below : row < length rows.items = omega (arith, rows.ok.0, c.requires.within) in
+    let kept : is_dropped rows.items row ≡ false = kept_if c.is_live.result (is_dropped rows.items row) c.is_live.ensures c.if-not-is_live.false in
+    subst (λ (a : Act). CanCall (plain_view old.session.store).vars rows.items a) (sym c.in_ok-command.ensures.act) (held_at rows.items row below kept)

@@ -1,37 +1,71 @@
-use Rattle.std.proofs.Common.{◌≡◌, ◌∙◌, sym, ap, ap₂, rules, SFits, w64, subst, false}
+use Rattle.std.proofs.Common.{◌∙◌, sym, ap, ap₂, refl, rules, SFits, w64, subst, true, false, None}
 use Rattle.std.proofs.Math.ListN.{set}
 use Rattle.std.proofs.lemmas.Int.{to_z-of_z}
 use Rattle.function_laws.specs.declared.history.Call.TheVariants as calls
+use Rattle.function_laws.specs.declared.history.Reply.TheVariants as law
 use Rattle.job_text.specs.declared.history_line.Reply.TheVariants as reply
-use Rattle.job_text.specs.declared.job.Act.{Act}
+use Rattle.node_slots.specs.Stores.{plain_view}
+use Rattle.node_store.specs.ViewLaws.{Grown-refl}
+use Rattle.net_jobs.specs.Agreement.{AreStored, IsStepOf, Rows}
 use Rattle.net_jobs.specs.Playing.{IsAnswered, call_with, makes, rows_left}
-use Rattle.net_jobs.proofs.PlayLemmas.{answered-made, answered-done, answered-value}
+use Rattle.net_jobs.proofs.PlayLemmas.{answered-operated, answered-other, makes_default, stored-set}
+use Rattle.net_jobs.proofs.SessionLemmas.{stored-grown}
 use Rattle.net_jobs.proofs.playing.perform.Goals as goal
 
-pub returns-in_ok-_name-in-Var-clause-ok : goal.returns-in_ok-_name-in-Var-clause-ok
-returns-in_ok-_name-in-Var-clause-ok c =
+pub returns-in_default : goal.returns-in_default
+returns-in_default c =
     let old = c.args.session.now in
-    answered-made old.vars old.rows.items c.var.new.self.rows.items c.args.act.now (calls.Var c.in-Var.v) c.in_ok-_name-in-Var._name
-    (ap call_with c.in-Var.is) (ap makes c.in-Var.is) c.in_ok-_name-in-Var.ensures.ok
+    record {
+      ok = answered-operated (plain_view old.store) (plain_view c.operate.new.session.store) old.rows.items c.operate.new.session.rows.items c.args.act.now c.operate.result c.answer_of.result
+          (makes_default c.args.act.now c.in_default.not-Drop c.in_default.not-Same c.in_default.not-Eval) c.operate.ensures.grown c.requires.stored c.operate.ensures.ok c.operate.ensures.full c.answer_of.ensures.ok;
+    }
 
-pub returns-in_ok-_name-in-And-clause-ok : goal.returns-in_ok-_name-in-And-clause-ok
-returns-in_ok-_name-in-And-clause-ok c =
+pub returns-in-Drop : goal.returns-in-Drop
+returns-in-Drop c =
     let old = c.args.session.now in
-    answered-made old.vars old.rows.items c.and.new.self.rows.items c.args.act.now (calls.And c.register.result c.register-in-And.result) c.in_ok-_name-in-And._name
-    (ap call_with c.in-And.is ∙ ap₂ calls.And (sym c.register.ensures) (sym c.register-in-And.ensures)) (ap makes c.in-And.is) c.in_ok-_name-in-And.ensures.ok
+    let w = plain_view old.store in
+    let left = c.drop_row.ensures.row ∙ ap (λ name. set old.rows.items name.row None) c.register.ensures in
+    let same = ap plain_view c.drop_row.ensures.store in
+    record {
+      ok = subst (λ v. IsAnswered w old.rows.items v c.drop_row.new.self.rows.items c.args.act.now (record { reply = reply.Done; made = false })) (sym same)
+          (answered-other w w old.rows.items c.drop_row.new.self.rows.items c.args.act.now (calls.DropRow c.register.result) law.Done reply.Done
+          (ap call_with c.in-Drop.is ∙ ap calls.DropRow (sym c.register.ensures)) (ap makes c.in-Drop.is) refl refl refl (Grown-refl w)
+          (subst (λ (rows : Rows). AreStored w rows) (sym left) (stored-set w old.rows.items c.in-Drop.a c.requires.stored)) c.drop_row.ensures.step
+          (left ∙ sym (ap (rows_left old.rows.items) c.in-Drop.is)));
+    }
 
-pub returns-in-Drop-clause-ok : goal.returns-in-Drop-clause-ok
-returns-in-Drop-clause-ok c =
+pub returns-then-same : goal.returns-then-same
+returns-then-same c =
     let old = c.args.session.now in
-    answered-done old.vars old.rows.items c.drop_row.new.self.rows.items c.args.act.now (calls.DropRow c.register-in-Drop.result)
-    (ap call_with c.in-Drop.is ∙ ap calls.DropRow (sym c.register-in-Drop.ensures)) (ap makes c.in-Drop.is) c.drop_row.ensures.step
-    (c.drop_row.ensures.row ∙ ap (λ name. set old.rows.items name.row _) c.register-in-Drop.ensures ∙ sym (ap (rows_left old.rows.items) c.in-Drop.is))
+    let w = plain_view old.store in
+    record {
+      ok = answered-other w w old.rows.items old.rows.items c.args.act.now (calls.Same c.register-in-Same.result c.register-in-Same-2.result) (law.Truth true) reply.Yes
+          (ap call_with c.in-Same.is ∙ ap₂ calls.Same (sym c.register-in-Same.ensures) (sym c.register-in-Same-2.ensures)) (ap makes c.in-Same.is) refl refl refl (Grown-refl w) c.requires.stored
+          (subst (λ b. IsStepOf w old.rows.items w old.rows.items (calls.Same c.register-in-Same.result c.register-in-Same-2.result) (law.Truth b)) c.if-same.true c.same.ensures) (sym (ap (rows_left old.rows.items) c.in-Same.is));
+    }
 
-pub returns-in-Eval-clause-ok : goal.returns-in-Eval-clause-ok
-returns-in-Eval-clause-ok c =
+pub returns-else-same : goal.returns-else-same
+returns-else-same c =
     let old = c.args.session.now in
+    let w = plain_view old.store in
+    record {
+      ok = answered-other w w old.rows.items old.rows.items c.args.act.now (calls.Same c.register-in-Same.result c.register-in-Same-2.result) (law.Truth false) reply.No
+          (ap call_with c.in-Same.is ∙ ap₂ calls.Same (sym c.register-in-Same.ensures) (sym c.register-in-Same-2.ensures)) (ap makes c.in-Same.is) refl refl refl (Grown-refl w) c.requires.stored
+          (subst (λ b. IsStepOf w old.rows.items w old.rows.items (calls.Same c.register-in-Same.result c.register-in-Same-2.result) (law.Truth b)) c.if-same.false c.same.ensures) (sym (ap (rows_left old.rows.items) c.in-Same.is));
+    }
+
+pub returns-in-Eval : goal.returns-in-Eval
+returns-in-Eval c =
+    let old = c.args.session.now in
+    let w = plain_view old.store in
+    let w' = plain_view c.eval.new.self.store in
+    let new = c.eval.new.self.rows.items in
     let fit : SFits w64 c.eval.result = search rules in
-    subst (λ z. IsAnswered old.vars old.rows.items old.rows.items c.args.act.now (record { reply = reply.Number z; made = false })) (sym (to_z-of_z w64 c.eval.result fit))
-    (answered-value old.vars old.rows.items c.args.act.now (calls.Eval c.register-in-Eval.result c.as_slice.result.now) c.eval.result
-    (ap call_with c.in-Eval.is ∙ ap₂ calls.Eval (sym c.register-in-Eval.ensures) (sym c.as_slice.ensures)) (ap makes c.in-Eval.is) c.eval.ensures
-    (sym (ap (rows_left old.rows.items) c.in-Eval.is)))
+    record {
+      ok = subst (λ z. IsAnswered w old.rows.items w' new c.args.act.now (record { reply = reply.Number z; made = false })) (sym (to_z-of_z w64 c.eval.result fit))
+          (answered-other w w' old.rows.items new c.args.act.now (calls.Eval c.register-in-Eval.result c.as_slice.result.now) (law.Value c.eval.result) (reply.Number c.eval.result)
+          (ap call_with c.in-Eval.is ∙ ap₂ calls.Eval (sym c.register-in-Eval.ensures) (sym c.as_slice.ensures)) (ap makes c.in-Eval.is) refl refl refl c.eval.ensures.grown
+          (subst (λ (rows : Rows). AreStored w' rows) (sym c.eval.ensures.rows) (stored-grown w w' old.rows.items c.eval.ensures.grown c.requires.stored))
+          (rw c.eval.ensures.rows c.eval.ensures.step)
+          (c.eval.ensures.rows ∙ sym (ap (rows_left old.rows.items) c.in-Eval.is)));
+    }

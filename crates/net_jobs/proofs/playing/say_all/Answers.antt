@@ -1,9 +1,9 @@
-use Rattle.std.proofs.Common.{◌≡◌, ◌∙◌, sym, ap, subst, length, Bool, true, false, Some, Option, IfSome, arith}
-use Rattle.std.specs.Prelude.{slice_get}
+use Rattle.std.proofs.Common.{◌∙◌, sym, subst, Bool, Option, IfSome, arith}
 use Rattle.job_text.specs.declared.job.Command.{Command}
+use Rattle.node_slots.specs.Stores.{plain_view}
 use Rattle.net_jobs.specs.Playing.{CanCall, RowsGoOn, SaysOne}
 use Rattle.net_jobs.proofs.ListLemmas.{some_at}
-use Rattle.net_jobs.proofs.LoopLemmas.{SaysUpTo, can_at, next_command, says_all, says_stop}
+use Rattle.net_jobs.proofs.LoopLemmas.{can_at, next_command, says_all, says_stop}
 use Rattle.net_jobs.proofs.playing.say_all.Goals as goal
 
 pub say-requires-clause-can : goal.say-requires-clause-can
@@ -11,7 +11,7 @@ say-requires-clause-can g c =
     let commands = c.args.commands.now in
     let play = c.loop-i.play in
     let at = some_at commands c.loop-i.i c.loop-i-test.true in
-    subst (λ (o : Option Command). IfSome o (λ command. CanCall play.session.vars play.session.rows.items command.act)) (sym at.1)
+    subst (λ (o : Option Command). IfSome o (λ command. CanCall (plain_view play.session.store).vars play.session.rows.items command.act)) (sym at.1)
     (can_at commands play c.loop-i.i at.0 c.loop-i.invariant.up at.1)
 
 pub returns-then-not-branch-clause-said : goal.returns-then-not-branch-clause-said
@@ -47,3 +47,6 @@ loop-i-preserved g c =
 
 pub returns-clause-said : goal.returns-clause-said
 returns-clause-said g c = says_all c.args.commands.now c.loop-i.play c.loop-i.i c.loop-i.invariant.up (omega (arith, c.loop-i.auto.i-end, c.loop-i-test.false))
+
+pub say-requires-clause-stored : goal.say-requires-clause-stored
+say-requires-clause-stored g c = c.loop-i.invariant.up.stands.stored

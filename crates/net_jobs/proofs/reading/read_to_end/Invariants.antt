@@ -1,4 +1,4 @@
-use Rattle.std.proofs.Common.{vec_len, ◌-◌, ◌+◌, ◌≡◌, ◌≤◌, ℕ}
+use Rattle.std.proofs.Common.{vec_len, ◌-◌, ◌+◌, ◌≡◌, ◌≤◌}
 use Rattle.std.specs.Io.KnownBytes.{Consumes}
 use Rattle.net_jobs.proofs.reading.read_to_end.Given as goal
 

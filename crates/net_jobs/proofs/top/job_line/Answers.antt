@@ -1,5 +1,4 @@
 use Rattle.std.proofs.Common.{rules, append_assoc}
-use Rattle.std.proofs.lemmas.Grind.{common_steps}
 use Rattle.net_jobs.proofs.top.job_line.Goals as goal
 
 pub returns : goal.returns

@@ -1,5 +1,4 @@
 use Rattle.std.proofs.Common.{arith}
-use Rattle.std.proofs.lemmas.Grind.{common_steps}
 use Rattle.net_jobs.proofs.Known.{appends_part}
 use Rattle.net_jobs.proofs.writing.write_to_end.Goals as goal
 

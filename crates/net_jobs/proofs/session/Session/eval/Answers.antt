@@ -1,15 +1,19 @@
-use Rattle.std.proofs.Common.{◌≡◌, ◌∙◌, sym, ap, Bool, true, false, pos, get_or}
+use Rattle.std.proofs.Common.{◌∙◌, sym, ap, pos}
 use Rattle.edge_bits.specs.Words.{digit}
-use Rattle.function_laws.specs.Lists.{truth}
+use Rattle.node_slots.specs.Stores.{plain_view}
 use Rattle.net_jobs.proofs.SessionLemmas.{step-eval}
 use Rattle.net_jobs.proofs.session.Session.eval.Goals as goal
 
-pub returns-then-values-place : goal.returns-then-values-place
-returns-then-values-place c =
-    step-eval c.args.self.now.vars c.args.self.now.rows.items c.args.f c.args.bits.now c.row-values.result.now (pos 1) c.requires.row c.row-values.ensures.values c.requires.bits
-    (ap (λ b. pos (digit b)) (sym c.if-values-place.true) ∙ ap (λ k. pos (digit (truth c.row-values.result.now k))) c.place_of-place.ensures.place)
+pub returns-then-value_at-clause-step : goal.returns-then-value_at-clause-step
+returns-then-value_at-clause-step c =
+    let old = c.args.self.now in
+    step-eval (plain_view old.store) old.rows.items (plain_view c.value_at.new.store) c.args.f c.args.bits.now c.edge-edge.result (pos 1)
+    c.value_at.ensures.kept.grown c.requires.stored c.requires.row c.edge-edge.ensures c.requires.bits
+    (ap (λ b. pos (digit b)) (sym c.if-value_at.true ∙ c.value_at.ensures.value))
 
-pub returns-else-values-place : goal.returns-else-values-place
-returns-else-values-place c =
-    step-eval c.args.self.now.vars c.args.self.now.rows.items c.args.f c.args.bits.now c.row-values.result.now (pos 0) c.requires.row c.row-values.ensures.values c.requires.bits
-    (ap (λ b. pos (digit b)) (sym c.if-values-place.false) ∙ ap (λ k. pos (digit (truth c.row-values.result.now k))) c.place_of-place.ensures.place)
+pub returns-else-value_at-clause-step : goal.returns-else-value_at-clause-step
+returns-else-value_at-clause-step c =
+    let old = c.args.self.now in
+    step-eval (plain_view old.store) old.rows.items (plain_view c.value_at.new.store) c.args.f c.args.bits.now c.edge-edge.result (pos 0)
+    c.value_at.ensures.kept.grown c.requires.stored c.requires.row c.edge-edge.ensures c.requires.bits
+    (ap (λ b. pos (digit b)) (sym c.if-value_at.false ∙ c.value_at.ensures.value))

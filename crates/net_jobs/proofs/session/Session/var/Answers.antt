@@ -1,20 +1,15 @@
-use Rattle.std.proofs.Common.{◌≡◌, ◌^◌, ◌∙◌, sym, ap, length, ◌++◌, ◌∷◌, [], Some, vec_len}
+use Rattle.std.proofs.Common.{arith}
 use Rattle.function_laws.specs.declared.history.Call.TheVariants.{Var}
 use Rattle.function_laws.specs.Values.{projection}
-use Rattle.function_laws.proofs.ListLemmas.{length-list_of}
-use Rattle.net_jobs.specs.Agreement.{Adds, name_of}
-use Rattle.net_jobs.proofs.SessionLemmas.{adds-var, if_ok_two}
+use Rattle.node_slots.specs.Stores.{plain_view}
+use Rattle.net_jobs.proofs.SessionLemmas.{op_adds, outcome-of_var, projection_denotes}
 use Rattle.net_jobs.proofs.session.Session.var.Goals as goal
-
-pub add-requires-clause-long : goal.add-requires-clause-long
-add-requires-clause-long c =
-    c.in_ok-values.values.ok.0 ∙ ap length c.in_ok-values.ensures ∙ length-list_of (2 ^ c.args.self.now.vars) (projection c.args.v)
 
 pub returns-clause-ok : goal.returns-clause-ok
 returns-clause-ok c =
-    let old = c.args.self.now in
-    let new = c.add.new.self.rows.items in
-    let values = c.in_ok-values.values.items in
-    if_ok_two c.add.result (λ name. name ≡ name_of (vec_len old.rows)) (λ _. new ≡ old.rows.items ++ Some values ∷ []) (λ name. Adds old.vars old.rows.items new (Var c.args.v) name)
-    c.add.ensures.name c.add.ensures.row
-    (λ name named added. adds-var old.vars c.args.v old.rows.items new name values c.requires.variable c.in_ok-values.ensures (named ∙ ap name_of old.rows.ok.0) added)
+    let w = plain_view c.args.self.now.store in
+    let rows = c.args.self.now.rows.items in
+    let grown = c.levels-levels.ensures.kept.grown in
+    op_adds w (plain_view c.levels-levels.new.self) rows c.keep.new.rows.items (Var c.args.v) _ c.keep.result (projection c.args.v) grown c.requires.stored
+    (projection_denotes w (plain_view c.levels-levels.new.self) c.args.v c.new.result grown c.levels-levels.ensures.permanent c.requires.variable (omega (arith, c.vars-few.ensures.vars, c.vars-few.ensures.few)) c.new.ensures)
+    c.keep.ensures.ok (λ t agrees. outcome-of_var w rows c.args.v t c.requires.variable agrees)

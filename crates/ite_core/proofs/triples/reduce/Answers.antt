@@ -1,0 +1,24 @@
+use Rattle.std.proofs.Common.{subst}
+use Rattle.edge_bits.specs.declared.edges.Kind.TheVariants.{Bdd}
+use Rattle.node_store.specs.Views.{Denotes}
+use Rattle.ite_core.proofs.Complements.{Is-flip}
+use Rattle.ite_core.proofs.TripleLaws.{SameAnswer-known, SameAnswer-reduced, equal_functions, two_constants, equal_edges, unequal_edges}
+use Rattle.ite_core.proofs.triples.reduce.Goals as goal
+
+pub returns-then-eq : goal.returns-then-eq
+returns-then-eq c = λ w p d.
+    let s = SameAnswer-known w c.args.f c.args.g c.args.h c.flip_if-not_f.result _ _ c.flip_if-not_f.ensures d (c.known_where-then.ensures w p d.condition d.first)
+    (c.known_where-other.ensures w p (Is-flip w c.args.f _ c.flip_if-not_f.ensures d.condition) d.second) in
+    subst (λ x. Denotes Bdd w c.known_where-then.result x) s.same (equal_functions w c.args.f _ _ (equal_edges _ _ (c.if-eq.ensures)) s.three)
+
+pub returns-then-other-eq0 : goal.returns-then-other-eq0
+returns-then-other-eq0 c = λ w p d.
+    let s = SameAnswer-known w c.args.f c.args.g c.args.h c.flip_if-not_f.result _ _ c.flip_if-not_f.ensures d (c.known_where-then.ensures w p d.condition d.first)
+    (c.known_where-other.ensures w p (Is-flip w c.args.f _ c.flip_if-not_f.ensures d.condition) d.second) in
+    subst (λ x. Denotes Bdd w c.flip_if.result x) s.same (two_constants w p c.args.f _ _ c.flip_if.result c.if-then-eq0.true c.if-other-eq0.true (unequal_edges _ _ (c.if-eq.ensures)) c.flip_if.ensures s.three)
+
+pub returns : goal.returns
+returns c = λ w p d.
+    let s = SameAnswer-known w c.args.f c.args.g c.args.h c.flip_if-not_f.result _ _ c.flip_if-not_f.ensures d (c.known_where-then.ensures w p d.condition d.first)
+    (c.known_where-other.ensures w p (Is-flip w c.args.f _ c.flip_if-not_f.ensures d.condition) d.second) in
+    SameAnswer-reduced w c.args.f c.args.g c.args.h _ _ _ s c.in_order.result (c.in_order.ensures w s.three)

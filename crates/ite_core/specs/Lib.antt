@@ -1,0 +1,5 @@
+pub mod Triples
+pub mod Cofactors
+pub mod CofactorLasts
+pub mod Implications
+pub mod ImplicationLasts

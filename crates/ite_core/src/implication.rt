@@ -1,0 +1,175 @@
+//! Whether one function is true wherever another is.
+
+ghost use Rattle.std.specs.Prelude.{◌≡◌, cond};
+ghost use Rattle.node_store.specs.Numbers.{leq_number};
+ghost use Rattle.node_store.specs.Views.{View, Kept, Permanent};
+ghost use Rattle.ite_core.specs.Implications.{CanCompare, ImplicationAnswers, ImplicationDue, ImplicationTerminal, IsCompared};
+
+use edge_bits::Edge;
+use node_store::binary::Branch;
+use node_store::operator::{Frame, Halt, Next, Operator, Task, Wait};
+use node_store::parts::{parts, top_of_two};
+use node_store::{Grow, Key, Stack, numbers};
+
+/// An implication, as the evaluator runs it: its answers are constants. It makes no node.
+#[derive(Drop)]
+pub(crate) struct Implication;
+
+impl<G: Grow> Operator<G> for Implication {
+    ghost use Rattle.std.specs.Prelude.{refl};
+    ghost use Rattle.edge_bits.specs.declared.edges.Kind.TheVariants.{Bdd};
+    ghost use Rattle.node_store.specs.Two.{two_depth};
+    ghost use Rattle.node_store.specs.TwoLaws.{two_depth-stays};
+    ghost use Rattle.ite_core.specs.Implications.{Untouched, ImplicationDue, ImplicationAnswers, ImplicationWaits};
+    ghost use Rattle.ite_core.specs.ImplicationLasts.{Untouched-none, Untouched-both, ImplicationDue-stays, ImplicationAnswers-stay, ImplicationWaits-stay};
+
+    ghost moves = { λ _. Untouched };
+
+    ghost due = { λ _ w. ImplicationDue w.view };
+
+    ghost answers = { λ _ w. ImplicationAnswers w.view };
+
+    ghost overflows = { λ _ _ _. ⊥ };
+
+    ghost waits = { λ _ w. ImplicationWaits w.view };
+
+    ghost refused = { λ _ _. ⊥ };
+
+    ghost depth = { λ _ w. two_depth Bdd w.view };
+
+    ghost extra = { λ _ _. 0 };
+
+    fn start(&self, store: &mut G, _stack: &mut Stack, task: Task) -> Result<Next, Halt> {
+        if let Some(yes) = terminal(task.f, task.g) {
+            return Ok(Next::Done(Edge::new(0, !yes)));
+        }
+        if let Some(edge) = store.memo_get(&key_of(task)) {
+            return Ok(Next::Done(edge));
+        }
+        let branch = split(store, task);
+        let frame = Frame {
+            task,
+            var: branch.var,
+            flip: false,
+            wait: Wait::First(branch.lo),
+        };
+        Ok(Next::Call(frame, branch.hi))
+    }
+
+    fn resume(
+        &self,
+        store: &mut G,
+        _stack: &mut Stack,
+        frame: Frame,
+        answer: Edge,
+    ) -> Result<Next, Halt> {
+        match frame.wait {
+            Wait::First(later) => {
+                // One part that does not hold settles the answer.
+                if answer.complement {
+                    keep(store, frame.task, answer);
+                    return Ok(Next::Done(answer));
+                }
+                let frame = Frame {
+                    wait: Wait::Second(answer),
+                    ..frame
+                };
+                Ok(Next::Call(frame, later))
+            }
+            Wait::Second(first) => {
+                let edge = both(first, answer);
+                keep(store, frame.task, edge);
+                Ok(Next::Done(edge))
+            }
+            _ => unreachable!(),
+        }
+    }
+
+    ghost moves_none = { λ _. Untouched-none };
+
+    ghost moves_both = { λ _. Untouched-both };
+
+    ghost moves_fulls = { λ o v w m. m.kept.grown.fulls };
+
+    ghost moves_wants = { λ o v w m. m.kept.grown.wants };
+
+    ghost due_stays = { λ o v w t m. ImplicationDue-stays v.view w.view t m.kept.grown };
+
+    ghost answers_stay = { λ o v w t e m. ImplicationAnswers-stay v.view w.view t e m.kept.grown };
+
+    ghost waits_stay = { λ o v w t f u m. ImplicationWaits-stay v.view w.view t f u m.kept.grown };
+
+    ghost depth_stays = { λ o v w t m d. two_depth-stays Bdd v.view w.view t m.kept.grown d.two };
+
+    ghost overflow_rises = { λ o w t f u d waits bad. bad };
+
+    ghost extra_stays = { λ _ _ _ _. refl };
+}
+
+// The answer for equal operands, and for constants that tell it.
+fn terminal(f: Edge, g: Edge) -> Option<bool>
+    ensures { (w : View) → Permanent w → ImplicationTerminal w f g result }
+{
+    if f == g {
+        return Some(true);
+    }
+    if f.index == 0 {
+        if f.complement {
+            return Some(true);
+        }
+        if g.index == 0 {
+            return Some(!g.complement);
+        }
+        return None;
+    }
+    if g.index == 0 && !g.complement {
+        return Some(true);
+    }
+    None
+}
+
+// The constant that is true where both are.
+fn both(first: Edge, second: Edge) -> Edge
+    ensures { result ≡ cond first.complement first second }
+{
+    if first.complement { first } else { second }
+}
+
+// The parts of both functions at the upper one of their top variables.
+fn split<G: Grow>(store: &mut G, task: Task) -> Branch
+    requires { CanCompare (G.view store.old) task }
+    ensures kept { Kept (G.view store.old) (G.view store.new) }
+    ensures compared { IsCompared (G.view store.new) task result }
+{
+    let Some(top) = top_of_two(store, task.f, task.g) else {
+        unreachable!();
+    };
+    let (f1, f0) = parts(store, task.f, top.var);
+    let (g1, g0) = parts(store, task.g, top.var);
+    Branch {
+        task,
+        flip: false,
+        var: top.var,
+        hi: Task::two(f1, g1),
+        lo: Task::two(f0, g0),
+    }
+}
+
+fn key_of(task: Task) -> Key
+    ensures { result ≡ record { op = leq_number; f = task.f; g = task.g; h = task.f } }
+{
+    Key {
+        op: numbers::LEQ,
+        f: task.f,
+        g: task.g,
+        h: task.f,
+    }
+}
+
+fn keep<G: Grow>(store: &mut G, task: Task, answer: Edge)
+    requires due { ImplicationDue (G.view store.old) task }
+    requires answer { ImplicationAnswers (G.view store.old) task answer }
+    ensures { Kept (G.view store.old) (G.view store.new) }
+{
+    store.memo_put(key_of(task), answer);
+}

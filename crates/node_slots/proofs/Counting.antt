@@ -1,0 +1,43 @@
+-- How many slots have a word.
+use Rattle.std.proofs.Common.{◌≡◌, inl, inr, ℕ, zero, suc, ◌+◌, ◌-◌, ◌<◌, ◌≤◌, List, length, take, get_or, Bool, true, false, None, add-one, add-zero, refl, ap, sym, ◌∙◌, subst, arith}
+use Rattle.std.specs.List.{count_by}
+use Rattle.std.proofs.Math.Seq.{take-length}
+use Rattle.std.proofs.lemmas.Bool.{cases_lt}
+use Rattle.std.proofs.lemmas.List.Sums.{count_by_more_yes, count_by_more_no}
+use Rattle.edge_bits.specs.Reading.{slots_of}
+use Rattle.node_slots.specs.Stores.{Plain, slots, is_used, is_word, HasPermanent, IsStore}
+
+count_first : (p : ℕ → Bool) (ws : List ℕ) (n : ℕ) → n ≤ length ws → ((t : ℕ) → t < n → p (get_or ws t 0) ≡ true) → count_by p (take n ws) ≡ n
+count_first p ws zero le each = refl
+count_first p ws (suc n) le each =
+    subst (λ m. count_by p (take m ws) ≡ m) (add-one n)
+    (count_by_more_yes p ws n 0 (omega arith) (each n (omega arith)) ∙ ap (λ m. m + 1) (count_first p ws n (omega arith) (λ t lt. each t (omega arith))))
+
+count_rest : (p : ℕ → Bool) (ws : List ℕ) (k n : ℕ) → k + n ≤ length ws → count_by p (take k ws) ≡ k → ((t : ℕ) → k ≤ t → p (get_or ws t 0) ≡ false) → count_by p (take (k + n) ws) ≡ k
+count_rest p ws k zero le first none = rw add-zero first
+count_rest p ws k (suc n) le first none =
+    let e : k + suc n ≡ k + n + 1 = omega arith in
+    rw e (count_by_more_no p ws (k + n) 0 (omega arith) (none (k + n) (omega arith)) ∙ count_rest p ws k n (omega arith) first none)
+
+-- the first are all, and no others
+count_prefix : (p : ℕ → Bool) (ws : List ℕ) (k : ℕ) → k ≤ length ws → ((t : ℕ) → t < k → p (get_or ws t 0) ≡ true) → ((t : ℕ) → k ≤ t → p (get_or ws t 0) ≡ false) → count_by p ws ≡ k
+count_prefix p ws k le each none =
+    let e : k + (length ws - k) ≡ length ws = omega arith in
+    ap (count_by p) (sym (take-length ws)) ∙ ap (λ n. count_by p (take n ws)) (sym e) ∙ count_rest p ws k (length ws - k) (omega arith) (count_first p ws k le each) none
+
+-- the permanent slots have words
+permanent_used : (p : Plain) → HasPermanent p → (s : ℕ) → s < 5 + length p.variable_levels → is_used (slots p s) ≡ true
+permanent_used p first s lt = elim (cases_lt s 5) [
+  | inl low ↦ ap is_used (first.constants s low)
+  | inr high ↦ (
+      let e : s ≡ 5 + (s - 5) = omega arith in
+      ap (λ t. is_used (slots p t)) e ∙ ap is_used (first.projections (s - 5) (omega arith)))
+]
+
+pub count_cleared : (p : Plain) → IsStore p → (ws : List ℕ) (from : ℕ) → from ≡ 5 + length p.variable_levels → length ws ≡ length p.words
+    → ((s : ℕ) → s < from → slots_of ws s ≡ slots p s) → ((s : ℕ) → from ≤ s → slots_of ws s ≡ None) → count_by is_word ws ≡ from
+count_cleared p st ws from is count kept free =
+    let room = st.room in
+    count_prefix is_word ws from (omega arith)
+    (λ t lt. ap is_used (kept t lt) ∙ permanent_used p st.permanent t (omega arith))
+    (λ t le. ap is_used (free t le))

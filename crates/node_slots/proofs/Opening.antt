@@ -1,0 +1,246 @@
+-- A store with the permanent slots alone is canonical.
+use Rattle.std.proofs.Common.{◌≡◌, ◌⊎◌, inl, inr, ℕ, zero, suc, ◌+◌, ◌-◌, ◌<◌, ◌≤◌, ◌^◌, eqb, nat_lt, Bool, true, false, List, length, Option, Some, None, ℤ, pos, zero-add, refl, ap, sym, ◌∙◌, subst, arith}
+use Rattle.std.specs.Prelude.{slice_index, if◌then◌else◌}
+use Rattle.std.specs.List.{range_with_len}
+use Rattle.std.proofs.lemmas.Bool.{cases_lt, cases_eq}
+use Rattle.std.proofs.lemmas.Nat.Bits.{bit_at-zero}
+use Rattle.std.proofs.lemmas.List.FromFn.{get_or-range_with_len, length-range_with_len}
+use Rattle.edge_bits.specs.declared.edges.Kind.{Kind}
+use Rattle.edge_bits.specs.declared.edges.Kind.TheVariants.{Bdd, Add, Zdd}
+use Rattle.edge_bits.specs.declared.words.Node.{Node}
+use Rattle.edge_bits.specs.declared.words.Word.{Word}
+use Rattle.edge_bits.specs.declared.words.Word.TheVariants.{Inner, Leaf}
+use Rattle.edge_bits.specs.Assignments.{bit, set_bit}
+use Rattle.edge_bits.specs.Reading.{slots_of}
+use Rattle.edge_bits.proofs.AssignmentLemmas.{bit-set_same, bit-set_other}
+use Rattle.function_laws.specs.Values.{constant, projection}
+use Rattle.function_laws.specs.Numbers.{is_value, is_zero}
+use Rattle.function_laws.specs.Families.{empty, base}
+use Rattle.node_store.specs.Kinds.{Function, BddFunction, AddFunction, ZddFamily}
+use Rattle.node_store.specs.Views.{levels, IsVariable}
+use Rattle.node_slots.specs.Slots.{function_at_most}
+use Rattle.node_slots.specs.Stores.{Plain, slots, level_in, longest, content_of, plain_view, projection_node, constant_value, permanent_word, IsNode, IsOrdered, HasPermanent, IsStore, IsOpening}
+use Rattle.node_slots.specs.declared.plain_store.Refused.{Refused}
+use Rattle.node_slots.proofs.Reading.{used}
+use Rattle.node_slots.proofs.Calls.{leaf_content, zero_at, projection_content}
+
+-- the permanent words are those of the constants and the projections
+pub HasPermanent-words : (p : Plain) → ((s : ℕ) → s < 5 + length p.variable_levels → slots p s ≡ Some (permanent_word s)) → HasPermanent p
+HasPermanent-words p h = record {
+  constants = λ s lt. h s (omega arith) ∙ ap Some (low s lt);
+  projections = λ v lt. h (5 + v) (omega arith) ∙ ap Some (high v);
+}
+  where
+    low : (s : ℕ) → s < 5 → permanent_word s ≡ Leaf (constant_value s)
+    low s lt = let t : nat_lt s 5 ≡ true = grind (arith, lt) in rw t refl
+
+    high : (v : ℕ) → permanent_word (5 + v) ≡ Inner (projection_node v)
+    high v =
+        let t : nat_lt (5 + v) 5 ≡ false = grind arith in
+        let e : 5 + v - 5 ≡ v = omega arith in
+        rw (t, e) refl
+
+-- both orders are 0, 1, 2, ..
+pub IsOrdered-ascending : (p : Plain) (n m : ℕ) → p.variable_levels ≡ range_with_len 0 n → p.element_levels ≡ range_with_len 0 m → IsOrdered p
+IsOrdered-ascending p n m lv le = record { within = within; alone = alone }
+  where
+    count_v : length p.variable_levels ≡ n
+    count_v = ap length lv ∙ length-range_with_len 0 n
+
+    count_e : length p.element_levels ≡ m
+    count_e = ap length le ∙ length-range_with_len 0 m
+
+    of_variable : (v : ℕ) → v < 16384 → v < length p.variable_levels → level_in p v ≡ v
+    of_variable v small lt =
+        let t : nat_lt v 16384 ≡ true = grind (arith, small) in
+        let lt2 : v < n = omega (arith, count_v, lt) in
+        rw t (ap (λ (xs : List ℕ). slice_index xs v) lv ∙ get_or-range_with_len 0 n v 0 lt2 ∙ zero-add v)
+
+    of_element : (v : ℕ) → 16384 ≤ v → v < 16384 + length p.element_levels → level_in p v ≡ v - 16384
+    of_element v high lt =
+        let t : nat_lt v 16384 ≡ false = grind (arith, high) in
+        let lt2 : v - 16384 < m = omega (arith, count_e, lt) in
+        rw t (ap (λ (xs : List ℕ). slice_index xs (v - 16384)) le ∙ get_or-range_with_len 0 m (v - 16384) 0 lt2 ∙ zero-add (v - 16384))
+
+    within : (k : Kind) (v : ℕ) → IsVariable k (plain_view p) v → level_in p v < levels k (plain_view p)
+    within Bdd v h = let e = of_variable v h.0 h.1 in let l = h.1 in omega (arith, e, l)
+    within Add v h = let e = of_variable v h.0 h.1 in let l = h.1 in omega (arith, e, l)
+    within Zdd v h = let e = of_element v h.0 h.1 in let l = h.1 in let g = h.0 in omega (arith, e, l, g)
+
+    alone : (k : Kind) (u v : ℕ) → IsVariable k (plain_view p) u → IsVariable k (plain_view p) v → level_in p u ≡ level_in p v → u ≡ v
+    alone Bdd u v hu hv e = sym (of_variable u hu.0 hu.1) ∙ e ∙ of_variable v hv.0 hv.1
+    alone Add u v hu hv e = sym (of_variable u hu.0 hu.1) ∙ e ∙ of_variable v hv.0 hv.1
+    alone Zdd u v hu hv e = let d = sym (of_element u hu.0 hu.1) ∙ e ∙ of_element v hv.0 hv.1 in let a = hu.0 in let b = hv.0 in omega (arith, d, a, b)
+
+never : true ≡ false → ⊥
+never e = cc
+
+bit-zero : (e : ℕ) → bit 0 e ≡ false
+bit-zero e = ap (λ (n : ℕ). eqb n 1) (bit_at-zero e)
+
+projection-apart : (u v : ℕ) → projection u ≡ projection v → u ≡ v
+projection-apart u v e = elim (cases_eq u v) [
+  | inl same ↦ same
+  | inr ne ↦ absurd (never (sym (bit-set_same 0 u true) ∙ ap (λ (f : ℕ → Bool). f (set_bit 0 u true)) e ∙ bit-set_other 0 u v true (λ h. ne (sym h)) ∙ bit-zero v))
+]
+
+one-apart : (v : ℕ) → constant true ≡ projection v → ⊥
+one-apart v e = never (ap (λ (f : ℕ → Bool). f 0) e ∙ bit-zero v)
+
+-- the constant's slot is told by its function
+leaf_slot : Function → ℕ
+leaf_slot (BddFunction f) = 0
+leaf_slot (AddFunction f) = if is_zero (f 0) then 3 else 4
+leaf_slot (ZddFamily p) = if p 0 then 2 else 1
+
+-- what a slot denotes where only the permanent slots have words
+record Constant (s : ℕ) (f : Function) : Type 0 where
+  here : s ≡ leaf_slot f
+  apart : (v : ℕ) → f ≡ BddFunction (projection v) → ⊥
+
+record Projection (s : ℕ) (f : Function) : Type 0 where
+  variable : ℕ
+  here : s ≡ 5 + variable
+  is : f ≡ BddFunction (projection variable)
+
+module _ (p : Plain) (first : HasPermanent p) (free : (s : ℕ) → 5 + length p.variable_levels ≤ s → slots p s ≡ None) where
+  -- slots from 5 on
+  high_slot : (s : ℕ) → 5 ≤ s → (word : Word) → slots p s ≡ Some word → (s - 5 < length p.variable_levels) × (s ≡ 5 + (s - 5)) × (word ≡ Inner (projection_node (s - 5)))
+  high_slot s le word is = elim (cases_lt s (5 + length p.variable_levels)) [
+    | inl lt ↦ (
+        let e : s ≡ 5 + (s - 5) = omega arith in
+        let same : Some word ≡ Some (Inner (projection_node (s - 5))) = sym is ∙ ap (slots p) e ∙ first.projections (s - 5) (omega arith) in
+        (omega arith, e, cc))
+    | inr over ↦ (let e : None ≡ Some word = sym (free s over) ∙ is in cc)
+  ]
+
+  leaf_case : (s : ℕ) (x : ℤ) → 3 ≤ s → slots p s ≡ Some (Leaf x) → s ≡ leaf_slot (AddFunction (constant x)) → (f : Function) → content_of p s ≡ Some f → Constant s f
+  leaf_case s x le is here f h =
+      let e : Some (AddFunction (constant x)) ≡ Some f = sym (leaf_content p s x le is) ∙ h in
+      subst (Constant s) (let same : AddFunction (constant x) ≡ f = cc in same) (record { here = here; apart = λ v same. cc })
+
+  high_case : (s : ℕ) → 5 ≤ s → (f : Function) → content_of p s ≡ Some f → Projection s f
+  high_case s le f h =
+      let u = used (slots p) (longest p) s f (omega arith) h in
+      let w = high_slot s le u.0 u.1 in
+      let e : Some (BddFunction (projection (s - 5))) ≡ Some f = sym (projection_content p first (s - 5) w.0) ∙ ap (content_of p) (sym w.1) ∙ h in
+      record { variable = s - 5; here = w.1; is = cc }
+
+  classify : (s : ℕ) (f : Function) → content_of p s ≡ Some f → Constant s f ⊎ Projection s f
+  unfolding function_at_most leaf_slot
+  classify zero f h = inl (subst (Constant 0) (let same : BddFunction (constant true) ≡ f = cc in same) (record { here = refl; apart = λ v e. one-apart v (let same : constant true ≡ projection v = cc in same) }))
+  classify (suc zero) f h = inl (subst (Constant 1) (let same : ZddFamily empty ≡ f = cc in same) (record { here = refl; apart = λ v e. cc }))
+  classify (suc (suc zero)) f h = inl (subst (Constant 2) (let same : ZddFamily base ≡ f = cc in same) (record { here = refl; apart = λ v e. cc }))
+  classify (suc (suc (suc zero))) f h = inl (leaf_case 3 (pos 0) (omega arith) (first.constants 3 (omega arith)) refl f h)
+  classify (suc (suc (suc (suc zero)))) f h = inl (leaf_case 4 (pos 1) (omega arith) (first.constants 4 (omega arith)) refl f h)
+  classify (suc (suc (suc (suc (suc s))))) f h = inr (high_case (suc (suc (suc (suc (suc s))))) (omega arith) f h)
+
+  apart : (s t : ℕ) (f : Function) → content_of p s ≡ Some f → content_of p t ≡ Some f → s ≡ t
+  apart s t f hs ht = elim (classify s f hs) [
+    | inl a ↦ elim (classify t f ht) [
+      | inl b ↦ a.here ∙ sym b.here
+      | inr b ↦ absurd (a.apart b.variable b.is)
+    ]
+    | inr a ↦ elim (classify t f ht) [
+      | inl b ↦ absurd (b.apart a.variable a.is)
+      | inr b ↦ (
+          let same : BddFunction (projection a.variable) ≡ BddFunction (projection b.variable) = sym a.is ∙ b.is in
+          let v = projection-apart a.variable b.variable cc in
+          a.here ∙ ap (λ n. 5 + n) v ∙ sym b.here)
+    ]
+  ]
+
+  leaves : (s : ℕ) (x : ℤ) → slots p s ≡ Some (Leaf x) → is_value x ≡ true
+  leaves s x is = elim (cases_lt s 5) [
+    | inl lt ↦ (
+        let e : Some (Leaf (constant_value s)) ≡ Some (Leaf x) = sym (first.constants s lt) ∙ is in
+        subst (λ y. is_value y ≡ true) (let same : constant_value s ≡ x = cc in same) (small s))
+    | inr le ↦ (let w = high_slot s le (Leaf x) is in let e = w.2 in cc)
+  ]
+    where
+      small : (s : ℕ) → is_value (constant_value s) ≡ true
+      small zero = refl
+      small (suc zero) = refl
+      small (suc (suc zero)) = refl
+      small (suc (suc (suc zero))) = refl
+      small (suc (suc (suc (suc s)))) = refl
+
+  module _ (orders : IsOrdered p) (few : length p.variable_levels ≤ 1024) where
+    projection_kept : (v : ℕ) → v < length p.variable_levels → IsNode Bdd p (projection_node v)
+    unfolding function_at_most
+    projection_kept v lt =
+        let vn : IsVariable Bdd (plain_view p) v = (omega arith, lt) in
+        let inside = orders.within Bdd v vn in
+        let short = zero_at p (length p.variable_levels - level_in p v) (omega arith) in
+        record {
+          can_make = record {
+            in_range = vn;
+            hi_is = record { is = refl; beyond = λ u h k b. refl; fits = tt };
+            lo_is = record { is = refl; beyond = λ u h k b. refl; fits = tt };
+            hi_below = λ u un le k b. refl;
+            lo_below = λ u un le k b. refl;
+          };
+          proper = λ e. never (ap (λ (f : ℕ → Bool). f 0) e);
+          regular = refl;
+          hi_short = short;
+          lo_short = short;
+        }
+
+    nodes : (s : ℕ) (node : Node) → slots p s ≡ Some (Inner node) → (k : Kind) × IsNode k p node
+    nodes s node is = elim (cases_lt s 5) [
+      | inl lt ↦ (let e = sym (first.constants s lt) ∙ is in cc)
+      | inr le ↦ (
+          let w = high_slot s le (Inner node) is in
+          let e = w.2 in
+          let same : projection_node (s - 5) ≡ node = cc in
+          subst (λ n. (k : Kind) × IsNode k p n) same (Bdd, projection_kept (s - 5) w.0))
+    ]
+
+    -- the store is canonical
+    pub IsStore-opening : length p.element_levels ≤ 1024 → 5 + length p.variable_levels ≤ length p.words → length p.words < 2 ^ 23 → IsStore p
+    IsStore-opening elements room words = record {
+      ordered = orders;
+      permanent = first;
+      canonical = record { nodes = nodes; leaves = leaves; apart = apart };
+      few_variables = few;
+      few_elements = elements;
+      room = room;
+      few_words = words;
+    }
+
+-- a store of which the slots from the permanent ones on were freed
+abbrev pub with_rest : Plain → List ℕ → ℕ → Option Refused → Plain
+with_rest p ws n d = record { variable_levels = p.variable_levels; element_levels = p.element_levels; words = ws; fulls = n; due = d }
+
+IsOrdered-same : (p : Plain) (ws : List ℕ) (n : ℕ) (d : Option Refused) → IsOrdered p → IsOrdered (with_rest p ws n d)
+IsOrdered-same p ws n d o = record { within = within; alone = alone }
+  where
+    within : (k : Kind) (v : ℕ) → IsVariable k (plain_view (with_rest p ws n d)) v → level_in p v < levels k (plain_view (with_rest p ws n d))
+    within Bdd v h = o.within Bdd v h
+    within Add v h = o.within Add v h
+    within Zdd v h = o.within Zdd v h
+
+    alone : (k : Kind) (u v : ℕ) → IsVariable k (plain_view (with_rest p ws n d)) u → IsVariable k (plain_view (with_rest p ws n d)) v → level_in p u ≡ level_in p v → u ≡ v
+    alone Bdd u v = o.alone Bdd u v
+    alone Add u v = o.alone Add u v
+    alone Zdd u v = o.alone Zdd u v
+
+pub IsStore-cleared : (p : Plain) → IsStore p → (ws : List ℕ) (n : ℕ) (d : Option Refused) (from : ℕ) → from ≡ 5 + length p.variable_levels → length ws ≡ length p.words
+    → ((s : ℕ) → s < from → slots_of ws s ≡ slots p s) → ((s : ℕ) → from ≤ s → slots_of ws s ≡ None) → IsStore (with_rest p ws n d)
+IsStore-cleared p st ws n d from is count kept free =
+    let f = st.permanent in let r = st.room in let w = st.few_words in
+    IsStore-opening (with_rest p ws n d)
+    (record {
+      constants = λ s lt. kept s (omega (arith, is)) ∙ f.constants s lt;
+      projections = λ v lt. kept (5 + v) (omega (arith, is, lt)) ∙ f.projections v lt;
+    })
+    (λ s le. free s (omega (arith, is, le)))
+    (IsOrdered-same p ws n d st.ordered) st.few_variables st.few_elements (omega arith) (omega arith)
+
+pub IsStore-new : (p : Plain) (vars elements limit : ℕ) → vars ≤ 1024 → elements ≤ 1024 → 5 + vars ≤ limit → limit ≤ 8388607 → IsOpening vars elements limit p → IsStore p
+IsStore-new p vars elements limit fv fe least most o =
+    let n = ap length o.variable_levels ∙ length-range_with_len 0 vars in
+    let m = ap length o.element_levels ∙ length-range_with_len 0 elements in
+    let l = o.slots_are in
+    IsStore-opening p (HasPermanent-words p (λ s lt. o.permanent s (omega (arith, n, lt)))) (λ s le. o.free s (omega (arith, n, le)))
+    (IsOrdered-ascending p vars elements o.variable_levels o.element_levels) (omega (arith, n)) (omega (arith, m)) (omega arith) (omega arith)

@@ -1,0 +1,8 @@
+pub mod Slots
+pub mod Stores
+pub mod Placing
+pub use Rattle.node_store.specs.Kinds
+pub use Rattle.node_store.specs.Views
+pub use Rattle.node_store.specs.Memo
+pub use Rattle.node_store.specs.Work
+pub use Rattle.node_store.specs.Stacks

@@ -1,0 +1,62 @@
+-- Where a word comes to stand, and how a word opens.
+use Rattle.std.specs.Prelude.{◌≡◌, ℕ, ◌<◌, ◌≤◌, Bool, if◌then◌else◌, List, length, slice_set, Some, None, pos, ◌⊎◌}
+use Rattle.edge_bits.specs.declared.edges.Edge.{Edge}
+use Rattle.edge_bits.specs.declared.edges.Kind.{Kind}
+use Rattle.edge_bits.specs.declared.words.Word.{Word}
+use Rattle.edge_bits.specs.declared.words.Word.TheVariants.{Inner, Leaf}
+use Rattle.edge_bits.specs.Words.{unpack_of}
+use Rattle.edge_bits.specs.Reading.{slots_of, plain}
+use Rattle.node_store.specs.Kinds.{Function, function_of}
+use Rattle.node_store.specs.Edges.{flip_if}
+use Rattle.node_store.specs.Views.{CanMake, function_at, node_values}
+use Rattle.node_store.specs.declared.grow.Opened.{Opened}
+use Rattle.node_store.specs.declared.grow.Opened.TheVariants as opened
+use Rattle.node_slots.specs.Stores.{Plain, slots, plain_view}
+
+-- the word stood there
+pub record WasThere (old new : List ℕ) (word : Word) (s : ℕ) : Type 0 where
+  pub high : 3 ≤ s
+  pub here : slots_of old s ≡ Some word
+  pub same : new ≡ old
+
+-- it stood nowhere, and stands now where no word stood
+pub record IsWritten (old new : List ℕ) (word : Word) (s : ℕ) : Type 0 where
+  pub absent : (t : ℕ) → 3 ≤ t → slots_of old t ≡ Some word → ⊥
+  pub free : slots_of old s ≡ None
+  pub bits : ℕ
+  pub reads : unpack_of bits ≡ Some word
+  pub is : new ≡ slice_set old s bits
+
+pub record IsPlaced (old new : List ℕ) (word : Word) (s : ℕ) : Type 0 where
+  pub within : s < length old
+  pub way : WasThere old new word s ⊎ IsWritten old new word s
+
+-- the word stands nowhere, and each slot has a word
+pub record HasNoPlace (old new : List ℕ) (word : Word) : Type 0 where
+  pub absent : (t : ℕ) → 3 ≤ t → slots_of old t ≡ Some word → ⊥
+  pub full : (t : ℕ) → t < length old → slots_of old t ≡ None → ⊥
+  pub same : new ≡ old
+
+-- each slot has a word
+abbrev pub HasNoFree : Plain → Type 0
+HasNoFree p = (t : ℕ) → t < length p.words → slots p t ≡ None → ⊥
+
+-- no edge denotes the function
+abbrev pub IsUnknown : Plain → Function → Type 0
+IsUnknown p f = (e : Edge) → function_at (plain_view p) e ≡ Some f → ⊥
+
+abbrev pub IsUnknownNode : Plain → ℕ → Edge → Edge → Type 0
+IsUnknownNode p v hi lo = (k : Kind) → CanMake k (plain_view p) v hi lo → IsUnknown p (function_of k (node_values k (plain_view p) v hi lo))
+
+-- the child that a node would be
+abbrev pub IsChild : ℕ → Edge → Edge → Edge → Type 0
+IsChild v hi lo e = ((v < 16384) × (hi ≡ lo) × (e ≡ hi)) ⊎ ((16384 ≤ v) × (hi.index ≡ 1) × (e ≡ lo))
+
+pub record HasNoChild (v : ℕ) (hi lo : Edge) : Type 0 where
+  pub differ : v < 16384 → hi ≡ lo → ⊥
+  pub member : 16384 ≤ v → hi.index ≡ 1 → ⊥
+
+-- a word, with the complement of the edge to it pushed to both children
+abbrev pub opened_of : Word → Bool → Opened
+opened_of (Leaf x) c = opened.Leaf (if c then pos 0 else x)
+opened_of (Inner node) c = opened.Inner node.var (flip_if c (plain node.hi)) (flip_if c node.lo)

@@ -1,0 +1,160 @@
+-- A store as its words and its orders, and when it is canonical.
+use Rattle.std.specs.Prelude.{◌≡◌, ℕ, zero, suc, ◌+◌, ◌-◌, ◌^◌, ◌<◌, ◌≤◌, nat_lt, nat_le, Bool, true, false, ◌&&◌, if◌then◌else◌, List, length, slice_index, Option, Some, None, ℤ, pos, max}
+use Rattle.std.specs.List.{range_with_len}
+use Rattle.edge_bits.specs.Words.{unpack_of}
+use Rattle.edge_bits.specs.declared.edges.Kind.{Kind}
+use Rattle.edge_bits.specs.declared.edges.Kind.TheVariants.{Bdd, Add, Zdd}
+use Rattle.edge_bits.specs.declared.words.Node.{Node}
+use Rattle.edge_bits.specs.declared.words.Word.{Word}
+use Rattle.edge_bits.specs.declared.words.Word.TheVariants.{Inner, Leaf}
+use Rattle.edge_bits.specs.Assignments.{set_bit}
+use Rattle.edge_bits.specs.Reading.{slots_of, element_of, plain}
+use Rattle.function_laws.specs.Values.{constant}
+use Rattle.function_laws.specs.Numbers.{is_value}
+use Rattle.node_store.specs.Kinds.{Function, AddFunction, ValueOf, flipped}
+use Rattle.node_store.specs.Views.{View, IsVariable, IsProper, CanMake, levels, values_at}
+use Rattle.node_slots.specs.Slots.{node_of, function_at_most}
+use Rattle.node_slots.specs.declared.plain_store.Refused.{Refused}
+use Rattle.node_slots.specs.declared.plain_store.Refused.TheVariants as refused
+
+pub record Plain : Type 0 where
+  -- the level of each variable, and of each element
+  pub variable_levels : List ℕ
+  pub element_levels : List ℕ
+  -- the 64-bit word of each slot
+  pub words : List ℕ
+  pub fulls : ℕ
+  -- the arguments of the call that was refused last
+  pub due : Option Refused
+
+abbrev pub slots : Plain → ℕ → Option Word
+slots p = slots_of p.words
+
+-- the level of a variable, and of an element by 16384 and its number
+abbrev pub level_in : Plain → ℕ → ℕ
+level_in p v = if nat_lt v 16384 then slice_index p.variable_levels v else slice_index p.element_levels (element_of v)
+
+-- no path has more words than levels and a leaf
+abbrev pub longest : Plain → ℕ
+longest p = max (length p.variable_levels) (length p.element_levels)
+
+abbrev pub content_of : Plain → ℕ → Option Function
+content_of p = function_at_most (slots p) (suc (longest p))
+
+-- the level of a slot's node; of a leaf the number of variables, or of elements
+abbrev pub top_of_word : Plain → Option Word → ℕ
+top_of_word p None = length p.variable_levels
+top_of_word p (Some (Leaf x)) = length p.variable_levels
+top_of_word p (Some (Inner node)) = level_in p node.var
+
+abbrev pub top_in : Plain → ℕ → ℕ
+top_in p zero = length p.variable_levels
+top_in p (suc zero) = length p.element_levels
+top_in p (suc (suc zero)) = length p.element_levels
+top_in p (suc (suc (suc s))) = top_of_word p (slots p (suc (suc (suc s))))
+
+abbrev pub is_used : Option Word → Bool
+is_used None = false
+is_used (Some word) = true
+
+-- the function that a refused call would have stored
+abbrev pub refused_function : (ℕ → Option Function) → Option Refused → Option Function
+refused_function content None = None
+refused_function content (Some (refused.Node v hi lo)) = node_of v (flipped hi.complement (content hi.index)) (flipped lo.complement (content lo.index))
+refused_function content (Some (refused.Leaf x)) = Some (AddFunction (constant x))
+
+abbrev pub plain_view : Plain → View
+plain_view p = record {
+  vars = length p.variable_levels;
+  elements = length p.element_levels;
+  content = content_of p;
+  level = level_in p;
+  top = top_in p;
+  made = λ s. nat_le (5 + length p.variable_levels) s && is_used (slots p s);
+  fulls = p.fulls;
+  due = refused_function (content_of p) p.due;
+  may_want_memory = false;
+}
+
+-- the assignment where the first n variables are true, and no other
+unfoldable pub ones : ℕ → ℕ
+ones zero = 0
+ones (suc n) = set_bit (ones n) n true
+
+-- true where the first n variables are, if it is a BDD's
+abbrev pub IsRegular : (k : Kind) → ℕ → (ℕ → ValueOf k) → Type 0
+IsRegular Bdd n f = f (ones n) ≡ true
+IsRegular Add n f = Unit {0}
+IsRegular Zdd n f = Unit {0}
+
+-- a node of the store: its children lie below it and differ, and the then child of a BDD is true where all variables are
+pub record IsNode (k : Kind) (p : Plain) (node : Node) : Type 0 where
+  pub can_make : CanMake k (plain_view p) node.var (plain node.hi) node.lo
+  pub proper : IsProper k (values_at k (plain_view p) (plain node.hi)) (values_at k (plain_view p) node.lo)
+  pub regular : IsRegular k (length p.variable_levels) (values_at k (plain_view p) (plain node.hi))
+  -- the children's paths are no longer than the levels below the node
+  pub hi_short : function_at_most (slots p) (levels k (plain_view p) - level_in p node.var) node.hi ≡ content_of p node.hi
+  pub lo_short : function_at_most (slots p) (levels k (plain_view p) - level_in p node.var) node.lo.index ≡ content_of p node.lo.index
+
+-- each level holds one variable, or element
+pub record IsOrdered (p : Plain) : Type 0 where
+  pub within : (k : Kind) (v : ℕ) → IsVariable k (plain_view p) v → level_in p v < levels k (plain_view p)
+  pub alone : (k : Kind) (u v : ℕ) → IsVariable k (plain_view p) u → IsVariable k (plain_view p) v → level_in p u ≡ level_in p v → u ≡ v
+
+abbrev pub constant_value : ℕ → ℤ
+constant_value zero = pos 1
+constant_value (suc zero) = pos 0
+constant_value (suc (suc zero)) = pos 1
+constant_value (suc (suc (suc zero))) = pos 0
+constant_value (suc (suc (suc (suc s)))) = pos 1
+
+abbrev pub projection_node : ℕ → Node
+projection_node v = record { var = v; hi = 0; lo = record { index = 0; complement = true } }
+
+-- the word of a permanent slot: of the constants 0 to 4, then of the projections
+abbrev pub permanent_word : ℕ → Word
+permanent_word s = if nat_lt s 5 then Leaf (constant_value s) else Inner (projection_node (s - 5))
+
+-- the permanent slots hold their words
+pub record HasPermanent (p : Plain) : Type 0 where
+  pub constants : (s : ℕ) → s < 5 → slots p s ≡ Some (Leaf (constant_value s))
+  pub projections : (v : ℕ) → v < length p.variable_levels → slots p (5 + v) ≡ Some (Inner (projection_node v))
+
+-- each word is a node or a leaf in range, and no two slots denote one function
+pub record IsCanonical (p : Plain) : Type 0 where
+  pub nodes : (s : ℕ) (node : Node) → slots p s ≡ Some (Inner node) → (k : Kind) × IsNode k p node
+  pub leaves : (s : ℕ) (x : ℤ) → slots p s ≡ Some (Leaf x) → is_value x ≡ true
+  pub apart : (s t : ℕ) (f : Function) → content_of p s ≡ Some f → content_of p t ≡ Some f → s ≡ t
+
+pub record IsStore (p : Plain) : Type 0 where
+  pub ordered : IsOrdered p
+  pub permanent : HasPermanent p
+  pub canonical : IsCanonical p
+  pub few_variables : length p.variable_levels ≤ 1024
+  pub few_elements : length p.element_levels ≤ 1024
+  pub room : 5 + length p.variable_levels ≤ length p.words
+  pub few_words : length p.words < 2 ^ 23
+
+-- whether the bits are a word's
+abbrev pub is_word : ℕ → Bool
+is_word bits = is_used (unpack_of bits)
+
+-- a store with the permanent slots alone, as it opens: both orders are 0, 1, 2, ..
+pub record IsOpening (vars elements limit : ℕ) (p : Plain) : Type 0 where
+  pub variable_levels : p.variable_levels ≡ range_with_len 0 vars
+  pub element_levels : p.element_levels ≡ range_with_len 0 elements
+  pub slots_are : length p.words ≡ limit
+  pub permanent : (s : ℕ) → s < 5 + vars → slots p s ≡ Some (permanent_word s)
+  pub free : (s : ℕ) → 5 + vars ≤ s → slots p s ≡ None
+  pub fulls : p.fulls ≡ 0
+  pub due : p.due ≡ None
+
+-- a store after all slots but the permanent ones were freed
+pub record IsCleared (old new : Plain) : Type 0 where
+  pub variable_levels : new.variable_levels ≡ old.variable_levels
+  pub element_levels : new.element_levels ≡ old.element_levels
+  pub slots_are : length new.words ≡ length old.words
+  pub permanent : (s : ℕ) → s < 5 + length old.variable_levels → slots new s ≡ slots old s
+  pub free : (s : ℕ) → 5 + length old.variable_levels ≤ s → slots new s ≡ None
+  pub fulls : new.fulls ≡ old.fulls
+  pub due : new.due ≡ None

@@ -1,0 +1,7 @@
+//! A store of decision diagrams in one vector of words, and what operators see of a store.
+#![tactic(auto)]
+
+mod plain_store;
+
+pub use node_store::{Grow, Key, Opened, Stack, Stop};
+pub use plain_store::PlainStore;

@@ -1,0 +1,375 @@
+//! The store whose unique table is a walk over all words.
+
+ghost use Rattle.std.specs.Prelude.{◌≡◌, ℕ, ◌+◌, ◌<◌, ◌≤◌, ◌^◌, ◌↔◌, ◌⊎◌, IfOk, IfSome, IfNone, IsErrOf, IsOkAnd, IsTrue, count_by, length, Some, None, true};
+ghost use Rattle.std.specs.List.{range_with_len};
+ghost use Rattle.edge_bits.specs.Reading.{slots_of};
+ghost use Rattle.edge_bits.specs.Words.{IsInRange};
+ghost use Rattle.node_slots.specs.Stores.{permanent_word};
+ghost use Rattle.node_slots.specs.Placing.{IsPlaced, HasNoPlace, IsChild, HasNoChild, opened_of};
+
+use edge_bits::{Edge, Kind, Memory, Node, Word, pack, unpack};
+use node_store::binary::flip_if;
+use node_store::{Grow, Key, Opened, Stack, Stop};
+use std::alloc::Global;
+use std::marker::Model;
+
+/// The arguments of a call that was refused.
+#[derive(Clone, Copy, PartialEq, Eq, Drop)]
+pub enum Refused {
+    Node(u32, Edge, Edge),
+    Leaf(i64),
+}
+
+/// A store in one vector of words. It finds a node by a walk over all of them, and its computed table is empty.
+#[derive(Drop)]
+pub struct PlainStore {
+    alloc: Global,
+    variable_levels: Vec<u32>,
+    element_levels: Vec<u32>,
+    words: Vec<u64>,
+    fulls: u64,
+    due: Option<Refused>,
+    scratch: Option<Stack>,
+}
+
+impl Model for PlainStore {
+    ghost use Rattle.node_slots.specs.Stores.{Plain, IsStore};
+
+    ghost Value = { Plain };
+
+    ghost view = { λ s. record { variable_levels = s.variable_levels.items; element_levels = s.element_levels.items; words = s.words.items; fulls = s.fulls; due = s.due } };
+
+    ghost invariant = { λ s. IsStore (record { variable_levels = s.variable_levels.items; element_levels = s.element_levels.items; words = s.words.items; fulls = s.fulls; due = s.due }) };
+}
+
+// Where a word stands, beyond the slots that are told by their number.
+fn find(words: &[u64], wanted: Word) -> Option<usize>
+    ensures found { IfSome result (λ s. slots_of words.now s ≡ Some wanted) }
+    ensures high { IfSome result (λ s. 3 ≤ s) }
+    ensures within { IfSome result (λ s. s < length words.now) }
+    ensures absent { IfNone result ((t : ℕ) → 3 ≤ t → slots_of words.now t ≡ Some wanted → ⊥) }
+{
+    for (slot, bits) in words.iter().enumerate() {
+        if slot > 2 && unpack(*bits) == Some(wanted) {
+            return Some(slot);
+        }
+    }
+    None
+}
+
+// A slot without a word.
+fn find_free(words: &[u64]) -> Option<usize>
+    ensures free { IfSome result (λ s. slots_of words.now s ≡ None) }
+    ensures within { IfSome result (λ s. s < length words.now) }
+    ensures full { IfNone result ((t : ℕ) → t < length words.now → slots_of words.now t ≡ None → ⊥) }
+{
+    for (slot, bits) in words.iter().enumerate() {
+        if unpack(*bits).is_none() {
+            return Some(slot);
+        }
+    }
+    None
+}
+
+// The slot where a word stands, or comes to stand where a slot is free.
+fn place(words: &mut Vec<u64>, word: Word) -> Option<usize>
+    requires { IsInRange word }
+    ensures placed { IfSome result (IsPlaced words.old.items words.new.items word) }
+    ensures full { IfNone result (HasNoPlace words.old.items words.new.items word) }
+{
+    if let Some(slot) = find(words, word) {
+        return Some(slot);
+    }
+    let slot = find_free(words)?;
+    words[slot] = pack(word);
+    Some(slot)
+}
+
+// The child that a node would be, if it would be one.
+fn only_child(var: u32, hi: Edge, lo: Edge) -> Option<Edge>
+    ensures child { IfSome result (IsChild var hi lo) }
+    ensures none { IfNone result (HasNoChild var hi lo) }
+{
+    if var < 16384 {
+        if hi == lo { Some(hi) } else { None }
+    } else if hi.index == 1 {
+        Some(lo)
+    } else {
+        None
+    }
+}
+
+fn opened(word: Word, complement: bool) -> Opened
+    ensures { result ≡ opened_of word complement }
+{
+    match word {
+        Word::Leaf(value) => Opened::Leaf(if complement { 0 } else { value }),
+        Word::Inner(node) => {
+            let hi = Edge::new(node.hi, false);
+            Opened::Inner(
+                node.var as u32,
+                flip_if(hi, complement),
+                flip_if(node.lo, complement),
+            )
+        }
+    }
+}
+
+// One more, or the same at the end of its type.
+fn risen(fulls: u64) -> u64
+    ensures least { fulls ≤ result }
+    ensures more { result + 1 < 2 ^ 64 → fulls < result }
+{
+    fulls.saturating_add(1)
+}
+
+impl Grow for PlainStore {
+    ghost use Rattle.edge_bits.specs.declared.edges.Kind.{Kind};
+    ghost use Rattle.edge_bits.specs.declared.edges.Kind.TheVariants.{Add};
+    ghost use Rattle.edge_bits.specs.Words.{IsLeafValue};
+    ghost use Rattle.function_laws.specs.Values.{constant};
+    ghost use Rattle.node_store.specs.Kinds.{function_of, AddFunction};
+    ghost use Rattle.node_store.specs.Views.{Denotes, Grown, Rose, CanMake, node_values};
+    ghost use Rattle.node_slots.specs.Stores.{plain_view};
+    ghost use Rattle.node_slots.specs.Stores.{permanent_word};
+    ghost use Rattle.node_slots.specs.Placing.{HasNoFree, IsUnknown, IsUnknownNode};
+
+    ghost view = { plain_view };
+
+    fn levels(&mut self, kind: Kind) -> u32 {
+        match kind {
+            Kind::Bdd => self.variable_levels.len() as u32,
+            Kind::Add => self.variable_levels.len() as u32,
+            Kind::Zdd => self.element_levels.len() as u32,
+        }
+    }
+
+    fn open(&mut self, edge: Edge) -> Opened {
+        match unpack(self.words[edge.index as usize]) {
+            Some(word) => opened(word, edge.complement),
+            None => unreachable!(),
+        }
+    }
+
+    /// The edge of a node, which is stored if it is not there: Full exactly where no edge denotes its function and each slot has a word.
+    fn make(&mut self, var: u32, hi: Edge, lo: Edge) -> Result<Edge, Stop>
+        requires { (k : Kind) × CanMake k (plain_view self.old) var hi lo }
+        ensures grown { Grown (plain_view self.old) (plain_view self.new) }
+        ensures ok { (k : Kind) → CanMake k (plain_view self.old) var hi lo → IfOk result (λ e. Denotes k (plain_view self.new) e (node_values k (plain_view self.old) var hi lo)) }
+        ensures made { (s : ℕ) → (plain_view self.new).made s ≡ true → ((plain_view self.old).made s ≡ true) ⊎ IsOkAnd result (λ e. e.index ≡ s) }
+        ensures memory { IsErrOf result Stop.Memory → (plain_view self.old).may_want_memory ≡ true }
+        ensures full { IsErrOf result Stop.Full → Rose (plain_view self.old) (plain_view self.new) }
+        ensures due { IsErrOf result Stop.Full → (k : Kind) → CanMake k (plain_view self.old) var hi lo → (plain_view self.new).due ≡ Some (function_of k (node_values k (plain_view self.old) var hi lo)) }
+        ensures exactly { IsErrOf result Stop.Full ↔ (IsUnknownNode self.old var hi lo × HasNoFree self.old) }
+    {
+        let fulls = self.fulls;
+        if let Some(child) = only_child(var, hi, lo) {
+            return Ok(child);
+        }
+        let node = Node {
+            var: var as u16,
+            hi: hi.index,
+            lo: flip_if(lo, hi.complement),
+        };
+        match place(&mut self.words, Word::Inner(node)) {
+            Some(slot) => Ok(Edge::new(slot as u32, hi.complement)),
+            None => {
+                self.fulls = risen(fulls);
+                self.due = Some(Refused::Node(var, hi, lo));
+                Err(Stop::Full)
+            }
+        }
+    }
+
+    /// The edge of a number's leaf, which is stored if it is not there: Full exactly where no edge denotes the number and each slot has a word.
+    fn leaf(&mut self, value: i64) -> Result<Edge, Stop>
+        requires { IsLeafValue value }
+        ensures grown { Grown (plain_view self.old) (plain_view self.new) }
+        ensures ok { IfOk result (λ e. Denotes Add (plain_view self.new) e (constant value)) }
+        ensures made { (s : ℕ) → (plain_view self.new).made s ≡ true → ((plain_view self.old).made s ≡ true) ⊎ IsOkAnd result (λ e. e.index ≡ s) }
+        ensures memory { IsErrOf result Stop.Memory → (plain_view self.old).may_want_memory ≡ true }
+        ensures full { IsErrOf result Stop.Full → Rose (plain_view self.old) (plain_view self.new) }
+        ensures due { IsErrOf result Stop.Full → (plain_view self.new).due ≡ Some (function_of Add (constant value)) }
+        ensures exactly { IsErrOf result Stop.Full ↔ (IsUnknown self.old (AddFunction (constant value)) × HasNoFree self.old) }
+    {
+        match place(&mut self.words, Word::Leaf(value)) {
+            Some(slot) => Ok(Edge::new(slot as u32, false)),
+            None => {
+                self.fulls = risen(self.fulls);
+                self.due = Some(Refused::Leaf(value));
+                Err(Stop::Full)
+            }
+        }
+    }
+
+    fn level(&mut self, var: u32) -> u32 {
+        if var < 16384 {
+            self.variable_levels[var as usize]
+        } else {
+            self.element_levels[(var - 16384) as usize]
+        }
+    }
+
+    fn memo_get(&mut self, _key: &Key) -> Option<Edge> {
+        None
+    }
+
+    fn memo_put(&mut self, _key: Key, _edge: Edge) {}
+
+    fn take_scratch(&mut self) -> Stack {
+        match self.scratch.take() {
+            Some(mut stack) => {
+                stack.truncate(0);
+                stack
+            }
+            None => Stack::new(self.alloc),
+        }
+    }
+
+    fn give_scratch(&mut self, stack: Stack) {
+        self.scratch = Some(stack);
+    }
+}
+
+// The word of a permanent slot.
+fn permanent(slot: u32) -> Word
+    requires { slot < 1029 }
+    ensures word { result ≡ permanent_word slot }
+    ensures range { IsInRange result }
+{
+    match slot {
+        0 | 2 | 4 => Word::Leaf(1),
+        1 | 3 => Word::Leaf(0),
+        _ => Word::Inner(Node {
+            var: (slot - 5) as u16,
+            hi: 0,
+            lo: Edge::new(0, true),
+        }),
+    }
+}
+
+// So many words, of which the permanent slots have theirs.
+fn opening_words(alloc: Global, vars: u32, limit: u32) -> Result<Vec<u64>, Memory>
+    requires vars { vars ≤ 1024 }
+    requires limit { 5 + vars ≤ limit }
+    ensures length { IfOk result (λ words. length words.items ≡ limit) }
+    ensures permanent { IfOk result (λ words. (s : ℕ) → s < 5 + vars → slots_of words.items s ≡ Some (permanent_word s)) }
+    ensures free { IfOk result (λ words. (s : ℕ) → 5 + vars ≤ s → slots_of words.items s ≡ None) }
+{
+    let mut words = vec![in alloc; 0u64; limit as usize]?;
+    for slot in 0..5 + vars {
+        words[slot as usize] = pack(permanent(slot));
+    }
+    Ok(words)
+}
+
+// The order 0, 1, 2, ..
+fn ascending(alloc: Global, count: u32) -> Result<Vec<u32>, Memory>
+    ensures { IfOk result (λ levels. levels.items ≡ range_with_len 0 count) }
+{
+    let mut levels = Vec::new(alloc);
+    for level in 0..count {
+        levels.push(level)?;
+    }
+    Ok(levels)
+}
+
+// Frees the slots from this one on.
+fn free_from(words: &mut Vec<u64>, from: usize)
+    ensures kept { (s : ℕ) → s < from → slots_of words.new.items s ≡ slots_of words.old.items s }
+    ensures free { (s : ℕ) → from ≤ s → slots_of words.new.items s ≡ None }
+    ensures length { length words.new.items ≡ length words.old.items }
+{
+    for slot in from..words.len() {
+        words[slot] = 0;
+    }
+}
+
+impl PlainStore {
+    ghost use Rattle.edge_bits.specs.declared.edges.Kind.{Kind};
+    ghost use Rattle.std.specs.Prelude.{Bool, ℤ};
+    ghost use Rattle.edge_bits.specs.declared.edges.Edge.{Edge};
+    ghost use Rattle.edge_bits.specs.declared.edges.Kind.TheVariants.{Bdd, Add, Zdd};
+    ghost use Rattle.edge_bits.specs.Reading.{DenotesBdd, DenotesAdd, DenotesZdd};
+    ghost use Rattle.node_store.specs.Views.{AreTwo, Denotes, values_at};
+    ghost use Rattle.node_slots.specs.Stores.{plain_view, is_word, IsOpening, IsCleared};
+
+    /// A store of so many variables and elements, at most 1,024 each, with so many slots: 5 and one for each variable at least, 8,388,607 at most. Both orders are 0, 1, 2, ..
+    pub fn new(alloc: Global, vars: u32, elements: u32, limit: u32) -> Result<PlainStore, Memory>
+        requires vars { vars ≤ 1024 }
+        requires elements { elements ≤ 1024 }
+        requires least { 5 + vars ≤ limit }
+        requires most { limit ≤ 8388607 }
+        ensures { IfOk result (IsOpening vars elements limit) }
+    {
+        let variable_levels = ascending(alloc, vars)?;
+        let element_levels = ascending(alloc, elements)?;
+        let words = opening_words(alloc, vars, limit)?;
+        Ok(PlainStore {
+            alloc,
+            variable_levels,
+            element_levels,
+            words,
+            fulls: 0,
+            due: None,
+            scratch: None,
+        })
+    }
+
+    /// The number of variables.
+    pub fn vars(&self) -> u32
+        ensures vars { result ≡ (plain_view self.now).vars }
+        ensures few { result ≤ 1024 }
+    {
+        self.variable_levels.len() as u32
+    }
+
+    /// The number of slots.
+    pub fn limit(&self) -> u32
+        ensures { result ≡ length self.now.words }
+    {
+        self.words.len() as u32
+    }
+
+    /// The words of all slots, out of which the function of an edge is read.
+    pub fn words(&self) -> &[u64]
+        ensures words { result.now ≡ self.now.words }
+        ensures bdd { (e : Edge) (f : ℕ → Bool) → Denotes Bdd (plain_view self.now) e f → DenotesBdd (plain_view self.now).vars (slots_of result.now) e f }
+        ensures add { (e : Edge) (f : ℕ → ℤ) → Denotes Add (plain_view self.now) e f → DenotesAdd (plain_view self.now).vars (slots_of result.now) e f }
+        ensures zdd { (e : Edge) (p : ℕ → Bool) → Denotes Zdd (plain_view self.now) e p → DenotesZdd (plain_view self.now).elements (slots_of result.now) e p }
+    {
+        &self.words
+    }
+
+    /// The number of slots that have a word.
+    pub fn in_use(&self) -> u32
+        ensures { result ≡ count_by is_word self.now.words }
+    {
+        self.words
+            .iter()
+            .filter(|bits| unpack(**bits).is_some())
+            .count() as u32
+    }
+
+    /// Frees all slots that are not permanent, and answers how many are in use then: 5 and one for each variable.
+    pub fn clear(&mut self) -> u32
+        ensures cleared { IsCleared self.old self.new }
+        ensures permanent { result ≡ 5 + (plain_view self.old).vars }
+        ensures in_use { result ≡ count_by is_word self.new.words }
+    {
+        let permanent = 5 + self.variable_levels.len();
+        free_from(&mut self.words, permanent);
+        self.due = None;
+        permanent as u32
+    }
+
+    /// Whether two edges of one kind denote one function: they are equal then.
+    pub fn same(&self, f: Edge, g: Edge) -> bool
+        requires { (k : Kind) × AreTwo k (plain_view self.now) f g }
+        ensures { (k : Kind) → AreTwo k (plain_view self.now) f g → IsTrue result ↔ (values_at k (plain_view self.now) f ≡ values_at k (plain_view self.now) g) }
+    {
+        // The words make them so.
+        let _ = &self.words;
+        f == g
+    }
+}

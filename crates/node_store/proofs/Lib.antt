@@ -1,0 +1,9 @@
+pub mod Frames
+pub mod Stops
+pub mod MemoLaws
+pub mod TopLaws
+pub mod TwoParts
+pub mod TwoWork
+pub mod ComplementWork
+pub mod ThreeParts
+pub mod ThreeWork

@@ -1,0 +1,59 @@
+-- What a computed table holds stays right while the store grows.
+use Rattle.std.proofs.Common.{Bool, true, false, ◌==◌, ◌&&◌, ◌||◌}
+use Rattle.std.specs.Prelude.{◌+ℤ◌}
+use Rattle.edge_bits.specs.declared.edges.Edge.{Edge}
+use Rattle.computed_cache.specs.declared.Key.{Key}
+use Rattle.edge_bits.specs.declared.edges.Kind.{Kind}
+use Rattle.edge_bits.specs.declared.edges.Kind.TheVariants.{Bdd, Add, Zdd}
+use Rattle.node_store.specs.Kinds.{ValueOf}
+use Rattle.node_store.specs.Numbers.{and_number, ite_number, cofactor_number, leq_number, plus_number, union_number, meet_number}
+use Rattle.node_store.specs.Views.{View, Grown}
+use Rattle.node_store.specs.ViewLaws.{Denotes-grown, Is-grown, IsVariable-grown, values_at-grown}
+use Rattle.node_store.specs.Memo.{either, PlaceHolds, IteHolds, CofactorHolds, ImplicationHolds, MemoHolds}
+
+either-map : (b : Bool) (A B C D : Type 0) → (A → C) → (B → D) → either b A B → either b C D
+either-map true A B C D f g h = f h
+either-map false A B C D f g h = g h
+
+pub PlaceHolds-grown : (k : Kind) (op : ValueOf k → ValueOf k → ValueOf k) {a b : View} {key : Key} {e : Edge} → Grown a b → PlaceHolds k op a key e → PlaceHolds k op b key e
+PlaceHolds-grown k op g p = record {
+  f = Is-grown k g p.f;
+  g = Is-grown k g p.g;
+  answer = rw (values_at-grown k g p.f, values_at-grown k g p.g) (Denotes-grown k g p.answer);
+}
+
+pub IteHolds-grown : (k : Kind) {a b : View} {key : Key} {e : Edge} → Grown a b → IteHolds k a key e → IteHolds k b key e
+IteHolds-grown k g p = record {
+  f = Is-grown Bdd g p.f;
+  g = Is-grown k g p.g;
+  h = Is-grown k g p.h;
+  answer = rw (values_at-grown Bdd g p.f, values_at-grown k g p.g, values_at-grown k g p.h) (Denotes-grown k g p.answer);
+}
+
+pub CofactorHolds-grown : {a b : View} {key : Key} {e : Edge} → Grown a b → CofactorHolds a key e → CofactorHolds b key e
+CofactorHolds-grown g p = record {
+  variable = p.variable;
+  bit = p.bit;
+  in_range = IsVariable-grown Bdd g p.variable p.in_range;
+  literal = p.literal;
+  f = Is-grown Bdd g p.f;
+  answer = rw (values_at-grown Bdd g p.f) (Denotes-grown Bdd g p.answer);
+}
+
+pub ImplicationHolds-grown : {a b : View} {key : Key} {e : Edge} → Grown a b → ImplicationHolds a key e → ImplicationHolds b key e
+ImplicationHolds-grown g p = record {
+  f = Is-grown Bdd g p.f;
+  g = Is-grown Bdd g p.g;
+  answer = rw (values_at-grown Bdd g p.f, values_at-grown Bdd g p.g) p.answer;
+}
+
+pub MemoHolds-grown : {a b : View} → Grown a b → (key : Key) (e : Edge) → MemoHolds a key e → MemoHolds b key e
+MemoHolds-grown {a} {b} g key e =
+    either-map (key.op == and_number) _ _ _ _ (PlaceHolds-grown Bdd (λ a b. a && b) g)
+    (either-map (key.op == ite_number) _ _ _ _ (IteHolds-grown Bdd g)
+    (either-map (key.op == cofactor_number) _ _ _ _ (CofactorHolds-grown g)
+    (either-map (key.op == leq_number) _ _ _ _ (ImplicationHolds-grown g)
+    (either-map (key.op == plus_number) _ _ _ _ (PlaceHolds-grown Add (λ a b. a +ℤ b) g)
+    (either-map (key.op == union_number) _ _ _ _ (PlaceHolds-grown Zdd (λ a b. a || b) g)
+    (either-map (key.op == meet_number) _ _ _ _ (PlaceHolds-grown Zdd (λ a b. a && b) g)
+    (λ h. h)))))))

@@ -1,0 +1,66 @@
+-- What a computed table may hold under a key, a case for each operation's number.
+use Rattle.std.specs.Prelude.{◌≡◌, ◌↔◌, ℕ, ◌+◌, Bool, true, false, not, ◌==◌, ◌&&◌, ◌||◌, ◌+ℤ◌}
+use Rattle.edge_bits.specs.declared.edges.Edge.{Edge}
+use Rattle.computed_cache.specs.declared.Key.{Key}
+use Rattle.edge_bits.specs.declared.edges.Kind.{Kind}
+use Rattle.edge_bits.specs.declared.edges.Kind.TheVariants.{Bdd, Add, Zdd}
+use Rattle.function_laws.specs.Values.{cofactor, if_then_else}
+use Rattle.node_store.specs.Kinds.{ValueOf, place}
+use Rattle.node_store.specs.Numbers.{and_number, ite_number, cofactor_number, leq_number, plus_number, union_number, meet_number}
+use Rattle.node_store.specs.Views.{View, Denotes, Is, IsVariable, values_at, truth_edge}
+
+abbrev pub either : Bool → Type 0 → Type 0 → Type 0
+either true a b = a
+either false a b = b
+
+-- two operands of a kind, place by place
+pub record PlaceHolds (k : Kind) (op : ValueOf k → ValueOf k → ValueOf k) (w : View) (key : Key) (e : Edge) : Type 0 where
+  pub f : Is k w key.f
+  pub g : Is k w key.g
+  pub answer : Denotes k w e (place op (values_at k w key.f) (values_at k w key.g))
+
+-- a condition and two operands of a kind
+pub record IteHolds (k : Kind) (w : View) (key : Key) (e : Edge) : Type 0 where
+  pub f : Is Bdd w key.f
+  pub g : Is k w key.g
+  pub h : Is k w key.h
+  pub answer : Denotes k w e (if_then_else (values_at Bdd w key.f) (values_at k w key.g) (values_at k w key.h))
+
+-- the projection of a variable, or its complement
+abbrev pub literal_edge : ℕ → Bool → Edge
+literal_edge v b = record { index = 5 + v; complement = not b }
+
+-- a function and the literal by which its cofactor is taken
+pub record CofactorHolds (w : View) (key : Key) (e : Edge) : Type 0 where
+  pub variable : ℕ
+  pub bit : Bool
+  pub in_range : IsVariable Bdd w variable
+  pub literal : key.g ≡ literal_edge variable bit
+  pub f : Is Bdd w key.f
+  pub answer : Denotes Bdd w e (cofactor (values_at Bdd w key.f) variable bit)
+
+-- the second is true wherever the first is
+abbrev pub Implies : (ℕ → Bool) → (ℕ → Bool) → Type 0
+Implies f g = (k : ℕ) → f k ≡ true → g k ≡ true
+
+-- the edge is the constant that says whether the first implies the second
+pub record Tells (f g : ℕ → Bool) (e : Edge) : Type 0 where
+  pub yes : Bool
+  pub is : e ≡ truth_edge yes
+  pub says : (yes ≡ true) ↔ Implies f g
+
+pub record ImplicationHolds (w : View) (key : Key) (e : Edge) : Type 0 where
+  pub f : Is Bdd w key.f
+  pub g : Is Bdd w key.g
+  pub answer : Tells (values_at Bdd w key.f) (values_at Bdd w key.g) e
+
+abbrev pub MemoHolds : View → Key → Edge → Type 0
+MemoHolds w key e =
+    either (key.op == and_number) (PlaceHolds Bdd (λ a b. a && b) w key e)
+    (either (key.op == ite_number) (IteHolds Bdd w key e)
+    (either (key.op == cofactor_number) (CofactorHolds w key e)
+    (either (key.op == leq_number) (ImplicationHolds w key e)
+    (either (key.op == plus_number) (PlaceHolds Add (λ a b. a +ℤ b) w key e)
+    (either (key.op == union_number) (PlaceHolds Zdd (λ a b. a || b) w key e)
+    (either (key.op == meet_number) (PlaceHolds Zdd (λ a b. a && b) w key e)
+    ⊥))))))

@@ -1,0 +1,23 @@
+-- The numbers of the operations whose answers are kept.
+use Rattle.std.specs.Prelude.{ℕ}
+
+abbrev pub and_number : ℕ
+and_number = 1
+
+abbrev pub ite_number : ℕ
+ite_number = 2
+
+abbrev pub cofactor_number : ℕ
+cofactor_number = 3
+
+abbrev pub leq_number : ℕ
+leq_number = 4
+
+abbrev pub plus_number : ℕ
+plus_number = 20
+
+abbrev pub union_number : ℕ
+union_number = 40
+
+abbrev pub meet_number : ℕ
+meet_number = 41

@@ -1,0 +1,26 @@
+-- The table of a call's own answers.
+use Rattle.std.specs.Prelude.{◌≡◌, ℕ, ◌⊎◌, List, Option, Some, None, slice_index_or}
+use Rattle.edge_bits.specs.declared.edges.Edge.{Edge}
+use Rattle.node_store.specs.Kinds.{Function}
+use Rattle.node_store.specs.Views.{View}
+use Rattle.node_store.specs.States.{State}
+use Rattle.node_store.specs.Work.{Moves}
+use Rattle.node_store.specs.declared.operator.Task.{Task}
+use Rattle.node_store.specs.declared.stack.Answer.{Answer}
+
+-- the answer stands in the table
+abbrev pub IsRecalled : List (Option Answer) → Task → Edge → Type 0
+IsRecalled items task e = (j : ℕ) × (slice_index_or items j None ≡ Some (record { task = task; edge = e }))
+
+-- a table with that answer, in place of another
+abbrev pub Remembers : List (Option Answer) → List (Option Answer) → Task → Edge → Type 0
+Remembers old new task e = (j : ℕ) (a : Answer) → slice_index_or new j None ≡ Some a → (slice_index_or old j None ≡ Some a) ⊎ (a ≡ record { task = task; edge = e })
+
+-- what the table holds are answers of tasks of this call
+abbrev pub Knows : (View → Task → Type 0) → (View → Task → Edge → Type 0) → State → Type 0
+Knows due answers s = (j : ℕ) (a : Answer) → slice_index_or s.answers j None ≡ Some a → due s.view a.task × answers s.view a.task a.edge
+
+-- what an operator with such a table does to a state
+pub record RememberingMoves (Roots : View → Type 0) (Work : View → Function → Type 0) (Due : View → Task → Type 0) (Answers : View → Task → Edge → Type 0) (old new : State) : Type 0 where
+  pub moves : Moves Roots Work old.view new.view
+  pub known : Knows Due Answers old → Knows Due Answers new

@@ -1,0 +1,65 @@
+-- The answers of a call's own table stay answers.
+use Rattle.std.proofs.Common.{◌≡◌, ℕ, inl, inr, List, Option, Some, None, ap, sym, ◌∙◌, subst}
+use Rattle.std.specs.Prelude.{slice_index_or}
+use Rattle.edge_bits.specs.declared.edges.Edge.{Edge}
+use Rattle.node_store.specs.Kinds.{Function}
+use Rattle.node_store.specs.Views.{View, Grown}
+use Rattle.node_store.specs.States.{State}
+use Rattle.node_store.specs.Work.{Moves}
+use Rattle.node_store.specs.WorkLaws.{Moves-none, Moves-both}
+use Rattle.node_store.specs.Remembering.{Remembers, Knows, RememberingMoves}
+use Rattle.node_store.specs.declared.operator.Task.{Task}
+use Rattle.node_store.specs.declared.stack.Answer.{Answer}
+
+module _ (Due : View → Task → Type 0) (Answers : View → Task → Edge → Type 0)
+    (due_stays : (v w : View) (t : Task) → Grown v w → Due v t → Due w t)
+    (answers_stay : (v w : View) (t : Task) (e : Edge) → Grown v w → Due v t → Answers v t e → Answers w t e) where
+  pub Knows-grown : (v w : View) (items : List (Option Answer)) → Grown v w → Knows Due Answers (record { view = v; answers = items }) → Knows Due Answers (record { view = w; answers = items })
+  Knows-grown v w items m known j a here = let k = known j a here in (due_stays v w a.task m k.0, answers_stay v w a.task a.edge m k.0 k.1)
+
+  pub Knows-more : (v : View) (old new : List (Option Answer)) (t : Task) (e : Edge) → Remembers old new t e → Due v t → Answers v t e
+      → Knows Due Answers (record { view = v; answers = old }) → Knows Due Answers (record { view = v; answers = new })
+  Knows-more v old new t e more d is known j a here = elim (more j a here) [
+    | inl was ↦ known j a was
+    | inr same ↦ (rw same d, rw same is)
+  ]
+
+pub RememberingMoves-none : (Roots : View → Type 0) (Work : View → Function → Type 0) (Due : View → Task → Type 0) (Answers : View → Task → Edge → Type 0) (v : State) → RememberingMoves Roots Work Due Answers v v
+RememberingMoves-none Roots Work Due Answers v = record { moves = Moves-none Roots Work v.view; known = λ k. k }
+
+pub RememberingMoves-both : (Roots : View → Type 0) (Work : View → Function → Type 0) (Due : View → Task → Type 0) (Answers : View → Task → Edge → Type 0)
+    → ((v w : View) → Grown v w → Roots v → Roots w) → ((v w : View) (f : Function) → Grown v w → Roots v → Work v f → Work w f)
+    → (u v w : State) → RememberingMoves Roots Work Due Answers u v → RememberingMoves Roots Work Due Answers v w → RememberingMoves Roots Work Due Answers u w
+RememberingMoves-both Roots Work Due Answers roots work u v w p q = record {
+  moves = Moves-both Roots Work roots work u.view v.view w.view p.moves q.moves;
+  known = λ k. q.known (p.known k);
+}
+
+module _ (Roots : View → Type 0) (Work : View → Function → Type 0) (Due : View → Task → Type 0) (Answers : View → Task → Edge → Type 0)
+    (due_stays : (v w : View) (t : Task) → Grown v w → Due v t → Due w t)
+    (answers_stay : (v w : View) (t : Task) (e : Edge) → Grown v w → Due v t → Answers v t e → Answers w t e) where
+  -- the table stayed as it was
+  pub RememberingMoves-same : (v w : View) (old new : List (Option Answer)) → Moves Roots Work v w → new ≡ old
+      → RememberingMoves Roots Work Due Answers (record { view = v; answers = old }) (record { view = w; answers = new })
+  RememberingMoves-same v w old new m same = record {
+    moves = m;
+    known = λ k. subst (λ items. Knows Due Answers (record { view = w; answers = items })) (sym same) (Knows-grown Due Answers due_stays answers_stay v w old m.grown k);
+  }
+
+  -- the table has one answer more
+  pub RememberingMoves-more : (v w : View) (old mid new final : List (Option Answer)) (t : Task) (e : Edge) → Moves Roots Work v w → mid ≡ old → Remembers mid new t e → final ≡ new → Due w t → Answers w t e
+      → RememberingMoves Roots Work Due Answers (record { view = v; answers = old }) (record { view = w; answers = final })
+  RememberingMoves-more v w old mid new final t e m same more end d is = record {
+    moves = m;
+    known = λ k. subst (λ items. Knows Due Answers (record { view = w; answers = items })) (sym end) (Knows-more Due Answers due_stays answers_stay w mid new t e more d is
+        (subst (λ items. Knows Due Answers (record { view = w; answers = items })) (sym same) (Knows-grown Due Answers due_stays answers_stay v w old m.grown k)));
+  }
+
+-- an empty table knows nothing
+pub Knows-nothing : (Due : View → Task → Type 0) (Answers : View → Task → Edge → Type 0) (v : View) (items new : List (Option Answer)) → items ≡ new
+    → ((j : ℕ) → slice_index_or new j None ≡ None) → Knows Due Answers (record { view = v; answers = items })
+Knows-nothing Due Answers v items new same none j a here =
+    let bad : None ≡ Some a = sym (none j) ∙ ap (λ (xs : List (Option Answer)). slice_index_or xs j None) (sym same) ∙ here in absurd (never bad)
+  where
+    never : {a : Answer} → None ≡ Some a → ⊥
+    never e = cc

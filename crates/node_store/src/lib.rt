@@ -1,0 +1,17 @@
+//! What operators see of a store of decision diagrams that only grows, and the evaluator of recursive operators over it.
+#![tactic(auto)]
+
+pub mod binary;
+pub mod conditional;
+pub mod evaluate;
+pub mod grow;
+pub mod numbers;
+pub mod operator;
+pub mod parts;
+pub mod pointwise;
+pub mod remembering;
+pub mod stack;
+
+pub use computed_cache::Key;
+pub use grow::{Grow, Opened, Stop};
+pub use stack::Stack;

@@ -1,0 +1,15 @@
+//! The numbers of the operations whose answers are kept. The relation of the computed table has a case for each.
+
+pub const AND: u8 = 1;
+
+pub const ITE: u8 = 2;
+
+pub const COFACTOR: u8 = 3;
+
+pub const LEQ: u8 = 4;
+
+pub const PLUS: u8 = 20;
+
+pub const UNION: u8 = 40;
+
+pub const MEET: u8 = 41;

@@ -1,0 +1,184 @@
+//! What a run of the evaluator works in.
+
+ghost use Rattle.std.specs.Prelude.{◌≡◌, ◌+◌, ◌<◌, ◌≤◌, ◌++◌, ◌∷◌, [], IfSome, IfNone, IsOk, OnOk, OnErr, length, take, ℕ, slice_index_or, None};
+ghost use Rattle.node_store.specs.Remembering.{IsRecalled, Remembers};
+
+use crate::operator::{Frame, Task};
+use edge_bits::{Edge, Memory};
+use smallvec::SmallVec;
+use std::alloc::Global;
+use std::marker::Model;
+
+/// An answer of the present call.
+#[derive(Clone, Copy, PartialEq, Eq, Drop)]
+pub struct Answer {
+    pub task: Task,
+    pub edge: Edge,
+}
+
+/// The frames of the tasks that wait, and a lossy table of the present call's answers.
+#[derive(Drop)]
+pub struct Stack {
+    frames: SmallVec<Frame, 16>,
+    answers: Vec<Option<Answer>>,
+}
+
+impl Model for Stack {
+    ghost use Rattle.std.specs.Prelude.{◌-◌, ◌≤◌, length};
+    ghost use Rattle.node_store.specs.Stacks.{Scratch};
+
+    ghost Value = { Scratch };
+
+    ghost view = { λ s. record { frames = s.frames.items; free = s.frames.capacity - length s.frames.items; answers = s.answers.items } };
+
+    ghost invariant = { λ s. length s.frames.items ≤ s.frames.capacity };
+}
+
+impl Stack {
+    ghost use Rattle.node_store.specs.Stacks.{room_of};
+
+    /// No frame, with the room for a few, and no table.
+    pub fn new(alloc: Global) -> Stack
+        ensures frames { result.frames ≡ [] }
+        ensures answers { result.answers ≡ [] }
+    {
+        Stack {
+            frames: SmallVec::new(alloc),
+            answers: Vec::new(alloc),
+        }
+    }
+
+    /// How many frames wait.
+    pub fn len(&self) -> usize
+        ensures { result ≡ length self.now.frames }
+    {
+        self.frames.len()
+    }
+
+    /// Makes room for so many frames more. Want of memory changes nothing.
+    pub fn reserve(&mut self, more: usize) -> Result<(), Memory>
+        ensures ok { OnOk result (more ≤ self.new.free) }
+        ensures succeeds { more ≤ self.old.free → IsOk result }
+        ensures frames { self.new.frames ≡ self.old.frames }
+        ensures answers { self.new.answers ≡ self.old.answers }
+        ensures err { OnErr result (self.new ≡ self.old) }
+    {
+        self.frames.reserve(more)?;
+        Ok(())
+    }
+
+    /// Adds a frame at the top.
+    pub fn push(&mut self, frame: Frame)
+        requires { 0 < self.old.free }
+        ensures frames { self.new.frames ≡ self.old.frames ++ frame ∷ [] }
+        ensures free { self.new.free + 1 ≡ self.old.free }
+        ensures answers { self.new.answers ≡ self.old.answers }
+    {
+        self.frames.push_reserved(frame);
+    }
+
+    /// Takes the frame at the top.
+    pub fn pop(&mut self) -> Option<Frame>
+        ensures some { IfSome result (λ frame. self.old.frames ≡ self.new.frames ++ frame ∷ []) }
+        ensures none { IfNone result (length self.old.frames ≡ 0) }
+        ensures room { room_of self.new ≡ room_of self.old }
+        ensures answers { self.new.answers ≡ self.old.answers }
+    {
+        self.frames.pop()
+    }
+
+    /// Keeps so many frames, the lowest.
+    pub fn truncate(&mut self, len: usize)
+        ensures frames { self.new.frames ≡ take len self.old.frames }
+        ensures room { room_of self.new ≡ room_of self.old }
+        ensures answers { self.new.answers ≡ self.old.answers }
+    {
+        self.frames.truncate(len);
+    }
+
+    /// Makes an empty table of so many places in place of the table. Want of memory changes nothing.
+    pub fn make_table(&mut self, places: usize) -> Result<(), Memory>
+        ensures ok { OnOk result (length self.new.answers ≡ places) }
+        ensures none { OnOk result ((j : ℕ) → slice_index_or self.new.answers j None ≡ None) }
+        ensures frames { self.new.frames ≡ self.old.frames }
+        ensures free { self.new.free ≡ self.old.free }
+        ensures err { OnErr result (self.new ≡ self.old) }
+    {
+        let alloc = *self.frames.allocator();
+        self.answers = vec![in alloc; None; places]?;
+        Ok(())
+    }
+
+    /// The answer of a task, if it is still known.
+    pub fn recall(&self, task: Task) -> Option<Edge>
+        ensures { IfSome result (λ e. IsRecalled self.now.answers task e) }
+    {
+        look_up(&self.answers, task)
+    }
+
+    /// Keeps the answer of a task, in place of another.
+    pub fn remember(&mut self, task: Task, edge: Edge)
+        ensures remembers { Remembers self.old.answers self.new.answers task edge }
+        ensures frames { self.new.frames ≡ self.old.frames }
+        ensures free { self.new.free ≡ self.old.free }
+    {
+        write(&mut self.answers, task, edge);
+    }
+
+    /// Forgets all answers, at the start of a call.
+    pub fn forget(&mut self)
+        ensures none { (j : ℕ) → slice_index_or self.new.answers j None ≡ None }
+        ensures frames { self.new.frames ≡ self.old.frames }
+        ensures free { self.new.free ≡ self.old.free }
+    {
+        erase(&mut self.answers);
+    }
+}
+
+// Where the answer of a task stands in a table of this size.
+fn place_of(task: Task, size: usize) -> usize
+    requires { 0 < size }
+    ensures { result < size }
+{
+    let mixed = task.f.index as u64 * 12582917
+        + task.g.index as u64 * 4256249
+        + task.h.index as u64;
+    (mixed % size as u64) as usize
+}
+
+fn look_up(answers: &[Option<Answer>], task: Task) -> Option<Edge>
+    ensures { IfSome result (λ e. IsRecalled answers.now task e) }
+{
+    if answers.is_empty() {
+        return None;
+    }
+    match answers[place_of(task, answers.len())] {
+        Some(answer) => {
+            if answer.task == task {
+                Some(answer.edge)
+            } else {
+                None
+            }
+        }
+        None => None,
+    }
+}
+
+fn write(answers: &mut [Option<Answer>], task: Task, edge: Edge)
+    ensures remembers { Remembers answers.old answers.new task edge }
+    ensures length { length answers.new ≡ length answers.old }
+{
+    if !answers.is_empty() {
+        let place = place_of(task, answers.len());
+        answers[place] = Some(Answer { task, edge });
+    }
+}
+
+fn erase(answers: &mut [Option<Answer>])
+    ensures none { (j : ℕ) → slice_index_or answers.new j None ≡ None }
+    ensures length { length answers.new ≡ length answers.old }
+{
+    for place in 0..answers.len() {
+        answers[place] = None;
+    }
+}
