@@ -105,6 +105,14 @@ answered-operated w w' old new act (Ok name) (Ok answer) makes_one grown stored 
 answered-operated w w' old new act (Err x) (Ok answer) makes_one grown stored adds refuses is =
     subst (λ (a : Answer). IsAnswered w old w' new act a) (sym is.1) (answered-full w w' old new act makes_one grown stored (refuses (ap Err is.0)))
 
+-- it is refused only where it told so
+pub filled-operated : (Filled : Type 0) (made : Result Name Stop) (result : Result Answer Memory) → (IsErrOf made stop.Full → Filled)
+    → IfOk result (λ answer. MatchResult made (λ _. answer ≡ record { reply = reply.Done; made = true }) (λ x. (x ≡ stop.Full) × (answer ≡ record { reply = reply.Full; made = false })))
+    → IfOk result (λ answer. stops answer.reply ≡ true → Filled)
+filled-operated Filled made (Err x) filled is = tt
+filled-operated Filled (Ok name) (Ok answer) filled is = λ e. absurd (false≢true (sym (ap (λ (a : Answer). stops a.reply) is) ∙ e))
+filled-operated Filled (Err x) (Ok answer) filled is = λ e. filled (ap Err is.0)
+
 -- a call that makes no row
 pub answered-other : (w w' : View) (old new : Rows) (act : Act) (call : Call) (answer : LawReply) (told : Reply) → call_with act ≡ call → makes act ≡ false → stops told ≡ false
     → told_of answer ≡ Some told → given_by answer ≡ None → Grown w w' → AreStored w' new → IsStepOf w old w' new call answer → new ≡ rows_left old act

@@ -1,5 +1,5 @@
 -- The calls of a session are steps of each table with which it agrees.
-use Rattle.std.proofs.Common.{◌≡◌, ◌≢◌, ℕ, ◌+◌, ◌<◌, ◌≤◌, ◌^◌, Bool, true, false, cond, ◌&&◌, ◌||◌, ⊎_elim, List, [], ◌∷◌, ◌++◌, length, Option, Some, None, option_and_then, ◌↔◌, not, if◌then◌else◌, refl, sym, ap, ap₂, ◌∙◌, arith, subst, pos, ℤ, take, take_all, Result, Ok, Err, IfOk, IsTrue, IsErrOf, OnErr}
+use Rattle.std.proofs.Common.{inl, inr, ◌≡◌, ◌≢◌, ℕ, ◌+◌, ◌<◌, ◌≤◌, ◌^◌, Bool, true, false, cond, ◌&&◌, ◌||◌, ⊎_elim, List, [], ◌∷◌, ◌++◌, length, Option, Some, None, option_and_then, ◌↔◌, not, if◌then◌else◌, refl, sym, ap, ap₂, ◌∙◌, arith, subst, pos, ℤ, take, take_all, Result, Ok, Err, IfOk, IsTrue, IsErrOf, OnErr}
 use Rattle.std.proofs.Math.ListN.{set, length-set}
 use Rattle.std.proofs.lemmas.Bool.{eq-eqb, ne_eqb}
 use Rattle.std.proofs.lemmas.List.{length_push}
@@ -26,8 +26,10 @@ use Rattle.node_store.specs.declared.grow.Stop.{Stop}
 use Rattle.node_store.specs.declared.grow.Stop.TheVariants as stop
 use Rattle.node_store.specs.Kinds.{flipped}
 use Rattle.node_slots.specs.Views.{View, Denotes, Grown, Is, Permanent, Rose, bdd_at}
+use Rattle.node_store.specs.Kinds.{Function as StoreFunction}
+use Rattle.node_store.specs.Work.{IsWork}
 use Rattle.node_store.specs.ViewLaws.{Is-from, Is-grown, values_at-grown, values_at-is}
-use Rattle.net_jobs.specs.Agreement.{Adds, Agrees, AreStored, Has, IsKept, IsLive, IsStepOf, Refuses, Rows, list_at, name_of, sizes_for}
+use Rattle.net_jobs.specs.Agreement.{Adds, Agrees, AreStored, Has, IsDue, IsKept, IsLive, IsStepOf, Refuses, Rows, list_at, name_of, sizes_for}
 use Rattle.net_jobs.proofs.ListLemmas.{slice_get-push, slice_get-set}
 use Rattle.net_jobs.proofs.WalkingLemmas.{assignment_of-below}
 
@@ -229,3 +231,10 @@ pub one_denotes : (w' : View) (b : Bool) (e : Edge) → Permanent w' → e ≡ r
 one_denotes w' true e permanent is = subst (λ (x : Edge). Denotes kinds.Bdd w' x (constant true)) (sym is) (record { is = permanent.one; beyond = λ u from k b. refl; fits = tt })
 one_denotes w' false e permanent is =
     subst (λ (x : Edge). Denotes kinds.Bdd w' x (constant false)) (sym is) (record { is = ap (flipped true) permanent.one; beyond = λ u from k b. refl; fits = tt })
+
+-- where a part of the work is due, a function is
+pub due_of_work : (w : View) (Work : StoreFunction → Type 0) → IsWork w Work w.due → IsDue w
+due_of_work w Work is = elim is.is [
+  | inl plain ↦ (_, plain)
+  | inr opposite ↦ (_, opposite)
+]

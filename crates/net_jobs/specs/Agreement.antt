@@ -11,6 +11,9 @@ use Rattle.function_laws.specs.Lists.{list_of}
 use Rattle.function_laws.specs.Tables.{Table, Sizes}
 use Rattle.function_laws.specs.Steps.{IsAllowed, after}
 use Rattle.node_store.specs.declared.grow.Stop.{Stop}
+use Rattle.std.specs.List.{count_by}
+use Rattle.node_store.specs.Kinds.{Function}
+use Rattle.node_slots.specs.Stores.{Plain, is_word}
 use Rattle.node_slots.specs.Views.{View, Is, Rose, bdd_at}
 
 -- The rows of a session: the edge of each row, and nothing where the row was dropped.
@@ -77,3 +80,11 @@ pub record Refuses (w : View) (rows : Rows) (w' : View) (rows' : Rows) (call : C
 -- the edge was made, and is the edge of a row with this name at the end of the rows
 abbrev pub IsKept : Result Edge Stop → Rows → Rows → Name → Type 0
 IsKept made rows rows' name = (e : Edge) × (made ≡ Ok e) × (name ≡ name_of (length rows)) × (rows' ≡ rows ++ Some e ∷ [])
+
+-- a function was refused
+abbrev pub IsDue : View → Type 0
+IsDue w = (f : Function) × (w.due ≡ Some f)
+
+-- as many slots are in use as there are
+abbrev pub IsFilled : Plain → Type 0
+IsFilled p = count_by is_word p.words ≡ length p.words

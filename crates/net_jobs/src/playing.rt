@@ -5,7 +5,7 @@ ghost use Rattle.job_text.specs.Grammar.{CommandsSay, IsJob, target_of};
 ghost use Rattle.job_text.specs.Histories.{HistoryLine, IsPlayed, drop_of, left_of, left_text, line_text, stops};
 ghost use Rattle.node_slots.specs.Stores.{plain_view};
 ghost use Rattle.node_slots.specs.Views.{Grown};
-ghost use Rattle.net_jobs.specs.Agreement.{Adds, AreStored, Refuses, is_dropped, name_of};
+ghost use Rattle.net_jobs.specs.Agreement.{Adds, AreStored, IsFilled, Refuses, is_dropped, name_of};
 ghost use Rattle.net_jobs.specs.Playing.{CanCall, DropsOne, DropsTheRest, IsAnswered, RowsGoOn, SaysOne, SaysThrough, StandsAt, assigned_after, call_with, makes, target_at};
 
 use crate::gate::Gate;
@@ -69,6 +69,7 @@ fn operate(session: &mut Session, act: &Act) -> Result<Name, Stop>
     requires room { vec_len session.old.rows < 2 ^ 32 }
     ensures ok { IfOk result (λ name. Adds (plain_view session.old.store) session.old.rows.items (plain_view session.new.store) session.new.rows.items (call_with act.now) name) }
     ensures full { IsErrOf result Stop.Full → Refuses (plain_view session.old.store) session.old.rows.items (plain_view session.new.store) session.new.rows.items (call_with act.now) }
+    ensures filled { IsErrOf result Stop.Full → IsFilled session.new.store }
     ensures grown { Grown (plain_view session.old.store) (plain_view session.new.store) }
 {
     match act {
@@ -89,6 +90,7 @@ fn perform(session: &mut Session, act: &Act) -> Result<Answer, Memory>
     requires stored { AreStored (plain_view session.old.store) session.old.rows.items }
     requires room { vec_len session.old.rows < 2 ^ 32 }
     ensures ok { IfOk result (λ answer. IsAnswered (plain_view session.old.store) session.old.rows.items (plain_view session.new.store) session.new.rows.items act.now answer) }
+    ensures filled { IfOk result (λ answer. stops answer.reply ≡ true → IsFilled session.new.store) }
 {
     let reply = match act {
         Act::Drop(a) => {
@@ -115,6 +117,7 @@ fn speak(alloc: Global, play: &mut Progress, command: &Command) -> Result<Answer
     requires room { vec_len play.old.session.rows < 2 ^ 32 }
     requires place { play.old.place < 2 ^ 63 }
     ensures answered { IfOk result (λ answer. IsAnswered (plain_view play.old.session.store) play.old.session.rows.items (plain_view play.new.session.store) play.new.session.rows.items command.now.act answer) }
+    ensures filled { IfOk result (λ answer. stops answer.reply ≡ true → IsFilled play.new.session.store) }
     ensures text { IfOk result (λ answer. play.new.text.items ≡ play.old.text.items ++ line_text play.old.place 0 command.now.words answer.reply) }
     ensures place { OnOk result (play.new.place ≡ play.old.place + 1) }
     ensures vars { OnOk result ((plain_view play.new.session.store).vars ≡ (plain_view play.old.session.store).vars) }

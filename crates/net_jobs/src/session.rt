@@ -6,7 +6,7 @@ ghost use Rattle.function_laws.specs.declared.history.Call.TheVariants as calls;
 ghost use Rattle.function_laws.specs.declared.history.Reply.TheVariants as replies;
 ghost use Rattle.node_slots.specs.Stores.{plain_view};
 ghost use Rattle.node_slots.specs.Views.{Grown, Is, Permanent};
-ghost use Rattle.net_jobs.specs.Agreement.{Adds, AreStored, Has, IsKept, IsLive, IsStepOf, Refuses, is_dropped, name_of};
+ghost use Rattle.net_jobs.specs.Agreement.{Adds, AreStored, Has, IsDue, IsFilled, IsKept, IsLive, IsStepOf, Refuses, is_dropped, name_of};
 
 use crate::walking::value_at;
 use edge_bits::{Edge, Kind, Memory};
@@ -40,6 +40,25 @@ fn keep(rows: &mut Vec<Option<Edge>>, made: Result<Edge, Stop>) -> Result<Name, 
         }),
         Err(_) => Err(Stop::Memory),
     }
+}
+
+/// A new row of the edge that was made, if it was made. Where a node was refused, each slot is in use.
+fn settle(
+    store: &PlainStore,
+    rows: &mut Vec<Option<Edge>>,
+    made: Result<Edge, Stop>,
+) -> Result<Name, Stop>
+    requires room { vec_len rows.old < 2 ^ 32 }
+    requires due { IsErrOf made Stop.Full → IsDue (plain_view store.now) }
+    ensures ok { IfOk result (λ name. IsKept made rows.old.items rows.new.items name) }
+    ensures full { IsErrOf result Stop.Full → IsErrOf made Stop.Full }
+    ensures filled { IsErrOf result Stop.Full → IsFilled store.now }
+    ensures err { OnErr result (rows.new.items ≡ rows.old.items) }
+{
+    if made.is_err() {
+        let _in_use = store.in_use();
+    }
+    keep(rows, made)
 }
 
 impl Session {
@@ -108,12 +127,13 @@ impl Session {
         requires room { vec_len self.old.rows < 2 ^ 32 }
         ensures ok { IfOk result (λ name. Adds (plain_view self.old.store) self.old.rows.items (plain_view self.new.store) self.new.rows.items (calls.And f g) name) }
         ensures full { IsErrOf result Stop.Full → Refuses (plain_view self.old.store) self.old.rows.items (plain_view self.new.store) self.new.rows.items (calls.And f g) }
+        ensures filled { IsErrOf result Stop.Full → IsFilled self.new.store }
         ensures grown { Grown (plain_view self.old.store) (plain_view self.new.store) }
     {
         let first = self.edge(f);
         let second = self.edge(g);
         let made = ite_core::and(&mut self.store, first, second);
-        keep(&mut self.rows, made)
+        settle(&self.store, &mut self.rows, made)
     }
 
     /// The complement of a row, as a new row.
@@ -138,12 +158,13 @@ impl Session {
         requires room { vec_len self.old.rows < 2 ^ 32 }
         ensures ok { IfOk result (λ name. Adds (plain_view self.old.store) self.old.rows.items (plain_view self.new.store) self.new.rows.items (calls.Or f g) name) }
         ensures full { IsErrOf result Stop.Full → Refuses (plain_view self.old.store) self.old.rows.items (plain_view self.new.store) self.new.rows.items (calls.Or f g) }
+        ensures filled { IsErrOf result Stop.Full → IsFilled self.new.store }
         ensures grown { Grown (plain_view self.old.store) (plain_view self.new.store) }
     {
         let first = self.edge(f);
         let second = self.edge(g);
         let made = ite_core::or(&mut self.store, first, second);
-        keep(&mut self.rows, made)
+        settle(&self.store, &mut self.rows, made)
     }
 
     /// If the first row then the second else the third, as a new row.
@@ -155,13 +176,14 @@ impl Session {
         requires room { vec_len self.old.rows < 2 ^ 32 }
         ensures ok { IfOk result (λ name. Adds (plain_view self.old.store) self.old.rows.items (plain_view self.new.store) self.new.rows.items (calls.Ite f g h) name) }
         ensures full { IsErrOf result Stop.Full → Refuses (plain_view self.old.store) self.old.rows.items (plain_view self.new.store) self.new.rows.items (calls.Ite f g h) }
+        ensures filled { IsErrOf result Stop.Full → IsFilled self.new.store }
         ensures grown { Grown (plain_view self.old.store) (plain_view self.new.store) }
     {
         let first = self.edge(f);
         let second = self.edge(g);
         let third = self.edge(h);
         let made = ite_core::ite(&mut self.store, first, second, third);
-        keep(&mut self.rows, made)
+        settle(&self.store, &mut self.rows, made)
     }
 
     /// Whether two rows have one function.

@@ -177,6 +177,7 @@ module _ (p : Plain) (i bits : ℕ) (word : Word) (within : i < length p.words) 
       few_elements = st.few_elements;
       room = rw (length-set {A = ℕ}) st.room;
       few_words = rw (length-set {A = ℕ}) st.few_words;
+      refused = λ r is t below none. absurd (st.refused r is i within free);
     }
 
 -- a slot of the function of a node holds the node

@@ -1,11 +1,14 @@
 -- How many slots have a word.
-use Rattle.std.proofs.Common.{◌≡◌, inl, inr, ℕ, zero, suc, ◌+◌, ◌-◌, ◌<◌, ◌≤◌, List, length, take, get_or, Bool, true, false, None, add-one, add-zero, refl, ap, sym, ◌∙◌, subst, arith}
+use Rattle.std.proofs.Common.{◌≡◌, inl, inr, ℕ, zero, suc, ◌+◌, ◌-◌, ◌<◌, ◌≤◌, List, length, take, get_or, Bool, true, false, Option, Some, None, add-one, add-zero, refl, ap, sym, ◌∙◌, subst, arith}
 use Rattle.std.specs.List.{count_by}
 use Rattle.std.proofs.Math.Seq.{take-length}
 use Rattle.std.proofs.lemmas.Bool.{cases_lt}
 use Rattle.std.proofs.lemmas.List.Sums.{count_by_more_yes, count_by_more_no}
 use Rattle.edge_bits.specs.Reading.{slots_of}
-use Rattle.node_slots.specs.Stores.{Plain, slots, is_used, is_word, HasPermanent, IsStore}
+use Rattle.edge_bits.specs.declared.words.Word.{Word}
+use Rattle.node_store.specs.Kinds.{Function}
+use Rattle.node_slots.specs.declared.plain_store.Refused.{Refused}
+use Rattle.node_slots.specs.Stores.{Plain, slots, is_used, is_word, plain_view, refused_function, HasPermanent, IsStore}
 
 count_first : (p : ℕ → Bool) (ws : List ℕ) (n : ℕ) → n ≤ length ws → ((t : ℕ) → t < n → p (get_or ws t 0) ≡ true) → count_by p (take n ws) ≡ n
 count_first p ws zero le each = refl
@@ -41,3 +44,17 @@ count_cleared p st ws from is count kept free =
     count_prefix is_word ws from (omega arith)
     (λ t lt. ap is_used (kept t lt) ∙ permanent_used p st.permanent t (omega arith))
     (λ t le. ap is_used (free t le))
+
+used_if : (o : Option Word) → (o ≡ None → ⊥) → is_used o ≡ true
+used_if None some = absurd (some refl)
+used_if (Some word) some = refl
+
+was_refused : (content : ℕ → Option Function) (d : Option Refused) (f : Function) → refused_function content d ≡ Some f → (r : Refused) × (d ≡ Some r)
+was_refused content None f e = cc
+was_refused content (Some r) f e = (r, refl)
+
+-- where a function is due, each slot is in use
+pub count_full : (q p : Plain) → q ≡ p → IsStore q → (f : Function) → (plain_view p).due ≡ Some f → count_by is_word p.words ≡ length p.words
+count_full q p same st f = subst (λ (x : Plain). (plain_view x).due ≡ Some f → count_by is_word x.words ≡ length x.words) same
+    (λ due. let r = was_refused _ q.due f due in
+    ap (count_by is_word) (sym (take-length q.words)) ∙ count_first is_word q.words (length q.words) (omega arith) (λ t lt. used_if (slots q t) (st.refused r.0 r.1 t lt)))

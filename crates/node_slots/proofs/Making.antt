@@ -266,8 +266,8 @@ module _ (p : Plain) (st : IsStore p) where
       lo_short = rw (levels-grown k refused-grown) i.lo_short;
     }
 
-    pub refused-store : IsStore (after_refusal p n d)
-    refused-store = record {
+    pub refused-store : HasNoFree p → IsStore (after_refusal p n d)
+    refused-store full = record {
       ordered = record {
         within = λ k v vn. rw (levels-grown k refused-grown) (st.ordered.within k v (IsVariable-back k refused-grown v vn));
         alone = λ k u v un vn e. st.ordered.alone k u v (IsVariable-back k refused-grown u un) (IsVariable-back k refused-grown v vn) e;
@@ -282,6 +282,7 @@ module _ (p : Plain) (st : IsStore p) where
       few_elements = st.few_elements;
       room = st.room;
       few_words = st.few_words;
+      refused = λ r is t below free. full t below free;
     }
 
 -- what was due where a node was refused

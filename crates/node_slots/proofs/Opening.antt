@@ -197,8 +197,8 @@ module _ (p : Plain) (first : HasPermanent p) (free : (s : ℕ) → 5 + length p
     ]
 
     -- the store is canonical
-    pub IsStore-opening : length p.element_levels ≤ 1024 → 5 + length p.variable_levels ≤ length p.words → length p.words < 2 ^ 23 → IsStore p
-    IsStore-opening elements room words = record {
+    pub IsStore-opening : ((r : Refused) → p.due ≡ Some r → ⊥) → length p.element_levels ≤ 1024 → 5 + length p.variable_levels ≤ length p.words → length p.words < 2 ^ 23 → IsStore p
+    IsStore-opening none elements room words = record {
       ordered = orders;
       permanent = first;
       canonical = record { nodes = nodes; leaves = leaves; apart = apart };
@@ -206,6 +206,7 @@ module _ (p : Plain) (first : HasPermanent p) (free : (s : ℕ) → 5 + length p
       few_elements = elements;
       room = room;
       few_words = words;
+      refused = λ r is t below free. none r is;
     }
 
 -- a store of which the slots from the permanent ones on were freed
@@ -225,9 +226,9 @@ IsOrdered-same p ws n d o = record { within = within; alone = alone }
     alone Add u v = o.alone Add u v
     alone Zdd u v = o.alone Zdd u v
 
-pub IsStore-cleared : (p : Plain) → IsStore p → (ws : List ℕ) (n : ℕ) (d : Option Refused) (from : ℕ) → from ≡ 5 + length p.variable_levels → length ws ≡ length p.words
+pub IsStore-cleared : (p : Plain) → IsStore p → (d : Option Refused) → ((r : Refused) → d ≡ Some r → ⊥) → (ws : List ℕ) (n : ℕ) (from : ℕ) → from ≡ 5 + length p.variable_levels → length ws ≡ length p.words
     → ((s : ℕ) → s < from → slots_of ws s ≡ slots p s) → ((s : ℕ) → from ≤ s → slots_of ws s ≡ None) → IsStore (with_rest p ws n d)
-IsStore-cleared p st ws n d from is count kept free =
+IsStore-cleared p st d none ws n from is count kept free =
     let f = st.permanent in let r = st.room in let w = st.few_words in
     IsStore-opening (with_rest p ws n d)
     (record {
@@ -235,7 +236,10 @@ IsStore-cleared p st ws n d from is count kept free =
       projections = λ v lt. kept (5 + v) (omega (arith, is, lt)) ∙ f.projections v lt;
     })
     (λ s le. free s (omega (arith, is, le)))
-    (IsOrdered-same p ws n d st.ordered) st.few_variables st.few_elements (omega arith) (omega arith)
+    (IsOrdered-same p ws n d st.ordered) st.few_variables none st.few_elements (omega arith) (omega arith)
+
+pub none_due : (r : Refused) → None ≡ Some r → ⊥
+none_due r e = cc
 
 pub IsStore-new : (p : Plain) (vars elements limit : ℕ) → vars ≤ 1024 → elements ≤ 1024 → 5 + vars ≤ limit → limit ≤ 8388607 → IsOpening vars elements limit p → IsStore p
 IsStore-new p vars elements limit fv fe least most o =
@@ -243,4 +247,4 @@ IsStore-new p vars elements limit fv fe least most o =
     let m = ap length o.element_levels ∙ length-range_with_len 0 elements in
     let l = o.slots_are in
     IsStore-opening p (HasPermanent-words p (λ s lt. o.permanent s (omega (arith, n, lt)))) (λ s le. o.free s (omega (arith, n, le)))
-    (IsOrdered-ascending p vars elements o.variable_levels o.element_levels) (omega (arith, n)) (omega (arith, m)) (omega arith) (omega arith)
+    (IsOrdered-ascending p vars elements o.variable_levels o.element_levels) (omega (arith, n)) (λ r is. none_due r (sym o.due ∙ is)) (omega (arith, m)) (omega arith) (omega arith)

@@ -134,6 +134,8 @@ pub record IsStore (p : Plain) : Type 0 where
   pub few_elements : length p.element_levels ≤ 1024
   pub room : 5 + length p.variable_levels ≤ length p.words
   pub few_words : length p.words < 2 ^ 23
+  -- where a call was refused and nothing was freed since, each slot has a word
+  pub refused : (r : Refused) → p.due ≡ Some r → (t : ℕ) → t < length p.words → slots p t ≡ None → ⊥
 
 -- whether the bits are a word's
 abbrev pub is_word : ℕ → Bool

@@ -4,7 +4,7 @@ ghost use Rattle.std.specs.Prelude.{◌≡◌, ℕ, ◌+◌, ◌<◌, ◌≤◌,
 ghost use Rattle.std.specs.List.{range_with_len};
 ghost use Rattle.edge_bits.specs.Reading.{slots_of};
 ghost use Rattle.edge_bits.specs.Words.{IsInRange};
-ghost use Rattle.node_slots.specs.Stores.{permanent_word};
+ghost use Rattle.node_slots.specs.Stores.{is_word, permanent_word};
 ghost use Rattle.node_slots.specs.Placing.{IsPlaced, HasNoPlace, IsChild, HasNoChild, opened_of};
 
 use edge_bits::{Edge, Kind, Memory, Node, Word, pack, unpack};
@@ -285,6 +285,14 @@ fn free_from(words: &mut Vec<u64>, from: usize)
     }
 }
 
+// How many of the bits are a word's.
+fn count_words(words: &[u64]) -> usize
+    ensures count { result ≡ count_by is_word words.now }
+    ensures within { result ≤ length words.now }
+{
+    words.iter().filter(|bits| unpack(**bits).is_some()).count()
+}
+
 impl PlainStore {
     ghost use Rattle.edge_bits.specs.declared.edges.Kind.{Kind};
     ghost use Rattle.std.specs.Prelude.{Bool, ℤ};
@@ -292,6 +300,7 @@ impl PlainStore {
     ghost use Rattle.edge_bits.specs.declared.edges.Kind.TheVariants.{Bdd, Add, Zdd};
     ghost use Rattle.edge_bits.specs.Reading.{DenotesBdd, DenotesAdd, DenotesZdd};
     ghost use Rattle.node_store.specs.Views.{AreTwo, Denotes, values_at};
+    ghost use Rattle.node_store.specs.Kinds.{Function};
     ghost use Rattle.node_slots.specs.Stores.{plain_view, is_word, IsOpening, IsCleared};
 
     /// A store of so many variables and elements, at most 1,024 each, with so many slots: 5 and one for each variable at least, 8,388,607 at most. Both orders are 0, 1, 2, ..
@@ -341,14 +350,12 @@ impl PlainStore {
         &self.words
     }
 
-    /// The number of slots that have a word.
+    /// The number of slots that have a word: all, where a function was refused and nothing was freed since.
     pub fn in_use(&self) -> u32
-        ensures { result ≡ count_by is_word self.now.words }
+        ensures count { result ≡ count_by is_word self.now.words }
+        ensures full { (f : Function) → (plain_view self.now).due ≡ Some f → result ≡ length self.now.words }
     {
-        self.words
-            .iter()
-            .filter(|bits| unpack(**bits).is_some())
-            .count() as u32
+        count_words(&self.words) as u32
     }
 
     /// Frees all slots that are not permanent, and answers how many are in use then: 5 and one for each variable.

@@ -6,66 +6,59 @@ use Rattle.function_laws.specs.declared.history.Reply.TheVariants as law
 use Rattle.job_text.specs.declared.history_line.Reply.TheVariants as reply
 use Rattle.node_slots.specs.Stores.{plain_view}
 use Rattle.node_store.specs.ViewLaws.{Grown-refl}
-use Rattle.net_jobs.specs.Agreement.{AreStored, IsStepOf, Rows}
+use Rattle.net_jobs.specs.Agreement.{AreStored, IsFilled, IsStepOf, Rows}
 use Rattle.net_jobs.specs.Playing.{IsAnswered, call_with, makes, rows_left}
-use Rattle.net_jobs.proofs.PlayLemmas.{answered-operated, answered-other, makes_default, stored-set}
+use Rattle.net_jobs.proofs.PlayLemmas.{answered-operated, answered-other, filled-operated, makes_default, stored-set}
 use Rattle.net_jobs.proofs.SessionLemmas.{stored-grown}
 use Rattle.net_jobs.proofs.playing.perform.Goals as goal
 
-pub returns-in_default : goal.returns-in_default
-returns-in_default c =
+pub returns-in_default-clause-ok : goal.returns-in_default-clause-ok
+returns-in_default-clause-ok c =
     let old = c.args.session.now in
-    record {
-      ok = answered-operated (plain_view old.store) (plain_view c.operate.new.session.store) old.rows.items c.operate.new.session.rows.items c.args.act.now c.operate.result c.answer_of.result
-          (makes_default c.args.act.now c.in_default.not-Drop c.in_default.not-Same c.in_default.not-Eval) c.operate.ensures.grown c.requires.stored c.operate.ensures.ok c.operate.ensures.full c.answer_of.ensures.ok;
-    }
+    answered-operated (plain_view old.store) (plain_view c.operate.new.session.store) old.rows.items c.operate.new.session.rows.items c.args.act.now c.operate.result c.answer_of.result
+    (makes_default c.args.act.now c.in_default.not-Drop c.in_default.not-Same c.in_default.not-Eval) c.operate.ensures.grown c.requires.stored c.operate.ensures.ok c.operate.ensures.full c.answer_of.ensures.ok
 
-pub returns-in-Drop : goal.returns-in-Drop
-returns-in-Drop c =
+pub returns-in-Drop-clause-ok : goal.returns-in-Drop-clause-ok
+returns-in-Drop-clause-ok c =
     let old = c.args.session.now in
     let w = plain_view old.store in
     let left = c.drop_row.ensures.row ∙ ap (λ name. set old.rows.items name.row None) c.register.ensures in
     let same = ap plain_view c.drop_row.ensures.store in
-    record {
-      ok = subst (λ v. IsAnswered w old.rows.items v c.drop_row.new.self.rows.items c.args.act.now (record { reply = reply.Done; made = false })) (sym same)
-          (answered-other w w old.rows.items c.drop_row.new.self.rows.items c.args.act.now (calls.DropRow c.register.result) law.Done reply.Done
-          (ap call_with c.in-Drop.is ∙ ap calls.DropRow (sym c.register.ensures)) (ap makes c.in-Drop.is) refl refl refl (Grown-refl w)
-          (subst (λ (rows : Rows). AreStored w rows) (sym left) (stored-set w old.rows.items c.in-Drop.a c.requires.stored)) c.drop_row.ensures.step
-          (left ∙ sym (ap (rows_left old.rows.items) c.in-Drop.is)));
-    }
+    subst (λ v. IsAnswered w old.rows.items v c.drop_row.new.self.rows.items c.args.act.now (record { reply = reply.Done; made = false })) (sym same)
+    (answered-other w w old.rows.items c.drop_row.new.self.rows.items c.args.act.now (calls.DropRow c.register.result) law.Done reply.Done
+    (ap call_with c.in-Drop.is ∙ ap calls.DropRow (sym c.register.ensures)) (ap makes c.in-Drop.is) refl refl refl (Grown-refl w)
+    (subst (λ (rows : Rows). AreStored w rows) (sym left) (stored-set w old.rows.items c.in-Drop.a c.requires.stored)) c.drop_row.ensures.step
+    (left ∙ sym (ap (rows_left old.rows.items) c.in-Drop.is)))
 
-pub returns-then-same : goal.returns-then-same
-returns-then-same c =
+pub returns-then-same-clause-ok : goal.returns-then-same-clause-ok
+returns-then-same-clause-ok c =
     let old = c.args.session.now in
     let w = plain_view old.store in
-    record {
-      ok = answered-other w w old.rows.items old.rows.items c.args.act.now (calls.Same c.register-in-Same.result c.register-in-Same-2.result) (law.Truth true) reply.Yes
-          (ap call_with c.in-Same.is ∙ ap₂ calls.Same (sym c.register-in-Same.ensures) (sym c.register-in-Same-2.ensures)) (ap makes c.in-Same.is) refl refl refl (Grown-refl w) c.requires.stored
-          (subst (λ b. IsStepOf w old.rows.items w old.rows.items (calls.Same c.register-in-Same.result c.register-in-Same-2.result) (law.Truth b)) c.if-same.true c.same.ensures) (sym (ap (rows_left old.rows.items) c.in-Same.is));
-    }
+    answered-other w w old.rows.items old.rows.items c.args.act.now (calls.Same c.register-in-Same.result c.register-in-Same-2.result) (law.Truth true) reply.Yes
+    (ap call_with c.in-Same.is ∙ ap₂ calls.Same (sym c.register-in-Same.ensures) (sym c.register-in-Same-2.ensures)) (ap makes c.in-Same.is) refl refl refl (Grown-refl w) c.requires.stored
+    (subst (λ b. IsStepOf w old.rows.items w old.rows.items (calls.Same c.register-in-Same.result c.register-in-Same-2.result) (law.Truth b)) c.if-same.true c.same.ensures) (sym (ap (rows_left old.rows.items) c.in-Same.is))
 
-pub returns-else-same : goal.returns-else-same
-returns-else-same c =
+pub returns-else-same-clause-ok : goal.returns-else-same-clause-ok
+returns-else-same-clause-ok c =
     let old = c.args.session.now in
     let w = plain_view old.store in
-    record {
-      ok = answered-other w w old.rows.items old.rows.items c.args.act.now (calls.Same c.register-in-Same.result c.register-in-Same-2.result) (law.Truth false) reply.No
-          (ap call_with c.in-Same.is ∙ ap₂ calls.Same (sym c.register-in-Same.ensures) (sym c.register-in-Same-2.ensures)) (ap makes c.in-Same.is) refl refl refl (Grown-refl w) c.requires.stored
-          (subst (λ b. IsStepOf w old.rows.items w old.rows.items (calls.Same c.register-in-Same.result c.register-in-Same-2.result) (law.Truth b)) c.if-same.false c.same.ensures) (sym (ap (rows_left old.rows.items) c.in-Same.is));
-    }
+    answered-other w w old.rows.items old.rows.items c.args.act.now (calls.Same c.register-in-Same.result c.register-in-Same-2.result) (law.Truth false) reply.No
+    (ap call_with c.in-Same.is ∙ ap₂ calls.Same (sym c.register-in-Same.ensures) (sym c.register-in-Same-2.ensures)) (ap makes c.in-Same.is) refl refl refl (Grown-refl w) c.requires.stored
+    (subst (λ b. IsStepOf w old.rows.items w old.rows.items (calls.Same c.register-in-Same.result c.register-in-Same-2.result) (law.Truth b)) c.if-same.false c.same.ensures) (sym (ap (rows_left old.rows.items) c.in-Same.is))
 
-pub returns-in-Eval : goal.returns-in-Eval
-returns-in-Eval c =
+pub returns-in-Eval-clause-ok : goal.returns-in-Eval-clause-ok
+returns-in-Eval-clause-ok c =
     let old = c.args.session.now in
     let w = plain_view old.store in
     let w' = plain_view c.eval.new.self.store in
     let new = c.eval.new.self.rows.items in
     let fit : SFits w64 c.eval.result = search rules in
-    record {
-      ok = subst (λ z. IsAnswered w old.rows.items w' new c.args.act.now (record { reply = reply.Number z; made = false })) (sym (to_z-of_z w64 c.eval.result fit))
-          (answered-other w w' old.rows.items new c.args.act.now (calls.Eval c.register-in-Eval.result c.as_slice.result.now) (law.Value c.eval.result) (reply.Number c.eval.result)
-          (ap call_with c.in-Eval.is ∙ ap₂ calls.Eval (sym c.register-in-Eval.ensures) (sym c.as_slice.ensures)) (ap makes c.in-Eval.is) refl refl refl c.eval.ensures.grown
-          (subst (λ (rows : Rows). AreStored w' rows) (sym c.eval.ensures.rows) (stored-grown w w' old.rows.items c.eval.ensures.grown c.requires.stored))
-          (rw c.eval.ensures.rows c.eval.ensures.step)
-          (c.eval.ensures.rows ∙ sym (ap (rows_left old.rows.items) c.in-Eval.is)));
-    }
+    subst (λ z. IsAnswered w old.rows.items w' new c.args.act.now (record { reply = reply.Number z; made = false })) (sym (to_z-of_z w64 c.eval.result fit))
+    (answered-other w w' old.rows.items new c.args.act.now (calls.Eval c.register-in-Eval.result c.as_slice.result.now) (law.Value c.eval.result) (reply.Number c.eval.result)
+    (ap call_with c.in-Eval.is ∙ ap₂ calls.Eval (sym c.register-in-Eval.ensures) (sym c.as_slice.ensures)) (ap makes c.in-Eval.is) refl refl refl c.eval.ensures.grown
+    (subst (λ (rows : Rows). AreStored w' rows) (sym c.eval.ensures.rows) (stored-grown w w' old.rows.items c.eval.ensures.grown c.requires.stored))
+    (rw c.eval.ensures.rows c.eval.ensures.step)
+    (c.eval.ensures.rows ∙ sym (ap (rows_left old.rows.items) c.in-Eval.is)))
+
+pub returns-in_default-clause-filled : goal.returns-in_default-clause-filled
+returns-in_default-clause-filled c = filled-operated (IsFilled c.operate.new.session.store) c.operate.result c.answer_of.result c.operate.ensures.filled c.answer_of.ensures.ok

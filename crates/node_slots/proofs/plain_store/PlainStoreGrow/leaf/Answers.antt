@@ -15,7 +15,7 @@ pub invariant_of-self : goal.invariant_of-self
 invariant_of-self c = (stored c).store
 
 pub invariant_of-self-in-None : goal.invariant_of-self-in-None
-invariant_of-self-in-None c = rw c.in-None.ensures.full.same (refused-store (the_view c.self.inside) c.self.invariant c.risen-self-inside.result _ c.risen-self-inside.ensures.least)
+invariant_of-self-in-None c = rw c.in-None.ensures.full.same (refused-store (the_view c.self.inside) c.self.invariant c.risen-self-inside.result _ c.risen-self-inside.ensures.least c.in-None.ensures.full.full)
 
 pub returns-in-Some-clause-grown : goal.returns-in-Some-clause-grown
 returns-in-Some-clause-grown c = (stored c).grown

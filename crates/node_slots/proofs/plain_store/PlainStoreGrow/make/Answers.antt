@@ -43,7 +43,7 @@ pub invariant_of-self : goal.invariant_of-self
 invariant_of-self c = (stored c c.requires.0 c.requires.1).store
 
 pub invariant_of-self-in-None : goal.invariant_of-self-in-None
-invariant_of-self-in-None c = rw c.in-None.ensures.full.same (refused-store (the_view c.self.inside) c.self.invariant c.risen-self-inside.result _ c.risen-self-inside.ensures.least)
+invariant_of-self-in-None c = rw c.in-None.ensures.full.same (refused-store (the_view c.self.inside) c.self.invariant c.risen-self-inside.result _ c.risen-self-inside.ensures.least c.in-None.ensures.full.full)
 
 pub returns-in-Some-place-clause-grown : goal.returns-in-Some-place-clause-grown
 returns-in-Some-place-clause-grown c = (stored c c.requires.0 c.requires.1).grown
