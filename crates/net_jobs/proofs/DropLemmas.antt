@@ -12,23 +12,24 @@ use Rattle.function_laws.specs.declared.history.Call.{Call}
 use Rattle.job_text.specs.declared.job.Act.{Act}
 use Rattle.job_text.specs.declared.job.Act.TheVariants.{Drop}
 use Rattle.job_text.specs.declared.job.Command.{Command}
+use Rattle.job_text.specs.declared.history_line.Reply.TheVariants as replies
 use Rattle.job_text.specs.Text.{Word}
 use Rattle.job_text.specs.Histories.{Held, HistoryLine, drop_of, drops, line_text, registers_of, stops}
 use Rattle.net_jobs.specs.declared.playing.Answer.{Answer}
 use Rattle.net_jobs.specs.declared.playing.Progress.{Progress}
-use Rattle.node_slots.specs.Stores.{plain_view}
+use Rattle.node_slots.specs.Stores.{Plain, plain_view}
 use Rattle.node_slots.specs.Views.{View}
-use Rattle.net_jobs.specs.Agreement.{AreStored, Rows, is_dropped, is_gone, name_of}
+use Rattle.net_jobs.specs.Agreement.{AreStored, IsFilled, Rows, is_dropped, is_gone, name_of}
 use Rattle.net_jobs.specs.Playing.{CanCall, DropsOne, DropsTheRest, IsAnswered, IsHeld, RowsAfter, StandsAt, assigned_after, call_with, makes, register_at, rows_left, spoken, target_at}
 use Rattle.net_jobs.proofs.ListLemmas.{slice_get-set_other}
 use Rattle.net_jobs.proofs.StandsLemmas.{said_line, stands-after, stands-along}
 
 -- a row that was dropped says nothing
-pub drops_none : (commands : List Command) (play : Progress) (said : List HistoryLine) (row : ℕ) → is_dropped play.session.rows.items row ≡ true
-    → StandsAt commands play said → DropsOne commands play play said row
-drops_none commands play said row gone stands = record {
+pub drops_none : (start : Plain) (commands : List Command) (play : Progress) (said : List HistoryLine) (row : ℕ) → is_dropped play.session.rows.items row ≡ true
+    → StandsAt start commands play said → DropsOne start commands play play said row
+drops_none start commands play said row gone stands = record {
   lines = [];
-  stands = subst (λ lines. StandsAt commands play lines) (sym (append-nil said)) stands;
+  stands = subst (λ lines. StandsAt start commands play lines) (sym (append-nil said)) stands;
   drops_it = sym (ap (λ b. if b then [] else drop_of (register_at commands play.assigned.items row) ∷ []) gone);
 }
 
@@ -51,21 +52,21 @@ pub others_kept : (old new : Rows) (row other : ℕ) → new ≡ set old row Non
 others_kept old new row other is apart = ap (λ rows. is_dropped rows other) is ∙ ap is_gone (slice_get-set_other old None row other apart)
 
 -- a row that was not dropped says its drop
-pub drops_one : (commands : List Command) (old new : Progress) (said : List HistoryLine) (row : ℕ) (words : List Word) (act : Act) (answer : Answer)
-    → StandsAt commands old said → IsAnswered (plain_view old.session.store) old.session.rows.items (plain_view new.session.store) new.session.rows.items act answer
-    → CanCall (plain_view old.session.store).vars old.session.rows.items act
+pub drops_one : (start : Plain) (commands : List Command) (old new : Progress) (said : List HistoryLine) (row : ℕ) (words : List Word) (act : Act) (answer : Answer)
+    → StandsAt start commands old said → IsAnswered (plain_view old.session.store) old.session.rows.items (plain_view new.session.store) new.session.rows.items act answer
+    → CanCall (plain_view old.session.store).vars old.session.rows.items act → (answer.reply ≡ replies.Full → IsFilled new.session.store)
     → act ≡ Drop row → words ≡ codes "drop" ∷ target_at commands (slice_index old.assigned.items row) ∷ [] → is_dropped old.session.rows.items row ≡ false
     → new.assigned.items ≡ old.assigned.items → new.text.items ≡ old.text.items ++ line_text old.place 0 words answer.reply
-    → new.place ≡ old.place + 1 → DropsOne commands old new said row
-drops_one commands old new said row words act answer stands answered can is words_are kept assigned text place =
+    → new.place ≡ old.place + 1 → DropsOne start commands old new said row
+drops_one start commands old new said row words act answer stands answered can filled is words_are kept assigned text place =
     let w = plain_view old.session.store in
     let w' = plain_view new.session.store in
     let made = made_none w w' old.session.rows.items new.session.rows.items act answer row is answered in
     record {
-      lines = said_line w w' commands old.session.rows.items new.session.rows.items old.assigned.items old.text.items old.place 0 said words act answer stands answered can ∷ [];
-      stands = stands-along w' commands new.session.rows.items (assigned_after answer.made old.assigned.items 0) new.assigned.items new.text.items new.place _
+      lines = said_line start old.session.store new.session.store commands old.session.rows.items new.session.rows.items old.assigned.items old.text.items old.place 0 said words act answer stands answered can filled ∷ [];
+      stands = stands-along start new.session.store commands new.session.rows.items (assigned_after answer.made old.assigned.items 0) new.assigned.items new.text.items new.place _
           (assigned ∙ sym (ap (λ m. assigned_after m old.assigned.items 0) made))
-          (stands-after w w' commands old.session.rows.items new.session.rows.items old.assigned.items old.text.items old.place 0 said words act answer stands answered can
+          (stands-after start old.session.store new.session.store commands old.session.rows.items new.session.rows.items old.assigned.items old.text.items old.place 0 said words act answer stands answered can filled
           new.text.items new.place (λ true_made. absurd (false≢true (sym made ∙ true_made))) text place);
       drops_it = ap₂ (λ (w : List Word) (c : Call). (w, c) ∷ []) words_are (ap call_with is)
           ∙ sym (ap (λ b. if b then [] else drop_of (register_at commands old.assigned.items row) ∷ []) kept);
@@ -85,7 +86,7 @@ is_left said register = not (list_any (λ line. drops register.name line.entry.c
 
 -- So many registers are dropped.
 pub record DropsUpTo (commands : List Command) (start play : Progress) (row : ℕ) : Type 0 where
-  pub lines : (said : List HistoryLine) → StandsAt commands start said → (dropped : List HistoryLine) × StandsAt commands play (said ++ dropped)
+  pub lines : (first : Plain) (said : List HistoryLine) → StandsAt first commands start said → (dropped : List HistoryLine) × StandsAt first commands play (said ++ dropped)
       × (map spoken dropped ≡ map drop_of (filter (λ register. not (list_any (λ line. drops register.name line.entry.call) said)) (take row (registers_of said))))
   pub others : (other : ℕ) → row ≤ other → is_dropped play.session.rows.items other ≡ is_dropped start.session.rows.items other
   pub assigned : play.assigned.items ≡ start.assigned.items
@@ -103,9 +104,9 @@ register_from (Some register) word name is_word is_name =
     ap₂ (λ (w : Word) (n : Name). Some (record { word = w; name = n })) same_word same_name
 
 -- the register of a row
-register_of : (commands : List Command) (play : Progress) (said : List HistoryLine) (row : ℕ) → StandsAt commands play said → row < length play.session.rows.items
+register_of : (first : Plain) (commands : List Command) (play : Progress) (said : List HistoryLine) (row : ℕ) → StandsAt first commands play said → row < length play.session.rows.items
     → slice_get (registers_of said) row ≡ Some (register_at commands play.assigned.items row)
-register_of commands play said row stands below =
+register_of first commands play said row stands below =
     let rows = play.session.rows.items in
     let assigned = play.assigned.items in
     let at_word : slice_get (map (target_at commands) assigned) row ≡ Some (target_at commands (slice_index assigned row)) =
@@ -143,22 +144,22 @@ said_if true left register is = sym (ap (λ b. map drop_of (if b then register �
 said_if false left register is = sym (ap (λ b. map drop_of (if b then register ∷ [] else [])) is)
 
 pub next_drop : (commands : List Command) (start old new : Progress) (row : ℕ) → DropsUpTo commands start old row → row < length start.session.rows.items
-    → ((said : List HistoryLine) → StandsAt commands old said → DropsOne commands old new said row)
+    → ((first : Plain) (said : List HistoryLine) → StandsAt first commands old said → DropsOne first commands old new said row)
     → ((other : ℕ) → other ≢ row → is_dropped new.session.rows.items other ≡ is_dropped old.session.rows.items other)
     → new.assigned.items ≡ old.assigned.items → length new.session.rows.items ≡ length old.session.rows.items → (plain_view new.session.store).vars ≡ (plain_view old.session.store).vars
     → AreStored (plain_view new.session.store) new.session.rows.items → new.place ≤ old.place + 1
     → DropsUpTo commands start new (row + 1)
 next_drop commands start old new row up below one others assigned rows vars stored place = record {
-  lines = λ said stands.
-      let before = up.lines said stands in
-      let next = one (said ++ before.0) before.1 in
+  lines = λ first said stands.
+      let before = up.lines first said stands in
+      let next = one first (said ++ before.0) before.1 in
       let register = register_at commands start.assigned.items row in
-      let is_register : slice_get (registers_of said) row ≡ Some register = register_of commands start said row stands below in
+      let is_register : slice_get (registers_of said) row ≡ Some register = register_of first commands start said row stands below in
       let same_register : register_at commands old.assigned.items row ≡ register = ap (λ xs. register_at commands xs row) up.assigned in
       let left : is_left said register ≡ not (is_dropped old.session.rows.items row) =
       ap not (stands.dropped row ∙ sym (up.others row (omega arith))) in (
         before.0 ++ next.lines,
-        subst (λ lines. StandsAt commands new lines) (append_assoc said before.0 next.lines) next.stands,
+        subst (λ lines. StandsAt first commands new lines) (append_assoc said before.0 next.lines) next.stands,
         map-append spoken before.0 next.lines
             ∙ ap₂ (λ xs ys. xs ++ ys) before.2
             (next.drops_it ∙ ap (λ r. if is_dropped old.session.rows.items row then [] else drop_of r ∷ []) same_register
@@ -177,7 +178,7 @@ next_drop commands start old new row up below one others assigned rows vars stor
 
 pub first_drop : (commands : List Command) (start : Progress) → AreStored (plain_view start.session.store) start.session.rows.items → DropsUpTo commands start start 0
 first_drop commands start stored = record {
-  lines = λ said stands. ([], subst (λ lines. StandsAt commands start lines) (sym (append-nil said)) stands, refl);
+  lines = λ first said stands. ([], subst (λ lines. StandsAt first commands start lines) (sym (append-nil said)) stands, refl);
   others = λ other from. refl;
   assigned = refl;
   rows = refl;
@@ -187,9 +188,9 @@ first_drop commands start stored = record {
 }
 
 pub last_drop : (commands : List Command) (start play : Progress) (row : ℕ) → DropsUpTo commands start play row → row ≡ length start.assigned.items
-    → (said : List HistoryLine) → StandsAt commands start said → DropsTheRest commands play said
-last_drop commands start play row up end said stands =
-    let lines = up.lines said stands in
+    → (first : Plain) (said : List HistoryLine) → StandsAt first commands start said → DropsTheRest first commands play said
+last_drop commands start play row up end first said stands =
+    let lines = up.lines first said stands in
     let all : take row (registers_of said) ≡ registers_of said =
     take_all row (registers_of said) (omega (arith, end, sym (length-map (registers_of said) (λ register. register.word)) ∙ ap length stands.words ∙ length-map start.assigned.items (target_at commands))) in
     record { dropped = lines.0; stands = lines.1; rest = lines.2 ∙ ap (λ xs. map drop_of (filter (is_left said) xs)) all }

@@ -5,7 +5,7 @@ use Rattle.std.specs.List.{range_with_len}
 use Rattle.std.proofs.lemmas.Bool.{eq-eqb}
 use Rattle.std.proofs.lemmas.List.{length-map}
 use Rattle.std.proofs.lemmas.List.Elements.{All-nil}
-use Rattle.std.proofs.lemmas.List.FromFn.{length-map-range_with_len}
+use Rattle.std.proofs.lemmas.List.FromFn.{length-map-range_with_len, length-range_with_len}
 use Rattle.std.proofs.lemmas.Option.{slice_get_within}
 use Rattle.function_laws.specs.Tables.{Sizes}
 use Rattle.function_laws.specs.Histories.{IsLegal}
@@ -14,17 +14,18 @@ use Rattle.job_text.specs.declared.job.Job.{Job}
 use Rattle.job_text.specs.Grammar.{CommandsSay, IsJob}
 use Rattle.job_text.specs.Histories.{Held, HistoryLine, IsHistory, IsPlayed, IsSession, left_text, registers_of, sizes_of, told_of}
 use Rattle.net_jobs.specs.declared.playing.Progress.{Progress}
-use Rattle.node_slots.specs.Stores.{plain_view}
-use Rattle.node_slots.specs.Views.{View}
+use Rattle.node_slots.specs.Stores.{IsOpening, Plain, plain_view}
 use Rattle.net_jobs.specs.Agreement.{name_of, sizes_for}
-use Rattle.net_jobs.specs.Playing.{DropsTheRest, SaysThrough, Stands, StandsAt}
+use Rattle.net_jobs.specs.Playing.{CallsLead, DropsTheRest, PlaysOver, SaysThrough, Stands, StandsAt}
 
 -- at the beginning nothing was said
-pub stands_first : (w : View) (commands : List Command) → Stands w commands [] [] [] 0 []
-stands_first w commands = record {
+pub stands_first : (p : Plain) (commands : List Command) → Stands p p commands [] [] [] 0 []
+stands_first p commands = record {
   legal = tt;
   agrees = record { sizes_are = refl; live = λ row e has. cc; not_given = λ row from. refl };
   stored = λ row e has. cc;
+  calls = refl;
+  as_many = refl;
   told = All-nil (λ line. told_of line.entry.reply ≡ Some line.reply);
   alone = All-nil (λ line. line.entry.session ≡ 0);
   words = refl;
@@ -62,15 +63,15 @@ first_says n (first ∷ sections) commands all is = subst (λ (cs : List Command
 pub commands_say : (job : Job) (n : ℕ) (commands : List Command) → IsJob job → n ≡ job.vars → slice_get job.sections 0 ≡ Some commands → CommandsSay n [] commands
 commands_say job n commands is_job vars section = subst (λ m. CommandsSay m [] commands) (sym vars) (first_says job.vars job.sections commands is_job.commands section)
 
-module _ (job : Job) (commands : List Command) (mid end : Progress) (is_job : IsJob job) (section : slice_get job.sections 0 ≡ Some commands)
-    (vars : (plain_view mid.session.store).vars ≡ job.vars) (same_vars : (plain_view end.session.store).vars ≡ (plain_view mid.session.store).vars)
-    (says : (said : List HistoryLine) × StandsAt commands mid said × SaysThrough commands said)
-    (drops_rest : (said : List HistoryLine) → StandsAt commands mid said → DropsTheRest commands end said) where
+module _ (job : Job) (start : Plain) (commands : List Command) (mid end : Progress) (is_job : IsJob job) (section : slice_get job.sections 0 ≡ Some commands)
+    (vars : (plain_view mid.session.store).vars ≡ job.vars) (limit : length start.words ≡ job.limit) (same_vars : (plain_view end.session.store).vars ≡ (plain_view mid.session.store).vars)
+    (says : (said : List HistoryLine) × StandsAt start commands mid said × SaysThrough commands said)
+    (drops_rest : (first : Plain) (said : List HistoryLine) → StandsAt first commands mid said → DropsTheRest first commands end said) where
   abbrev said : List HistoryLine
   said = says.0
 
-  abbrev rest : DropsTheRest commands end said
-  rest = drops_rest said says.1
+  abbrev rest : DropsTheRest start commands end said
+  rest = drops_rest start said says.1
 
   is_session : IsSession commands (said ++ rest.dropped)
   is_session = record {
@@ -112,9 +113,28 @@ module _ (job : Job) (commands : List Command) (mid end : Progress) (is_job : Is
     no_other = λ k d below. omega (arith, rest.stands.alone k d below, is_job.one_section);
   }
 
-  pub played : (text : List ℕ) → text ≡ end.text.items ++ left_text (5 + job.vars) → IsPlayed job text
-  played text is = record {
+  pub plays_over : PlaysOver job start end.session.store end.text.items
+  plays_over = record {
     lines = said ++ rest.dropped;
     history = is_history;
-    bytes = is ∙ ap (λ xs. xs ++ left_text (5 + job.vars)) rest.stands.written;
+    calls = subst (λ n. CallsLead n start (said ++ rest.dropped) end.session.store) limit rest.stands.calls;
+    bytes = rest.stands.written;
   }
+
+-- the number of variables stays
+lead-vars : (limit : ℕ) (old : Plain) (lines : List HistoryLine) (new : Plain) → CallsLead limit old lines new → (plain_view new).vars ≡ (plain_view old).vars
+lead-vars limit old [] new same = ap (λ (p : Plain). (plain_view p).vars) same
+lead-vars limit old (line ∷ lines) new lead = lead-vars limit lead.0 lines new lead.2 ∙ lead.1.grown.vars
+
+-- a store that was opened for a job has the job's number of variables
+pub opening_vars : (job : Job) (p : Plain) → IsOpening job.vars job.elements job.limit p → (plain_view p).vars ≡ job.vars
+opening_vars job p opened = ap length opened.variable_levels ∙ length-range_with_len 0 job.vars
+
+-- with the last line
+pub played : (job : Job) (old new : Plain) (text whole : List ℕ) (left : ℕ) → IsOpening job.vars job.elements job.limit old → PlaysOver job old new text
+    → left ≡ 5 + (plain_view new).vars → whole ≡ text ++ left_text left → IsPlayed job whole
+played job old new text whole left opened plays is_left is_whole = record {
+  lines = plays.lines;
+  history = plays.history;
+  bytes = is_whole ∙ ap₂ (λ xs n. xs ++ left_text n) plays.bytes (is_left ∙ ap (λ n. 5 + n) (lead-vars job.limit old plays.lines new plays.calls ∙ opening_vars job old opened));
+}

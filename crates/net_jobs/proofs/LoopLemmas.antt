@@ -22,8 +22,7 @@ use Rattle.job_text.specs.Grammar.{CommandsSay, Says, registers_after, without}
 use Rattle.job_text.specs.Histories.{Calls, Held, HistoryLine, IsNamed, SayInOrder, held_by, registers_of, stops}
 use Rattle.net_jobs.specs.declared.playing.Progress.{Progress}
 use Rattle.edge_bits.specs.declared.edges.Edge.{Edge}
-use Rattle.node_slots.specs.Stores.{plain_view}
-use Rattle.node_slots.specs.Views.{View}
+use Rattle.node_slots.specs.Stores.{Plain, plain_view}
 use Rattle.net_jobs.specs.Agreement.{Rows, name_of}
 use Rattle.net_jobs.specs.Playing.{CanCall, Covers, GrowsOrLeft, IsHeld, RowsGoOn, SaysOne, SaysThrough, Stands, StandsAt, call_with, makes}
 use Rattle.net_jobs.proofs.PlayLemmas.{grown_length}
@@ -189,8 +188,8 @@ some_inner (Some register) name is =
     let same : register.name ≡ name = cc in
     (register.word, ap (λ (n : Name). Some (record { word = register.word; name = n })) same)
 
-module _ (w : View) (commands : List Command) (rows : Rows) (assigned text : List ℕ) (place : ℕ) (said : List HistoryLine)
-    (stands : Stands w commands rows assigned text place said) where
+module _ (start p : Plain) (commands : List Command) (rows : Rows) (assigned text : List ℕ) (place : ℕ) (said : List HistoryLine)
+    (stands : Stands start p commands rows assigned text place said) where
   -- a row's name is that of its register
   named : (a : ℕ) → IsHeld rows a → IsNamed (registers_of said) a (name_of a)
   named a held =
@@ -201,7 +200,7 @@ module _ (w : View) (commands : List Command) (rows : Rows) (assigned text : Lis
       some_inner (slice_get (registers_of said) a) (name_of a)
       (sym (slice_get-map (λ register. register.name) (registers_of said) a) ∙ ap (λ xs. slice_get xs a) stands.names ∙ at)
 
-  calls_of : (act : Act) → CanCall w.vars rows act → Calls (registers_of said) act (call_with act)
+  calls_of : (act : Act) → CanCall (plain_view p).vars rows act → Calls (registers_of said) act (call_with act)
   calls_of One can = refl
   calls_of Zero can = refl
   calls_of (Var v) can = refl
@@ -215,7 +214,7 @@ module _ (w : View) (commands : List Command) (rows : Rows) (assigned text : Lis
 
   -- the commands were said in order, with one more
   pub in_order-after : (line : HistoryLine) (command : Command) → SayInOrder (registers_of said) said commands → slice_get commands (length said) ≡ Some command
-      → line.words ≡ command.words → line.entry.call ≡ call_with command.act → CanCall w.vars rows command.act
+      → line.words ≡ command.words → line.entry.call ≡ call_with command.act → CanCall (plain_view p).vars rows command.act
       → SayInOrder (registers_of (said ++ line ∷ [])) (said ++ line ∷ []) commands
   in_order-after line command says at words call can =
       subst (λ rs. SayInOrder rs (said ++ line ∷ []) commands) (sym (registers-grow said line))
@@ -224,12 +223,12 @@ module _ (w : View) (commands : List Command) (rows : Rows) (assigned text : Lis
       (subst (λ (c : Call). Calls (registers_of said) command.act c) (sym call) (calls_of command.act can))))
 
 -- So many commands were said, none of which stopped the session.
-pub record SaysUpTo (commands : List Command) (play : Progress) (i : ℕ) : Type 0 where
+pub record SaysUpTo (start : Plain) (commands : List Command) (play : Progress) (i : ℕ) : Type 0 where
   pub registers : List Register
   pub rest : CommandsSay (plain_view play.session.store).vars registers (drop i commands)
   pub covers : Covers registers play.session.rows.items
   pub said : List HistoryLine
-  pub stands : StandsAt commands play said
+  pub stands : StandsAt start commands play said
   pub in_order : SayInOrder (registers_of said) said commands
   pub none_stops : list_any (λ line. stops line.reply) said ≡ false
   pub count : length said ≡ i
@@ -247,26 +246,26 @@ rest_at n registers (first ∷ commands) (suc i) command is rest =
     let inner = rest_at n registers commands i command is rest in
     (inner.0, subst (λ k. CommandsSay n (registers_after registers command.words) (drop k (first ∷ commands))) (sym next) inner.1)
 
-pub can_at : (commands : List Command) (play : Progress) (i : ℕ) (command : Command) → SaysUpTo commands play i → slice_get commands i ≡ Some command
+pub can_at : (start : Plain) (commands : List Command) (play : Progress) (i : ℕ) (command : Command) → SaysUpTo start commands play i → slice_get commands i ≡ Some command
     → CanCall (plain_view play.session.store).vars play.session.rows.items command.act
-can_at commands play i command up is =
+can_at start commands play i command up is =
     can_call (plain_view play.session.store).vars up.registers play.session.rows.items command.words command.act (rest_at (plain_view play.session.store).vars up.registers commands i command is up.rest).0 up.covers
 
-in_order_one : (commands : List Command) (old new : Progress) (i : ℕ) (goes_on : Bool) (command : Command) (up : SaysUpTo commands old i) → slice_get commands i ≡ Some command
-    → (one : SaysOne commands command goes_on old new up.said) → SayInOrder (registers_of (up.said ++ one.line ∷ [])) (up.said ++ one.line ∷ []) commands
-in_order_one commands old new i goes_on command up is one =
-    in_order-after (plain_view old.session.store) commands old.session.rows.items old.assigned.items old.text.items old.place up.said up.stands one.line command up.in_order
-    (ap (slice_get commands) up.count ∙ is) one.words_are one.call_is (can_at commands old i command up is)
+in_order_one : (start : Plain) (commands : List Command) (old new : Progress) (i : ℕ) (goes_on : Bool) (command : Command) (up : SaysUpTo start commands old i) → slice_get commands i ≡ Some command
+    → (one : SaysOne start commands command goes_on old new up.said) → SayInOrder (registers_of (up.said ++ one.line ∷ [])) (up.said ++ one.line ∷ []) commands
+in_order_one start commands old new i goes_on command up is one =
+    in_order-after start old.session.store commands old.session.rows.items old.assigned.items old.text.items old.place up.said up.stands one.line command up.in_order
+    (ap (slice_get commands) up.count ∙ is) one.words_are one.call_is (can_at start commands old i command up is)
 
 or_both : (a b : Bool) → a ≡ false → b ≡ false → (a || (b || false)) ≡ false
 or_both true b first second = absurd (false≢true (sym first))
 or_both false true first second = absurd (false≢true (sym second))
 or_both false false first second = refl
 
-pub next_command : (commands : List Command) (old new : Progress) (i : ℕ) (command : Command) (up : SaysUpTo commands old i) → slice_get commands i ≡ Some command
-    → SaysOne commands command true old new up.said → RowsGoOn true old.session.rows.items new.session.rows.items command.act → (plain_view new.session.store).vars ≡ (plain_view old.session.store).vars
-    → SaysUpTo commands new (i + 1)
-next_command commands old new i command up is one rows vars =
+pub next_command : (start : Plain) (commands : List Command) (old new : Progress) (i : ℕ) (command : Command) (up : SaysUpTo start commands old i) → slice_get commands i ≡ Some command
+    → SaysOne start commands command true old new up.said → RowsGoOn true old.session.rows.items new.session.rows.items command.act → (plain_view new.session.store).vars ≡ (plain_view old.session.store).vars
+    → SaysUpTo start commands new (i + 1)
+next_command start commands old new i command up is one rows vars =
     let rest = rest_at (plain_view old.session.store).vars up.registers commands i command is up.rest in
     let grown : GrowsOrLeft (makes command.act) old.session.rows.items new.session.rows.items command.act = rows refl in
     record {
@@ -275,7 +274,7 @@ next_command commands old new i command up is one rows vars =
       covers = covers-after (plain_view old.session.store).vars up.registers old.session.rows.items new.session.rows.items command.words command.act rest.0 up.covers grown;
       said = up.said ++ one.line ∷ [];
       stands = one.stands;
-      in_order = in_order_one commands old new i true command up is one;
+      in_order = in_order_one start commands old new i true command up is one;
       none_stops = list_any-append (λ line. stops line.reply) up.said (one.line ∷ [])
           ∙ or_both (list_any (λ line. stops line.reply) up.said) (stops one.line.reply) up.none_stops one.stops_if;
       count = length_push up.said one.line ∙ ap (λ k. k + 1) up.count;
@@ -311,9 +310,9 @@ front_goes_on said none = by_take (length said - 1) said (none_stops_all said no
         ap₂ (λ a b. a && b) both.0 (by_take k xs both.1)
 
 -- at the end of the commands
-pub says_all : (commands : List Command) (play : Progress) (i : ℕ) → SaysUpTo commands play i → length commands ≡ i
-    → (said : List HistoryLine) × StandsAt commands play said × SaysThrough commands said
-says_all commands play i up end = (
+pub says_all : (start : Plain) (commands : List Command) (play : Progress) (i : ℕ) → SaysUpTo start commands play i → length commands ≡ i
+    → (said : List HistoryLine) × StandsAt start commands play said × SaysThrough commands said
+says_all start commands play i up end = (
   up.said,
   up.stands,
   record {
@@ -324,13 +323,13 @@ says_all commands play i up end = (
 )
 
 -- where a command stopped the session
-pub says_stop : (commands : List Command) (old new : Progress) (i : ℕ) (command : Command) (up : SaysUpTo commands old i) → slice_get commands i ≡ Some command
-    → SaysOne commands command false old new up.said → (said : List HistoryLine) × StandsAt commands new said × SaysThrough commands said
-says_stop commands old new i command up is one = (
+pub says_stop : (start : Plain) (commands : List Command) (old new : Progress) (i : ℕ) (command : Command) (up : SaysUpTo start commands old i) → slice_get commands i ≡ Some command
+    → SaysOne start commands command false old new up.said → (said : List HistoryLine) × StandsAt start commands new said × SaysThrough commands said
+says_stop start commands old new i command up is one = (
   up.said ++ one.line ∷ [],
   one.stands,
   record {
-    in_order = in_order_one commands old new i false command up is one;
+    in_order = in_order_one start commands old new i false command up is one;
     goes_on = ap (list_all (λ line. not (stops line.reply))) (take_front up.said one.line) ∙ none_stops_all up.said up.none_stops;
     to_the_end = λ none. absurd (false≢true (sym none ∙ list_any-append (λ line. stops line.reply) up.said (one.line ∷ [])
         ∙ ap (λ b. list_any (λ line. stops line.reply) up.said || (b || false)) one.stops_if ∙ or_end (list_any (λ line. stops line.reply) up.said)));

@@ -68,18 +68,17 @@ answered-made w w' old new act name made grown stored adds = record {
   full = λ e. cc;
 }
 
--- the slots that are told as in use are not said here
 pub answered-full : (w w' : View) (old new : Rows) (act : Act) → makes act ≡ true → Grown w w' → AreStored w old → Refuses w old w' new (call_with act)
     → IsAnswered w old w' new act (record { reply = reply.Full; made = false })
 answered-full w w' old new act made grown stored refuses = record {
-  reply = Full 0 1;
+  reply = Full w'.slots 1;
   told = refl;
   made_if = sym (and_none (makes act));
-  step = subst (λ (rows : Rows). IsStepOf w old w' rows (call_with act) (Full 0 1)) (sym refuses.rows_stay) (refuses.step 0 1);
+  step = subst (λ (rows : Rows). IsStepOf w old w' rows (call_with act) (Full w'.slots 1)) (sym refuses.rows_stay) (refuses.step w'.slots 1);
   rows = (refl, refuses.rows_stay ∙ sym (left_if_makes old act made));
   grown = grown;
   stored = subst (λ (rows : Rows). AreStored w' rows) (sym refuses.rows_stay) (stored-grown w w' old grown stored);
-  full = λ e. refuses.rose;
+  full = λ e. (refuses.rose, refl);
 }
 
 pub makes_default : (act : Act) → ((a : ℕ) → act ≡ Drop a → ⊥) → ((a b : ℕ) → act ≡ Same a b → ⊥) → ((a : ℕ) (bits : List Bool) → act ≡ Eval a bits → ⊥) → makes act ≡ true
@@ -108,9 +107,9 @@ answered-operated w w' old new act (Err x) (Ok answer) makes_one grown stored ad
 -- it is refused only where it told so
 pub filled-operated : (Filled : Type 0) (made : Result Name Stop) (result : Result Answer Memory) → (IsErrOf made stop.Full → Filled)
     → IfOk result (λ answer. MatchResult made (λ _. answer ≡ record { reply = reply.Done; made = true }) (λ x. (x ≡ stop.Full) × (answer ≡ record { reply = reply.Full; made = false })))
-    → IfOk result (λ answer. stops answer.reply ≡ true → Filled)
+    → IfOk result (λ answer. answer.reply ≡ reply.Full → Filled)
 filled-operated Filled made (Err x) filled is = tt
-filled-operated Filled (Ok name) (Ok answer) filled is = λ e. absurd (false≢true (sym (ap (λ (a : Answer). stops a.reply) is) ∙ e))
+filled-operated Filled (Ok name) (Ok answer) filled is = λ e. (let never : reply.Done ≡ reply.Full = sym (ap (λ (a : Answer). a.reply) is) ∙ e in cc)
 filled-operated Filled (Err x) (Ok answer) filled is = λ e. filled (ap Err is.0)
 
 -- a call that makes no row
@@ -125,7 +124,7 @@ answered-other w w' old new act call answer told is none goes tells gives grown 
   rows = (gives, left);
   grown = grown;
   stored = stored;
-  full = λ e. absurd (false≢true (sym goes ∙ e));
+  full = λ e. absurd (false≢true (sym goes ∙ ap stops e));
 }
 
 not-not : (b : Bool) → not (not b) ≡ b

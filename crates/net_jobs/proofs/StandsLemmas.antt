@@ -14,6 +14,7 @@ use Rattle.std.proofs.lemmas.List.FromFn.{map-range_with_len_more}
 use Rattle.std.proofs.lemmas.Option.{slice_get_within}
 use Rattle.function_laws.specs.declared.history.Entry.{Entry}
 use Rattle.function_laws.specs.declared.history.Name.{Name}
+use Rattle.function_laws.specs.declared.history.Reply.TheVariants as laws
 use Rattle.function_laws.specs.Tables.{Table, opening}
 use Rattle.function_laws.specs.Steps.{IsAllowed, after}
 use Rattle.function_laws.specs.Histories.{IsLegal, table_after}
@@ -21,14 +22,16 @@ use Rattle.function_laws.proofs.HistoryLemmas.{IsLegalFrom-push, table_after-pus
 use Rattle.job_text.specs.declared.job.Act.{Act}
 use Rattle.job_text.specs.declared.job.Act.TheVariants.{One, Zero, Var, Not, And, Or, Ite, Drop, Same, Eval}
 use Rattle.job_text.specs.declared.job.Command.{Command}
+use Rattle.job_text.specs.declared.history_line.Reply.TheVariants as replies
 use Rattle.job_text.specs.Text.{Word}
 use Rattle.job_text.specs.Grammar.{target_of}
 use Rattle.job_text.specs.Histories.{Held, HistoryLine, drops, given_by, held_as, held_by, line_text, registers_of, stops, text_of, told_of}
 use Rattle.net_jobs.specs.declared.playing.Answer.{Answer}
 use Rattle.edge_bits.specs.declared.edges.Edge.{Edge}
+use Rattle.node_slots.specs.Stores.{Plain, plain_view}
 use Rattle.node_slots.specs.Views.{View}
-use Rattle.net_jobs.specs.Agreement.{Agrees, Rows, is_dropped, is_gone, name_of, sizes_for}
-use Rattle.net_jobs.specs.Playing.{CanCall, IsAnswered, RowsAfter, Stands, assigned_after, call_with, makes, rows_left, target_at}
+use Rattle.net_jobs.specs.Agreement.{Agrees, IsFilled, Rows, is_dropped, is_gone, name_of, sizes_for}
+use Rattle.net_jobs.specs.Playing.{CallOf, CallsLead, CanCall, IsAnswered, RowsAfter, Stands, assigned_after, call_with, makes, rows_left, target_at}
 use Rattle.net_jobs.proofs.ListLemmas.{slice_get-set_other, slice_get-set_same}
 
 -- one more row was not dropped, and the others are as before
@@ -65,6 +68,12 @@ registers-kept : (said : List HistoryLine) (line : HistoryLine) → given_by lin
 registers-kept said line is =
     filter_map-append held_by said (line ∷ []) ∙ ap (λ o. registers_of said ++ cons_option (held_as line.words o) []) is ∙ append-nil (registers_of said)
 
+-- one more call at the end
+calls-push : (limit : ℕ) (old : Plain) (lines : List HistoryLine) (p : Plain) (line : HistoryLine) (new : Plain) → CallsLead limit old lines p → CallOf limit p line new
+    → CallsLead limit old (lines ++ line ∷ []) new
+calls-push limit old [] p line new same call = (new, subst (λ (q : Plain). CallOf limit q line new) same call, refl)
+calls-push limit old (first ∷ lines) p line new lead call = (lead.0, lead.1, calls-push limit lead.0 lines p line new lead.2 call)
+
 -- what was dropped after one more call
 dropped-after : (w w' : View) (rows new : Rows) (act : Act) (answer : Answer) (answered : IsAnswered w rows w' new act answer) → CanCall w.vars rows act → (row : ℕ)
     → (is_dropped rows row || drops (name_of row) (call_with act)) ≡ is_dropped new row
@@ -98,9 +107,10 @@ dropped-after w w' rows new act answer answered can row = by_made answer.made an
         by_act (Eval a bits) can true is after = cc
         by_act (Eval a bits) can false is after = or_false (is_dropped rows row) ∙ ap (λ r. is_dropped r row) (sym after.1)
 
-module _ (w w' : View) (commands : List Command) (rows new : Rows) (assigned text : List ℕ) (place i : ℕ) (said : List HistoryLine)
-    (words : List Word) (act : Act) (answer : Answer) (stands : Stands w commands rows assigned text place said)
-    (answered : IsAnswered w rows w' new act answer) (can : CanCall w.vars rows act) where
+module _ (start p p' : Plain) (commands : List Command) (rows new : Rows) (assigned text : List ℕ) (place i : ℕ) (said : List HistoryLine)
+    (words : List Word) (act : Act) (answer : Answer) (stands : Stands start p commands rows assigned text place said)
+    (answered : IsAnswered (plain_view p) rows (plain_view p') new act answer) (can : CanCall (plain_view p).vars rows act)
+    (filled : answer.reply ≡ replies.Full → IsFilled p') where
   -- the line of the call
   abbrev pub said_line : HistoryLine
   said_line = record { entry = record { place = place; session = 0; call = call_with act; reply = answered.reply }; words = words; reply = answer.reply }
@@ -109,24 +119,24 @@ module _ (w w' : View) (commands : List Command) (rows new : Rows) (assigned tex
   entries = map (λ line. line.entry) said
 
   abbrev before : Table
-  before = table_after (opening (sizes_for w.vars)) entries
+  before = table_after (opening (sizes_for (plain_view p).vars)) entries
 
-  steps : IsAllowed before 0 (call_with act) answered.reply × Agrees w' new (after before 0 (call_with act) answered.reply)
+  steps : IsAllowed before 0 (call_with act) answered.reply × Agrees (plain_view p') new (after before 0 (call_with act) answered.reply)
   steps = answered.step before stands.agrees
 
   entries-push : map (λ line. line.entry) (said ++ said_line ∷ []) ≡ entries ++ said_line.entry ∷ []
   entries-push = map-append (λ line. line.entry) said (said_line ∷ [])
 
-  legal-after : IsLegal (sizes_for w'.vars) (map (λ line. line.entry) (said ++ said_line ∷ []))
+  legal-after : IsLegal (sizes_for (plain_view p').vars) (map (λ line. line.entry) (said ++ said_line ∷ []))
   legal-after = subst (λ n. IsLegal (sizes_for n) (map (λ line. line.entry) (said ++ said_line ∷ []))) (sym answered.grown.vars)
-      (subst (λ (es : List Entry). IsLegal (sizes_for w.vars) es) (sym entries-push)
-      (IsLegalFrom-push 0 (opening (sizes_for w.vars)) entries said_line.entry stands.legal
+      (subst (λ (es : List Entry). IsLegal (sizes_for (plain_view p).vars) es) (sym entries-push)
+      (IsLegalFrom-push 0 (opening (sizes_for (plain_view p).vars)) entries said_line.entry stands.legal
       (stands.number ∙ sym (length-map said (λ line. line.entry)) ∙ sym (zero-add (length entries))) steps.0))
 
-  agrees-after : Agrees w' new (table_after (opening (sizes_for w'.vars)) (map (λ line. line.entry) (said ++ said_line ∷ [])))
-  agrees-after = subst (λ n. Agrees w' new (table_after (opening (sizes_for n)) (map (λ line. line.entry) (said ++ said_line ∷ [])))) (sym answered.grown.vars)
-      (subst (λ (t : Table). Agrees w' new t)
-      (sym (ap (table_after (opening (sizes_for w.vars))) entries-push ∙ table_after-push (opening (sizes_for w.vars)) entries said_line.entry)) steps.1)
+  agrees-after : Agrees (plain_view p') new (table_after (opening (sizes_for (plain_view p').vars)) (map (λ line. line.entry) (said ++ said_line ∷ [])))
+  agrees-after = subst (λ n. Agrees (plain_view p') new (table_after (opening (sizes_for n)) (map (λ line. line.entry) (said ++ said_line ∷ [])))) (sym answered.grown.vars)
+      (subst (λ (t : Table). Agrees (plain_view p') new t)
+      (sym (ap (table_after (opening (sizes_for (plain_view p).vars))) entries-push ∙ table_after-push (opening (sizes_for (plain_view p).vars)) entries said_line.entry)) steps.1)
 
   registers-after : (made : Bool) → RowsAfter made rows new act answered.reply → (made ≡ true → target_at commands i ≡ target_of words)
       → (map (λ register. register.word) (registers_of (said ++ said_line ∷ [])) ≡ map (target_at commands) (assigned_after made assigned i))
@@ -163,14 +173,27 @@ module _ (w w' : View) (commands : List Command) (rows new : Rows) (assigned tex
       length-left (Same a b) = refl
       length-left (Eval a bits) = refl
 
+  as_many-after : length p'.words ≡ length start.words
+  as_many-after = answered.grown.slots ∙ stands.as_many
+
+  called : CallOf (length start.words) p said_line p'
+  called = record {
+    grown = answered.grown;
+    full = λ e.
+        let full = answered.full e in
+        (full.0, filled e ∙ as_many-after, full.1 ∙ ap (λ n. laws.Full n 1) as_many-after);
+  }
+
   pub stands-after : (new_text : List ℕ) (next : ℕ) → (answer.made ≡ true → target_at commands i ≡ target_of words) → new_text ≡ text ++ line_text place 0 words answer.reply → next ≡ place + 1
-      → Stands w' commands new (assigned_after answer.made assigned i) new_text next (said ++ said_line ∷ [])
+      → Stands start p' commands new (assigned_after answer.made assigned i) new_text next (said ++ said_line ∷ [])
   stands-after new_text next word is_text is_next =
       let registers = registers-after answer.made answered.rows word in
       record {
         legal = legal-after;
         agrees = agrees-after;
         stored = answered.stored;
+        calls = calls-push (length start.words) start said p said_line p' stands.calls called;
+        as_many = as_many-after;
         told = All-append (λ line. told_of line.entry.reply ≡ Some line.reply) said (said_line ∷ []) stands.told
             (All-cons (λ line. told_of line.entry.reply ≡ Some line.reply) said_line [] answered.told (All-nil (λ line. told_of line.entry.reply ≡ Some line.reply)));
         alone = All-append (λ line. line.entry.session ≡ 0) said (said_line ∷ []) stands.alone
@@ -179,12 +202,12 @@ module _ (w w' : View) (commands : List Command) (rows new : Rows) (assigned tex
         names = registers.1;
         count = registers.2;
         dropped = λ row. list_any-append (λ line. drops (name_of row) line.entry.call) said (said_line ∷ [])
-            ∙ ap₂ (λ a b. a || b) (stands.dropped row) (or_false (drops (name_of row) (call_with act))) ∙ dropped-after w w' rows new act answer answered can row;
+            ∙ ap₂ (λ a b. a || b) (stands.dropped row) (or_false (drops (name_of row) (call_with act))) ∙ dropped-after (plain_view p) (plain_view p') rows new act answer answered can row;
         written = is_text ∙ ap (λ xs. xs ++ line_text place 0 words answer.reply) stands.written
             ∙ ap (λ xs. flat_map text_of said ++ xs) (sym (append-nil (line_text place 0 words answer.reply))) ∙ sym (flat_map-append text_of said (said_line ∷ []));
         number = is_next ∙ ap (λ k. k + 1) stands.number ∙ sym (length_push said said_line);
       }
 
-pub stands-along : (w : View) (commands : List Command) (rows : Rows) (xs ys text : List ℕ) (place : ℕ) (said : List HistoryLine) → ys ≡ xs
-    → Stands w commands rows xs text place said → Stands w commands rows ys text place said
-stands-along w commands rows xs ys text place said same stands = subst (λ zs. Stands w commands rows zs text place said) (sym same) stands
+pub stands-along : (start p : Plain) (commands : List Command) (rows : Rows) (xs ys text : List ℕ) (place : ℕ) (said : List HistoryLine) → ys ≡ xs
+    → Stands start p commands rows xs text place said → Stands start p commands rows ys text place said
+stands-along start p commands rows xs ys text place said same stands = subst (λ zs. Stands start p commands rows zs text place said) (sym same) stands

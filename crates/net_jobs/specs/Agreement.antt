@@ -11,9 +11,8 @@ use Rattle.function_laws.specs.Lists.{list_of}
 use Rattle.function_laws.specs.Tables.{Table, Sizes}
 use Rattle.function_laws.specs.Steps.{IsAllowed, after}
 use Rattle.node_store.specs.declared.grow.Stop.{Stop}
-use Rattle.std.specs.List.{count_by}
 use Rattle.node_store.specs.Kinds.{Function}
-use Rattle.node_slots.specs.Stores.{Plain, is_word}
+use Rattle.node_slots.specs.Stores.{Plain, in_use}
 use Rattle.node_slots.specs.Views.{View, Is, Rose, bdd_at}
 
 -- The rows of a session: the edge of each row, and nothing where the row was dropped.
@@ -87,4 +86,4 @@ IsDue w = (f : Function) × (w.due ≡ Some f)
 
 -- as many slots are in use as there are
 abbrev pub IsFilled : Plain → Type 0
-IsFilled p = count_by is_word p.words ≡ length p.words
+IsFilled p = in_use p ≡ length p.words

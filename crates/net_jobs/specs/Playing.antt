@@ -4,19 +4,22 @@ use Rattle.std.specs.List.{flat_map, list_any, list_all, range_with_len}
 use Rattle.function_laws.specs.declared.history.Call.{Call}
 use Rattle.function_laws.specs.declared.history.Call.TheVariants as calls
 use Rattle.function_laws.specs.declared.history.Reply.{Reply as LawReply}
+use Rattle.function_laws.specs.declared.history.Reply.TheVariants as laws
 use Rattle.function_laws.specs.Tables.{opening}
 use Rattle.function_laws.specs.Histories.{IsLegal, table_after}
 use Rattle.job_text.specs.declared.job.Act.{Act}
 use Rattle.job_text.specs.declared.job.Act.TheVariants.{One, Zero, Var, Not, And, Or, Ite, Drop, Same, Eval}
 use Rattle.job_text.specs.declared.job.Command.{Command}
+use Rattle.job_text.specs.declared.history_line.Reply.TheVariants as replies
+use Rattle.job_text.specs.declared.job.Job.{Job}
 use Rattle.job_text.specs.declared.job.Register.{Register}
 use Rattle.job_text.specs.Text.{Word}
 use Rattle.job_text.specs.Grammar.{target_of}
-use Rattle.job_text.specs.Histories.{Held, HistoryLine, SayInOrder, drop_of, drops, given_by, left_of, registers_of, stops, text_of, told_of}
+use Rattle.job_text.specs.Histories.{Held, HistoryLine, IsHistory, SayInOrder, drop_of, drops, given_by, left_of, registers_of, stops, text_of, told_of}
 use Rattle.net_jobs.specs.declared.playing.Answer.{Answer}
 use Rattle.net_jobs.specs.declared.playing.Progress.{Progress}
 use Rattle.edge_bits.specs.declared.edges.Edge.{Edge}
-use Rattle.node_slots.specs.Stores.{plain_view}
+use Rattle.node_slots.specs.Stores.{Plain, in_use, plain_view}
 use Rattle.node_slots.specs.Views.{View, Grown, Rose}
 use Rattle.net_jobs.specs.Agreement.{Agrees, AreStored, Has, IsStepOf, Rows, is_dropped, name_of, sizes_for}
 
@@ -85,8 +88,8 @@ pub record IsAnswered (w : View) (old : Rows) (w' : View) (new : Rows) (act : Ac
   pub rows : RowsAfter answer.made old new act reply
   pub grown : Grown w w'
   pub stored : AreStored w' new
-  -- full is told only where the store's count of its answers Full rose
-  pub full : stops answer.reply ≡ true → Rose w w'
+  -- full is told only where the store's count of its answers Full rose, and the entry has the number of slots and the one needed
+  pub full : answer.reply ≡ replies.Full → Rose w w' × (reply ≡ laws.Full w'.slots 1)
 
 abbrev pub target_in : Option Command → Word
 target_in None = []
@@ -100,12 +103,33 @@ target_at commands i = target_in (slice_get commands i)
 abbrev pub assigned_after : Bool → List ℕ → ℕ → List ℕ
 assigned_after made assigned i = if made then assigned ++ i ∷ [] else assigned
 
+-- The call of a line led from one store to the next: the store grew. Where the reply is full, the count of its answers Full
+-- rose in this call, and as many slots are in use as the limit says; its entry has that number, and the one slot that was needed.
+pub record CallOf (limit : ℕ) (old : Plain) (line : HistoryLine) (new : Plain) : Type 0 where
+  pub grown : Grown (plain_view old) (plain_view new)
+  pub full : line.reply ≡ replies.Full → Rose (plain_view old) (plain_view new) × (in_use new ≡ limit) × (line.entry.reply ≡ laws.Full limit 1)
+
+-- the calls of these lines, one after another, led from one store to the other
+abbrev pub CallsLead : ℕ → Plain → List HistoryLine → Plain → Type 0
+CallsLead limit old [] new = new ≡ old
+CallsLead limit old (line ∷ lines) new = (next : Plain) × CallOf limit old line next × CallsLead limit next lines new
+
+-- The text is that of one legal history of the job, whose calls led from one store to the other.
+pub record PlaysOver (job : Job) (old new : Plain) (text : List ℕ) : Type 0 where
+  pub lines : List HistoryLine
+  pub history : IsHistory job lines
+  pub calls : CallsLead job.limit old lines new
+  pub bytes : text ≡ flat_map text_of lines
+
 -- These lines were said, and are a legal history. The rows are those of the table that it leaves, in the order in which
--- they were made; `assigned` has for each of them the place of the command that made it; the text is that of the lines.
-pub record Stands (w : View) (commands : List Command) (rows : Rows) (assigned text : List ℕ) (place : ℕ) (said : List HistoryLine) : Type 0 where
-  pub legal : IsLegal (sizes_for w.vars) (map (λ line. line.entry) said)
-  pub agrees : Agrees w rows (table_after (opening (sizes_for w.vars)) (map (λ line. line.entry) said))
-  pub stored : AreStored w rows
+-- they were made; `assigned` has for each of them the place of the command that made it; the text is that of the lines. Their
+-- calls led from the store at the start to this one.
+pub record Stands (start p : Plain) (commands : List Command) (rows : Rows) (assigned text : List ℕ) (place : ℕ) (said : List HistoryLine) : Type 0 where
+  pub legal : IsLegal (sizes_for (plain_view p).vars) (map (λ line. line.entry) said)
+  pub agrees : Agrees (plain_view p) rows (table_after (opening (sizes_for (plain_view p).vars)) (map (λ line. line.entry) said))
+  pub stored : AreStored (plain_view p) rows
+  pub calls : CallsLead (length start.words) start said p
+  pub as_many : length p.words ≡ length start.words
   pub told : All (λ line. told_of line.entry.reply ≡ Some line.reply) said
   pub alone : All (λ line. line.entry.session ≡ 0) said
   pub words : map (λ register. register.word) (registers_of said) ≡ map (target_at commands) assigned
@@ -126,14 +150,14 @@ pub record SaysThrough (commands : List Command) (said : List HistoryLine) : Typ
   pub goes_on : list_all (λ line. not (stops line.reply)) (take (length said - 1) said) ≡ true
   pub to_the_end : list_any (λ line. stops line.reply) said ≡ false → length said ≡ length commands
 
--- the same of a play
-abbrev pub StandsAt : List Command → Progress → List HistoryLine → Type 0
-StandsAt commands play said = Stands (plain_view play.session.store) commands play.session.rows.items play.assigned.items play.text.items play.place said
+-- the same of a play that began with this store
+abbrev pub StandsAt : Plain → List Command → Progress → List HistoryLine → Type 0
+StandsAt start commands play said = Stands start play.session.store commands play.session.rows.items play.assigned.items play.text.items play.place said
 
 -- One more line was said, for this command, from one play to the next; and whether the session goes on.
-pub record SaysOne (commands : List Command) (command : Command) (goes_on : Bool) (old new : Progress) (said : List HistoryLine) : Type 0 where
+pub record SaysOne (start : Plain) (commands : List Command) (command : Command) (goes_on : Bool) (old new : Progress) (said : List HistoryLine) : Type 0 where
   pub line : HistoryLine
-  pub stands : StandsAt commands new (said ++ line ∷ [])
+  pub stands : StandsAt start commands new (said ++ line ∷ [])
   pub words_are : line.words ≡ command.words
   pub call_is : line.entry.call ≡ call_with command.act
   pub stops_if : stops line.reply ≡ not goes_on
@@ -147,13 +171,13 @@ abbrev pub spoken : HistoryLine → List Word × Call
 spoken line = (line.words, line.entry.call)
 
 -- The row of this number was dropped, where it was not before.
-pub record DropsOne (commands : List Command) (old new : Progress) (said : List HistoryLine) (row : ℕ) : Type 0 where
+pub record DropsOne (start : Plain) (commands : List Command) (old new : Progress) (said : List HistoryLine) (row : ℕ) : Type 0 where
   pub lines : List HistoryLine
-  pub stands : StandsAt commands new (said ++ lines)
+  pub stands : StandsAt start commands new (said ++ lines)
   pub drops_it : map spoken lines ≡ (if is_dropped old.session.rows.items row then [] else drop_of (register_at commands old.assigned.items row) ∷ [])
 
 -- The rows of the registers that are left were dropped, in order.
-pub record DropsTheRest (commands : List Command) (new : Progress) (said : List HistoryLine) : Type 0 where
+pub record DropsTheRest (start : Plain) (commands : List Command) (new : Progress) (said : List HistoryLine) : Type 0 where
   pub dropped : List HistoryLine
-  pub stands : StandsAt commands new (said ++ dropped)
+  pub stands : StandsAt start commands new (said ++ dropped)
   pub rest : map spoken dropped ≡ map drop_of (left_of said)

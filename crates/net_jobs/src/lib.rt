@@ -15,6 +15,7 @@ mod writing;
 
 pub use gate::{Gate, Open};
 pub use memory::{Bytes, Discard, Pieces, SureBytes};
+pub use playing::{Played, play};
 pub use sink::Sink;
 pub use source::{Failed, Source};
 pub use status::Status;

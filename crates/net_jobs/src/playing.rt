@@ -2,11 +2,11 @@
 
 ghost use Rattle.std.specs.Prelude.{◌≡◌, ◌≢◌, ◌<◌, ◌≤◌, ◌^◌, ◌+◌, ◌++◌, [], length, string_bytes, vec_len, All, slice_get, IfOk, IfSome, IsErrOf, MatchResult, OnOk, true, false, Some, not, List as ListOf, ◌∷◌, codes, ℕ};
 ghost use Rattle.job_text.specs.Grammar.{CommandsSay, IsJob, target_of};
-ghost use Rattle.job_text.specs.Histories.{HistoryLine, IsPlayed, drop_of, left_of, left_text, line_text, stops};
-ghost use Rattle.node_slots.specs.Stores.{plain_view};
+ghost use Rattle.job_text.specs.Histories.{HistoryLine, drop_of, left_of, line_text, stops};
+ghost use Rattle.node_slots.specs.Stores.{IsOpening, Plain, plain_view};
 ghost use Rattle.node_slots.specs.Views.{Grown};
 ghost use Rattle.net_jobs.specs.Agreement.{Adds, AreStored, IsFilled, Refuses, is_dropped, name_of};
-ghost use Rattle.net_jobs.specs.Playing.{CanCall, DropsOne, DropsTheRest, IsAnswered, RowsGoOn, SaysOne, SaysThrough, StandsAt, assigned_after, call_with, makes, target_at};
+ghost use Rattle.net_jobs.specs.Playing.{CanCall, DropsOne, DropsTheRest, IsAnswered, PlaysOver, RowsGoOn, SaysOne, SaysThrough, StandsAt, assigned_after, call_with, makes, target_at};
 
 use crate::gate::Gate;
 use crate::session::Session;
@@ -14,7 +14,7 @@ use edge_bits::{List, Memory};
 use function_laws::Name;
 use job_text::{Act, Command, Job, Reply, line};
 use node_slots::{PlainStore, Stop};
-use std::alloc::{AllocError, Global};
+use std::alloc::Global;
 
 /// What a command was answered, and whether it made a row.
 #[derive(Clone, Copy)]
@@ -90,7 +90,7 @@ fn perform(session: &mut Session, act: &Act) -> Result<Answer, Memory>
     requires stored { AreStored (plain_view session.old.store) session.old.rows.items }
     requires room { vec_len session.old.rows < 2 ^ 32 }
     ensures ok { IfOk result (λ answer. IsAnswered (plain_view session.old.store) session.old.rows.items (plain_view session.new.store) session.new.rows.items act.now answer) }
-    ensures filled { IfOk result (λ answer. stops answer.reply ≡ true → IsFilled session.new.store) }
+    ensures filled { IfOk result (λ answer. answer.reply ≡ Reply.Full → IsFilled session.new.store) }
 {
     let reply = match act {
         Act::Drop(a) => {
@@ -117,7 +117,7 @@ fn speak(alloc: Global, play: &mut Progress, command: &Command) -> Result<Answer
     requires room { vec_len play.old.session.rows < 2 ^ 32 }
     requires place { play.old.place < 2 ^ 63 }
     ensures answered { IfOk result (λ answer. IsAnswered (plain_view play.old.session.store) play.old.session.rows.items (plain_view play.new.session.store) play.new.session.rows.items command.now.act answer) }
-    ensures filled { IfOk result (λ answer. stops answer.reply ≡ true → IsFilled play.new.session.store) }
+    ensures filled { IfOk result (λ answer. answer.reply ≡ Reply.Full → IsFilled play.new.session.store) }
     ensures text { IfOk result (λ answer. play.new.text.items ≡ play.old.text.items ++ line_text play.old.place 0 command.now.words answer.reply) }
     ensures place { OnOk result (play.new.place ≡ play.old.place + 1) }
     ensures vars { OnOk result ((plain_view play.new.session.store).vars ≡ (plain_view play.old.session.store).vars) }
@@ -154,8 +154,8 @@ fn say(alloc: Global, play: &mut Progress, commands: &[Command], i: usize) -> Re
     requires stored { AreStored (plain_view play.old.session.store) play.old.session.rows.items }
     requires room { vec_len play.old.session.rows < 2 ^ 32 }
     requires place { play.old.place < 2 ^ 63 }
-    ensures said { IfOk result (λ goes_on. (said : ListOf HistoryLine) → StandsAt commands.now play.old said
-        → IfSome (slice_get commands.now i) (λ command. SaysOne commands.now command goes_on play.old play.new said)) }
+    ensures said { IfOk result (λ goes_on. (start : Plain) (said : ListOf HistoryLine) → StandsAt start commands.now play.old said
+        → IfSome (slice_get commands.now i) (λ command. SaysOne start commands.now command goes_on play.old play.new said)) }
     ensures rows { IfOk result (λ goes_on. IfSome (slice_get commands.now i) (λ command. RowsGoOn goes_on play.old.session.rows.items play.new.session.rows.items command.act)) }
     ensures few { OnOk result (vec_len play.new.session.rows ≤ vec_len play.old.session.rows + 1) }
     ensures vars { OnOk result ((plain_view play.new.session.store).vars ≡ (plain_view play.old.session.store).vars) }
@@ -176,8 +176,8 @@ fn say_all<G: Gate>(
     requires few { length commands.now < 2 ^ 32 }
     requires say { CommandsSay (plain_view play.old.session.store).vars [] commands.now }
     requires rows { play.old.session.rows.items ≡ [] }
-    requires start { StandsAt commands.now play.old [] }
-    ensures said { OnOk result ((said : ListOf HistoryLine) × StandsAt commands.now play.new said × SaysThrough commands.now said) }
+    requires start { StandsAt play.old.session.store commands.now play.old [] }
+    ensures said { OnOk result ((said : ListOf HistoryLine) × StandsAt play.old.session.store commands.now play.new said × SaysThrough commands.now said) }
     ensures place { OnOk result (play.new.place ≤ length commands.now) }
     ensures rows { OnOk result (vec_len play.new.session.rows ≤ length commands.now) }
     ensures vars { OnOk result ((plain_view play.new.session.store).vars ≡ (plain_view play.old.session.store).vars) }
@@ -230,7 +230,7 @@ fn drop_at(
     requires stored { AreStored (plain_view play.old.session.store) play.old.session.rows.items }
     requires room { vec_len play.old.session.rows < 2 ^ 32 }
     requires place { play.old.place < 2 ^ 63 }
-    ensures said { OnOk result ((said : ListOf HistoryLine) → StandsAt commands.now play.old said → DropsOne commands.now play.old play.new said row) }
+    ensures said { OnOk result ((start : Plain) (said : ListOf HistoryLine) → StandsAt start commands.now play.old said → DropsOne start commands.now play.old play.new said row) }
     ensures stored { OnOk result (AreStored (plain_view play.new.session.store) play.new.session.rows.items) }
     ensures others { OnOk result ((other : ℕ) → other ≢ row → is_dropped play.new.session.rows.items other ≡ is_dropped play.old.session.rows.items other) }
     ensures assigned { OnOk result (play.new.assigned.items ≡ play.old.assigned.items) }
@@ -253,7 +253,7 @@ fn drop_all(alloc: Global, play: &mut Progress, commands: &[Command]) -> Result<
     requires stored { AreStored (plain_view play.old.session.store) play.old.session.rows.items }
     requires room { vec_len play.old.session.rows < 2 ^ 32 }
     requires place { play.old.place < 2 ^ 32 }
-    ensures said { OnOk result ((said : ListOf HistoryLine) → StandsAt commands.now play.old said → DropsTheRest commands.now play.new said) }
+    ensures said { OnOk result ((start : Plain) (said : ListOf HistoryLine) → StandsAt start commands.now play.old said → DropsTheRest start commands.now play.new said) }
     ensures vars { OnOk result ((plain_view play.new.session.store).vars ≡ (plain_view play.old.session.store).vars) }
 {
     for row in 0..play.assigned.len() {
@@ -262,19 +262,25 @@ fn drop_all(alloc: Global, play: &mut Progress, commands: &[Command]) -> Result<
     Ok(())
 }
 
-/// The last line of a history: the number of slots in use at its end.
-fn left_line(alloc: Global, count: u32) -> Result<String, AllocError>
-    ensures { IfOk result (λ line. string_bytes line ≡ left_text count) }
-{
-    format!(in alloc; "left {count}\n")
+/// What a play leaves: the store, and the text of the history.
+#[derive(Drop)]
+pub struct Played {
+    pub store: PlainStore,
+    pub text: Vec<u8>,
 }
 
-/// Plays a job: the text of its history, and then the number of permanent slots, five and one for each variable. Session 0
-/// passes the gate before each command, with the command's number from 0.
-pub fn play<G: Gate>(alloc: Global, job: &Job, gate: &G) -> Result<Vec<u8>, Memory>
+/// Plays a job over a store that was opened with the job's numbers: the text of its history, and the store that its calls
+/// left. Session 0 passes the gate before each command, with the command's number from 0.
+pub fn play<G: Gate>(
+    alloc: Global,
+    store: PlainStore,
+    job: &Job,
+    gate: &G,
+) -> Result<Played, Memory>
     requires job { IsJob job.now }
     requires few { All (λ commands. length commands < 2 ^ 32) job.now.sections }
-    ensures { IfOk result (λ text. IsPlayed job.now text.items) }
+    requires opened { IsOpening job.now.vars job.now.elements job.now.limit store }
+    ensures { IfOk result (λ played. PlaysOver job.now store played.store played.text.items) }
 {
     let [section] = job.sections.as_slice() else {
         unreachable!();
@@ -282,7 +288,7 @@ pub fn play<G: Gate>(alloc: Global, job: &Job, gate: &G) -> Result<Vec<u8>, Memo
     let commands = section.as_slice();
     let mut play = Progress {
         session: Session {
-            store: PlainStore::new(alloc, job.vars, job.elements, job.limit)?,
+            store,
             rows: Vec::new(alloc),
         },
         assigned: Vec::new(alloc),
@@ -291,8 +297,7 @@ pub fn play<G: Gate>(alloc: Global, job: &Job, gate: &G) -> Result<Vec<u8>, Memo
     };
     say_all(alloc, &mut play, commands, gate)?;
     drop_all(alloc, &mut play, commands)?;
-    let left = play.session.store.clear();
-    let mut text = play.text;
-    text.extend_from_slice(left_line(alloc, left)?.as_bytes())?;
-    Ok(text)
+    let Progress { session, text, .. } = play;
+    let Session { store, .. } = session;
+    Ok(Played { store, text })
 }

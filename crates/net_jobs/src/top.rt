@@ -1,8 +1,10 @@
 //! The top call.
 
-ghost use Rattle.std.specs.Prelude.{◌≡◌, ◌≢◌, ◌++◌, codes, ℕ, List, None, IfOk, IfErr, map, string_bytes, is_some};
+ghost use Rattle.std.specs.Prelude.{◌≡◌, ◌≢◌, ◌<◌, ◌^◌, ◌++◌, All, codes, length, ℕ, List, None, IfOk, IfErr, map, string_bytes, is_some};
 ghost use Rattle.std.specs.Fmt.{decimal};
 ghost use Rattle.std.specs.Io.KnownBytes.{Appends};
+ghost use Rattle.job_text.specs.Grammar.{IsJob};
+ghost use Rattle.job_text.specs.Histories.{IsPlayed, left_text};
 ghost use Rattle.net_jobs.specs.Causes.{Rose, AppendsFront};
 ghost use Rattle.net_jobs.specs.Ends.{Due, fault_line, kind_word, order_of};
 ghost use Rattle.net_jobs.specs.Refusals.{refusal_line, status_of};
@@ -10,14 +12,15 @@ ghost use Rattle.net_jobs.specs.declared.status.Status.{Status};
 ghost use Rattle.net_jobs.specs.declared.status.Status.TheVariants.{WriteFault};
 
 use crate::gate::Gate;
-use crate::playing::play;
+use crate::playing::{Played, play};
 use crate::reading::{ReadStop, read_to_end};
 use crate::sink::Sink;
 use crate::source::Source;
 use crate::status::Status;
 use crate::writing::write_to_end;
 use edge_bits::Memory;
-use job_text::{FaultKind, JobError, JobFault, parse};
+use job_text::{FaultKind, Job, JobError, JobFault, parse};
+use node_slots::PlainStore;
 use std::alloc::{AllocError, Global};
 use std::sync::Wait;
 use std::thread::Threads;
@@ -44,6 +47,30 @@ fn is_play(words: &[String]) -> bool
         [word] => word.as_str() == "play",
         _ => false,
     }
+}
+
+/// The last line of a history: the number of slots in use at its end.
+fn left_line(alloc: Global, count: u32) -> Result<String, AllocError>
+    ensures { IfOk result (λ line. string_bytes line ≡ left_text count) }
+{
+    format!(in alloc; "left {count}\n")
+}
+
+/// Plays a job over a store of its own: the text of its history, and then the number of permanent slots, five and one for
+/// each variable.
+fn history<G: Gate>(alloc: Global, job: &Job, gate: &G) -> Result<Vec<u8>, Memory>
+    requires job { IsJob job.now }
+    requires few { All (λ commands. length commands < 2 ^ 32) job.now.sections }
+    ensures { IfOk result (λ text. IsPlayed job.now text.items) }
+{
+    let store = PlainStore::new(alloc, job.vars, job.elements, job.limit)?;
+    let Played {
+        mut store,
+        mut text,
+    } = play(alloc, store, job, gate)?;
+    let left = store.clear();
+    text.extend_from_slice(left_line(alloc, left)?.as_bytes())?;
+    Ok(text)
 }
 
 /// The history of the job that the source holds, where the words ask for it; else why there is none.
@@ -73,7 +100,7 @@ fn find<S: Source, G: Gate>(
         Err(JobError::Memory) => return Err(Refusal::Memory),
         Err(JobError::Fault(fault)) => return Err(Refusal::Job(fault)),
     };
-    match play(alloc, &job, gate) {
+    match history(alloc, &job, gate) {
         Ok(text) => Ok(text),
         Err(Memory) => Err(Refusal::Memory),
     }

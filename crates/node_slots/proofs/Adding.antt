@@ -74,6 +74,7 @@ module _ (p : Plain) (i bits : ℕ) (word : Word) (within : i < length p.words) 
   written-grown = record {
     vars = refl;
     elements = refl;
+    slots = length-set p.words i bits;
     level = refl;
     content = content-grown;
     top = top-grown;

@@ -1,6 +1,6 @@
 -- A store as its words and its orders, and when it is canonical.
 use Rattle.std.specs.Prelude.{◌≡◌, ℕ, zero, suc, ◌+◌, ◌-◌, ◌^◌, ◌<◌, ◌≤◌, nat_lt, nat_le, Bool, true, false, ◌&&◌, if◌then◌else◌, List, length, slice_index, Option, Some, None, ℤ, pos, max}
-use Rattle.std.specs.List.{range_with_len}
+use Rattle.std.specs.List.{count_by, range_with_len}
 use Rattle.edge_bits.specs.Words.{unpack_of}
 use Rattle.edge_bits.specs.declared.edges.Kind.{Kind}
 use Rattle.edge_bits.specs.declared.edges.Kind.TheVariants.{Bdd, Add, Zdd}
@@ -67,6 +67,7 @@ abbrev pub plain_view : Plain → View
 plain_view p = record {
   vars = length p.variable_levels;
   elements = length p.element_levels;
+  slots = length p.words;
   content = content_of p;
   level = level_in p;
   top = top_in p;
@@ -140,6 +141,10 @@ pub record IsStore (p : Plain) : Type 0 where
 -- whether the bits are a word's
 abbrev pub is_word : ℕ → Bool
 is_word bits = is_used (unpack_of bits)
+
+-- how many slots have a word
+abbrev pub in_use : Plain → ℕ
+in_use p = count_by is_word p.words
 
 -- a store with the permanent slots alone, as it opens: both orders are 0, 1, 2, ..
 pub record IsOpening (vars elements limit : ℕ) (p : Plain) : Type 0 where

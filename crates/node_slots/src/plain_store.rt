@@ -301,7 +301,7 @@ impl PlainStore {
     ghost use Rattle.edge_bits.specs.Reading.{DenotesBdd, DenotesAdd, DenotesZdd};
     ghost use Rattle.node_store.specs.Views.{AreTwo, Denotes, values_at};
     ghost use Rattle.node_store.specs.Kinds.{Function};
-    ghost use Rattle.node_slots.specs.Stores.{plain_view, is_word, IsOpening, IsCleared};
+    ghost use Rattle.node_slots.specs.Stores.{plain_view, in_use, IsOpening, IsCleared};
 
     /// A store of so many variables and elements, at most 1,024 each, with so many slots: 5 and one for each variable at least, 8,388,607 at most. Both orders are 0, 1, 2, ..
     pub fn new(alloc: Global, vars: u32, elements: u32, limit: u32) -> Result<PlainStore, Memory>
@@ -352,7 +352,7 @@ impl PlainStore {
 
     /// The number of slots that have a word: all, where a function was refused and nothing was freed since.
     pub fn in_use(&self) -> u32
-        ensures count { result ≡ count_by is_word self.now.words }
+        ensures count { result ≡ in_use self.now }
         ensures full { (f : Function) → (plain_view self.now).due ≡ Some f → result ≡ length self.now.words }
     {
         count_words(&self.words) as u32
@@ -362,7 +362,7 @@ impl PlainStore {
     pub fn clear(&mut self) -> u32
         ensures cleared { IsCleared self.old self.new }
         ensures permanent { result ≡ 5 + (plain_view self.old).vars }
-        ensures in_use { result ≡ count_by is_word self.new.words }
+        ensures in_use { result ≡ in_use self.new }
     {
         let permanent = 5 + self.variable_levels.len();
         free_from(&mut self.words, permanent);

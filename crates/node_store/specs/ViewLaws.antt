@@ -12,12 +12,13 @@ use Rattle.node_store.specs.Views.{View, levels, IsVariable, IsBeyond, function_
 use Rattle.node_store.specs.Edges.{flip_if}
 
 pub Grown-refl : (a : View) → Grown a a
-Grown-refl a = record { vars = refl; elements = refl; level = refl; content = λ s f h. h; top = λ s f h. refl; made = λ s h. h; fulls = omega arith; wants = λ h. h }
+Grown-refl a = record { vars = refl; elements = refl; slots = refl; level = refl; content = λ s f h. h; top = λ s f h. refl; made = λ s h. h; fulls = omega arith; wants = λ h. h }
 
 pub Grown-trans : {a b c : View} → Grown a b → Grown b c → Grown a c
 Grown-trans p q = record {
   vars = q.vars ∙ p.vars;
   elements = q.elements ∙ p.elements;
+  slots = q.slots ∙ p.slots;
   level = q.level ∙ p.level;
   content = λ s f h. q.content s f (p.content s f h);
   top = λ s f h. q.top s f (p.content s f h) ∙ p.top s f h;

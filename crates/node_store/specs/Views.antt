@@ -14,6 +14,8 @@ pub record View : Type 0 where
   -- how many variables, and how many elements
   pub vars : ℕ
   pub elements : ℕ
+  -- how many slots there are, free or not
+  pub slots : ℕ
   -- what each slot denotes
   pub content : ℕ → Option Function
   -- the level of a node's variable number: of a variable in the one order, of an element in the other
@@ -83,6 +85,7 @@ IsBelow k w v f = (u : ℕ) → IsVariable k w u → w.level u ≤ w.level v →
 pub record Grown (old new : View) : Type 0 where
   pub vars : new.vars ≡ old.vars
   pub elements : new.elements ≡ old.elements
+  pub slots : new.slots ≡ old.slots
   pub level : new.level ≡ old.level
   pub content : (s : ℕ) (f : Function) → old.content s ≡ Some f → new.content s ≡ Some f
   pub top : (s : ℕ) (f : Function) → old.content s ≡ Some f → new.top s ≡ old.top s

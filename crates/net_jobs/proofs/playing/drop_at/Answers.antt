@@ -19,9 +19,9 @@ returns-clause-said c =
     let kept : is_dropped rows.items row ≡ false = kept_if c.is_live.result (is_dropped rows.items row) c.is_live.ensures c.if-not-is_live.false in
     let place : c.index.result.now ≡ slice_index old.assigned.items row =
     get_or_read old.assigned.items _ _ (omega (arith, old.assigned.ok.0, c.requires.assigned, c.requires.within)) c.index.ensures 0 in
-    λ said stands. drops_one commands old c.speak.new.play said row command.words command.act c.in_ok-_answer._answer stands c.in_ok-_answer.ensures.answered
+    λ start said stands. drops_one start commands old c.speak.new.play said row command.words command.act c.in_ok-_answer._answer stands c.in_ok-_answer.ensures.answered
     (subst (λ (a : Act). CanCall (plain_view old.session.store).vars rows.items a) (sym c.in_ok-command.ensures.act) (held_at rows.items row below kept))
-    c.in_ok-command.ensures.act
+    c.in_ok-_answer.ensures.filled c.in_ok-command.ensures.act
     (c.in_ok-command.ensures.words ∙ ap (λ w. codes "drop" ∷ w ∷ []) (c.in_ok-word.ensures ∙ ap (target_at commands) place))
     kept c.in_ok-_answer.ensures.assigned c.in_ok-_answer.ensures.text c.in_ok-_answer.ensures.place
 
@@ -36,7 +36,7 @@ pub returns-then-not-is_live-clause-said : goal.returns-then-not-is_live-clause-
 returns-then-not-is_live-clause-said c =
     let old = c.args.play.now in
     let rows = old.session.rows.items in
-    λ said stands. drops_none c.args.commands.now old said c.args.row (gone_if c.is_live.result (is_dropped rows c.args.row) c.is_live.ensures c.if-not-is_live.true) stands
+    λ start said stands. drops_none start c.args.commands.now old said c.args.row (gone_if c.is_live.result (is_dropped rows c.args.row) c.is_live.ensures c.if-not-is_live.true) stands
 
 pub speak-requires-clause-can : goal.speak-requires-clause-can
 speak-requires-clause-can c =

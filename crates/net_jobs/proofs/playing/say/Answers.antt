@@ -14,18 +14,16 @@ returns-clause-said c =
     let i = c.args.i in
     let old = c.args.play.now in
     let new = record c.speak.new.play { assigned = c.note.new.assigned } in
-    let w = plain_view old.session.store in
-    let w' = plain_view new.session.store in
     let command = c.index-commands-i.result in
     let answer = c.in_ok-answer.answer in
     let answered = c.in_ok-answer.ensures in
     let got : slice_get commands i ≡ Some command = slice_get_read commands (length commands) i command refl c.requires.within c.index-commands-i.is in
     let can = subst (λ (o : Option Command). IfSome o (λ command. CanCall (plain_view old.session.store).vars old.session.rows.items command.act)) got c.requires.can in
-    λ said stands. subst (λ (o : Option Command). IfSome o (λ command. SaysOne commands command c.goes_on.result old new said)) (sym got) (record {
-      line = said_line w w' commands old.session.rows.items new.session.rows.items old.assigned.items old.text.items old.place i said command.words command.act answer stands answered.answered can;
-      stands = stands-along w' commands new.session.rows.items (assigned_after answer.made old.assigned.items i) new.assigned.items new.text.items new.place _
+    λ start said stands. subst (λ (o : Option Command). IfSome o (λ command. SaysOne start commands command c.goes_on.result old new said)) (sym got) (record {
+      line = said_line start old.session.store new.session.store commands old.session.rows.items new.session.rows.items old.assigned.items old.text.items old.place i said command.words command.act answer stands answered.answered can answered.filled;
+      stands = stands-along start new.session.store commands new.session.rows.items (assigned_after answer.made old.assigned.items i) new.assigned.items new.text.items new.place _
           (c.in_ok-note.ensures ∙ ap (λ xs. assigned_after answer.made xs i) answered.assigned)
-          (stands-after w w' commands old.session.rows.items new.session.rows.items old.assigned.items old.text.items old.place i said command.words command.act answer stands answered.answered can
+          (stands-after start old.session.store new.session.store commands old.session.rows.items new.session.rows.items old.assigned.items old.text.items old.place i said command.words command.act answer stands answered.answered can answered.filled
           new.text.items new.place (λ _. ap target_in got) answered.text answered.place);
       words_are = refl;
       call_is = refl;

@@ -5,6 +5,6 @@ use Rattle.net_jobs.proofs.playing.say_all.Given as goal
 
 abbrev pub invariant-loop-i : goal.invariant-loop-i
 invariant-loop-i g l = record {
-  up : SaysUpTo l.commands l.play l.i;
+  up : SaysUpTo l.initial.play.session.store l.commands l.play l.i;
   vars : (plain_view l.play.session.store).vars ≡ (plain_view l.initial.play.session.store).vars;
 }
