@@ -1,8 +1,8 @@
 -- A place that is taken out of its chain, or put into one.
-use Rattle.std.proofs.Common.{◌≡◌, ℕ, suc, ◌+◌, ◌-◌, ◌%◌, ◌^◌, ◌<◌, ◌≤◌, cond, eqb, List, [], ◌∷◌, ◌++◌, length, get_or, set, Some, None, MatchOption, inl, inr, sym, ◌∙◌, ap, subst, refl, arith}
+use Rattle.std.proofs.Common.{◌≡◌, ℕ, suc, ◌+◌, ◌-◌, ◌%◌, ◌^◌, ◌<◌, ◌≤◌, cond, List, [], ◌∷◌, ◌++◌, length, get_or, set, inl, inr, sym, ◌∙◌, ap, subst, refl, arith}
 use Rattle.std.proofs.lemmas.Bool.{cases_eq, cases_lt, eq-eqb, ne_eqb}
 use Rattle.std.proofs.lemmas.List.{length-set, length_push, get_or-set_same, get_or-set_other, get_or_append_left, get_or_push}
-use Rattle.level_table.specs.Chains.{bucket_of, put, IsLatest, IsChained, AreChains, IsNextAbove}
+use Rattle.level_table.specs.Chains.{bucket_of, put, IsLatest, IsChained, AreChains}
 use Rattle.level_table.proofs.Latest.{latest-here, latest-more, latest-elsewhere, latest-left, latest-entered, latest-fewer}
 
 pub put-here : (at : ℕ → ℕ) (place b : ℕ) → put at place b place ≡ b

@@ -1,11 +1,11 @@
 -- The entries of a table as a map.
-use Rattle.std.proofs.Common.{◌≡◌, ℕ, zero, suc, ◌+◌, ◌-◌, ◌<◌, ◌≤◌, Bool, true, false, ◌&&◌, cond, eqb, List, [], ◌∷◌, ◌++◌, length, get_or, map, find, option_map, Some, None, ◌⊎◌, inl, inr, sym, ◌∙◌, ap, subst, refl, arith}
+use Rattle.std.proofs.Common.{◌≡◌, ℕ, zero, suc, ◌<◌, ◌≤◌, Bool, true, false, ◌&&◌, eqb, List, [], ◌∷◌, ◌++◌, length, get_or, map, find, option_map, Some, None, inl, inr, sym, ◌∙◌, ap, subst, refl, arith}
 use Rattle.std.proofs.Math.Bool.{beq}
 use Rattle.std.proofs.lemmas.Bool.{cases_eq, cases_lt, cases_Bool, eq-eqb, eqb-true, and_parts, and_from, cond-true, cond-false}
 use Rattle.std.proofs.lemmas.List.{get_or-map}
 use Rattle.edge_bits.specs.declared.edges.Edge.{Edge}
 use Rattle.level_table.specs.declared.table.Entry.{Entry}
-use Rattle.level_table.specs.Chains.{IsLatest, link_to}
+use Rattle.level_table.specs.Chains.{IsLatest}
 use Rattle.level_table.specs.Tables.{IsOf, is_of, slot_at, hash_of, IsAbsent, AreApart}
 
 -- the test of a pair

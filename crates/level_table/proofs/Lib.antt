@@ -1,3 +1,4 @@
 pub mod Latest
 pub mod Chaining
 pub mod Entries
+pub mod Removal

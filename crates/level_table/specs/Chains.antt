@@ -1,5 +1,5 @@
 -- The chains of the places whose hashes fall in one bucket.
-use Rattle.std.specs.Prelude.{◌≡◌, ℕ, suc, ◌+◌, ◌%◌, ◌^◌, ◌<◌, ◌≤◌, ◌==◌, if◌then◌else◌, List, length, slice_index, Option, Some, None, MatchOption}
+use Rattle.std.specs.Prelude.{◌≡◌, ℕ, suc, ◌%◌, ◌^◌, ◌<◌, ◌≤◌, ◌==◌, if◌then◌else◌, List, length, slice_index, Option, Some, None, MatchOption}
 
 -- what the chains are seen as: the hashes of the places, and how many more fit without memory
 pub record Hashed : Type 0 where

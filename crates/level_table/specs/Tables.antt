@@ -29,12 +29,13 @@ IsAbsent entries hi lo = (k : ℕ) (d : Entry) → k < length entries → IsOf h
 abbrev pub AreApart : List Entry → Type 0
 AreApart entries = AllPairs (λ e f. IsOf e.hi e.lo f → ⊥) entries
 
--- the entries without that of a pair: the last one takes its place
-pub record IsWithout (old : List Entry) (hi : ℕ) (lo : Edge) (new : List Entry) : Type 0 where
+-- the table without the entry of a pair: the last one takes its place
+pub record IsWithout (old : Table) (hi : ℕ) (lo : Edge) (new : Table) : Type 0 where
   pub place : ℕ
-  pub within : place < length old
-  pub here : (d : Entry) → IsOf hi lo (slice_index_or old place d)
-  pub is : (d : Entry) → new ≡ swap_remove old place d
+  pub within : place < length old.entries
+  pub here : (d : Entry) → IsOf hi lo (slice_index_or old.entries place d)
+  pub entries : (d : Entry) → new.entries ≡ swap_remove old.entries place d
+  pub spare : new.spare ≡ old.spare + 1
 
 -- the hash of a pair: multilinear (Dietzfelbinger 1996)
 abbrev pub hash_of : ℕ → Edge → ℕ

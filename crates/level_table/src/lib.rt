@@ -5,3 +5,6 @@ mod chains;
 mod table;
 
 pub use table::{Entry, LevelTable};
+
+#[cfg(test)]
+mod tests;

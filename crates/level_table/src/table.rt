@@ -1,6 +1,6 @@
 //! The table of a variable.
 
-ghost use Rattle.std.specs.Prelude.{◌≡◌, ℕ, ◌+◌, ◌-◌, ◌<◌, ◌≤◌, ◌^◌, [], ◌∷◌, ◌++◌, length, max, slice_index_or, IfOk, OnOk, OnErr, IsOk, Some, None, MatchOption, ◌↔◌, IsNone};
+ghost use Rattle.std.specs.Prelude.{◌≡◌, ℕ, ◌+◌, ◌-◌, ◌<◌, ◌≤◌, ◌^◌, [], ◌∷◌, ◌++◌, length, max, slice_index_or, IfOk, OnOk, OnErr, IsOk, Some, None, MatchOption, ◌↔◌, ◌⊎◌, IsNone};
 ghost use Rattle.level_table.specs.Tables.{hash_of};
 
 use crate::chains::Chains;
@@ -118,6 +118,19 @@ impl LevelTable {
         self.chains.push(mix(hi, lo));
         self.entries.push_reserved(Entry { hi, lo, slot });
         self.spare -= 1;
+    }
+
+    /// Removes a pair with its slot, if it is there. The last entry comes to stand in its place.
+    pub fn remove(&mut self, hi: u32, lo: Edge)
+        ensures removed { (IsAbsent self.old.entries hi lo × (self.new ≡ self.old)) ⊎ IsWithout self.old hi lo self.new }
+        ensures absent { IsAbsent self.new.entries hi lo }
+        ensures others { (h : ℕ) (l : Edge) → (h ≡ hi → l ≡ lo → ⊥) → slot_at self.new.entries h l ≡ slot_at self.old.entries h l }
+    {
+        if let Some(place) = self.place_of(hi, lo) {
+            self.chains.swap_remove(place);
+            self.entries.swap_remove(place);
+            self.spare += 1;
+        }
     }
 
     /// The number of entries.

@@ -1,4 +1,4 @@
-use Rattle.std.proofs.Common.{length, get_or, sym, arith, rules}
+use Rattle.std.proofs.Common.{length, get_or, arith}
 use Rattle.level_table.proofs.Latest.{sought_here, sought_on, sought_none}
 use Rattle.level_table.proofs.Chaining.{bucket-within}
 use Rattle.level_table.proofs.chains.candidate.Goals as goal

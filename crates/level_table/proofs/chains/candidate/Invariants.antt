@@ -1,4 +1,4 @@
-use Rattle.std.proofs.Common.{◌≡◌, ℕ, suc, ◌%◌, ◌<◌, ◌≤◌, List, length, slice_index}
+use Rattle.std.proofs.Common.{ℕ, ◌%◌, ◌≤◌, List, length}
 use Rattle.level_table.specs.Chains.{bucket_of, IsLatest, AreChains}
 use Rattle.level_table.proofs.Latest.{IsSought}
 use Rattle.level_table.proofs.chains.candidate.Given as goal

@@ -1,4 +1,4 @@
-use Rattle.std.proofs.Common.{◌≡◌, ℕ, ◌≤◌, length}
+use Rattle.std.proofs.Common.{ℕ, ◌≤◌, length}
 use Rattle.level_table.specs.Chains.{IsChained}
 use Rattle.level_table.proofs.Latest.{IsDownTo}
 use Rattle.level_table.proofs.chains.next_above.Given as goal

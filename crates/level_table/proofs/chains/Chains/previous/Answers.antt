@@ -1,6 +1,5 @@
-use Rattle.std.proofs.Common.{◌≡◌, ◌<◌, length, get_or, ap, sym, subst, arith}
+use Rattle.std.proofs.Common.{◌≡◌, ◌<◌, length, get_or, ap, arith}
 use Rattle.std.proofs.lemmas.List.{get_or_read}
-use Rattle.level_table.specs.Chains.{bucket_of, IsLatest}
 use Rattle.level_table.proofs.Chaining.{bucket-within}
 use Rattle.level_table.proofs.chains.Chains.previous.Goals as goal
 

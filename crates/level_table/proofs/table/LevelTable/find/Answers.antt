@@ -1,5 +1,4 @@
-use Rattle.std.proofs.Common.{◌≡◌, length, Some, None, refl, sym, ◌∙◌, ap, subst}
-use Rattle.level_table.specs.Tables.{slot_at}
+use Rattle.std.proofs.Common.{Some, sym, ◌∙◌, ap}
 use Rattle.level_table.specs.declared.table.Entry.{Entry}
 use Rattle.level_table.proofs.Entries.{slot_found, slot_absent}
 use Rattle.level_table.proofs.table.LevelTable.find.Goals as goal

@@ -1,4 +1,4 @@
-use Rattle.std.proofs.Common.{◌≡◌, Some, refl, sym, ◌∙◌, ap, subst}
+use Rattle.std.proofs.Common.{refl, sym, ◌∙◌, ap, subst}
 use Rattle.level_table.specs.Tables.{Table, IsAbsent, slot_at}
 use Rattle.level_table.specs.declared.table.Entry.{Entry}
 use Rattle.level_table.proofs.Entries.{slot-push_here, slot-push_other}
