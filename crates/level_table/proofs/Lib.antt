@@ -1,0 +1,4 @@
+pub mod Latest
+pub mod Chaining
+pub mod Entries
+pub mod Removal
