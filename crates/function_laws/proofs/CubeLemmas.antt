@@ -105,10 +105,10 @@ times-free_back x v c q free = elim (q.each v) [
 ]
 
 -- quantification: by no variable, by one more, by a list
-pub IsExists-one : (f : ℕ → Bool) → IsExists (constant true) f f
-IsExists-one f = record {
-  reached = λ k t. (k, (t, λ v free. refl));
-  reaches = λ k w. ap f (sym (same_bits w.0 k (λ v. w.1.1 v (λ i b. refl)))) ∙ w.1.0;
+pub IsExists-none : (c f : ℕ → Bool) → ((v : ℕ) → IsFree c v) → IsExists c f f
+IsExists-none c f free = record {
+  reached = λ k t. (k, (t, λ v same. refl));
+  reaches = λ k w. ap f (sym (same_bits w.0 k (λ v. w.1.1 v (free v)))) ∙ w.1.0;
 }
 
 pub IsExists-times : (x : ℕ) (c f g : ℕ → Bool) → IsCube c → IsExists c (exists_one f x) g → IsExists (conjunction (projection x) c) f g
@@ -143,7 +143,7 @@ IsExists-times x c f g q e = record {
 
 pub IsExists-all : (f : ℕ → Bool) (vs : List ℕ) → IsExists (cube_of vs) f (exists_all f vs)
 unfolding exists_all
-IsExists-all f [] = IsExists-one f
+IsExists-all f [] = IsExists-none (constant true) f (λ v k b. refl)
 IsExists-all f (v ∷ vs) = IsExists-times v (cube_of vs) f (exists_all (exists_one f v) vs) (IsCube-of vs) (IsExists-all (exists_one f v) vs)
 
 -- there is one quantified function
@@ -202,6 +202,15 @@ pub IsExists-quantified : (x : ℕ) (c f g a b : ℕ → Bool) → IsCube c → 
     → IsExists (conjunction (projection x) c) (choice x f g) (disjunction a b)
 IsExists-quantified x c f g a b q free_f free_g p r =
     IsExists-times x c (choice x f g) (disjunction a b) q (subst (λ h. IsExists c h (disjunction a b)) (sym (exists-choice_same f g x free_f free_g)) (IsExists-or c f g a b p r))
+
+-- a first part that can always be made true settles the value
+pub IsExists-settled : (x : ℕ) (c f g : ℕ → Bool) → IsCube c → IsFree f x → IsFree g x → IsExists c f (constant true)
+    → IsExists (conjunction (projection x) c) (choice x f g) (constant true)
+IsExists-settled x c f g q free_f free_g p =
+    IsExists-times x c (choice x f g) (constant true) q (subst (λ h. IsExists c h (constant true)) (sym (exists-choice_same f g x free_f free_g)) (record {
+      reached = λ k t. let w = p.reached k t in (w.0, (true_or (f w.0) (g w.0) (inl w.1.0), w.1.1));
+      reaches = λ k w. refl;
+    }))
 
 -- of constants
 pub IsExists-constant : (c : ℕ → Bool) (b : Bool) → IsExists c (constant b) (constant b)

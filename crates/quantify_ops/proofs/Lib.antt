@@ -1,0 +1,2 @@
+pub mod CubeEdges
+pub mod QuantifiedLaws

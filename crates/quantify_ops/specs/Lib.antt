@@ -1,0 +1,3 @@
+pub mod Works
+pub mod Quantified
+pub mod QuantifiedLasts

@@ -1,0 +1,5 @@
+//! Quantification of Boolean functions over any store (Bryant 1986).
+#![tactic(auto)]
+
+mod cubes;
+mod quantification;
