@@ -1,6 +1,10 @@
 -- Quantification over the variables of a product, variable by variable.
-use Rattle.std.proofs.Common.{◌≡◌, ◌≢◌, ℕ, Bool, true, false, cond, ◌&&◌, ◌||◌, List, [], ◌∷◌, ◌⊎◌, inl, inr, ⊎_elim, refl, sym, ap, ◌∙◌, subst}
+use Rattle.std.proofs.Common.{◌≡◌, ◌≢◌, ℕ, Bool, true, false, cond, ◌&&◌, ◌||◌, List, [], ◌∷◌, ◌⊎◌, inl, inr, ⊎_elim, refl, sym, ap, ◌∙◌, subst, arith}
+use Rattle.std.specs.List.{All}
+use Rattle.std.specs.List.Sorted.{IsPermutation}
 use Rattle.std.proofs.lemmas.Bool.{cases_eq}
+use Rattle.std.proofs.lemmas.List.Elements.{All-cons, All-head, All-tail}
+use Rattle.std.proofs.lemmas.List.Sorted.{All-permutation, IsPermutation-sym}
 use Rattle.edge_bits.specs.Assignments.{bit, set_bit}
 use Rattle.edge_bits.proofs.AssignmentLemmas.{bit-set_same, bit-set_other, set_bit-own, set_bit-set_same, same_bits}
 use Rattle.function_laws.specs.Values.{cofactor, choice, IsFree, constant, conjunction, disjunction, projection, exists_one, exists_all}
@@ -89,6 +93,34 @@ IsCube-one = record { place = 0; holds = refl; each = λ v. inl (λ k b. refl) }
 pub IsCube-of : (vs : List ℕ) → IsCube (cube_of vs)
 IsCube-of [] = IsCube-one
 IsCube-of (v ∷ vs) = IsCube-times v (cube_of vs) (IsCube-of vs)
+
+-- the order of the variables doesn't matter, and no other one does
+cube_all : (vs : List ℕ) (k : ℕ) → cube_of vs k ≡ true → All (λ v. bit k v ≡ true) vs
+cube_all [] k t = λ i d below. absurd (omega arith)
+cube_all (v ∷ vs) k t = All-cons (λ u. bit k u ≡ true) v vs (and_left (bit k v) (cube_of vs k) t) (cube_all vs k (and_right (bit k v) (cube_of vs k) t))
+
+all_cube : (vs : List ℕ) (k : ℕ) → All (λ v. bit k v ≡ true) vs → cube_of vs k ≡ true
+all_cube [] k h = refl
+all_cube (v ∷ vs) k h = both_true (bit k v) (cube_of vs k) (All-head (λ u. bit k u ≡ true) v vs h) (all_cube vs k (All-tail (λ u. bit k u ≡ true) v vs h))
+
+pub cube_of-permutation : (us vs : List ℕ) → IsPermutation us vs → cube_of us ≡ cube_of vs
+cube_of-permutation us vs p = everywhere (cube_of us) (cube_of vs) (λ k. same_truth (cube_of us k) (cube_of vs k)
+    (λ t. all_cube vs k (All-permutation (λ v. bit k v ≡ true) us vs p (cube_all us k t)))
+    (λ t. all_cube us k (All-permutation (λ v. bit k v ≡ true) vs us (IsPermutation-sym us vs p) (cube_all vs k t))))
+
+pub IsFree-cube : (u : ℕ) (vs : List ℕ) → All (λ v. u ≢ v) vs → IsFree (cube_of vs) u
+IsFree-cube u [] h = λ k b. refl
+IsFree-cube u (v ∷ vs) h = times-free v u (cube_of vs) (All-head (λ w. u ≢ w) v vs h) (IsFree-cube u vs (All-tail (λ w. u ≢ w) v vs h))
+
+-- a variable of a product, taken off or already there
+pub times-part : (x : ℕ) (c : ℕ → Bool) → IsCube c → (cofactor (conjunction (projection x) c) x true ≡ c) ⊎ (conjunction (projection x) c ≡ c)
+times-part x c q = elim (q.each x) [
+  | inl free ↦ inl (everywhere (cofactor (conjunction (projection x) c) x true) c (λ k. ap (λ b. b && c (set_bit k x true)) (bit-set_same k x true) ∙ free k true))
+  | inr needs ↦ inr (everywhere (conjunction (projection x) c) c (λ k. elim (by_bit (bit k x)) [
+    | inl is ↦ ap (λ b. b && c k) is
+    | inr is ↦ first_false (bit k x) (c k) is ∙ sym (needs k is)
+  ]))
+]
 
 -- a product depends on its variables
 needs-not_free : (c : ℕ → Bool) (x k : ℕ) → c k ≡ true → Needs c x → IsFree c x → ⊥

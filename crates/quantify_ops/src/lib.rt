@@ -2,4 +2,9 @@
 #![tactic(auto)]
 
 mod cubes;
+pub mod nested;
+mod operations;
+mod products;
 mod quantification;
+
+pub use operations::{and_exists, exists, forall};
