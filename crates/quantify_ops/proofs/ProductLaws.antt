@@ -83,7 +83,7 @@ left_is_part w (t ∷ rest) done r =
     (left_is_part w rest done r.1.1)
 
 -- what is part of a part's work is part of the whole's
-IsWork-part : (w : View) (f g : ℕ → Bool) (o : Option Function) → IsPart Bdd w f g → IsWork w (λ F. F ≡ BddFunction g) o → IsWork w (λ F. F ≡ BddFunction f) o
+pub IsWork-part : (w : View) (f g : ℕ → Bool) (o : Option Function) → IsPart Bdd w f g → IsWork w (λ F. F ≡ BddFunction g) o → IsWork w (λ F. F ≡ BddFunction f) o
 IsWork-part w f g o part i = by_kind i.kind i.root i.part i.asked i.is_part i.is
   where
     by_kind : (k : Kind) (root p : ℕ → ValueOf k) → function_of k root ≡ BddFunction g → IsPart k w root p

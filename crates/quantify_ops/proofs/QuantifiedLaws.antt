@@ -1,16 +1,16 @@
 -- A quantified conjunction, step by step.
 use Rattle.std.proofs.Common.{◌≡◌, ◌≢◌, ℕ, suc, ◌<◌, ◌≤◌, max, Bool, true, false, not, cond, ◌&&◌, ◌⊎◌, inl, inr, Some, Result, Ok, Err, IfOk, refl, sym, ap, ◌∙◌, subst, arith}
 use Rattle.std.specs.Prelude.{IsOkAnd}
-use Rattle.std.proofs.lemmas.Bool.{cases_eq, cases_lt}
+use Rattle.std.proofs.lemmas.Bool.{cases_lt}
 use Rattle.edge_bits.specs.declared.edges.Edge.{Edge}
 use Rattle.edge_bits.specs.declared.edges.Kind.TheVariants.{Bdd}
 use Rattle.function_laws.specs.Cubes.{IsCube, IsExists}
-use Rattle.function_laws.specs.Values.{IsFree, choice, cofactor, conjunction, constant, disjunction, projection}
-use Rattle.function_laws.proofs.CubeLemmas.{times-depends, IsExists-absent, IsExists-choice, IsExists-constant, IsExists-none, IsExists-quantified, IsExists-settled, IsFree-exists}
-use Rattle.function_laws.proofs.ValueLemmas.{everywhere, IsFree-cofactor_other, IsFree-place}
+use Rattle.function_laws.specs.Values.{IsFree, choice, conjunction, constant, disjunction, projection}
+use Rattle.function_laws.proofs.CubeLemmas.{part-lacks, times-depends, IsExists-absent, IsExists-choice, IsExists-constant, IsExists-none, IsExists-quantified, IsExists-settled, IsFree-exists}
+use Rattle.function_laws.proofs.ValueLemmas.{everywhere, IsFree-place}
 use Rattle.node_store.specs.Edges.{flip_if}
 use Rattle.node_store.specs.Kinds.{Function, BddFunction}
-use Rattle.node_store.specs.KindLaws.{part-joined, Lacks-joined}
+use Rattle.node_store.specs.KindLaws.{Lacks-joined}
 use Rattle.node_store.specs.Numbers.{exists_number, and_exists_number}
 use Rattle.node_store.specs.Splits.{BothAnswered, Leads}
 use Rattle.node_store.specs.Two.{IsOrderOf, TwoSplits, two_depth}
@@ -27,17 +27,6 @@ use Rattle.ite_core.specs.Implications.{IsCompared}
 use Rattle.ite_core.proofs.Terminals.{truth_at}
 use Rattle.quantify_ops.specs.Quantified.{both_at, HasCube, AreQuantified, IsFreeAbove, StandsAbove, IsQuantifiedValue, QuantifiedDue, QuantifiedAnswers, IsLeft, LeftIs, QuantifiedSplits, IsBelowLevel, IsRest, FirstAnswered, IsKeyOf, IsNarrowed, QuantifiedWaits}
 use Rattle.quantify_ops.specs.QuantifiedLasts.{HasCube-grown, IsFreeAbove-grown, StandsAbove-grown, AreQuantified-grown, IsQuantifiedValue-stays, QuantifiedDue-stays, QuantifiedAnswers-stay, QuantifiedSplits-stay}
-
--- parts of functions that lack a variable lack it
-part-lacks : (x u : ℕ) (f h l : ℕ → Bool) (b : Bool) → f ≡ choice x h l → IsFree h x → IsFree l x → IsFree f u → IsFree (cond b h l) u
-part-lacks x u f h l b is free_h free_l free = elim (cases_eq u x) [
-  | inl same ↦ subst (λ y. IsFree (cond b h l) y) (sym same) (own b)
-  | inr apart ↦ subst (λ g. IsFree g u) (ap (λ g. cofactor g x b) is ∙ part-joined Bdd x h l b free_h free_l) (IsFree-cofactor_other f u x b apart free)
-]
-  where
-    own : (b : Bool) → IsFree (cond b h l) x
-    own true = free_h
-    own false = free_l
 
 -- a function that splits at a variable is free of those above
 free_above : (w : View) (x : ℕ) (f : ℕ → Bool) (hi lo : Edge) → IsVariable Bdd w x → Splits Bdd w x f hi lo → (u : ℕ) → IsVariable Bdd w u → w.level u < w.level x → IsFree f u
