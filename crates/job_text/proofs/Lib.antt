@@ -2,6 +2,7 @@ pub mod Acts
 pub mod Bits
 pub mod Completeness
 pub mod Digits
+pub mod Effects
 pub mod Filling
 pub mod Forms
 pub mod Makings
