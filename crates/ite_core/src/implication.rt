@@ -135,8 +135,8 @@ fn both(first: Edge, second: Edge) -> Edge
     if first.complement { first } else { second }
 }
 
-// The parts of both functions at the upper one of their top variables.
-fn split<G: Grow>(store: &mut G, task: Task) -> Branch
+/// The parts of the first two functions of a task, of which one at least is no constant, at the upper one of their top variables.
+pub fn split<G: Grow>(store: &mut G, task: Task) -> Branch
     requires { CanCompare (G.view store.old) task }
     ensures kept { Kept (G.view store.old) (G.view store.new) }
     ensures compared { IsCompared (G.view store.new) task result }

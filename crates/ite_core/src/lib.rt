@@ -7,4 +7,5 @@ pub mod nested;
 mod operations;
 mod triples;
 
+pub use implication::split;
 pub use operations::{and, cofactor, ite, leq, not, or, xor};

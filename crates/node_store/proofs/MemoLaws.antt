@@ -6,10 +6,10 @@ use Rattle.computed_cache.specs.declared.Key.{Key}
 use Rattle.edge_bits.specs.declared.edges.Kind.{Kind}
 use Rattle.edge_bits.specs.declared.edges.Kind.TheVariants.{Bdd, Add, Zdd}
 use Rattle.node_store.specs.Kinds.{ValueOf}
-use Rattle.node_store.specs.Numbers.{and_number, ite_number, cofactor_number, leq_number, plus_number, union_number, meet_number}
+use Rattle.node_store.specs.Numbers.{and_number, ite_number, cofactor_number, leq_number, exists_number, and_exists_number, support_number, plus_number, union_number, meet_number}
 use Rattle.node_store.specs.Views.{View, Grown}
 use Rattle.node_store.specs.ViewLaws.{Denotes-grown, Is-grown, IsVariable-grown, values_at-grown}
-use Rattle.node_store.specs.Memo.{either, PlaceHolds, IteHolds, CofactorHolds, ImplicationHolds, MemoHolds}
+use Rattle.node_store.specs.Memo.{either, PlaceHolds, IteHolds, CofactorHolds, ImplicationHolds, ExistsHolds, AndExistsHolds, SupportHolds, MemoHolds}
 
 either-map : (b : Bool) (A B C D : Type 0) → (A → C) → (B → D) → either b A B → either b C D
 either-map true A B C D f g h = f h
@@ -47,13 +47,40 @@ ImplicationHolds-grown g p = record {
   answer = rw (values_at-grown Bdd g p.f, values_at-grown Bdd g p.g) p.answer;
 }
 
+pub ExistsHolds-grown : {a b : View} {key : Key} {e : Edge} → Grown a b → ExistsHolds a key e → ExistsHolds b key e
+ExistsHolds-grown g p = record {
+  f = Is-grown Bdd g p.f;
+  cube = Is-grown Bdd g p.cube;
+  answer = Is-grown Bdd g p.answer;
+  exists = rw (values_at-grown Bdd g p.f, values_at-grown Bdd g p.cube, values_at-grown Bdd g p.answer) p.exists;
+}
+
+pub AndExistsHolds-grown : {a b : View} {key : Key} {e : Edge} → Grown a b → AndExistsHolds a key e → AndExistsHolds b key e
+AndExistsHolds-grown g p = record {
+  f = Is-grown Bdd g p.f;
+  g = Is-grown Bdd g p.g;
+  cube = Is-grown Bdd g p.cube;
+  answer = Is-grown Bdd g p.answer;
+  exists = rw (values_at-grown Bdd g p.f, values_at-grown Bdd g p.g, values_at-grown Bdd g p.cube, values_at-grown Bdd g p.answer) p.exists;
+}
+
+pub SupportHolds-grown : {a b : View} {key : Key} {e : Edge} → Grown a b → SupportHolds a key e → SupportHolds b key e
+SupportHolds-grown g p = record {
+  f = Is-grown Bdd g p.f;
+  answer = Is-grown Bdd g p.answer;
+  support = rw (values_at-grown Bdd g p.f, values_at-grown Bdd g p.answer) p.support;
+}
+
 pub MemoHolds-grown : {a b : View} → Grown a b → (key : Key) (e : Edge) → MemoHolds a key e → MemoHolds b key e
 MemoHolds-grown {a} {b} g key e =
     either-map (key.op == and_number) _ _ _ _ (PlaceHolds-grown Bdd (λ a b. a && b) g)
     (either-map (key.op == ite_number) _ _ _ _ (IteHolds-grown Bdd g)
     (either-map (key.op == cofactor_number) _ _ _ _ (CofactorHolds-grown g)
     (either-map (key.op == leq_number) _ _ _ _ (ImplicationHolds-grown g)
+    (either-map (key.op == exists_number) _ _ _ _ (ExistsHolds-grown g)
+    (either-map (key.op == and_exists_number) _ _ _ _ (AndExistsHolds-grown g)
+    (either-map (key.op == support_number) _ _ _ _ (SupportHolds-grown g)
     (either-map (key.op == plus_number) _ _ _ _ (PlaceHolds-grown Add (λ a b. a +ℤ b) g)
     (either-map (key.op == union_number) _ _ _ _ (PlaceHolds-grown Zdd (λ a b. a || b) g)
     (either-map (key.op == meet_number) _ _ _ _ (PlaceHolds-grown Zdd (λ a b. a && b) g)
-    (λ h. h)))))))
+    (λ h. h))))))))))

@@ -4,9 +4,10 @@ use Rattle.edge_bits.specs.declared.edges.Edge.{Edge}
 use Rattle.computed_cache.specs.declared.Key.{Key}
 use Rattle.edge_bits.specs.declared.edges.Kind.{Kind}
 use Rattle.edge_bits.specs.declared.edges.Kind.TheVariants.{Bdd, Add, Zdd}
-use Rattle.function_laws.specs.Values.{cofactor, if_then_else}
+use Rattle.function_laws.specs.Cubes.{IsExists, IsSupport}
+use Rattle.function_laws.specs.Values.{cofactor, conjunction, if_then_else}
 use Rattle.node_store.specs.Kinds.{ValueOf, place}
-use Rattle.node_store.specs.Numbers.{and_number, ite_number, cofactor_number, leq_number, plus_number, union_number, meet_number}
+use Rattle.node_store.specs.Numbers.{and_number, ite_number, cofactor_number, leq_number, exists_number, and_exists_number, support_number, plus_number, union_number, meet_number}
 use Rattle.node_store.specs.Views.{View, Denotes, Is, IsVariable, values_at, truth_edge}
 
 abbrev pub either : Bool → Type 0 → Type 0 → Type 0
@@ -54,13 +55,37 @@ pub record ImplicationHolds (w : View) (key : Key) (e : Edge) : Type 0 where
   pub g : Is Bdd w key.g
   pub answer : Tells (values_at Bdd w key.f) (values_at Bdd w key.g) e
 
+-- a function, and a product of variables over which it is quantified
+pub record ExistsHolds (w : View) (key : Key) (e : Edge) : Type 0 where
+  pub f : Is Bdd w key.f
+  pub cube : Is Bdd w key.g
+  pub answer : Is Bdd w e
+  pub exists : IsExists (values_at Bdd w key.g) (values_at Bdd w key.f) (values_at Bdd w e)
+
+-- two functions, and a product of variables over which their conjunction is quantified
+pub record AndExistsHolds (w : View) (key : Key) (e : Edge) : Type 0 where
+  pub f : Is Bdd w key.f
+  pub g : Is Bdd w key.g
+  pub cube : Is Bdd w key.h
+  pub answer : Is Bdd w e
+  pub exists : IsExists (values_at Bdd w key.h) (conjunction (values_at Bdd w key.f) (values_at Bdd w key.g)) (values_at Bdd w e)
+
+-- the product of the variables on which a function depends
+pub record SupportHolds (w : View) (key : Key) (e : Edge) : Type 0 where
+  pub f : Is Bdd w key.f
+  pub answer : Is Bdd w e
+  pub support : IsSupport (values_at Bdd w key.f) (values_at Bdd w e)
+
 abbrev pub MemoHolds : View → Key → Edge → Type 0
 MemoHolds w key e =
     either (key.op == and_number) (PlaceHolds Bdd (λ a b. a && b) w key e)
     (either (key.op == ite_number) (IteHolds Bdd w key e)
     (either (key.op == cofactor_number) (CofactorHolds w key e)
     (either (key.op == leq_number) (ImplicationHolds w key e)
+    (either (key.op == exists_number) (ExistsHolds w key e)
+    (either (key.op == and_exists_number) (AndExistsHolds w key e)
+    (either (key.op == support_number) (SupportHolds w key e)
     (either (key.op == plus_number) (PlaceHolds Add (λ a b. a +ℤ b) w key e)
     (either (key.op == union_number) (PlaceHolds Zdd (λ a b. a || b) w key e)
     (either (key.op == meet_number) (PlaceHolds Zdd (λ a b. a && b) w key e)
-    ⊥))))))
+    ⊥)))))))))

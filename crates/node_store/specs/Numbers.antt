@@ -13,6 +13,15 @@ cofactor_number = 3
 abbrev pub leq_number : ℕ
 leq_number = 4
 
+abbrev pub exists_number : ℕ
+exists_number = 5
+
+abbrev pub and_exists_number : ℕ
+and_exists_number = 6
+
+abbrev pub support_number : ℕ
+support_number = 7
+
 abbrev pub plus_number : ℕ
 plus_number = 20
 

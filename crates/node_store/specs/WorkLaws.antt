@@ -15,6 +15,11 @@ IsPart-grown k g f _ whole = whole
 IsPart-grown k g f _ (cut h v b vn above p) =
     cut h v b (IsVariable-grown k g v vn) (λ u un lt. above u (IsVariable-back k g u un) (rw (sym (level-grown g u), sym (level-grown g v)) lt)) (IsPart-grown k g f h p)
 
+pub IsPart-back : (k : Kind) {a b : View} → Grown a b → (f g : ℕ → ValueOf k) → IsPart k b f g → IsPart k a f g
+IsPart-back k g f _ whole = whole
+IsPart-back k g f _ (cut h v b vn above p) =
+    cut h v b (IsVariable-back k g v vn) (λ u un lt. above u (IsVariable-grown k g u un) (rw (level-grown g u, level-grown g v) lt)) (IsPart-back k g f h p)
+
 pub IsWork-grown : {a b : View} → Grown a b → (P Q : Function → Type 0) → ((f : Function) → P f → Q f) → (o : Option Function) → IsWork a P o → IsWork b Q o
 IsWork-grown g P Q more o i = record {
   kind = i.kind;

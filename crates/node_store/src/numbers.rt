@@ -8,6 +8,12 @@ pub const COFACTOR: u8 = 3;
 
 pub const LEQ: u8 = 4;
 
+pub const EXISTS: u8 = 5;
+
+pub const AND_EXISTS: u8 = 6;
+
+pub const SUPPORT: u8 = 7;
+
 pub const PLUS: u8 = 20;
 
 pub const UNION: u8 = 40;

@@ -48,6 +48,11 @@ impl Stack {
         }
     }
 
+    /// Where it takes its memory.
+    pub fn allocator(&self) -> Global {
+        *self.frames.allocator()
+    }
+
     /// How many frames wait.
     pub fn len(&self) -> usize
         ensures { result ≡ length self.now.frames }
@@ -104,7 +109,7 @@ impl Stack {
         ensures free { self.new.free ≡ self.old.free }
         ensures err { OnErr result (self.new ≡ self.old) }
     {
-        let alloc = *self.frames.allocator();
+        let alloc = self.allocator();
         self.answers = vec![in alloc; None; places]?;
         Ok(())
     }

@@ -1,0 +1,4 @@
+pub mod CubeEdges
+pub mod ProductLaws
+pub mod QuantifiedLaws
+pub mod OperationLaws

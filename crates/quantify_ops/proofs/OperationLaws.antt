@@ -1,0 +1,184 @@
+-- The values of the quantifiers, and what they store, by the list of variables.
+use Rattle.std.proofs.Common.{◌≡◌, ℕ, ◌<◌, Bool, true, false, not, List, [], ◌∷◌, Option, Some, ◌⊎◌, inl, inr, Result, Ok, Err, IfOk, get_or, refl, sym, ap, ◌∙◌, subst, arith}
+use Rattle.std.specs.List.{All}
+use Rattle.edge_bits.specs.declared.edges.Edge.{Edge}
+use Rattle.edge_bits.specs.declared.edges.Kind.{Kind}
+use Rattle.edge_bits.specs.declared.edges.Kind.TheVariants.{Bdd, Add, Zdd}
+use Rattle.function_laws.specs.Cubes.{cube_of, IsCube, IsExists}
+use Rattle.function_laws.specs.Values.{cofactor, conjunction, constant, exists_all, forall_all, negation}
+use Rattle.function_laws.proofs.CubeLemmas.{IsCube-of, IsExists-all, IsExists-same}
+use Rattle.function_laws.proofs.ExistsLemmas.{forall_all-negation}
+use Rattle.node_store.specs.Edges.{flip_if}
+use Rattle.node_store.specs.Kinds.{Function, BddFunction, ValueOf, function_of, values_of, opposite}
+use Rattle.node_store.specs.Views.{View, AreTwo, Denotes, Grown, Is, IsVariable, Permanent, bdd_at, truth_edge}
+use Rattle.node_store.specs.ViewLaws.{Grown-refl, Denotes-flip, Denotes-grown, Denotes-truth, Is-from, IsVariable-grown, values_at-is, values_at-grown}
+use Rattle.node_store.specs.Work.{whole, cut, IsPart, IsWork, Adds, Moves}
+use Rattle.node_store.specs.WorkLaws.{IsPart-back, IsPart-not, IsWork-grown}
+use Rattle.node_store.specs.declared.grow.Stop.{Stop}
+use Rattle.node_store.specs.declared.operator.Task.{Task}
+use Rattle.node_store.proofs.ComplementWork.{negation-negation, IsWork-negation}
+use Rattle.ite_core.proofs.Complements.{flipped-is}
+use Rattle.quantify_ops.specs.Products.{IsProduct}
+use Rattle.quantify_ops.specs.Quantified.{both_at, HasCube, AreQuantified, IsQuantifiedValue, QuantifiedDue, QuantifiedAnswers}
+use Rattle.quantify_ops.specs.Works.{value_of_and_exists, value_of_exists, value_of_forall, work_of_and_exists, work_of_exists, work_of_forall}
+
+-- the call's own task
+HasCube-product : (w : View) (c : Edge) (vars : List ℕ) → IsProduct w c vars → HasCube w c
+HasCube-product w c vars d = record { edge = Is-from Bdd d; cube = subst IsCube (sym (values_at-is Bdd d)) (IsCube-of vars) }
+
+pub root_quantified : (w : View) (f g c : Edge) (vars : List ℕ) → AreTwo Bdd w f g → IsProduct w c vars → AreQuantified w f g c
+root_quantified w f g c vars two d = record { two = two; cube = HasCube-product w c vars d }
+
+pub root_due : (w : View) (f g c : Edge) (vars : List ℕ) → Permanent w → AreTwo Bdd w f g → IsProduct w c vars → QuantifiedDue f g c w (record { f = f; g = g; h = c })
+root_due w f g c vars p two d = record {
+  permanent = p;
+  roots = root_quantified w f g c vars two d;
+  operands = root_quantified w f g c vars two d;
+  part_f = whole;
+  part_g = whole;
+  level = 0;
+  free_f = λ u un lt. absurd (omega arith);
+  free_g = λ u un lt. absurd (omega arith);
+  left = λ a h free e. e;
+}
+
+-- its answer
+pub root_answer : (v w : View) (f g c : Edge) (vars : List ℕ) (e : Edge) → Grown v w → AreTwo Bdd v f g → IsProduct v c vars → QuantifiedAnswers w (record { f = f; g = g; h = c }) e
+    → Denotes Bdd w e (exists_all (both_at v f g) vars)
+root_answer v w f g c vars e m two d a =
+    let is = rw (values_at-is Bdd (Denotes-grown Bdd m d), values_at-grown Bdd m two.first, values_at-grown Bdd m two.second) at a.exists in
+    subst (λ h. Denotes Bdd w e h) (IsExists-same (cube_of vars) (both_at v f g) (bdd_at w e) (exists_all (both_at v f g) vars) is (IsExists-all (both_at v f g) vars)) a.answer
+
+-- what it stores
+value_back : (v w : View) (f g c : Edge) (vars : List ℕ) → Grown v w → AreTwo Bdd v f g → IsProduct v c vars → (F : Function) → IsQuantifiedValue f g c w F → value_of_and_exists f g vars v F
+value_back v w f g c vars m two d F i =
+    let part_f = rw (values_at-grown Bdd m two.first) at i.part_f in
+    let part_g = rw (values_at-grown Bdd m two.second) at i.part_g in
+    let is = rw (values_at-is Bdd (Denotes-grown Bdd m d)) at i.exists in (
+      i.a,
+      i.b,
+      (
+        IsPart-back Bdd m (bdd_at v f) i.a part_f,
+        IsPart-back Bdd m (bdd_at v g) i.b part_g,
+        i.is ∙ ap BddFunction (IsExists-same (cube_of vars) (conjunction i.a i.b) i.h (exists_all (conjunction i.a i.b) vars) is (IsExists-all (conjunction i.a i.b) vars)),
+      ),
+    )
+
+pub root_due_start : (v w : View) (f g c : Edge) (vars : List ℕ) → Grown v w → AreTwo Bdd v f g → IsProduct v c vars → (o : Option Function)
+    → IsWork w (IsQuantifiedValue f g c w) o → IsWork w (value_of_and_exists f g vars v) o
+root_due_start v w f g c vars m two d o i = IsWork-grown (Grown-refl w) (IsQuantifiedValue f g c w) (value_of_and_exists f g vars v) (value_back v w f g c vars m two d) o i
+
+pub root_adds : (v w : View) (f g c : Edge) (vars : List ℕ) → AreTwo Bdd v f g → IsProduct v c vars → Moves (λ w. AreQuantified w f g c) (IsQuantifiedValue f g c) v w
+    → Adds (value_of_and_exists f g vars v) v w
+root_adds v w f g c vars two d m s here =
+    elim (m.work (root_quantified v f g c vars two d) s here) [ inl old ↦ inl old | inr i ↦ inr (root_due_start v w f g c vars m.grown two d (w.content s) i) ]
+
+pub Adds-more : (P Q : Function → Type 0) → ((F : Function) → P F → Q F) → (v w : View) → Adds P v w → Adds Q v w
+Adds-more P Q more v w adds s here = elim (adds s here) [ inl old ↦ inl old | inr i ↦ inr (IsWork-grown (Grown-refl w) P Q more (w.content s) i) ]
+
+-- a conjunction with true
+constant_part : (w : View) (a : ℕ → Bool) → IsPart Bdd w (constant true) a → a ≡ constant true
+constant_part w _ whole = refl
+constant_part w _ (cut g v b vn above p) = ap (λ h. cofactor h v b) (constant_part w g p)
+
+true_is : (w : View) → Permanent w → (one : Edge) → one ≡ truth_edge true → bdd_at w one ≡ constant true
+true_is w p one same = rw same (values_at-is Bdd (Denotes-truth w p true))
+
+pub with_true : (w : View) → Permanent w → (one f : Edge) → one ≡ truth_edge true → Is Bdd w f → AreTwo Bdd w one f
+with_true w p one f same d = record { first = rw same (Is-from Bdd (Denotes-truth w p true)); second = d }
+
+pub true_and : (w : View) → Permanent w → (one f : Edge) → one ≡ truth_edge true → (vars : List ℕ) → exists_all (both_at w one f) vars ≡ exists_all (bdd_at w f) vars
+true_and w p one f same vars = ap (λ h. exists_all (conjunction h (bdd_at w f)) vars) (true_is w p one same)
+
+pub true_value : (w : View) → Permanent w → (one f : Edge) → one ≡ truth_edge true → (vars : List ℕ) (F : Function) → value_of_and_exists one f vars w F → value_of_exists f vars w F
+true_value w p one f same vars F (a, b, (part_one, part_f, is)) =
+    let part = subst (λ h. IsPart Bdd w h a) (true_is w p one same) part_one in
+    (b, (part_f, is ∙ ap (λ h. BddFunction (exists_all (conjunction h b) vars)) (constant_part w a part)))
+
+pub true_work : (w : View) → Permanent w → (one f : Edge) → one ≡ truth_edge true → (vars : List ℕ) (F : Function) → work_of_and_exists one f vars w F → work_of_exists f vars w F
+true_work w p one f same vars F (inl v) = inl (true_value w p one f same vars F v)
+true_work w p one f same vars F (inr is) = inr is
+
+-- by complements
+not_exists_not : (f : ℕ → Bool) (vars : List ℕ) → negation (exists_all f vars) ≡ forall_all (negation f) vars
+not_exists_not f vars = ap (λ h. negation (exists_all h vars)) (negation-negation f) ∙ forall_all-negation (negation f) vars
+
+pub not_answer : (v w : View) (f n e e2 : Edge) (vars : List ℕ) → n ≡ flip_if true f → e2 ≡ flip_if true e → Is Bdd v f → Denotes Bdd w e (exists_all (bdd_at v n) vars)
+    → Denotes Bdd w e2 (forall_all (bdd_at v f) vars)
+not_answer v w f n e e2 vars same se d is = rw se (subst (λ h. Denotes Bdd w (flip_if true e) h)
+    (ap (λ h. negation (exists_all h vars)) (flipped-is v f n same d) ∙ forall_all-negation (bdd_at v f) vars) (Denotes-flip is))
+
+not_part : (v : View) (f n : Edge) (a : ℕ → Bool) → n ≡ flip_if true f → Is Bdd v f → IsPart Bdd v (bdd_at v n) a → IsPart Bdd v (bdd_at v f) (negation a)
+not_part v f n a same d part =
+    subst (λ h. IsPart Bdd v h (negation a)) (ap negation (flipped-is v f n same d) ∙ sym (negation-negation (bdd_at v f))) (IsPart-not v (bdd_at v n) a part)
+
+module _ (v w : View) (f n : Edge) (vars : List ℕ) (same : n ≡ flip_if true f) (d : Is Bdd v f) where
+  not_value : (root : ℕ → Bool) → value_of_exists n vars v (BddFunction root) → (F : Function) → F ≡ BddFunction (negation root) → value_of_forall f vars v F
+  not_value root (a, (part, is)) F is_not = (
+    negation a,
+    (
+      not_part v f n a same d part,
+      is_not ∙ ap (λ G. BddFunction (negation (values_of Bdd (Some G)))) is ∙ ap BddFunction (not_exists_not a vars),
+    ),
+  )
+
+  pub not_due : (o : Option Function) → IsWork w (value_of_exists n vars v) o → IsWork w (value_of_forall f vars v) o
+  not_due o i = by_kind i.kind i.root i.part i.asked i.is_part i.is
+    where
+      by_kind : (k : Kind) (root p : ℕ → ValueOf k) → value_of_exists n vars v (function_of k root) → IsPart k w root p
+          → (o ≡ Some (function_of k p)) ⊎ (o ≡ Some (opposite (function_of k p))) → IsWork w (value_of_forall f vars v) o
+      by_kind Bdd root p asked q is =
+          let one : IsWork w (λ F. F ≡ BddFunction root) o = record { kind = Bdd; root = root; part = p; asked = refl; is_part = q; is = is } in
+          IsWork-grown (Grown-refl w) (λ F. F ≡ BddFunction (negation root)) (value_of_forall f vars v) (not_value root asked) o (IsWork-negation w root o one)
+      by_kind Add root p (a, (part, other)) q is = cc
+      by_kind Zdd root p (a, (part, other)) q is = cc
+
+  pub not_adds : Adds (value_of_exists n vars v) v w → Adds (value_of_forall f vars v) v w
+  not_adds adds s here = elim (adds s here) [ inl old ↦ inl old | inr i ↦ inr (not_due (w.content s) i) ]
+
+  -- with the product
+  pub not_work : (o : Option Function) → IsWork w (work_of_exists n vars v) o → IsWork w (work_of_forall f vars v) o
+  not_work o i = by_work i.asked
+    where
+      by_work : work_of_exists n vars v (function_of i.kind i.root) → IsWork w (work_of_forall f vars v) o
+      by_work (inl value) = IsWork-grown (Grown-refl w) (value_of_forall f vars v) (work_of_forall f vars v) (λ F is. inl is) o
+          (not_due o (record { kind = i.kind; root = i.root; part = i.part; asked = value; is_part = i.is_part; is = i.is }))
+      by_work (inr is) = record { kind = i.kind; root = i.root; part = i.part; asked = inr is; is_part = i.is_part; is = i.is }
+
+  pub not_work_adds : Adds (work_of_exists n vars v) v w → Adds (work_of_forall f vars v) v w
+  not_work_adds adds s here = elim (adds s here) [ inl old ↦ inl old | inr i ↦ inr (not_work (w.content s) i) ]
+
+-- from a later view
+pub work_back : (v w : View) (f g : Edge) (vars : List ℕ) → Grown v w → AreTwo Bdd v f g → (F : Function) → value_of_and_exists f g vars w F → value_of_and_exists f g vars v F
+work_back v w f g vars m two F (a, b, (part_f, part_g, is)) = (
+  a,
+  b,
+  (
+    IsPart-back Bdd m (bdd_at v f) a (subst (λ h. IsPart Bdd w h a) (values_at-grown Bdd m two.first) part_f),
+    IsPart-back Bdd m (bdd_at v g) b (subst (λ h. IsPart Bdd w h b) (values_at-grown Bdd m two.second) part_g),
+    is,
+  ),
+)
+
+pub work_of_and_exists-back : (v w : View) (f g : Edge) (vars : List ℕ) → Grown v w → AreTwo Bdd v f g → (F : Function) → work_of_and_exists f g vars w F → work_of_and_exists f g vars v F
+work_of_and_exists-back v w f g vars m two F (inl value) = inl (work_back v w f g vars m two F value)
+work_of_and_exists-back v w f g vars m two F (inr is) = inr is
+
+pub work_of_exists-back : (v w : View) (f : Edge) (vars : List ℕ) → Grown v w → Is Bdd v f → (F : Function) → work_of_exists f vars w F → work_of_exists f vars v F
+work_of_exists-back v w f vars m d F (inl (a, (part, is))) =
+    inl (a, (IsPart-back Bdd m (bdd_at v f) a (subst (λ h. IsPart Bdd w h a) (values_at-grown Bdd m d) part), is))
+work_of_exists-back v w f vars m d F (inr is) = inr is
+
+pub both_back : (v w : View) (f g : Edge) (vars : List ℕ) → Grown v w → AreTwo Bdd v f g → exists_all (both_at w f g) vars ≡ exists_all (both_at v f g) vars
+both_back v w f g vars m two = rw (values_at-grown Bdd m two.first, values_at-grown Bdd m two.second) refl
+
+pub one_back : (v w : View) (f : Edge) (vars : List ℕ) → Grown v w → Is Bdd v f → exists_all (bdd_at w f) vars ≡ exists_all (bdd_at v f) vars
+one_back v w f vars m d = ap (λ h. exists_all h vars) (values_at-grown Bdd m d)
+
+pub in_range_lasts : (v w : View) (vars : List ℕ) → Grown v w → All (IsVariable Bdd v) vars → All (IsVariable Bdd w) vars
+in_range_lasts v w vars m h k d below = IsVariable-grown Bdd m (get_or vars k d) (h k d below)
+
+-- an answer lasts to the end, and is that of the operands at the start
+pub lasts : (f h : ℕ → Bool) (c d : View) → Grown c d → f ≡ h → (r : Result Edge Stop) → IfOk r (λ e. Denotes Bdd c e f) → IfOk r (λ e. Denotes Bdd d e h)
+lasts f h c d m same (Ok e) is = subst (λ x. Denotes Bdd d e x) same (Denotes-grown Bdd m is)
+lasts f h c d m same (Err e) is = is

@@ -1,0 +1,4 @@
+pub mod Products
+pub mod Works
+pub mod Quantified
+pub mod QuantifiedLasts

@@ -1,0 +1,116 @@
+ghost use Rattle.std.specs.Prelude.{◌≡◌, ◌*◌, ◌≤◌, IfOk, IsErrOf};
+ghost use Rattle.std.specs.List.{All};
+ghost use Rattle.edge_bits.specs.declared.edges.Kind.TheVariants.{Bdd};
+ghost use Rattle.function_laws.specs.Values.{conjunction, exists_all, forall_all};
+ghost use Rattle.node_store.specs.Views.{AreTwo, Denotes, Grown, Is, IsVariable, Permanent, Rose, bdd_at};
+ghost use Rattle.node_store.specs.Work.{Adds, IsWork};
+ghost use Rattle.quantify_ops.specs.Works.{work_of_and_exists, work_of_exists, work_of_forall};
+
+use crate::nested;
+use crate::products::product;
+use edge_bits::{Edge, Kind};
+use node_store::binary::flip_if;
+use node_store::{Grow, Stack, Stop};
+
+/// The disjunction of both cofactors of a function by each variable of a list, which may have one twice. What it stores are parts, by the first variables of the order and up to complement, of the variables' product and of that value for any such parts of the function.
+pub fn exists<G: Grow>(store: &mut G, f: Edge, vars: &[u32]) -> Result<Edge, Stop>
+    requires operand { Is Bdd (G.view store.old) f }
+    requires in_range { All (IsVariable Bdd (G.view store.old)) vars.now }
+    ensures grown { Grown (G.view store.old) (G.view store.new) }
+    ensures exists { IfOk result (λ e. Denotes Bdd (G.view store.new) e (exists_all (bdd_at (G.view store.old) f) vars.now)) }
+    ensures work { Adds (work_of_exists f vars.now (G.view store.old)) (G.view store.old) (G.view store.new) }
+    ensures full { IsErrOf result Stop.Full → Rose (G.view store.old) (G.view store.new) }
+    ensures due { IsErrOf result Stop.Full → IsWork (G.view store.new) (work_of_exists f vars.now (G.view store.old)) (G.view store.new).due }
+{
+    let mut stack = store.take_scratch();
+    let levels = store.levels(Kind::Bdd);
+    let one = Edge::new(0, false);
+    let outcome = with_room(store, &mut stack, levels, one, f, vars);
+    store.give_scratch(stack);
+    outcome
+}
+
+/// The conjunction of both cofactors of a function by each variable of a list, which may have one twice. What it stores are parts, by the first variables of the order and up to complement, of the variables' product and of that value for any such parts of the function.
+pub fn forall<G: Grow>(store: &mut G, f: Edge, vars: &[u32]) -> Result<Edge, Stop>
+    requires operand { Is Bdd (G.view store.old) f }
+    requires in_range { All (IsVariable Bdd (G.view store.old)) vars.now }
+    ensures grown { Grown (G.view store.old) (G.view store.new) }
+    ensures forall { IfOk result (λ e. Denotes Bdd (G.view store.new) e (forall_all (bdd_at (G.view store.old) f) vars.now)) }
+    ensures work { Adds (work_of_forall f vars.now (G.view store.old)) (G.view store.old) (G.view store.new) }
+    ensures full { IsErrOf result Stop.Full → Rose (G.view store.old) (G.view store.new) }
+    ensures due { IsErrOf result Stop.Full → IsWork (G.view store.new) (work_of_forall f vars.now (G.view store.old)) (G.view store.new).due }
+{
+    let not_f = flip_if(f, true);
+    match exists(store, not_f, vars) {
+        Ok(edge) => Ok(flip_if(edge, true)),
+        Err(stop) => Err(stop),
+    }
+}
+
+/// `exists` of the conjunction of two functions, which is not made: their relational product (Burch, Clarke, McMillan, Dill and Hwang 1990). What it stores are parts, by the first variables of the order and up to complement, of the variables' product and of that value for any such parts of the two functions.
+pub fn and_exists<G: Grow>(store: &mut G, f: Edge, g: Edge, vars: &[u32]) -> Result<Edge, Stop>
+    requires operands { AreTwo Bdd (G.view store.old) f g }
+    requires in_range { All (IsVariable Bdd (G.view store.old)) vars.now }
+    ensures grown { Grown (G.view store.old) (G.view store.new) }
+    ensures and_exists { IfOk result (λ e. Denotes Bdd (G.view store.new) e (exists_all (conjunction (bdd_at (G.view store.old) f) (bdd_at (G.view store.old) g)) vars.now)) }
+    ensures work { Adds (work_of_and_exists f g vars.now (G.view store.old)) (G.view store.old) (G.view store.new) }
+    ensures full { IsErrOf result Stop.Full → Rose (G.view store.old) (G.view store.new) }
+    ensures due { IsErrOf result Stop.Full → IsWork (G.view store.new) (work_of_and_exists f g vars.now (G.view store.old)) (G.view store.new).due }
+{
+    let mut stack = store.take_scratch();
+    let levels = store.levels(Kind::Bdd);
+    let outcome = with_room(store, &mut stack, levels, f, g, vars);
+    store.give_scratch(stack);
+    outcome
+}
+
+// Makes room for twice as many frames as there are levels, and runs.
+fn with_room<G: Grow>(
+    store: &mut G,
+    stack: &mut Stack,
+    levels: u32,
+    f: Edge,
+    g: Edge,
+    vars: &[u32],
+) -> Result<Edge, Stop>
+    requires operands { AreTwo Bdd (G.view store.old) f g }
+    requires in_range { All (IsVariable Bdd (G.view store.old)) vars.now }
+    requires permanent { Permanent (G.view store.old) }
+    requires levels { levels ≡ (G.view store.old).vars }
+    ensures grown { Grown (G.view store.old) (G.view store.new) }
+    ensures and_exists { IfOk result (λ e. Denotes Bdd (G.view store.new) e (exists_all (conjunction (bdd_at (G.view store.old) f) (bdd_at (G.view store.old) g)) vars.now)) }
+    ensures work { Adds (work_of_and_exists f g vars.now (G.view store.old)) (G.view store.old) (G.view store.new) }
+    ensures full { IsErrOf result Stop.Full → Rose (G.view store.old) (G.view store.new) }
+    ensures due { IsErrOf result Stop.Full → IsWork (G.view store.new) (work_of_and_exists f g vars.now (G.view store.old)) (G.view store.new).due }
+    ensures frames { stack.new.frames ≡ stack.old.frames }
+{
+    match stack.reserve(2 * levels as usize) {
+        Ok(()) => over_product(store, stack, f, g, vars),
+        Err(_) => Err(Stop::Memory),
+    }
+}
+
+// Makes the product of the variables first.
+fn over_product<G: Grow>(
+    store: &mut G,
+    stack: &mut Stack,
+    f: Edge,
+    g: Edge,
+    vars: &[u32],
+) -> Result<Edge, Stop>
+    requires operands { AreTwo Bdd (G.view store.old) f g }
+    requires in_range { All (IsVariable Bdd (G.view store.old)) vars.now }
+    requires permanent { Permanent (G.view store.old) }
+    requires room { 2 * (G.view store.old).vars ≤ stack.old.free }
+    ensures grown { Grown (G.view store.old) (G.view store.new) }
+    ensures and_exists { IfOk result (λ e. Denotes Bdd (G.view store.new) e (exists_all (conjunction (bdd_at (G.view store.old) f) (bdd_at (G.view store.old) g)) vars.now)) }
+    ensures work { Adds (work_of_and_exists f g vars.now (G.view store.old)) (G.view store.old) (G.view store.new) }
+    ensures full { IsErrOf result Stop.Full → Rose (G.view store.old) (G.view store.new) }
+    ensures due { IsErrOf result Stop.Full → IsWork (G.view store.new) (work_of_and_exists f g vars.now (G.view store.old)) (G.view store.new).due }
+    ensures frames { stack.new.frames ≡ stack.old.frames }
+{
+    match product(store, stack, vars) {
+        Ok(cube) => nested::and_exists(store, stack, f, g, cube),
+        Err(stop) => Err(stop),
+    }
+}

@@ -1,0 +1,255 @@
+//! The conjunction of two functions, quantified over the variables of a product: the relational product (Burch, Clarke, McMillan, Dill and Hwang 1990).
+
+ghost use Rattle.std.specs.Prelude.{◌≡◌, ◌≤◌, IfOk, IsErrOf, true};
+ghost use Rattle.edge_bits.specs.declared.edges.Kind.TheVariants.{Bdd};
+ghost use Rattle.node_store.specs.Views.{View, AreTwo, Kept, NotBothLeaves, Permanent, Rose};
+ghost use Rattle.node_store.specs.Splits.{CanJoin};
+ghost use Rattle.node_store.specs.Work.{IsWork, Moves};
+ghost use Rattle.quantify_ops.specs.Quantified.{AreQuantified, IsKeyOf, IsKnown, IsNarrowed, IsQuantifiedValue, QuantifiedAnswers, QuantifiedDue, QuantifiedFirst, QuantifiedSplits};
+
+use crate::cubes::{below, below_variable, rest_of};
+use edge_bits::Edge;
+use ite_core::nested::{and, or};
+use ite_core::split;
+use node_store::binary::Branch;
+use node_store::operator::{Frame, Halt, Next, Operator, Task, Wait};
+use node_store::{Grow, Key, Stack, Stop, numbers};
+
+/// A quantified conjunction, as the evaluator runs it: each task is two functions and what is left of the product.
+#[derive(Drop)]
+pub(crate) struct Quantification {
+    pub f: Edge,
+    pub g: Edge,
+    pub cube: Edge,
+}
+
+impl<G: Grow> Operator<G> for Quantification {
+    ghost use Rattle.std.specs.Prelude.{refl};
+    ghost use Rattle.edge_bits.specs.declared.edges.Kind.TheVariants.{Bdd};
+    ghost use Rattle.node_store.specs.BinaryLaws.{BinaryMoves, BinaryMoves-none, BinaryMoves-both};
+    ghost use Rattle.node_store.specs.Two.{two_depth};
+    ghost use Rattle.node_store.specs.TwoLaws.{two_depth-stays};
+    ghost use Rattle.node_store.specs.Work.{IsWork};
+    ghost use Rattle.quantify_ops.specs.Quantified.{AreQuantified, IsQuantifiedValue, QuantifiedDue, QuantifiedAnswers, QuantifiedWaits};
+    ghost use Rattle.quantify_ops.specs.QuantifiedLasts.{AreQuantified-grown, IsQuantifiedValue-stays, QuantifiedDue-stays, QuantifiedAnswers-stay, QuantifiedWaits-stay};
+
+    ghost moves = { λ o. BinaryMoves (λ w. AreQuantified w o.f o.g o.cube) (IsQuantifiedValue o.f o.g o.cube) };
+
+    ghost due = { λ o w. QuantifiedDue o.f o.g o.cube w.view };
+
+    ghost answers = { λ _ w. QuantifiedAnswers w.view };
+
+    ghost overflows = { λ _ _ _. ⊥ };
+
+    ghost waits = { λ o w. QuantifiedWaits o.f o.g o.cube w.view };
+
+    ghost refused = { λ o w. IsWork w.view (IsQuantifiedValue o.f o.g o.cube w.view) w.view.due };
+
+    ghost depth = { λ _ w. two_depth Bdd w.view };
+
+    ghost extra = { λ _ w. w.view.vars };
+
+    fn start(&self, store: &mut G, stack: &mut Stack, task: Task) -> Result<Next, Halt> {
+        if let Some(value) = known(task.f, task.g) {
+            return Ok(Next::Done(Edge::new(0, !value)));
+        }
+        let branch = self.narrow(store, task);
+        if branch.task.h.index == 0 {
+            // Nothing is left to quantify.
+            return Ok(Next::Done(and(store, stack, task.f, task.g)?));
+        }
+        if let Some(edge) = store.memo_get(&key_of(branch.task)) {
+            return Ok(Next::Done(edge));
+        }
+        let frame = Frame {
+            task: branch.task,
+            var: branch.var,
+            flip: false,
+            wait: Wait::First(branch.lo),
+        };
+        Ok(Next::Call(frame, branch.hi))
+    }
+
+    fn resume(
+        &self,
+        store: &mut G,
+        stack: &mut Stack,
+        frame: Frame,
+        answer: Edge,
+    ) -> Result<Next, Halt> {
+        match frame.wait {
+            Wait::First(later) => {
+                if self.settles(store, frame.task, frame.var, answer) {
+                    self.keep(store, frame.task, answer);
+                    return Ok(Next::Done(answer));
+                }
+                let frame = Frame {
+                    wait: Wait::Second(answer),
+                    ..frame
+                };
+                Ok(Next::Call(frame, later))
+            }
+            Wait::Second(hi) => {
+                let edge = self.join(store, stack, frame.task, frame.var, hi, answer)?;
+                self.keep(store, frame.task, edge);
+                Ok(Next::Done(edge))
+            }
+            _ => unreachable!(),
+        }
+    }
+
+    ghost moves_none = { λ o. BinaryMoves-none (λ w. AreQuantified w o.f o.g o.cube) (IsQuantifiedValue o.f o.g o.cube) };
+
+    ghost moves_both = { λ o. BinaryMoves-both (λ w. AreQuantified w o.f o.g o.cube) (IsQuantifiedValue o.f o.g o.cube) (λ v w m d. AreQuantified-grown m d) (IsQuantifiedValue-stays o.f o.g o.cube) };
+
+    ghost moves_fulls = { λ o v w m. m.moves.grown.fulls };
+
+    ghost moves_wants = { λ o v w m. m.moves.grown.wants };
+
+    ghost due_stays = { λ o v w t m. QuantifiedDue-stays o.f o.g o.cube v.view w.view t m.moves.grown };
+
+    ghost answers_stay = { λ o v w t e m d. QuantifiedAnswers-stay v.view w.view t e m.moves.grown d.operands };
+
+    ghost waits_stay = { λ o v w t f u m d. QuantifiedWaits-stay o.f o.g o.cube v.view w.view t f u m.moves.grown d };
+
+    ghost depth_stays = { λ o v w t m d. two_depth-stays Bdd v.view w.view t m.moves.grown d.operands.two };
+
+    ghost overflow_rises = { λ o w t f u d waits bad. bad };
+
+    ghost extra_stays = { λ o v w m. m.moves.grown.vars };
+}
+
+impl Quantification {
+    // The task with what is left of its product below its top variable, and its parts.
+    fn narrow<G: Grow>(&self, store: &mut G, task: Task) -> Branch
+        requires due { QuantifiedDue self.now.f self.now.g self.now.cube (G.view store.old) task }
+        requires inner { NotBothLeaves Bdd (G.view store.old) task.f task.g }
+        ensures kept { Kept (G.view store.old) (G.view store.new) }
+        ensures narrowed { IsNarrowed self.now.f self.now.g self.now.cube (G.view store.new) task result }
+    {
+        let Branch { var, hi, lo, .. } = split(store, task);
+        let level = store.level(var);
+        let cube = below(store, task.h, level);
+        let rest = below_variable(store, cube, var);
+        Branch {
+            task: Task { h: cube, ..task },
+            flip: false,
+            var,
+            hi: Task { h: rest, ..hi },
+            lo: Task { h: rest, ..lo },
+        }
+    }
+
+    // Whether the answer of the first part is that of the task: it is true, and the variable is quantified.
+    fn settles<G: Grow>(&self, store: &mut G, task: Task, var: u32, first: Edge) -> bool
+        requires { QuantifiedFirst self.now.f self.now.g self.now.cube (G.view store.old) task var first }
+        ensures kept { Kept (G.view store.old) (G.view store.new) }
+        ensures answer { result ≡ true → QuantifiedAnswers (G.view store.new) task first }
+    {
+        if first.index != 0 {
+            return false;
+        }
+        if first.complement {
+            return false;
+        }
+        match rest_of(store, task.h, var) {
+            Some(_) => true,
+            None => false,
+        }
+    }
+
+    // The answer of a task from those of its parts: their disjunction where the variable is quantified, else a node.
+    fn join<G: Grow>(
+        &self,
+        store: &mut G,
+        stack: &mut Stack,
+        task: Task,
+        var: u32,
+        hi: Edge,
+        lo: Edge,
+    ) -> Result<Edge, Stop>
+        requires parts { CanJoin (QuantifiedDue self.now.f self.now.g self.now.cube) QuantifiedAnswers QuantifiedSplits (G.view store.old) task var hi lo }
+        requires room { (G.view store.old).vars ≤ stack.old.free }
+        ensures moved { Moves (λ w. AreQuantified w self.now.f self.now.g self.now.cube) (IsQuantifiedValue self.now.f self.now.g self.now.cube) (G.view store.old) (G.view store.new) }
+        ensures answer { IfOk result (QuantifiedAnswers (G.view store.new) task) }
+        ensures memory { IsErrOf result Stop.Memory → (G.view store.old).may_want_memory ≡ true }
+        ensures due { IsErrOf result Stop.Full → IsWork (G.view store.new) (IsQuantifiedValue self.now.f self.now.g self.now.cube (G.view store.new)) (G.view store.new).due }
+        ensures full { IsErrOf result Stop.Full → Rose (G.view store.old) (G.view store.new) }
+        ensures frames { stack.new.frames ≡ stack.old.frames }
+        ensures free { stack.new.free ≡ stack.old.free }
+        ensures known { stack.new.answers ≡ stack.old.answers }
+    {
+        match rest_of(store, task.h, var) {
+            Some(_) => or(store, stack, hi, lo),
+            None => store.make(var, hi, lo),
+        }
+    }
+
+    // Keeps the answer of a task.
+    fn keep<G: Grow>(&self, store: &mut G, task: Task, answer: Edge)
+        requires due { QuantifiedDue self.now.f self.now.g self.now.cube (G.view store.old) task }
+        requires answer { QuantifiedAnswers (G.view store.old) task answer }
+        ensures { Kept (G.view store.old) (G.view store.new) }
+    {
+        store.memo_put(key_of(task), answer);
+    }
+}
+
+// The constant that the conjunction of two functions is known to be.
+fn known(f: Edge, g: Edge) -> Option<bool>
+    ensures { (w : View) → Permanent w → AreTwo Bdd w f g → IsKnown w f g result }
+{
+    if f.index == g.index {
+        if f.complement != g.complement {
+            return Some(false);
+        }
+        return if f.index == 0 {
+            Some(!f.complement)
+        } else {
+            None
+        };
+    }
+    if f.index == 0 {
+        return if f.complement { Some(false) } else { None };
+    }
+    if g.index == 0 {
+        return if g.complement { Some(false) } else { None };
+    }
+    None
+}
+
+// A conjunction of a function with true, or with itself, stands under the key of that function.
+fn key_of(task: Task) -> Key
+    ensures { (w : View) → Permanent w → AreQuantified w task.f task.g task.h → IsKeyOf w task result }
+{
+    let one = Edge::new(0, false);
+    if task.f == task.g {
+        return exists_key(task.f, task.h);
+    }
+    if task.f == one {
+        return exists_key(task.g, task.h);
+    }
+    if task.g == one {
+        return exists_key(task.f, task.h);
+    }
+    let ordered = Task::ordered(task.f, task.g);
+    Key {
+        op: numbers::AND_EXISTS,
+        f: ordered.f,
+        g: ordered.g,
+        h: task.h,
+    }
+}
+
+ghost use Rattle.node_store.specs.Numbers.{exists_number};
+
+fn exists_key(f: Edge, cube: Edge) -> Key
+    ensures { result ≡ record { op = exists_number; f = f; g = cube; h = f } }
+{
+    Key {
+        op: numbers::EXISTS,
+        f,
+        g: cube,
+        h: f,
+    }
+}
