@@ -38,17 +38,6 @@ module _ (at new : ℕ → ℕ) (heads links : List ℕ) (place : ℕ) (same : (
       let old = chained.links_are k lt bound in
       subst (λ b. IsLatest new b k (get_or links k 0)) (sym e) (kept (at k) k (get_or links k 0) bound (λ is. (let w = old.within in was (omega arith) (sym (old.here place is)) is)) old)
 
-  pub unlinked_first : ((k : ℕ) → place < k → k < length links → at k ≡ at place → ⊥) → IsChained new (set heads (at place) (get_or links place 0)) links
-  unlinked_first above = record {
-    heads_are = λ b lt. (let lt' : b < length heads = (let e = length-set heads (at place) (get_or links place 0) in omega arith) in
-        at-set (λ x r. IsLatest new x (length links) r) heads (at place) (get_or links place 0) bucket
-        (left (at place) (length links) (get_or links place 0) bucket in' above (chained.links_are place in' bucket))
-        (λ x ne below. kept x (length links) (get_or heads x 0) below (λ is. ne (sym ((chained.heads_are x below).here place is))) (chained.heads_are x below))
-        b lt');
-    links_are = λ k lt in-bucket. links_kept k lt (let e = length-set heads (at place) (get_or links place 0) in omega arith) (λ gt e _. above k gt lt e);
-    fall = chained.fall;
-  }
-
   pub unlinked_after : (over : ℕ) → place < over → over < length links → at over ≡ at place → ((k : ℕ) → place < k → k < over → at k ≡ at place → ⊥) → IsChained new heads (set links over (get_or links place 0))
   unlinked_after over gt lt e above =
       let long = length-set links over (get_or links place 0) in

@@ -3,10 +3,6 @@ use Rattle.std.proofs.Common.{◌≡◌, ℕ, suc, ◌+◌, ◌%◌, ◌<◌, �
 use Rattle.std.proofs.lemmas.Bool.{cases_eq, cases_lt}
 use Rattle.level_table.specs.Chains.{bucket_of, IsLatest}
 
--- below 0 there is none
-pub none_yet : (at : ℕ → ℕ) (b : ℕ) → IsLatest at b 0 0
-none_yet at b = record { within = omega arith; here = λ k e. absurd (omega arith); none = λ k _ below _. absurd (omega arith) }
-
 -- the next place, which is put in the bucket or not
 pub latest-here : (at : ℕ → ℕ) (b n : ℕ) → at n ≡ b → IsLatest at b (n + 1) (n + 1)
 latest-here at b n e = record {
@@ -99,7 +95,3 @@ module _ (hashes : List ℕ) (buckets hash n link : ℕ) (sought : IsSought hash
           | inr ge ↦ elim (cases_eq k place) [ inl is ↦ other (ap (slice_index hashes) (sym is) ∙ e) | inr ne ↦ sought.none k (omega arith) below e ]
         ];
       }
-
--- at the first link
-pub sought_first : (hashes : List ℕ) (buckets hash n link : ℕ) → IsLatest (bucket_of hashes buckets) (hash % buckets) n link → IsSought hashes buckets hash n link
-sought_first hashes buckets hash n link latest = record { within = latest.within; here = latest.here; none = λ k above below e. latest.none k above below (ap (λ h. h % buckets) e) }
