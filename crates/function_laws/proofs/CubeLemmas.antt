@@ -1,5 +1,5 @@
 -- Quantification over the variables of a product, variable by variable.
-use Rattle.std.proofs.Common.{◌≡◌, ◌≢◌, ℕ, Bool, true, false, cond, ◌&&◌, ◌||◌, List, [], ◌∷◌, ◌⊎◌, inl, inr, ⊎_elim, refl, sym, ap, ◌∙◌, subst, arith}
+use Rattle.std.proofs.Common.{◌≡◌, ◌≢◌, ℕ, Bool, true, false, cond, ◌&&◌, ◌||◌, List, [], ◌∷◌, ◌⊎◌, inl, inr, refl, sym, ap, ◌∙◌, subst, arith}
 use Rattle.std.specs.List.{All}
 use Rattle.std.specs.List.Sorted.{IsPermutation}
 use Rattle.std.proofs.lemmas.Bool.{cases_eq}
@@ -8,34 +8,34 @@ use Rattle.std.proofs.lemmas.List.Sorted.{All-permutation, IsPermutation-sym}
 use Rattle.edge_bits.specs.Assignments.{bit, set_bit}
 use Rattle.edge_bits.proofs.AssignmentLemmas.{bit-set_same, bit-set_other, set_bit-own, set_bit-set_same, same_bits}
 use Rattle.function_laws.specs.Values.{cofactor, choice, IsFree, constant, conjunction, disjunction, projection, exists_one, exists_all}
-use Rattle.function_laws.specs.Cubes.{cube_of, Needs, IsCube, AgreeBeyond, CanBeTrue, IsExists}
+use Rattle.function_laws.specs.Cubes.{cube_of, Needs, IsCube, AgreeBeyond, IsExists}
 use Rattle.function_laws.proofs.ValueLemmas.{everywhere, cofactor-free, cofactor-choice_true, cofactor-choice_false, IsFree-cofactor_other, IsFree-place, exists-free, exists-choice_same}
 
 -- truth values
-same_truth : (a b : Bool) → (a ≡ true → b ≡ true) → (b ≡ true → a ≡ true) → a ≡ b
+pub same_truth : (a b : Bool) → (a ≡ true → b ≡ true) → (b ≡ true → a ≡ true) → a ≡ b
 same_truth true b f g = sym (f refl)
 same_truth false true f g = g refl
 same_truth false false f g = refl
 
-or_true : (a b : Bool) → (a || b) ≡ true → (a ≡ true) ⊎ (b ≡ true)
+pub or_true : (a b : Bool) → (a || b) ≡ true → (a ≡ true) ⊎ (b ≡ true)
 or_true true b h = inl refl
 or_true false b h = inr h
 
-true_or : (a b : Bool) → (a ≡ true) ⊎ (b ≡ true) → (a || b) ≡ true
+pub true_or : (a b : Bool) → (a ≡ true) ⊎ (b ≡ true) → (a || b) ≡ true
 true_or true b h = refl
 true_or false true h = refl
 true_or false false (inl h) = h
 true_or false false (inr h) = h
 
-and_left : (a b : Bool) → (a && b) ≡ true → a ≡ true
+pub and_left : (a b : Bool) → (a && b) ≡ true → a ≡ true
 and_left true b h = refl
 and_left false b h = h
 
-and_right : (a b : Bool) → (a && b) ≡ true → b ≡ true
+pub and_right : (a b : Bool) → (a && b) ≡ true → b ≡ true
 and_right true b h = h
 and_right false b h = let never : false ≡ true = h in cc
 
-both_true : (a b : Bool) → a ≡ true → b ≡ true → (a && b) ≡ true
+pub both_true : (a b : Bool) → a ≡ true → b ≡ true → (a && b) ≡ true
 both_true true b h k = k
 both_true false b h k = h
 
@@ -47,7 +47,7 @@ first_false : (a b : Bool) → a ≡ false → (a && b) ≡ false
 first_false true b h = let never : true ≡ false = h in cc
 first_false false b h = refl
 
-by_bit : (b : Bool) → (b ≡ true) ⊎ (b ≡ false)
+pub by_bit : (b : Bool) → (b ≡ true) ⊎ (b ≡ false)
 by_bit true = inl refl
 by_bit false = inr refl
 
@@ -68,7 +68,7 @@ times-holds x c q = both_true (bit (set_bit q.place x true) x) (c (set_bit q.pla
 free_projection : (x v : ℕ) → v ≢ x → IsFree (projection x) v
 free_projection x v apart = λ k b. bit-set_other k v x b (λ e. apart (sym e))
 
-times-free : (x v : ℕ) (c : ℕ → Bool) → v ≢ x → IsFree c v → IsFree (conjunction (projection x) c) v
+pub times-free : (x v : ℕ) (c : ℕ → Bool) → v ≢ x → IsFree c v → IsFree (conjunction (projection x) c) v
 times-free x v c apart free = IsFree-place (λ a b. a && b) (projection x) c v (free_projection x v apart) free
 
 times-needs : (x : ℕ) (c : ℕ → Bool) → Needs (conjunction (projection x) c) x
@@ -113,9 +113,19 @@ IsFree-cube u [] h = λ k b. refl
 IsFree-cube u (v ∷ vs) h = times-free v u (cube_of vs) (All-head (λ w. u ≢ w) v vs h) (IsFree-cube u vs (All-tail (λ w. u ≢ w) v vs h))
 
 -- a variable of a product, taken off or already there
+pub times-cofactor : (x : ℕ) (c : ℕ → Bool) → IsFree c x → cofactor (conjunction (projection x) c) x true ≡ c
+times-cofactor x c free = everywhere (cofactor (conjunction (projection x) c) x true) c (λ k. ap (λ b. b && c (set_bit k x true)) (bit-set_same k x true) ∙ free k true)
+
+pub times-choice : (x : ℕ) (c : ℕ → Bool) → choice x c (constant false) ≡ conjunction (projection x) c
+times-choice x c = everywhere (choice x c (constant false)) (conjunction (projection x) c) (λ k. at_bit (bit k x) (c k))
+  where
+    at_bit : (a b : Bool) → cond a b false ≡ (a && b)
+    at_bit true b = refl
+    at_bit false b = refl
+
 pub times-part : (x : ℕ) (c : ℕ → Bool) → IsCube c → (cofactor (conjunction (projection x) c) x true ≡ c) ⊎ (conjunction (projection x) c ≡ c)
 times-part x c q = elim (q.each x) [
-  | inl free ↦ inl (everywhere (cofactor (conjunction (projection x) c) x true) c (λ k. ap (λ b. b && c (set_bit k x true)) (bit-set_same k x true) ∙ free k true))
+  | inl free ↦ inl (times-cofactor x c free)
   | inr needs ↦ inr (everywhere (conjunction (projection x) c) c (λ k. elim (by_bit (bit k x)) [
     | inl is ↦ ap (λ b. b && c k) is
     | inr is ↦ first_false (bit k x) (c k) is ∙ sym (needs k is)
@@ -247,6 +257,26 @@ IsExists-settled x c f g q free_f free_g p =
 -- of constants
 pub IsExists-constant : (c : ℕ → Bool) (b : Bool) → IsExists c (constant b) (constant b)
 IsExists-constant c b = record { reached = λ k t. (k, (t, λ v free. refl)); reaches = λ k w. w.1.0 }
+
+-- the parts of a choice whose variable doesn't matter are one; parts of functions that lack a variable lack it
+pub choice-same_part : (x : ℕ) (f g : ℕ → Bool) → IsFree f x → IsFree g x → IsFree (choice x f g) x → f ≡ g
+choice-same_part x f g free_f free_g free =
+    sym (cofactor-free f x true free_f) ∙ sym (cofactor-choice_true f g x) ∙ cofactor-free (choice x f g) x true free
+    ∙ sym (cofactor-free (choice x f g) x false free) ∙ cofactor-choice_false f g x ∙ cofactor-free g x false free_g
+
+pub part-lacks : (x u : ℕ) (f h l : ℕ → Bool) (b : Bool) → f ≡ choice x h l → IsFree h x → IsFree l x → IsFree f u → IsFree (cond b h l) u
+part-lacks x u f h l b is free_h free_l free = elim (cases_eq u x) [
+  | inl same ↦ subst (λ y. IsFree (cond b h l) y) (sym same) (own b)
+  | inr apart ↦ subst (λ g. IsFree g u) (ap (λ g. cofactor g x b) is ∙ at_bit b) (IsFree-cofactor_other f u x b apart free)
+]
+  where
+    own : (b : Bool) → IsFree (cond b h l) x
+    own true = free_h
+    own false = free_l
+
+    at_bit : (b : Bool) → cofactor (choice x h l) x b ≡ cond b h l
+    at_bit true = cofactor-choice_true h l x ∙ cofactor-free h x true free_h
+    at_bit false = cofactor-choice_false h l x ∙ cofactor-free l x false free_l
 
 -- the top variable of a product
 module _ (x : ℕ) (c f g : ℕ → Bool) (q : IsCube c) (is : c ≡ choice x f g) (free_f : IsFree f x) (free_g : IsFree g x) where

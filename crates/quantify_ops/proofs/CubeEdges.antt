@@ -1,10 +1,10 @@
 -- The top variables of products, and what is left below them.
-use Rattle.std.proofs.Common.{◌≡◌, ◌≢◌, ℕ, ◌<◌, ◌≤◌, ◌⊎◌, inl, inr, ℤ, refl, sym, ap, ◌∙◌, subst, arith}
+use Rattle.std.proofs.Common.{◌≡◌, ℕ, ◌<◌, ◌≤◌, inl, inr, ℤ, refl, sym, ◌∙◌, subst, arith}
 use Rattle.std.proofs.lemmas.Bool.{cases_order}
 use Rattle.edge_bits.specs.declared.edges.Edge.{Edge}
 use Rattle.edge_bits.specs.declared.edges.Kind.TheVariants.{Bdd}
 use Rattle.function_laws.specs.Cubes.{IsExists}
-use Rattle.function_laws.specs.Values.{IsFree, conjunction, projection}
+use Rattle.function_laws.specs.Values.{IsFree}
 use Rattle.function_laws.proofs.CubeLemmas.{times-depends, top-times, top-rest, IsExists-absent}
 use Rattle.node_store.specs.Views.{View, Grown, IsInner, IsLeaf, IsVariable, bdd_at}
 use Rattle.node_store.specs.ViewLaws.{Grown-trans, IsBelow-inner, IsVariable-back, IsVariable-grown, level-grown, values_at-grown}

@@ -2,3 +2,4 @@ pub mod CubeEdges
 pub mod ProductLaws
 pub mod QuantifiedLaws
 pub mod OperationLaws
+pub mod SupportLaws

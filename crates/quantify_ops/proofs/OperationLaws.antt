@@ -1,10 +1,10 @@
 -- The values of the quantifiers, and what they store, by the list of variables.
-use Rattle.std.proofs.Common.{◌≡◌, ℕ, ◌<◌, Bool, true, false, not, List, [], ◌∷◌, Option, Some, ◌⊎◌, inl, inr, Result, Ok, Err, IfOk, get_or, refl, sym, ap, ◌∙◌, subst, arith}
+use Rattle.std.proofs.Common.{◌≡◌, ℕ, Bool, true, List, Option, Some, ◌⊎◌, inl, inr, Result, Ok, Err, IfOk, get_or, refl, sym, ap, ◌∙◌, subst, arith}
 use Rattle.std.specs.List.{All}
 use Rattle.edge_bits.specs.declared.edges.Edge.{Edge}
 use Rattle.edge_bits.specs.declared.edges.Kind.{Kind}
 use Rattle.edge_bits.specs.declared.edges.Kind.TheVariants.{Bdd, Add, Zdd}
-use Rattle.function_laws.specs.Cubes.{cube_of, IsCube, IsExists}
+use Rattle.function_laws.specs.Cubes.{cube_of, IsCube}
 use Rattle.function_laws.specs.Values.{cofactor, conjunction, constant, exists_all, forall_all, negation}
 use Rattle.function_laws.proofs.CubeLemmas.{IsCube-of, IsExists-all, IsExists-same}
 use Rattle.function_laws.proofs.ExistsLemmas.{forall_all-negation}
@@ -15,7 +15,6 @@ use Rattle.node_store.specs.ViewLaws.{Grown-refl, Denotes-flip, Denotes-grown, D
 use Rattle.node_store.specs.Work.{whole, cut, IsPart, IsWork, Adds, Moves}
 use Rattle.node_store.specs.WorkLaws.{IsPart-back, IsPart-not, IsWork-grown}
 use Rattle.node_store.specs.declared.grow.Stop.{Stop}
-use Rattle.node_store.specs.declared.operator.Task.{Task}
 use Rattle.node_store.proofs.ComplementWork.{negation-negation, IsWork-negation}
 use Rattle.ite_core.proofs.Complements.{flipped-is}
 use Rattle.quantify_ops.specs.Products.{IsProduct}

@@ -1,18 +1,17 @@
 -- The product of a list of variables, from the last in the order to the first.
-use Rattle.std.proofs.Common.{◌≡◌, ◌≢◌, ℕ, suc, ◌+◌, ◌<◌, ◌≤◌, Bool, true, List, [], ◌∷◌, ◌++◌, length, get_or, map, Option, Some, ◌⊎◌, inl, inr, refl, sym, ap, ◌∙◌, subst, arith}
+use Rattle.std.proofs.Common.{◌≡◌, ◌≢◌, ℕ, suc, ◌<◌, ◌≤◌, Bool, true, List, [], ◌∷◌, ◌++◌, get_or, map, Option, Some, ◌⊎◌, inl, inr, refl, sym, ap, ◌∙◌, subst, arith}
 use Rattle.std.specs.List.{All}
 use Rattle.std.specs.List.Sorted.{IsPermutation, IsNonDecreasingBy}
 use Rattle.std.proofs.lemmas.List.Elements.{All-cons, All-head, All-tail, All-from_get_or, All-map}
 use Rattle.std.proofs.lemmas.List.Sorted.{All-permutation, IsPermutation-map}
-use Rattle.edge_bits.specs.declared.edges.Edge.{Edge}
 use Rattle.edge_bits.specs.declared.edges.Kind.{Kind}
 use Rattle.edge_bits.specs.declared.edges.Kind.TheVariants.{Bdd, Add, Zdd}
 use Rattle.function_laws.specs.Cubes.{cube_of}
 use Rattle.function_laws.specs.Values.{IsFree, conjunction, projection}
 use Rattle.function_laws.proofs.CubeLemmas.{IsCube-of, IsFree-cube, cube_of-permutation, times-part}
 use Rattle.node_store.specs.Kinds.{Function, BddFunction, ValueOf, function_of, values_of, opposite}
-use Rattle.node_store.specs.Views.{View, Denotes, Grown, IsVariable, bdd_at}
-use Rattle.node_store.specs.ViewLaws.{IsVariable-grown, level-grown, values_at-is}
+use Rattle.node_store.specs.Views.{View, Grown, IsVariable}
+use Rattle.node_store.specs.ViewLaws.{IsVariable-grown, level-grown}
 use Rattle.node_store.specs.Work.{whole, cut, IsPart, IsWork, Adds}
 use Rattle.node_store.specs.WorkLaws.{IsPart-both, Moves-both}
 use Rattle.node_store.specs.declared.parts.Top.{Top}
@@ -84,7 +83,7 @@ left_is_part w (t ∷ rest) done r =
     (left_is_part w rest done r.1.1)
 
 -- what is part of a part's work is part of the whole's
-IsWork-part : (w : View) (f g : ℕ → Bool) (o : Option Function) → IsPart Bdd w f g → IsWork w (λ F. F ≡ BddFunction g) o → IsWork w (λ F. F ≡ BddFunction f) o
+pub IsWork-part : (w : View) (f g : ℕ → Bool) (o : Option Function) → IsPart Bdd w f g → IsWork w (λ F. F ≡ BddFunction g) o → IsWork w (λ F. F ≡ BddFunction f) o
 IsWork-part w f g o part i = by_kind i.kind i.root i.part i.asked i.is_part i.is
   where
     by_kind : (k : Kind) (root p : ℕ → ValueOf k) → function_of k root ≡ BddFunction g → IsPart k w root p

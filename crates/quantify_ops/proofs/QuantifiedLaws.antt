@@ -1,46 +1,32 @@
 -- A quantified conjunction, step by step.
-use Rattle.std.proofs.Common.{◌≡◌, ◌≢◌, ℕ, suc, ◌+◌, ◌<◌, ◌≤◌, max, Bool, true, false, not, cond, ◌&&◌, ◌⊎◌, inl, inr, Option, Some, None, Result, Ok, Err, IfOk, refl, sym, ap, ◌∙◌, subst, arith}
+use Rattle.std.proofs.Common.{◌≡◌, ◌≢◌, ℕ, suc, ◌<◌, ◌≤◌, max, Bool, true, false, not, cond, ◌&&◌, ◌⊎◌, inl, inr, Some, Result, Ok, Err, IfOk, refl, sym, ap, ◌∙◌, subst, arith}
 use Rattle.std.specs.Prelude.{IsOkAnd}
-use Rattle.std.proofs.lemmas.Bool.{cases_eq, cases_lt}
+use Rattle.std.proofs.lemmas.Bool.{cases_lt}
 use Rattle.edge_bits.specs.declared.edges.Edge.{Edge}
 use Rattle.edge_bits.specs.declared.edges.Kind.TheVariants.{Bdd}
-use Rattle.computed_cache.specs.declared.Key.{Key}
 use Rattle.function_laws.specs.Cubes.{IsCube, IsExists}
-use Rattle.function_laws.specs.Values.{IsFree, choice, cofactor, conjunction, constant, disjunction, negation, projection}
-use Rattle.function_laws.proofs.CubeLemmas.{times-depends, IsExists-absent, IsExists-choice, IsExists-constant, IsExists-none, IsExists-quantified, IsExists-settled, IsFree-exists}
-use Rattle.function_laws.proofs.ValueLemmas.{everywhere, IsFree-cofactor_other, IsFree-place}
+use Rattle.function_laws.specs.Values.{IsFree, choice, conjunction, constant, disjunction, projection}
+use Rattle.function_laws.proofs.CubeLemmas.{part-lacks, times-depends, IsExists-absent, IsExists-choice, IsExists-constant, IsExists-none, IsExists-quantified, IsExists-settled, IsFree-exists}
+use Rattle.function_laws.proofs.ValueLemmas.{everywhere, IsFree-place}
 use Rattle.node_store.specs.Edges.{flip_if}
 use Rattle.node_store.specs.Kinds.{Function, BddFunction}
-use Rattle.node_store.specs.KindLaws.{part-joined, Lacks-joined}
+use Rattle.node_store.specs.KindLaws.{Lacks-joined}
 use Rattle.node_store.specs.Numbers.{exists_number, and_exists_number}
-use Rattle.node_store.specs.Memo.{MemoHolds, ExistsHolds, AndExistsHolds}
-use Rattle.node_store.specs.Splits.{Branches, BothAnswered, Leads}
+use Rattle.node_store.specs.Splits.{BothAnswered, Leads}
 use Rattle.node_store.specs.Two.{IsOrderOf, TwoSplits, two_depth}
 use Rattle.node_store.specs.TwoLaws.{AreTwo-grown, TwoSplits-stay, two_depth-stays, Two-is, Two-hi_below, Two-lo_below}
-use Rattle.node_store.specs.Views.{View, AreTwo, CanMake, Denotes, Grown, Is, Kept, IsBelow, IsKey, IsVariable, NotBothLeaves, Permanent, Splits, bdd_at, node_values, truth_edge}
+use Rattle.node_store.specs.Views.{View, AreTwo, CanMake, Denotes, Grown, Is, Kept, IsVariable, Permanent, Splits, bdd_at, truth_edge}
 use Rattle.node_store.specs.ViewLaws.{Grown-refl, Grown-trans, Is-from, level-grown, values_at-is, values_at-grown}
-use Rattle.node_store.specs.Work.{whole, IsPart, IsWork, Adds, Moves}
+use Rattle.node_store.specs.Work.{whole, IsWork, Adds, Moves}
 use Rattle.node_store.specs.WorkLaws.{IsPart-half, IsWork-due, IsWork-grown, Moves-both, Moves-kept, Moves-made}
 use Rattle.node_store.specs.declared.binary.Branch.{Branch}
 use Rattle.node_store.specs.declared.grow.Stop.{Stop}
 use Rattle.node_store.specs.declared.operator.Task.{Task}
 use Rattle.node_store.specs.declared.operator.Wait.TheVariants.{First}
 use Rattle.ite_core.specs.Implications.{IsCompared}
-use Rattle.ite_core.proofs.Complements.{flipped-is}
-use Rattle.ite_core.proofs.Terminals.{truth_at, not_leaves}
-use Rattle.quantify_ops.specs.Quantified.{both_at, HasCube, AreQuantified, IsFreeAbove, StandsAbove, IsQuantifiedValue, QuantifiedDue, QuantifiedAnswers, IsLeft, LeftIs, QuantifiedSplits, IsKnown, IsBelowLevel, IsRest, FirstAnswered, IsKeyOf, IsNarrowed, QuantifiedWaits}
+use Rattle.ite_core.proofs.Terminals.{truth_at}
+use Rattle.quantify_ops.specs.Quantified.{both_at, HasCube, AreQuantified, IsFreeAbove, StandsAbove, IsQuantifiedValue, QuantifiedDue, QuantifiedAnswers, IsLeft, LeftIs, QuantifiedSplits, IsBelowLevel, IsRest, FirstAnswered, IsKeyOf, IsNarrowed, QuantifiedWaits}
 use Rattle.quantify_ops.specs.QuantifiedLasts.{HasCube-grown, IsFreeAbove-grown, StandsAbove-grown, AreQuantified-grown, IsQuantifiedValue-stays, QuantifiedDue-stays, QuantifiedAnswers-stay, QuantifiedSplits-stay}
-
--- parts of functions that lack a variable lack it
-part-lacks : (x u : ℕ) (f h l : ℕ → Bool) (b : Bool) → f ≡ choice x h l → IsFree h x → IsFree l x → IsFree f u → IsFree (cond b h l) u
-part-lacks x u f h l b is free_h free_l free = elim (cases_eq u x) [
-  | inl same ↦ subst (λ y. IsFree (cond b h l) y) (sym same) (own b)
-  | inr apart ↦ subst (λ g. IsFree g u) (ap (λ g. cofactor g x b) is ∙ part-joined Bdd x h l b free_h free_l) (IsFree-cofactor_other f u x b apart free)
-]
-  where
-    own : (b : Bool) → IsFree (cond b h l) x
-    own true = free_h
-    own false = free_l
 
 -- a function that splits at a variable is free of those above
 free_above : (w : View) (x : ℕ) (f : ℕ → Bool) (hi lo : Edge) → IsVariable Bdd w x → Splits Bdd w x f hi lo → (u : ℕ) → IsVariable Bdd w u → w.level u < w.level x → IsFree f u
@@ -221,43 +207,9 @@ narrowed_waits f g c v w t b m due narrow =
     )
 
 -- a conjunction that is known to be constant
-other : (a b : Bool) → (a ≡ b → ⊥) → b ≡ not a
-other true true h = absurd (h refl)
-other true false h = refl
-other false true h = refl
-other false false h = absurd (h refl)
-
-and_opposite : (b : Bool) → (b && not b) ≡ false
-and_opposite true = refl
-and_opposite false = refl
-
-second_false : (b : Bool) → (b && false) ≡ false
-second_false true = refl
-second_false false = refl
-
-pub known_opposite : (w : View) (f g : Edge) → f.index ≡ g.index → (f.complement ≡ g.complement → ⊥) → Is Bdd w f → both_at w f g ≡ constant false
-known_opposite w f g index apart d =
-    let same : g ≡ flip_if true f = λ i. record { index = sym index i; complement = other f.complement g.complement apart i } in
-    ap (λ h. conjunction (bdd_at w f) h) (flipped-is w f g same d)
-    ∙ everywhere (conjunction (bdd_at w f) (negation (bdd_at w f))) (constant false) (λ k. and_opposite (bdd_at w f k))
-
 and_same : (b : Bool) → (b && b) ≡ b
 and_same true = refl
 and_same false = refl
-
-pub known_constants : (w : View) → Permanent w → (f g : Edge) → f.index ≡ g.index → f.complement ≡ g.complement → f.index ≡ 0 → both_at w f g ≡ constant (not f.complement)
-known_constants w p f g index complement zero =
-    let f_is = truth_at w p f zero in
-    let g_is = truth_at w p g (sym index ∙ zero) ∙ ap (λ b. constant (not b)) (sym complement) in
-    ap (λ h. conjunction h (bdd_at w g)) f_is ∙ ap (λ h. conjunction (constant (not f.complement)) h) g_is ∙ ap constant (and_same (not f.complement))
-
-pub known_first : (w : View) → Permanent w → (f g : Edge) → f.index ≡ 0 → f.complement ≡ true → both_at w f g ≡ constant false
-known_first w p f g zero flip = ap (λ h. conjunction h (bdd_at w g)) (truth_at w p f zero ∙ ap (λ b. constant (not b)) flip)
-
-pub known_second : (w : View) → Permanent w → (f g : Edge) → g.index ≡ 0 → g.complement ≡ true → both_at w f g ≡ constant false
-known_second w p f g zero flip =
-    ap (λ h. conjunction (bdd_at w f) h) (truth_at w p g zero ∙ ap (λ b. constant (not b)) flip)
-    ∙ everywhere (conjunction (bdd_at w f) (constant false)) (constant false) (λ k. second_false (bdd_at w f k))
 
 pub known_answer : (w : View) (t : Task) (b : Bool) (e : Edge) → both_at w t.f t.g ≡ constant b → Denotes Bdd w e (constant b) → QuantifiedAnswers w t e
 known_answer w t b e is d = record { answer = Is-from Bdd d; exists = rw (is, values_at-is Bdd d) (IsExists-constant (bdd_at w t.h) b) }

@@ -2,3 +2,5 @@ pub mod Products
 pub mod Works
 pub mod Quantified
 pub mod QuantifiedLasts
+pub mod Supports
+pub mod SupportLasts

@@ -1,10 +1,9 @@
 -- What is true of tasks of a quantified conjunction stays true while a store grows.
-use Rattle.std.proofs.Common.{◌≡◌, ℕ, ◌<◌, Bool, refl, sym, ap}
+use Rattle.std.proofs.Common.{ℕ, Bool, sym}
 use Rattle.edge_bits.specs.declared.edges.Edge.{Edge}
 use Rattle.edge_bits.specs.declared.edges.Kind.TheVariants.{Bdd}
-use Rattle.function_laws.specs.Cubes.{IsExists}
 use Rattle.node_store.specs.Kinds.{Function}
-use Rattle.node_store.specs.Views.{View, AreTwo, Grown, bdd_at}
+use Rattle.node_store.specs.Views.{View, Grown, bdd_at}
 use Rattle.node_store.specs.ViewLaws.{Is-grown, IsVariable-back, IsVariable-grown, Permanent-grown, level-grown, values_at-grown}
 use Rattle.node_store.specs.TwoLaws.{AreTwo-grown, TwoSplits-stay, two_depth-stays}
 use Rattle.node_store.specs.WorkLaws.{IsPart-grown}
@@ -12,7 +11,7 @@ use Rattle.node_store.specs.Two.{two_depth}
 use Rattle.node_store.specs.Waiting.{Waiting-stays}
 use Rattle.node_store.specs.declared.operator.Frame.{Frame}
 use Rattle.node_store.specs.declared.operator.Task.{Task}
-use Rattle.quantify_ops.specs.Quantified.{both_at, HasCube, AreQuantified, IsFreeAbove, StandsAbove, IsQuantifiedValue, QuantifiedDue, QuantifiedAnswers, QuantifiedSplits, QuantifiedWaits}
+use Rattle.quantify_ops.specs.Quantified.{HasCube, AreQuantified, IsFreeAbove, StandsAbove, IsQuantifiedValue, QuantifiedDue, QuantifiedAnswers, QuantifiedSplits, QuantifiedWaits}
 
 pub HasCube-grown : {v w : View} {c : Edge} → Grown v w → HasCube v c → HasCube w c
 HasCube-grown m d = record { edge = Is-grown Bdd m d.edge; cube = rw (values_at-grown Bdd m d.edge) d.cube }

@@ -3,7 +3,7 @@ use Rattle.std.specs.Prelude.{◌≡◌, ℕ, Bool, List, ◌⊎◌}
 use Rattle.edge_bits.specs.declared.edges.Edge.{Edge}
 use Rattle.edge_bits.specs.declared.edges.Kind.TheVariants.{Bdd}
 use Rattle.function_laws.specs.Cubes.{cube_of}
-use Rattle.function_laws.specs.Values.{conjunction, exists_all, forall_all}
+use Rattle.function_laws.specs.Values.{conjunction, exists_all, forall_all, support}
 use Rattle.node_store.specs.Kinds.{Function, BddFunction}
 use Rattle.node_store.specs.Views.{View, bdd_at}
 use Rattle.node_store.specs.Work.{IsPart}
@@ -27,3 +27,7 @@ work_of_forall f vars w F = value_of_forall f vars w F ⊎ (F ≡ BddFunction (c
 
 abbrev pub work_of_and_exists : Edge → Edge → List ℕ → View → Function → Type 0
 work_of_and_exists f g vars w F = value_of_and_exists f g vars w F ⊎ (F ≡ BddFunction (cube_of vars))
+
+-- the support, also of any part of the function in its place
+abbrev pub value_of_support : Edge → View → Function → Type 0
+value_of_support f w F = (a : ℕ → Bool) × (IsPart Bdd w (bdd_at w f) a × (F ≡ BddFunction (support w.vars a)))

@@ -2,9 +2,10 @@
 #![tactic(auto)]
 
 mod cubes;
+mod dependence;
 pub mod nested;
 mod operations;
 mod products;
 mod quantification;
 
-pub use operations::{and_exists, exists, forall};
+pub use operations::{and_exists, exists, forall, support};

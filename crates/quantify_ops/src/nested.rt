@@ -2,15 +2,16 @@
 
 ghost use Rattle.std.specs.Prelude.{◌≡◌, ◌*◌, ◌≤◌, IfOk, IsErrOf, List, true, ℕ};
 ghost use Rattle.edge_bits.specs.declared.edges.Kind.TheVariants.{Bdd};
-ghost use Rattle.function_laws.specs.Values.{conjunction, exists_all, forall_all};
+ghost use Rattle.function_laws.specs.Values.{conjunction, exists_all, forall_all, support as support_of};
 ghost use Rattle.node_store.specs.Views.{AreTwo, Denotes, Grown, Is, Permanent, Rose, bdd_at};
 ghost use Rattle.node_store.specs.Work.{Adds, IsWork};
 ghost use Rattle.quantify_ops.specs.Products.{IsProduct};
-ghost use Rattle.quantify_ops.specs.Works.{value_of_and_exists, value_of_exists, value_of_forall};
+ghost use Rattle.quantify_ops.specs.Works.{value_of_and_exists, value_of_exists, value_of_forall, value_of_support};
 
+use crate::dependence::Dependence;
 use crate::quantification::Quantification;
 use edge_bits::Edge;
-use node_store::binary::flip_if;
+use node_store::binary::{Binary, flip_if};
 use node_store::evaluate::evaluate;
 use node_store::operator::{Halt, Task};
 use node_store::{Grow, Stack, Stop};
@@ -87,5 +88,28 @@ pub fn forall<G: Grow>(store: &mut G, stack: &mut Stack, f: Edge, cube: Edge) ->
     match exists(store, stack, not_f, cube) {
         Ok(edge) => Ok(flip_if(edge, true)),
         Err(stop) => Err(stop),
+    }
+}
+
+/// The product of the variables on which a function depends.
+pub fn support<G: Grow>(store: &mut G, stack: &mut Stack, f: Edge) -> Result<Edge, Stop>
+    requires operand { Is Bdd (G.view store.old) f }
+    requires permanent { Permanent (G.view store.old) }
+    requires room { 2 * (G.view store.old).vars ≤ stack.old.free }
+    ensures grown { Grown (G.view store.old) (G.view store.new) }
+    ensures support { IfOk result (λ e. Denotes Bdd (G.view store.new) e (support_of (G.view store.old).vars (bdd_at (G.view store.old) f))) }
+    ensures work { Adds (value_of_support f (G.view store.old)) (G.view store.old) (G.view store.new) }
+    ensures memory { IsErrOf result Stop.Memory → (G.view store.old).may_want_memory ≡ true }
+    ensures full { IsErrOf result Stop.Full → Rose (G.view store.old) (G.view store.new) }
+    ensures due { IsErrOf result Stop.Full → IsWork (G.view store.new) (value_of_support f (G.view store.old)) (G.view store.new).due }
+    ensures frames { stack.new.frames ≡ stack.old.frames }
+    ensures free { stack.new.free ≡ stack.old.free }
+    ensures known { stack.new.answers ≡ stack.old.answers }
+{
+    match evaluate(store, stack, &Binary(Dependence { f }), Task::two(f, f)) {
+        Ok(edge) => Ok(edge),
+        Err(Halt::Memory) => Err(Stop::Memory),
+        Err(Halt::Full) => Err(Stop::Full),
+        Err(Halt::Overflow) => unreachable!(),
     }
 }

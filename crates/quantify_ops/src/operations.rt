@@ -1,10 +1,10 @@
 ghost use Rattle.std.specs.Prelude.{◌≡◌, ◌*◌, ◌≤◌, IfOk, IsErrOf};
 ghost use Rattle.std.specs.List.{All};
 ghost use Rattle.edge_bits.specs.declared.edges.Kind.TheVariants.{Bdd};
-ghost use Rattle.function_laws.specs.Values.{conjunction, exists_all, forall_all};
+ghost use Rattle.function_laws.specs.Values.{conjunction, exists_all, forall_all, support as support_of};
 ghost use Rattle.node_store.specs.Views.{AreTwo, Denotes, Grown, Is, IsVariable, Permanent, Rose, bdd_at};
 ghost use Rattle.node_store.specs.Work.{Adds, IsWork};
-ghost use Rattle.quantify_ops.specs.Works.{work_of_and_exists, work_of_exists, work_of_forall};
+ghost use Rattle.quantify_ops.specs.Works.{value_of_support, work_of_and_exists, work_of_exists, work_of_forall};
 
 use crate::nested;
 use crate::products::product;
@@ -112,5 +112,44 @@ fn over_product<G: Grow>(
     match product(store, stack, vars) {
         Ok(cube) => nested::and_exists(store, stack, f, g, cube),
         Err(stop) => Err(stop),
+    }
+}
+
+/// The product of the variables on which a function depends. What it stores are parts, by the first variables of the order and up to complement, of the support and of those of any such parts of the function.
+pub fn support<G: Grow>(store: &mut G, f: Edge) -> Result<Edge, Stop>
+    requires { Is Bdd (G.view store.old) f }
+    ensures grown { Grown (G.view store.old) (G.view store.new) }
+    ensures support { IfOk result (λ e. Denotes Bdd (G.view store.new) e (support_of (G.view store.old).vars (bdd_at (G.view store.old) f))) }
+    ensures work { Adds (value_of_support f (G.view store.old)) (G.view store.old) (G.view store.new) }
+    ensures full { IsErrOf result Stop.Full → Rose (G.view store.old) (G.view store.new) }
+    ensures due { IsErrOf result Stop.Full → IsWork (G.view store.new) (value_of_support f (G.view store.old)) (G.view store.new).due }
+{
+    let mut stack = store.take_scratch();
+    let levels = store.levels(Kind::Bdd);
+    let outcome = support_with_room(store, &mut stack, levels, f);
+    store.give_scratch(stack);
+    outcome
+}
+
+// Makes room for twice as many frames as there are levels, and runs.
+fn support_with_room<G: Grow>(
+    store: &mut G,
+    stack: &mut Stack,
+    levels: u32,
+    f: Edge,
+) -> Result<Edge, Stop>
+    requires operand { Is Bdd (G.view store.old) f }
+    requires permanent { Permanent (G.view store.old) }
+    requires levels { levels ≡ (G.view store.old).vars }
+    ensures grown { Grown (G.view store.old) (G.view store.new) }
+    ensures support { IfOk result (λ e. Denotes Bdd (G.view store.new) e (support_of (G.view store.old).vars (bdd_at (G.view store.old) f))) }
+    ensures work { Adds (value_of_support f (G.view store.old)) (G.view store.old) (G.view store.new) }
+    ensures full { IsErrOf result Stop.Full → Rose (G.view store.old) (G.view store.new) }
+    ensures due { IsErrOf result Stop.Full → IsWork (G.view store.new) (value_of_support f (G.view store.old)) (G.view store.new).due }
+    ensures frames { stack.new.frames ≡ stack.old.frames }
+{
+    match stack.reserve(2 * levels as usize) {
+        Ok(()) => nested::support(store, stack, f),
+        Err(_) => Err(Stop::Memory),
     }
 }

@@ -1,6 +1,6 @@
 use Rattle.std.proofs.Common.{arith}
 use Rattle.edge_bits.specs.declared.edges.Kind.TheVariants.{Bdd}
-use Rattle.node_store.specs.ViewLaws.{Kept-refl, Kept-trans, level-grown, top-grown, Is-grown}
+use Rattle.node_store.specs.ViewLaws.{Kept-refl, Kept-trans, top-grown}
 use Rattle.quantify_ops.specs.QuantifiedLasts.{HasCube-grown}
 use Rattle.quantify_ops.proofs.CubeEdges.{below_step, below_leaf, below_inner}
 use Rattle.quantify_ops.proofs.cubes.below.Goals as goal

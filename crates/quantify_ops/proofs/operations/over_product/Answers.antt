@@ -1,4 +1,4 @@
-use Rattle.std.proofs.Common.{arith, inl, inr, ℕ, Bool, IfOk, subst}
+use Rattle.std.proofs.Common.{inl, inr, ℕ, Bool, IfOk, subst}
 use Rattle.edge_bits.specs.declared.edges.Kind.TheVariants.{Bdd}
 use Rattle.node_store.specs.Views.{Denotes}
 use Rattle.node_store.specs.ViewLaws.{Grown-refl, Grown-trans, Permanent-grown}

@@ -5,7 +5,6 @@ use Rattle.edge_bits.specs.declared.edges.Kind.TheVariants.{Bdd}
 use Rattle.function_laws.specs.Cubes.{cube_of}
 use Rattle.function_laws.specs.Values.{conjunction, projection}
 use Rattle.node_store.specs.Kinds.{Function, BddFunction}
-use Rattle.node_store.specs.Memo.{literal_edge}
 use Rattle.node_store.specs.Views.{View, AreTwo, Denotes, Grown, bdd_at}
 use Rattle.node_store.specs.Work.{Adds, IsWork}
 use Rattle.node_store.specs.ViewLaws.{Denotes-truth, Grown-refl, Grown-trans, Is-from, Permanent-grown, values_at-is}

@@ -1,4 +1,4 @@
-use Rattle.std.proofs.Common.{ap, sym, ◌∙◌}
+use Rattle.std.proofs.Common.{ap, ◌∙◌}
 use Rattle.node_store.specs.Kinds.{BddFunction}
 use Rattle.node_store.specs.ViewLaws.{Grown-refl, Kept-refl, Permanent-grown}
 use Rattle.node_store.specs.WorkLaws.{IsWork-grown}

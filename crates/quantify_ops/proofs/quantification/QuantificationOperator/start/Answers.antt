@@ -1,8 +1,7 @@
-use Rattle.std.proofs.Common.{◌≡◌, refl, ◌∙◌, Ok}
+use Rattle.std.proofs.Common.{refl, Ok}
 use Rattle.std.proofs.lemmas.Result.{err_from_is_err_and}
-use Rattle.edge_bits.specs.declared.edges.Edge.{Edge}
-use Rattle.node_store.specs.Views.{Permanent, bdd_at}
-use Rattle.node_store.specs.ViewLaws.{Denotes-truth, Grown-trans, Kept-trans, Permanent-grown}
+use Rattle.node_store.specs.Views.{bdd_at}
+use Rattle.node_store.specs.ViewLaws.{Denotes-truth, Kept-trans, Permanent-grown}
 use Rattle.node_store.specs.WorkLaws.{Moves-kept}
 use Rattle.node_store.proofs.Stops.{full_stop}
 use Rattle.function_laws.specs.Cubes.{IsExists}
