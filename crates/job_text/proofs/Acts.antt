@@ -1,18 +1,25 @@
 -- Words say one thing at most.
-use Rattle.std.proofs.Common.{◌≡◌, ◌≢◌, ℕ, zero, suc, ◌==◌, Bool, true, false, cond, List, [], ◌∷◌, ◌++◌, map, drop, get_or, Some, refl, ap, sym, ◌∙◌, subst, arith, codes}
+use Rattle.std.proofs.Common.{◌≡◌, ◌≢◌, ℕ, zero, suc, ◌==◌, Bool, true, false, cond, List, [], ◌∷◌, ◌++◌, map, drop, Some, refl, ap, sym, ◌∙◌, subst, arith, codes}
 use Rattle.std.specs.Prelude.{slice_get}
 use Rattle.std.specs.List.{All}
 use Rattle.std.specs.Str.{bytes_eq}
 use Rattle.std.specs.Str.Parse.{digits_value}
+use Rattle.std.proofs.lemmas.Bool.{false≢true}
 use Rattle.std.proofs.lemmas.List.{map-append}
 use Rattle.std.proofs.lemmas.Slice.Eq.{bytes_eq-Decides}
 use Rattle.job_text.specs.declared.job.Act.{Act}
-use Rattle.job_text.specs.declared.job.Act.TheVariants as acts
+use Rattle.job_text.specs.declared.commands.Place.{Place}
+use Rattle.job_text.specs.declared.commands.Place.TheVariants as places
 use Rattle.job_text.specs.declared.job.Command.{Command}
 use Rattle.job_text.specs.declared.job.Register.{Register}
-use Rattle.job_text.specs.Text.{Word, is_name, bit_word}
-use Rattle.job_text.specs.Grammar.{Says, CommandsSay, registers_after, is_assignment, is_drop, target_of, without}
-use Rattle.job_text.proofs.Meanings.{no_equals, no_none, digits_of}
+use Rattle.job_text.specs.declared.operands.Operand.{Operand}
+use Rattle.job_text.specs.declared.operands.Operand.TheVariants as operands
+use Rattle.job_text.specs.Text.{Word, bit_word}
+use Rattle.job_text.specs.Grammar.{Says, Spelling, assigns, tells, Spells, spelling, StandsFor, AllStandFor, CommandsSay, registers_after, is_assignment, is_drop, target_of, without}
+use Rattle.job_text.specs.Faults.{Form, form_in}
+use Rattle.job_text.specs.Drafts.{place_of as due_at, no_operands, with_operands, act_of}
+use Rattle.job_text.proofs.Meanings.{no_assignment, no_none, digits_of}
+use Rattle.job_text.proofs.Spellings.{Follows, IsIn, IsKnown, known}
 
 -- Names are distinct.
 abbrev pub names_of : List Register → List Word
@@ -50,20 +57,12 @@ differ_unless false true rs r w h fresh = subst AllDiffer (sym (names_without w 
 differ_unless false false rs r w h fresh = h
 
 -- what says something has a fresh target where it assigns
-fresh_target : (n : ℕ) (rs : List Register) (words : List Word) (act : Act) → Says n rs words act → is_assignment words ≡ true → NoneIs (target_of words) (names_of rs)
-fresh_target n rs words acts.One h e = subst (λ (w : Word). NoneIs w (names_of rs)) (sym (ap target_of h.2)) (none_of_fresh h.0 rs (h.1).1)
-fresh_target n rs words acts.Zero h e = subst (λ (w : Word). NoneIs w (names_of rs)) (sym (ap target_of h.2)) (none_of_fresh h.0 rs (h.1).1)
-fresh_target n rs words (acts.Var v) h e = subst (λ (w : Word). NoneIs w (names_of rs)) (sym (ap target_of h.3)) (none_of_fresh h.0 rs (h.2).1)
-fresh_target n rs words (acts.Not a) h e = subst (λ (w : Word). NoneIs w (names_of rs)) (sym (ap target_of h.3)) (none_of_fresh h.0 rs (h.2).1)
-fresh_target n rs words (acts.And a b) h e = subst (λ (w : Word). NoneIs w (names_of rs)) (sym (ap target_of h.4)) (none_of_fresh h.0 rs (h.3).1)
-fresh_target n rs words (acts.Or a b) h e = subst (λ (w : Word). NoneIs w (names_of rs)) (sym (ap target_of h.4)) (none_of_fresh h.0 rs (h.3).1)
-fresh_target n rs words (acts.Ite a b d) h e = subst (λ (w : Word). NoneIs w (names_of rs)) (sym (ap target_of h.5)) (none_of_fresh h.0 rs (h.4).1)
-fresh_target n rs words (acts.Drop a) h e = cc (ap is_assignment h.1)
-fresh_target n rs words (acts.Same a b) h e = cc (ap is_assignment h.2, no_equals h.0 (h.3).0)
-fresh_target n rs words (acts.Eval a bs) h e = cc (ap is_assignment h.1, no_equals h.0 (h.2).0)
+fresh_target : (n : ℕ) (rs : List Register) (words : List Word) (spelt : Spelling) → Spells n rs words spelt → is_assignment words ≡ true → NoneIs (target_of words) (names_of rs)
+fresh_target n rs words (assigns command os) h e = subst (λ (w : Word). NoneIs w (names_of rs)) (sym (ap target_of h.2)) (none_of_fresh h.0 rs h.3.1)
+fresh_target n rs words (tells command os) h e = absurd (false≢true (sym (ap is_assignment h.1 ∙ no_assignment n rs command h.0 os h.2) ∙ e))
 
 pub still_differ : (n : ℕ) (rs : List Register) (words : List Word) (act : Act) → AllDiffer (names_of rs) → Says n rs words act → AllDiffer (names_of (registers_after rs words))
-still_differ n rs words act h says = differ_unless (is_assignment words) (is_drop words) rs (target_of words) (target_of (drop 1 words)) h (fresh_target n rs words act says)
+still_differ n rs words act h says = differ_unless (is_assignment words) (is_drop words) rs (target_of words) (target_of (drop 1 words)) h (fresh_target n rs words (spelling act) says)
 
 -- Where a register of this name is
 place_of : List Register → Word → ℕ
@@ -114,56 +113,75 @@ unfolding bits_from
 bits_back [] = refl
 bits_back (b ∷ bs) = ap (λ t. cond t [] (map (λ b. b == 49) (bit_word (b ∷ bs)))) (no_none b bs) ∙ bits_are (b ∷ bs)
 
--- what words say
-abbrev word_at : List Word → ℕ → Word
-word_at words k = get_or words k []
+-- what a word stands for, at its place
+operand_at : List Register → Place → Word → Operand
+operand_at rs places.Fresh w = operands.Target
+operand_at rs places.Held w = operands.Register (place_of rs w)
+operand_at rs places.Variable w = operands.Variable (digits_value 10 w)
+operand_at rs places.Bit w = operands.Bit (bytes_eq w (codes "1"))
+operand_at rs places.Bits w = operands.Bits (bits_from w)
 
-abbrev made_by : List Register → Word → List Word → Act
-made_by rs command words =
-    cond (bytes_eq command (codes "true")) acts.One
-    (cond (bytes_eq command (codes "false")) acts.Zero
-    (cond (bytes_eq command (codes "var")) (acts.Var (digits_value 10 (word_at words 0)))
-    (cond (bytes_eq command (codes "not")) (acts.Not (place_of rs (word_at words 0)))
-    (cond (bytes_eq command (codes "and")) (acts.And (place_of rs (word_at words 0)) (place_of rs (word_at words 1)))
-    (cond (bytes_eq command (codes "or")) (acts.Or (place_of rs (word_at words 0)) (place_of rs (word_at words 1)))
-    (acts.Ite (place_of rs (word_at words 0)) (place_of rs (word_at words 1)) (place_of rs (word_at words 2))))))))
+bit_back : (b : Bool) → bytes_eq (bit_word (b ∷ [])) (codes "1") ≡ b
+bit_back true = refl
+bit_back false = refl
 
-abbrev told_by : List Register → Word → List Word → Act
-told_by rs command words =
-    cond (bytes_eq command (codes "drop")) (acts.Drop (place_of rs (word_at words 0)))
-    (cond (bytes_eq command (codes "same")) (acts.Same (place_of rs (word_at words 0)) (place_of rs (word_at words 1)))
-    (acts.Eval (place_of rs (word_at words 0)) (bits_from (word_at words 1))))
+at_its_place : (n : ℕ) (rs : List Register) (w : Word) (o : Operand) → AllDiffer (names_of rs) → StandsFor n rs w o → operand_at rs (due_at o) w ≡ o
+unfolding operand_at
+at_its_place n rs w operands.Target differ h = refl
+at_its_place n rs w (operands.Register a) differ h = ap operands.Register (at_place rs w a differ h.1)
+at_its_place n rs w (operands.Variable v) differ h = ap operands.Variable h.0.1
+at_its_place n rs w (operands.Bit b) differ h = ap operands.Bit (ap (λ t. bytes_eq t (codes "1")) h ∙ bit_back b)
+at_its_place n rs w (operands.Bits bs) differ h = ap operands.Bits (ap bits_from h.0 ∙ bits_back bs)
 
-abbrev act_of : List Register → List Word → Act
-act_of rs words = cond (bytes_eq (word_at words 1) (codes "=")) (made_by rs (word_at words 2) (drop 3 words)) (told_by rs (word_at words 0) (drop 1 words))
+one_operand : (n : ℕ) (rs : List Register) (w : Word) (o o' : Operand) (place : Place) → AllDiffer (names_of rs) → due_at o ≡ place → due_at o' ≡ place → StandsFor n rs w o → StandsFor n rs w o' → o ≡ o'
+one_operand n rs w o o' place differ e e' h h' =
+    sym (at_its_place n rs w o differ h) ∙ ap (λ p. operand_at rs p w) (e ∙ sym e') ∙ at_its_place n rs w o' differ h'
 
--- a command that assigns nothing
-told : (rs : List Register) (command x : Word) (words : List Word) → is_name x ≡ true → act_of rs (command ∷ x ∷ words) ≡ told_by rs command (x ∷ words)
-told rs command x words h = ap (λ t. cond t (made_by rs (word_at (command ∷ x ∷ words) 2) (drop 3 (command ∷ x ∷ words))) (told_by rs command (x ∷ words))) (no_equals x h)
+-- the same words at the same places stand for the same
+same_operands : (n : ℕ) (rs : List Register) (due repeated : List Place) (words : List Word) (os os' : List Operand) → AllDiffer (names_of rs) → Follows due repeated os → Follows due repeated os'
+    → AllStandFor n rs words os → AllStandFor n rs words os' → os ≡ os'
+same_operands n rs due repeated [] [] [] differ f f' h h' = refl
+same_operands n rs due repeated [] (o ∷ os) os' differ f f' h h' = absurd h
+same_operands n rs due repeated [] [] (o' ∷ os') differ f f' h h' = absurd h'
+same_operands n rs due repeated (w ∷ words) [] os' differ f f' h h' = absurd h
+same_operands n rs due repeated (w ∷ words) (o ∷ os) [] differ f f' h h' = absurd h'
+same_operands n rs [] [] (w ∷ words) (o ∷ os) (o' ∷ os') differ f f' h h' = absurd f
+same_operands n rs [] (p ∷ ps) (w ∷ words) (o ∷ os) (o' ∷ os') differ f f' h h' =
+    ap (λ t. t ∷ os) (one_operand n rs w o o' p differ f.0 f'.0 h.0 h'.0) ∙ ap (λ t. o' ∷ t) (same_operands n rs ps (p ∷ ps) words os os' differ f.1 f'.1 h.1 h'.1)
+same_operands n rs (p ∷ ps) repeated (w ∷ words) (o ∷ os) (o' ∷ os') differ f f' h h' =
+    ap (λ t. t ∷ os) (one_operand n rs w o o' p differ f.0 f'.0 h.0 h'.0) ∙ ap (λ t. o' ∷ t) (same_operands n rs ps repeated words os os' differ f.1 f'.1 h.1 h'.1)
 
-said_act : (n : ℕ) (rs : List Register) (words : List Word) (act : Act) → AllDiffer (names_of rs) → Says n rs words act → act_of rs words ≡ act
-said_act n rs words acts.One differ h = ap (act_of rs) h.2
-said_act n rs words acts.Zero differ h = ap (act_of rs) h.2
-said_act n rs words (acts.Var v) differ h = ap (act_of rs) h.3 ∙ ap acts.Var (h.4).1
-said_act n rs words (acts.Not a) differ h = ap (act_of rs) h.3 ∙ ap acts.Not (at_place rs h.1 a differ (h.4).1)
-said_act n rs words (acts.And a b) differ h =
-    ap (act_of rs) h.4 ∙ ap (λ t. acts.And t (place_of rs h.2)) (at_place rs h.1 a differ (h.5).1) ∙ ap (acts.And a) (at_place rs h.2 b differ (h.6).1)
-said_act n rs words (acts.Or a b) differ h =
-    ap (act_of rs) h.4 ∙ ap (λ t. acts.Or t (place_of rs h.2)) (at_place rs h.1 a differ (h.5).1) ∙ ap (acts.Or a) (at_place rs h.2 b differ (h.6).1)
-said_act n rs words (acts.Ite a b d) differ h =
-    ap (act_of rs) h.5 ∙ ap (λ t. acts.Ite t (place_of rs h.2) (place_of rs h.3)) (at_place rs h.1 a differ (h.6).1)
-    ∙ ap (λ t. acts.Ite a t (place_of rs h.3)) (at_place rs h.2 b differ (h.7).1) ∙ ap (acts.Ite a b) (at_place rs h.3 d differ (h.8).1)
-said_act n rs words (acts.Drop a) differ h =
-    ap (act_of rs) h.1 ∙ told rs (codes "drop") h.0 [] (h.2).0 ∙ ap acts.Drop (at_place rs h.0 a differ (h.2).1)
-said_act n rs words (acts.Same a b) differ h =
-    ap (act_of rs) h.2 ∙ told rs (codes "same") h.0 (h.1 ∷ []) (h.3).0
-    ∙ ap (λ t. acts.Same t (place_of rs h.1)) (at_place rs h.0 a differ (h.3).1) ∙ ap (acts.Same a) (at_place rs h.1 b differ (h.4).1)
-said_act n rs words (acts.Eval a bs) differ h =
-    ap (act_of rs) h.1 ∙ told rs (codes "eval") h.0 (bit_word bs ∷ []) (h.2).0
-    ∙ ap (λ t. acts.Eval t (bits_from (bit_word bs))) (at_place rs h.0 a differ (h.2).1) ∙ ap (acts.Eval a) (bits_back bs)
+-- commands of one word with the same words behind it do the same
+one_made : (n : ℕ) (rs : List Register) (forms : List Form) (command command' : Word) (rest rest' : List Word) (os os' : List Operand) (act act' : Act) → AllDiffer (names_of rs)
+    → IsIn forms command os act → IsIn forms command' os' act' → command ≡ command' → rest ≡ rest' → AllStandFor n rs rest os → AllStandFor n rs rest' os' → act ≡ act'
+one_made n rs forms command command' rest rest' os os' act act' differ k k' e e' h h' =
+    let found : Some k.own ≡ Some k'.own = sym k.found ∙ ap (form_in forms) e ∙ k'.found in
+    let own : k.own ≡ k'.own = cc in
+    let same = same_operands n rs k'.own.places k'.own.repeated rest' os os' differ (subst (λ (t : Form). Follows t.places t.repeated os) own k.follows) k'.follows
+    (subst (λ (t : List Word). AllStandFor n rs t os) e' h) h' in
+    sym k.made ∙ ap (λ (t : Form). act_of t.operation (with_operands no_operands os)) own ∙ ap (λ t. act_of k'.own.operation (with_operands no_operands t)) same ∙ k'.made
+
+told_apart : (n : ℕ) (rs : List Register) (words : List Word) (r command command' : Word) (rest rest' : List Word) (os' : List Operand) → words ≡ r ∷ codes "=" ∷ command ∷ rest
+    → words ≡ command' ∷ rest' → AllStandFor n rs rest' os' → ⊥
+told_apart n rs words r command command' rest rest' os' e e' h' =
+    false≢true (sym (no_assignment n rs command' rest' os' h') ∙ ap is_assignment (sym e' ∙ e))
+
+one_spelt : (n : ℕ) (rs : List Register) (words : List Word) (act act' : Act) (spelt spelt' : Spelling) → AllDiffer (names_of rs) → IsKnown act spelt → IsKnown act' spelt'
+    → Spells n rs words spelt → Spells n rs words spelt' → act ≡ act'
+one_spelt n rs words act act' (assigns command os) (assigns command' os') differ k k' h h' =
+    let lines : h.0 ∷ codes "=" ∷ command ∷ h.1 ≡ h'.0 ∷ codes "=" ∷ command' ∷ h'.1 = sym h.2 ∙ h'.2 in
+    one_made n rs _ command command' h.1 h'.1 os os' act act' differ k k' (cc) (cc) h.4 h'.4
+one_spelt n rs words act act' (assigns command os) (tells command' os') differ k k' h h' =
+    absurd (told_apart n rs words h.0 command command' h.1 h'.0 os' h.2 h'.1 h'.2)
+one_spelt n rs words act act' (tells command os) (assigns command' os') differ k k' h h' =
+    absurd (told_apart n rs words h'.0 command' command h'.1 h.0 os h'.2 h.1 h.2)
+one_spelt n rs words act act' (tells command os) (tells command' os') differ k k' h h' =
+    let lines : command ∷ h.0 ≡ command' ∷ h'.0 = sym h.1 ∙ h'.1 in
+    one_made n rs _ command command' h.0 h'.0 os os' act act' differ k.0 k'.0 (cc) (cc) h.2 h'.2
 
 one_act : (n : ℕ) (rs : List Register) (words words' : List Word) (act act' : Act) → AllDiffer (names_of rs) → words ≡ words' → Says n rs words act → Says n rs words' act' → act ≡ act'
-one_act n rs words words' act act' differ e h h' = sym (said_act n rs words act differ h) ∙ ap (act_of rs) e ∙ said_act n rs words' act' differ h'
+one_act n rs words words' act act' differ e h h' =
+    one_spelt n rs words act act' (spelling act) (spelling act') differ (known act) (known act') h (subst (λ (t : List Word). Says n rs t act') (sym e) h')
 
 -- commands of the same words are the same
 pub same_commands : (n : ℕ) (rs : List Register) (commands commands' : List Command) → AllDiffer (names_of rs) → CommandsSay n rs commands → CommandsSay n rs commands'

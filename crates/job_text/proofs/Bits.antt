@@ -24,11 +24,20 @@ length_bits : (w : List ℕ) → length (map (λ b. b == 49) w) ≡ length w
 length_bits [] = refl
 length_bits (x ∷ w) = ap suc (length_bits w)
 
-pub bits_lem : (w : List ℕ) (bs : List Bool) → bytes_eq w (codes "none") ≡ false → (length w == 0) ≡ false → list_all (λ b. b == 48 || b == 49) w ≡ true → bs ≡ map (λ b. b == 49) w
-    → (is_bits w ≡ true) × (w ≡ bit_word bs) × (length bs ≡ bits_in w)
+bits_lem : (w : List ℕ) (bs : List Bool) → bytes_eq w (codes "none") ≡ false → (length w == 0) ≡ false → list_all (λ b. b == 48 || b == 49) w ≡ true → bs ≡ map (λ b. b == 49) w
+    → (w ≡ bit_word bs) × (length bs ≡ bits_in w)
 bits_lem [] bs word some all e = absurd (false≢true (sym some))
 bits_lem (x ∷ w) bs word some all e = (
-  ap (λ b. b || (not (length (x ∷ w) == 0) && list_all (λ b. b == 48 || b == 49) (x ∷ w))) word ∙ ap (λ b. not b && list_all (λ b. b == 48 || b == 49) (x ∷ w)) some ∙ all,
   sym (bits_back (x ∷ w) all) ∙ ap bit_word (sym e),
   ap length e ∙ length_bits (x ∷ w) ∙ ap (λ b. cond b 0 (length (x ∷ w))) (sym word),
 )
+
+not_true : (b : Bool) → not b ≡ true → b ≡ false
+not_true true h = absurd (false≢true h)
+not_true false h = refl
+
+-- the bits of a 0-1 word that is not `none`
+pub bits_are : (w : List ℕ) (bs : List Bool) → is_bits w ≡ true → bytes_eq w (codes "none") ≡ false → bs ≡ map (λ b. b == 49) w → (w ≡ bit_word bs) × (length bs ≡ bits_in w)
+bits_are w bs h word e =
+    let k = and_true (not (length w == 0)) (list_all (λ b. b == 48 || b == 49) w) (sym (ap (λ b. b || (not (length w == 0) && list_all (λ b. b == 48 || b == 49) w)) word) ∙ h) in
+    bits_lem w bs word (not_true (length w == 0) k.0) k.1 e

@@ -1,5 +1,5 @@
 -- Words without a fault say something, and each text has a reading.
-use Rattle.std.proofs.Common.{◌≡◌, ◌⊎◌, ℕ, zero, suc, ◌+◌, ◌==◌, ◌<◌, ◌≤◌, ◌&&◌, ◌||◌, Bool, true, false, not, cond, List, [], ◌∷◌, ◌++◌, length, map, Option, Some, None, Result, Ok, inl, inr, refl, ap, sym, ◌∙◌, subst, arith, codes, append_assoc}
+use Rattle.std.proofs.Common.{◌≡◌, ◌⊎◌, ℕ, zero, suc, ◌+◌, ◌==◌, ◌<◌, ◌≤◌, ◌&&◌, ◌||◌, Bool, true, false, cond, List, [], ◌∷◌, ◌++◌, length, map, Option, Some, None, option_map, Result, Ok, inl, inr, refl, ap, sym, ◌∙◌, subst, arith, codes, append_assoc}
 use Rattle.std.specs.Prelude.{slice_get, nat_lt, nat_le, is_some}
 use Rattle.std.specs.List.{list_any, list_all}
 use Rattle.std.specs.Str.{bytes_eq}
@@ -9,7 +9,11 @@ use Rattle.std.proofs.lemmas.Bool.Decides.{nat_tests}
 use Rattle.std.proofs.lemmas.List.{append-nil}
 use Rattle.std.proofs.lemmas.Slice.Eq.{bytes_eq-Decides}
 use Rattle.job_text.specs.declared.job.Act.{Act}
-use Rattle.job_text.specs.declared.job.Act.TheVariants as acts
+use Rattle.job_text.specs.declared.commands.Operation.{Operation}
+use Rattle.job_text.specs.declared.commands.Place.{Place}
+use Rattle.job_text.specs.declared.commands.Place.TheVariants as places
+use Rattle.job_text.specs.declared.operands.Operand.{Operand}
+use Rattle.job_text.specs.declared.operands.Operand.TheVariants as operands
 use Rattle.job_text.specs.declared.job.Job.{Job}
 use Rattle.job_text.specs.declared.job.Register.{Register}
 use Rattle.job_text.specs.declared.draft.Draft.{Draft}
@@ -20,11 +24,12 @@ use Rattle.job_text.specs.declared.faults.FaultKind.TheVariants as kinds
 use Rattle.job_text.specs.declared.faults.JobError.{JobError}
 use Rattle.job_text.specs.Text.{Word, IsNumber, is_number, is_allowed, lines_of, words_of, line_words, bit_word}
 use Rattle.job_text.specs.Grammar.{Says, IsFresh, Refers, IsJobText}
-use Rattle.job_text.specs.Faults.{Place, fresh, held, variable, bits, has_form, slot_fault, first_fault, fault_in, or_else, command_fault, slots_of, assignment_slots, telling_slots, is_bits, bits_in, is_session, number_fault, has_begun, words_fault, line_fault, IsFaultText}
-use Rattle.job_text.specs.Drafts.{context_in, Adds, adds_nothing, adds_vars, adds_limit, adds_session, adds_command}
+use Rattle.job_text.specs.Faults.{has_form, slot_fault, first_fault, fault_in, or_else, command_fault, command_of, is_bit, is_bits, bits_in, is_session, number_fault, has_begun, words_fault, line_fault, IsFaultText}
+use Rattle.job_text.specs.Drafts.{IsOperand, AreOperands, no_operands, with_operands, act_of, context_in, Adds, adds_nothing, adds_vars, adds_limit, adds_session, adds_command}
 use Rattle.job_text.specs.Readings.{EachHasOne}
-use Rattle.job_text.proofs.Bits.{bits_lem}
+use Rattle.job_text.proofs.Bits.{bits_are}
 use Rattle.job_text.proofs.Meanings.{Fits, AllFit}
+use Rattle.job_text.proofs.Makings.{says_from}
 use Rattle.job_text.proofs.Reading.{IsRead, nothing_read, read_more, job_from}
 use Rattle.job_text.proofs.RegisterLists.{fresh_from}
 
@@ -61,7 +66,7 @@ where_true : (b : Bool) (fault : FaultKind) → cond b None (Some fault) ≡ Non
 where_true true fault h = refl
 where_true false fault h = cc
 
-fresh_of : (n : ℕ) (rs : List Register) (w : Word) → Fits n rs (fresh, w) → IsFresh rs w
+fresh_of : (n : ℕ) (rs : List Register) (w : Word) → Fits n rs (places.Fresh, w) → IsFresh rs w
 fresh_of n rs w h = (h.0, fresh_from rs w (unless (list_any (λ register. bytes_eq register.name w) rs) kinds.Again h.1))
 
 live_named : (r : Register) (w : Word) → (bytes_eq r.name w && r.live) ≡ true → r ≡ record { name = w; live = true }
@@ -78,7 +83,7 @@ find_live (r ∷ rs) w h = by_cases (bytes_eq r.name w && r.live) refl (λ e. fi
     by_cases true e later = (zero, ap (λ t. Some t) (live_named r w e))
     by_cases false e later = (suc (later e).0, (later e).1)
 
-held_of : (n : ℕ) (rs : List Register) (w : Word) → Fits n rs (held, w) → (a : ℕ) × Refers rs w a
+held_of : (n : ℕ) (rs : List Register) (w : Word) → Fits n rs (places.Held, w) → (a : ℕ) × Refers rs w a
 held_of n rs w h =
     let found = find_live rs w (where_true (list_any (λ register. bytes_eq register.name w && register.live) rs) kinds.Name h.1) in
     (found.0, (h.0, found.1))
@@ -86,148 +91,62 @@ held_of n rs w h =
 below : (d n : ℕ) → nat_lt d n ≡ true → d < n
 below d n e = grind (arith, nat_tests)
 
-variable_of : (n : ℕ) (rs : List Register) (w : Word) → Fits n rs (variable, w) → (v : ℕ) × IsNumber w v × (v < n)
+variable_of : (n : ℕ) (rs : List Register) (w : Word) → Fits n rs (places.Variable, w) → (v : ℕ) × IsNumber w v × (v < n)
 variable_of n rs w h = (digits_value 10 w, (h.0, refl), below (digits_value 10 w) n (where_true (nat_lt (digits_value 10 w) n) kinds.Range h.1))
 
 same : (a b : ℕ) → (a == b) ≡ true → a ≡ b
 same a b e = grind (arith, nat_tests)
-
-not_true : (b : Bool) → not b ≡ true → b ≡ false
-not_true true h = absurd (false≢true h)
-not_true false h = refl
 
 word_of_bits : (w : Word) → is_bits w ≡ true → (bs : List Bool) × (w ≡ bit_word bs) × (length bs ≡ bits_in w)
 word_of_bits w h = by_cases (bytes_eq w (codes "none")) refl
   where
     by_cases : (b : Bool) → bytes_eq w (codes "none") ≡ b → (bs : List Bool) × (w ≡ bit_word bs) × (length bs ≡ bits_in w)
     by_cases true e = ([], (bytes_eq-Decides w (codes "none")).0 e, sym (ap (λ b. cond b 0 (length w)) e))
-    by_cases false e =
-        let k = and_true (not (length w == 0)) (list_all (λ b. b == 48 || b == 49) w) (sym (ap (λ b. b || (not (length w == 0) && list_all (λ b. b == 48 || b == 49) w)) e) ∙ h) in
-        let l = bits_lem w (map (λ b. b == 49) w) e (not_true (length w == 0) k.0) k.1 refl in
-        (map (λ b. b == 49) w, l.1, l.2)
+    by_cases false e = let l = bits_are w (map (λ b. b == 49) w) h e refl in (map (λ b. b == 49) w, l.0, l.1)
 
-bits_at : (n : ℕ) (rs : List Register) (w : Word) → Fits n rs (bits, w) → (bs : List Bool) × (w ≡ bit_word bs) × (length bs ≡ n)
+bits_at : (n : ℕ) (rs : List Register) (w : Word) → Fits n rs (places.Bits, w) → (bs : List Bool) × (w ≡ bit_word bs) × (length bs ≡ n)
 bits_at n rs w h =
     let found = word_of_bits w h.0 in
     (found.0, found.1, found.2 ∙ same (bits_in w) n (where_true (bits_in w == n) kinds.Range h.1))
 
--- What a command without a fault says, by the number of its words
-is_word : (w due : Word) → bytes_eq w due ≡ true → w ≡ due
-is_word w due e = (bytes_eq-Decides w due).0 e
+bit_of : (w : Word) → is_bit w ≡ true → (b : Bool) × (w ≡ bit_word (b ∷ []))
+bit_of w h = by_cases (bytes_eq w (codes "0")) refl
+  where
+    by_cases : (b : Bool) → bytes_eq w (codes "0") ≡ b → (b : Bool) × (w ≡ bit_word (b ∷ []))
+    by_cases true e = (false, (bytes_eq-Decides w (codes "0")).0 e)
+    by_cases false e = (true, (bytes_eq-Decides w (codes "1")).0 (sym (ap (λ b. b || bytes_eq w (codes "1")) e) ∙ h))
 
-abbrev Made : ℕ → List Register → Word → Word → List Word → Type 0
-Made n rs r command words = (act : Act) × Says n rs (r ∷ codes "=" ∷ command ∷ words) act
+-- What words without a fault stand for
+operand_at : (n : ℕ) (rs : List Register) (place : Place) (w : Word) → Fits n rs (place, w) → (o : Operand) × IsOperand n rs (place, w) o
+operand_at n rs places.Fresh w h = (operands.Target, (refl, fresh_of n rs w h))
+operand_at n rs places.Held w h = let a = held_of n rs w h in (operands.Register a.0, (refl, a.1))
+operand_at n rs places.Variable w h = let v = variable_of n rs w h in (operands.Variable v.0, (refl, (v.1, v.2)))
+operand_at n rs places.Bit w h = let b = bit_of w h.0 in (operands.Bit b.0, (refl, b.1))
+operand_at n rs places.Bits w h = let bs = bits_at n rs w h in (operands.Bits bs.0, (refl, (bs.1, bs.2)))
 
-abbrev Told : ℕ → List Register → Word → List Word → Type 0
-Told n rs command words = (act : Act) × Says n rs (command ∷ words) act
+operands_at : (n : ℕ) (rs : List Register) (slots : List (Place × Word)) → AllFit n rs slots → (os : List Operand) × AreOperands n rs slots os
+operands_at n rs [] h = ([], tt)
+operands_at n rs (slot ∷ slots) h =
+    let o = operand_at n rs slot.0 slot.1 h.0 in
+    let more = operands_at n rs slots h.1 in
+    (o.0 ∷ more.0, (o.1, more.1))
 
-made_of_none : (n : ℕ) (rs : List Register) (r command : Word) (b b' : Bool) → bytes_eq command (codes "true") ≡ b → bytes_eq command (codes "false") ≡ b'
-    → fault_in n rs (assignment_slots r command []) ≡ None → Made n rs r command []
-made_of_none n rs r command true b' e e' h =
-    let it = is_word command (codes "true") e in
-    let fit = all_fit n rs ((fresh, r) ∷ []) (sym (ap (λ (w : Word). fault_in n rs (assignment_slots r w [])) it) ∙ h) in
-    (acts.One, (r, fresh_of n rs r fit.0, ap (λ w. r ∷ codes "=" ∷ w ∷ []) it))
-made_of_none n rs r command false true e e' h =
-    let it = is_word command (codes "false") e' in
-    let fit = all_fit n rs ((fresh, r) ∷ []) (sym (ap (λ (w : Word). fault_in n rs (assignment_slots r w [])) it) ∙ h) in
-    (acts.Zero, (r, fresh_of n rs r fit.0, ap (λ w. r ∷ codes "=" ∷ w ∷ []) it))
-made_of_none n rs r command false false e e' h = let k = rw (e, e') at h in cc
-
-made_of_one : (n : ℕ) (rs : List Register) (r command x : Word) (b b' : Bool) → bytes_eq command (codes "var") ≡ b → bytes_eq command (codes "not") ≡ b'
-    → fault_in n rs (assignment_slots r command (x ∷ [])) ≡ None → Made n rs r command (x ∷ [])
-made_of_one n rs r command x true b' e e' h =
-    let it = is_word command (codes "var") e in
-    let fit = all_fit n rs ((fresh, r) ∷ (variable, x) ∷ []) (sym (ap (λ (w : Word). fault_in n rs (assignment_slots r w (x ∷ []))) it) ∙ h) in
-    let v = variable_of n rs x (fit.1).0 in
-    (acts.Var v.0, (r, x, fresh_of n rs r fit.0, ap (λ w. r ∷ codes "=" ∷ w ∷ x ∷ []) it, v.1, v.2))
-made_of_one n rs r command x false true e e' h =
-    let it = is_word command (codes "not") e' in
-    let fit = all_fit n rs ((fresh, r) ∷ (held, x) ∷ []) (sym (ap (λ (w : Word). fault_in n rs (assignment_slots r w (x ∷ []))) it) ∙ h) in
-    let a = held_of n rs x (fit.1).0 in
-    (acts.Not a.0, (r, x, fresh_of n rs r fit.0, ap (λ w. r ∷ codes "=" ∷ w ∷ x ∷ []) it, a.1))
-made_of_one n rs r command x false false e e' h = let k = rw (e, e') at h in cc
-
-made_of_two : (n : ℕ) (rs : List Register) (r command x y : Word) (b b' : Bool) → bytes_eq command (codes "and") ≡ b → bytes_eq command (codes "or") ≡ b'
-    → fault_in n rs (assignment_slots r command (x ∷ y ∷ [])) ≡ None → Made n rs r command (x ∷ y ∷ [])
-made_of_two n rs r command x y true b' e e' h =
-    let it = is_word command (codes "and") e in
-    let fit = all_fit n rs ((fresh, r) ∷ (held, x) ∷ (held, y) ∷ []) (sym (ap (λ (w : Word). fault_in n rs (assignment_slots r w (x ∷ y ∷ []))) it) ∙ h) in
-    let a = held_of n rs x (fit.1).0 in
-    let b = held_of n rs y ((fit.1).1).0 in
-    (acts.And a.0 b.0, (r, x, y, fresh_of n rs r fit.0, ap (λ w. r ∷ codes "=" ∷ w ∷ x ∷ y ∷ []) it, a.1, b.1))
-made_of_two n rs r command x y false true e e' h =
-    let it = is_word command (codes "or") e' in
-    let fit = all_fit n rs ((fresh, r) ∷ (held, x) ∷ (held, y) ∷ []) (sym (ap (λ (w : Word). fault_in n rs (assignment_slots r w (x ∷ y ∷ []))) it) ∙ h) in
-    let a = held_of n rs x (fit.1).0 in
-    let b = held_of n rs y ((fit.1).1).0 in
-    (acts.Or a.0 b.0, (r, x, y, fresh_of n rs r fit.0, ap (λ w. r ∷ codes "=" ∷ w ∷ x ∷ y ∷ []) it, a.1, b.1))
-made_of_two n rs r command x y false false e e' h = let k = rw (e, e') at h in cc
-
-made_of_three : (n : ℕ) (rs : List Register) (r command x y z : Word) (b : Bool) → bytes_eq command (codes "ite") ≡ b
-    → fault_in n rs (assignment_slots r command (x ∷ y ∷ z ∷ [])) ≡ None → Made n rs r command (x ∷ y ∷ z ∷ [])
-made_of_three n rs r command x y z true e h =
-    let it = is_word command (codes "ite") e in
-    let fit = all_fit n rs ((fresh, r) ∷ (held, x) ∷ (held, y) ∷ (held, z) ∷ []) (sym (ap (λ (w : Word). fault_in n rs (assignment_slots r w (x ∷ y ∷ z ∷ []))) it) ∙ h) in
-    let a = held_of n rs x (fit.1).0 in
-    let b = held_of n rs y ((fit.1).1).0 in
-    let d = held_of n rs z (((fit.1).1).1).0 in
-    (acts.Ite a.0 b.0 d.0, (r, x, y, z, fresh_of n rs r fit.0, ap (λ w. r ∷ codes "=" ∷ w ∷ x ∷ y ∷ z ∷ []) it, a.1, b.1, d.1))
-made_of_three n rs r command x y z false e h = let k = rw e at h in cc
-
-made : (n : ℕ) (rs : List Register) (r command : Word) (words : List Word) → fault_in n rs (assignment_slots r command words) ≡ None → Made n rs r command words
-made n rs r command [] h = made_of_none n rs r command (bytes_eq command (codes "true")) (bytes_eq command (codes "false")) refl refl h
-made n rs r command (x ∷ []) h = made_of_one n rs r command x (bytes_eq command (codes "var")) (bytes_eq command (codes "not")) refl refl h
-made n rs r command (x ∷ y ∷ []) h = made_of_two n rs r command x y (bytes_eq command (codes "and")) (bytes_eq command (codes "or")) refl refl h
-made n rs r command (x ∷ y ∷ z ∷ []) h = made_of_three n rs r command x y z (bytes_eq command (codes "ite")) refl h
-made n rs r command (x ∷ y ∷ z ∷ w ∷ words) h = cc h
-
-told_of_one : (n : ℕ) (rs : List Register) (command x : Word) (b : Bool) → bytes_eq command (codes "drop") ≡ b → fault_in n rs (telling_slots command (x ∷ [])) ≡ None → Told n rs command (x ∷ [])
-told_of_one n rs command x true e h =
-    let it = is_word command (codes "drop") e in
-    let fit = all_fit n rs ((held, x) ∷ []) (sym (ap (λ (w : Word). fault_in n rs (telling_slots w (x ∷ []))) it) ∙ h) in
-    let a = held_of n rs x fit.0 in
-    (acts.Drop a.0, (x, ap (λ w. w ∷ x ∷ []) it, a.1))
-told_of_one n rs command x false e h = let k = rw e at h in cc
-
-told_of_two : (n : ℕ) (rs : List Register) (command x y : Word) (b b' : Bool) → bytes_eq command (codes "same") ≡ b → bytes_eq command (codes "eval") ≡ b'
-    → fault_in n rs (telling_slots command (x ∷ y ∷ [])) ≡ None → Told n rs command (x ∷ y ∷ [])
-told_of_two n rs command x y true b' e e' h =
-    let it = is_word command (codes "same") e in
-    let fit = all_fit n rs ((held, x) ∷ (held, y) ∷ []) (sym (ap (λ (w : Word). fault_in n rs (telling_slots w (x ∷ y ∷ []))) it) ∙ h) in
-    let a = held_of n rs x fit.0 in
-    let b = held_of n rs y (fit.1).0 in
-    (acts.Same a.0 b.0, (x, y, ap (λ w. w ∷ x ∷ y ∷ []) it, a.1, b.1))
-told_of_two n rs command x y false true e e' h =
-    let it = is_word command (codes "eval") e' in
-    let fit = all_fit n rs ((held, x) ∷ (bits, y) ∷ []) (sym (ap (λ (w : Word). fault_in n rs (telling_slots w (x ∷ y ∷ []))) it) ∙ h) in
-    let a = held_of n rs x fit.0 in
-    let bs = bits_at n rs y (fit.1).0 in
-    (acts.Eval a.0 bs.0, (x, ap (λ w. w ∷ x ∷ y ∷ []) it ∙ ap (λ w. codes "eval" ∷ x ∷ w ∷ []) bs.1, a.1, bs.2))
-told_of_two n rs command x y false false e e' h = let k = rw (e, e') at h in cc
-
-told : (n : ℕ) (rs : List Register) (command : Word) (words : List Word) → fault_in n rs (telling_slots command words) ≡ None → Told n rs command words
-told n rs command [] h = cc h
-told n rs command (x ∷ []) h = told_of_one n rs command x (bytes_eq command (codes "drop")) refl h
-told n rs command (x ∷ y ∷ []) h = told_of_two n rs command x y (bytes_eq command (codes "same")) (bytes_eq command (codes "eval")) refl refl h
-told n rs command (x ∷ y ∷ z ∷ words) h = cc h
-
-three : (n : ℕ) (rs : List Register) (first second third : Word) (words : List Word) (b : Bool) → bytes_eq second (codes "=") ≡ b → fault_in n rs (slots_of (first ∷ second ∷ third ∷ words)) ≡ None
-    → (act : Act) × Says n rs (first ∷ second ∷ third ∷ words) act
-three n rs first second third words true e h =
-    let it = is_word second (codes "=") e in
-    let says = made n rs first third words (sym (ap (λ b. fault_in n rs (cond b (assignment_slots first third words) (telling_slots first (second ∷ third ∷ words)))) e) ∙ h) in
-    (says.0, subst (λ (w : Word). Says n rs (first ∷ w ∷ third ∷ words) says.0) (sym it) says.1)
-three n rs first second third words false e h =
-    told n rs first (second ∷ third ∷ words) (sym (ap (λ b. fault_in n rs (cond b (assignment_slots first third words) (telling_slots first (second ∷ third ∷ words)))) e) ∙ h)
+-- what a command without a fault says
+of_command : (n : ℕ) (rs : List Register) (words : List Word) (o : Option (Operation × List (Place × Word))) → command_of words ≡ o → fault_in n rs (option_map (λ known. known.1) o) ≡ None
+    → (act : Act) × Says n rs words act
+of_command n rs words None e h = cc h
+of_command n rs words (Some known) e h =
+    let os = operands_at n rs known.1 (all_fit n rs known.1 h) in
+    (act_of known.0 (with_operands no_operands os.0), says_from n rs words known.0 known.1 os.0 e os.1)
 
 command_says : (n : ℕ) (rs : List Register) (words : List Word) → command_fault n rs words ≡ None → (act : Act) × Says n rs words act
 unfolding command_fault
-command_says n rs [] h = cc h
-command_says n rs (first ∷ []) h = told n rs first [] h
-command_says n rs (first ∷ second ∷ []) h = told n rs first (second ∷ []) h
-command_says n rs (first ∷ second ∷ third ∷ words) h = three n rs first second third words (bytes_eq second (codes "=")) refl h
+command_says n rs words h = of_command n rs words (command_of words) refl h
 
 -- What a line without a fault adds
+is_word : (w due : Word) → bytes_eq w due ≡ true → w ≡ due
+is_word w due e = (bytes_eq-Decides w due).0 e
+
 number_form : (due : Word) (in_range : ℕ → Bool) (fault : FaultKind) (words : List Word) → number_fault due in_range fault words ≡ None
     → (number : Word) × (words ≡ due ∷ number ∷ []) × (is_number number ≡ true) × (in_range (digits_value 10 number) ≡ true)
 number_form due in_range fault [] h = cc h

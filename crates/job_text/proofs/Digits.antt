@@ -1,5 +1,6 @@
 -- The value of digits.
-use Rattle.std.proofs.Common.{◌≡◌, ℕ, ◌+◌, ◌-◌, ◌*◌, ◌<◌, Bool, true, false, List, length, min, take, get_or, refl, ap, sym, ◌∙◌, arith}
+use Rattle.std.proofs.Common.{◌≡◌, ℕ, ◌+◌, ◌-◌, ◌*◌, ◌<◌, ◌==◌, ◌&&◌, ◌||◌, not, Bool, true, false, List, length, min, take, get_or, refl, ap, sym, ◌∙◌, arith}
+use Rattle.std.specs.Prelude.{slice_index}
 use Rattle.std.specs.List.{list_all}
 use Rattle.std.specs.Char.{is_ascii_digit, digit_value}
 use Rattle.std.specs.Str.Parse.{digits_value}
@@ -7,6 +8,7 @@ use Rattle.std.proofs.lemmas.Bool.{false≢true}
 use Rattle.std.proofs.lemmas.Bool.Decides.{nat_tests}
 use Rattle.std.proofs.lemmas.List.Folds.{list_all_at}
 use Rattle.std.proofs.lemmas.Int.Digits.{digits_value_more}
+use Rattle.job_text.specs.Text.{is_number}
 
 pub all_at : (p : ℕ → Bool) (xs : List ℕ) (i : ℕ) → list_all p xs ≡ true → i < length xs → p (get_or xs i 0) ≡ true
 all_at p xs i h k = by_cases (p (get_or xs i 0)) refl
@@ -28,3 +30,13 @@ digits_step word i v b all h e at =
     capped v (b - 48) (digits_value 10 (take i word)) e
     ∙ ap (λ t. min (digits_value 10 (take i word) * 10 + t) 4000000000) (ap (λ t. t - 48) at ∙ sym d)
     ∙ ap (λ t. min t 4000000000) (sym (digits_value_more 10 word i h))
+
+-- a number has digits
+and_true : (a b c : Bool) → (a && b && c) ≡ true → b ≡ true
+and_true true true c h = refl
+and_true true false c h = h
+and_true false b c h = absurd (false≢true h)
+
+pub digits_in : (word : List ℕ) → is_number word ≡ true → list_all is_ascii_digit word ≡ true
+unfolding is_number
+digits_in word h = and_true (not (length word == 0)) (list_all is_ascii_digit word) (not (slice_index word 0 == 48) || length word == 1) h

@@ -2,9 +2,13 @@ pub mod Acts
 pub mod Bits
 pub mod Completeness
 pub mod Digits
+pub mod Effects
+pub mod Filling
 pub mod Forms
+pub mod Makings
 pub mod Meanings
 pub mod OneReading
 pub mod Reading
 pub mod RegisterLists
+pub mod Spellings
 pub mod Split

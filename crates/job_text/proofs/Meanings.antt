@@ -1,5 +1,5 @@
 -- Words that say something have no fault.
-use Rattle.std.proofs.Common.{◌≡◌, ◌≢◌, ℕ, zero, suc, ◌==◌, ◌<◌, ◌&&◌, ◌||◌, Bool, true, false, not, cond, List, [], ◌∷◌, length, map, Some, None, refl, ap, sym, ◌∙◌, arith, codes}
+use Rattle.std.proofs.Common.{◌≡◌, ◌≢◌, ℕ, zero, suc, ◌==◌, ◌<◌, ◌&&◌, ◌||◌, Bool, true, false, not, cond, List, [], ◌∷◌, ◌++◌, length, map, Some, None, option_map, option_and_then, refl, ap, sym, ◌∙◌, subst, arith, codes}
 use Rattle.std.specs.Prelude.{slice_get, nat_lt}
 use Rattle.std.specs.List.{list_any, list_all, All}
 use Rattle.std.specs.Str.{bytes_eq}
@@ -8,13 +8,18 @@ use Rattle.std.proofs.lemmas.Bool.{false≢true}
 use Rattle.std.proofs.lemmas.Bool.Decides.{nat_tests}
 use Rattle.std.proofs.lemmas.Slice.Eq.{bytes_eq-Decides}
 use Rattle.job_text.specs.declared.job.Act.{Act}
-use Rattle.job_text.specs.declared.job.Act.TheVariants.{One, Zero, Var, Not, And, Or, Ite, Drop, Same, Eval}
+use Rattle.job_text.specs.declared.commands.Place.{Place}
+use Rattle.job_text.specs.declared.commands.Place.TheVariants as places
 use Rattle.job_text.specs.declared.job.Register.{Register}
+use Rattle.job_text.specs.declared.operands.Operand.{Operand}
+use Rattle.job_text.specs.declared.operands.Operand.TheVariants as operands
 use Rattle.job_text.specs.declared.faults.FaultKind.TheVariants as kinds
-use Rattle.job_text.specs.Text.{Word, IsNumber, is_name, bit_word}
-use Rattle.job_text.specs.Grammar.{Says, IsFresh, Refers}
-use Rattle.job_text.specs.Faults.{Place, fresh, held, variable, bits, has_form, slot_fault, first_fault, fault_in, or_else, command_fault, slots_of, is_bits, bits_in}
+use Rattle.job_text.specs.Text.{Word, IsNumber, is_name, is_number, bit_word}
+use Rattle.job_text.specs.Grammar.{Says, Spelling, assigns, tells, Spells, spelling, StandsFor, AllStandFor, IsFresh, Refers, is_assignment}
+use Rattle.job_text.specs.Faults.{Form, form_in, assigning, telling, filled, command_in, has_form, slot_fault, first_fault, fault_in, or_else, command_fault, command_of, is_bit, is_bits, bits_in, is_session}
+use Rattle.job_text.specs.Drafts.{place_of, IsOperand, AreOperands}
 use Rattle.job_text.proofs.Forms.{telling_is}
+use Rattle.job_text.proofs.Spellings.{Follows, IsKnown, known}
 
 -- the word has the form that is due, and no fault
 abbrev pub Fits : ℕ → List Register → Place × Word → Type 0
@@ -62,16 +67,16 @@ any_one [] w a h = cc
 any_one (r ∷ rs) w zero h = ap (λ b. b || list_any (λ register. bytes_eq register.name w && register.live) rs) (same_some r w h)
 any_one (r ∷ rs) w (suc a) h = ap (λ b. (bytes_eq r.name w && r.live) || b) (any_one rs w a h) ∙ or_true (bytes_eq r.name w && r.live)
 
-pub fresh_fits : (n : ℕ) (rs : List Register) (w : Word) → IsFresh rs w → Fits n rs (fresh, w)
+pub fresh_fits : (n : ℕ) (rs : List Register) (w : Word) → IsFresh rs w → Fits n rs (places.Fresh, w)
 fresh_fits n rs w h = (h.0, ap (λ b. cond b (Some kinds.Again) None) (any_none rs w h.1))
 
-pub held_fits : (n : ℕ) (rs : List Register) (w : Word) (a : ℕ) → Refers rs w a → Fits n rs (held, w)
+pub held_fits : (n : ℕ) (rs : List Register) (w : Word) (a : ℕ) → Refers rs w a → Fits n rs (places.Held, w)
 held_fits n rs w a h = (h.0, ap (λ b. cond b None (Some kinds.Name)) (any_one rs w a h.1))
 
 below : (v d n : ℕ) → d ≡ v → v < n → nat_lt d n ≡ true
 below v d n e h = grind (arith, nat_tests)
 
-pub variable_fits : (n : ℕ) (rs : List Register) (w : Word) (v : ℕ) → IsNumber w v → v < n → Fits n rs (variable, w)
+pub variable_fits : (n : ℕ) (rs : List Register) (w : Word) (v : ℕ) → IsNumber w v → v < n → Fits n rs (places.Variable, w)
 variable_fits n rs w v h lt = (h.0, ap (λ b. cond b None (Some kinds.Range)) (below v (digits_value 10 w) n h.1 lt))
 
 abbrev pub digits_of : List Bool → List ℕ
@@ -107,60 +112,115 @@ length_bit_word (b ∷ bs) = ap (λ t. cond t 0 (length (bit_word (b ∷ bs)))) 
 same_number : (a b : ℕ) → a ≡ b → (a == b) ≡ true
 same_number a b e = grind (arith, nat_tests)
 
-pub bits_fit : (n : ℕ) (rs : List Register) (bs : List Bool) → length bs ≡ n → Fits n rs (bits, bit_word bs)
+pub bits_fit : (n : ℕ) (rs : List Register) (bs : List Bool) → length bs ≡ n → Fits n rs (places.Bits, bit_word bs)
 bits_fit n rs bs e = (form_of_bits bs, ap (λ b. cond b None (Some kinds.Range)) (same_number (bits_in (bit_word bs)) n (length_bit_word bs ∙ e)))
 
--- `=` is no name
-equals_is_none : is_name (codes "=") ≡ false
-unfolding is_name
-equals_is_none = refl
+pub bit_fits : (n : ℕ) (rs : List Register) (w : Word) (b : Bool) → w ≡ bit_word (b ∷ []) → Fits n rs (places.Bit, w)
+bit_fits n rs w true e = (ap is_bit e, refl)
+bit_fits n rs w false e = (ap is_bit e, refl)
 
-pub no_equals : (w : Word) → is_name w ≡ true → bytes_eq w (codes "=") ≡ false
-no_equals w h = by_cases (bytes_eq w (codes "=")) refl
+-- A word that stands for the operand of its place has no fault there.
+pub operand_fits : (n : ℕ) (rs : List Register) (slot : Place × Word) (operand : Operand) → IsOperand n rs slot operand → Fits n rs slot
+operand_fits n rs slot operands.Target h = subst (λ (p : Place). Fits n rs (p, slot.1)) h.0 (fresh_fits n rs slot.1 h.1)
+operand_fits n rs slot (operands.Register a) h = subst (λ (p : Place). Fits n rs (p, slot.1)) h.0 (held_fits n rs slot.1 a h.1)
+operand_fits n rs slot (operands.Variable v) h = subst (λ (p : Place). Fits n rs (p, slot.1)) h.0 (variable_fits n rs slot.1 v h.1.0 h.1.1)
+operand_fits n rs slot (operands.Bit b) h = subst (λ (p : Place). Fits n rs (p, slot.1)) h.0 (bit_fits n rs slot.1 b h.1)
+operand_fits n rs slot (operands.Bits bs) h =
+    subst (λ (p : Place). Fits n rs (p, slot.1)) h.0 (subst (λ (w : Word). Fits n rs (places.Bits, w)) (sym h.1.0) (bits_fit n rs bs h.1.1))
+
+pub operands_fit : (n : ℕ) (rs : List Register) (slots : List (Place × Word)) (os : List Operand) → AreOperands n rs slots os → AllFit n rs slots
+operands_fit n rs [] [] h = tt
+operands_fit n rs [] (o ∷ os) h = absurd h
+operands_fit n rs (slot ∷ slots) [] h = absurd h
+operands_fit n rs (slot ∷ slots) (o ∷ os) h = (operand_fits n rs slot o h.0, operands_fit n rs slots os h.1)
+
+-- the words with the places of their operands
+abbrev pub slots_for : List Operand → List Word → List (Place × Word)
+slots_for [] words = []
+slots_for (o ∷ os) [] = []
+slots_for (o ∷ os) (word ∷ words) = (place_of o, word) ∷ slots_for os words
+
+pub are_operands : (n : ℕ) (rs : List Register) (words : List Word) (os : List Operand) → AllStandFor n rs words os → AreOperands n rs (slots_for os words) os
+are_operands n rs [] [] h = tt
+are_operands n rs [] (o ∷ os) h = absurd h
+are_operands n rs (word ∷ words) [] h = absurd h
+are_operands n rs (word ∷ words) (o ∷ os) h = ((refl, h.0), are_operands n rs words os h.1)
+
+pub filled_by : (n : ℕ) (rs : List Register) (due repeated : List Place) (words : List Word) (os : List Operand) → AllStandFor n rs words os → Follows due repeated os
+    → filled due repeated words ≡ Some (slots_for os words)
+filled_by n rs [] repeated [] [] h f = refl
+filled_by n rs (p ∷ ps) repeated [] [] h f = absurd f
+filled_by n rs due repeated [] (o ∷ os) h f = absurd h
+filled_by n rs due repeated (w ∷ words) [] h f = absurd h
+filled_by n rs [] [] (w ∷ words) (o ∷ os) h f = absurd f
+filled_by n rs [] (p ∷ ps) (w ∷ words) (o ∷ os) h f =
+    ap (λ slots. option_map (λ more. (p, w) ∷ more) slots) (filled_by n rs ps (p ∷ ps) words os h.1 f.1) ∙ ap (λ q. Some ((q, w) ∷ slots_for os words)) (sym f.0)
+filled_by n rs (p ∷ ps) repeated (w ∷ words) (o ∷ os) h f =
+    ap (λ slots. option_map (λ more. (p, w) ∷ more) slots) (filled_by n rs ps repeated words os h.1 f.1) ∙ ap (λ q. Some ((q, w) ∷ slots_for os words)) (sym f.0)
+
+pub command_is : (forms : List Form) (before : List (Place × Word)) (command : Word) (words : List Word) (own : Form) (slots : List (Place × Word)) → form_in forms command ≡ Some own
+    → filled own.places own.repeated words ≡ Some slots → command_in forms before command words ≡ Some (own.operation, before ++ slots)
+command_is forms before command words own slots e f =
+    ap (λ o. option_and_then (λ known. option_map (λ slots. (known.operation, before ++ slots)) (filled known.places known.repeated words)) o) e
+    ∙ ap (λ o. option_map (λ slots. (own.operation, before ++ slots)) o) f
+
+-- `=` stands for nothing
+equals_is_none : (is_name (codes "=") ≡ false) × (is_number (codes "=") ≡ false)
+unfolding is_name is_number
+equals_is_none = (refl, refl)
+
+bits_no_equals : (bs : List Bool) → bytes_eq (bit_word bs) (codes "=") ≡ false
+bits_no_equals [] = refl
+bits_no_equals (true ∷ bs) = refl
+bits_no_equals (false ∷ bs) = refl
+
+unlike_equals : (p : Word → Bool) (w : Word) → p (codes "=") ≡ false → p w ≡ true → bytes_eq w (codes "=") ≡ false
+unlike_equals p w none h = by_cases (bytes_eq w (codes "=")) refl
   where
     by_cases : (b : Bool) → bytes_eq w (codes "=") ≡ b → bytes_eq w (codes "=") ≡ false
     by_cases false e = e
-    by_cases true e = absurd (false≢true (sym equals_is_none ∙ ap is_name (sym ((bytes_eq-Decides w (codes "=")).0 e)) ∙ h))
+    by_cases true e = absurd (false≢true (sym none ∙ ap p (sym ((bytes_eq-Decides w (codes "=")).0 e)) ∙ h))
+
+pub no_equals : (n : ℕ) (rs : List Register) (w : Word) (o : Operand) → StandsFor n rs w o → bytes_eq w (codes "=") ≡ false
+no_equals n rs w operands.Target h = unlike_equals is_name w equals_is_none.0 h.0
+no_equals n rs w (operands.Register a) h = unlike_equals is_name w equals_is_none.0 h.0
+no_equals n rs w (operands.Variable v) h = unlike_equals is_number w equals_is_none.1 h.0.0
+no_equals n rs w (operands.Bit b) h = ap (λ t. bytes_eq t (codes "=")) h ∙ bits_no_equals (b ∷ [])
+no_equals n rs w (operands.Bits bs) h = ap (λ t. bytes_eq t (codes "=")) h.0 ∙ bits_no_equals bs
+
+pub no_assignment : (n : ℕ) (rs : List Register) (command : Word) (words : List Word) (os : List Operand) → AllStandFor n rs words os → is_assignment (command ∷ words) ≡ false
+no_assignment n rs command [] os h = refl
+no_assignment n rs command (w ∷ []) os h = refl
+no_assignment n rs command (w ∷ x ∷ words) [] h = absurd h
+no_assignment n rs command (w ∷ x ∷ words) (o ∷ os) h = no_equals n rs w o h.0
 
 -- what says something is no faulty command
-pub says_well : (n : ℕ) (rs : List Register) (words : List Word) (act : Act) → Says n rs words act → command_fault n rs words ≡ None
+spells_well : (n : ℕ) (rs : List Register) (words : List Word) (act : Act) (spelt : Spelling) → IsKnown act spelt → Spells n rs words spelt → command_fault n rs words ≡ None
 unfolding command_fault
-says_well n rs words One h = ap (λ ws. fault_in n rs (slots_of ws)) h.2 ∙ fits_all n rs ((fresh, h.0) ∷ []) (fresh_fits n rs h.0 h.1, tt)
-says_well n rs words Zero h = ap (λ ws. fault_in n rs (slots_of ws)) h.2 ∙ fits_all n rs ((fresh, h.0) ∷ []) (fresh_fits n rs h.0 h.1, tt)
-says_well n rs words (Var v) h =
-    ap (λ ws. fault_in n rs (slots_of ws)) h.3
-    ∙ fits_all n rs ((fresh, h.0) ∷ (variable, h.1) ∷ []) (fresh_fits n rs h.0 h.2, (variable_fits n rs h.1 v h.4 h.5, tt))
-says_well n rs words (Not a) h =
-    ap (λ ws. fault_in n rs (slots_of ws)) h.3
-    ∙ fits_all n rs ((fresh, h.0) ∷ (held, h.1) ∷ []) (fresh_fits n rs h.0 h.2, (held_fits n rs h.1 a h.4, tt))
-says_well n rs words (And a b) h =
-    ap (λ ws. fault_in n rs (slots_of ws)) h.4
-    ∙ fits_all n rs ((fresh, h.0) ∷ (held, h.1) ∷ (held, h.2) ∷ []) (fresh_fits n rs h.0 h.3, (held_fits n rs h.1 a h.5, (held_fits n rs h.2 b h.6, tt)))
-says_well n rs words (Or a b) h =
-    ap (λ ws. fault_in n rs (slots_of ws)) h.4
-    ∙ fits_all n rs ((fresh, h.0) ∷ (held, h.1) ∷ (held, h.2) ∷ []) (fresh_fits n rs h.0 h.3, (held_fits n rs h.1 a h.5, (held_fits n rs h.2 b h.6, tt)))
-says_well n rs words (Ite a b c) h =
-    ap (λ ws. fault_in n rs (slots_of ws)) h.5
-    ∙ fits_all n rs ((fresh, h.0) ∷ (held, h.1) ∷ (held, h.2) ∷ (held, h.3) ∷ [])
-    (fresh_fits n rs h.0 h.4, (held_fits n rs h.1 a h.6, (held_fits n rs h.2 b h.7, (held_fits n rs h.3 c h.8, tt))))
-says_well n rs words (Drop a) h =
-    ap (λ ws. fault_in n rs (slots_of ws)) h.1 ∙ fits_all n rs ((held, h.0) ∷ []) (held_fits n rs h.0 a h.2, tt)
-says_well n rs words (Same a b) h =
-    ap (λ ws. fault_in n rs (slots_of ws)) h.2 ∙ ap (fault_in n rs) (telling_is (codes "same") (h.0 ∷ h.1 ∷ []) (no_equals h.0 (h.3).0))
-    ∙ fits_all n rs ((held, h.0) ∷ (held, h.1) ∷ []) (held_fits n rs h.0 a h.3, (held_fits n rs h.1 b h.4, tt))
-says_well n rs words (Eval a bs) h =
-    ap (λ ws. fault_in n rs (slots_of ws)) h.1 ∙ ap (fault_in n rs) (telling_is (codes "eval") (h.0 ∷ bit_word bs ∷ []) (no_equals h.0 (h.2).0))
-    ∙ fits_all n rs ((held, h.0) ∷ (bits, bit_word bs) ∷ []) (held_fits n rs h.0 a h.2, (bits_fit n rs bs h.3, tt))
+spells_well n rs words act (assigns command os) known h =
+    ap (λ ws. fault_in n rs (option_map (λ known. known.1) (command_of ws))) h.2
+    ∙ ap (λ o. fault_in n rs (option_map (λ known. known.1) o))
+    (command_is assigning ((places.Fresh, h.0) ∷ []) command h.1 known.own (slots_for os h.1) known.found (filled_by n rs known.own.places known.own.repeated h.1 os h.4 known.follows))
+    ∙ fits_all n rs ((places.Fresh, h.0) ∷ slots_for os h.1) (fresh_fits n rs h.0 h.3, operands_fit n rs (slots_for os h.1) os (are_operands n rs h.1 os h.4))
+spells_well n rs words act (tells command os) known h =
+    ap (λ ws. fault_in n rs (option_map (λ known. known.1) (command_of ws))) h.1
+    ∙ ap (λ o. fault_in n rs (option_map (λ known. known.1) o))
+    (telling_is command h.0 (no_assignment n rs command h.0 os h.2)
+    ∙ command_is telling [] command h.0 known.0.own (slots_for os h.0) known.0.found (filled_by n rs known.0.own.places known.0.own.repeated h.0 os h.2 known.0.follows))
+    ∙ fits_all n rs (slots_for os h.0) (operands_fit n rs (slots_for os h.0) os (are_operands n rs h.0 os h.2))
 
--- a command has two words or more
-pub two_words : (n : ℕ) (rs : List Register) (words : List Word) (act : Act) → Says n rs words act → (first second : Word) × (rest : List Word) × (words ≡ first ∷ second ∷ rest)
-two_words n rs words One h = (h.0, codes "=", codes "true" ∷ [], h.2)
-two_words n rs words Zero h = (h.0, codes "=", codes "false" ∷ [], h.2)
-two_words n rs words (Var v) h = (h.0, codes "=", codes "var" ∷ h.1 ∷ [], h.3)
-two_words n rs words (Not a) h = (h.0, codes "=", codes "not" ∷ h.1 ∷ [], h.3)
-two_words n rs words (And a b) h = (h.0, codes "=", codes "and" ∷ h.1 ∷ h.2 ∷ [], h.4)
-two_words n rs words (Or a b) h = (h.0, codes "=", codes "or" ∷ h.1 ∷ h.2 ∷ [], h.4)
-two_words n rs words (Ite a b c) h = (h.0, codes "=", codes "ite" ∷ h.1 ∷ h.2 ∷ h.3 ∷ [], h.5)
-two_words n rs words (Drop a) h = (codes "drop", h.0, [], h.1)
-two_words n rs words (Same a b) h = (codes "same", h.0, h.1 ∷ [], h.2)
-two_words n rs words (Eval a bs) h = (codes "eval", h.0, bit_word bs ∷ [], h.1)
+pub says_well : (n : ℕ) (rs : List Register) (words : List Word) (act : Act) → Says n rs words act → command_fault n rs words ≡ None
+says_well n rs words act h = spells_well n rs words act (spelling act) (known act) h
+
+-- a command has words, and is no `session`
+one_word : (command : Word) (rest : List Word) → bytes_eq command (codes "session") ≡ false → is_session (command ∷ rest) ≡ false
+one_word command [] h = h
+one_word command (word ∷ rest) h = refl
+
+spells_words : (n : ℕ) (rs : List Register) (words : List Word) (act : Act) (spelt : Spelling) → IsKnown act spelt → Spells n rs words spelt
+    → (first : Word) × (rest : List Word) × (words ≡ first ∷ rest) × (is_session words ≡ false)
+spells_words n rs words act (assigns command os) known h = (h.0, codes "=" ∷ command ∷ h.1, h.2, ap is_session h.2)
+spells_words n rs words act (tells command os) known h = (command, h.0, h.1, ap is_session h.1 ∙ one_word command h.0 known.1)
+
+pub says_words : (n : ℕ) (rs : List Register) (words : List Word) (act : Act) → Says n rs words act → (first : Word) × (rest : List Word) × (words ≡ first ∷ rest) × (is_session words ≡ false)
+says_words n rs words act h = spells_words n rs words act (spelling act) (known act) h

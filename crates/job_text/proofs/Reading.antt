@@ -20,9 +20,9 @@ use Rattle.job_text.specs.declared.faults.JobError.{JobError}
 use Rattle.job_text.specs.declared.faults.JobError.TheVariants as errors
 use Rattle.job_text.specs.Text.{Word, IsNumber, is_number, is_allowed, lines_of, words_of, line_words}
 use Rattle.job_text.specs.Grammar.{Says, CommandsSay, registers_after, is_assignment, is_drop, without, section_lines, said_lines, LimitLines, IsJobText}
-use Rattle.job_text.specs.Faults.{Context, at_start, sized, within, has_begun, words_fault, line_fault, context_after, context_behind, Faultless, FaultyLine, HasFault, command_fault}
+use Rattle.job_text.specs.Faults.{Context, at_start, sized, within, has_begun, words_fault, line_fault, context_after, context_behind, Faultless, FaultyLine, HasFault, command_fault, is_session}
 use Rattle.job_text.specs.Drafts.{context_in, Adds, adds_nothing, adds_vars, adds_limit, adds_session, adds_command, IsSmall, EndStop}
-use Rattle.job_text.proofs.Meanings.{says_well, two_words}
+use Rattle.job_text.proofs.Meanings.{says_well, says_words}
 
 abbrev pub has_words : List Word → Bool
 has_words words = not (length words == 0)
@@ -106,12 +106,15 @@ limit_in_range d l n e low high = grind (arith, nat_tests)
 number_well : (b c : Bool) (fault : FaultKind) → b ≡ true → c ≡ true → cond (true && b) (cond c None (Some fault)) (Some kinds.Word) ≡ None
 number_well b c fault e f = ap (λ t. cond (true && t) (cond c None (Some fault)) (Some kinds.Word)) e ∙ ap (λ t. cond t None (Some fault)) f
 
+no_session : (n : ℕ) (rs : List Register) (first : Word) (rest : List Word) → is_session (first ∷ rest) ≡ false → words_fault (within n rs) (first ∷ rest) ≡ command_fault n rs (first ∷ rest)
+no_session n rs first rest e = ap (λ b. cond b (Some kinds.Limit) (command_fault n rs (first ∷ rest))) e
+
 pub command_line : (c : Context) (n : ℕ) (rs : List Register) (words : List Word) (act : Act) → c ≡ within n rs → Says n rs words act
     → (words_fault c words ≡ None) × (context_after c words ≡ within n (registers_after rs words))
 command_line c n rs words act e says =
-    let two = two_words n rs words act says in (
-      ap (λ t. words_fault t words) e ∙ ap (words_fault (within n rs)) two.3 ∙ sym (ap (command_fault n rs) two.3) ∙ says_well n rs words act says,
-      ap (λ t. context_after t words) e ∙ ap (context_after (within n rs)) two.3 ∙ sym (ap (λ t. within n (registers_after rs t)) two.3),
+    let some = says_words n rs words act says in (
+      ap (λ t. words_fault t words) e ∙ ap (words_fault (within n rs)) some.2 ∙ no_session n rs some.0 some.1 (ap is_session (sym some.2) ∙ some.3) ∙ sym (ap (command_fault n rs) some.2) ∙ says_well n rs words act says,
+      ap (λ t. context_after t words) e ∙ ap (context_after (within n rs)) some.2 ∙ sym (ap (λ t. within n (registers_after rs t)) some.2),
     )
 
 pub vars_line : (number : Word) (n : ℕ) → IsNumber number n → n ≤ 1024
@@ -185,8 +188,8 @@ adds_spelled old new words said (adds_command g) h =
     let k : Spelled (Begun g.0 g.1) said = subst (λ (t : Draft). Spelled t said) g.3 h in
     let n = (g.1).scope.vars in
     let rs = (g.1).scope.registers in
-    let two = two_words n rs words g.2 g.4 in
-    let one : filter has_words (words ∷ []) ≡ words ∷ [] = ap (λ ws. filter has_words (ws ∷ [])) two.3 ∙ some_words two.0 (two.1 ∷ two.2) ∙ sym (ap (λ ws. ws ∷ []) two.3) in
+    let some = says_words n rs words g.2 g.4 in
+    let one : filter has_words (words ∷ []) ≡ words ∷ [] = ap (λ ws. filter has_words (ws ∷ [])) some.2 ∙ some_words some.0 some.1 ∙ sym (ap (λ ws. ws ∷ []) some.2) in
     subst (λ (t : Draft). Spelled t (said ++ filter has_words (words ∷ []))) (sym g.5) (
       k.0,
       k.1,

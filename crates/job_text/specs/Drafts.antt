@@ -1,9 +1,18 @@
 -- What the reader keeps from line to line.
-use Rattle.std.specs.Prelude.{◌≡◌, ℕ, ◌+◌, ◌≤◌, List, [], ◌∷◌, ◌++◌, Some, None, length, codes, is_some, unwrap_or, IfSome, false, Option}
+use Rattle.std.specs.Prelude.{◌≡◌, ℕ, ◌+◌, ◌≤◌, List, [], ◌∷◌, ◌++◌, Some, None, length, codes, is_some, unwrap_or, IfSome, false, Option, map, slice_index, slice_index_or}
 use Rattle.job_text.specs.declared.job.Act.{Act}
 use Rattle.job_text.specs.declared.job.Register.{Register}
-use Rattle.job_text.specs.declared.commands.Operands.{Operands}
-use Rattle.job_text.specs.declared.commands.Operands.TheVariants as operands
+use Rattle.job_text.specs.declared.job.Act.TheVariants as acts
+use Rattle.job_text.specs.declared.commands.Known.{Known}
+use Rattle.job_text.specs.declared.slots.Line.{Line}
+use Rattle.job_text.specs.declared.commands.Operation.{Operation}
+use Rattle.job_text.specs.declared.commands.Operation.TheVariants as does
+use Rattle.job_text.specs.declared.commands.Place.{Place}
+use Rattle.job_text.specs.declared.commands.Place.TheVariants as places
+use Rattle.job_text.specs.declared.slots.Slot.{Slot}
+use Rattle.job_text.specs.declared.operands.Operand.{Operand}
+use Rattle.job_text.specs.declared.operands.Operand.TheVariants as operands
+use Rattle.job_text.specs.declared.operands.Operands.{Operands}
 use Rattle.job_text.specs.declared.draft.Draft.{Draft}
 use Rattle.job_text.specs.declared.draft.Draft.TheVariants.{Nothing, Sized, Begun}
 use Rattle.job_text.specs.declared.draft.Section.{Section}
@@ -13,8 +22,8 @@ use Rattle.job_text.specs.declared.faults.JobError.TheVariants as errors
 use Rattle.job_text.specs.declared.faults.Stop.{Stop}
 use Rattle.job_text.specs.declared.faults.Stop.TheVariants as stops
 use Rattle.job_text.specs.Text.{Word, IsNumber}
-use Rattle.job_text.specs.Grammar.{Says, registers_after}
-use Rattle.job_text.specs.Faults.{Context, at_start, sized, within, has_begun, words_fault, Place, fault_in, command_fault, assignment_slots, telling_slots}
+use Rattle.job_text.specs.Grammar.{Says, StandsFor, registers_after}
+use Rattle.job_text.specs.Faults.{Context, at_start, sized, within, has_begun, words_fault, Form, form, slot_fault, first_fault, command_fault}
 
 -- what a draft leaves to the next line
 abbrev pub context_in : Draft → Context
@@ -54,20 +63,85 @@ pub data Adds (old : Draft) (words : List Word) (new : Draft) : Type 0 where
   adds_session : AddsSession old words new → Adds old words new
   adds_command : AddsCommand old words new → Adds old words new
 
--- why the words at these places were not taken
+-- the place at which such an operand is due
+abbrev pub place_of : Operand → Place
+place_of operands.Target = places.Fresh
+place_of (operands.Register a) = places.Held
+place_of (operands.Variable v) = places.Variable
+place_of (operands.Bit b) = places.Bit
+place_of (operands.Bits bits) = places.Bits
+
+-- the word at this place stands for the operand
+abbrev pub IsOperand : ℕ → List Register → Place × Word → Operand → Type 0
+IsOperand n registers slot operand = (place_of operand ≡ slot.0) × StandsFor n registers slot.1 operand
+
+-- and so on, one by one
+abbrev pub AreOperands : ℕ → List Register → List (Place × Word) → List Operand → Type 0
+AreOperands n registers [] [] = Unit {0}
+AreOperands n registers (slot ∷ slots) (operand ∷ operands) = IsOperand n registers slot operand × AreOperands n registers slots operands
+AreOperands n registers _ _ = ⊥
+
+abbrev pub no_operands : Operands
+no_operands = record { registers = []; variables = []; bits = [] }
+
+-- the operands with one more; that a target is new is all there is to it
+abbrev pub with_operand : Operands → Operand → Operands
+with_operand others operands.Target = others
+with_operand others (operands.Register a) = record others { registers = others.registers ++ a ∷ [] }
+with_operand others (operands.Variable v) = record others { variables = others.variables ++ v ∷ [] }
+with_operand others (operands.Bit b) = record others { bits = others.bits ++ b ∷ [] }
+with_operand others (operands.Bits bits) = record others { bits = bits }
+
+abbrev pub with_operands : Operands → List Operand → Operands
+with_operands others [] = others
+with_operands others (operand ∷ operands) = with_operands (with_operand others operand) operands
+
+-- what an operation with these operands does
+abbrev pub act_of : Operation → Operands → Act
+act_of does.One given = acts.One
+act_of does.Zero given = acts.Zero
+act_of does.Var given = acts.Var (slice_index given.variables 0)
+act_of does.Not given = acts.Not (slice_index given.registers 0)
+act_of does.And given = acts.And (slice_index given.registers 0) (slice_index given.registers 1)
+act_of does.Or given = acts.Or (slice_index given.registers 0) (slice_index given.registers 1)
+act_of does.Xor given = acts.Xor (slice_index given.registers 0) (slice_index given.registers 1)
+act_of does.Ite given = acts.Ite (slice_index given.registers 0) (slice_index given.registers 1) (slice_index given.registers 2)
+act_of does.Cofactor given = acts.Cofactor (slice_index given.registers 0) (slice_index given.variables 0) (slice_index_or given.bits 0 false)
+act_of does.Exists given = acts.Exists (slice_index given.registers 0) given.variables
+act_of does.Forall given = acts.Forall (slice_index given.registers 0) given.variables
+act_of does.AndExists given = acts.AndExists (slice_index given.registers 0) (slice_index given.registers 1) given.variables
+act_of does.Support given = acts.Support (slice_index given.registers 0)
+act_of does.Drop given = acts.Drop (slice_index given.registers 0)
+act_of does.Same given = acts.Same (slice_index given.registers 0) (slice_index given.registers 1)
+act_of does.Leq given = acts.Leq (slice_index given.registers 0) (slice_index given.registers 1)
+act_of does.Eval given = acts.Eval (slice_index given.registers 0) given.bits
+
+-- a command of the reader's tables
+abbrev pub form_of : Known → Form
+form_of known = form known.word.now known.operation known.places.now known.repeated.now
+
+-- the places that are due, or those that repeat where none is left
+abbrev pub or_again : List Place → List Place → List Place
+or_again [] repeated = repeated
+or_again (place ∷ due) repeated = place ∷ due
+
+-- a place and its word
+abbrev pub slot_of : Slot → Place × Word
+slot_of slot = (slot.place, slot.word.now)
+
+-- what a line does, and its places with their words
+abbrev pub line_of : Line → Operation × List (Place × Word)
+line_of line = (line.operation, map slot_of line.slots.items)
+
+-- why a word was not taken at its place
+abbrev pub SlotStop : ℕ → List Register → Place × Word → Stop → Type 0
+SlotStop n registers slot stops.Memory = Unit {0}
+SlotStop n registers slot (stops.Fault fault) = slot_fault n registers slot ≡ Some fault
+
+-- why words of due form were not taken at their places
 abbrev pub SlotsStop : ℕ → List Register → List (Place × Word) → Stop → Type 0
 SlotsStop n registers slots stops.Memory = Unit {0}
-SlotsStop n registers slots (stops.Fault fault) = fault_in n registers (Some slots) ≡ Some fault
-
--- why `r = COMMAND WORDS` was not taken
-abbrev pub AssignmentStop : ℕ → List Register → Word → Word → List Word → Stop → Type 0
-AssignmentStop n registers r command words stops.Memory = Unit {0}
-AssignmentStop n registers r command words (stops.Fault fault) = fault_in n registers (assignment_slots r command words) ≡ Some fault
-
--- why `COMMAND WORDS` was not taken
-abbrev pub TellingStop : ℕ → List Register → Word → List Word → Stop → Type 0
-TellingStop n registers command words stops.Memory = Unit {0}
-TellingStop n registers command words (stops.Fault fault) = fault_in n registers (telling_slots command words) ≡ Some fault
+SlotsStop n registers slots (stops.Fault fault) = first_fault n registers slots ≡ Some fault
 
 -- why these words were not taken as a command
 abbrev pub CommandStop : ℕ → List Register → List Word → Stop → Type 0
@@ -89,11 +163,3 @@ abbrev pub IsSmall : Draft → ℕ → Type 0
 IsSmall Nothing count = Unit {0}
 IsSmall (Sized n given) count = (n ≤ 1024) × IfSome given (λ limit. (5 + n ≤ limit) × (limit ≤ 8388607))
 IsSmall (Begun limit section) count = (section.scope.vars ≤ 1024) × (5 + section.scope.vars ≤ limit) × (limit ≤ 8388607) × (length section.scope.registers ≤ count)
-
--- the words that stand there
-abbrev pub AreOperands : List Word → Operands → Type 0
-AreOperands words operands.Nothing = words ≡ []
-AreOperands words (operands.One x) = words ≡ x.now ∷ []
-AreOperands words (operands.Two x y) = words ≡ x.now ∷ y.now ∷ []
-AreOperands words (operands.Three x y z) = words ≡ x.now ∷ y.now ∷ z.now ∷ []
-AreOperands words operands.More = (a b c d : Word) × (rest : List Word) × (words ≡ a ∷ b ∷ c ∷ d ∷ rest)

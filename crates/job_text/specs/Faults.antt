@@ -1,9 +1,13 @@
 -- What is wrong with a text: its first faulty line, and on it the first fault.
-use Rattle.std.specs.Prelude.{◌≡◌, ℕ, ◌+◌, ◌==◌, nat_lt, nat_le, Bool, true, false, ◌&&◌, ◌||◌, not, List, [], ◌∷◌, ◌++◌, Option, Some, None, length, codes, if◌then◌else◌, ◌⊎◌, find}
-use Rattle.std.specs.List.{list_all, list_any, zip}
+use Rattle.std.specs.Prelude.{◌≡◌, ℕ, ◌+◌, ◌==◌, nat_lt, nat_le, Bool, true, false, ◌&&◌, ◌||◌, not, List, [], ◌∷◌, ◌++◌, Option, Some, None, length, codes, if◌then◌else◌, ◌⊎◌, find, option_and_then}
+use Rattle.std.specs.List.{list_all, list_any}
 use Rattle.std.specs.Option.{option_map}
 use Rattle.std.specs.Str.{bytes_eq}
 use Rattle.std.specs.Str.Parse.{digits_value}
+use Rattle.job_text.specs.declared.commands.Operation.{Operation}
+use Rattle.job_text.specs.declared.commands.Operation.TheVariants as does
+use Rattle.job_text.specs.declared.commands.Place.{Place}
+use Rattle.job_text.specs.declared.commands.Place.TheVariants.{Fresh, Held, Variable, Bit, Bits}
 use Rattle.job_text.specs.declared.faults.FaultKind.{FaultKind}
 use Rattle.job_text.specs.declared.faults.FaultKind.TheVariants as kinds
 use Rattle.job_text.specs.declared.faults.JobError.{JobError}
@@ -12,62 +16,80 @@ use Rattle.job_text.specs.declared.job.Register.{Register}
 use Rattle.job_text.specs.Text.{Word, is_number, is_name, is_allowed, lines_of, words_of}
 use Rattle.job_text.specs.Grammar.{registers_after}
 
--- What is due at a place of a command.
-pub data Place : Type 0 where
-  -- a name that was not assigned in this section
-  fresh : Place
-  -- a register that was assigned and not dropped
-  held : Place
-  -- the number of a variable
-  variable : Place
-  -- a bit for each variable
-  bits : Place
+-- A command: its word, what it does, and what is due behind the word. First come the places, and then those that repeat,
+-- from the first to the last, any number of times.
+pub record Form : Type 0 where
+  pub word : Word
+  pub operation : Operation
+  pub places : List Place
+  pub repeated : List Place
 
--- the commands that assign, by the word behind `r =`, and what is due behind it
-abbrev pub assigning : List (Word × List Place)
+abbrev pub form : Word → Operation → List Place → List Place → Form
+form word operation places repeated = record { word = word; operation = operation; places = places; repeated = repeated }
+
+-- the commands that assign, by the word behind `r =`
+abbrev pub assigning : List Form
 assigning =
-    (codes "true", [])
-    ∷ (codes "false", [])
-    ∷ (codes "var", variable ∷ [])
-    ∷ (codes "not", held ∷ [])
-    ∷ (codes "and", held ∷ held ∷ [])
-    ∷ (codes "or", held ∷ held ∷ [])
-    ∷ (codes "ite", held ∷ held ∷ held ∷ [])
+    form (codes "true") does.One [] []
+    ∷ form (codes "false") does.Zero [] []
+    ∷ form (codes "var") does.Var (Variable ∷ []) []
+    ∷ form (codes "not") does.Not (Held ∷ []) []
+    ∷ form (codes "and") does.And (Held ∷ Held ∷ []) []
+    ∷ form (codes "or") does.Or (Held ∷ Held ∷ []) []
+    ∷ form (codes "xor") does.Xor (Held ∷ Held ∷ []) []
+    ∷ form (codes "ite") does.Ite (Held ∷ Held ∷ Held ∷ []) []
+    ∷ form (codes "cofactor") does.Cofactor (Held ∷ Variable ∷ Bit ∷ []) []
+    ∷ form (codes "exists") does.Exists (Held ∷ []) (Variable ∷ [])
+    ∷ form (codes "forall") does.Forall (Held ∷ []) (Variable ∷ [])
+    ∷ form (codes "andexists") does.AndExists (Held ∷ Held ∷ []) (Variable ∷ [])
+    ∷ form (codes "support") does.Support (Held ∷ []) []
     ∷ []
 
 -- the other commands, by their first word
-abbrev pub telling : List (Word × List Place)
+abbrev pub telling : List Form
 telling =
-    (codes "drop", held ∷ [])
-    ∷ (codes "same", held ∷ held ∷ [])
-    ∷ (codes "eval", held ∷ bits ∷ [])
+    form (codes "drop") does.Drop (Held ∷ []) []
+    ∷ form (codes "same") does.Same (Held ∷ Held ∷ []) []
+    ∷ form (codes "leq") does.Leq (Held ∷ Held ∷ []) []
+    ∷ form (codes "eval") does.Eval (Held ∷ Bits ∷ []) []
     ∷ []
 
--- there are as many words as places
-abbrev pub as_many : List Place → List Word → Bool
-as_many [] [] = true
-as_many (place ∷ places) (word ∷ words) = as_many places words
-as_many _ _ = false
+-- a command of a table, by its word
+abbrev pub form_in : List Form → Word → Option Form
+form_in forms word = find (λ known. bytes_eq known.word word) forms
 
--- the places of a command in a table, each with its word
-abbrev pub filled : List (Word × List Place) → Word → List Word → Option (List (Place × Word))
-filled table command words = option_map (λ row. zip row.1 words) (find (λ row. as_many row.1 words && bytes_eq command row.0) table)
+-- each word with its place, where the words end with the places or with the last that repeats
+abbrev pub filled : List Place → List Place → List Word → Option (List (Place × Word))
+filled [] repeated [] = Some []
+filled (place ∷ places) repeated [] = None
+filled [] [] (word ∷ words) = None
+filled [] (place ∷ places) (word ∷ words) = option_map (λ slots. (place, word) ∷ slots) (filled places (place ∷ places) words)
+filled (place ∷ places) repeated (word ∷ words) = option_map (λ slots. (place, word) ∷ slots) (filled places repeated words)
+
+-- what a command of a table does, behind these places, and all places with their words
+abbrev pub command_in : List Form → List (Place × Word) → Word → List Word → Option (Operation × List (Place × Word))
+command_in forms before command words =
+    option_and_then (λ known. option_map (λ slots. (known.operation, before ++ slots)) (filled known.places known.repeated words)) (form_in forms command)
 
 -- of `r = COMMAND WORDS`
-abbrev pub assignment_slots : Word → Word → List Word → Option (List (Place × Word))
-assignment_slots r command words = option_map (λ slots. (fresh, r) ∷ slots) (filled assigning command words)
+abbrev pub assignment_of : Word → Word → List Word → Option (Operation × List (Place × Word))
+assignment_of r command words = command_in assigning ((Fresh, r) ∷ []) command words
 
 -- of `COMMAND WORDS`
-abbrev pub telling_slots : Word → List Word → Option (List (Place × Word))
-telling_slots command words = filled telling command words
+abbrev pub telling_of : Word → List Word → Option (Operation × List (Place × Word))
+telling_of command words = command_in telling [] command words
 
--- the places of a line and their words, where it has the form of a command; where the second word is `=`, it assigns
-abbrev pub slots_of : List Word → Option (List (Place × Word))
-slots_of [] = None
-slots_of (first ∷ []) = telling_slots first []
-slots_of (first ∷ second ∷ []) = telling_slots first (second ∷ [])
-slots_of (first ∷ second ∷ third ∷ words) =
-    if bytes_eq second (codes "=") then assignment_slots first third words else telling_slots first (second ∷ third ∷ words)
+-- what a line does and its places with their words, where it has the form of a command; where the second word is `=`, it assigns
+abbrev pub command_of : List Word → Option (Operation × List (Place × Word))
+command_of [] = None
+command_of (first ∷ []) = telling_of first []
+command_of (first ∷ second ∷ []) = telling_of first (second ∷ [])
+command_of (first ∷ second ∷ third ∷ words) =
+    if bytes_eq second (codes "=") then assignment_of first third words else telling_of first (second ∷ third ∷ words)
+
+-- `0` or `1`
+abbrev pub is_bit : Word → Bool
+is_bit word = bytes_eq word (codes "0") || bytes_eq word (codes "1")
 
 -- `none`, or characters 0 and 1
 abbrev pub is_bits : Word → Bool
@@ -79,17 +101,19 @@ bits_in word = if bytes_eq word (codes "none") then 0 else length word
 
 -- the word has the form that is due
 abbrev pub has_form : Place × Word → Bool
-has_form (fresh, word) = is_name word
-has_form (held, word) = is_name word
-has_form (variable, word) = is_number word
-has_form (bits, word) = is_bits word
+has_form (Fresh, word) = is_name word
+has_form (Held, word) = is_name word
+has_form (Variable, word) = is_number word
+has_form (Bit, word) = is_bit word
+has_form (Bits, word) = is_bits word
 
 -- the fault of a word of due form, over n variables and these registers
 abbrev pub slot_fault : ℕ → List Register → Place × Word → Option FaultKind
-slot_fault n registers (fresh, word) = if list_any (λ register. bytes_eq register.name word) registers then Some kinds.Again else None
-slot_fault n registers (held, word) = if list_any (λ register. bytes_eq register.name word && register.live) registers then None else Some kinds.Name
-slot_fault n registers (variable, word) = if nat_lt (digits_value 10 word) n then None else Some kinds.Range
-slot_fault n registers (bits, word) = if bits_in word == n then None else Some kinds.Range
+slot_fault n registers (Fresh, word) = if list_any (λ register. bytes_eq register.name word) registers then Some kinds.Again else None
+slot_fault n registers (Held, word) = if list_any (λ register. bytes_eq register.name word && register.live) registers then None else Some kinds.Name
+slot_fault n registers (Variable, word) = if nat_lt (digits_value 10 word) n then None else Some kinds.Range
+slot_fault n registers (Bit, word) = None
+slot_fault n registers (Bits, word) = if bits_in word == n then None else Some kinds.Range
 
 abbrev pub or_else : Option FaultKind → Option FaultKind → Option FaultKind
 or_else None later = later
@@ -107,7 +131,7 @@ fault_in n registers (Some slots) = if list_all has_form slots then first_fault 
 
 -- the fault of a command of these words
 unfoldable pub command_fault : ℕ → List Register → List Word → Option FaultKind
-command_fault n registers words = fault_in n registers (slots_of words)
+command_fault n registers words = fault_in n registers (option_map (λ known. known.1) (command_of words))
 
 -- the fault of a line that is due to be a word and a number in range
 abbrev pub number_fault : Word → (ℕ → Bool) → FaultKind → List Word → Option FaultKind

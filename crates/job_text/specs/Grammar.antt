@@ -3,10 +3,12 @@ use Rattle.std.specs.Prelude.{◌≡◌, ◌≢◌, ℕ, ◌<◌, ◌≤◌, ◌
 use Rattle.std.specs.List.{list_all, flat_map}
 use Rattle.std.specs.Str.{bytes_eq}
 use Rattle.job_text.specs.declared.job.Act.{Act}
-use Rattle.job_text.specs.declared.job.Act.TheVariants.{One, Zero, Var, Not, And, Or, Ite, Drop, Same, Eval}
+use Rattle.job_text.specs.declared.job.Act.TheVariants.{One, Zero, Var, Not, And, Or, Xor, Ite, Cofactor, Exists, Forall, AndExists, Support, Drop, Same, Leq, Eval}
 use Rattle.job_text.specs.declared.job.Command.{Command}
 use Rattle.job_text.specs.declared.job.Job.{Job}
 use Rattle.job_text.specs.declared.job.Register.{Register}
+use Rattle.job_text.specs.declared.operands.Operand.{Operand}
+use Rattle.job_text.specs.declared.operands.Operand.TheVariants as operands
 use Rattle.job_text.specs.Text.{Word, IsNumber, is_name, is_allowed, bit_word, lines_of, words_of}
 
 -- the word is a name that was not assigned in this section
@@ -17,19 +19,53 @@ IsFresh registers word = (is_name word ≡ true) × All (λ register. register.n
 abbrev pub Refers : List Register → Word → ℕ → Type 0
 Refers registers word a = (is_name word ≡ true) × (slice_get registers a ≡ Some (record { name = word; live = true }))
 
+-- the word stands for this, where n variables and these registers are there
+abbrev pub StandsFor : ℕ → List Register → Word → Operand → Type 0
+StandsFor n registers word operands.Target = IsFresh registers word
+StandsFor n registers word (operands.Register a) = Refers registers word a
+StandsFor n registers word (operands.Variable v) = IsNumber word v × (v < n)
+StandsFor n registers word (operands.Bit b) = word ≡ bit_word (b ∷ [])
+StandsFor n registers word (operands.Bits bits) = (word ≡ bit_word bits) × (length bits ≡ n)
+
+-- the words stand for these, one by one
+abbrev pub AllStandFor : ℕ → List Register → List Word → List Operand → Type 0
+AllStandFor n registers [] [] = Unit {0}
+AllStandFor n registers (word ∷ words) (operand ∷ operands) = StandsFor n registers word operand × AllStandFor n registers words operands
+AllStandFor n registers _ _ = ⊥
+
+-- How a command is spelled: its word and what stands behind it. The word stands behind a target and `=`, or first.
+pub data Spelling : Type 0 where
+  assigns : Word → List Operand → Spelling
+  tells : Word → List Operand → Spelling
+
+abbrev pub spelling : Act → Spelling
+spelling One = assigns (codes "true") []
+spelling Zero = assigns (codes "false") []
+spelling (Var v) = assigns (codes "var") (operands.Variable v ∷ [])
+spelling (Not a) = assigns (codes "not") (operands.Register a ∷ [])
+spelling (And a b) = assigns (codes "and") (operands.Register a ∷ operands.Register b ∷ [])
+spelling (Or a b) = assigns (codes "or") (operands.Register a ∷ operands.Register b ∷ [])
+spelling (Xor a b) = assigns (codes "xor") (operands.Register a ∷ operands.Register b ∷ [])
+spelling (Ite a b c) = assigns (codes "ite") (operands.Register a ∷ operands.Register b ∷ operands.Register c ∷ [])
+spelling (Cofactor a v b) = assigns (codes "cofactor") (operands.Register a ∷ operands.Variable v ∷ operands.Bit b ∷ [])
+spelling (Exists a vs) = assigns (codes "exists") (operands.Register a ∷ map operands.Variable vs)
+spelling (Forall a vs) = assigns (codes "forall") (operands.Register a ∷ map operands.Variable vs)
+spelling (AndExists a b vs) = assigns (codes "andexists") (operands.Register a ∷ operands.Register b ∷ map operands.Variable vs)
+spelling (Support a) = assigns (codes "support") (operands.Register a ∷ [])
+spelling (Drop a) = tells (codes "drop") (operands.Register a ∷ [])
+spelling (Same a b) = tells (codes "same") (operands.Register a ∷ operands.Register b ∷ [])
+spelling (Leq a b) = tells (codes "leq") (operands.Register a ∷ operands.Register b ∷ [])
+spelling (Eval a bits) = tells (codes "eval") (operands.Register a ∷ operands.Bits bits ∷ [])
+
+-- the words have this spelling, where n variables and these registers are there
+abbrev pub Spells : ℕ → List Register → List Word → Spelling → Type 0
+Spells n registers words (assigns command operands) =
+    (r : Word) × (rest : List Word) × (words ≡ r ∷ codes "=" ∷ command ∷ rest) × IsFresh registers r × AllStandFor n registers rest operands
+Spells n registers words (tells command operands) = (rest : List Word) × (words ≡ command ∷ rest) × AllStandFor n registers rest operands
+
 -- The words say this, where n variables and these registers are there.
 abbrev pub Says : ℕ → List Register → List Word → Act → Type 0
-Says n registers words One = (r : Word) × IsFresh registers r × (words ≡ r ∷ codes "=" ∷ codes "true" ∷ [])
-Says n registers words Zero = (r : Word) × IsFresh registers r × (words ≡ r ∷ codes "=" ∷ codes "false" ∷ [])
-Says n registers words (Var v) = (r w : Word) × IsFresh registers r × (words ≡ r ∷ codes "=" ∷ codes "var" ∷ w ∷ []) × IsNumber w v × (v < n)
-Says n registers words (Not a) = (r x : Word) × IsFresh registers r × (words ≡ r ∷ codes "=" ∷ codes "not" ∷ x ∷ []) × Refers registers x a
-Says n registers words (And a b) = (r x y : Word) × IsFresh registers r × (words ≡ r ∷ codes "=" ∷ codes "and" ∷ x ∷ y ∷ []) × Refers registers x a × Refers registers y b
-Says n registers words (Or a b) = (r x y : Word) × IsFresh registers r × (words ≡ r ∷ codes "=" ∷ codes "or" ∷ x ∷ y ∷ []) × Refers registers x a × Refers registers y b
-Says n registers words (Ite a b c) = (r x y z : Word) × IsFresh registers r × (words ≡ r ∷ codes "=" ∷ codes "ite" ∷ x ∷ y ∷ z ∷ [])
-    × Refers registers x a × Refers registers y b × Refers registers z c
-Says n registers words (Drop a) = (x : Word) × (words ≡ codes "drop" ∷ x ∷ []) × Refers registers x a
-Says n registers words (Same a b) = (x y : Word) × (words ≡ codes "same" ∷ x ∷ y ∷ []) × Refers registers x a × Refers registers y b
-Says n registers words (Eval a bits) = (x : Word) × (words ≡ codes "eval" ∷ x ∷ bit_word bits ∷ []) × Refers registers x a × (length bits ≡ n)
+Says n registers words act = Spells n registers words (spelling act)
 
 -- the name that a command assigns
 abbrev pub target_of : List Word → Word

@@ -13,7 +13,7 @@ use Rattle.function_laws.specs.Histories.{IsLegal}
 use Rattle.job_text.specs.declared.history_line.Reply.{Reply}
 use Rattle.job_text.specs.declared.history_line.Reply.TheVariants as reply
 use Rattle.job_text.specs.declared.job.Act.{Act}
-use Rattle.job_text.specs.declared.job.Act.TheVariants.{One, Zero, Var, Not, And, Or, Ite, Drop, Same, Eval}
+use Rattle.job_text.specs.declared.job.Act.TheVariants.{One, Zero, Var, Not, And, Or, Xor, Ite, Cofactor, Exists, Forall, AndExists, Support, Drop, Same, Leq, Eval}
 use Rattle.job_text.specs.declared.job.Command.{Command}
 use Rattle.job_text.specs.declared.job.Job.{Job}
 use Rattle.job_text.specs.Text.{Word}
@@ -106,9 +106,16 @@ Calls registers (Var v) call = call ≡ calls.Var v
 Calls registers (Not a) call = (x : Name) × IsNamed registers a x × (call ≡ calls.Not x)
 Calls registers (And a b) call = (x y : Name) × IsNamed registers a x × IsNamed registers b y × (call ≡ calls.And x y)
 Calls registers (Or a b) call = (x y : Name) × IsNamed registers a x × IsNamed registers b y × (call ≡ calls.Or x y)
+Calls registers (Xor a b) call = (x y : Name) × IsNamed registers a x × IsNamed registers b y × (call ≡ calls.Xor x y)
 Calls registers (Ite a b c) call = (x y z : Name) × IsNamed registers a x × IsNamed registers b y × IsNamed registers c z × (call ≡ calls.Ite x y z)
+Calls registers (Cofactor a v b) call = (x : Name) × IsNamed registers a x × (call ≡ calls.Cofactor x v b)
+Calls registers (Exists a vs) call = (x : Name) × IsNamed registers a x × (call ≡ calls.Exists x vs)
+Calls registers (Forall a vs) call = (x : Name) × IsNamed registers a x × (call ≡ calls.Forall x vs)
+Calls registers (AndExists a b vs) call = (x y : Name) × IsNamed registers a x × IsNamed registers b y × (call ≡ calls.AndExists x y vs)
+Calls registers (Support a) call = (x : Name) × IsNamed registers a x × (call ≡ calls.Support x)
 Calls registers (Drop a) call = (x : Name) × IsNamed registers a x × (call ≡ calls.DropRow x)
 Calls registers (Same a b) call = (x y : Name) × IsNamed registers a x × IsNamed registers b y × (call ≡ calls.Same x y)
+Calls registers (Leq a b) call = (x y : Name) × IsNamed registers a x × IsNamed registers b y × (call ≡ calls.Leq x y)
 Calls registers (Eval a bits) call = (x : Name) × IsNamed registers a x × (call ≡ calls.Eval x bits)
 
 -- each line has the words of the command at its place, and calls what that says; there may be further commands

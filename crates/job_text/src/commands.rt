@@ -1,192 +1,187 @@
-//! The lines of a section, as commands.
+//! The commands: their words, and what is due behind them.
 
-ghost use Rattle.std.specs.Prelude.{◌≡◌, ◌≢◌, All, ◌∷◌, [], ◌<◌, ◌≤◌, ◌^◌, length, codes, IfOk, IfErr};
-ghost use Rattle.job_text.specs.Grammar.{Says};
-ghost use Rattle.job_text.specs.Drafts.{CommandStop, AssignmentStop, TellingStop, AreOperands};
+ghost use Rattle.std.specs.Prelude.{◌≡◌, map, option_map};
+ghost use Rattle.job_text.specs.Faults.{assigning, telling, form_in};
+ghost use Rattle.job_text.specs.Drafts.{form_of};
 
-use crate::faults::{FaultKind, Stop};
-use crate::job::Act;
-use crate::registers::as_assignment;
-use crate::scope::Scope;
-use edge_bits::List;
-use std::alloc::Global;
-
-/// The words behind that of a command.
+/// What a command does with its operands.
 #[derive(Clone, Copy)]
-enum Operands<'a> {
-    Nothing,
-    One(&'a [u8]),
-    Two(&'a [u8], &'a [u8]),
-    Three(&'a [u8], &'a [u8], &'a [u8]),
-    More,
+pub enum Operation {
+    One,
+    Zero,
+    Var,
+    Not,
+    And,
+    Or,
+    Xor,
+    Ite,
+    Cofactor,
+    Exists,
+    Forall,
+    AndExists,
+    Support,
+    Drop,
+    Same,
+    Leq,
+    Eval,
 }
 
-/// The words, by their number.
-fn counted(words: &[List<u8>]) -> Operands<'_>
-    ensures { AreOperands words.now result }
+/// What is due at a place of a command.
+#[derive(Clone, Copy)]
+pub enum Place {
+    /// A name that was not assigned in this section.
+    Fresh,
+    /// A register that was assigned and not dropped.
+    Held,
+    /// The number of a variable.
+    Variable,
+    /// `0` or `1`.
+    Bit,
+    /// A bit for each variable.
+    Bits,
+}
+
+/// A command: its word, what it does, and what is due behind the word, first the places and then those that repeat any number of times.
+#[derive(Clone, Copy)]
+pub struct Known {
+    pub word: &'static [u8],
+    pub operation: Operation,
+    pub places: &'static [Place],
+    pub repeated: &'static [Place],
+}
+
+/// The commands that assign, by the word behind `r =`.
+const ASSIGNING: [Known; 13] = [
+    Known {
+        word: b"true",
+        operation: Operation::One,
+        places: &[],
+        repeated: &[],
+    },
+    Known {
+        word: b"false",
+        operation: Operation::Zero,
+        places: &[],
+        repeated: &[],
+    },
+    Known {
+        word: b"var",
+        operation: Operation::Var,
+        places: &[Place::Variable],
+        repeated: &[],
+    },
+    Known {
+        word: b"not",
+        operation: Operation::Not,
+        places: &[Place::Held],
+        repeated: &[],
+    },
+    Known {
+        word: b"and",
+        operation: Operation::And,
+        places: &[Place::Held, Place::Held],
+        repeated: &[],
+    },
+    Known {
+        word: b"or",
+        operation: Operation::Or,
+        places: &[Place::Held, Place::Held],
+        repeated: &[],
+    },
+    Known {
+        word: b"xor",
+        operation: Operation::Xor,
+        places: &[Place::Held, Place::Held],
+        repeated: &[],
+    },
+    Known {
+        word: b"ite",
+        operation: Operation::Ite,
+        places: &[Place::Held, Place::Held, Place::Held],
+        repeated: &[],
+    },
+    Known {
+        word: b"cofactor",
+        operation: Operation::Cofactor,
+        places: &[Place::Held, Place::Variable, Place::Bit],
+        repeated: &[],
+    },
+    Known {
+        word: b"exists",
+        operation: Operation::Exists,
+        places: &[Place::Held],
+        repeated: &[Place::Variable],
+    },
+    Known {
+        word: b"forall",
+        operation: Operation::Forall,
+        places: &[Place::Held],
+        repeated: &[Place::Variable],
+    },
+    Known {
+        word: b"andexists",
+        operation: Operation::AndExists,
+        places: &[Place::Held, Place::Held],
+        repeated: &[Place::Variable],
+    },
+    Known {
+        word: b"support",
+        operation: Operation::Support,
+        places: &[Place::Held],
+        repeated: &[],
+    },
+];
+
+/// The other commands, by their first word.
+const TELLING: [Known; 4] = [
+    Known {
+        word: b"drop",
+        operation: Operation::Drop,
+        places: &[Place::Held],
+        repeated: &[],
+    },
+    Known {
+        word: b"same",
+        operation: Operation::Same,
+        places: &[Place::Held, Place::Held],
+        repeated: &[],
+    },
+    Known {
+        word: b"leq",
+        operation: Operation::Leq,
+        places: &[Place::Held, Place::Held],
+        repeated: &[],
+    },
+    Known {
+        word: b"eval",
+        operation: Operation::Eval,
+        places: &[Place::Held, Place::Bits],
+        repeated: &[],
+    },
+];
+
+/// The command of this word.
+fn find_command(commands: &[Known], word: &[u8]) -> Option<Known>
+    ensures { option_map form_of result ≡ form_in (map form_of commands.now) word.now }
 {
-    match words {
-        [] => Operands::Nothing,
-        [x] => Operands::One(x.as_slice()),
-        [x, y] => Operands::Two(x.as_slice(), y.as_slice()),
-        [x, y, z] => Operands::Three(x.as_slice(), y.as_slice(), z.as_slice()),
-        _ => Operands::More,
+    for command in commands {
+        if command.word == word {
+            return Some(*command);
+        }
     }
+    None
 }
 
-/// A command and its words.
-fn as_command(words: &[List<u8>]) -> (&[u8], &[List<u8>])
-    requires { 0 < length words.now }
-    ensures { words.now ≡ result.0.now ∷ result.1.now }
+/// The command of the word behind `r =`.
+pub fn assigning(word: &[u8]) -> Option<Known>
+    ensures { option_map form_of result ≡ form_in assigning word.now }
 {
-    match words {
-        [command, rest @ ..] => (command.as_slice(), rest),
-        [] => unreachable!(),
-    }
+    find_command(&ASSIGNING, word)
 }
 
-impl Scope {
-    /// `r = true`, `r = false`
-    fn constant(&self, r: &[u8], command: &[u8]) -> Result<Act, Stop>
-        ensures ok { IfOk result (λ act. Says self.now.vars self.now.registers (r.now ∷ codes "=" ∷ command.now ∷ []) act) }
-        ensures stop { IfErr result (λ stop. AssignmentStop self.now.vars self.now.registers r.now command.now ([]) stop) }
-    {
-        if command == b"true".as_slice() {
-            self.target(r)?;
-            return Ok(Act::One);
-        }
-        if command == b"false".as_slice() {
-            self.target(r)?;
-            return Ok(Act::Zero);
-        }
-        Err(Stop::Fault(FaultKind::Word))
-    }
-
-    /// `r = var V`, `r = not A`
-    fn made_of_one(&self, r: &[u8], command: &[u8], x: &[u8]) -> Result<Act, Stop>
-        requires vars { self.now.vars ≤ 1024 }
-        requires registers { length self.now.registers < 2 ^ 32 }
-        ensures ok { IfOk result (λ act. Says self.now.vars self.now.registers (r.now ∷ codes "=" ∷ command.now ∷ x.now ∷ []) act) }
-        ensures stop { IfErr result (λ stop. AssignmentStop self.now.vars self.now.registers r.now command.now (x.now ∷ []) stop) }
-    {
-        if command == b"var".as_slice() {
-            return Ok(Act::Var(self.target_and_variable(r, x)?));
-        }
-        if command == b"not".as_slice() {
-            return Ok(Act::Not(self.target_and_one(r, x)?));
-        }
-        Err(Stop::Fault(FaultKind::Word))
-    }
-
-    /// `r = and A B`, `r = or A B`
-    fn made_of_two(&self, r: &[u8], command: &[u8], x: &[u8], y: &[u8]) -> Result<Act, Stop>
-        requires { length self.now.registers < 2 ^ 32 }
-        ensures ok { IfOk result (λ act. Says self.now.vars self.now.registers (r.now ∷ codes "=" ∷ command.now ∷ x.now ∷ y.now ∷ []) act) }
-        ensures stop { IfErr result (λ stop. AssignmentStop self.now.vars self.now.registers r.now command.now (x.now ∷ y.now ∷ []) stop) }
-    {
-        if command == b"and".as_slice() {
-            let (a, b) = self.target_and_two(r, x, y)?;
-            return Ok(Act::And(a, b));
-        }
-        if command == b"or".as_slice() {
-            let (a, b) = self.target_and_two(r, x, y)?;
-            return Ok(Act::Or(a, b));
-        }
-        Err(Stop::Fault(FaultKind::Word))
-    }
-
-    /// `r = ite A B C`
-    fn made_of_three(
-        &self,
-        r: &[u8],
-        command: &[u8],
-        x: &[u8],
-        y: &[u8],
-        z: &[u8],
-    ) -> Result<Act, Stop>
-        requires { length self.now.registers < 2 ^ 32 }
-        ensures ok { IfOk result (λ act. Says self.now.vars self.now.registers (r.now ∷ codes "=" ∷ command.now ∷ x.now ∷ y.now ∷ z.now ∷ []) act) }
-        ensures stop { IfErr result (λ stop. AssignmentStop self.now.vars self.now.registers r.now command.now (x.now ∷ y.now ∷ z.now ∷ []) stop) }
-    {
-        if command == b"ite".as_slice() {
-            let (a, b, c) = self.target_and_three(r, x, y, z)?;
-            return Ok(Act::Ite(a, b, c));
-        }
-        Err(Stop::Fault(FaultKind::Word))
-    }
-
-    /// Behind `r =`, a command and its words.
-    fn assignment(&self, r: &[u8], command: &[u8], words: &[List<u8>]) -> Result<Act, Stop>
-        requires vars { self.now.vars ≤ 1024 }
-        requires registers { length self.now.registers < 2 ^ 32 }
-        ensures ok { IfOk result (λ act. Says self.now.vars self.now.registers (r.now ∷ codes "=" ∷ command.now ∷ words.now) act) }
-        ensures stop { IfErr result (λ stop. AssignmentStop self.now.vars self.now.registers r.now command.now words.now stop) }
-    {
-        match counted(words) {
-            Operands::Nothing => self.constant(r, command),
-            Operands::One(x) => self.made_of_one(r, command, x),
-            Operands::Two(x, y) => self.made_of_two(r, command, x, y),
-            Operands::Three(x, y, z) => self.made_of_three(r, command, x, y, z),
-            Operands::More => Err(Stop::Fault(FaultKind::Word)),
-        }
-    }
-
-    /// `drop A`
-    fn told_of_one(&self, command: &[u8], x: &[u8]) -> Result<Act, Stop>
-        requires { length self.now.registers < 2 ^ 32 }
-        ensures ok { IfOk result (λ act. Says self.now.vars self.now.registers (command.now ∷ x.now ∷ []) act) }
-        ensures stop { IfErr result (λ stop. TellingStop self.now.vars self.now.registers command.now (x.now ∷ []) stop) }
-    {
-        if command == b"drop".as_slice() {
-            return Ok(Act::Drop(self.one(x)?));
-        }
-        Err(Stop::Fault(FaultKind::Word))
-    }
-
-    /// `same A B`, `eval A bits`
-    fn told_of_two(&self, alloc: Global, command: &[u8], x: &[u8], y: &[u8]) -> Result<Act, Stop>
-        requires { length self.now.registers < 2 ^ 32 }
-        ensures ok { IfOk result (λ act. Says self.now.vars self.now.registers (command.now ∷ x.now ∷ y.now ∷ []) act) }
-        ensures stop { IfErr result (λ stop. TellingStop self.now.vars self.now.registers command.now (x.now ∷ y.now ∷ []) stop) }
-    {
-        if command == b"same".as_slice() {
-            let (a, b) = self.two(x, y)?;
-            return Ok(Act::Same(a, b));
-        }
-        if command == b"eval".as_slice() {
-            let (a, bits) = self.one_and_bits(alloc, x, y)?;
-            return Ok(Act::Eval(a, bits));
-        }
-        Err(Stop::Fault(FaultKind::Word))
-    }
-
-    /// A command that assigns nothing, and its words.
-    fn telling(&self, alloc: Global, command: &[u8], words: &[List<u8>]) -> Result<Act, Stop>
-        requires { length self.now.registers < 2 ^ 32 }
-        ensures ok { IfOk result (λ act. Says self.now.vars self.now.registers (command.now ∷ words.now) act) }
-        ensures stop { IfErr result (λ stop. TellingStop self.now.vars self.now.registers command.now words.now stop) }
-    {
-        match counted(words) {
-            Operands::One(x) => self.told_of_one(command, x),
-            Operands::Two(x, y) => self.told_of_two(alloc, command, x, y),
-            _ => Err(Stop::Fault(FaultKind::Word)),
-        }
-    }
-
-    /// A line of a section that is no `session`.
-    pub fn command(&self, alloc: Global, words: &[List<u8>]) -> Result<Act, Stop>
-        requires some { 0 < length words.now }
-        requires vars { self.now.vars ≤ 1024 }
-        requires registers { length self.now.registers < 2 ^ 32 }
-        ensures ok { IfOk result (λ act. Says self.now.vars self.now.registers words.now act) }
-        ensures stop { IfErr result (λ stop. CommandStop self.now.vars self.now.registers words.now stop) }
-    {
-        match as_assignment(words) {
-            Some((r, operation, rest)) => self.assignment(r, operation, rest),
-            None => {
-                let (operation, rest) = as_command(words);
-                self.telling(alloc, operation, rest)
-            }
-        }
-    }
+/// The command of a first word.
+pub fn telling(word: &[u8]) -> Option<Known>
+    ensures { option_map form_of result ≡ form_in telling word.now }
+{
+    find_command(&TELLING, word)
 }

@@ -15,12 +15,26 @@ pub enum Act {
     And(u32, u32),
     /// `r = or A B`: the disjunction of two registers.
     Or(u32, u32),
+    /// `r = xor A B`: where one of two registers holds and the other does not.
+    Xor(u32, u32),
     /// `r = ite A B C`: the second register where the first holds, elsewhere the third.
     Ite(u32, u32, u32),
+    /// `r = cofactor A V b`: the register where the variable has the value.
+    Cofactor(u32, u32, bool),
+    /// `r = exists A V..`: where the register holds for some values of the variables.
+    Exists(u32, List<u32>),
+    /// `r = forall A V..`: where the register holds for all values of the variables.
+    Forall(u32, List<u32>),
+    /// `r = andexists A B V..`: where the conjunction of two registers holds for some values of the variables.
+    AndExists(u32, u32, List<u32>),
+    /// `r = support A`: the product of the variables on which the register depends.
+    Support(u32),
     /// `drop A`: the register is let go.
     Drop(u32),
     /// `same A B`: whether two registers have the same function.
     Same(u32, u32),
+    /// `leq A B`: whether the second register holds wherever the first does.
+    Leq(u32, u32),
     /// `eval A bits`: the value of a register, where bit i is the value of variable i.
     Eval(u32, List<bool>),
 }

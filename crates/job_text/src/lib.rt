@@ -6,9 +6,11 @@ mod draft;
 mod faults;
 mod history_line;
 mod job;
+mod operands;
 mod reader;
 mod registers;
 mod scope;
+mod slots;
 mod text;
 
 pub use faults::{FaultKind, JobError, JobFault};

@@ -1,15 +1,21 @@
 //! The words of a command against what they may name.
 
-ghost use Rattle.std.specs.Prelude.{◌≡◌, ◌≢◌, All, ◌∷◌, [], ◌<◌, ◌≤◌, ◌^◌, length, IfOk, IfErr};
-ghost use Rattle.job_text.specs.Text.{IsNumber, bit_word};
-ghost use Rattle.job_text.specs.Grammar.{IsFresh, Refers};
-ghost use Rattle.job_text.specs.Faults.{fresh, held, variable, bits};
-ghost use Rattle.job_text.specs.Drafts.{SlotsStop};
+ghost use Rattle.std.specs.Prelude.{◌≡◌, ◌<◌, ◌≤◌, ◌^◌, true, length, map, IfOk, IfErr, List as ListOf};
+ghost use Rattle.std.specs.List.{list_all};
+ghost use Rattle.job_text.specs.Text.{is_name, is_number};
+ghost use Rattle.job_text.specs.Grammar.{Says};
+ghost use Rattle.job_text.specs.Faults.{has_form, is_bit, is_bits};
+ghost use Rattle.job_text.specs.Drafts.{IsOperand, AreOperands, with_operands, no_operands, slot_of, SlotStop, SlotsStop, CommandStop};
+ghost use Rattle.job_text.specs.declared.commands.Place.TheVariants as places;
+ghost use Rattle.job_text.specs.declared.operands.Operand.{Operand as OperandOf};
 
+use crate::commands::Place;
 use crate::faults::{FaultKind, Stop};
-use crate::job::Register;
+use crate::job::{Act, Register};
+use crate::operands::{Operand, Operands};
 use crate::registers::{find_register, is_assigned};
-use crate::text::{bits_of, is_name, is_number, number_value};
+use crate::slots::{Slot, all_have_form, command_line};
+use crate::text::{bits_of, number_value};
 use edge_bits::List;
 use std::alloc::Global;
 
@@ -24,159 +30,105 @@ pub struct Scope {
 
 impl Scope {
     /// A target.
-    pub fn target(&self, r: &[u8]) -> Result<(), Stop>
-        ensures ok { IfOk result (λ _. IsFresh self.now.registers r.now) }
-        ensures stop { IfErr result (λ stop. SlotsStop self.now.vars self.now.registers ((fresh, r.now) ∷ []) stop) }
+    fn target(&self, word: &[u8]) -> Result<Operand, Stop>
+        requires { is_name word.now ≡ true }
+        ensures ok { IfOk result (λ operand. IsOperand self.now.vars self.now.registers (places.Fresh, word.now) operand) }
+        ensures stop { IfErr result (λ stop. SlotStop self.now.vars self.now.registers (places.Fresh, word.now) stop) }
     {
-        if !is_name(r) {
-            return Err(Stop::Fault(FaultKind::Word));
-        }
-        if is_assigned(self.registers.as_slice(), r) {
+        if is_assigned(self.registers.as_slice(), word) {
             return Err(Stop::Fault(FaultKind::Again));
         }
-        Ok(())
+        Ok(Operand::Target)
     }
 
-    /// A target and the number of a variable.
-    pub fn target_and_variable(&self, r: &[u8], w: &[u8]) -> Result<u32, Stop>
-        requires { self.now.vars ≤ 1024 }
-        ensures ok { IfOk result (λ v. IsFresh self.now.registers r.now × IsNumber w.now v × (v < self.now.vars)) }
-        ensures stop { IfErr result (λ stop. SlotsStop self.now.vars self.now.registers ((fresh, r.now) ∷ (variable, w.now) ∷ []) stop) }
+    /// A register.
+    fn register(&self, word: &[u8]) -> Result<Operand, Stop>
+        requires name { is_name word.now ≡ true }
+        requires few { length self.now.registers < 2 ^ 32 }
+        ensures ok { IfOk result (λ operand. IsOperand self.now.vars self.now.registers (places.Held, word.now) operand) }
+        ensures stop { IfErr result (λ stop. SlotStop self.now.vars self.now.registers (places.Held, word.now) stop) }
     {
-        if !is_name(r) || !is_number(w) {
-            return Err(Stop::Fault(FaultKind::Word));
-        }
-        if is_assigned(self.registers.as_slice(), r) {
-            return Err(Stop::Fault(FaultKind::Again));
-        }
-        let v = number_value(w);
+        let Some(a) = find_register(self.registers.as_slice(), word) else {
+            return Err(Stop::Fault(FaultKind::Name));
+        };
+        Ok(Operand::Register(a))
+    }
+
+    /// A variable.
+    fn variable(&self, word: &[u8]) -> Result<Operand, Stop>
+        requires number { is_number word.now ≡ true }
+        requires few { self.now.vars ≤ 1024 }
+        ensures ok { IfOk result (λ operand. IsOperand self.now.vars self.now.registers (places.Variable, word.now) operand) }
+        ensures stop { IfErr result (λ stop. SlotStop self.now.vars self.now.registers (places.Variable, word.now) stop) }
+    {
+        let v = number_value(word);
         if v < self.vars {
-            Ok(v)
+            Ok(Operand::Variable(v))
         } else {
             Err(Stop::Fault(FaultKind::Range))
         }
     }
 
-    /// A target and a register.
-    pub fn target_and_one(&self, r: &[u8], x: &[u8]) -> Result<u32, Stop>
-        requires { length self.now.registers < 2 ^ 32 }
-        ensures ok { IfOk result (λ a. IsFresh self.now.registers r.now × Refers self.now.registers x.now a) }
-        ensures stop { IfErr result (λ stop. SlotsStop self.now.vars self.now.registers ((fresh, r.now) ∷ (held, x.now) ∷ []) stop) }
+    /// A bit for each variable.
+    fn bits(&self, alloc: Global, word: &[u8]) -> Result<Operand, Stop>
+        requires { is_bits word.now ≡ true }
+        ensures ok { IfOk result (λ operand. IsOperand self.now.vars self.now.registers (places.Bits, word.now) operand) }
+        ensures stop { IfErr result (λ stop. SlotStop self.now.vars self.now.registers (places.Bits, word.now) stop) }
     {
-        if !is_name(r) || !is_name(x) {
-            return Err(Stop::Fault(FaultKind::Word));
-        }
-        if is_assigned(self.registers.as_slice(), r) {
-            return Err(Stop::Fault(FaultKind::Again));
-        }
-        let Some(a) = find_register(self.registers.as_slice(), x) else {
-            return Err(Stop::Fault(FaultKind::Name));
-        };
-        Ok(a)
-    }
-
-    /// A target and two registers.
-    pub fn target_and_two(&self, r: &[u8], x: &[u8], y: &[u8]) -> Result<(u32, u32), Stop>
-        requires { length self.now.registers < 2 ^ 32 }
-        ensures ok { IfOk result (λ p. IsFresh self.now.registers r.now × Refers self.now.registers x.now p.0 × Refers self.now.registers y.now p.1) }
-        ensures stop { IfErr result (λ stop. SlotsStop self.now.vars self.now.registers ((fresh, r.now) ∷ (held, x.now) ∷ (held, y.now) ∷ []) stop) }
-    {
-        if !is_name(r) || !is_name(x) || !is_name(y) {
-            return Err(Stop::Fault(FaultKind::Word));
-        }
-        if is_assigned(self.registers.as_slice(), r) {
-            return Err(Stop::Fault(FaultKind::Again));
-        }
-        let Some(a) = find_register(self.registers.as_slice(), x) else {
-            return Err(Stop::Fault(FaultKind::Name));
-        };
-        let Some(b) = find_register(self.registers.as_slice(), y) else {
-            return Err(Stop::Fault(FaultKind::Name));
-        };
-        Ok((a, b))
-    }
-
-    /// A target and three registers.
-    pub fn target_and_three(
-        &self,
-        r: &[u8],
-        x: &[u8],
-        y: &[u8],
-        z: &[u8],
-    ) -> Result<(u32, u32, u32), Stop>
-        requires { length self.now.registers < 2 ^ 32 }
-        ensures ok { IfOk result (λ p. IsFresh self.now.registers r.now × Refers self.now.registers x.now p.0 × Refers self.now.registers y.now p.1 × Refers self.now.registers z.now p.2) }
-        ensures stop { IfErr result (λ stop. SlotsStop self.now.vars self.now.registers ((fresh, r.now) ∷ (held, x.now) ∷ (held, y.now) ∷ (held, z.now) ∷ []) stop) }
-    {
-        if !is_name(r) || !is_name(x) || !is_name(y) || !is_name(z) {
-            return Err(Stop::Fault(FaultKind::Word));
-        }
-        if is_assigned(self.registers.as_slice(), r) {
-            return Err(Stop::Fault(FaultKind::Again));
-        }
-        let Some(a) = find_register(self.registers.as_slice(), x) else {
-            return Err(Stop::Fault(FaultKind::Name));
-        };
-        let Some(b) = find_register(self.registers.as_slice(), y) else {
-            return Err(Stop::Fault(FaultKind::Name));
-        };
-        let Some(c) = find_register(self.registers.as_slice(), z) else {
-            return Err(Stop::Fault(FaultKind::Name));
-        };
-        Ok((a, b, c))
-    }
-
-    /// A register.
-    pub fn one(&self, x: &[u8]) -> Result<u32, Stop>
-        requires { length self.now.registers < 2 ^ 32 }
-        ensures ok { IfOk result (λ a. Refers self.now.registers x.now a) }
-        ensures stop { IfErr result (λ stop. SlotsStop self.now.vars self.now.registers ((held, x.now) ∷ []) stop) }
-    {
-        if !is_name(x) {
-            return Err(Stop::Fault(FaultKind::Word));
-        }
-        let Some(a) = find_register(self.registers.as_slice(), x) else {
-            return Err(Stop::Fault(FaultKind::Name));
-        };
-        Ok(a)
-    }
-
-    /// Two registers.
-    pub fn two(&self, x: &[u8], y: &[u8]) -> Result<(u32, u32), Stop>
-        requires { length self.now.registers < 2 ^ 32 }
-        ensures ok { IfOk result (λ p. Refers self.now.registers x.now p.0 × Refers self.now.registers y.now p.1) }
-        ensures stop { IfErr result (λ stop. SlotsStop self.now.vars self.now.registers ((held, x.now) ∷ (held, y.now) ∷ []) stop) }
-    {
-        if !is_name(x) || !is_name(y) {
-            return Err(Stop::Fault(FaultKind::Word));
-        }
-        let Some(a) = find_register(self.registers.as_slice(), x) else {
-            return Err(Stop::Fault(FaultKind::Name));
-        };
-        let Some(b) = find_register(self.registers.as_slice(), y) else {
-            return Err(Stop::Fault(FaultKind::Name));
-        };
-        Ok((a, b))
-    }
-
-    /// A register and a bit for each variable.
-    pub fn one_and_bits(&self, alloc: Global, x: &[u8], w: &[u8]) -> Result<(u32, List<bool>), Stop>
-        requires { length self.now.registers < 2 ^ 32 }
-        ensures ok { IfOk result (λ p. Refers self.now.registers x.now p.0 × (w.now ≡ bit_word p.1) × (length p.1 ≡ self.now.vars)) }
-        ensures stop { IfErr result (λ stop. SlotsStop self.now.vars self.now.registers ((held, x.now) ∷ (bits, w.now) ∷ []) stop) }
-    {
-        if !is_name(x) {
-            return Err(Stop::Fault(FaultKind::Word));
-        }
-        let Some(bits) = bits_of(alloc, w)? else {
-            return Err(Stop::Fault(FaultKind::Word));
-        };
-        let Some(a) = find_register(self.registers.as_slice(), x) else {
-            return Err(Stop::Fault(FaultKind::Name));
-        };
-        if bits.as_slice().len() != self.vars as usize {
+        let bits = bits_of(alloc, word)?;
+        if bits.len() != self.vars as usize {
             return Err(Stop::Fault(FaultKind::Range));
         }
-        Ok((a, bits))
+        Ok(Operand::Bits(bits))
+    }
+
+    /// What a word of due form stands for.
+    fn operand(&self, alloc: Global, slot: &Slot<'_>) -> Result<Operand, Stop>
+        requires form { has_form (slot_of slot.now) ≡ true }
+        requires vars { self.now.vars ≤ 1024 }
+        requires registers { length self.now.registers < 2 ^ 32 }
+        ensures ok { IfOk result (λ operand. IsOperand self.now.vars self.now.registers (slot_of slot.now) operand) }
+        ensures stop { IfErr result (λ stop. SlotStop self.now.vars self.now.registers (slot_of slot.now) stop) }
+    {
+        match slot.place {
+            Place::Fresh => self.target(slot.word),
+            Place::Held => self.register(slot.word),
+            Place::Variable => self.variable(slot.word),
+            Place::Bit => Ok(Operand::Bit(slot.word == b"1".as_slice())),
+            Place::Bits => self.bits(alloc, slot.word),
+        }
+    }
+
+    /// What words of due form stand for.
+    fn operands(&self, alloc: Global, slots: &[Slot<'_>]) -> Result<Operands, Stop>
+        requires forms { list_all has_form (map slot_of slots.now) ≡ true }
+        requires vars { self.now.vars ≤ 1024 }
+        requires registers { length self.now.registers < 2 ^ 32 }
+        ensures ok { IfOk result (λ operands. (each : ListOf OperandOf) × AreOperands self.now.vars self.now.registers (map slot_of slots.now) each × (operands ≡ with_operands no_operands each)) }
+        ensures stop { IfErr result (λ stop. SlotsStop self.now.vars self.now.registers (map slot_of slots.now) stop) }
+    {
+        let mut operands = Operands::new(alloc);
+        for slot in slots {
+            operands = operands.with(self.operand(alloc, slot)?)?;
+        }
+        Ok(operands)
+    }
+
+    /// A line of a section that is no `session`.
+    pub fn command(&self, alloc: Global, words: &[List<u8>]) -> Result<Act, Stop>
+        requires some { 0 < length words.now }
+        requires vars { self.now.vars ≤ 1024 }
+        requires registers { length self.now.registers < 2 ^ 32 }
+        ensures ok { IfOk result (λ act. Says self.now.vars self.now.registers words.now act) }
+        ensures stop { IfErr result (λ stop. CommandStop self.now.vars self.now.registers words.now stop) }
+    {
+        let Some(line) = command_line(alloc, words)? else {
+            return Err(Stop::Fault(FaultKind::Word));
+        };
+        if !all_have_form(&line.slots) {
+            return Err(Stop::Fault(FaultKind::Word));
+        }
+        let operands = self.operands(alloc, &line.slots)?;
+        Ok(operands.act(line.operation))
     }
 }

@@ -3,7 +3,7 @@
 ghost use Rattle.std.specs.Prelude.{◌≡◌, ◌∷◌, ◌<◌, ◌≤◌, ◌^◌, ◌-◌, min, length, IfOk, MatchOption, ◌||◌, IfSome, IfNone, Some, None, true, false, position, map, filter, not, is_some, ◌==◌};
 ghost use Rattle.std.specs.List.{list_all, before_first, position_or_len, slice_split};
 ghost use Rattle.std.specs.Str.Parse.{digits_value};
-ghost use Rattle.job_text.specs.Faults.{is_bits, bits_in};
+ghost use Rattle.job_text.specs.Faults.{is_bit, is_bits, bits_in};
 ghost use Rattle.job_text.specs.Text.{bit_word, lines_of, words_of, line_words, is_allowed, is_separator, is_number, is_name, is_letter, is_name_byte};
 ghost use Rattle.std.specs.Char.{is_ascii_digit};
 
@@ -150,21 +150,33 @@ pub fn number_value(word: &[u8]) -> u32
     value as u32
 }
 
-/// The word's bits, where it is a 0-1 word.
-pub fn bits_of(alloc: Global, word: &[u8]) -> Result<Option<List<bool>>, AllocError>
-    ensures { IfOk result (λ found. MatchOption found (is_bits word.now ≡ false) (λ bits. (is_bits word.now ≡ true) × (word.now ≡ bit_word bits) × (length bits ≡ bits_in word.now))) }
+/// Whether the word is `0` or `1`.
+pub fn is_bit(word: &[u8]) -> bool
+    ensures { result ≡ is_bit word.now }
 {
-    if word == b"none".as_slice() {
-        return Ok(Some(List::new(alloc)));
-    }
-    if word.is_empty() || !all_bits(word) {
-        return Ok(None);
-    }
+    word == b"0".as_slice() || word == b"1".as_slice()
+}
+
+/// Whether the word is a 0-1 word.
+pub fn is_bits(word: &[u8]) -> bool
+    ensures { result ≡ is_bits word.now }
+{
+    word == b"none".as_slice() || (!word.is_empty() && all_bits(word))
+}
+
+/// The bits of a 0-1 word.
+pub fn bits_of(alloc: Global, word: &[u8]) -> Result<List<bool>, AllocError>
+    requires { is_bits word.now ≡ true }
+    ensures { IfOk result (λ bits. (word.now ≡ bit_word bits) × (length bits ≡ bits_in word.now)) }
+{
     let mut bits = List::new(alloc);
+    if word == b"none".as_slice() {
+        return Ok(bits);
+    }
     for b in word {
         bits.push(*b == b'1')?;
     }
-    Ok(Some(bits))
+    Ok(bits)
 }
 
 fn all_bits(word: &[u8]) -> bool

@@ -3,23 +3,25 @@ use Rattle.std.proofs.Common.{◌≡◌, ◌≢◌, ℕ, zero, suc, ◌+◌, ◌
 use Rattle.std.proofs.Math.ListN.{set, length-set}
 use Rattle.std.specs.Prelude.{slice_get, option_map}
 use Rattle.std.specs.Str.{bytes_eq}
-use Rattle.std.specs.List.{cons_option, list_any, list_all, range_with_len}
+use Rattle.std.specs.List.{All, cons_option, list_any, list_all, range_with_len}
 use Rattle.std.proofs.lemmas.Bool.{false≢true}
 use Rattle.std.proofs.lemmas.List.{length_push, length-map}
 use Rattle.std.proofs.lemmas.List.FromFn.{get_or-map-range_with_len, length-map-range_with_len}
-use Rattle.std.proofs.lemmas.List.Elements.{filter_map-append}
+use Rattle.std.proofs.lemmas.List.Elements.{All-cons, All-nil, filter_map-append}
 use Rattle.std.proofs.lemmas.List.Folds.{list_any-append}
 use Rattle.std.proofs.lemmas.Option.{slice_get_within, slice_get-map, slice_get-get_or}
 use Rattle.std.proofs.lemmas.Slice.Eq.{bytes_eq-Decides}
 use Rattle.function_laws.specs.declared.history.Name.{Name}
 use Rattle.function_laws.specs.declared.history.Call.{Call}
 use Rattle.job_text.specs.declared.job.Act.{Act}
-use Rattle.job_text.specs.declared.job.Act.TheVariants.{One, Zero, Var, Not, And, Or, Ite, Drop, Same, Eval}
+use Rattle.job_text.specs.declared.job.Act.TheVariants.{One, Zero, Var, Not, And, Or, Xor, Ite, Cofactor, Exists, Forall, AndExists, Support, Drop, Same, Leq, Eval}
 use Rattle.job_text.specs.declared.job.Command.{Command}
 use Rattle.job_text.specs.declared.job.Register.{Register}
-use Rattle.job_text.specs.Text.{Word, is_name}
-use Rattle.job_text.specs.Grammar.{CommandsSay, Says, registers_after, without}
+use Rattle.job_text.specs.declared.operands.Operand.TheVariants as operands
+use Rattle.job_text.specs.Text.{Word}
+use Rattle.job_text.specs.Grammar.{CommandsSay, Says, Spelling, Spells, StandsFor, assigns, registers_after, spelling, tells, without}
 use Rattle.job_text.specs.Histories.{Calls, Held, HistoryLine, IsNamed, SayInOrder, held_by, registers_of, stops}
+use Rattle.job_text.proofs.Effects.{EachStands, one_register_less, one_register_more, operands_of, operands_stand, same_registers}
 use Rattle.net_jobs.specs.declared.playing.Progress.{Progress}
 use Rattle.edge_bits.specs.declared.edges.Edge.{Edge}
 use Rattle.node_slots.specs.Stores.{Plain, plain_view}
@@ -28,18 +30,39 @@ use Rattle.net_jobs.specs.Playing.{CanCall, Covers, GrowsOrLeft, IsHeld, RowsGoO
 use Rattle.net_jobs.proofs.PlayLemmas.{grown_length}
 use Rattle.net_jobs.proofs.ListLemmas.{slice_get-push, slice_get-push_new, slice_get-push_old, slice_get-set_other}
 
+-- a register that a word stands for is a row
+held : (n : ℕ) (registers : List Register) (rows : Rows) (a : ℕ) → Covers registers rows → (word : Word) × StandsFor n registers word (operands.Register a) → IsHeld rows a
+held n registers rows a covers stands = covers.held a stands.0 stands.1.1
+
+-- variables that words stand for are variables
+variables_stand : (n : ℕ) (registers : List Register) (vs : List ℕ) → EachStands n registers (map operands.Variable vs) → All (λ v. v < n) vs
+variables_stand n registers [] each = All-nil (λ v. v < n)
+variables_stand n registers (v ∷ vs) each = All-cons (λ v. v < n) v vs each.0.1.1 (variables_stand n registers vs each.1)
+
 -- what a command says lets it be called
+can_each : (n : ℕ) (registers : List Register) (rows : Rows) (act : Act) → Covers registers rows → EachStands n registers (operands_of (spelling act)) → CanCall n rows act
+can_each n registers rows One covers each = tt
+can_each n registers rows Zero covers each = tt
+can_each n registers rows (Var v) covers each = each.0.1.1
+can_each n registers rows (Not a) covers each = held n registers rows a covers each.0
+can_each n registers rows (And a b) covers each = (held n registers rows a covers each.0, held n registers rows b covers each.1.0)
+can_each n registers rows (Or a b) covers each = (held n registers rows a covers each.0, held n registers rows b covers each.1.0)
+can_each n registers rows (Xor a b) covers each = (held n registers rows a covers each.0, held n registers rows b covers each.1.0)
+can_each n registers rows (Ite a b c) covers each =
+    (held n registers rows a covers each.0, held n registers rows b covers each.1.0, held n registers rows c covers each.1.1.0)
+can_each n registers rows (Cofactor a v b) covers each = (held n registers rows a covers each.0, each.1.0.1.1)
+can_each n registers rows (Exists a vs) covers each = (held n registers rows a covers each.0, variables_stand n registers vs each.1)
+can_each n registers rows (Forall a vs) covers each = (held n registers rows a covers each.0, variables_stand n registers vs each.1)
+can_each n registers rows (AndExists a b vs) covers each =
+    (held n registers rows a covers each.0, held n registers rows b covers each.1.0, variables_stand n registers vs each.1.1)
+can_each n registers rows (Support a) covers each = held n registers rows a covers each.0
+can_each n registers rows (Drop a) covers each = held n registers rows a covers each.0
+can_each n registers rows (Same a b) covers each = (held n registers rows a covers each.0, held n registers rows b covers each.1.0)
+can_each n registers rows (Leq a b) covers each = (held n registers rows a covers each.0, held n registers rows b covers each.1.0)
+can_each n registers rows (Eval a bits) covers each = (held n registers rows a covers each.0, each.1.0.1.1)
+
 pub can_call : (n : ℕ) (registers : List Register) (rows : Rows) (words : List Word) (act : Act) → Says n registers words act → Covers registers rows → CanCall n rows act
-can_call n registers rows words One says covers = tt
-can_call n registers rows words Zero says covers = tt
-can_call n registers rows words (Var v) says covers = says.5
-can_call n registers rows words (Not a) says covers = covers.held a says.1 says.4.1
-can_call n registers rows words (And a b) says covers = (covers.held a says.1 says.5.1, covers.held b says.2 says.6.1)
-can_call n registers rows words (Or a b) says covers = (covers.held a says.1 says.5.1, covers.held b says.2 says.6.1)
-can_call n registers rows words (Ite a b c) says covers = (covers.held a says.1 says.6.1, covers.held b says.2 says.7.1, covers.held c says.3 says.8.1)
-can_call n registers rows words (Drop a) says covers = covers.held a says.0 says.2.1
-can_call n registers rows words (Same a b) says covers = (covers.held a says.0 says.3.1, covers.held b says.1 says.4.1)
-can_call n registers rows words (Eval a bits) says covers = (covers.held a says.0 says.2.1, says.3)
+can_call n registers rows words act says covers = can_each n registers rows act covers (operands_stand n registers words (spelling act) says)
 
 -- a row that was held is held among more rows
 held-push : (rows : Rows) (f : Edge) (a : ℕ) → IsHeld rows a → IsHeld (rows ++ Some f ∷ []) a
@@ -96,48 +119,39 @@ covers-drop registers rows word a is covers = record {
       (held.0, slice_get-set_other rows None a k apart ∙ held.1);
 }
 
--- a name is no `=`
-not_equals : (x : Word) → is_name x ≡ true → bytes_eq x (codes "=") ≡ false
-unfolding is_name
-not_equals x is = by_test (bytes_eq x (codes "=")) refl
-  where
-    by_test : (b : Bool) → bytes_eq x (codes "=") ≡ b → bytes_eq x (codes "=") ≡ false
-    by_test false e = e
-    by_test true e = absurd (false≢true (ap is_name (sym ((bytes_eq-Decides x (codes "=")).0 e)) ∙ is))
+-- the spelling of a command that makes a row, and of one that makes none and drops none
+abbrev is_assigning : Spelling → Bool
+is_assigning (assigns command os) = true
+is_assigning (tells command os) = false
 
--- the registers after a command that goes on are rows
-pub covers-after : (n : ℕ) (registers : List Register) (old new : Rows) (words : List Word) (act : Act) → Says n registers words act → Covers registers old
-    → GrowsOrLeft (makes act) old new act → Covers (registers_after registers words) new
-covers-after n registers old new words One says covers after =
-    subst (λ rs. Covers rs new) (sym (ap (registers_after registers) says.2))
-    (subst (λ rows. Covers (registers ++ record { name = says.0; live = true } ∷ []) rows) (sym after.1) (covers-push registers old (record { name = says.0; live = true }) after.0 covers))
-covers-after n registers old new words Zero says covers after =
-    subst (λ rs. Covers rs new) (sym (ap (registers_after registers) says.2))
-    (subst (λ rows. Covers (registers ++ record { name = says.0; live = true } ∷ []) rows) (sym after.1) (covers-push registers old (record { name = says.0; live = true }) after.0 covers))
-covers-after n registers old new words (Var v) says covers after =
-    subst (λ rs. Covers rs new) (sym (ap (registers_after registers) says.3))
-    (subst (λ rows. Covers (registers ++ record { name = says.0; live = true } ∷ []) rows) (sym after.1) (covers-push registers old (record { name = says.0; live = true }) after.0 covers))
-covers-after n registers old new words (Not a) says covers after =
-    subst (λ rs. Covers rs new) (sym (ap (registers_after registers) says.3))
-    (subst (λ rows. Covers (registers ++ record { name = says.0; live = true } ∷ []) rows) (sym after.1) (covers-push registers old (record { name = says.0; live = true }) after.0 covers))
-covers-after n registers old new words (And a b) says covers after =
-    subst (λ rs. Covers rs new) (sym (ap (registers_after registers) says.4))
-    (subst (λ rows. Covers (registers ++ record { name = says.0; live = true } ∷ []) rows) (sym after.1) (covers-push registers old (record { name = says.0; live = true }) after.0 covers))
-covers-after n registers old new words (Or a b) says covers after =
-    subst (λ rs. Covers rs new) (sym (ap (registers_after registers) says.4))
-    (subst (λ rows. Covers (registers ++ record { name = says.0; live = true } ∷ []) rows) (sym after.1) (covers-push registers old (record { name = says.0; live = true }) after.0 covers))
-covers-after n registers old new words (Ite a b c) says covers after =
-    subst (λ rs. Covers rs new) (sym (ap (registers_after registers) says.5))
-    (subst (λ rows. Covers (registers ++ record { name = says.0; live = true } ∷ []) rows) (sym after.1) (covers-push registers old (record { name = says.0; live = true }) after.0 covers))
-covers-after n registers old new words (Drop a) says covers after =
-    subst (λ rs. Covers rs new) (sym (ap (registers_after registers) says.1))
-    (subst (λ rows. Covers (map (without says.0) registers) rows) (sym after) (covers-drop registers old says.0 a says.2.1 covers))
-covers-after n registers old new words (Same a b) says covers after =
-    subst (λ rs. Covers rs new) (sym (ap (registers_after registers) says.2 ∙ ap (λ b. cond b (registers ++ record { name = codes "same"; live = true } ∷ []) registers) (not_equals says.0 says.3.0)))
-    (subst (λ rows. Covers registers rows) (sym after) covers)
-covers-after n registers old new words (Eval a bits) says covers after =
-    subst (λ rs. Covers rs new) (sym (ap (registers_after registers) says.1 ∙ ap (λ b. cond b (registers ++ record { name = codes "eval"; live = true } ∷ []) registers) (not_equals says.0 says.2.0)))
-    (subst (λ rows. Covers registers rows) (sym after) covers)
+abbrev keeps_all : Spelling → Bool
+keeps_all (assigns command os) = false
+keeps_all (tells command os) = not (bytes_eq command (codes "drop"))
+
+module _ (n : ℕ) (registers : List Register) (old new : Rows) (words : List Word) (covers : Covers registers old) where
+  covers-assigned : (spelt : Spelling) → is_assigning spelt ≡ true → Spells n registers words spelt → (e : Edge) × (new ≡ old ++ Some e ∷ []) → Covers (registers_after registers words) new
+  covers-assigned (assigns command os) is spells after =
+      let more = one_register_more n registers words command os spells in
+      subst (λ rs. Covers rs new) (sym more.1)
+      (subst (λ rows. Covers (registers ++ record { name = more.0; live = true } ∷ []) rows) (sym after.1) (covers-push registers old (record { name = more.0; live = true }) after.0 covers))
+  covers-assigned (tells command os) is spells after = cc
+
+  covers-kept : (spelt : Spelling) → keeps_all spelt ≡ true → Spells n registers words spelt → new ≡ old → Covers (registers_after registers words) new
+  covers-kept (assigns command os) is spells after = cc
+  covers-kept (tells command os) is spells after =
+      subst (λ rs. Covers rs new) (sym (same_registers n registers words command os (not_true (bytes_eq command (codes "drop")) is) spells))
+      (subst (λ rows. Covers registers rows) (sym after) covers)
+
+  -- the registers after a command that goes on are rows
+  pub covers-after : (act : Act) → Says n registers words act → GrowsOrLeft (makes act) old new act → Covers (registers_after registers words) new
+  covers-after (Drop a) says after =
+      let less = one_register_less n registers words a says in
+      subst (λ rs. Covers rs new) (sym less.2)
+      (subst (λ rows. Covers (map (without less.0) registers) rows) (sym after) (covers-drop registers old less.0 a less.1.1 covers))
+  covers-after (Same a b) says after = covers-kept (spelling (Same a b)) refl says after
+  covers-after (Leq a b) says after = covers-kept (spelling (Leq a b)) refl says after
+  covers-after (Eval a bits) says after = covers-kept (spelling (Eval a bits)) refl says after
+  covers-after act says after = covers-assigned (spelling act) refl says after
 
 -- what is named among some registers is named among more
 named-more : (registers more : List Held) (a : ℕ) (name : Name) → IsNamed registers a name → IsNamed (registers ++ more) a name
@@ -155,10 +169,17 @@ calls-more registers more (Var v) call is = is
 calls-more registers more (Not a) call is = (is.0, named-more registers more a is.0 is.1, is.2)
 calls-more registers more (And a b) call is = (is.0, is.1, named-more registers more a is.0 is.2, named-more registers more b is.1 is.3, is.4)
 calls-more registers more (Or a b) call is = (is.0, is.1, named-more registers more a is.0 is.2, named-more registers more b is.1 is.3, is.4)
+calls-more registers more (Xor a b) call is = (is.0, is.1, named-more registers more a is.0 is.2, named-more registers more b is.1 is.3, is.4)
 calls-more registers more (Ite a b c) call is =
     (is.0, is.1, is.2, named-more registers more a is.0 is.3, named-more registers more b is.1 is.4, named-more registers more c is.2 is.5, is.6)
+calls-more registers more (Cofactor a v b) call is = (is.0, named-more registers more a is.0 is.1, is.2)
+calls-more registers more (Exists a vs) call is = (is.0, named-more registers more a is.0 is.1, is.2)
+calls-more registers more (Forall a vs) call is = (is.0, named-more registers more a is.0 is.1, is.2)
+calls-more registers more (AndExists a b vs) call is = (is.0, is.1, named-more registers more a is.0 is.2, named-more registers more b is.1 is.3, is.4)
+calls-more registers more (Support a) call is = (is.0, named-more registers more a is.0 is.1, is.2)
 calls-more registers more (Drop a) call is = (is.0, named-more registers more a is.0 is.1, is.2)
 calls-more registers more (Same a b) call is = (is.0, is.1, named-more registers more a is.0 is.2, named-more registers more b is.1 is.3, is.4)
+calls-more registers more (Leq a b) call is = (is.0, is.1, named-more registers more a is.0 is.2, named-more registers more b is.1 is.3, is.4)
 calls-more registers more (Eval a bits) call is = (is.0, named-more registers more a is.0 is.1, is.2)
 
 in_order-more : (registers more : List Held) (lines : List HistoryLine) (commands : List Command) → SayInOrder registers lines commands → SayInOrder (registers ++ more) lines commands
@@ -207,9 +228,16 @@ module _ (start p : Plain) (commands : List Command) (rows : Rows) (assigned tex
   calls_of (Not a) can = (name_of a, named a can, refl)
   calls_of (And a b) can = (name_of a, name_of b, named a can.0, named b can.1, refl)
   calls_of (Or a b) can = (name_of a, name_of b, named a can.0, named b can.1, refl)
+  calls_of (Xor a b) can = (name_of a, name_of b, named a can.0, named b can.1, refl)
   calls_of (Ite a b c) can = (name_of a, name_of b, name_of c, named a can.0, named b can.1, named c can.2, refl)
+  calls_of (Cofactor a v b) can = (name_of a, named a can.0, refl)
+  calls_of (Exists a vs) can = (name_of a, named a can.0, refl)
+  calls_of (Forall a vs) can = (name_of a, named a can.0, refl)
+  calls_of (AndExists a b vs) can = (name_of a, name_of b, named a can.0, named b can.1, refl)
+  calls_of (Support a) can = (name_of a, named a can, refl)
   calls_of (Drop a) can = (name_of a, named a can, refl)
   calls_of (Same a b) can = (name_of a, name_of b, named a can.0, named b can.1, refl)
+  calls_of (Leq a b) can = (name_of a, name_of b, named a can.0, named b can.1, refl)
   calls_of (Eval a bits) can = (name_of a, named a can.0, refl)
 
   -- the commands were said in order, with one more
@@ -271,7 +299,7 @@ next_command start commands old new i command up is one rows vars =
     record {
       registers = registers_after up.registers command.words;
       rest = subst (λ n. CommandsSay n (registers_after up.registers command.words) (drop (i + 1) commands)) (sym vars) rest.1;
-      covers = covers-after (plain_view old.session.store).vars up.registers old.session.rows.items new.session.rows.items command.words command.act rest.0 up.covers grown;
+      covers = covers-after (plain_view old.session.store).vars up.registers old.session.rows.items new.session.rows.items command.words up.covers command.act rest.0 grown;
       said = up.said ++ one.line ∷ [];
       stands = one.stands;
       in_order = in_order_one start commands old new i true command up is one;

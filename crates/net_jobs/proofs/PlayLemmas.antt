@@ -12,13 +12,15 @@ use Rattle.function_laws.specs.declared.history.Reply.TheVariants.{Made, Full}
 use Rattle.job_text.specs.declared.history_line.Reply.{Reply}
 use Rattle.job_text.specs.declared.history_line.Reply.TheVariants as reply
 use Rattle.job_text.specs.declared.job.Act.{Act}
-use Rattle.job_text.specs.declared.job.Act.TheVariants.{One, Zero, Var, Not, And, Or, Ite, Drop, Same, Eval}
+use Rattle.job_text.specs.declared.job.Act.TheVariants.{Drop, Same, Leq, Eval}
 use Rattle.job_text.specs.Histories.{given_by, stops, told_of}
 use Rattle.edge_bits.specs.declared.lists.Memory.{Memory}
 use Rattle.node_store.specs.declared.grow.Stop.{Stop}
 use Rattle.node_store.specs.declared.grow.Stop.TheVariants as stop
 use Rattle.node_slots.specs.Views.{View, Grown, Is}
 use Rattle.net_jobs.specs.declared.playing.Answer.{Answer}
+use Rattle.net_jobs.specs.declared.session.Session.{Session}
+use Rattle.node_slots.specs.Stores.{plain_view}
 use Rattle.net_jobs.specs.Agreement.{Adds, AreStored, IsStepOf, Refuses, Rows}
 use Rattle.net_jobs.specs.Playing.{GrowsOrLeft, IsAnswered, RowsAfter, RowsGoOn, call_with, makes, rows_left}
 use Rattle.net_jobs.proofs.ListLemmas.{slice_get-push, slice_get-set}
@@ -30,16 +32,8 @@ and_none false = refl
 
 -- a command that makes a row drops none
 left_if_makes : (rows : Rows) (act : Act) → makes act ≡ true → rows_left rows act ≡ rows
-left_if_makes rows One made = refl
-left_if_makes rows Zero made = refl
-left_if_makes rows (Var v) made = refl
-left_if_makes rows (Not a) made = refl
-left_if_makes rows (And a b) made = refl
-left_if_makes rows (Or a b) made = refl
-left_if_makes rows (Ite a b c) made = refl
 left_if_makes rows (Drop a) made = cc
-left_if_makes rows (Same a b) made = refl
-left_if_makes rows (Eval a bits) made = refl
+left_if_makes rows act made = refl
 
 -- one more row that is stored
 stored-push : (w : View) (rows : Rows) (e : Edge) → AreStored w rows → Is kinds.Bdd w e → AreStored w (rows ++ Some e ∷ [])
@@ -81,17 +75,25 @@ answered-full w w' old new act made grown stored refuses = record {
   full = λ e. (refuses.rose, refl);
 }
 
-pub makes_default : (act : Act) → ((a : ℕ) → act ≡ Drop a → ⊥) → ((a b : ℕ) → act ≡ Same a b → ⊥) → ((a : ℕ) (bits : List Bool) → act ≡ Eval a bits → ⊥) → makes act ≡ true
-makes_default One not_drop not_same not_eval = refl
-makes_default Zero not_drop not_same not_eval = refl
-makes_default (Var v) not_drop not_same not_eval = refl
-makes_default (Not a) not_drop not_same not_eval = refl
-makes_default (And a b) not_drop not_same not_eval = refl
-makes_default (Or a b) not_drop not_same not_eval = refl
-makes_default (Ite a b c) not_drop not_same not_eval = refl
-makes_default (Drop a) not_drop not_same not_eval = absurd (not_drop a refl)
-makes_default (Same a b) not_drop not_same not_eval = absurd (not_same a b refl)
-makes_default (Eval a bits) not_drop not_same not_eval = absurd (not_eval a bits refl)
+pub makes_default : (act : Act) → ((a : ℕ) → act ≡ Drop a → ⊥) → ((a b : ℕ) → act ≡ Same a b → ⊥) → ((a b : ℕ) → act ≡ Leq a b → ⊥)
+    → ((a : ℕ) (bits : List Bool) → act ≡ Eval a bits → ⊥) → makes act ≡ true
+makes_default (Drop a) not_drop not_same not_leq not_eval = absurd (not_drop a refl)
+makes_default (Same a b) not_drop not_same not_leq not_eval = absurd (not_same a b refl)
+makes_default (Leq a b) not_drop not_same not_leq not_eval = absurd (not_leq a b refl)
+makes_default (Eval a bits) not_drop not_same not_leq not_eval = absurd (not_eval a bits refl)
+makes_default act not_drop not_same not_leq not_eval = refl
+
+-- the call that was made is the command's
+pub adds_as : (old new : Session) (act : Act) (call : Call) (result : Result Name Stop) → call ≡ call_with act
+    → IfOk result (λ name. Adds (plain_view old.store) old.rows.items (plain_view new.store) new.rows.items call name)
+    → IfOk result (λ name. Adds (plain_view old.store) old.rows.items (plain_view new.store) new.rows.items (call_with act) name)
+adds_as old new act call result is adds =
+    subst (λ (c : Call). IfOk result (λ name. Adds (plain_view old.store) old.rows.items (plain_view new.store) new.rows.items c name)) is adds
+
+pub refuses_as : (old new : Session) (act : Act) (call : Call) → call ≡ call_with act → Refuses (plain_view old.store) old.rows.items (plain_view new.store) new.rows.items call
+    → Refuses (plain_view old.store) old.rows.items (plain_view new.store) new.rows.items (call_with act)
+refuses_as old new act call is refuses =
+    subst (λ (c : Call). Refuses (plain_view old.store) old.rows.items (plain_view new.store) new.rows.items c) is refuses
 
 -- a command that makes a row, and what it is answered
 pub answered-operated : (w w' : View) (old new : Rows) (act : Act) (made : Result Name Stop) (result : Result Answer Memory) → makes act ≡ true → Grown w w' → AreStored w old
@@ -149,17 +151,9 @@ rows_go_on w w' old new act answer goes_on answered is on =
     subst (λ m. GrowsOrLeft m old new act) (answered.made_if ∙ and_true (makes act) (not (stops answer.reply)) (sym is ∙ on))
     (grows_or_left answer.made old new act answered.reply answered.rows)
 
-left_length : (rows : Rows) (act : Act) → length (rows_left rows act) ≡ length rows
+pub left_length : (rows : Rows) (act : Act) → length (rows_left rows act) ≡ length rows
 left_length rows (Drop a) = length-set rows a None
-left_length rows One = refl
-left_length rows Zero = refl
-left_length rows (Var v) = refl
-left_length rows (Not a) = refl
-left_length rows (And a b) = refl
-left_length rows (Or a b) = refl
-left_length rows (Ite a b c) = refl
-left_length rows (Same a b) = refl
-left_length rows (Eval a bits) = refl
+left_length rows act = refl
 
 -- at most one more row
 pub grown_length : (made : Bool) (old new : Rows) (act : Act) → GrowsOrLeft made old new act → length new ≤ length old + 1

@@ -1,31 +1,38 @@
 -- The calls of a session are steps of each table with which it agrees.
-use Rattle.std.proofs.Common.{inl, inr, ◌≡◌, ◌≢◌, ℕ, ◌+◌, ◌<◌, ◌≤◌, ◌^◌, Bool, true, false, cond, ◌&&◌, ◌||◌, ⊎_elim, List, [], ◌∷◌, ◌++◌, length, Option, Some, None, option_and_then, ◌↔◌, not, if◌then◌else◌, refl, sym, ap, ap₂, ◌∙◌, arith, subst, pos, ℤ, take, take_all, Result, Ok, Err, IfOk, IsTrue, IsErrOf, OnErr}
+use Rattle.std.proofs.Common.{inl, inr, ◌≡◌, ◌≢◌, ℕ, ◌+◌, ◌<◌, ◌≤◌, ◌^◌, Bool, true, false, cond, ◌&&◌, ◌||◌, ⊎_elim, List, [], ◌∷◌, ◌++◌, length, Option, Some, None, option_and_then, ◌↔◌, not, get_or, refl, sym, ap, ap₂, ◌∙◌, arith, subst, pos, ℤ, take, take_all, Result, Ok, Err, IfOk, IsTrue, IsErrOf, OnErr}
 use Rattle.std.proofs.Math.ListN.{set, length-set}
-use Rattle.std.proofs.lemmas.Bool.{eq-eqb, ne_eqb}
+use Rattle.std.specs.Prelude.{nat_lt}
+use Rattle.std.specs.List.{All, list_all}
+use Rattle.std.proofs.lemmas.Bool.{eq-eqb, lt-ltb, ne_eqb}
 use Rattle.std.proofs.lemmas.List.{length_push}
+use Rattle.std.proofs.lemmas.List.Elements.{All-weaker}
+use Rattle.std.proofs.lemmas.List.Sums.{list_all-from_AllPass}
 use Rattle.edge_bits.specs.declared.edges.Edge.{Edge}
 use Rattle.edge_bits.specs.declared.edges.Kind.TheVariants as kinds
 use Rattle.edge_bits.specs.Words.{digit}
 use Rattle.function_laws.specs.declared.history.Name.{Name}
 use Rattle.function_laws.specs.declared.history.Call.{Call}
-use Rattle.function_laws.specs.declared.history.Call.TheVariants.{One, Zero, Var, Not, And, Or, Ite, Same, Eval, DropRow}
+use Rattle.function_laws.specs.declared.history.Call.TheVariants.{One, Zero, Var, Not, And, Or, Xor, Ite, Cofactor, Exists, Forall, AndExists, Support, Same, Leq, Eval, DropRow}
 use Rattle.function_laws.specs.declared.history.Function.{Function}
 use Rattle.function_laws.specs.declared.history.Function.TheVariants.{Bdd}
 use Rattle.function_laws.specs.declared.history.Reply.TheVariants.{Made, Truth, Value, Done}
 use Rattle.function_laws.specs.Lists.{list_of, truth}
-use Rattle.function_laws.specs.Values.{constant, negation, conjunction, disjunction, if_then_else, projection, assignment_of}
-use Rattle.function_laws.specs.Functions.{not_of, or_of, ite_of}
+use Rattle.function_laws.specs.Values.{assignment_of, cofactor, conjunction, constant, disjunction, exclusive, exists_all, forall_all, if_then_else, negation, projection, support}
+use Rattle.function_laws.specs.Functions.{and_exists_of, cofactor_of, exists_of, forall_of, ite_of, leq_of, not_of, or_of, support_of, xor_of}
 use Rattle.function_laws.specs.Tables.{Table, Sizes, same_name, with_name, with_row}
-use Rattle.function_laws.specs.Steps.{makes, compares, shows, outcome, IsAllowed, after, may_be_full, value_at, as_bdd, with_one, with_two, with_three, when, same_kind}
+use Rattle.function_laws.specs.Steps.{makes, compares, shows, tells, outcome, IsAllowed, after, may_be_full, value_at, as_bdd, with_one, with_two, with_three, when, same_kind}
 use Rattle.edge_bits.proofs.AssignmentLemmas.{bit-set_other}
 use Rattle.function_laws.proofs.ListLemmas.{length-list_of, truth-list_of, list_of-same}
 use Rattle.function_laws.proofs.WidthLemmas.{same-from_lists}
-use Rattle.function_laws.proofs.BridgeLemmas.{and_of-list_of, place_two-list_of}
+use Rattle.function_laws.proofs.BridgeLemmas.{and_of-list_of, cofactor_of-list_of, ite_of-list_of, leq_of-list_of, not_of-list_of, place_two-list_of, support_of-list_of, xor_of-list_of}
+use Rattle.function_laws.proofs.ExistsLemmas.{and_exists_of-list_of, exists_of-list_of, forall_of-list_of}
 use Rattle.function_laws.proofs.StepLemmas.{made_is_allowed, after-made, value_is_allowed, done_is_allowed, outcome-and, outcome-var, outcome-eval, outcome-drop_row}
 use Rattle.node_store.specs.declared.grow.Stop.{Stop}
 use Rattle.node_store.specs.declared.grow.Stop.TheVariants as stop
 use Rattle.node_store.specs.Kinds.{flipped}
-use Rattle.node_slots.specs.Views.{View, Denotes, Grown, Is, Permanent, Rose, bdd_at}
+use Rattle.edge_bits.specs.declared.lists.Memory.{Memory}
+use Rattle.node_slots.specs.Memo.{Implies}
+use Rattle.node_slots.specs.Views.{View, Denotes, Grown, Is, IsVariable, Permanent, Rose, bdd_at}
 use Rattle.node_store.specs.Kinds.{Function as StoreFunction}
 use Rattle.node_store.specs.Work.{IsWork}
 use Rattle.node_store.specs.ViewLaws.{Is-from, Is-grown, values_at-grown, values_at-is}
@@ -111,19 +118,6 @@ refuses w w' rows new call grown stored rose same may is_outcome = record {
       ((makes out.0, out.1, refl, may), agrees-grown w w' rows t grown stored agrees);
 }
 
--- operations on lists are those on functions
-not_of-list_of : (size : ℕ) (f : ℕ → Bool) → not_of (list_of size f) ≡ list_of size (negation f)
-not_of-list_of size f =
-    ap (λ n. list_of n (negation (truth (list_of size f)))) (length-list_of size f)
-    ∙ list_of-same size (negation (truth (list_of size f))) (negation f) (λ k below. ap not (truth-list_of size k f below))
-
-ite_of-list_of : (size : ℕ) (f g h : ℕ → Bool) → ite_of (list_of size f) (list_of size g) (list_of size h) ≡ list_of size (if_then_else f g h)
-ite_of-list_of size f g h =
-    ap (λ n. list_of n (if_then_else (truth (list_of size f)) (truth (list_of size g)) (truth (list_of size h)))) (length-list_of size f)
-    ∙ list_of-same size (if_then_else (truth (list_of size f)) (truth (list_of size g)) (truth (list_of size h))) (if_then_else f g h)
-    (λ k below. ap₂ (λ a b. if a then b else truth (list_of size h) k) (truth-list_of size k f below) (truth-list_of size k g below)
-    ∙ ap (λ c. if f k then g k else c) (truth-list_of size k h below))
-
 list_inside : (f g : List Bool) → Bdd f ≡ Bdd g → f ≡ g
 list_inside f g e = cc
 
@@ -167,6 +161,64 @@ module _ (w : View) (rows : Rows) where
       ∙ ap (λ z. with_three (Some (list_at w e)) (Some (list_at w d)) (as_bdd z) (λ f g h. makes (Bdd (ite_of f g h)))) (live_at t c i agrees third is_i)
       ∙ ap (λ f. Some (makes (Bdd f))) (ite_of-list_of (2 ^ w.vars) (bdd_at w e) (bdd_at w d) (bdd_at w i))
 
+  pub outcome-of_xor : (a b : Name) (e d : Edge) (t : Table) → IsLive rows a → IsLive rows b → Has rows a.row e → Has rows b.row d → Agrees w rows t
+      → outcome t 0 (Xor a b) ≡ Some (makes (Bdd (list_of (2 ^ w.vars) (exclusive (bdd_at w e) (bdd_at w d)))))
+  outcome-of_xor a b e d t first second is_e is_d agrees =
+      ap₂ (λ x y. with_two (as_bdd x) (as_bdd y) (λ f g. makes (Bdd (xor_of f g)))) (live_at t a e agrees first is_e) (live_at t b d agrees second is_d)
+      ∙ ap (λ f. Some (makes (Bdd f))) (xor_of-list_of (2 ^ w.vars) (bdd_at w e) (bdd_at w d))
+
+  variables_of : (t : Table) → Agrees w rows t → t.sizes.variables ≡ w.vars
+  variables_of t agrees = ap (λ (z : Sizes). z.variables) agrees.sizes_are
+
+  -- the variables are in the table's range
+  all_in_range : (vs : List ℕ) (t : Table) → All (λ v. v < w.vars) vs → Agrees w rows t → list_all (λ v. nat_lt v t.sizes.variables) vs ≡ true
+  all_in_range vs t vars agrees =
+      list_all-from_AllPass (λ v. nat_lt v t.sizes.variables) vs
+      (λ k d below. lt-ltb (get_or vs k d) t.sizes.variables (omega (arith, vars k d below, variables_of t agrees)))
+
+  pub outcome-of_cofactor : (a : Name) (v : ℕ) (b : Bool) (e : Edge) (t : Table) → v < w.vars → IsLive rows a → Has rows a.row e → Agrees w rows t
+      → outcome t 0 (Cofactor a v b) ≡ Some (makes (Bdd (list_of (2 ^ w.vars) (cofactor (bdd_at w e) v b))))
+  outcome-of_cofactor a v b e t within first is_e agrees =
+      ap₂ (λ c x. when c (with_one (as_bdd x) (λ f. makes (Bdd (cofactor_of f v b)))))
+      (lt-ltb v t.sizes.variables (omega (arith, within, variables_of t agrees))) (live_at t a e agrees first is_e)
+      ∙ ap (λ f. Some (makes (Bdd f))) (cofactor_of-list_of w.vars v b (bdd_at w e) within)
+
+  pub outcome-of_exists : (a : Name) (vs : List ℕ) (e : Edge) (t : Table) → All (λ v. v < w.vars) vs → IsLive rows a → Has rows a.row e → Agrees w rows t
+      → outcome t 0 (Exists a vs) ≡ Some (makes (Bdd (list_of (2 ^ w.vars) (exists_all (bdd_at w e) vs))))
+  outcome-of_exists a vs e t vars first is_e agrees =
+      ap₂ (λ c x. when c (with_one (as_bdd x) (λ f. makes (Bdd (exists_of f vs))))) (all_in_range vs t vars agrees) (live_at t a e agrees first is_e)
+      ∙ ap (λ f. Some (makes (Bdd f))) (exists_of-list_of w.vars (bdd_at w e) vs vars)
+
+  pub outcome-of_forall : (a : Name) (vs : List ℕ) (e : Edge) (t : Table) → All (λ v. v < w.vars) vs → IsLive rows a → Has rows a.row e → Agrees w rows t
+      → outcome t 0 (Forall a vs) ≡ Some (makes (Bdd (list_of (2 ^ w.vars) (forall_all (bdd_at w e) vs))))
+  outcome-of_forall a vs e t vars first is_e agrees =
+      ap₂ (λ c x. when c (with_one (as_bdd x) (λ f. makes (Bdd (forall_of f vs))))) (all_in_range vs t vars agrees) (live_at t a e agrees first is_e)
+      ∙ ap (λ f. Some (makes (Bdd f))) (forall_of-list_of w.vars (bdd_at w e) vs vars)
+
+  pub outcome-of_and_exists : (a b : Name) (vs : List ℕ) (e d : Edge) (t : Table) → All (λ v. v < w.vars) vs → IsLive rows a → IsLive rows b → Has rows a.row e → Has rows b.row d
+      → Agrees w rows t → outcome t 0 (AndExists a b vs) ≡ Some (makes (Bdd (list_of (2 ^ w.vars) (exists_all (conjunction (bdd_at w e) (bdd_at w d)) vs))))
+  outcome-of_and_exists a b vs e d t vars first second is_e is_d agrees =
+      ap₂ (λ c x. when c (with_two (as_bdd x) (as_bdd (t.live 0 b)) (λ f g. makes (Bdd (and_exists_of f g vs))))) (all_in_range vs t vars agrees) (live_at t a e agrees first is_e)
+      ∙ ap (λ y. with_two (Some (list_at w e)) (as_bdd y) (λ f g. makes (Bdd (and_exists_of f g vs)))) (live_at t b d agrees second is_d)
+      ∙ ap (λ f. Some (makes (Bdd f))) (and_exists_of-list_of w.vars (bdd_at w e) (bdd_at w d) vs vars)
+
+  pub outcome-of_support : (a : Name) (e : Edge) (t : Table) → IsLive rows a → Has rows a.row e → Agrees w rows t
+      → outcome t 0 (Support a) ≡ Some (makes (Bdd (list_of (2 ^ w.vars) (support w.vars (bdd_at w e)))))
+  outcome-of_support a e t first is_e agrees =
+      ap₂ (λ n x. with_one (as_bdd x) (λ f. makes (Bdd (support_of n f)))) (variables_of t agrees) (live_at t a e agrees first is_e)
+      ∙ ap (λ f. Some (makes (Bdd f))) (support_of-list_of w.vars (bdd_at w e))
+
+  pub step-leq : (w' : View) (a b : Name) (e d : Edge) (result : Result Bool Memory) → Grown w w' → AreStored w rows → IsLive rows a → IsLive rows b
+      → Has rows a.row e → Has rows b.row d → IfOk result (λ told. (told ≡ true) ↔ Implies (bdd_at w e) (bdd_at w d))
+      → IfOk result (λ told. IsStepOf w rows w' rows (Leq a b) (Truth told))
+  step-leq w' a b e d (Err x) grown stored first second is_e is_d is_told = tt
+  step-leq w' a b e d (Ok told) grown stored first second is_e is_d is_told = λ t agrees.
+      let out : outcome t 0 (Leq a b) ≡ Some (tells (leq_of (list_at w e) (list_at w d))) =
+      ap₂ (λ x y. with_two (as_bdd x) (as_bdd y) (λ f g. tells (leq_of f g))) (live_at t a e agrees first is_e) (live_at t b d agrees second is_d) in (
+        (tells (leq_of (list_at w e) (list_at w d)), out, leq_of-list_of w.vars (bdd_at w e) (bdd_at w d) told (stored a.row e is_e).beyond (stored b.row d is_d).beyond is_told),
+        agrees-grown w w' rows t grown stored agrees,
+      )
+
   pub step-same : (a b : Name) (e d : Edge) (told : Bool) → AreStored w rows → IsLive rows a → IsLive rows b → Has rows a.row e → Has rows b.row d
       → IsTrue told ↔ (bdd_at w e ≡ bdd_at w d) → IsStepOf w rows w rows (Same a b) (Truth told)
   step-same a b e d told stored first second is_e is_d is_told t agrees =
@@ -180,7 +232,7 @@ module _ (w : View) (rows : Rows) where
   pub step-eval : (w' : View) (a : Name) (bits : List Bool) (e : Edge) (z : ℤ) → Grown w w' → AreStored w rows → IsLive rows a → Has rows a.row e → length bits ≡ w.vars
       → z ≡ pos (digit (bdd_at w e (assignment_of bits))) → IsStepOf w rows w' rows (Eval a bits) (Value z)
   step-eval w' a bits e z grown stored live has long is t agrees =
-      let size : t.sizes.variables ≡ w.vars = ap (λ (z : Sizes). z.variables) agrees.sizes_are in
+      let size : t.sizes.variables ≡ w.vars = variables_of t agrees in
       let all : take t.sizes.variables bits ≡ bits = take_all t.sizes.variables bits (omega (arith, size, long)) in
       let below : assignment_of bits < 2 ^ w.vars = subst (λ n. assignment_of bits < 2 ^ n) long (assignment_of-below bits) in
       let value : value_at t.sizes (Bdd (list_at w e)) bits ≡ z =
@@ -231,6 +283,10 @@ pub one_denotes : (w' : View) (b : Bool) (e : Edge) → Permanent w' → e ≡ r
 one_denotes w' true e permanent is = subst (λ (x : Edge). Denotes kinds.Bdd w' x (constant true)) (sym is) (record { is = permanent.one; beyond = λ u from k b. refl; fits = tt })
 one_denotes w' false e permanent is =
     subst (λ (x : Edge). Denotes kinds.Bdd w' x (constant false)) (sym is) (record { is = ap (flipped true) permanent.one; beyond = λ u from k b. refl; fits = tt })
+
+-- variables below the number of them are the store's
+pub are_variables : (w : View) (vs : List ℕ) → w.vars ≤ 1024 → All (λ v. v < w.vars) vs → All (IsVariable kinds.Bdd w) vs
+are_variables w vs few vars = All-weaker (λ v. v < w.vars) (IsVariable kinds.Bdd w) (λ v below. (omega arith, below)) vs vars
 
 -- where a part of the work is due, a function is
 pub due_of_work : (w : View) (Work : StoreFunction → Type 0) → IsWork w Work w.due → IsDue w

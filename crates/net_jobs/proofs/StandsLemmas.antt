@@ -20,7 +20,7 @@ use Rattle.function_laws.specs.Steps.{IsAllowed, after}
 use Rattle.function_laws.specs.Histories.{IsLegal, table_after}
 use Rattle.function_laws.proofs.HistoryLemmas.{IsLegalFrom-push, table_after-push}
 use Rattle.job_text.specs.declared.job.Act.{Act}
-use Rattle.job_text.specs.declared.job.Act.TheVariants.{One, Zero, Var, Not, And, Or, Ite, Drop, Same, Eval}
+use Rattle.job_text.specs.declared.job.Act.TheVariants.{Drop}
 use Rattle.job_text.specs.declared.job.Command.{Command}
 use Rattle.job_text.specs.declared.history_line.Reply.TheVariants as replies
 use Rattle.job_text.specs.Text.{Word}
@@ -33,6 +33,7 @@ use Rattle.node_slots.specs.Views.{View}
 use Rattle.net_jobs.specs.Agreement.{Agrees, IsFilled, Rows, is_dropped, is_gone, name_of, sizes_for}
 use Rattle.net_jobs.specs.Playing.{CallOf, CallsLead, CanCall, IsAnswered, RowsAfter, Stands, assigned_after, call_with, makes, rows_left, target_at}
 use Rattle.net_jobs.proofs.ListLemmas.{slice_get-set_other, slice_get-set_same}
+use Rattle.net_jobs.proofs.PlayLemmas.{left_length}
 
 -- one more row was not dropped, and the others are as before
 dropped-push : (rows : Rows) (f : Edge) (row : ℕ) → is_dropped (rows ++ Some f ∷ []) row ≡ is_dropped rows row
@@ -85,27 +86,11 @@ dropped-after w w' rows new act answer answered can row = by_made answer.made an
       where
         by_act : (act : Act) → CanCall w.vars rows act → (made : Bool) → made ≡ (makes act && not (stops answer.reply)) → RowsAfter made rows new act answered.reply
             → (is_dropped rows row || drops (name_of row) (call_with act)) ≡ is_dropped new row
-        by_act One can true is after = or_false (is_dropped rows row) ∙ sym (dropped-push rows after.1.0 row) ∙ ap (λ r. is_dropped r row) (sym after.1.1)
-        by_act One can false is after = or_false (is_dropped rows row) ∙ ap (λ r. is_dropped r row) (sym after.1)
-        by_act Zero can true is after = or_false (is_dropped rows row) ∙ sym (dropped-push rows after.1.0 row) ∙ ap (λ r. is_dropped r row) (sym after.1.1)
-        by_act Zero can false is after = or_false (is_dropped rows row) ∙ ap (λ r. is_dropped r row) (sym after.1)
-        by_act (Var v) can true is after = or_false (is_dropped rows row) ∙ sym (dropped-push rows after.1.0 row) ∙ ap (λ r. is_dropped r row) (sym after.1.1)
-        by_act (Var v) can false is after = or_false (is_dropped rows row) ∙ ap (λ r. is_dropped r row) (sym after.1)
-        by_act (Not a) can true is after = or_false (is_dropped rows row) ∙ sym (dropped-push rows after.1.0 row) ∙ ap (λ r. is_dropped r row) (sym after.1.1)
-        by_act (Not a) can false is after = or_false (is_dropped rows row) ∙ ap (λ r. is_dropped r row) (sym after.1)
-        by_act (And a b) can true is after = or_false (is_dropped rows row) ∙ sym (dropped-push rows after.1.0 row) ∙ ap (λ r. is_dropped r row) (sym after.1.1)
-        by_act (And a b) can false is after = or_false (is_dropped rows row) ∙ ap (λ r. is_dropped r row) (sym after.1)
-        by_act (Or a b) can true is after = or_false (is_dropped rows row) ∙ sym (dropped-push rows after.1.0 row) ∙ ap (λ r. is_dropped r row) (sym after.1.1)
-        by_act (Or a b) can false is after = or_false (is_dropped rows row) ∙ ap (λ r. is_dropped r row) (sym after.1)
-        by_act (Ite a b c) can true is after = or_false (is_dropped rows row) ∙ sym (dropped-push rows after.1.0 row) ∙ ap (λ r. is_dropped r row) (sym after.1.1)
-        by_act (Ite a b c) can false is after = or_false (is_dropped rows row) ∙ ap (λ r. is_dropped r row) (sym after.1)
         by_act (Drop a) can true is after = cc
         by_act (Drop a) can false is after =
             sym (dropped-set rows a row (slice_get_within rows a (Some can.0) can.1)) ∙ ap (λ r. is_dropped r row) (sym after.1)
-        by_act (Same a b) can true is after = cc
-        by_act (Same a b) can false is after = or_false (is_dropped rows row) ∙ ap (λ r. is_dropped r row) (sym after.1)
-        by_act (Eval a bits) can true is after = cc
-        by_act (Eval a bits) can false is after = or_false (is_dropped rows row) ∙ ap (λ r. is_dropped r row) (sym after.1)
+        by_act act can true is after = or_false (is_dropped rows row) ∙ sym (dropped-push rows after.1.0 row) ∙ ap (λ r. is_dropped r row) (sym after.1.1)
+        by_act act can false is after = or_false (is_dropped rows row) ∙ ap (λ r. is_dropped r row) (sym after.1)
 
 module _ (start p p' : Plain) (commands : List Command) (rows new : Rows) (assigned text : List ℕ) (place i : ℕ) (said : List HistoryLine)
     (words : List Word) (act : Act) (answer : Answer) (stands : Stands start p commands rows assigned text place said)
@@ -155,23 +140,11 @@ module _ (start p p' : Plain) (commands : List Command) (rows new : Rows) (assig
       )
   registers-after false after word =
       let regs = registers-kept said said_line after.0 in
-      let same : length new ≡ length rows = ap length after.1 ∙ length-left act in (
+      let same : length new ≡ length rows = ap length after.1 ∙ left_length rows act in (
         ap (map (λ register. register.word)) regs ∙ stands.words,
         ap (map (λ register. register.name)) regs ∙ stands.names ∙ ap (λ k. map name_of (range_with_len 0 k)) (sym same),
         stands.count ∙ sym same,
       )
-    where
-      length-left : (act : Act) → length (rows_left rows act) ≡ length rows
-      length-left One = refl
-      length-left Zero = refl
-      length-left (Var v) = refl
-      length-left (Not a) = refl
-      length-left (And a b) = refl
-      length-left (Or a b) = refl
-      length-left (Ite a b c) = refl
-      length-left (Drop a) = length-set rows a None
-      length-left (Same a b) = refl
-      length-left (Eval a bits) = refl
 
   as_many-after : length p'.words ≡ length start.words
   as_many-after = answered.grown.slots ∙ stands.as_many

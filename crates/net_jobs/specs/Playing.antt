@@ -8,7 +8,7 @@ use Rattle.function_laws.specs.declared.history.Reply.TheVariants as laws
 use Rattle.function_laws.specs.Tables.{opening}
 use Rattle.function_laws.specs.Histories.{IsLegal, table_after}
 use Rattle.job_text.specs.declared.job.Act.{Act}
-use Rattle.job_text.specs.declared.job.Act.TheVariants.{One, Zero, Var, Not, And, Or, Ite, Drop, Same, Eval}
+use Rattle.job_text.specs.declared.job.Act.TheVariants.{One, Zero, Var, Not, And, Or, Xor, Ite, Cofactor, Exists, Forall, AndExists, Support, Drop, Same, Leq, Eval}
 use Rattle.job_text.specs.declared.job.Command.{Command}
 use Rattle.job_text.specs.declared.history_line.Reply.TheVariants as replies
 use Rattle.job_text.specs.declared.job.Job.{Job}
@@ -27,7 +27,7 @@ use Rattle.net_jobs.specs.Agreement.{Agrees, AreStored, Has, IsStepOf, Rows, is_
 abbrev pub IsHeld : Rows → ℕ → Type 0
 IsHeld rows row = (e : Edge) × Has rows row e
 
--- the conditions of a command's call: its variable is one of n, its registers are rows that were not dropped, it has n bits
+-- the conditions of a command's call: its variables are some of n, its registers are rows that were not dropped, it has n bits
 abbrev pub CanCall : ℕ → Rows → Act → Type 0
 CanCall n rows One = Unit {0}
 CanCall n rows Zero = Unit {0}
@@ -35,9 +35,16 @@ CanCall n rows (Var v) = v < n
 CanCall n rows (Not a) = IsHeld rows a
 CanCall n rows (And a b) = IsHeld rows a × IsHeld rows b
 CanCall n rows (Or a b) = IsHeld rows a × IsHeld rows b
+CanCall n rows (Xor a b) = IsHeld rows a × IsHeld rows b
 CanCall n rows (Ite a b c) = IsHeld rows a × IsHeld rows b × IsHeld rows c
+CanCall n rows (Cofactor a v b) = IsHeld rows a × (v < n)
+CanCall n rows (Exists a vs) = IsHeld rows a × All (λ v. v < n) vs
+CanCall n rows (Forall a vs) = IsHeld rows a × All (λ v. v < n) vs
+CanCall n rows (AndExists a b vs) = IsHeld rows a × IsHeld rows b × All (λ v. v < n) vs
+CanCall n rows (Support a) = IsHeld rows a
 CanCall n rows (Drop a) = IsHeld rows a
 CanCall n rows (Same a b) = IsHeld rows a × IsHeld rows b
+CanCall n rows (Leq a b) = IsHeld rows a × IsHeld rows b
 CanCall n rows (Eval a bits) = IsHeld rows a × (length bits ≡ n)
 
 -- the call of a command, where the register of each number is the row of that number
@@ -48,15 +55,23 @@ call_with (Var v) = calls.Var v
 call_with (Not a) = calls.Not (name_of a)
 call_with (And a b) = calls.And (name_of a) (name_of b)
 call_with (Or a b) = calls.Or (name_of a) (name_of b)
+call_with (Xor a b) = calls.Xor (name_of a) (name_of b)
 call_with (Ite a b c) = calls.Ite (name_of a) (name_of b) (name_of c)
+call_with (Cofactor a v b) = calls.Cofactor (name_of a) v b
+call_with (Exists a vs) = calls.Exists (name_of a) vs
+call_with (Forall a vs) = calls.Forall (name_of a) vs
+call_with (AndExists a b vs) = calls.AndExists (name_of a) (name_of b) vs
+call_with (Support a) = calls.Support (name_of a)
 call_with (Drop a) = calls.DropRow (name_of a)
 call_with (Same a b) = calls.Same (name_of a) (name_of b)
+call_with (Leq a b) = calls.Leq (name_of a) (name_of b)
 call_with (Eval a bits) = calls.Eval (name_of a) bits
 
 -- the command makes a row, unless it stops the session
 abbrev pub makes : Act → Bool
 makes (Drop a) = false
 makes (Same a b) = false
+makes (Leq a b) = false
 makes (Eval a bits) = false
 makes _ = true
 

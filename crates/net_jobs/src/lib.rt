@@ -3,6 +3,7 @@
 
 mod gate;
 mod memory;
+mod operating;
 mod playing;
 mod reading;
 mod session;

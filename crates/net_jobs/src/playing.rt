@@ -2,7 +2,8 @@
 
 ghost use Rattle.std.specs.Prelude.{◌≡◌, ◌≢◌, ◌<◌, ◌≤◌, ◌^◌, ◌+◌, ◌++◌, [], length, string_bytes, vec_len, All, slice_get, IfOk, IfSome, IsErrOf, MatchResult, OnOk, true, false, Some, not, List as ListOf, ◌∷◌, codes, ℕ};
 ghost use Rattle.job_text.specs.Grammar.{CommandsSay, IsJob, target_of};
-ghost use Rattle.job_text.specs.Histories.{HistoryLine, drop_of, left_of, line_text, stops};
+ghost use Rattle.job_text.specs.Histories.{HistoryLine, drop_of, left_of, line_text, stops, told_of};
+ghost use Rattle.function_laws.specs.declared.history.Reply.TheVariants as laws;
 ghost use Rattle.node_slots.specs.Stores.{IsOpening, Plain, plain_view};
 ghost use Rattle.node_slots.specs.Views.{Grown};
 ghost use Rattle.net_jobs.specs.Agreement.{Adds, AreStored, IsFilled, Refuses, is_dropped, name_of};
@@ -79,9 +80,25 @@ fn operate(session: &mut Session, act: &Act) -> Result<Name, Stop>
         Act::Not(a) => session.not(register(*a)),
         Act::And(a, b) => session.and(register(*a), register(*b)),
         Act::Or(a, b) => session.or(register(*a), register(*b)),
+        Act::Xor(a, b) => session.xor(register(*a), register(*b)),
         Act::Ite(a, b, c) => session.ite(register(*a), register(*b), register(*c)),
-        Act::Drop(_) | Act::Same(_, _) | Act::Eval(_, _) => unreachable!(),
+        Act::Cofactor(a, v, bit) => session.cofactor(register(*a), *v, *bit),
+        Act::Exists(a, vars) => session.exists(register(*a), vars.as_slice()),
+        Act::Forall(a, vars) => session.forall(register(*a), vars.as_slice()),
+        Act::AndExists(a, b, vars) => {
+            session.and_exists(register(*a), register(*b), vars.as_slice())
+        }
+        Act::Support(a) => session.support(register(*a)),
+        Act::Drop(_) | Act::Same(_, _) | Act::Leq(_, _) | Act::Eval(_, _) => unreachable!(),
     }
+}
+
+/// What a question is answered.
+fn yes_or_no(told: bool) -> Reply
+    ensures told { told_of (laws.Truth told) ≡ Some result }
+    ensures goes_on { stops result ≡ false }
+{
+    if told { Reply::Yes } else { Reply::No }
 }
 
 /// Makes the call of a command.
@@ -97,13 +114,8 @@ fn perform(session: &mut Session, act: &Act) -> Result<Answer, Memory>
             session.drop_row(register(*a));
             Reply::Done
         }
-        Act::Same(a, b) => {
-            if session.same(register(*a), register(*b)) {
-                Reply::Yes
-            } else {
-                Reply::No
-            }
-        }
+        Act::Same(a, b) => yes_or_no(session.same(register(*a), register(*b))),
+        Act::Leq(a, b) => yes_or_no(session.leq(register(*a), register(*b))?),
         Act::Eval(a, bits) => Reply::Number(session.eval(register(*a), bits.as_slice())),
         _ => return answer_of(operate(session, act)),
     };

@@ -1,4 +1,4 @@
-//! A session whose rows are edges of a store.
+//! A session whose rows are edges of a store: its rows, the calls that make a row of no other, and those that make none.
 
 ghost use Rattle.std.specs.Prelude.{◌≡◌, ◌<◌, ◌≤◌, ◌^◌, ◌+◌, ◌++◌, ◌∷◌, [], not, length, vec_len, IfOk, IsErrOf, OnErr, Some, None, slice_set, ◌↔◌, IsTrue};
 ghost use Rattle.edge_bits.specs.declared.edges.Kind.TheVariants as kinds;
@@ -22,7 +22,7 @@ pub struct Session {
 }
 
 /// A new row of the edge that was made, if it was made. An error changes nothing.
-fn keep(rows: &mut Vec<Option<Edge>>, made: Result<Edge, Stop>) -> Result<Name, Stop>
+pub fn keep(rows: &mut Vec<Option<Edge>>, made: Result<Edge, Stop>) -> Result<Name, Stop>
     requires room { vec_len rows.old < 2 ^ 32 }
     ensures ok { IfOk result (λ name. IsKept made rows.old.items rows.new.items name) }
     ensures full { IsErrOf result Stop.Full → IsErrOf made Stop.Full }
@@ -43,7 +43,7 @@ fn keep(rows: &mut Vec<Option<Edge>>, made: Result<Edge, Stop>) -> Result<Name, 
 }
 
 /// A new row of the edge that was made, if it was made. Where a node was refused, each slot is in use.
-fn settle(
+pub fn settle(
     store: &PlainStore,
     rows: &mut Vec<Option<Edge>>,
     made: Result<Edge, Stop>,
@@ -71,7 +71,7 @@ impl Session {
     }
 
     /// The edge of a row that was not dropped.
-    fn edge(&self, name: Name) -> Edge
+    pub fn edge(&self, name: Name) -> Edge
         requires { IsLive self.now.rows.items name }
         ensures { Has self.now.rows.items name.row result }
     {
@@ -119,73 +119,6 @@ impl Session {
         keep(&mut self.rows, Ok(Edge::new(5 + v, false)))
     }
 
-    /// The conjunction of two rows, as a new row.
-    pub fn and(&mut self, f: Name, g: Name) -> Result<Name, Stop>
-        requires stored { AreStored (plain_view self.old.store) self.old.rows.items }
-        requires first { IsLive self.old.rows.items f }
-        requires second { IsLive self.old.rows.items g }
-        requires room { vec_len self.old.rows < 2 ^ 32 }
-        ensures ok { IfOk result (λ name. Adds (plain_view self.old.store) self.old.rows.items (plain_view self.new.store) self.new.rows.items (calls.And f g) name) }
-        ensures full { IsErrOf result Stop.Full → Refuses (plain_view self.old.store) self.old.rows.items (plain_view self.new.store) self.new.rows.items (calls.And f g) }
-        ensures filled { IsErrOf result Stop.Full → IsFilled self.new.store }
-        ensures grown { Grown (plain_view self.old.store) (plain_view self.new.store) }
-    {
-        let first = self.edge(f);
-        let second = self.edge(g);
-        let made = ite_core::and(&mut self.store, first, second);
-        settle(&self.store, &mut self.rows, made)
-    }
-
-    /// The complement of a row, as a new row.
-    pub fn not(&mut self, f: Name) -> Result<Name, Stop>
-        requires stored { AreStored (plain_view self.old.store) self.old.rows.items }
-        requires first { IsLive self.old.rows.items f }
-        requires room { vec_len self.old.rows < 2 ^ 32 }
-        ensures ok { IfOk result (λ name. Adds (plain_view self.old.store) self.old.rows.items (plain_view self.new.store) self.new.rows.items (calls.Not f) name) }
-        ensures full { IsErrOf result Stop.Full → ⊥ }
-        ensures grown { Grown (plain_view self.old.store) (plain_view self.new.store) }
-    {
-        let first = self.edge(f);
-        let made = ite_core::not(&mut self.store, first);
-        keep(&mut self.rows, made)
-    }
-
-    /// The disjunction of two rows, as a new row.
-    pub fn or(&mut self, f: Name, g: Name) -> Result<Name, Stop>
-        requires stored { AreStored (plain_view self.old.store) self.old.rows.items }
-        requires first { IsLive self.old.rows.items f }
-        requires second { IsLive self.old.rows.items g }
-        requires room { vec_len self.old.rows < 2 ^ 32 }
-        ensures ok { IfOk result (λ name. Adds (plain_view self.old.store) self.old.rows.items (plain_view self.new.store) self.new.rows.items (calls.Or f g) name) }
-        ensures full { IsErrOf result Stop.Full → Refuses (plain_view self.old.store) self.old.rows.items (plain_view self.new.store) self.new.rows.items (calls.Or f g) }
-        ensures filled { IsErrOf result Stop.Full → IsFilled self.new.store }
-        ensures grown { Grown (plain_view self.old.store) (plain_view self.new.store) }
-    {
-        let first = self.edge(f);
-        let second = self.edge(g);
-        let made = ite_core::or(&mut self.store, first, second);
-        settle(&self.store, &mut self.rows, made)
-    }
-
-    /// If the first row then the second else the third, as a new row.
-    pub fn ite(&mut self, f: Name, g: Name, h: Name) -> Result<Name, Stop>
-        requires stored { AreStored (plain_view self.old.store) self.old.rows.items }
-        requires first { IsLive self.old.rows.items f }
-        requires second { IsLive self.old.rows.items g }
-        requires third { IsLive self.old.rows.items h }
-        requires room { vec_len self.old.rows < 2 ^ 32 }
-        ensures ok { IfOk result (λ name. Adds (plain_view self.old.store) self.old.rows.items (plain_view self.new.store) self.new.rows.items (calls.Ite f g h) name) }
-        ensures full { IsErrOf result Stop.Full → Refuses (plain_view self.old.store) self.old.rows.items (plain_view self.new.store) self.new.rows.items (calls.Ite f g h) }
-        ensures filled { IsErrOf result Stop.Full → IsFilled self.new.store }
-        ensures grown { Grown (plain_view self.old.store) (plain_view self.new.store) }
-    {
-        let first = self.edge(f);
-        let second = self.edge(g);
-        let third = self.edge(h);
-        let made = ite_core::ite(&mut self.store, first, second, third);
-        settle(&self.store, &mut self.rows, made)
-    }
-
     /// Whether two rows have one function.
     pub fn same(&self, f: Name, g: Name) -> bool
         requires stored { AreStored (plain_view self.now.store) self.now.rows.items }
@@ -196,6 +129,20 @@ impl Session {
         let first = self.edge(f);
         let second = self.edge(g);
         self.store.same(first, second)
+    }
+
+    /// Whether the second row holds wherever the first does.
+    pub fn leq(&mut self, f: Name, g: Name) -> Result<bool, Memory>
+        requires stored { AreStored (plain_view self.old.store) self.old.rows.items }
+        requires first { IsLive self.old.rows.items f }
+        requires second { IsLive self.old.rows.items g }
+        ensures step { IfOk result (λ told. IsStepOf (plain_view self.old.store) self.old.rows.items (plain_view self.new.store) self.old.rows.items (calls.Leq f g) (replies.Truth told)) }
+        ensures rows { self.new.rows.items ≡ self.old.rows.items }
+        ensures grown { Grown (plain_view self.old.store) (plain_view self.new.store) }
+    {
+        let first = self.edge(f);
+        let second = self.edge(g);
+        ite_core::leq(&mut self.store, first, second)
     }
 
     /// The value of a row where bit i is the value of variable i: 0 or 1.

@@ -1,57 +1,73 @@
-use Rattle.std.proofs.Common.{◌∙◌, IfOk, sym, ap, ap₂, subst}
-use Rattle.function_laws.specs.declared.history.Call.{Call}
+use Rattle.std.proofs.Common.{◌∙◌, sym, ap, ap₂}
 use Rattle.function_laws.specs.declared.history.Call.TheVariants as calls
-use Rattle.node_slots.specs.Stores.{plain_view}
-use Rattle.net_jobs.specs.Agreement.{Adds, Refuses, name_of}
+use Rattle.function_laws.specs.declared.history.Name.{Name}
+use Rattle.net_jobs.specs.Agreement.{name_of}
 use Rattle.net_jobs.specs.Playing.{call_with}
+use Rattle.net_jobs.proofs.PlayLemmas.{adds_as, refuses_as}
 use Rattle.net_jobs.proofs.playing.operate.Goals as goal
 
 pub returns-in-One-clause-ok : goal.returns-in-One-clause-ok
-returns-in-One-clause-ok c =
-    subst (λ (call : Call). IfOk c.one.result (λ name. Adds (plain_view c.args.session.now.store) c.args.session.now.rows.items (plain_view c.one.new.self.store) c.one.new.self.rows.items call name))
-    (sym (ap call_with c.in-One.is)) c.one.ensures.ok
+returns-in-One-clause-ok c = adds_as c.args.session.now c.one.new.self c.args.act.now _ c.one.result (sym (ap call_with c.in-One.is)) c.one.ensures.ok
 
 pub returns-in-Zero-clause-ok : goal.returns-in-Zero-clause-ok
-returns-in-Zero-clause-ok c =
-    subst (λ (call : Call). IfOk c.zero.result (λ name. Adds (plain_view c.args.session.now.store) c.args.session.now.rows.items (plain_view c.zero.new.self.store) c.zero.new.self.rows.items call name))
-    (sym (ap call_with c.in-Zero.is)) c.zero.ensures.ok
+returns-in-Zero-clause-ok c = adds_as c.args.session.now c.zero.new.self c.args.act.now _ c.zero.result (sym (ap call_with c.in-Zero.is)) c.zero.ensures.ok
 
 pub returns-in-Var-clause-ok : goal.returns-in-Var-clause-ok
-returns-in-Var-clause-ok c =
-    subst (λ (call : Call). IfOk c.var.result (λ name. Adds (plain_view c.args.session.now.store) c.args.session.now.rows.items (plain_view c.var.new.self.store) c.var.new.self.rows.items call name))
-    (sym (ap call_with c.in-Var.is)) c.var.ensures.ok
+returns-in-Var-clause-ok c = adds_as c.args.session.now c.var.new.self c.args.act.now _ c.var.result (sym (ap call_with c.in-Var.is)) c.var.ensures.ok
 
 pub returns-in-Not-clause-ok : goal.returns-in-Not-clause-ok
-returns-in-Not-clause-ok c =
-    subst (λ (call : Call). IfOk c.not.result (λ name. Adds (plain_view c.args.session.now.store) c.args.session.now.rows.items (plain_view c.not.new.self.store) c.not.new.self.rows.items call name))
-    (ap calls.Not c.register.ensures ∙ sym (ap call_with c.in-Not.is)) c.not.ensures.ok
+returns-in-Not-clause-ok c = adds_as c.args.session.now c.not.new.self c.args.act.now _ c.not.result (ap calls.Not c.register.ensures ∙ sym (ap call_with c.in-Not.is)) c.not.ensures.ok
 
 pub returns-in-And-clause-ok : goal.returns-in-And-clause-ok
-returns-in-And-clause-ok c =
-    subst (λ (call : Call). IfOk c.and.result (λ name. Adds (plain_view c.args.session.now.store) c.args.session.now.rows.items (plain_view c.and.new.self.store) c.and.new.self.rows.items call name))
-    (ap₂ calls.And c.register-in-And.ensures c.register-in-And-2.ensures ∙ sym (ap call_with c.in-And.is)) c.and.ensures.ok
+returns-in-And-clause-ok c = adds_as c.args.session.now c.and.new.self c.args.act.now _ c.and.result (ap₂ calls.And c.register-in-And.ensures c.register-in-And-2.ensures ∙ sym (ap call_with c.in-And.is)) c.and.ensures.ok
 
 pub returns-in-And-clause-full : goal.returns-in-And-clause-full
-returns-in-And-clause-full c e =
-    subst (λ (call : Call). Refuses (plain_view c.args.session.now.store) c.args.session.now.rows.items (plain_view c.and.new.self.store) c.and.new.self.rows.items call)
-    (ap₂ calls.And c.register-in-And.ensures c.register-in-And-2.ensures ∙ sym (ap call_with c.in-And.is)) (c.and.ensures.full e)
+returns-in-And-clause-full c e = refuses_as c.args.session.now c.and.new.self c.args.act.now _ (ap₂ calls.And c.register-in-And.ensures c.register-in-And-2.ensures ∙ sym (ap call_with c.in-And.is)) (c.and.ensures.full e)
 
 pub returns-in-Or-clause-ok : goal.returns-in-Or-clause-ok
-returns-in-Or-clause-ok c =
-    subst (λ (call : Call). IfOk c.or.result (λ name. Adds (plain_view c.args.session.now.store) c.args.session.now.rows.items (plain_view c.or.new.self.store) c.or.new.self.rows.items call name))
-    (ap₂ calls.Or c.register-in-Or.ensures c.register-in-Or-2.ensures ∙ sym (ap call_with c.in-Or.is)) c.or.ensures.ok
+returns-in-Or-clause-ok c = adds_as c.args.session.now c.or.new.self c.args.act.now _ c.or.result (ap₂ calls.Or c.register-in-Or.ensures c.register-in-Or-2.ensures ∙ sym (ap call_with c.in-Or.is)) c.or.ensures.ok
 
 pub returns-in-Or-clause-full : goal.returns-in-Or-clause-full
-returns-in-Or-clause-full c e =
-    subst (λ (call : Call). Refuses (plain_view c.args.session.now.store) c.args.session.now.rows.items (plain_view c.or.new.self.store) c.or.new.self.rows.items call)
-    (ap₂ calls.Or c.register-in-Or.ensures c.register-in-Or-2.ensures ∙ sym (ap call_with c.in-Or.is)) (c.or.ensures.full e)
+returns-in-Or-clause-full c e = refuses_as c.args.session.now c.or.new.self c.args.act.now _ (ap₂ calls.Or c.register-in-Or.ensures c.register-in-Or-2.ensures ∙ sym (ap call_with c.in-Or.is)) (c.or.ensures.full e)
+
+pub returns-in-Xor-clause-ok : goal.returns-in-Xor-clause-ok
+returns-in-Xor-clause-ok c = adds_as c.args.session.now c.xor.new.self c.args.act.now _ c.xor.result (ap₂ calls.Xor c.register-in-Xor.ensures c.register-in-Xor-2.ensures ∙ sym (ap call_with c.in-Xor.is)) c.xor.ensures.ok
+
+pub returns-in-Xor-clause-full : goal.returns-in-Xor-clause-full
+returns-in-Xor-clause-full c e = refuses_as c.args.session.now c.xor.new.self c.args.act.now _ (ap₂ calls.Xor c.register-in-Xor.ensures c.register-in-Xor-2.ensures ∙ sym (ap call_with c.in-Xor.is)) (c.xor.ensures.full e)
 
 pub returns-in-Ite-clause-ok : goal.returns-in-Ite-clause-ok
-returns-in-Ite-clause-ok c =
-    subst (λ (call : Call). IfOk c.ite.result (λ name. Adds (plain_view c.args.session.now.store) c.args.session.now.rows.items (plain_view c.ite.new.self.store) c.ite.new.self.rows.items call name))
-    (ap₂ (λ f g. calls.Ite f g c.register-in-Ite-3.result) c.register-in-Ite.ensures c.register-in-Ite-2.ensures ∙ ap (calls.Ite (name_of c.in-Ite.a) (name_of c.in-Ite.b)) c.register-in-Ite-3.ensures ∙ sym (ap call_with c.in-Ite.is)) c.ite.ensures.ok
+returns-in-Ite-clause-ok c = adds_as c.args.session.now c.ite.new.self c.args.act.now _ c.ite.result (ap₂ (λ (f g : Name). calls.Ite f g c.register-in-Ite-3.result) c.register-in-Ite.ensures c.register-in-Ite-2.ensures ∙ ap (calls.Ite (name_of c.in-Ite.a) (name_of c.in-Ite.b)) c.register-in-Ite-3.ensures ∙ sym (ap call_with c.in-Ite.is)) c.ite.ensures.ok
 
 pub returns-in-Ite-clause-full : goal.returns-in-Ite-clause-full
-returns-in-Ite-clause-full c e =
-    subst (λ (call : Call). Refuses (plain_view c.args.session.now.store) c.args.session.now.rows.items (plain_view c.ite.new.self.store) c.ite.new.self.rows.items call)
-    (ap₂ (λ f g. calls.Ite f g c.register-in-Ite-3.result) c.register-in-Ite.ensures c.register-in-Ite-2.ensures ∙ ap (calls.Ite (name_of c.in-Ite.a) (name_of c.in-Ite.b)) c.register-in-Ite-3.ensures ∙ sym (ap call_with c.in-Ite.is)) (c.ite.ensures.full e)
+returns-in-Ite-clause-full c e = refuses_as c.args.session.now c.ite.new.self c.args.act.now _ (ap₂ (λ (f g : Name). calls.Ite f g c.register-in-Ite-3.result) c.register-in-Ite.ensures c.register-in-Ite-2.ensures ∙ ap (calls.Ite (name_of c.in-Ite.a) (name_of c.in-Ite.b)) c.register-in-Ite-3.ensures ∙ sym (ap call_with c.in-Ite.is)) (c.ite.ensures.full e)
+
+pub returns-in-Cofactor-clause-ok : goal.returns-in-Cofactor-clause-ok
+returns-in-Cofactor-clause-ok c = adds_as c.args.session.now c.cofactor.new.self c.args.act.now _ c.cofactor.result (ap (λ (f : Name). calls.Cofactor f c.in-Cofactor.v c.in-Cofactor.bit) c.register-in-Cofactor.ensures ∙ sym (ap call_with c.in-Cofactor.is)) c.cofactor.ensures.ok
+
+pub returns-in-Cofactor-clause-full : goal.returns-in-Cofactor-clause-full
+returns-in-Cofactor-clause-full c e = refuses_as c.args.session.now c.cofactor.new.self c.args.act.now _ (ap (λ (f : Name). calls.Cofactor f c.in-Cofactor.v c.in-Cofactor.bit) c.register-in-Cofactor.ensures ∙ sym (ap call_with c.in-Cofactor.is)) (c.cofactor.ensures.full e)
+
+pub returns-in-Exists-clause-ok : goal.returns-in-Exists-clause-ok
+returns-in-Exists-clause-ok c = adds_as c.args.session.now c.exists.new.self c.args.act.now _ c.exists.result (ap₂ calls.Exists c.register-in-Exists.ensures c.as_slice.ensures ∙ sym (ap call_with c.in-Exists.is)) c.exists.ensures.ok
+
+pub returns-in-Exists-clause-full : goal.returns-in-Exists-clause-full
+returns-in-Exists-clause-full c e = refuses_as c.args.session.now c.exists.new.self c.args.act.now _ (ap₂ calls.Exists c.register-in-Exists.ensures c.as_slice.ensures ∙ sym (ap call_with c.in-Exists.is)) (c.exists.ensures.full e)
+
+pub returns-in-Forall-clause-ok : goal.returns-in-Forall-clause-ok
+returns-in-Forall-clause-ok c = adds_as c.args.session.now c.forall.new.self c.args.act.now _ c.forall.result (ap₂ calls.Forall c.register-in-Forall.ensures c.as_slice-in-Forall.ensures ∙ sym (ap call_with c.in-Forall.is)) c.forall.ensures.ok
+
+pub returns-in-Forall-clause-full : goal.returns-in-Forall-clause-full
+returns-in-Forall-clause-full c e = refuses_as c.args.session.now c.forall.new.self c.args.act.now _ (ap₂ calls.Forall c.register-in-Forall.ensures c.as_slice-in-Forall.ensures ∙ sym (ap call_with c.in-Forall.is)) (c.forall.ensures.full e)
+
+pub returns-in-AndExists-clause-ok : goal.returns-in-AndExists-clause-ok
+returns-in-AndExists-clause-ok c = adds_as c.args.session.now c.and_exists.new.self c.args.act.now _ c.and_exists.result (ap₂ (λ (f g : Name). calls.AndExists f g c.as_slice-in-AndExists.result.now) c.register-in-AndExists.ensures c.register-in-AndExists-2.ensures ∙ ap (calls.AndExists (name_of c.in-AndExists.a) (name_of c.in-AndExists.b)) c.as_slice-in-AndExists.ensures ∙ sym (ap call_with c.in-AndExists.is)) c.and_exists.ensures.ok
+
+pub returns-in-AndExists-clause-full : goal.returns-in-AndExists-clause-full
+returns-in-AndExists-clause-full c e = refuses_as c.args.session.now c.and_exists.new.self c.args.act.now _ (ap₂ (λ (f g : Name). calls.AndExists f g c.as_slice-in-AndExists.result.now) c.register-in-AndExists.ensures c.register-in-AndExists-2.ensures ∙ ap (calls.AndExists (name_of c.in-AndExists.a) (name_of c.in-AndExists.b)) c.as_slice-in-AndExists.ensures ∙ sym (ap call_with c.in-AndExists.is)) (c.and_exists.ensures.full e)
+
+pub returns-in-Support-clause-ok : goal.returns-in-Support-clause-ok
+returns-in-Support-clause-ok c = adds_as c.args.session.now c.support.new.self c.args.act.now _ c.support.result (ap calls.Support c.register-in-Support.ensures ∙ sym (ap call_with c.in-Support.is)) c.support.ensures.ok
+
+pub returns-in-Support-clause-full : goal.returns-in-Support-clause-full
+returns-in-Support-clause-full c e = refuses_as c.args.session.now c.support.new.self c.args.act.now _ (ap calls.Support c.register-in-Support.ensures ∙ sym (ap call_with c.in-Support.is)) (c.support.ensures.full e)

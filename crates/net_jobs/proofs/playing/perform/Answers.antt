@@ -16,7 +16,7 @@ pub returns-in_default-clause-ok : goal.returns-in_default-clause-ok
 returns-in_default-clause-ok c =
     let old = c.args.session.now in
     answered-operated (plain_view old.store) (plain_view c.operate.new.session.store) old.rows.items c.operate.new.session.rows.items c.args.act.now c.operate.result c.answer_of.result
-    (makes_default c.args.act.now c.in_default.not-Drop c.in_default.not-Same c.in_default.not-Eval) c.operate.ensures.grown c.requires.stored c.operate.ensures.ok c.operate.ensures.full c.answer_of.ensures.ok
+    (makes_default c.args.act.now c.in_default.not-Drop c.in_default.not-Same c.in_default.not-Leq c.in_default.not-Eval) c.operate.ensures.grown c.requires.stored c.operate.ensures.ok c.operate.ensures.full c.answer_of.ensures.ok
 
 pub returns-in-Drop-clause-ok : goal.returns-in-Drop-clause-ok
 returns-in-Drop-clause-ok c =
@@ -30,21 +30,26 @@ returns-in-Drop-clause-ok c =
     (subst (λ (rows : Rows). AreStored w rows) (sym left) (stored-set w old.rows.items c.in-Drop.a c.requires.stored)) c.drop_row.ensures.step
     (left ∙ sym (ap (rows_left old.rows.items) c.in-Drop.is)))
 
-pub returns-then-same-clause-ok : goal.returns-then-same-clause-ok
-returns-then-same-clause-ok c =
+pub returns-in-Same-clause-ok : goal.returns-in-Same-clause-ok
+returns-in-Same-clause-ok c =
     let old = c.args.session.now in
     let w = plain_view old.store in
-    answered-other w w old.rows.items old.rows.items c.args.act.now (calls.Same c.register-in-Same.result c.register-in-Same-2.result) (law.Truth true) reply.Yes
-    (ap call_with c.in-Same.is ∙ ap₂ calls.Same (sym c.register-in-Same.ensures) (sym c.register-in-Same-2.ensures)) (ap makes c.in-Same.is) refl refl refl (Grown-refl w) c.requires.stored
-    (subst (λ b. IsStepOf w old.rows.items w old.rows.items (calls.Same c.register-in-Same.result c.register-in-Same-2.result) (law.Truth b)) c.if-same.true c.same.ensures) (sym (ap (rows_left old.rows.items) c.in-Same.is))
+    answered-other w w old.rows.items old.rows.items c.args.act.now (calls.Same c.register-in-Same.result c.register-in-Same-2.result) (law.Truth c.same.result) c.yes_or_no-reply.result
+    (ap call_with c.in-Same.is ∙ ap₂ calls.Same (sym c.register-in-Same.ensures) (sym c.register-in-Same-2.ensures)) (ap makes c.in-Same.is) c.yes_or_no-reply.ensures.goes_on
+    c.yes_or_no-reply.ensures.told refl (Grown-refl w) c.requires.stored c.same.ensures (sym (ap (rows_left old.rows.items) c.in-Same.is))
 
-pub returns-else-same-clause-ok : goal.returns-else-same-clause-ok
-returns-else-same-clause-ok c =
+pub returns-in_ok-leq-in-Leq-clause-ok : goal.returns-in_ok-leq-in-Leq-clause-ok
+returns-in_ok-leq-in-Leq-clause-ok c =
     let old = c.args.session.now in
     let w = plain_view old.store in
-    answered-other w w old.rows.items old.rows.items c.args.act.now (calls.Same c.register-in-Same.result c.register-in-Same-2.result) (law.Truth false) reply.No
-    (ap call_with c.in-Same.is ∙ ap₂ calls.Same (sym c.register-in-Same.ensures) (sym c.register-in-Same-2.ensures)) (ap makes c.in-Same.is) refl refl refl (Grown-refl w) c.requires.stored
-    (subst (λ b. IsStepOf w old.rows.items w old.rows.items (calls.Same c.register-in-Same.result c.register-in-Same-2.result) (law.Truth b)) c.if-same.false c.same.ensures) (sym (ap (rows_left old.rows.items) c.in-Same.is))
+    let w' = plain_view c.leq.new.self.store in
+    let new = c.leq.new.self.rows.items in
+    answered-other w w' old.rows.items new c.args.act.now (calls.Leq c.register-in-Leq.result c.register-in-Leq-2.result) (law.Truth c.in_ok-leq-in-Leq.field-0) c.yes_or_no-reply-in-Leq.result
+    (ap call_with c.in-Leq.is ∙ ap₂ calls.Leq (sym c.register-in-Leq.ensures) (sym c.register-in-Leq-2.ensures)) (ap makes c.in-Leq.is) c.yes_or_no-reply-in-Leq.ensures.goes_on
+    c.yes_or_no-reply-in-Leq.ensures.told refl c.leq.ensures.grown
+    (subst (λ (rows : Rows). AreStored w' rows) (sym c.leq.ensures.rows) (stored-grown w w' old.rows.items c.leq.ensures.grown c.requires.stored))
+    (rw c.leq.ensures.rows c.in_ok-leq-in-Leq.ensures.step)
+    (c.leq.ensures.rows ∙ sym (ap (rows_left old.rows.items) c.in-Leq.is))
 
 pub returns-in-Eval-clause-ok : goal.returns-in-Eval-clause-ok
 returns-in-Eval-clause-ok c =

@@ -1,0 +1,182 @@
+//! The calls of a session that make a function of others.
+
+ghost use Rattle.std.specs.Prelude.{◌≡◌, ◌<◌, ◌^◌, All, vec_len, IfOk, IsErrOf};
+ghost use Rattle.function_laws.specs.declared.history.Call.TheVariants as calls;
+ghost use Rattle.node_slots.specs.Stores.{plain_view};
+ghost use Rattle.node_slots.specs.Views.{Grown};
+ghost use Rattle.net_jobs.specs.Agreement.{Adds, AreStored, IsFilled, IsLive, Refuses};
+
+use crate::session::{Session, keep, settle};
+use function_laws::Name;
+use node_slots::Stop;
+
+impl Session {
+    /// The complement of a row, as a new row.
+    pub fn not(&mut self, f: Name) -> Result<Name, Stop>
+        requires stored { AreStored (plain_view self.old.store) self.old.rows.items }
+        requires first { IsLive self.old.rows.items f }
+        requires room { vec_len self.old.rows < 2 ^ 32 }
+        ensures ok { IfOk result (λ name. Adds (plain_view self.old.store) self.old.rows.items (plain_view self.new.store) self.new.rows.items (calls.Not f) name) }
+        ensures full { IsErrOf result Stop.Full → ⊥ }
+        ensures grown { Grown (plain_view self.old.store) (plain_view self.new.store) }
+    {
+        let first = self.edge(f);
+        let made = ite_core::not(&mut self.store, first);
+        keep(&mut self.rows, made)
+    }
+
+    /// The conjunction of two rows, as a new row.
+    pub fn and(&mut self, f: Name, g: Name) -> Result<Name, Stop>
+        requires stored { AreStored (plain_view self.old.store) self.old.rows.items }
+        requires first { IsLive self.old.rows.items f }
+        requires second { IsLive self.old.rows.items g }
+        requires room { vec_len self.old.rows < 2 ^ 32 }
+        ensures ok { IfOk result (λ name. Adds (plain_view self.old.store) self.old.rows.items (plain_view self.new.store) self.new.rows.items (calls.And f g) name) }
+        ensures full { IsErrOf result Stop.Full → Refuses (plain_view self.old.store) self.old.rows.items (plain_view self.new.store) self.new.rows.items (calls.And f g) }
+        ensures filled { IsErrOf result Stop.Full → IsFilled self.new.store }
+        ensures grown { Grown (plain_view self.old.store) (plain_view self.new.store) }
+    {
+        let first = self.edge(f);
+        let second = self.edge(g);
+        let made = ite_core::and(&mut self.store, first, second);
+        settle(&self.store, &mut self.rows, made)
+    }
+
+    /// The disjunction of two rows, as a new row.
+    pub fn or(&mut self, f: Name, g: Name) -> Result<Name, Stop>
+        requires stored { AreStored (plain_view self.old.store) self.old.rows.items }
+        requires first { IsLive self.old.rows.items f }
+        requires second { IsLive self.old.rows.items g }
+        requires room { vec_len self.old.rows < 2 ^ 32 }
+        ensures ok { IfOk result (λ name. Adds (plain_view self.old.store) self.old.rows.items (plain_view self.new.store) self.new.rows.items (calls.Or f g) name) }
+        ensures full { IsErrOf result Stop.Full → Refuses (plain_view self.old.store) self.old.rows.items (plain_view self.new.store) self.new.rows.items (calls.Or f g) }
+        ensures filled { IsErrOf result Stop.Full → IsFilled self.new.store }
+        ensures grown { Grown (plain_view self.old.store) (plain_view self.new.store) }
+    {
+        let first = self.edge(f);
+        let second = self.edge(g);
+        let made = ite_core::or(&mut self.store, first, second);
+        settle(&self.store, &mut self.rows, made)
+    }
+
+    /// Where one of two rows holds and the other does not, as a new row.
+    pub fn xor(&mut self, f: Name, g: Name) -> Result<Name, Stop>
+        requires stored { AreStored (plain_view self.old.store) self.old.rows.items }
+        requires first { IsLive self.old.rows.items f }
+        requires second { IsLive self.old.rows.items g }
+        requires room { vec_len self.old.rows < 2 ^ 32 }
+        ensures ok { IfOk result (λ name. Adds (plain_view self.old.store) self.old.rows.items (plain_view self.new.store) self.new.rows.items (calls.Xor f g) name) }
+        ensures full { IsErrOf result Stop.Full → Refuses (plain_view self.old.store) self.old.rows.items (plain_view self.new.store) self.new.rows.items (calls.Xor f g) }
+        ensures filled { IsErrOf result Stop.Full → IsFilled self.new.store }
+        ensures grown { Grown (plain_view self.old.store) (plain_view self.new.store) }
+    {
+        let first = self.edge(f);
+        let second = self.edge(g);
+        let made = ite_core::xor(&mut self.store, first, second);
+        settle(&self.store, &mut self.rows, made)
+    }
+
+    /// If the first row then the second else the third, as a new row.
+    pub fn ite(&mut self, f: Name, g: Name, h: Name) -> Result<Name, Stop>
+        requires stored { AreStored (plain_view self.old.store) self.old.rows.items }
+        requires first { IsLive self.old.rows.items f }
+        requires second { IsLive self.old.rows.items g }
+        requires third { IsLive self.old.rows.items h }
+        requires room { vec_len self.old.rows < 2 ^ 32 }
+        ensures ok { IfOk result (λ name. Adds (plain_view self.old.store) self.old.rows.items (plain_view self.new.store) self.new.rows.items (calls.Ite f g h) name) }
+        ensures full { IsErrOf result Stop.Full → Refuses (plain_view self.old.store) self.old.rows.items (plain_view self.new.store) self.new.rows.items (calls.Ite f g h) }
+        ensures filled { IsErrOf result Stop.Full → IsFilled self.new.store }
+        ensures grown { Grown (plain_view self.old.store) (plain_view self.new.store) }
+    {
+        let first = self.edge(f);
+        let second = self.edge(g);
+        let third = self.edge(h);
+        let made = ite_core::ite(&mut self.store, first, second, third);
+        settle(&self.store, &mut self.rows, made)
+    }
+
+    /// A row with a variable set, as a new row.
+    pub fn cofactor(&mut self, f: Name, v: u32, bit: bool) -> Result<Name, Stop>
+        requires stored { AreStored (plain_view self.old.store) self.old.rows.items }
+        requires first { IsLive self.old.rows.items f }
+        requires variable { v < (plain_view self.old.store).vars }
+        requires room { vec_len self.old.rows < 2 ^ 32 }
+        ensures ok { IfOk result (λ name. Adds (plain_view self.old.store) self.old.rows.items (plain_view self.new.store) self.new.rows.items (calls.Cofactor f v bit) name) }
+        ensures full { IsErrOf result Stop.Full → Refuses (plain_view self.old.store) self.old.rows.items (plain_view self.new.store) self.new.rows.items (calls.Cofactor f v bit) }
+        ensures filled { IsErrOf result Stop.Full → IsFilled self.new.store }
+        ensures grown { Grown (plain_view self.old.store) (plain_view self.new.store) }
+    {
+        let _few = self.store.vars();
+        let first = self.edge(f);
+        let made = ite_core::cofactor(&mut self.store, first, v, bit);
+        settle(&self.store, &mut self.rows, made)
+    }
+
+    /// Where a row holds for some values of the variables, as a new row.
+    pub fn exists(&mut self, f: Name, vars: &[u32]) -> Result<Name, Stop>
+        requires stored { AreStored (plain_view self.old.store) self.old.rows.items }
+        requires first { IsLive self.old.rows.items f }
+        requires variables { All (λ v. v < (plain_view self.old.store).vars) vars.now }
+        requires room { vec_len self.old.rows < 2 ^ 32 }
+        ensures ok { IfOk result (λ name. Adds (plain_view self.old.store) self.old.rows.items (plain_view self.new.store) self.new.rows.items (calls.Exists f vars.now) name) }
+        ensures full { IsErrOf result Stop.Full → Refuses (plain_view self.old.store) self.old.rows.items (plain_view self.new.store) self.new.rows.items (calls.Exists f vars.now) }
+        ensures filled { IsErrOf result Stop.Full → IsFilled self.new.store }
+        ensures grown { Grown (plain_view self.old.store) (plain_view self.new.store) }
+    {
+        let _few = self.store.vars();
+        let first = self.edge(f);
+        let made = quantify_ops::exists(&mut self.store, first, vars);
+        settle(&self.store, &mut self.rows, made)
+    }
+
+    /// Where a row holds for all values of the variables, as a new row.
+    pub fn forall(&mut self, f: Name, vars: &[u32]) -> Result<Name, Stop>
+        requires stored { AreStored (plain_view self.old.store) self.old.rows.items }
+        requires first { IsLive self.old.rows.items f }
+        requires variables { All (λ v. v < (plain_view self.old.store).vars) vars.now }
+        requires room { vec_len self.old.rows < 2 ^ 32 }
+        ensures ok { IfOk result (λ name. Adds (plain_view self.old.store) self.old.rows.items (plain_view self.new.store) self.new.rows.items (calls.Forall f vars.now) name) }
+        ensures full { IsErrOf result Stop.Full → Refuses (plain_view self.old.store) self.old.rows.items (plain_view self.new.store) self.new.rows.items (calls.Forall f vars.now) }
+        ensures filled { IsErrOf result Stop.Full → IsFilled self.new.store }
+        ensures grown { Grown (plain_view self.old.store) (plain_view self.new.store) }
+    {
+        let _few = self.store.vars();
+        let first = self.edge(f);
+        let made = quantify_ops::forall(&mut self.store, first, vars);
+        settle(&self.store, &mut self.rows, made)
+    }
+
+    /// Where the conjunction of two rows holds for some values of the variables, as a new row.
+    pub fn and_exists(&mut self, f: Name, g: Name, vars: &[u32]) -> Result<Name, Stop>
+        requires stored { AreStored (plain_view self.old.store) self.old.rows.items }
+        requires first { IsLive self.old.rows.items f }
+        requires second { IsLive self.old.rows.items g }
+        requires variables { All (λ v. v < (plain_view self.old.store).vars) vars.now }
+        requires room { vec_len self.old.rows < 2 ^ 32 }
+        ensures ok { IfOk result (λ name. Adds (plain_view self.old.store) self.old.rows.items (plain_view self.new.store) self.new.rows.items (calls.AndExists f g vars.now) name) }
+        ensures full { IsErrOf result Stop.Full → Refuses (plain_view self.old.store) self.old.rows.items (plain_view self.new.store) self.new.rows.items (calls.AndExists f g vars.now) }
+        ensures filled { IsErrOf result Stop.Full → IsFilled self.new.store }
+        ensures grown { Grown (plain_view self.old.store) (plain_view self.new.store) }
+    {
+        let _few = self.store.vars();
+        let first = self.edge(f);
+        let second = self.edge(g);
+        let made = quantify_ops::and_exists(&mut self.store, first, second, vars);
+        settle(&self.store, &mut self.rows, made)
+    }
+
+    /// The product of the variables on which a row depends, as a new row.
+    pub fn support(&mut self, f: Name) -> Result<Name, Stop>
+        requires stored { AreStored (plain_view self.old.store) self.old.rows.items }
+        requires first { IsLive self.old.rows.items f }
+        requires room { vec_len self.old.rows < 2 ^ 32 }
+        ensures ok { IfOk result (λ name. Adds (plain_view self.old.store) self.old.rows.items (plain_view self.new.store) self.new.rows.items (calls.Support f) name) }
+        ensures full { IsErrOf result Stop.Full → Refuses (plain_view self.old.store) self.old.rows.items (plain_view self.new.store) self.new.rows.items (calls.Support f) }
+        ensures filled { IsErrOf result Stop.Full → IsFilled self.new.store }
+        ensures grown { Grown (plain_view self.old.store) (plain_view self.new.store) }
+    {
+        let first = self.edge(f);
+        let made = quantify_ops::support(&mut self.store, first);
+        settle(&self.store, &mut self.rows, made)
+    }
+}
