@@ -2,6 +2,7 @@
 
 ghost use Rattle.std.specs.Prelude.{◌≡◌, ◌≤◌, IfOk, IsErrOf, true};
 ghost use Rattle.edge_bits.specs.declared.edges.Kind.TheVariants.{Bdd};
+ghost use Rattle.node_store.specs.Numbers.{exists_number};
 ghost use Rattle.node_store.specs.Views.{View, AreTwo, Kept, NotBothLeaves, Permanent, Rose};
 ghost use Rattle.node_store.specs.Splits.{CanJoin};
 ghost use Rattle.node_store.specs.Work.{IsWork, Moves};
@@ -240,8 +241,6 @@ fn key_of(task: Task) -> Key
         h: task.h,
     }
 }
-
-ghost use Rattle.node_store.specs.Numbers.{exists_number};
 
 fn exists_key(f: Edge, cube: Edge) -> Key
     ensures { result ≡ record { op = exists_number; f = f; g = cube; h = f } }
