@@ -22,7 +22,7 @@ use Rattle.function_laws.specs.Functions.{and_exists_of, cofactor_of, exists_of,
 use Rattle.function_laws.specs.Tables.{Table, Sizes, same_name, with_name, with_row}
 use Rattle.function_laws.specs.Steps.{makes, compares, shows, tells, outcome, IsAllowed, after, may_be_full, value_at, as_bdd, with_one, with_two, with_three, when, same_kind}
 use Rattle.edge_bits.proofs.AssignmentLemmas.{bit-set_other}
-use Rattle.function_laws.proofs.ListLemmas.{length-list_of, truth-list_of, list_of-same}
+use Rattle.function_laws.proofs.ListLemmas.{truth-list_of}
 use Rattle.function_laws.proofs.WidthLemmas.{same-from_lists}
 use Rattle.function_laws.proofs.BridgeLemmas.{and_of-list_of, cofactor_of-list_of, ite_of-list_of, leq_of-list_of, not_of-list_of, place_two-list_of, support_of-list_of, xor_of-list_of}
 use Rattle.function_laws.proofs.ExistsLemmas.{and_exists_of-list_of, exists_of-list_of, forall_of-list_of}

@@ -1,16 +1,14 @@
 -- A play that has said one more line.
 use Rattle.std.proofs.Common.{◌≡◌, ℕ, zero, suc, ◌+◌, ◌<◌, ⊎_elim, Bool, true, false, not, ◌&&◌, ◌||◌, List, [], ◌∷◌, ◌++◌, length, map, Some, None, refl, sym, ap, ap₂, ◌∙◌, subst, zero-add}
-use Rattle.std.proofs.Math.ListN.{set, length-set}
+use Rattle.std.proofs.Math.ListN.{set}
 use Rattle.std.specs.Prelude.{◌==◌}
 use Rattle.std.specs.List.{cons_option, flat_map, range_with_len}
 use Rattle.std.proofs.lemmas.Bool.{cases_eq, eq-eqb, ne_eqb}
 use Rattle.std.proofs.lemmas.List.{append-nil, length_push, length-map, map-append}
 use Rattle.std.proofs.lemmas.List.FromFn.{map-range_with_len_more}
 use Rattle.std.proofs.lemmas.List.Elements.{All-append, All-cons, All-nil, filter_map-append}
-use Rattle.std.proofs.lemmas.List.FromFn.{map-range_with_len_more}
 use Rattle.std.proofs.lemmas.List.Folds.{list_any-append}
 use Rattle.std.proofs.lemmas.Grind.{flat_map-append}
-use Rattle.std.proofs.lemmas.List.FromFn.{map-range_with_len_more}
 use Rattle.std.proofs.lemmas.Option.{slice_get_within}
 use Rattle.function_laws.specs.declared.history.Entry.{Entry}
 use Rattle.function_laws.specs.declared.history.Name.{Name}
@@ -31,7 +29,7 @@ use Rattle.edge_bits.specs.declared.edges.Edge.{Edge}
 use Rattle.node_slots.specs.Stores.{Plain, plain_view}
 use Rattle.node_slots.specs.Views.{View}
 use Rattle.net_jobs.specs.Agreement.{Agrees, IsFilled, Rows, is_dropped, is_gone, name_of, sizes_for}
-use Rattle.net_jobs.specs.Playing.{CallOf, CallsLead, CanCall, IsAnswered, RowsAfter, Stands, assigned_after, call_with, makes, rows_left, target_at}
+use Rattle.net_jobs.specs.Playing.{CallOf, CallsLead, CanCall, IsAnswered, RowsAfter, Stands, assigned_after, call_with, makes, target_at}
 use Rattle.net_jobs.proofs.ListLemmas.{slice_get-set_other, slice_get-set_same}
 use Rattle.net_jobs.proofs.PlayLemmas.{left_length}
 

@@ -1,4 +1,4 @@
-use Rattle.std.proofs.Common.{◌∙◌, sym, ap, ap₂, refl, rules, SFits, w64, subst, true, false, None}
+use Rattle.std.proofs.Common.{◌∙◌, sym, ap, ap₂, refl, rules, SFits, w64, subst, false, None}
 use Rattle.std.proofs.Math.ListN.{set}
 use Rattle.std.proofs.lemmas.Int.{to_z-of_z}
 use Rattle.function_laws.specs.declared.history.Call.TheVariants as calls
@@ -6,7 +6,7 @@ use Rattle.function_laws.specs.declared.history.Reply.TheVariants as law
 use Rattle.job_text.specs.declared.history_line.Reply.TheVariants as reply
 use Rattle.node_slots.specs.Stores.{plain_view}
 use Rattle.node_store.specs.ViewLaws.{Grown-refl}
-use Rattle.net_jobs.specs.Agreement.{AreStored, IsFilled, IsStepOf, Rows}
+use Rattle.net_jobs.specs.Agreement.{AreStored, IsFilled, Rows}
 use Rattle.net_jobs.specs.Playing.{IsAnswered, call_with, makes, rows_left}
 use Rattle.net_jobs.proofs.PlayLemmas.{answered-operated, answered-other, filled-operated, makes_default, stored-set}
 use Rattle.net_jobs.proofs.SessionLemmas.{stored-grown}
