@@ -4,8 +4,7 @@
 set -e
 root=$(cd "$(dirname "$0")/.." && pwd)
 job=$(mktemp)
-history=$(mktemp)
-trap 'rm -f "$job" "$history"' EXIT
+trap 'rm -f "$job"' EXIT
 awk 'BEGIN {
     print "vars 1024"
     print "session"
@@ -15,17 +14,5 @@ awk 'BEGIN {
         for (j = i + 1; j < 1024 && made < 10000; j++)
             print "r" made++ " = and x" i " x" j
 }' > "$job"
-"$root/ddsh" play < "$root/examples/and.job" > "$history"
-python3 - "$root/crates/dd_shell/out/dd_shell" "$job" "$history" <<'END'
-import resource, subprocess, sys, time
-
-program, job, history = sys.argv[1:]
-start = time.monotonic()
-with open(job, "rb") as source, open(history, "wb") as sink:
-    status = subprocess.run([program, "play"], stdin=source, stdout=sink).returncode
-seconds = time.monotonic() - start
-size = resource.getrusage(resource.RUSAGE_CHILDREN).ru_maxrss // 1024
-lines = open(history, "rb").read().splitlines()
-done = sum(line.endswith(b"-> ok") for line in lines)
-print(f"status {status}, {done} of {len(lines) - 1} lines ok, {lines[-1].decode()}, {seconds:.1f} s, {size} MB")
-END
+"$root/ddsh" play < "$root/examples/and.job" > /dev/null
+python3 "$root/bench/timed_play.py" "$root/crates/dd_shell/out/dd_shell" "$job"

@@ -41,10 +41,10 @@ pub false_is_of : (hi : ℕ) (lo : Edge) (e : Entry) → (IsOf hi lo e → ⊥) 
 false_is_of hi lo e other = elim (cases_Bool (is_of hi lo e)) [ inl t ↦ absurd (other (is_of-true hi lo e t)) | inr f ↦ f ]
 
 -- an entry of the pair is the first, or it is not
-slot-here : (hi : ℕ) (lo : Edge) (e : Entry) (es : List Entry) → IsOf hi lo e → slot_at (e ∷ es) hi lo ≡ Some e.slot
+pub slot-here : (hi : ℕ) (lo : Edge) (e : Entry) (es : List Entry) → IsOf hi lo e → slot_at (e ∷ es) hi lo ≡ Some e.slot
 slot-here hi lo e es is = ap (option_map (λ (x : Entry). x.slot)) (cond-true (is_of hi lo e) (Some e) (find (is_of hi lo) es) (true_is_of hi lo e is))
 
-slot-later : (hi : ℕ) (lo : Edge) (e : Entry) (es : List Entry) → (IsOf hi lo e → ⊥) → slot_at (e ∷ es) hi lo ≡ slot_at es hi lo
+pub slot-later : (hi : ℕ) (lo : Edge) (e : Entry) (es : List Entry) → (IsOf hi lo e → ⊥) → slot_at (e ∷ es) hi lo ≡ slot_at es hi lo
 slot-later hi lo e es other = ap (option_map (λ (x : Entry). x.slot)) (cond-false (is_of hi lo e) (Some e) (find (is_of hi lo) es) (false_is_of hi lo e other))
 
 pub apart_rest : (e : Entry) (es : List Entry) → AreApart (e ∷ es) → AreApart es

@@ -246,6 +246,17 @@ impl Chains {
         self.heads[bucket] = self.hashes.len() as u32;
     }
 
+    /// Removes all places. The room stays.
+    pub fn clear(&mut self)
+        ensures hashes { self.new.hashes ≡ [] }
+        ensures spare { self.new.spare ≡ self.old.spare + length self.old.hashes }
+    {
+        self.hashes.truncate(0);
+        self.links.truncate(0);
+        let buckets = self.heads.len();
+        clear(&mut self.heads, buckets);
+    }
+
     /// Removes a place, where the last one comes to stand.
     pub fn swap_remove(&mut self, place: usize)
         requires { place < length self.old.hashes }

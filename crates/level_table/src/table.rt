@@ -133,6 +133,15 @@ impl LevelTable {
         }
     }
 
+    /// Removes all entries. The room stays.
+    pub fn clear(&mut self)
+        ensures { self.new ≡ record { entries = []; spare = self.old.spare + length self.old.entries } }
+    {
+        self.spare += self.entries.len();
+        self.entries.truncate(0);
+        self.chains.clear();
+    }
+
     /// The number of entries.
     pub fn len(&self) -> u32
         ensures length { result ≡ length self.now.entries }

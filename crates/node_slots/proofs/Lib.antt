@@ -8,3 +8,5 @@ pub mod Answering
 pub mod Opening
 pub mod Denoting
 pub mod Counting
+mod Slices
+mod Tables

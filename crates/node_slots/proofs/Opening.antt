@@ -24,21 +24,30 @@ use Rattle.node_slots.specs.declared.plain_store.Refused.{Refused}
 use Rattle.node_slots.proofs.Reading.{used}
 use Rattle.node_slots.proofs.Calls.{leaf_content, zero_at, projection_content}
 
+pub permanent_low : (s : ℕ) → s < 5 → permanent_word s ≡ Leaf (constant_value s)
+permanent_low s lt = let t : nat_lt s 5 ≡ true = grind (arith, lt) in rw t refl
+
+pub permanent_high : (v : ℕ) → permanent_word (5 + v) ≡ Inner (projection_node v)
+permanent_high v =
+    let t : nat_lt (5 + v) 5 ≡ false = grind arith in
+    let e : 5 + v - 5 ≡ v = omega arith in
+    rw (t, e) refl
+
 -- the permanent words are those of the constants and the projections
 pub HasPermanent-words : (p : Plain) → ((s : ℕ) → s < 5 + length p.variable_levels → slots p s ≡ Some (permanent_word s)) → HasPermanent p
 HasPermanent-words p h = record {
-  constants = λ s lt. h s (omega arith) ∙ ap Some (low s lt);
-  projections = λ v lt. h (5 + v) (omega arith) ∙ ap Some (high v);
+  constants = λ s lt. h s (omega arith) ∙ ap Some (permanent_low s lt);
+  projections = λ v lt. h (5 + v) (omega arith) ∙ ap Some (permanent_high v);
 }
-  where
-    low : (s : ℕ) → s < 5 → permanent_word s ≡ Leaf (constant_value s)
-    low s lt = let t : nat_lt s 5 ≡ true = grind (arith, lt) in rw t refl
 
-    high : (v : ℕ) → permanent_word (5 + v) ≡ Inner (projection_node v)
-    high v =
-        let t : nat_lt (5 + v) 5 ≡ false = grind arith in
-        let e : 5 + v - 5 ≡ v = omega arith in
-        rw (t, e) refl
+pub permanent_words : (p : Plain) → HasPermanent p → (s : ℕ) → s < 5 + length p.variable_levels → slots p s ≡ Some (permanent_word s)
+permanent_words p h s below = elim (cases_lt s 5) [
+  | inl low ↦ h.constants s low ∙ ap Some (sym (permanent_low s low))
+  | inr high ↦ (
+      let v : ℕ = s - 5 in
+      let at : s ≡ 5 + v = omega arith in
+      ap (slots p) at ∙ h.projections v (omega arith) ∙ ap Some (sym (permanent_high v)) ∙ ap (λ t. Some (permanent_word t)) (sym at))
+]
 
 -- both orders are 0, 1, 2, ..
 pub IsOrdered-ascending : (p : Plain) (n m : ℕ) → p.variable_levels ≡ range_with_len 0 n → p.element_levels ≡ range_with_len 0 m → IsOrdered p

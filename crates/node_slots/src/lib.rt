@@ -1,6 +1,7 @@
 //! A store of decision diagrams in one vector of words, and what operators see of a store.
 #![tactic(auto)]
 
+mod node_table;
 mod plain_store;
 
 pub use node_store::{Grow, Key, Opened, Stack, Stop};

@@ -1,13 +1,13 @@
-//! The store whose unique table is a walk over all words.
+//! A store of diagrams in one vector of words, with a unique table for each variable and element.
 
 ghost use Rattle.std.specs.Prelude.{◌≡◌, ℕ, ◌+◌, ◌<◌, ◌≤◌, ◌^◌, ◌↔◌, ◌⊎◌, IfOk, IfSome, IfNone, IsErrOf, IsOkAnd, IsTrue, count_by, length, Some, None, true};
 ghost use Rattle.std.specs.List.{range_with_len};
 ghost use Rattle.edge_bits.specs.Reading.{slots_of};
-ghost use Rattle.edge_bits.specs.Words.{IsInRange};
-ghost use Rattle.node_slots.specs.Stores.{is_word, permanent_word};
-ghost use Rattle.node_slots.specs.Placing.{IsPlaced, HasNoPlace, IsChild, HasNoChild, opened_of};
+ghost use Rattle.node_slots.specs.Stores.{is_word};
+ghost use Rattle.node_slots.specs.Placing.{IsChild, HasNoChild, opened_of};
 
-use edge_bits::{Edge, Kind, Memory, Node, Word, pack, unpack};
+use crate::node_table::{NodeTable, find};
+use edge_bits::{Edge, Kind, Memory, Node, Word, unpack};
 use node_store::binary::flip_if;
 use node_store::{Grow, Key, Opened, Stack, Stop};
 use std::alloc::Global;
@@ -20,69 +20,27 @@ pub enum Refused {
     Leaf(i64),
 }
 
-/// A store in one vector of words. It finds a node by a walk over all of them, and its computed table is empty.
+/// A store in one vector of words. It finds a node by the unique table of its variable, and a leaf by a walk over the words; its computed table is empty.
 #[derive(Drop)]
 pub struct PlainStore {
     alloc: Global,
     variable_levels: Vec<u32>,
     element_levels: Vec<u32>,
-    words: Vec<u64>,
+    nodes: NodeTable,
     fulls: u64,
     due: Option<Refused>,
     scratch: Option<Stack>,
 }
 
 impl Model for PlainStore {
-    ghost use Rattle.node_slots.specs.Stores.{Plain, IsStore};
+    ghost use Rattle.node_slots.specs.Stores.{Plain};
+    ghost use Rattle.node_slots.specs.Indexing.{IsPlain};
 
     ghost Value = { Plain };
 
-    ghost view = { λ s. record { variable_levels = s.variable_levels.items; element_levels = s.element_levels.items; words = s.words.items; fulls = s.fulls; due = s.due } };
+    ghost view = { λ s. record { variable_levels = s.variable_levels.items; element_levels = s.element_levels.items; words = s.nodes.words; fulls = s.fulls; due = s.due } };
 
-    ghost invariant = { λ s. IsStore (record { variable_levels = s.variable_levels.items; element_levels = s.element_levels.items; words = s.words.items; fulls = s.fulls; due = s.due }) };
-}
-
-// Where a word stands, beyond the slots that are told by their number.
-fn find(words: &[u64], wanted: Word) -> Option<usize>
-    ensures found { IfSome result (λ s. slots_of words.now s ≡ Some wanted) }
-    ensures high { IfSome result (λ s. 3 ≤ s) }
-    ensures within { IfSome result (λ s. s < length words.now) }
-    ensures absent { IfNone result ((t : ℕ) → 3 ≤ t → slots_of words.now t ≡ Some wanted → ⊥) }
-{
-    for (slot, bits) in words.iter().enumerate() {
-        if slot > 2 && unpack(*bits) == Some(wanted) {
-            return Some(slot);
-        }
-    }
-    None
-}
-
-// A slot without a word.
-fn find_free(words: &[u64]) -> Option<usize>
-    ensures free { IfSome result (λ s. slots_of words.now s ≡ None) }
-    ensures within { IfSome result (λ s. s < length words.now) }
-    ensures full { IfNone result ((t : ℕ) → t < length words.now → slots_of words.now t ≡ None → ⊥) }
-{
-    for (slot, bits) in words.iter().enumerate() {
-        if unpack(*bits).is_none() {
-            return Some(slot);
-        }
-    }
-    None
-}
-
-// The slot where a word stands, or comes to stand where a slot is free.
-fn place(words: &mut Vec<u64>, word: Word) -> Option<usize>
-    requires { IsInRange word }
-    ensures placed { IfSome result (IsPlaced words.old.items words.new.items word) }
-    ensures full { IfNone result (HasNoPlace words.old.items words.new.items word) }
-{
-    if let Some(slot) = find(words, word) {
-        return Some(slot);
-    }
-    let slot = find_free(words)?;
-    words[slot] = pack(word);
-    Some(slot)
+    ghost invariant = { λ s. IsPlain (record { variable_levels = s.variable_levels.items; element_levels = s.element_levels.items; words = s.nodes.words; fulls = s.fulls; due = s.due }) s.nodes };
 }
 
 // The child that a node would be, if it would be one.
@@ -131,7 +89,6 @@ impl Grow for PlainStore {
     ghost use Rattle.node_store.specs.Kinds.{function_of, AddFunction};
     ghost use Rattle.node_store.specs.Views.{Denotes, Grown, Rose, CanMake, node_values};
     ghost use Rattle.node_slots.specs.Stores.{plain_view};
-    ghost use Rattle.node_slots.specs.Stores.{permanent_word};
     ghost use Rattle.node_slots.specs.Placing.{HasNoFree, IsUnknown, IsUnknownNode};
 
     ghost view = { plain_view };
@@ -145,7 +102,7 @@ impl Grow for PlainStore {
     }
 
     fn open(&mut self, edge: Edge) -> Opened {
-        match unpack(self.words[edge.index as usize]) {
+        match unpack(self.nodes.words()[edge.index as usize]) {
             Some(word) => opened(word, edge.complement),
             None => unreachable!(),
         }
@@ -171,7 +128,7 @@ impl Grow for PlainStore {
             hi: hi.index,
             lo: flip_if(lo, hi.complement),
         };
-        match place(&mut self.words, Word::Inner(node)) {
+        match self.nodes.place(Word::Inner(node)) {
             Some(slot) => Ok(Edge::new(slot as u32, hi.complement)),
             None => {
                 self.fulls = risen(fulls);
@@ -192,7 +149,7 @@ impl Grow for PlainStore {
         ensures due { IsErrOf result Stop.Full → (plain_view self.new).due ≡ Some (function_of Add (constant value)) }
         ensures exactly { IsErrOf result Stop.Full ↔ (IsUnknown self.old (AddFunction (constant value)) × HasNoFree self.old) }
     {
-        match place(&mut self.words, Word::Leaf(value)) {
+        match self.nodes.place(Word::Leaf(value)) {
             Some(slot) => Ok(Edge::new(slot as u32, false)),
             None => {
                 self.fulls = risen(self.fulls);
@@ -231,38 +188,6 @@ impl Grow for PlainStore {
     }
 }
 
-// The word of a permanent slot.
-fn permanent(slot: u32) -> Word
-    requires { slot < 1029 }
-    ensures word { result ≡ permanent_word slot }
-    ensures range { IsInRange result }
-{
-    match slot {
-        0 | 2 | 4 => Word::Leaf(1),
-        1 | 3 => Word::Leaf(0),
-        _ => Word::Inner(Node {
-            var: (slot - 5) as u16,
-            hi: 0,
-            lo: Edge::new(0, true),
-        }),
-    }
-}
-
-// So many words, of which the permanent slots have theirs.
-fn opening_words(alloc: Global, vars: u32, limit: u32) -> Result<Vec<u64>, Memory>
-    requires vars { vars ≤ 1024 }
-    requires limit { 5 + vars ≤ limit }
-    ensures length { IfOk result (λ words. length words.items ≡ limit) }
-    ensures permanent { IfOk result (λ words. (s : ℕ) → s < 5 + vars → slots_of words.items s ≡ Some (permanent_word s)) }
-    ensures free { IfOk result (λ words. (s : ℕ) → 5 + vars ≤ s → slots_of words.items s ≡ None) }
-{
-    let mut words = vec![in alloc; 0u64; limit as usize]?;
-    for slot in 0..5 + vars {
-        words[slot as usize] = pack(permanent(slot));
-    }
-    Ok(words)
-}
-
 // The order 0, 1, 2, ..
 fn ascending(alloc: Global, count: u32) -> Result<Vec<u32>, Memory>
     ensures { IfOk result (λ levels. levels.items ≡ range_with_len 0 count) }
@@ -272,17 +197,6 @@ fn ascending(alloc: Global, count: u32) -> Result<Vec<u32>, Memory>
         levels.push(level)?;
     }
     Ok(levels)
-}
-
-// Frees the slots from this one on.
-fn free_from(words: &mut Vec<u64>, from: usize)
-    ensures kept { (s : ℕ) → s < from → slots_of words.new.items s ≡ slots_of words.old.items s }
-    ensures free { (s : ℕ) → from ≤ s → slots_of words.new.items s ≡ None }
-    ensures length { length words.new.items ≡ length words.old.items }
-{
-    for slot in from..words.len() {
-        words[slot] = 0;
-    }
 }
 
 // How many of the bits are a word's.
@@ -313,12 +227,12 @@ impl PlainStore {
     {
         let variable_levels = ascending(alloc, vars)?;
         let element_levels = ascending(alloc, elements)?;
-        let words = opening_words(alloc, vars, limit)?;
+        let nodes = NodeTable::new(alloc, vars, elements, limit)?;
         Ok(PlainStore {
             alloc,
             variable_levels,
             element_levels,
-            words,
+            nodes,
             fulls: 0,
             due: None,
             scratch: None,
@@ -337,7 +251,7 @@ impl PlainStore {
     pub fn limit(&self) -> u32
         ensures { result ≡ length self.now.words }
     {
-        self.words.len() as u32
+        self.nodes.words().len() as u32
     }
 
     /// The words of all slots, out of which the function of an edge is read.
@@ -347,7 +261,16 @@ impl PlainStore {
         ensures add { (e : Edge) (f : ℕ → ℤ) → Denotes Add (plain_view self.now) e f → DenotesAdd (plain_view self.now).vars (slots_of result.now) e f }
         ensures zdd { (e : Edge) (p : ℕ → Bool) → Denotes Zdd (plain_view self.now) e p → DenotesZdd (plain_view self.now).elements (slots_of result.now) e p }
     {
-        &self.words
+        self.nodes.words()
+    }
+
+    /// The slot of a node, by a walk over all words: the plain program with which tests compare the tables.
+    pub fn find_by_walk(&self, node: Node) -> Option<u32>
+        ensures some { IfSome result (λ s. (3 ≤ s) × (slots_of self.now.words s ≡ Some (Word.Inner node))) }
+        ensures none { IfNone result ((s : ℕ) → 3 ≤ s → slots_of self.now.words s ≡ Some (Word.Inner node) → ⊥) }
+    {
+        let slot = find(self.nodes.words(), Word::Inner(node))?;
+        Some(slot as u32)
     }
 
     /// The number of slots that have a word: all, where a function was refused and nothing was freed since.
@@ -355,7 +278,7 @@ impl PlainStore {
         ensures count { result ≡ in_use self.now }
         ensures full { (f : Function) → (plain_view self.now).due ≡ Some f → result ≡ length self.now.words }
     {
-        count_words(&self.words) as u32
+        count_words(self.nodes.words()) as u32
     }
 
     /// Frees all slots that are not permanent, and answers how many are in use then: 5 and one for each variable.
@@ -365,7 +288,7 @@ impl PlainStore {
         ensures in_use { result ≡ in_use self.new }
     {
         let permanent = 5 + self.variable_levels.len();
-        free_from(&mut self.words, permanent);
+        self.nodes.clear();
         self.due = None;
         permanent as u32
     }
@@ -376,7 +299,7 @@ impl PlainStore {
         ensures { (k : Kind) → AreTwo k (plain_view self.now) f g → IsTrue result ↔ (values_at k (plain_view self.now) f ≡ values_at k (plain_view self.now) g) }
     {
         // The words make them so.
-        let _ = &self.words;
+        let _ = &self.nodes;
         f == g
     }
 }

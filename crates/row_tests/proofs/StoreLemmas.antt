@@ -1,11 +1,13 @@
 -- Edges of a store that a test hands on.
-use Rattle.std.proofs.Common.{◌≡◌, ℕ, ◌+◌, ◌<◌, ◌≤◌, false, sym, arith, subst}
+use Rattle.std.proofs.Common.{◌≡◌, ℕ, ◌+◌, ◌<◌, ◌≤◌, false, ℤ, pos, refl, sym, arith, subst}
 use Rattle.edge_bits.specs.declared.edges.Edge.{Edge}
-use Rattle.edge_bits.specs.declared.edges.Kind.TheVariants.{Bdd}
+use Rattle.edge_bits.specs.declared.edges.Kind.TheVariants.{Bdd, Add, Zdd}
 use Rattle.edge_bits.proofs.AssignmentLemmas.{bit-set_other}
-use Rattle.function_laws.specs.Values.{projection}
-use Rattle.node_store.specs.Views.{View, Denotes, Grown, Is, Permanent}
-use Rattle.node_store.specs.ViewLaws.{Is-from, Is-grown}
+use Rattle.function_laws.specs.Families.{base, empty}
+use Rattle.function_laws.specs.Values.{constant, projection}
+use Rattle.node_store.specs.Views.{View, CanMake, Denotes, Grown, Is, IsBelow, Permanent, base_edge, empty_edge, values_at, number, no_member, only_base}
+use Rattle.node_store.specs.ViewLaws.{Is-from, Is-grown, values_at-is}
+use Rattle.node_store.proofs.TwoParts.{Lacks-leaf}
 
 -- the slot of a projection
 denotes_projection : (w : View) (v : ℕ) → Permanent w → v < w.vars → w.vars ≤ 1024 → Denotes Bdd w (record { index = 5 + v; complement = false }) (projection v)
@@ -20,3 +22,41 @@ is_projection w v e permanent within few is = subst (λ (x : Edge). Is Bdd w x) 
 
 pub grown_on : (w w' : View) (e : Edge) → Grown w w' → Is Bdd w e → Is Bdd w' e
 grown_on w w' e grown is = Is-grown Bdd grown is
+
+-- the leaf of 0
+pub denotes_zero : (w : View) (e : Edge) → Permanent w → e ≡ record { index = 3; complement = false } → Denotes Add w e (constant (pos 0))
+denotes_zero w e permanent is = subst (λ (x : Edge). Denotes Add w x (constant (pos 0))) (sym is) (record {
+  is = permanent.add_zero;
+  beyond = λ v from. Lacks-leaf Add e (constant (pos 0)) (pos 0) (number e (pos 0)) v;
+  fits = λ x. refl;
+})
+
+number_below : (w : View) (e : Edge) (x : ℤ) (v : ℕ) → Denotes Add w e (constant x) → IsBelow Add w v (values_at Add w e)
+number_below w e x v d u in_range above = rw (values_at-is Add d) (Lacks-leaf Add e (constant x) x (number e x) u)
+
+-- a node of variable 0 over two leaves
+pub can_make_numbers : (w : View) (hi lo : Edge) (x y : ℤ) → 0 < w.vars → Denotes Add w hi (constant x) → Denotes Add w lo (constant y) → CanMake Add w 0 hi lo
+can_make_numbers w hi lo x y some first second = record {
+  in_range = (omega arith, some);
+  hi_is = Is-from Add first;
+  lo_is = Is-from Add second;
+  hi_below = number_below w hi x 0 first;
+  lo_below = number_below w lo y 0 second;
+}
+
+denotes_base : (w : View) → Permanent w → Denotes Zdd w base_edge base
+denotes_base w permanent = record { is = permanent.base; beyond = λ v from. Lacks-leaf Zdd base_edge base (pos 1) only_base v; fits = tt }
+
+denotes_empty : (w : View) → Permanent w → Denotes Zdd w empty_edge empty
+denotes_empty w permanent = record { is = permanent.empty; beyond = λ v from. Lacks-leaf Zdd empty_edge empty (pos 0) no_member v; fits = tt }
+
+-- the family of the combination of element 0 alone
+pub can_make_single : (w : View) (hi lo : Edge) → Permanent w → 0 < w.elements → hi ≡ base_edge → lo ≡ empty_edge → CanMake Zdd w 16384 hi lo
+can_make_single w hi lo permanent some is_hi is_lo =
+    subst (λ (x : Edge). CanMake Zdd w 16384 x lo) (sym is_hi) (subst (λ (x : Edge). CanMake Zdd w 16384 base_edge x) (sym is_lo) (record {
+      in_range = (omega arith, omega arith);
+      hi_is = Is-from Zdd (denotes_base w permanent);
+      lo_is = Is-from Zdd (denotes_empty w permanent);
+      hi_below = λ u in_range above. rw (values_at-is Zdd (denotes_base w permanent)) (Lacks-leaf Zdd base_edge base (pos 1) only_base u);
+      lo_below = λ u in_range above. rw (values_at-is Zdd (denotes_empty w permanent)) (Lacks-leaf Zdd empty_edge empty (pos 0) no_member u);
+    }))

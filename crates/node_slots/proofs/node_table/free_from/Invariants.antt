@@ -1,6 +1,6 @@
 use Rattle.std.proofs.Common.{◌≡◌, ℕ, ◌<◌, ◌≤◌, length, None}
 use Rattle.edge_bits.specs.Reading.{slots_of}
-use Rattle.node_slots.proofs.plain_store.free_from.Given as goal
+use Rattle.node_slots.proofs.node_table.free_from.Given as goal
 
 abbrev pub invariant-loop-slot : goal.invariant-loop-slot
 invariant-loop-slot l = record {

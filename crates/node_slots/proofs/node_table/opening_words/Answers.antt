@@ -3,7 +3,7 @@ use Rattle.std.proofs.lemmas.Bool.{cases_eq}
 use Rattle.std.proofs.lemmas.List.{length-set, get_or-set_same, get_or-set_other}
 use Rattle.edge_bits.specs.Words.{unpack_of}
 use Rattle.node_slots.specs.Stores.{permanent_word}
-use Rattle.node_slots.proofs.plain_store.opening_words.Goals as goal
+use Rattle.node_slots.proofs.node_table.opening_words.Goals as goal
 
 pub loop-slot-preserved : goal.loop-slot-preserved
 loop-slot-preserved c =

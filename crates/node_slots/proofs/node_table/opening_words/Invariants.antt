@@ -1,7 +1,7 @@
 use Rattle.std.proofs.Common.{◌≡◌, ℕ, ◌<◌, ◌≤◌, length, Some, None}
 use Rattle.edge_bits.specs.Reading.{slots_of}
 use Rattle.node_slots.specs.Stores.{permanent_word}
-use Rattle.node_slots.proofs.plain_store.opening_words.Given as goal
+use Rattle.node_slots.proofs.node_table.opening_words.Given as goal
 
 abbrev pub invariant-loop-slot : goal.invariant-loop-slot
 invariant-loop-slot l = record {
