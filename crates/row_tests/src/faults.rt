@@ -66,35 +66,51 @@ fn faulty_jobs(rt: HostRuntime) -> Result<(), Fail> {
         ("vars 1\nsession\na = true\nsame a b", "4 name"),
         ("vars 1\nsession\na = true\nr = same a a", "4 word"),
         ("vars 1\nsession\ndrop a", "3 name"),
-        ("vars 3\nsession\na = var 0\nx = cofactor a 0 2", "4 word"),
-        ("vars 3\nsession\na = var 0\nx = cofactor a 0", "4 word"),
-        ("vars 3\nsession\na = var 0\nx = cofactor a 0 1 1", "4 word"),
-        ("vars 3\nsession\na = var 0\nx = cofactor a 9 1", "4 range"),
-        ("vars 3\nsession\na = var 0\nx = cofactor b 9 1", "4 name"),
-        ("vars 3\nsession\na = var 0\nx = xor a", "4 word"),
-        ("vars 3\nsession\na = var 0\nx = xor a b", "4 name"),
-        ("vars 3\nsession\na = var 0\na = xor b b", "4 again"),
-        ("vars 3\nsession\na = var 0\nleq a", "4 word"),
-        ("vars 3\nsession\na = var 0\nx = leq a a", "4 word"),
-        ("vars 3\nsession\na = var 0\nleq a b", "4 name"),
-        ("vars 3\nsession\na = var 0\nx = exists", "4 word"),
-        ("vars 3\nsession\na = var 0\nx = exists a a", "4 word"),
-        ("vars 3\nsession\na = var 0\nx = exists a 0 9", "4 range"),
-        ("vars 3\nsession\na = var 0\nx = exists b 9", "4 name"),
-        ("vars 3\nsession\na = var 0\na = exists b 9", "4 again"),
-        ("vars 3\nsession\na = var 0\nx = forall a 01", "4 word"),
-        ("vars 3\nsession\na = var 0\nx = forall a 3", "4 range"),
-        ("vars 3\nsession\na = var 0\nx = andexists a", "4 word"),
-        ("vars 3\nsession\na = var 0\nx = andexists a a 3", "4 range"),
-        ("vars 3\nsession\na = var 0\nx = andexists a b 3", "4 name"),
-        ("vars 3\nsession\na = var 0\nx = support a a", "4 word"),
-        ("vars 3\nsession\na = var 0\nx = support b", "4 name"),
     ];
     for (job, fault) in rows {
         let told = play(&rt, rt.alloc(), job)?;
         let want = format!(in rt.alloc(); "fault: job {fault}\n")?;
         assert_eq!(rt; told.status.code(), 9, "of {job}");
         assert_eq!(rt; told.text.as_slice(), want.as_bytes(), "of {job}");
+    }
+    Ok(())
+}
+
+/// Commands of a session of three variables in which only a is assigned, and the kind of the fault of each.
+const OPERATIONS: &[(&str, &str)] = &[
+    ("x = cofactor a 0 2", "word"),
+    ("x = cofactor a 0", "word"),
+    ("x = cofactor a 0 1 1", "word"),
+    ("x = cofactor a 9 1", "range"),
+    ("x = cofactor b 9 1", "name"),
+    ("x = xor a", "word"),
+    ("x = xor a b", "name"),
+    ("a = xor b b", "again"),
+    ("leq a", "word"),
+    ("x = leq a a", "word"),
+    ("leq a b", "name"),
+    ("x = exists", "word"),
+    ("x = exists a a", "word"),
+    ("x = exists a 0 9", "range"),
+    ("x = exists b 9", "name"),
+    ("a = exists b 9", "again"),
+    ("x = forall a 01", "word"),
+    ("x = forall a 3", "range"),
+    ("x = andexists a", "word"),
+    ("x = andexists a a 3", "range"),
+    ("x = andexists a b 3", "name"),
+    ("x = support a a", "word"),
+    ("x = support b", "name"),
+];
+
+#[test]
+fn faulty_operations(rt: HostRuntime) -> Result<(), Fail> {
+    for (command, kind) in OPERATIONS {
+        let job = format!(in rt.alloc(); "vars 3\nsession\na = var 0\n{command}")?;
+        let told = play(&rt, rt.alloc(), &job)?;
+        let want = format!(in rt.alloc(); "fault: job 4 {kind}\n")?;
+        assert_eq!(rt; told.status.code(), 9, "at {command}");
+        assert_eq!(rt; told.text.as_slice(), want.as_bytes(), "at {command}");
     }
     Ok(())
 }
