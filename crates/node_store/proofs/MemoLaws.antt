@@ -6,10 +6,10 @@ use Rattle.computed_cache.specs.declared.Key.{Key}
 use Rattle.edge_bits.specs.declared.edges.Kind.{Kind}
 use Rattle.edge_bits.specs.declared.edges.Kind.TheVariants.{Bdd, Add, Zdd}
 use Rattle.node_store.specs.Kinds.{ValueOf}
-use Rattle.node_store.specs.Numbers.{and_number, ite_number, cofactor_number, leq_number, exists_number, and_exists_number, support_number, plus_number, union_number, meet_number}
+use Rattle.node_store.specs.Numbers.{and_number, ite_number, cofactor_number, leq_number, exists_number, and_exists_number, support_number, compose_number, restrict_number, plus_number, union_number, meet_number}
 use Rattle.node_store.specs.Views.{View, Grown}
 use Rattle.node_store.specs.ViewLaws.{Denotes-grown, Is-grown, IsVariable-grown, values_at-grown}
-use Rattle.node_store.specs.Memo.{either, PlaceHolds, IteHolds, CofactorHolds, ImplicationHolds, ExistsHolds, AndExistsHolds, SupportHolds, MemoHolds}
+use Rattle.node_store.specs.Memo.{either, PlaceHolds, IteHolds, CofactorHolds, ImplicationHolds, ExistsHolds, AndExistsHolds, SupportHolds, ComposeHolds, RestrictHolds, MemoHolds}
 
 either-map : (b : Bool) (A B C D : Type 0) → (A → C) → (B → D) → either b A B → either b C D
 either-map true A B C D f g h = f h
@@ -71,6 +71,24 @@ SupportHolds-grown g p = record {
   support = rw (values_at-grown Bdd g p.f, values_at-grown Bdd g p.answer) p.support;
 }
 
+pub ComposeHolds-grown : {a b : View} {key : Key} {e : Edge} → Grown a b → ComposeHolds a key e → ComposeHolds b key e
+ComposeHolds-grown g p = record {
+  variable = p.variable;
+  in_range = IsVariable-grown Bdd g p.variable p.in_range;
+  projection = p.projection;
+  f = Is-grown Bdd g p.f;
+  g = Is-grown Bdd g p.g;
+  answer = rw (values_at-grown Bdd g p.f, values_at-grown Bdd g p.g) (Denotes-grown Bdd g p.answer);
+}
+
+pub RestrictHolds-grown : {a b : View} {key : Key} {e : Edge} → Grown a b → RestrictHolds a key e → RestrictHolds b key e
+RestrictHolds-grown g p = record {
+  f = Is-grown Bdd g p.f;
+  condition = Is-grown Bdd g p.condition;
+  answer = Is-grown Bdd g p.answer;
+  restricts = rw (values_at-grown Bdd g p.f, values_at-grown Bdd g p.condition, values_at-grown Bdd g p.answer) p.restricts;
+}
+
 pub MemoHolds-grown : {a b : View} → Grown a b → (key : Key) (e : Edge) → MemoHolds a key e → MemoHolds b key e
 MemoHolds-grown {a} {b} g key e =
     either-map (key.op == and_number) _ _ _ _ (PlaceHolds-grown Bdd (λ a b. a && b) g)
@@ -80,7 +98,9 @@ MemoHolds-grown {a} {b} g key e =
     (either-map (key.op == exists_number) _ _ _ _ (ExistsHolds-grown g)
     (either-map (key.op == and_exists_number) _ _ _ _ (AndExistsHolds-grown g)
     (either-map (key.op == support_number) _ _ _ _ (SupportHolds-grown g)
+    (either-map (key.op == compose_number) _ _ _ _ (ComposeHolds-grown g)
+    (either-map (key.op == restrict_number) _ _ _ _ (RestrictHolds-grown g)
     (either-map (key.op == plus_number) _ _ _ _ (PlaceHolds-grown Add (λ a b. a +ℤ b) g)
     (either-map (key.op == union_number) _ _ _ _ (PlaceHolds-grown Zdd (λ a b. a || b) g)
     (either-map (key.op == meet_number) _ _ _ _ (PlaceHolds-grown Zdd (λ a b. a && b) g)
-    (λ h. h))))))))))
+    (λ h. h))))))))))))

@@ -5,9 +5,10 @@ use Rattle.computed_cache.specs.declared.Key.{Key}
 use Rattle.edge_bits.specs.declared.edges.Kind.{Kind}
 use Rattle.edge_bits.specs.declared.edges.Kind.TheVariants.{Bdd, Add, Zdd}
 use Rattle.function_laws.specs.Cubes.{IsExists, IsSupport}
-use Rattle.function_laws.specs.Values.{cofactor, conjunction, if_then_else}
+use Rattle.function_laws.specs.Restrictions.{IsRestriction}
+use Rattle.function_laws.specs.Values.{cofactor, composed, conjunction, if_then_else}
 use Rattle.node_store.specs.Kinds.{ValueOf, place}
-use Rattle.node_store.specs.Numbers.{and_number, ite_number, cofactor_number, leq_number, exists_number, and_exists_number, support_number, plus_number, union_number, meet_number}
+use Rattle.node_store.specs.Numbers.{and_number, ite_number, cofactor_number, leq_number, exists_number, and_exists_number, support_number, compose_number, restrict_number, plus_number, union_number, meet_number}
 use Rattle.node_store.specs.Views.{View, Denotes, Is, IsVariable, values_at, truth_edge}
 
 abbrev pub either : Bool → Type 0 → Type 0 → Type 0
@@ -76,6 +77,22 @@ pub record SupportHolds (w : View) (key : Key) (e : Edge) : Type 0 where
   pub answer : Is Bdd w e
   pub support : IsSupport (values_at Bdd w key.f) (values_at Bdd w e)
 
+-- a function, the one that is put for a variable, and the variable's projection
+pub record ComposeHolds (w : View) (key : Key) (e : Edge) : Type 0 where
+  pub variable : ℕ
+  pub in_range : IsVariable Bdd w variable
+  pub projection : key.h ≡ literal_edge variable true
+  pub f : Is Bdd w key.f
+  pub g : Is Bdd w key.g
+  pub answer : Denotes Bdd w e (composed (values_at Bdd w key.f) variable (values_at Bdd w key.g))
+
+-- a function, a condition, and one of the functions that restrict may answer
+pub record RestrictHolds (w : View) (key : Key) (e : Edge) : Type 0 where
+  pub f : Is Bdd w key.f
+  pub condition : Is Bdd w key.g
+  pub answer : Is Bdd w e
+  pub restricts : IsRestriction (values_at Bdd w key.f) (values_at Bdd w key.g) (values_at Bdd w e)
+
 abbrev pub MemoHolds : View → Key → Edge → Type 0
 MemoHolds w key e =
     either (key.op == and_number) (PlaceHolds Bdd (λ a b. a && b) w key e)
@@ -85,7 +102,9 @@ MemoHolds w key e =
     (either (key.op == exists_number) (ExistsHolds w key e)
     (either (key.op == and_exists_number) (AndExistsHolds w key e)
     (either (key.op == support_number) (SupportHolds w key e)
+    (either (key.op == compose_number) (ComposeHolds w key e)
+    (either (key.op == restrict_number) (RestrictHolds w key e)
     (either (key.op == plus_number) (PlaceHolds Add (λ a b. a +ℤ b) w key e)
     (either (key.op == union_number) (PlaceHolds Zdd (λ a b. a || b) w key e)
     (either (key.op == meet_number) (PlaceHolds Zdd (λ a b. a && b) w key e)
-    ⊥)))))))))
+    ⊥)))))))))))

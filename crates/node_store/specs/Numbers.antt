@@ -22,6 +22,12 @@ and_exists_number = 6
 abbrev pub support_number : ℕ
 support_number = 7
 
+abbrev pub compose_number : ℕ
+compose_number = 8
+
+abbrev pub restrict_number : ℕ
+restrict_number = 9
+
 abbrev pub plus_number : ℕ
 plus_number = 20
 

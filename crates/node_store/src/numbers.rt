@@ -14,6 +14,10 @@ pub const AND_EXISTS: u8 = 6;
 
 pub const SUPPORT: u8 = 7;
 
+pub const COMPOSE: u8 = 8;
+
+pub const RESTRICT: u8 = 9;
+
 pub const PLUS: u8 = 20;
 
 pub const UNION: u8 = 40;
