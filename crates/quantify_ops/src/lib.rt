@@ -1,6 +1,7 @@
 //! Quantification of Boolean functions over any store (Bryant 1986).
 #![tactic(auto)]
 
+mod composition;
 mod cubes;
 mod dependence;
 pub mod nested;

@@ -1,0 +1,152 @@
+//! Composition: a function that is put for a variable of another.
+
+ghost use Rattle.std.specs.Prelude.{◌≡◌};
+ghost use Rattle.node_store.specs.Numbers.{compose_number};
+ghost use Rattle.node_store.specs.Views.{Kept};
+ghost use Rattle.ite_core.specs.Cofactors.{HasCofactor};
+ghost use Rattle.quantify_ops.specs.Composed.{IsFound};
+
+use edge_bits::Edge;
+use ite_core::nested::ite;
+use ite_core::split;
+use node_store::binary::{Apply, Branch, Expansion, flip_if};
+use node_store::operator::{Halt, Task};
+use node_store::{Grow, Key, Opened, Stack, numbers};
+
+/// The composition of two functions by a variable, as the evaluator runs it.
+#[derive(Drop)]
+pub(crate) struct Composition {
+    pub f: Edge,
+    pub var: u32,
+    pub g: Edge,
+    /// The projection that stands for the variable in a key.
+    pub projection: Edge,
+}
+
+impl<G: Grow> Apply<G> for Composition {
+    ghost use Rattle.edge_bits.specs.declared.edges.Kind.TheVariants.{Bdd};
+    ghost use Rattle.node_store.specs.Two.{two_depth};
+    ghost use Rattle.node_store.specs.TwoLaws.{two_depth-stays};
+    ghost use Rattle.quantify_ops.specs.Composed.{AreComposed, value_of_compose, ComposeDue, ComposeAnswers, ComposeSplits};
+    ghost use Rattle.quantify_ops.specs.ComposedLasts.{AreComposed-grown, value_of_compose-stays, ComposeDue-stays, ComposeAnswers-stay, ComposeSplits-stay};
+
+    ghost roots = { λ o w. AreComposed w o.f o.var o.g };
+
+    ghost work = { λ o. value_of_compose o.f o.var o.g };
+
+    ghost due = { λ o. ComposeDue o.f o.var o.g o.projection };
+
+    ghost answers = { λ o. ComposeAnswers o.var };
+
+    ghost overflows = { λ _ _ _. ⊥ };
+
+    ghost splits = { λ o. ComposeSplits o.f o.var o.g };
+
+    ghost depth = { λ _. two_depth Bdd };
+
+    ghost extra = { λ _ w. w.vars };
+
+    fn expand(&self, store: &mut G, task: Task) -> Result<Expansion, Halt> {
+        // A complement's composition is the composition's complement.
+        let flip = task.f.complement;
+        let regular = Task::two(Edge::new(task.f.index, false), task.g);
+        let found = find(store, regular.f, self.var);
+        if let Found::Free = found {
+            return Ok(Expansion::Done(task.f));
+        }
+        let key = key_of(regular, self.projection);
+        if let Some(edge) = store.memo_get(&key) {
+            return Ok(Expansion::Done(flip_if(edge, flip)));
+        }
+        let branch = match found {
+            Found::Own(hi, lo) => Branch {
+                task: regular,
+                flip,
+                var: self.var,
+                hi: Task::two(hi, hi),
+                lo: Task::two(lo, lo),
+            },
+            _ => Branch {
+                flip,
+                ..split(store, regular)
+            },
+        };
+        Ok(Expansion::Split(branch))
+    }
+
+    fn join(
+        &self,
+        store: &mut G,
+        stack: &mut Stack,
+        task: Task,
+        var: u32,
+        hi: Edge,
+        lo: Edge,
+    ) -> Result<Edge, Halt> {
+        if var == self.var {
+            Ok(ite(store, stack, task.g, hi, lo)?)
+        } else {
+            Ok(store.make(var, hi, lo)?)
+        }
+    }
+
+    fn key(&self, task: Task) -> Option<Key> {
+        Some(key_of(task, self.projection))
+    }
+
+    ghost roots_stay = { λ o v w m d. AreComposed-grown m d };
+
+    ghost work_stays = { λ o. value_of_compose-stays o.f o.var o.g };
+
+    ghost due_stays = { λ o. ComposeDue-stays o.f o.var o.g o.projection };
+
+    ghost answers_stay = { λ o v w t e m d. ComposeAnswers-stay o.var v w t e m d.two };
+
+    ghost splits_stay = { λ o v w t x a b m d. ComposeSplits-stay o.f o.var o.g v w t x a b m d.root d.two };
+
+    ghost depth_stays = { λ o v w t m d. two_depth-stays Bdd v w t m d.two };
+
+    ghost overflow_hi = { λ o w t x a b d s bad. bad };
+
+    ghost overflow_lo = { λ o w t x a b d s bad. bad };
+
+    ghost extra_stays = { λ o v w m. m.vars };
+}
+
+/// Where a function stands to a variable: it does not depend on it, its top node is of it, or its top variable stands above it.
+#[derive(Clone, Copy, PartialEq, Eq, Drop)]
+pub(crate) enum Found {
+    Free,
+    Own(Edge, Edge),
+    Above,
+}
+
+fn find<G: Grow>(store: &mut G, f: Edge, var: u32) -> Found
+    requires { HasCofactor (G.view store.old) f var }
+    ensures kept { Kept (G.view store.old) (G.view store.new) }
+    ensures found { IsFound (G.view store.new) f var result }
+{
+    let Opened::Inner(top, hi, lo) = store.open(f) else {
+        return Found::Free;
+    };
+    if top == var {
+        return Found::Own(hi, lo);
+    }
+    let level = store.level(var);
+    let top_level = store.level(top);
+    if level < top_level {
+        return Found::Free;
+    }
+    Found::Above
+}
+
+fn key_of(task: Task, projection: Edge) -> Key
+    ensures { result ≡ record { op = compose_number; f = task.f; g = task.g; h = projection } }
+{
+    Key {
+        op: numbers::COMPOSE,
+        f: task.f,
+        g: task.g,
+        h: projection,
+    }
+}
