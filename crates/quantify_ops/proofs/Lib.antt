@@ -3,3 +3,5 @@ pub mod ProductLaws
 pub mod QuantifiedLaws
 pub mod OperationLaws
 pub mod SupportLaws
+pub mod CompositionLaws
+pub mod SubstitutionLaws

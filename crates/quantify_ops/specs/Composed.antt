@@ -1,5 +1,5 @@
 -- Tasks of two functions of which the second is put for a variable of the first.
-use Rattle.std.specs.Prelude.{◌≡◌, ◌≢◌, ℕ, ◌<◌, true, ◌⊎◌}
+use Rattle.std.specs.Prelude.{◌≡◌, ◌≢◌, ℕ, ◌<◌, Bool, true, ◌⊎◌}
 use Rattle.edge_bits.specs.declared.edges.Edge.{Edge}
 use Rattle.edge_bits.specs.declared.edges.Kind.TheVariants.{Bdd}
 use Rattle.function_laws.specs.Values.{IsFree, composed}
@@ -58,8 +58,16 @@ pub record IsOwn (w : View) (f : Edge) (v : ℕ) (hi lo : Edge) : Type 0 where
   pub hi_top : w.level v < w.top hi.index
   pub lo_top : w.level v < w.top lo.index
 
+-- the function depends on its top variable, which stands above this one
+pub record IsAbove (w : View) (f : Edge) (v : ℕ) : Type 0 where
+  pub upper : ℕ
+  pub in_range : IsVariable Bdd w upper
+  pub depends : IsFree (bdd_at w f) upper → ⊥
+  pub here : w.top f.index ≡ w.level upper
+  pub higher : w.level upper < w.level v
+
 -- what a function's top node tells of the variable
 abbrev pub IsFound : View → Edge → ℕ → Found → Type 0
 IsFound w f v Free = IsFree (bdd_at w f) v
 IsFound w f v (Own hi lo) = IsOwn w f v hi lo
-IsFound w f v Above = (w.top f.index < w.vars) × (w.top f.index < w.level v)
+IsFound w f v Above = IsAbove w f v

@@ -1,5 +1,5 @@
 -- What is true of tasks of a composition stays true while a store grows.
-use Rattle.std.proofs.Common.{◌≡◌, ℕ, Bool, inl, inr, ap, sym, ◌∙◌}
+use Rattle.std.proofs.Common.{◌≡◌, ℕ, Bool, inl, inr, refl, ap, sym, ◌∙◌}
 use Rattle.edge_bits.specs.declared.edges.Edge.{Edge}
 use Rattle.edge_bits.specs.declared.edges.Kind.TheVariants.{Bdd}
 use Rattle.function_laws.specs.Values.{composed}

@@ -6,3 +6,5 @@ pub mod Supports
 pub mod SupportLasts
 pub mod Composed
 pub mod ComposedLasts
+pub mod Substituted
+pub mod SubstitutedLasts

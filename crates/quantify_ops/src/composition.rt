@@ -2,9 +2,12 @@
 
 ghost use Rattle.std.specs.Prelude.{◌≡◌};
 ghost use Rattle.node_store.specs.Numbers.{compose_number};
+ghost use Rattle.edge_bits.specs.declared.edges.Kind.TheVariants.{Bdd};
+ghost use Rattle.node_store.specs.Splits.{Expanded};
+ghost use Rattle.node_store.specs.Two.{two_depth};
 ghost use Rattle.node_store.specs.Views.{Kept};
 ghost use Rattle.ite_core.specs.Cofactors.{HasCofactor};
-ghost use Rattle.quantify_ops.specs.Composed.{IsFound};
+ghost use Rattle.quantify_ops.specs.Composed.{ComposeAnswers, ComposeDue, ComposeSplits, IsFound};
 
 use edge_bits::Edge;
 use ite_core::nested::ite;
@@ -47,31 +50,7 @@ impl<G: Grow> Apply<G> for Composition {
     ghost extra = { λ _ w. w.vars };
 
     fn expand(&self, store: &mut G, task: Task) -> Result<Expansion, Halt> {
-        // A complement's composition is the composition's complement.
-        let flip = task.f.complement;
-        let regular = Task::two(Edge::new(task.f.index, false), task.g);
-        let found = find(store, regular.f, self.var);
-        if let Found::Free = found {
-            return Ok(Expansion::Done(task.f));
-        }
-        let key = key_of(regular, self.projection);
-        if let Some(edge) = store.memo_get(&key) {
-            return Ok(Expansion::Done(flip_if(edge, flip)));
-        }
-        let branch = match found {
-            Found::Own(hi, lo) => Branch {
-                task: regular,
-                flip,
-                var: self.var,
-                hi: Task::two(hi, hi),
-                lo: Task::two(lo, lo),
-            },
-            _ => Branch {
-                flip,
-                ..split(store, regular)
-            },
-        };
-        Ok(Expansion::Split(branch))
+        Ok(self.expansion(store, task))
     }
 
     fn join(
@@ -111,6 +90,38 @@ impl<G: Grow> Apply<G> for Composition {
     ghost overflow_lo = { λ o w t x a b d s bad. bad };
 
     ghost extra_stays = { λ o v w m. m.vars };
+}
+
+impl Composition {
+    // The answer of a task, or its parts in normal form, in which the first function is regular.
+    fn expansion<G: Grow>(&self, store: &mut G, task: Task) -> Expansion
+        requires { ComposeDue self.now.f self.now.var self.now.g self.now.projection (G.view store.old) task }
+        ensures kept { Kept (G.view store.old) (G.view store.new) }
+        ensures expanded { Expanded (ComposeDue self.now.f self.now.var self.now.g self.now.projection) (ComposeAnswers self.now.var) (λ _ _. ⊥) (ComposeSplits self.now.f self.now.var self.now.g) (two_depth Bdd) (G.view store.new) task result }
+    {
+        // A complement's composition is the composition's complement.
+        let flip = task.f.complement;
+        let regular = Task::two(Edge::new(task.f.index, false), task.g);
+        let found = find(store, regular.f, self.var);
+        if let Found::Free = found {
+            return Expansion::Done(flip_if(regular.f, flip));
+        }
+        let key = key_of(regular, self.projection);
+        if let Some(edge) = store.memo_get(&key) {
+            return Expansion::Done(flip_if(edge, flip));
+        }
+        if let Found::Own(hi, lo) = found {
+            return Expansion::Split(Branch {
+                task: regular,
+                flip,
+                var: self.var,
+                hi: Task::two(hi, hi),
+                lo: Task::two(lo, lo),
+            });
+        }
+        let branch = split(store, regular);
+        Expansion::Split(Branch { flip, ..branch })
+    }
 }
 
 /// Where a function stands to a variable: it does not depend on it, its top node is of it, or its top variable stands above it.

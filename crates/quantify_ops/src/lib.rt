@@ -8,5 +8,6 @@ pub mod nested;
 mod operations;
 mod products;
 mod quantification;
+mod substitution;
 
-pub use operations::{and_exists, exists, forall, support};
+pub use operations::{and_exists, compose, exists, forall, support, vector_compose};

@@ -2,12 +2,14 @@
 
 ghost use Rattle.std.specs.Prelude.{◌≡◌, ◌*◌, ◌≤◌, IfOk, IsErrOf, List, true, ℕ};
 ghost use Rattle.edge_bits.specs.declared.edges.Kind.TheVariants.{Bdd};
-ghost use Rattle.function_laws.specs.Values.{conjunction, exists_all, forall_all, support as support_of};
-ghost use Rattle.node_store.specs.Views.{AreTwo, Denotes, Grown, Is, Permanent, Rose, bdd_at};
+ghost use Rattle.function_laws.specs.Values.{composed, conjunction, exists_all, forall_all, support as support_of};
+ghost use Rattle.node_store.specs.Views.{AreTwo, Denotes, Grown, Is, IsVariable, Permanent, Rose, bdd_at};
 ghost use Rattle.node_store.specs.Work.{Adds, IsWork};
+ghost use Rattle.quantify_ops.specs.Composed.{value_of_compose};
 ghost use Rattle.quantify_ops.specs.Products.{IsProduct};
 ghost use Rattle.quantify_ops.specs.Works.{value_of_and_exists, value_of_exists, value_of_forall, value_of_support};
 
+use crate::composition::Composition;
 use crate::dependence::Dependence;
 use crate::quantification::Quantification;
 use edge_bits::Edge;
@@ -107,6 +109,44 @@ pub fn support<G: Grow>(store: &mut G, stack: &mut Stack, f: Edge) -> Result<Edg
     ensures known { stack.new.answers ≡ stack.old.answers }
 {
     match evaluate(store, stack, &Binary(Dependence { f }), Task::two(f, f)) {
+        Ok(edge) => Ok(edge),
+        Err(Halt::Memory) => Err(Stop::Memory),
+        Err(Halt::Full) => Err(Stop::Full),
+        Err(Halt::Overflow) => unreachable!(),
+    }
+}
+
+/// A function with another put for a variable.
+pub fn compose<G: Grow>(
+    store: &mut G,
+    stack: &mut Stack,
+    f: Edge,
+    var: u32,
+    g: Edge,
+) -> Result<Edge, Stop>
+    requires operands { AreTwo Bdd (G.view store.old) f g }
+    requires in_range { IsVariable Bdd (G.view store.old) var }
+    requires permanent { Permanent (G.view store.old) }
+    requires room { 2 * (G.view store.old).vars ≤ stack.old.free }
+    ensures grown { Grown (G.view store.old) (G.view store.new) }
+    ensures compose { IfOk result (λ e. Denotes Bdd (G.view store.new) e (composed (bdd_at (G.view store.old) f) var (bdd_at (G.view store.old) g))) }
+    ensures work { Adds (value_of_compose f var g (G.view store.old)) (G.view store.old) (G.view store.new) }
+    ensures memory { IsErrOf result Stop.Memory → (G.view store.old).may_want_memory ≡ true }
+    ensures full { IsErrOf result Stop.Full → Rose (G.view store.old) (G.view store.new) }
+    ensures due { IsErrOf result Stop.Full → IsWork (G.view store.new) (value_of_compose f var g (G.view store.old)) (G.view store.new).due }
+    ensures frames { stack.new.frames ≡ stack.old.frames }
+    ensures free { stack.new.free ≡ stack.old.free }
+    ensures known { stack.new.answers ≡ stack.old.answers }
+{
+    // The slot of the variable's projection.
+    let projection = Edge::new(5 + var, false);
+    let op = Composition {
+        f,
+        var,
+        g,
+        projection,
+    };
+    match evaluate(store, stack, &Binary(op), Task::two(f, g)) {
         Ok(edge) => Ok(edge),
         Err(Halt::Memory) => Err(Stop::Memory),
         Err(Halt::Full) => Err(Stop::Full),

@@ -1,15 +1,21 @@
-ghost use Rattle.std.specs.Prelude.{◌≡◌, ◌*◌, ◌≤◌, IfOk, IsErrOf};
+ghost use Rattle.std.specs.Prelude.{◌≡◌, ◌*◌, ◌≤◌, IfOk, IsErrOf, ℕ, None, slice_index_or};
 ghost use Rattle.std.specs.List.{All};
 ghost use Rattle.edge_bits.specs.declared.edges.Kind.TheVariants.{Bdd};
-ghost use Rattle.function_laws.specs.Values.{conjunction, exists_all, forall_all, support as support_of};
+ghost use Rattle.function_laws.specs.Values.{composed, conjunction, exists_all, forall_all, support as support_of};
 ghost use Rattle.node_store.specs.Views.{AreTwo, Denotes, Grown, Is, IsVariable, Permanent, Rose, bdd_at};
 ghost use Rattle.node_store.specs.Work.{Adds, IsWork};
+ghost use Rattle.quantify_ops.specs.Composed.{value_of_compose};
+ghost use Rattle.quantify_ops.specs.Substituted.{AreSubstituted, ReachesDownTo, substituted_at, value_of_vector_compose};
 ghost use Rattle.quantify_ops.specs.Works.{value_of_support, work_of_and_exists, work_of_exists, work_of_forall};
 
 use crate::nested;
 use crate::products::product;
+use crate::substitution::{Substitution, lowest_level};
 use edge_bits::{Edge, Kind};
 use node_store::binary::flip_if;
+use node_store::evaluate::evaluate;
+use node_store::operator::{Halt, Task};
+use node_store::remembering::Remembering;
 use node_store::{Grow, Stack, Stop};
 
 /// The disjunction of both cofactors of a function by each variable of a list, which may have one twice. What it stores are parts, by the first variables of the order and up to complement, of the variables' product and of that value for any such parts of the function.
@@ -151,5 +157,124 @@ fn support_with_room<G: Grow>(
     match stack.reserve(2 * levels as usize) {
         Ok(()) => nested::support(store, stack, f),
         Err(_) => Err(Stop::Memory),
+    }
+}
+
+/// A function with another put for a variable. What it stores are parts of that function by the first variables of the order, up to complement.
+pub fn compose<G: Grow>(store: &mut G, f: Edge, var: u32, g: Edge) -> Result<Edge, Stop>
+    requires operands { AreTwo Bdd (G.view store.old) f g }
+    requires in_range { IsVariable Bdd (G.view store.old) var }
+    ensures grown { Grown (G.view store.old) (G.view store.new) }
+    ensures compose { IfOk result (λ e. Denotes Bdd (G.view store.new) e (composed (bdd_at (G.view store.old) f) var (bdd_at (G.view store.old) g))) }
+    ensures work { Adds (value_of_compose f var g (G.view store.old)) (G.view store.old) (G.view store.new) }
+    ensures full { IsErrOf result Stop.Full → Rose (G.view store.old) (G.view store.new) }
+    ensures due { IsErrOf result Stop.Full → IsWork (G.view store.new) (value_of_compose f var g (G.view store.old)) (G.view store.new).due }
+{
+    let mut stack = store.take_scratch();
+    let levels = store.levels(Kind::Bdd);
+    let outcome = compose_with_room(store, &mut stack, levels, f, var, g);
+    store.give_scratch(stack);
+    outcome
+}
+
+// Makes room for twice as many frames as there are levels, and runs.
+fn compose_with_room<G: Grow>(
+    store: &mut G,
+    stack: &mut Stack,
+    levels: u32,
+    f: Edge,
+    var: u32,
+    g: Edge,
+) -> Result<Edge, Stop>
+    requires operands { AreTwo Bdd (G.view store.old) f g }
+    requires in_range { IsVariable Bdd (G.view store.old) var }
+    requires permanent { Permanent (G.view store.old) }
+    requires levels { levels ≡ (G.view store.old).vars }
+    ensures grown { Grown (G.view store.old) (G.view store.new) }
+    ensures compose { IfOk result (λ e. Denotes Bdd (G.view store.new) e (composed (bdd_at (G.view store.old) f) var (bdd_at (G.view store.old) g))) }
+    ensures work { Adds (value_of_compose f var g (G.view store.old)) (G.view store.old) (G.view store.new) }
+    ensures full { IsErrOf result Stop.Full → Rose (G.view store.old) (G.view store.new) }
+    ensures due { IsErrOf result Stop.Full → IsWork (G.view store.new) (value_of_compose f var g (G.view store.old)) (G.view store.new).due }
+    ensures frames { stack.new.frames ≡ stack.old.frames }
+{
+    match stack.reserve(2 * levels as usize) {
+        Ok(()) => nested::compose(store, stack, f, var, g),
+        Err(_) => Err(Stop::Memory),
+    }
+}
+
+/// How many answers of its own a call of `vector_compose` keeps.
+const ANSWERS: usize = 16_384;
+
+/// A function with others put for some of its variables, all at once; no variable stands twice. What it stores are parts, by the first variables of the order and up to complement, of that value for any such parts of the function.
+pub fn vector_compose<G: Grow>(store: &mut G, f: Edge, pairs: &[(u32, Edge)]) -> Result<Edge, Stop>
+    requires { AreSubstituted (G.view store.old) f pairs.now }
+    ensures grown { Grown (G.view store.old) (G.view store.new) }
+    ensures vector_compose { IfOk result (λ e. Denotes Bdd (G.view store.new) e (substituted_at (G.view store.old) f pairs.now)) }
+    ensures work { Adds (value_of_vector_compose f pairs.now (G.view store.old)) (G.view store.old) (G.view store.new) }
+    ensures full { IsErrOf result Stop.Full → Rose (G.view store.old) (G.view store.new) }
+    ensures due { IsErrOf result Stop.Full → IsWork (G.view store.new) (value_of_vector_compose f pairs.now (G.view store.old)) (G.view store.new).due }
+{
+    let mut stack = store.take_scratch();
+    let levels = store.levels(Kind::Bdd);
+    let outcome = substitute_with_room(store, &mut stack, levels, f, pairs);
+    store.give_scratch(stack);
+    outcome
+}
+
+// Makes room for twice as many frames as there are levels and for the answers of the call, and runs.
+fn substitute_with_room<G: Grow>(
+    store: &mut G,
+    stack: &mut Stack,
+    levels: u32,
+    f: Edge,
+    pairs: &[(u32, Edge)],
+) -> Result<Edge, Stop>
+    requires operands { AreSubstituted (G.view store.old) f pairs.now }
+    requires permanent { Permanent (G.view store.old) }
+    requires levels { levels ≡ (G.view store.old).vars }
+    ensures grown { Grown (G.view store.old) (G.view store.new) }
+    ensures vector_compose { IfOk result (λ e. Denotes Bdd (G.view store.new) e (substituted_at (G.view store.old) f pairs.now)) }
+    ensures work { Adds (value_of_vector_compose f pairs.now (G.view store.old)) (G.view store.old) (G.view store.new) }
+    ensures full { IsErrOf result Stop.Full → Rose (G.view store.old) (G.view store.new) }
+    ensures due { IsErrOf result Stop.Full → IsWork (G.view store.new) (value_of_vector_compose f pairs.now (G.view store.old)) (G.view store.new).due }
+    ensures frames { stack.new.frames ≡ stack.old.frames }
+{
+    if stack.reserve(2 * levels as usize).is_err() {
+        return Err(Stop::Memory);
+    }
+    if stack.make_table(ANSWERS).is_err() {
+        return Err(Stop::Memory);
+    }
+    let lowest = lowest_level(store, pairs);
+    substitute(store, stack, f, pairs, lowest)
+}
+
+// Runs the evaluator, where the table of the call is empty.
+fn substitute<G: Grow>(
+    store: &mut G,
+    stack: &mut Stack,
+    f: Edge,
+    pairs: &[(u32, Edge)],
+    lowest: Option<u32>,
+) -> Result<Edge, Stop>
+    requires operands { AreSubstituted (G.view store.old) f pairs.now }
+    requires reach { All (ReachesDownTo (G.view store.old) lowest) pairs.now }
+    requires permanent { Permanent (G.view store.old) }
+    requires room { 2 * (G.view store.old).vars ≤ stack.old.free }
+    requires empty { (j : ℕ) → slice_index_or stack.old.answers j None ≡ None }
+    ensures grown { Grown (G.view store.old) (G.view store.new) }
+    ensures vector_compose { IfOk result (λ e. Denotes Bdd (G.view store.new) e (substituted_at (G.view store.old) f pairs.now)) }
+    ensures work { Adds (value_of_vector_compose f pairs.now (G.view store.old)) (G.view store.old) (G.view store.new) }
+    ensures full { IsErrOf result Stop.Full → Rose (G.view store.old) (G.view store.new) }
+    ensures due { IsErrOf result Stop.Full → IsWork (G.view store.new) (value_of_vector_compose f pairs.now (G.view store.old)) (G.view store.new).due }
+    ensures frames { stack.new.frames ≡ stack.old.frames }
+{
+    let op = Substitution { f, pairs, lowest };
+    match evaluate(store, stack, &Remembering(op), Task::two(f, f)) {
+        Ok(edge) => Ok(edge),
+        Err(Halt::Memory) => Err(Stop::Memory),
+        Err(Halt::Full) => Err(Stop::Full),
+        Err(Halt::Overflow) => unreachable!(),
     }
 }
