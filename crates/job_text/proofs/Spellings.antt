@@ -70,6 +70,8 @@ known (acts.Forall a vs) =
     record { own = _; found = refl; follows = (refl, variables_follow vs); made = ap (act_of does.Forall) (one_and_variables a vs) }
 known (acts.AndExists a b vs) =
     record { own = _; found = refl; follows = (refl, (refl, variables_follow vs)); made = ap (act_of does.AndExists) (two_with_variables a b vs) }
+known (acts.Compose a v b) = record { own = _; found = refl; follows = (refl, (refl, (refl, tt))); made = refl }
+known (acts.Restrict a b) = record { own = _; found = refl; follows = (refl, (refl, tt)); made = refl }
 known (acts.Support a) = record { own = _; found = refl; follows = (refl, tt); made = refl }
 known (acts.Drop a) = (record { own = _; found = refl; follows = (refl, tt); made = refl }, refl)
 known (acts.Same a b) = (record { own = _; found = refl; follows = (refl, (refl, tt)); made = refl }, refl)
@@ -168,6 +170,13 @@ register_and_literal os h =
     let z = bit_first [] [] y.1 y.3 in
     (x.0, y.0, z.0, x.2 ∙ ap (λ t. operands.Register x.0 ∷ t) (y.2 ∙ ap (λ t. operands.Variable y.0 ∷ t) (z.2 ∙ ap (λ t. operands.Bit z.0 ∷ t) (none_left z.1 z.3))))
 
+substitution : (os : List Operand) → Follows (Held ∷ Variable ∷ Held ∷ []) [] os → (a v b : ℕ) × (os ≡ operands.Register a ∷ operands.Variable v ∷ operands.Register b ∷ [])
+substitution os h =
+    let x = register_first (Variable ∷ Held ∷ []) [] os h in
+    let y = variable_first (Held ∷ []) [] x.1 x.3 in
+    let z = one_register y.1 y.3 in
+    (x.0, y.0, z.0, x.2 ∙ ap (λ t. operands.Register x.0 ∷ t) (y.2 ∙ ap (λ t. operands.Variable y.0 ∷ t) z.1))
+
 register_and_variables : (os : List Operand) → Follows (Held ∷ []) (Variable ∷ []) os → (a : ℕ) × (vs : List ℕ) × (os ≡ operands.Register a ∷ map operands.Variable vs)
 register_and_variables os h =
     let x = register_first [] (Variable ∷ []) os h in
@@ -220,8 +229,14 @@ each_assigns = (
                       (
                         (λ os h. let x = two_and_variables os h in along assigns (codes "andexists") does.AndExists os _ x.3 (ap (λ t. spelling (act_of does.AndExists t)) (two_with_variables x.0 x.1 x.2))),
                         (
-                          (λ os h. along assigns (codes "support") does.Support os _ (one_register os h).1 refl),
-                          tt,
+                          (λ os h. along assigns (codes "compose") does.Compose os _ (substitution os h).3 refl),
+                          (
+                            (λ os h. along assigns (codes "restrict") does.Restrict os _ (two_registers os h).2 refl),
+                            (
+                              (λ os h. along assigns (codes "support") does.Support os _ (one_register os h).1 refl),
+                              tt,
+                            ),
+                          ),
                         ),
                       ),
                     ),

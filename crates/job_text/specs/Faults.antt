@@ -42,6 +42,8 @@ assigning =
     ∷ form (codes "exists") does.Exists (Held ∷ []) (Variable ∷ [])
     ∷ form (codes "forall") does.Forall (Held ∷ []) (Variable ∷ [])
     ∷ form (codes "andexists") does.AndExists (Held ∷ Held ∷ []) (Variable ∷ [])
+    ∷ form (codes "compose") does.Compose (Held ∷ Variable ∷ Held ∷ []) []
+    ∷ form (codes "restrict") does.Restrict (Held ∷ Held ∷ []) []
     ∷ form (codes "support") does.Support (Held ∷ []) []
     ∷ []
 

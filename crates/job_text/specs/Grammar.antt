@@ -3,7 +3,7 @@ use Rattle.std.specs.Prelude.{◌≡◌, ◌≢◌, ℕ, ◌<◌, ◌≤◌, ◌
 use Rattle.std.specs.List.{list_all, flat_map}
 use Rattle.std.specs.Str.{bytes_eq}
 use Rattle.job_text.specs.declared.job.Act.{Act}
-use Rattle.job_text.specs.declared.job.Act.TheVariants.{One, Zero, Var, Not, And, Or, Xor, Ite, Cofactor, Exists, Forall, AndExists, Support, Drop, Same, Leq, Eval}
+use Rattle.job_text.specs.declared.job.Act.TheVariants.{One, Zero, Var, Not, And, Or, Xor, Ite, Cofactor, Exists, Forall, AndExists, Compose, Restrict, Support, Drop, Same, Leq, Eval}
 use Rattle.job_text.specs.declared.job.Command.{Command}
 use Rattle.job_text.specs.declared.job.Job.{Job}
 use Rattle.job_text.specs.declared.job.Register.{Register}
@@ -51,6 +51,8 @@ spelling (Cofactor a v b) = assigns (codes "cofactor") (operands.Register a ∷ 
 spelling (Exists a vs) = assigns (codes "exists") (operands.Register a ∷ map operands.Variable vs)
 spelling (Forall a vs) = assigns (codes "forall") (operands.Register a ∷ map operands.Variable vs)
 spelling (AndExists a b vs) = assigns (codes "andexists") (operands.Register a ∷ operands.Register b ∷ map operands.Variable vs)
+spelling (Compose a v b) = assigns (codes "compose") (operands.Register a ∷ operands.Variable v ∷ operands.Register b ∷ [])
+spelling (Restrict a b) = assigns (codes "restrict") (operands.Register a ∷ operands.Register b ∷ [])
 spelling (Support a) = assigns (codes "support") (operands.Register a ∷ [])
 spelling (Drop a) = tells (codes "drop") (operands.Register a ∷ [])
 spelling (Same a b) = tells (codes "same") (operands.Register a ∷ operands.Register b ∷ [])

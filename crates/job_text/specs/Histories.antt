@@ -13,7 +13,7 @@ use Rattle.function_laws.specs.Histories.{IsLegal}
 use Rattle.job_text.specs.declared.history_line.Reply.{Reply}
 use Rattle.job_text.specs.declared.history_line.Reply.TheVariants as reply
 use Rattle.job_text.specs.declared.job.Act.{Act}
-use Rattle.job_text.specs.declared.job.Act.TheVariants.{One, Zero, Var, Not, And, Or, Xor, Ite, Cofactor, Exists, Forall, AndExists, Support, Drop, Same, Leq, Eval}
+use Rattle.job_text.specs.declared.job.Act.TheVariants.{One, Zero, Var, Not, And, Or, Xor, Ite, Cofactor, Exists, Forall, AndExists, Compose, Restrict, Support, Drop, Same, Leq, Eval}
 use Rattle.job_text.specs.declared.job.Command.{Command}
 use Rattle.job_text.specs.declared.job.Job.{Job}
 use Rattle.job_text.specs.Text.{Word}
@@ -112,6 +112,8 @@ Calls registers (Cofactor a v b) call = (x : Name) × IsNamed registers a x × (
 Calls registers (Exists a vs) call = (x : Name) × IsNamed registers a x × (call ≡ calls.Exists x vs)
 Calls registers (Forall a vs) call = (x : Name) × IsNamed registers a x × (call ≡ calls.Forall x vs)
 Calls registers (AndExists a b vs) call = (x y : Name) × IsNamed registers a x × IsNamed registers b y × (call ≡ calls.AndExists x y vs)
+Calls registers (Compose a v b) call = (x y : Name) × IsNamed registers a x × IsNamed registers b y × (call ≡ calls.Compose x v y)
+Calls registers (Restrict a b) call = (x y : Name) × IsNamed registers a x × IsNamed registers b y × (call ≡ calls.Restrict x y)
 Calls registers (Support a) call = (x : Name) × IsNamed registers a x × (call ≡ calls.Support x)
 Calls registers (Drop a) call = (x : Name) × IsNamed registers a x × (call ≡ calls.DropRow x)
 Calls registers (Same a b) call = (x y : Name) × IsNamed registers a x × IsNamed registers b y × (call ≡ calls.Same x y)

@@ -19,6 +19,8 @@ pub enum Operation {
     Exists,
     Forall,
     AndExists,
+    Compose,
+    Restrict,
     Support,
     Drop,
     Same,
@@ -51,7 +53,7 @@ pub struct Known {
 }
 
 /// The commands that assign, by the word behind `r =`.
-const ASSIGNING: [Known; 13] = [
+const ASSIGNING: [Known; 15] = [
     Known {
         word: b"true",
         operation: Operation::One,
@@ -123,6 +125,18 @@ const ASSIGNING: [Known; 13] = [
         operation: Operation::AndExists,
         places: &[Place::Held, Place::Held],
         repeated: &[Place::Variable],
+    },
+    Known {
+        word: b"compose",
+        operation: Operation::Compose,
+        places: &[Place::Held, Place::Variable, Place::Held],
+        repeated: &[],
+    },
+    Known {
+        word: b"restrict",
+        operation: Operation::Restrict,
+        places: &[Place::Held, Place::Held],
+        repeated: &[],
     },
     Known {
         word: b"support",

@@ -99,6 +99,8 @@ impl Operands {
             Operation::Exists => Act::Exists(a, variables),
             Operation::Forall => Act::Forall(a, variables),
             Operation::AndExists => Act::AndExists(a, b, variables),
+            Operation::Compose => Act::Compose(a, v, b),
+            Operation::Restrict => Act::Restrict(a, b),
             Operation::Support => Act::Support(a),
             Operation::Drop => Act::Drop(a),
             Operation::Same => Act::Same(a, b),
