@@ -20,6 +20,7 @@ pub enum Operation {
     Forall,
     AndExists,
     Compose,
+    VectorCompose,
     Restrict,
     Support,
     Drop,
@@ -37,6 +38,8 @@ pub enum Place {
     Held,
     /// The number of a variable.
     Variable,
+    /// The number of a variable that no word to its left names.
+    NewVariable,
     /// `0` or `1`.
     Bit,
     /// A bit for each variable.
@@ -53,7 +56,7 @@ pub struct Known {
 }
 
 /// The commands that assign, by the word behind `r =`.
-const ASSIGNING: [Known; 15] = [
+const ASSIGNING: [Known; 16] = [
     Known {
         word: b"true",
         operation: Operation::One,
@@ -131,6 +134,12 @@ const ASSIGNING: [Known; 15] = [
         operation: Operation::Compose,
         places: &[Place::Held, Place::Variable, Place::Held],
         repeated: &[],
+    },
+    Known {
+        word: b"vcompose",
+        operation: Operation::VectorCompose,
+        places: &[Place::Held, Place::NewVariable, Place::Held],
+        repeated: &[Place::NewVariable, Place::Held],
     },
     Known {
         word: b"restrict",
