@@ -84,9 +84,6 @@ below d n e = grind (arith, nat_tests)
 variable_of : (n : ℕ) (rs : List Register) (w : Word) → Fits n rs (places.Variable, w) → (v : ℕ) × IsNumber w v × (v < n)
 variable_of n rs w h = (digits_value 10 w, (h.0, refl), below (digits_value 10 w) n (where_true (nat_lt (digits_value 10 w) n) kinds.Range h.1))
 
-new_variable_of : (n : ℕ) (rs : List Register) (w : Word) → Fits n rs (places.NewVariable, w) → (v : ℕ) × IsNumber w v × (v < n)
-new_variable_of n rs w h = (digits_value 10 w, (h.0, refl), below (digits_value 10 w) n (where_true (nat_lt (digits_value 10 w) n) kinds.Range h.1))
-
 same : (a b : ℕ) → (a == b) ≡ true → a ≡ b
 same a b e = grind (arith, nat_tests)
 
@@ -114,7 +111,7 @@ operand_at : (n : ℕ) (rs : List Register) (place : Place) (w : Word) → Fits 
 operand_at n rs places.Fresh w h = (operands.Target, (refl, fresh_of n rs w h))
 operand_at n rs places.Held w h = let a = held_of n rs w h in (operands.Register a.0, (refl, a.1))
 operand_at n rs places.Variable w h = let v = variable_of n rs w h in (operands.Variable v.0, (refl, (v.1, v.2)))
-operand_at n rs places.NewVariable w h = let v = new_variable_of n rs w h in (operands.NewVariable v.0, (refl, (v.1, v.2)))
+operand_at n rs places.NewVariable w h = let v = variable_of n rs w h in (operands.NewVariable v.0, (refl, (v.1, v.2)))
 operand_at n rs places.Bit w h = let b = bit_of w h.0 in (operands.Bit b.0, (refl, b.1))
 operand_at n rs places.Bits w h = let bs = bits_at n rs w h in (operands.Bits bs.0, (refl, (bs.1, bs.2)))
 

@@ -66,9 +66,6 @@ below v d n e h = grind (arith, nat_tests)
 pub variable_fits : (n : ℕ) (rs : List Register) (w : Word) (v : ℕ) → IsNumber w v → v < n → Fits n rs (places.Variable, w)
 variable_fits n rs w v h lt = (h.0, ap (λ b. cond b None (Some kinds.Range)) (below v (digits_value 10 w) n h.1 lt))
 
-pub new_variable_fits : (n : ℕ) (rs : List Register) (w : Word) (v : ℕ) → IsNumber w v → v < n → Fits n rs (places.NewVariable, w)
-new_variable_fits n rs w v h lt = (h.0, ap (λ b. cond b None (Some kinds.Range)) (below v (digits_value 10 w) n h.1 lt))
-
 abbrev pub digits_of : List Bool → List ℕ
 digits_of bs = map (λ c. cond c 49 48) bs
 
@@ -114,7 +111,7 @@ pub operand_fits : (n : ℕ) (rs : List Register) (slot : Place × Word) (operan
 operand_fits n rs slot operands.Target h = subst (λ (p : Place). Fits n rs (p, slot.1)) h.0 (fresh_fits n rs slot.1 h.1)
 operand_fits n rs slot (operands.Register a) h = subst (λ (p : Place). Fits n rs (p, slot.1)) h.0 (held_fits n rs slot.1 a h.1)
 operand_fits n rs slot (operands.Variable v) h = subst (λ (p : Place). Fits n rs (p, slot.1)) h.0 (variable_fits n rs slot.1 v h.1.0 h.1.1)
-operand_fits n rs slot (operands.NewVariable v) h = subst (λ (p : Place). Fits n rs (p, slot.1)) h.0 (new_variable_fits n rs slot.1 v h.1.0 h.1.1)
+operand_fits n rs slot (operands.NewVariable v) h = subst (λ (p : Place). Fits n rs (p, slot.1)) h.0 (variable_fits n rs slot.1 v h.1.0 h.1.1)
 operand_fits n rs slot (operands.Bit b) h = subst (λ (p : Place). Fits n rs (p, slot.1)) h.0 (bit_fits n rs slot.1 b h.1)
 operand_fits n rs slot (operands.Bits bs) h =
     subst (λ (p : Place). Fits n rs (p, slot.1)) h.0 (subst (λ (w : Word). Fits n rs (places.Bits, w)) (sym h.1.0) (bits_fit n rs bs h.1.1))
