@@ -54,31 +54,18 @@ impl Scope {
         Ok(Operand::Register(a))
     }
 
-    /// A variable.
-    fn variable(&self, word: &[u8]) -> Result<Operand, Stop>
+    /// The number of a variable.
+    fn variable(&self, word: &[u8]) -> Result<u32, Stop>
         requires number { is_number word.now ≡ true }
         requires few { self.now.vars ≤ 1024 }
-        ensures ok { IfOk result (λ operand. IsOperand self.now.vars self.now.registers (places.Variable, word.now) operand) }
+        ensures ok { IfOk result (λ v. IsOperand self.now.vars self.now.registers (places.Variable, word.now) (Operand.Variable v)) }
+        ensures ok_new { IfOk result (λ v. IsOperand self.now.vars self.now.registers (places.NewVariable, word.now) (Operand.NewVariable v)) }
         ensures stop { IfErr result (λ stop. SlotStop self.now.vars self.now.registers (places.Variable, word.now) stop) }
+        ensures stop_new { IfErr result (λ stop. SlotStop self.now.vars self.now.registers (places.NewVariable, word.now) stop) }
     {
         let v = number_value(word);
         if v < self.vars {
-            Ok(Operand::Variable(v))
-        } else {
-            Err(Stop::Fault(FaultKind::Range))
-        }
-    }
-
-    /// A variable that is due to be new.
-    fn new_variable(&self, word: &[u8]) -> Result<Operand, Stop>
-        requires number { is_number word.now ≡ true }
-        requires few { self.now.vars ≤ 1024 }
-        ensures ok { IfOk result (λ operand. IsOperand self.now.vars self.now.registers (places.NewVariable, word.now) operand) }
-        ensures stop { IfErr result (λ stop. SlotStop self.now.vars self.now.registers (places.NewVariable, word.now) stop) }
-    {
-        let v = number_value(word);
-        if v < self.vars {
-            Ok(Operand::NewVariable(v))
+            Ok(v)
         } else {
             Err(Stop::Fault(FaultKind::Range))
         }
@@ -108,8 +95,8 @@ impl Scope {
         match slot.place {
             Place::Fresh => self.target(slot.word),
             Place::Held => self.register(slot.word),
-            Place::Variable => self.variable(slot.word),
-            Place::NewVariable => self.new_variable(slot.word),
+            Place::Variable => Ok(Operand::Variable(self.variable(slot.word)?)),
+            Place::NewVariable => Ok(Operand::NewVariable(self.variable(slot.word)?)),
             Place::Bit => Ok(Operand::Bit(slot.word == b"1".as_slice())),
             Place::Bits => self.bits(alloc, slot.word),
         }
