@@ -62,7 +62,7 @@ fresh_target n rs words (assigns command os) h e = subst (λ (w : Word). NoneIs 
 fresh_target n rs words (tells command os) h e = absurd (false≢true (sym (ap is_assignment h.1 ∙ no_assignment n rs command h.0 os h.2) ∙ e))
 
 pub still_differ : (n : ℕ) (rs : List Register) (words : List Word) (act : Act) → AllDiffer (names_of rs) → Says n rs words act → AllDiffer (names_of (registers_after rs words))
-still_differ n rs words act h says = differ_unless (is_assignment words) (is_drop words) rs (target_of words) (target_of (drop 1 words)) h (fresh_target n rs words (spelling act) says)
+still_differ n rs words act h says = differ_unless (is_assignment words) (is_drop words) rs (target_of words) (target_of (drop 1 words)) h (fresh_target n rs words (spelling act) says.0)
 
 -- Where a register of this name is
 place_of : List Register → Word → ℕ
@@ -118,6 +118,7 @@ operand_at : List Register → Place → Word → Operand
 operand_at rs places.Fresh w = operands.Target
 operand_at rs places.Held w = operands.Register (place_of rs w)
 operand_at rs places.Variable w = operands.Variable (digits_value 10 w)
+operand_at rs places.NewVariable w = operands.NewVariable (digits_value 10 w)
 operand_at rs places.Bit w = operands.Bit (bytes_eq w (codes "1"))
 operand_at rs places.Bits w = operands.Bits (bits_from w)
 
@@ -130,6 +131,7 @@ unfolding operand_at
 at_its_place n rs w operands.Target differ h = refl
 at_its_place n rs w (operands.Register a) differ h = ap operands.Register (at_place rs w a differ h.1)
 at_its_place n rs w (operands.Variable v) differ h = ap operands.Variable h.0.1
+at_its_place n rs w (operands.NewVariable v) differ h = ap operands.NewVariable h.0.1
 at_its_place n rs w (operands.Bit b) differ h = ap operands.Bit (ap (λ t. bytes_eq t (codes "1")) h ∙ bit_back b)
 at_its_place n rs w (operands.Bits bs) differ h = ap operands.Bits (ap bits_from h.0 ∙ bits_back bs)
 
@@ -181,7 +183,7 @@ one_spelt n rs words act act' (tells command os) (tells command' os') differ k k
 
 one_act : (n : ℕ) (rs : List Register) (words words' : List Word) (act act' : Act) → AllDiffer (names_of rs) → words ≡ words' → Says n rs words act → Says n rs words' act' → act ≡ act'
 one_act n rs words words' act act' differ e h h' =
-    one_spelt n rs words act act' (spelling act) (spelling act') differ (known act) (known act') h (subst (λ (t : List Word). Says n rs t act') (sym e) h')
+    one_spelt n rs words act act' (spelling act) (spelling act') differ (known act h.1) (known act' h'.1) h.0 (subst (λ (t : List Word). Spells n rs t (spelling act')) (sym e) h'.0)
 
 -- commands of the same words are the same
 pub same_commands : (n : ℕ) (rs : List Register) (commands commands' : List Command) → AllDiffer (names_of rs) → CommandsSay n rs commands → CommandsSay n rs commands'

@@ -14,6 +14,7 @@ use Rattle.job_text.specs.declared.commands.Place.{Place}
 use Rattle.job_text.specs.declared.commands.Place.TheVariants as places
 use Rattle.job_text.specs.declared.operands.Operand.{Operand}
 use Rattle.job_text.specs.declared.operands.Operand.TheVariants as operands
+use Rattle.job_text.specs.declared.operands.Operands.{Operands}
 use Rattle.job_text.specs.declared.job.Job.{Job}
 use Rattle.job_text.specs.declared.job.Register.{Register}
 use Rattle.job_text.specs.declared.draft.Draft.{Draft}
@@ -24,11 +25,12 @@ use Rattle.job_text.specs.declared.faults.FaultKind.TheVariants as kinds
 use Rattle.job_text.specs.declared.faults.JobError.{JobError}
 use Rattle.job_text.specs.Text.{Word, IsNumber, is_number, is_allowed, lines_of, words_of, line_words, bit_word}
 use Rattle.job_text.specs.Grammar.{Says, IsFresh, Refers, IsJobText}
-use Rattle.job_text.specs.Faults.{has_form, slot_fault, first_fault, fault_in, or_else, command_fault, command_of, is_bit, is_bits, bits_in, is_session, number_fault, has_begun, words_fault, line_fault, IsFaultText}
-use Rattle.job_text.specs.Drafts.{IsOperand, AreOperands, no_operands, with_operands, act_of, context_in, Adds, adds_nothing, adds_vars, adds_limit, adds_session, adds_command}
+use Rattle.job_text.specs.Faults.{has_form, slot_fault, twice_fault, word_fault, named_after, first_fault, fault_in, or_else, command_fault, command_of, is_bit, is_bits, bits_in, is_session, number_fault, has_begun, words_fault, line_fault, IsFaultText}
+use Rattle.job_text.specs.Drafts.{IsOperand, AreOperands, no_operands, with_operand, with_operands, repeats, AllNew, act_of, context_in, Adds, adds_nothing, adds_vars, adds_limit, adds_session, adds_command}
 use Rattle.job_text.specs.Readings.{EachHasOne}
 use Rattle.job_text.proofs.Bits.{bits_are}
-use Rattle.job_text.proofs.Meanings.{Fits, AllFit}
+use Rattle.job_text.proofs.Meanings.{Fits, word_fault_is}
+use Rattle.job_text.proofs.Naming.{named_is}
 use Rattle.job_text.proofs.Makings.{says_from}
 use Rattle.job_text.proofs.Reading.{IsRead, nothing_read, read_more, job_from}
 use Rattle.job_text.proofs.RegisterLists.{fresh_from}
@@ -45,18 +47,6 @@ both (Some fault) later h = cc
 and_true : (a b : Bool) → (a && b) ≡ true → (a ≡ true) × (b ≡ true)
 and_true true b h = (refl, h)
 and_true false b h = absurd (false≢true h)
-
-fits_each : (n : ℕ) (rs : List Register) (slots : List (Place × Word)) → list_all has_form slots ≡ true → first_fault n rs slots ≡ None → AllFit n rs slots
-fits_each n rs [] h e = tt
-fits_each n rs (slot ∷ slots) h e =
-    let form = and_true (has_form slot) (list_all has_form slots) h in
-    let none = both (slot_fault n rs slot) (first_fault n rs slots) e in
-    ((form.0, none.0), fits_each n rs slots form.1 none.1)
-
-all_fit : (n : ℕ) (rs : List Register) (slots : List (Place × Word)) → fault_in n rs (Some slots) ≡ None → AllFit n rs slots
-all_fit n rs slots h =
-    let k = whole (list_all has_form slots) (first_fault n rs slots) h in
-    fits_each n rs slots k.0 k.1
 
 unless : (b : Bool) (fault : FaultKind) → cond b (Some fault) None ≡ None → b ≡ false
 unless true fault h = cc
@@ -121,23 +111,29 @@ operand_at : (n : ℕ) (rs : List Register) (place : Place) (w : Word) → Fits 
 operand_at n rs places.Fresh w h = (operands.Target, (refl, fresh_of n rs w h))
 operand_at n rs places.Held w h = let a = held_of n rs w h in (operands.Register a.0, (refl, a.1))
 operand_at n rs places.Variable w h = let v = variable_of n rs w h in (operands.Variable v.0, (refl, (v.1, v.2)))
+operand_at n rs places.NewVariable w h = let v = variable_of n rs w h in (operands.NewVariable v.0, (refl, (v.1, v.2)))
 operand_at n rs places.Bit w h = let b = bit_of w h.0 in (operands.Bit b.0, (refl, b.1))
 operand_at n rs places.Bits w h = let bs = bits_at n rs w h in (operands.Bits bs.0, (refl, (bs.1, bs.2)))
 
-operands_at : (n : ℕ) (rs : List Register) (slots : List (Place × Word)) → AllFit n rs slots → (os : List Operand) × AreOperands n rs slots os
-operands_at n rs [] h = ([], tt)
-operands_at n rs (slot ∷ slots) h =
-    let o = operand_at n rs slot.0 slot.1 h.0 in
-    let more = operands_at n rs slots h.1 in
-    (o.0 ∷ more.0, (o.1, more.1))
+operands_at : (n : ℕ) (rs : List Register) (others : Operands) (slots : List (Place × Word)) → list_all has_form slots ≡ true → first_fault n rs others.variables slots ≡ None
+    → (os : List Operand) × AreOperands n rs slots os × AllNew others os
+operands_at n rs others [] h e = ([], tt, tt)
+operands_at n rs others (slot ∷ slots) h e =
+    let form = and_true (has_form slot) (list_all has_form slots) h in
+    let none = both (word_fault n rs others.variables slot) (first_fault n rs (named_after others.variables slot) slots) e in
+    let o = operand_at n rs slot.0 slot.1 (form.0, (both (slot_fault n rs slot) (twice_fault others.variables slot) none.0).0) in
+    let new = unless (repeats others o.0) kinds.Range (sym (word_fault_is n rs others slot o.0 o.1) ∙ none.0) in
+    let more = operands_at n rs (with_operand others o.0) slots form.1 (sym (ap (λ t. first_fault n rs t slots) (named_is n rs others slot o.0 o.1)) ∙ none.1) in
+    (o.0 ∷ more.0, (o.1, more.1), (new, more.2))
 
 -- what a command without a fault says
 of_command : (n : ℕ) (rs : List Register) (words : List Word) (o : Option (Operation × List (Place × Word))) → command_of words ≡ o → fault_in n rs (option_map (λ known. known.1) o) ≡ None
     → (act : Act) × Says n rs words act
 of_command n rs words None e h = cc h
 of_command n rs words (Some known) e h =
-    let os = operands_at n rs known.1 (all_fit n rs known.1 h) in
-    (act_of known.0 (with_operands no_operands os.0), says_from n rs words known.0 known.1 os.0 e os.1)
+    let well = whole (list_all has_form known.1) (first_fault n rs [] known.1) h in
+    let os = operands_at n rs no_operands known.1 well.0 well.1 in
+    (act_of known.0 (with_operands no_operands os.0), says_from n rs words known.0 known.1 os.0 e os.1 os.2)
 
 command_says : (n : ℕ) (rs : List Register) (words : List Word) → command_fault n rs words ≡ None → (act : Act) × Says n rs words act
 unfolding command_fault

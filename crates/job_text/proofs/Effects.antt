@@ -50,6 +50,6 @@ same_registers n rs words command os other h =
 
 -- a drop takes the register of its word away
 pub one_register_less : (n : ℕ) (rs : List Register) (words : List Word) (a : ℕ) → Says n rs words (acts.Drop a) → (x : Word) × Refers rs x a × (registers_after rs words ≡ map (without x) rs)
-one_register_less n rs words a ([], e, h) = absurd h
-one_register_less n rs words a (x ∷ [], e, h) = (x, h.0, ap (registers_after rs) e)
-one_register_less n rs words a (x ∷ y ∷ rest, e, h) = absurd h.1
+one_register_less n rs words a (([], e, h), proper) = absurd h
+one_register_less n rs words a ((x ∷ [], e, h), proper) = (x, h.0, ap (registers_after rs) e)
+one_register_less n rs words a ((x ∷ y ∷ rest, e, h), proper) = absurd h.1

@@ -7,6 +7,7 @@ pub mod Filling
 pub mod Forms
 pub mod Makings
 pub mod Meanings
+pub mod Naming
 pub mod OneReading
 pub mod Reading
 pub mod RegisterLists

@@ -8,10 +8,11 @@ use Rattle.job_text.specs.declared.commands.Place.TheVariants.{Fresh}
 use Rattle.job_text.specs.declared.job.Register.{Register}
 use Rattle.job_text.specs.declared.operands.Operand.{Operand}
 use Rattle.job_text.specs.declared.operands.Operand.TheVariants as operands
+use Rattle.job_text.specs.declared.operands.Operands.{Operands}
 use Rattle.job_text.specs.Text.{Word}
-use Rattle.job_text.specs.Grammar.{Says, Spelling, assigns, tells, spelling, Spells, IsFresh, AllStandFor}
+use Rattle.job_text.specs.Grammar.{Says, Spelling, assigns, tells, spelling, Spells, IsProper, IsFresh, AllStandFor}
 use Rattle.job_text.specs.Faults.{Form, form_in, filled, command_in, command_of, assignment_of, telling_of, assigning, telling}
-use Rattle.job_text.specs.Drafts.{IsOperand, AreOperands, no_operands, with_operand, with_operands, act_of}
+use Rattle.job_text.specs.Drafts.{IsOperand, AreOperands, no_operands, with_operand, with_operands, AllNew, act_of}
 use Rattle.job_text.proofs.Spellings.{Follows, each_assigns, each_tells, found_builds}
 
 -- The command of a line in a table, and its places.
@@ -76,44 +77,46 @@ target_is : (n : ℕ) (rs : List Register) (r : Word) (o : Operand) → IsOperan
 target_is n rs r operands.Target h = (h.1, refl)
 target_is n rs r (operands.Register a) h = cc h.0
 target_is n rs r (operands.Variable v) h = cc h.0
+target_is n rs r (operands.NewVariable v) h = cc h.0
 target_is n rs r (operands.Bit b) h = cc h.0
 target_is n rs r (operands.Bits bits) h = cc h.0
 
 assigns_from : (n : ℕ) (rs : List Register) (words : List Word) (r command : Word) (rest : List Word) (operation : Operation) (slots : List (Place × Word)) (os : List Operand)
-    → words ≡ r ∷ codes "=" ∷ command ∷ rest → IsFilled assigning ((Fresh, r) ∷ []) command rest operation slots → AreOperands n rs slots os → Says n rs words (act_of operation (with_operands no_operands os))
-assigns_from n rs words r command rest operation slots [] e h a = absurd (subst (λ (t : List (Place × Word)). AreOperands n rs t []) (sym h.all) a)
-assigns_from n rs words r command rest operation slots (o ∷ os) e h a =
+    → words ≡ r ∷ codes "=" ∷ command ∷ rest → IsFilled assigning ((Fresh, r) ∷ []) command rest operation slots → AreOperands n rs slots os → AllNew no_operands os → Says n rs words (act_of operation (with_operands no_operands os))
+assigns_from n rs words r command rest operation slots [] e h a new = absurd (subst (λ (t : List (Place × Word)). AreOperands n rs t []) (sym h.all) a)
+assigns_from n rs words r command rest operation slots (o ∷ os) e h a new =
     let all : IsOperand n rs (Fresh, r) o × AreOperands n rs h.behind os = subst (λ (t : List (Place × Word)). AreOperands n rs t (o ∷ os)) (sym h.all) a in
     let target = target_is n rs r o all.0 in
     let own = meant n rs h.own.places h.own.repeated rest h.behind os h.fills all.1 in
     let builds = found_builds assigns assigning command h.own h.found each_assigns in
-    let spelt : spelling (act_of operation (with_operands no_operands (o ∷ os))) ≡ assigns command os =
-    ap (λ t. spelling (act_of operation (with_operands t os))) target.1 ∙ ap (λ t. spelling (act_of t (with_operands no_operands os))) (sym h.does)
-    ∙ builds.0 os own.0 ∙ ap (λ t. assigns t os) builds.1 in
-    subst (λ (t : Spelling). Spells n rs words t) (sym spelt) (r, rest, e, target.0, own.1)
+    let made = builds.0 os own.0 (subst (λ (t : Operands). AllNew t os) target.1 new.1) in
+    let same = ap (λ t. act_of operation (with_operands t os)) target.1 ∙ ap (λ t. act_of t (with_operands no_operands os)) (sym h.does) in
+    let spelt : spelling (act_of operation (with_operands no_operands (o ∷ os))) ≡ assigns command os = ap spelling same ∙ made.0 ∙ ap (λ t. assigns t os) builds.1 in
+    (subst (λ (t : Spelling). Spells n rs words t) (sym spelt) (r, rest, e, target.0, own.1), subst IsProper (sym same) made.1)
 
 tells_from : (n : ℕ) (rs : List Register) (words : List Word) (command : Word) (rest : List Word) (operation : Operation) (slots : List (Place × Word)) (os : List Operand)
-    → words ≡ command ∷ rest → IsFilled telling [] command rest operation slots → AreOperands n rs slots os → Says n rs words (act_of operation (with_operands no_operands os))
-tells_from n rs words command rest operation slots os e h a =
+    → words ≡ command ∷ rest → IsFilled telling [] command rest operation slots → AreOperands n rs slots os → AllNew no_operands os → Says n rs words (act_of operation (with_operands no_operands os))
+tells_from n rs words command rest operation slots os e h a new =
     let all : AreOperands n rs h.behind os = subst (λ (t : List (Place × Word)). AreOperands n rs t os) (sym h.all) a in
     let own = meant n rs h.own.places h.own.repeated rest h.behind os h.fills all in
     let builds = found_builds tells telling command h.own h.found each_tells in
-    let spelt : spelling (act_of operation (with_operands no_operands os)) ≡ tells command os =
-    ap (λ t. spelling (act_of t (with_operands no_operands os))) (sym h.does) ∙ builds.0 os own.0 ∙ ap (λ t. tells t os) builds.1 in
-    subst (λ (t : Spelling). Spells n rs words t) (sym spelt) (rest, e, own.1)
+    let made = builds.0 os own.0 new in
+    let same = ap (λ t. act_of t (with_operands no_operands os)) (sym h.does) in
+    let spelt : spelling (act_of operation (with_operands no_operands os)) ≡ tells command os = ap spelling same ∙ made.0 ∙ ap (λ t. tells t os) builds.1 in
+    (subst (λ (t : Spelling). Spells n rs words t) (sym spelt) (rest, e, own.1), subst IsProper (sym same) made.1)
 
 pub says_from : (n : ℕ) (rs : List Register) (words : List Word) (operation : Operation) (slots : List (Place × Word)) (os : List Operand) → command_of words ≡ Some (operation, slots) → AreOperands n rs slots os
-    → Says n rs words (act_of operation (with_operands no_operands os))
-says_from n rs [] operation slots os e h = cc
-says_from n rs (first ∷ []) operation slots os e h = tells_from n rs (first ∷ []) first [] operation slots os refl (filled_from telling [] first [] operation slots e) h
-says_from n rs (first ∷ second ∷ []) operation slots os e h =
-    tells_from n rs (first ∷ second ∷ []) first (second ∷ []) operation slots os refl (filled_from telling [] first (second ∷ []) operation slots e) h
-says_from n rs (first ∷ second ∷ third ∷ words) operation slots os e h = by_cases (bytes_eq second (codes "=")) refl
+    → AllNew no_operands os → Says n rs words (act_of operation (with_operands no_operands os))
+says_from n rs [] operation slots os e h new = cc
+says_from n rs (first ∷ []) operation slots os e h new = tells_from n rs (first ∷ []) first [] operation slots os refl (filled_from telling [] first [] operation slots e) h new
+says_from n rs (first ∷ second ∷ []) operation slots os e h new =
+    tells_from n rs (first ∷ second ∷ []) first (second ∷ []) operation slots os refl (filled_from telling [] first (second ∷ []) operation slots e) h new
+says_from n rs (first ∷ second ∷ third ∷ words) operation slots os e h new = by_cases (bytes_eq second (codes "=")) refl
   where
     by_cases : (b : Bool) → bytes_eq second (codes "=") ≡ b → Says n rs (first ∷ second ∷ third ∷ words) (act_of operation (with_operands no_operands os))
     by_cases true f =
         assigns_from n rs (first ∷ second ∷ third ∷ words) first third words operation slots os (ap (λ t. first ∷ t ∷ third ∷ words) ((bytes_eq-Decides second (codes "=")).0 f))
-        (filled_from assigning ((Fresh, first) ∷ []) third words operation slots (sym (ap (λ b. cond b (assignment_of first third words) (telling_of first (second ∷ third ∷ words))) f) ∙ e)) h
+        (filled_from assigning ((Fresh, first) ∷ []) third words operation slots (sym (ap (λ b. cond b (assignment_of first third words) (telling_of first (second ∷ third ∷ words))) f) ∙ e)) h new
     by_cases false f =
         tells_from n rs (first ∷ second ∷ third ∷ words) first (second ∷ third ∷ words) operation slots os refl
-        (filled_from telling [] first (second ∷ third ∷ words) operation slots (sym (ap (λ b. cond b (assignment_of first third words) (telling_of first (second ∷ third ∷ words))) f) ∙ e)) h
+        (filled_from telling [] first (second ∷ third ∷ words) operation slots (sym (ap (λ b. cond b (assignment_of first third words) (telling_of first (second ∷ third ∷ words))) f) ∙ e)) h new

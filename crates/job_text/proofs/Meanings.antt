@@ -13,32 +13,19 @@ use Rattle.job_text.specs.declared.commands.Place.TheVariants as places
 use Rattle.job_text.specs.declared.job.Register.{Register}
 use Rattle.job_text.specs.declared.operands.Operand.{Operand}
 use Rattle.job_text.specs.declared.operands.Operand.TheVariants as operands
+use Rattle.job_text.specs.declared.operands.Operands.{Operands}
 use Rattle.job_text.specs.declared.faults.FaultKind.TheVariants as kinds
 use Rattle.job_text.specs.Text.{Word, IsNumber, is_name, is_number, bit_word}
 use Rattle.job_text.specs.Grammar.{Says, Spelling, assigns, tells, Spells, spelling, StandsFor, AllStandFor, IsFresh, Refers, is_assignment}
-use Rattle.job_text.specs.Faults.{Form, form_in, assigning, telling, filled, command_in, has_form, slot_fault, first_fault, fault_in, or_else, command_fault, command_of, is_bit, is_bits, bits_in, is_session}
-use Rattle.job_text.specs.Drafts.{place_of, IsOperand, AreOperands}
+use Rattle.job_text.specs.Faults.{Form, form_in, assigning, telling, filled, command_in, has_form, slot_fault, twice_fault, word_fault, named_after, first_fault, fault_in, or_else, command_fault, command_of, is_bit, is_bits, bits_in, is_session}
+use Rattle.job_text.specs.Drafts.{place_of, IsOperand, AreOperands, no_operands, with_operand, repeats, AllNew}
 use Rattle.job_text.proofs.Forms.{telling_is}
+use Rattle.job_text.proofs.Naming.{named_is, twice_is}
 use Rattle.job_text.proofs.Spellings.{Follows, IsKnown, known}
 
 -- the word has the form that is due, and no fault
 abbrev pub Fits : ℕ → List Register → Place × Word → Type 0
 Fits n registers slot = (has_form slot ≡ true) × (slot_fault n registers slot ≡ None)
-
-abbrev pub AllFit : ℕ → List Register → List (Place × Word) → Type 0
-AllFit n registers [] = Unit {0}
-AllFit n registers (slot ∷ slots) = Fits n registers slot × AllFit n registers slots
-
-all_forms : (n : ℕ) (rs : List Register) (slots : List (Place × Word)) → AllFit n rs slots → list_all has_form slots ≡ true
-all_forms n rs [] h = refl
-all_forms n rs (slot ∷ slots) h = ap (λ b. b && list_all has_form slots) (h.0).0 ∙ all_forms n rs slots h.1
-
-no_fault : (n : ℕ) (rs : List Register) (slots : List (Place × Word)) → AllFit n rs slots → first_fault n rs slots ≡ None
-no_fault n rs [] h = refl
-no_fault n rs (slot ∷ slots) h = ap (λ o. or_else o (first_fault n rs slots)) (h.0).1 ∙ no_fault n rs slots h.1
-
-pub fits_all : (n : ℕ) (rs : List Register) (slots : List (Place × Word)) → AllFit n rs slots → fault_in n rs (Some slots) ≡ None
-fits_all n rs slots h = ap (λ b. cond b (first_fault n rs slots) (Some kinds.Word)) (all_forms n rs slots h) ∙ no_fault n rs slots h
 
 other_name : (r : Register) (w : Word) → r.name ≢ w → bytes_eq r.name w ≡ false
 other_name r w h = by_cases (bytes_eq r.name w) refl
@@ -124,15 +111,35 @@ pub operand_fits : (n : ℕ) (rs : List Register) (slot : Place × Word) (operan
 operand_fits n rs slot operands.Target h = subst (λ (p : Place). Fits n rs (p, slot.1)) h.0 (fresh_fits n rs slot.1 h.1)
 operand_fits n rs slot (operands.Register a) h = subst (λ (p : Place). Fits n rs (p, slot.1)) h.0 (held_fits n rs slot.1 a h.1)
 operand_fits n rs slot (operands.Variable v) h = subst (λ (p : Place). Fits n rs (p, slot.1)) h.0 (variable_fits n rs slot.1 v h.1.0 h.1.1)
+operand_fits n rs slot (operands.NewVariable v) h = subst (λ (p : Place). Fits n rs (p, slot.1)) h.0 (variable_fits n rs slot.1 v h.1.0 h.1.1)
 operand_fits n rs slot (operands.Bit b) h = subst (λ (p : Place). Fits n rs (p, slot.1)) h.0 (bit_fits n rs slot.1 b h.1)
 operand_fits n rs slot (operands.Bits bs) h =
     subst (λ (p : Place). Fits n rs (p, slot.1)) h.0 (subst (λ (w : Word). Fits n rs (places.Bits, w)) (sym h.1.0) (bits_fit n rs bs h.1.1))
 
-pub operands_fit : (n : ℕ) (rs : List Register) (slots : List (Place × Word)) (os : List Operand) → AreOperands n rs slots os → AllFit n rs slots
-operands_fit n rs [] [] h = tt
-operands_fit n rs [] (o ∷ os) h = absurd h
-operands_fit n rs (slot ∷ slots) [] h = absurd h
-operands_fit n rs (slot ∷ slots) (o ∷ os) h = (operand_fits n rs slot o h.0, operands_fit n rs slots os h.1)
+-- all that may be wrong with it there is that it is no new variable
+pub word_fault_is : (n : ℕ) (rs : List Register) (others : Operands) (slot : Place × Word) (o : Operand) → IsOperand n rs slot o
+    → word_fault n rs others.variables slot ≡ cond (repeats others o) (Some kinds.Range) None
+word_fault_is n rs others slot o h = ap (λ t. or_else t (twice_fault others.variables slot)) (operand_fits n rs slot o h).1 ∙ twice_is n rs others slot o h
+
+pub no_word_fault : (n : ℕ) (rs : List Register) (others : Operands) (slot : Place × Word) (o : Operand) → IsOperand n rs slot o → repeats others o ≡ false → word_fault n rs others.variables slot ≡ None
+no_word_fault n rs others slot o h new = word_fault_is n rs others slot o h ∙ ap (λ b. cond b (Some kinds.Range) None) new
+
+all_forms : (n : ℕ) (rs : List Register) (slots : List (Place × Word)) (os : List Operand) → AreOperands n rs slots os → list_all has_form slots ≡ true
+all_forms n rs [] [] h = refl
+all_forms n rs [] (o ∷ os) h = absurd h
+all_forms n rs (slot ∷ slots) [] h = absurd h
+all_forms n rs (slot ∷ slots) (o ∷ os) h = ap (λ b. b && list_all has_form slots) (operand_fits n rs slot o h.0).0 ∙ all_forms n rs slots os h.1
+
+no_fault : (n : ℕ) (rs : List Register) (others : Operands) (slots : List (Place × Word)) (os : List Operand) → AreOperands n rs slots os → AllNew others os → first_fault n rs others.variables slots ≡ None
+no_fault n rs others [] [] h new = refl
+no_fault n rs others [] (o ∷ os) h new = absurd h
+no_fault n rs others (slot ∷ slots) [] h new = absurd h
+no_fault n rs others (slot ∷ slots) (o ∷ os) h new =
+    ap (λ t. or_else t (first_fault n rs (named_after others.variables slot) slots)) (no_word_fault n rs others slot o h.0 new.0)
+    ∙ ap (λ t. first_fault n rs t slots) (named_is n rs others slot o h.0) ∙ no_fault n rs (with_operand others o) slots os h.1 new.1
+
+pub fits_all : (n : ℕ) (rs : List Register) (slots : List (Place × Word)) (os : List Operand) → AreOperands n rs slots os → AllNew no_operands os → fault_in n rs (Some slots) ≡ None
+fits_all n rs slots os h new = ap (λ b. cond b (first_fault n rs [] slots) (Some kinds.Word)) (all_forms n rs slots os h) ∙ no_fault n rs no_operands slots os h new
 
 -- the words with the places of their operands
 abbrev pub slots_for : List Operand → List Word → List (Place × Word)
@@ -185,6 +192,7 @@ pub no_equals : (n : ℕ) (rs : List Register) (w : Word) (o : Operand) → Stan
 no_equals n rs w operands.Target h = unlike_equals is_name w equals_is_none.0 h.0
 no_equals n rs w (operands.Register a) h = unlike_equals is_name w equals_is_none.0 h.0
 no_equals n rs w (operands.Variable v) h = unlike_equals is_number w equals_is_none.1 h.0.0
+no_equals n rs w (operands.NewVariable v) h = unlike_equals is_number w equals_is_none.1 h.0.0
 no_equals n rs w (operands.Bit b) h = ap (λ t. bytes_eq t (codes "=")) h ∙ bits_no_equals (b ∷ [])
 no_equals n rs w (operands.Bits bs) h = ap (λ t. bytes_eq t (codes "=")) h.0 ∙ bits_no_equals bs
 
@@ -201,16 +209,16 @@ spells_well n rs words act (assigns command os) known h =
     ap (λ ws. fault_in n rs (option_map (λ known. known.1) (command_of ws))) h.2
     ∙ ap (λ o. fault_in n rs (option_map (λ known. known.1) o))
     (command_is assigning ((places.Fresh, h.0) ∷ []) command h.1 known.own (slots_for os h.1) known.found (filled_by n rs known.own.places known.own.repeated h.1 os h.4 known.follows))
-    ∙ fits_all n rs ((places.Fresh, h.0) ∷ slots_for os h.1) (fresh_fits n rs h.0 h.3, operands_fit n rs (slots_for os h.1) os (are_operands n rs h.1 os h.4))
+    ∙ fits_all n rs ((places.Fresh, h.0) ∷ slots_for os h.1) (operands.Target ∷ os) ((refl, h.3), are_operands n rs h.1 os h.4) (refl, known.new)
 spells_well n rs words act (tells command os) known h =
     ap (λ ws. fault_in n rs (option_map (λ known. known.1) (command_of ws))) h.1
     ∙ ap (λ o. fault_in n rs (option_map (λ known. known.1) o))
     (telling_is command h.0 (no_assignment n rs command h.0 os h.2)
     ∙ command_is telling [] command h.0 known.0.own (slots_for os h.0) known.0.found (filled_by n rs known.0.own.places known.0.own.repeated h.0 os h.2 known.0.follows))
-    ∙ fits_all n rs (slots_for os h.0) (operands_fit n rs (slots_for os h.0) os (are_operands n rs h.0 os h.2))
+    ∙ fits_all n rs (slots_for os h.0) os (are_operands n rs h.0 os h.2) known.0.new
 
 pub says_well : (n : ℕ) (rs : List Register) (words : List Word) (act : Act) → Says n rs words act → command_fault n rs words ≡ None
-says_well n rs words act h = spells_well n rs words act (spelling act) (known act) h
+says_well n rs words act h = spells_well n rs words act (spelling act) (known act h.1) h.0
 
 -- a command has words, and is no `session`
 one_word : (command : Word) (rest : List Word) → bytes_eq command (codes "session") ≡ false → is_session (command ∷ rest) ≡ false
@@ -223,4 +231,4 @@ spells_words n rs words act (assigns command os) known h = (h.0, codes "=" ∷ c
 spells_words n rs words act (tells command os) known h = (command, h.0, h.1, ap is_session h.1 ∙ one_word command h.0 known.1)
 
 pub says_words : (n : ℕ) (rs : List Register) (words : List Word) (act : Act) → Says n rs words act → (first : Word) × (rest : List Word) × (words ≡ first ∷ rest) × (is_session words ≡ false)
-says_words n rs words act h = spells_words n rs words act (spelling act) (known act) h
+says_words n rs words act h = spells_words n rs words act (spelling act) (known act h.1) h.0

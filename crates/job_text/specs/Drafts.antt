@@ -1,5 +1,6 @@
 -- What the reader keeps from line to line.
-use Rattle.std.specs.Prelude.{◌≡◌, ℕ, ◌+◌, ◌≤◌, List, [], ◌∷◌, ◌++◌, Some, None, length, codes, is_some, unwrap_or, IfSome, false, Option, map, slice_index, slice_index_or}
+use Rattle.std.specs.Prelude.{◌≡◌, ℕ, ◌+◌, ◌==◌, ◌≤◌, Bool, drop, List, [], ◌∷◌, ◌++◌, Some, None, length, codes, is_some, unwrap_or, IfSome, false, Option, map, slice_index, slice_index_or}
+use Rattle.std.specs.List.{list_any, zip}
 use Rattle.job_text.specs.declared.job.Act.{Act}
 use Rattle.job_text.specs.declared.job.Register.{Register}
 use Rattle.job_text.specs.declared.job.Act.TheVariants as acts
@@ -68,6 +69,7 @@ abbrev pub place_of : Operand → Place
 place_of operands.Target = places.Fresh
 place_of (operands.Register a) = places.Held
 place_of (operands.Variable v) = places.Variable
+place_of (operands.NewVariable v) = places.NewVariable
 place_of (operands.Bit b) = places.Bit
 place_of (operands.Bits bits) = places.Bits
 
@@ -89,12 +91,27 @@ abbrev pub with_operand : Operands → Operand → Operands
 with_operand others operands.Target = others
 with_operand others (operands.Register a) = record others { registers = others.registers ++ a ∷ [] }
 with_operand others (operands.Variable v) = record others { variables = others.variables ++ v ∷ [] }
+with_operand others (operands.NewVariable v) = record others { variables = others.variables ++ v ∷ [] }
 with_operand others (operands.Bit b) = record others { bits = others.bits ++ b ∷ [] }
 with_operand others (operands.Bits bits) = record others { bits = bits }
 
 abbrev pub with_operands : Operands → List Operand → Operands
 with_operands others [] = others
 with_operands others (operand ∷ operands) = with_operands (with_operand others operand) operands
+
+-- the operand is a variable that is due to be new, and is one of the others'
+abbrev pub repeats : Operands → Operand → Bool
+repeats others operands.Target = false
+repeats others (operands.Register a) = false
+repeats others (operands.Variable v) = false
+repeats others (operands.NewVariable v) = list_any (λ other. other == v) others.variables
+repeats others (operands.Bit b) = false
+repeats others (operands.Bits bits) = false
+
+-- none of the operands repeats one of the others or of those before it
+abbrev pub AllNew : Operands → List Operand → Type 0
+AllNew others [] = Unit {0}
+AllNew others (operand ∷ operands) = (repeats others operand ≡ false) × AllNew (with_operand others operand) operands
 
 -- what an operation with these operands does
 abbrev pub act_of : Operation → Operands → Act
@@ -110,6 +127,9 @@ act_of does.Cofactor given = acts.Cofactor (slice_index given.registers 0) (slic
 act_of does.Exists given = acts.Exists (slice_index given.registers 0) given.variables
 act_of does.Forall given = acts.Forall (slice_index given.registers 0) given.variables
 act_of does.AndExists given = acts.AndExists (slice_index given.registers 0) (slice_index given.registers 1) given.variables
+act_of does.Compose given = acts.Compose (slice_index given.registers 0) (slice_index given.variables 0) (slice_index given.registers 1)
+act_of does.VectorCompose given = acts.VectorCompose (slice_index given.registers 0) (zip given.variables (drop 1 given.registers))
+act_of does.Restrict given = acts.Restrict (slice_index given.registers 0) (slice_index given.registers 1)
 act_of does.Support given = acts.Support (slice_index given.registers 0)
 act_of does.Drop given = acts.Drop (slice_index given.registers 0)
 act_of does.Same given = acts.Same (slice_index given.registers 0) (slice_index given.registers 1)
@@ -141,7 +161,7 @@ SlotStop n registers slot (stops.Fault fault) = slot_fault n registers slot ≡ 
 -- why words of due form were not taken at their places
 abbrev pub SlotsStop : ℕ → List Register → List (Place × Word) → Stop → Type 0
 SlotsStop n registers slots stops.Memory = Unit {0}
-SlotsStop n registers slots (stops.Fault fault) = first_fault n registers slots ≡ Some fault
+SlotsStop n registers slots (stops.Fault fault) = first_fault n registers [] slots ≡ Some fault
 
 -- why these words were not taken as a command
 abbrev pub CommandStop : ℕ → List Register → List Word → Stop → Type 0

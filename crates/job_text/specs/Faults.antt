@@ -7,7 +7,7 @@ use Rattle.std.specs.Str.Parse.{digits_value}
 use Rattle.job_text.specs.declared.commands.Operation.{Operation}
 use Rattle.job_text.specs.declared.commands.Operation.TheVariants as does
 use Rattle.job_text.specs.declared.commands.Place.{Place}
-use Rattle.job_text.specs.declared.commands.Place.TheVariants.{Fresh, Held, Variable, Bit, Bits}
+use Rattle.job_text.specs.declared.commands.Place.TheVariants.{Fresh, Held, Variable, NewVariable, Bit, Bits}
 use Rattle.job_text.specs.declared.faults.FaultKind.{FaultKind}
 use Rattle.job_text.specs.declared.faults.FaultKind.TheVariants as kinds
 use Rattle.job_text.specs.declared.faults.JobError.{JobError}
@@ -42,6 +42,9 @@ assigning =
     ∷ form (codes "exists") does.Exists (Held ∷ []) (Variable ∷ [])
     ∷ form (codes "forall") does.Forall (Held ∷ []) (Variable ∷ [])
     ∷ form (codes "andexists") does.AndExists (Held ∷ Held ∷ []) (Variable ∷ [])
+    ∷ form (codes "compose") does.Compose (Held ∷ Variable ∷ Held ∷ []) []
+    ∷ form (codes "vcompose") does.VectorCompose (Held ∷ NewVariable ∷ Held ∷ []) (NewVariable ∷ Held ∷ [])
+    ∷ form (codes "restrict") does.Restrict (Held ∷ Held ∷ []) []
     ∷ form (codes "support") does.Support (Held ∷ []) []
     ∷ []
 
@@ -104,14 +107,16 @@ abbrev pub has_form : Place × Word → Bool
 has_form (Fresh, word) = is_name word
 has_form (Held, word) = is_name word
 has_form (Variable, word) = is_number word
+has_form (NewVariable, word) = is_number word
 has_form (Bit, word) = is_bit word
 has_form (Bits, word) = is_bits word
 
--- the fault of a word of due form, over n variables and these registers
+-- the fault of a word of due form, over n variables and these registers, whatever stands beside it
 abbrev pub slot_fault : ℕ → List Register → Place × Word → Option FaultKind
 slot_fault n registers (Fresh, word) = if list_any (λ register. bytes_eq register.name word) registers then Some kinds.Again else None
 slot_fault n registers (Held, word) = if list_any (λ register. bytes_eq register.name word && register.live) registers then None else Some kinds.Name
 slot_fault n registers (Variable, word) = if nat_lt (digits_value 10 word) n then None else Some kinds.Range
+slot_fault n registers (NewVariable, word) = if nat_lt (digits_value 10 word) n then None else Some kinds.Range
 slot_fault n registers (Bit, word) = None
 slot_fault n registers (Bits, word) = if bits_in word == n then None else Some kinds.Range
 
@@ -119,15 +124,37 @@ abbrev pub or_else : Option FaultKind → Option FaultKind → Option FaultKind
 or_else None later = later
 or_else (Some fault) later = Some fault
 
--- the first fault from the left
-abbrev pub first_fault : ℕ → List Register → List (Place × Word) → Option FaultKind
-first_fault n registers [] = None
-first_fault n registers (slot ∷ slots) = or_else (slot_fault n registers slot) (first_fault n registers slots)
+-- the fault of a word where a new variable is due, if it names one of these
+abbrev pub twice_fault : List ℕ → Place × Word → Option FaultKind
+twice_fault named (Fresh, word) = None
+twice_fault named (Held, word) = None
+twice_fault named (Variable, word) = None
+twice_fault named (NewVariable, word) = if list_any (λ v. v == digits_value 10 word) named then Some kinds.Range else None
+twice_fault named (Bit, word) = None
+twice_fault named (Bits, word) = None
+
+-- the fault of a word of due form, where the words to its left name these variables
+abbrev pub word_fault : ℕ → List Register → List ℕ → Place × Word → Option FaultKind
+word_fault n registers named slot = or_else (slot_fault n registers slot) (twice_fault named slot)
+
+-- the variables that are named up to this word
+abbrev pub named_after : List ℕ → Place × Word → List ℕ
+named_after named (Fresh, word) = named
+named_after named (Held, word) = named
+named_after named (Variable, word) = named ++ digits_value 10 word ∷ []
+named_after named (NewVariable, word) = named ++ digits_value 10 word ∷ []
+named_after named (Bit, word) = named
+named_after named (Bits, word) = named
+
+-- the first fault from the left, where the words before these name these variables
+abbrev pub first_fault : ℕ → List Register → List ℕ → List (Place × Word) → Option FaultKind
+first_fault n registers named [] = None
+first_fault n registers named (slot ∷ slots) = or_else (word_fault n registers named slot) (first_fault n registers (named_after named slot) slots)
 
 -- what is wrong with the form comes before all else
 abbrev pub fault_in : ℕ → List Register → Option (List (Place × Word)) → Option FaultKind
 fault_in n registers None = Some kinds.Word
-fault_in n registers (Some slots) = if list_all has_form slots then first_fault n registers slots else Some kinds.Word
+fault_in n registers (Some slots) = if list_all has_form slots then first_fault n registers [] slots else Some kinds.Word
 
 -- the fault of a command of these words
 unfoldable pub command_fault : ℕ → List Register → List Word → Option FaultKind

@@ -2,8 +2,9 @@
 use Rattle.std.specs.Prelude.{◌≡◌, ◌≢◌, ℕ, ◌<◌, ◌≤◌, ◌==◌, Bool, true, false, not, List, [], ◌∷◌, ◌++◌, Some, All, length, map, filter, drop, ◌&&◌, slice_get, codes, ◌+◌, ◌⊎◌, if◌then◌else◌}
 use Rattle.std.specs.List.{list_all, flat_map}
 use Rattle.std.specs.Str.{bytes_eq}
+use Rattle.function_laws.specs.Steps.{are_distinct}
 use Rattle.job_text.specs.declared.job.Act.{Act}
-use Rattle.job_text.specs.declared.job.Act.TheVariants.{One, Zero, Var, Not, And, Or, Xor, Ite, Cofactor, Exists, Forall, AndExists, Support, Drop, Same, Leq, Eval}
+use Rattle.job_text.specs.declared.job.Act.TheVariants.{One, Zero, Var, Not, And, Or, Xor, Ite, Cofactor, Exists, Forall, AndExists, Compose, VectorCompose, Restrict, Support, Drop, Same, Leq, Eval}
 use Rattle.job_text.specs.declared.job.Command.{Command}
 use Rattle.job_text.specs.declared.job.Job.{Job}
 use Rattle.job_text.specs.declared.job.Register.{Register}
@@ -24,6 +25,7 @@ abbrev pub StandsFor : ℕ → List Register → Word → Operand → Type 0
 StandsFor n registers word operands.Target = IsFresh registers word
 StandsFor n registers word (operands.Register a) = Refers registers word a
 StandsFor n registers word (operands.Variable v) = IsNumber word v × (v < n)
+StandsFor n registers word (operands.NewVariable v) = IsNumber word v × (v < n)
 StandsFor n registers word (operands.Bit b) = word ≡ bit_word (b ∷ [])
 StandsFor n registers word (operands.Bits bits) = (word ≡ bit_word bits) × (length bits ≡ n)
 
@@ -38,6 +40,10 @@ pub data Spelling : Type 0 where
   assigns : Word → List Operand → Spelling
   tells : Word → List Operand → Spelling
 
+-- a variable, and the register that is put for it
+abbrev pub pair_operands : ℕ × ℕ → List Operand
+pair_operands pair = operands.NewVariable pair.0 ∷ operands.Register pair.1 ∷ []
+
 abbrev pub spelling : Act → Spelling
 spelling One = assigns (codes "true") []
 spelling Zero = assigns (codes "false") []
@@ -51,6 +57,9 @@ spelling (Cofactor a v b) = assigns (codes "cofactor") (operands.Register a ∷ 
 spelling (Exists a vs) = assigns (codes "exists") (operands.Register a ∷ map operands.Variable vs)
 spelling (Forall a vs) = assigns (codes "forall") (operands.Register a ∷ map operands.Variable vs)
 spelling (AndExists a b vs) = assigns (codes "andexists") (operands.Register a ∷ operands.Register b ∷ map operands.Variable vs)
+spelling (Compose a v b) = assigns (codes "compose") (operands.Register a ∷ operands.Variable v ∷ operands.Register b ∷ [])
+spelling (VectorCompose a pairs) = assigns (codes "vcompose") (operands.Register a ∷ flat_map pair_operands pairs)
+spelling (Restrict a b) = assigns (codes "restrict") (operands.Register a ∷ operands.Register b ∷ [])
 spelling (Support a) = assigns (codes "support") (operands.Register a ∷ [])
 spelling (Drop a) = tells (codes "drop") (operands.Register a ∷ [])
 spelling (Same a b) = tells (codes "same") (operands.Register a ∷ operands.Register b ∷ [])
@@ -63,9 +72,14 @@ Spells n registers words (assigns command operands) =
     (r : Word) × (rest : List Word) × (words ≡ r ∷ codes "=" ∷ command ∷ rest) × IsFresh registers r × AllStandFor n registers rest operands
 Spells n registers words (tells command operands) = (rest : List Word) × (words ≡ command ∷ rest) × AllStandFor n registers rest operands
 
+-- `vcompose` has a pair at least, and no variable in two of them
+abbrev pub IsProper : Act → Type 0
+IsProper (VectorCompose a pairs) = (0 < length pairs) × (are_distinct (map (λ pair. pair.0) pairs) ≡ true)
+IsProper _ = Unit {0}
+
 -- The words say this, where n variables and these registers are there.
 abbrev pub Says : ℕ → List Register → List Word → Act → Type 0
-Says n registers words act = Spells n registers words (spelling act)
+Says n registers words act = Spells n registers words (spelling act) × IsProper act
 
 -- the name that a command assigns
 abbrev pub target_of : List Word → Word

@@ -13,7 +13,7 @@ use Rattle.function_laws.specs.Histories.{IsLegal}
 use Rattle.job_text.specs.declared.history_line.Reply.{Reply}
 use Rattle.job_text.specs.declared.history_line.Reply.TheVariants as reply
 use Rattle.job_text.specs.declared.job.Act.{Act}
-use Rattle.job_text.specs.declared.job.Act.TheVariants.{One, Zero, Var, Not, And, Or, Xor, Ite, Cofactor, Exists, Forall, AndExists, Support, Drop, Same, Leq, Eval}
+use Rattle.job_text.specs.declared.job.Act.TheVariants.{One, Zero, Var, Not, And, Or, Xor, Ite, Cofactor, Exists, Forall, AndExists, Compose, VectorCompose, Restrict, Support, Drop, Same, Leq, Eval}
 use Rattle.job_text.specs.declared.job.Command.{Command}
 use Rattle.job_text.specs.declared.job.Job.{Job}
 use Rattle.job_text.specs.Text.{Word}
@@ -98,6 +98,12 @@ registers_of lines = filter_map held_by lines
 abbrev pub IsNamed : List Held → ℕ → Name → Type 0
 IsNamed registers a name = (word : Word) × (slice_get registers a ≡ Some (record { word = word; name = name }))
 
+-- each pair of a variable and a register, and the same variable with the register's name
+abbrev pub AreNamed : List Held → List (ℕ × ℕ) → List (ℕ × Name) → Type 0
+AreNamed registers [] [] = Unit {0}
+AreNamed registers (pair ∷ pairs) (named ∷ others) = (pair.0 ≡ named.0) × IsNamed registers pair.1 named.1 × AreNamed registers pairs others
+AreNamed registers _ _ = ⊥
+
 -- what a command calls, by the registers
 abbrev pub Calls : List Held → Act → Call → Type 0
 Calls registers One call = call ≡ calls.One
@@ -112,6 +118,9 @@ Calls registers (Cofactor a v b) call = (x : Name) × IsNamed registers a x × (
 Calls registers (Exists a vs) call = (x : Name) × IsNamed registers a x × (call ≡ calls.Exists x vs)
 Calls registers (Forall a vs) call = (x : Name) × IsNamed registers a x × (call ≡ calls.Forall x vs)
 Calls registers (AndExists a b vs) call = (x y : Name) × IsNamed registers a x × IsNamed registers b y × (call ≡ calls.AndExists x y vs)
+Calls registers (Compose a v b) call = (x y : Name) × IsNamed registers a x × IsNamed registers b y × (call ≡ calls.Compose x v y)
+Calls registers (VectorCompose a pairs) call = (x : Name) × (named : List (ℕ × Name)) × IsNamed registers a x × AreNamed registers pairs named × (call ≡ calls.VectorCompose x named)
+Calls registers (Restrict a b) call = (x y : Name) × IsNamed registers a x × IsNamed registers b y × (call ≡ calls.Restrict x y)
 Calls registers (Support a) call = (x : Name) × IsNamed registers a x × (call ≡ calls.Support x)
 Calls registers (Drop a) call = (x : Name) × IsNamed registers a x × (call ≡ calls.DropRow x)
 Calls registers (Same a b) call = (x y : Name) × IsNamed registers a x × IsNamed registers b y × (call ≡ calls.Same x y)

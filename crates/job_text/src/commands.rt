@@ -19,6 +19,9 @@ pub enum Operation {
     Exists,
     Forall,
     AndExists,
+    Compose,
+    VectorCompose,
+    Restrict,
     Support,
     Drop,
     Same,
@@ -35,6 +38,8 @@ pub enum Place {
     Held,
     /// The number of a variable.
     Variable,
+    /// The number of a variable that no word to its left names.
+    NewVariable,
     /// `0` or `1`.
     Bit,
     /// A bit for each variable.
@@ -51,7 +56,7 @@ pub struct Known {
 }
 
 /// The commands that assign, by the word behind `r =`.
-const ASSIGNING: [Known; 13] = [
+const ASSIGNING: [Known; 16] = [
     Known {
         word: b"true",
         operation: Operation::One,
@@ -123,6 +128,24 @@ const ASSIGNING: [Known; 13] = [
         operation: Operation::AndExists,
         places: &[Place::Held, Place::Held],
         repeated: &[Place::Variable],
+    },
+    Known {
+        word: b"compose",
+        operation: Operation::Compose,
+        places: &[Place::Held, Place::Variable, Place::Held],
+        repeated: &[],
+    },
+    Known {
+        word: b"vcompose",
+        operation: Operation::VectorCompose,
+        places: &[Place::Held, Place::NewVariable, Place::Held],
+        repeated: &[Place::NewVariable, Place::Held],
+    },
+    Known {
+        word: b"restrict",
+        operation: Operation::Restrict,
+        places: &[Place::Held, Place::Held],
+        repeated: &[],
     },
     Known {
         word: b"support",

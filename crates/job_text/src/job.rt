@@ -27,6 +27,12 @@ pub enum Act {
     Forall(u32, List<u32>),
     /// `r = andexists A B V..`: where the conjunction of two registers holds for some values of the variables.
     AndExists(u32, u32, List<u32>),
+    /// `r = compose A V B`: the first register with the second put for the variable.
+    Compose(u32, u32, u32),
+    /// `r = vcompose A V B V B ..`: the register with each register of a pair put for the variable of the pair, all at once.
+    VectorCompose(u32, List<(u32, u32)>),
+    /// `r = restrict A B`: a function that agrees with the first register where the second holds.
+    Restrict(u32, u32),
     /// `r = support A`: the product of the variables on which the register depends.
     Support(u32),
     /// `drop A`: the register is let go.

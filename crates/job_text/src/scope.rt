@@ -5,7 +5,7 @@ ghost use Rattle.std.specs.List.{list_all};
 ghost use Rattle.job_text.specs.Text.{is_name, is_number};
 ghost use Rattle.job_text.specs.Grammar.{Says};
 ghost use Rattle.job_text.specs.Faults.{has_form, is_bit, is_bits};
-ghost use Rattle.job_text.specs.Drafts.{IsOperand, AreOperands, with_operands, no_operands, slot_of, SlotStop, SlotsStop, CommandStop};
+ghost use Rattle.job_text.specs.Drafts.{IsOperand, AreOperands, AllNew, with_operands, no_operands, slot_of, SlotStop, SlotsStop, CommandStop};
 ghost use Rattle.job_text.specs.declared.commands.Place.TheVariants as places;
 ghost use Rattle.job_text.specs.declared.operands.Operand.{Operand as OperandOf};
 
@@ -54,16 +54,18 @@ impl Scope {
         Ok(Operand::Register(a))
     }
 
-    /// A variable.
-    fn variable(&self, word: &[u8]) -> Result<Operand, Stop>
+    /// The number of a variable.
+    fn variable(&self, word: &[u8]) -> Result<u32, Stop>
         requires number { is_number word.now ≡ true }
         requires few { self.now.vars ≤ 1024 }
-        ensures ok { IfOk result (λ operand. IsOperand self.now.vars self.now.registers (places.Variable, word.now) operand) }
+        ensures ok { IfOk result (λ v. IsOperand self.now.vars self.now.registers (places.Variable, word.now) (Operand.Variable v)) }
+        ensures ok_new { IfOk result (λ v. IsOperand self.now.vars self.now.registers (places.NewVariable, word.now) (Operand.NewVariable v)) }
         ensures stop { IfErr result (λ stop. SlotStop self.now.vars self.now.registers (places.Variable, word.now) stop) }
+        ensures stop_new { IfErr result (λ stop. SlotStop self.now.vars self.now.registers (places.NewVariable, word.now) stop) }
     {
         let v = number_value(word);
         if v < self.vars {
-            Ok(Operand::Variable(v))
+            Ok(v)
         } else {
             Err(Stop::Fault(FaultKind::Range))
         }
@@ -93,7 +95,8 @@ impl Scope {
         match slot.place {
             Place::Fresh => self.target(slot.word),
             Place::Held => self.register(slot.word),
-            Place::Variable => self.variable(slot.word),
+            Place::Variable => Ok(Operand::Variable(self.variable(slot.word)?)),
+            Place::NewVariable => Ok(Operand::NewVariable(self.variable(slot.word)?)),
             Place::Bit => Ok(Operand::Bit(slot.word == b"1".as_slice())),
             Place::Bits => self.bits(alloc, slot.word),
         }
@@ -104,12 +107,16 @@ impl Scope {
         requires forms { list_all has_form (map slot_of slots.now) ≡ true }
         requires vars { self.now.vars ≤ 1024 }
         requires registers { length self.now.registers < 2 ^ 32 }
-        ensures ok { IfOk result (λ operands. (each : ListOf OperandOf) × AreOperands self.now.vars self.now.registers (map slot_of slots.now) each × (operands ≡ with_operands no_operands each)) }
+        ensures ok { IfOk result (λ operands. (each : ListOf OperandOf) × AreOperands self.now.vars self.now.registers (map slot_of slots.now) each × AllNew no_operands each × (operands ≡ with_operands no_operands each)) }
         ensures stop { IfErr result (λ stop. SlotsStop self.now.vars self.now.registers (map slot_of slots.now) stop) }
     {
         let mut operands = Operands::new(alloc);
         for slot in slots {
-            operands = operands.with(self.operand(alloc, slot)?)?;
+            let operand = self.operand(alloc, slot)?;
+            if operands.repeats(&operand) {
+                return Err(Stop::Fault(FaultKind::Range));
+            }
+            operands = operands.with(operand)?;
         }
         Ok(operands)
     }
@@ -129,6 +136,6 @@ impl Scope {
             return Err(Stop::Fault(FaultKind::Word));
         }
         let operands = self.operands(alloc, &line.slots)?;
-        Ok(operands.act(line.operation))
+        Ok(operands.act(alloc, line.operation)?)
     }
 }

@@ -32,7 +32,7 @@ impl Slot<'_> {
     {
         match self.place {
             Place::Fresh | Place::Held => is_name(self.word),
-            Place::Variable => is_number(self.word),
+            Place::Variable | Place::NewVariable => is_number(self.word),
             Place::Bit => is_bit(self.word),
             Place::Bits => is_bits(self.word),
         }

@@ -35,5 +35,5 @@ returns-clause-ok c =
     let rs = c.args.self.now.registers in
     let each = c.in_ok-operands.ensures.ok in
     let items = subst (λ (t : List _). AreOperands n rs (map slot_of t) each.0) c.deref-2.ensures.value each.1 in
-    subst (λ (act : Act). Says n rs c.args.words.now act) (sym (c.act.ensures ∙ ap (act_of c.in-Some.line.operation) each.2))
-    (says_from n rs c.args.words.now c.in-Some.line.operation (map slot_of c.in-Some.line.slots.items) each.0 (sym c.in_ok-line.ensures ∙ ap (option_map line_of) c.in-Some.is) items)
+    subst (λ (act : Act). Says n rs c.args.words.now act) (sym (c.in_ok-act.ensures ∙ ap (act_of c.in-Some.line.operation) each.3))
+    (says_from n rs c.args.words.now c.in-Some.line.operation (map slot_of c.in-Some.line.slots.items) each.0 (sym c.in_ok-line.ensures ∙ ap (option_map line_of) c.in-Some.is) items each.2)
