@@ -89,7 +89,7 @@ regular_is w e r same d = rw same (by_complement e.index e.complement d)
     by_complement i true d = Is-from Bdd (Denotes-flip d)
     by_complement i false d = d
 
-regular_flipped : (w : View) (e r : Edge) → r ≡ record { index = e.index; complement = false } → Is Bdd w e → IsFlipped Bdd e.complement (bdd_at w e) (bdd_at w r)
+pub regular_flipped : (w : View) (e r : Edge) → r ≡ record { index = e.index; complement = false } → Is Bdd w e → IsFlipped Bdd e.complement (bdd_at w e) (bdd_at w r)
 regular_flipped w e r same d = rw same (by_complement e.index e.complement d)
   where
     by_complement : (i : ℕ) (c : Bool) → Is Bdd w (record { index = i; complement = c }) → IsFlipped Bdd c (bdd_at w (record { index = i; complement = c })) (bdd_at w (record { index = i; complement = false }))

@@ -3,3 +3,4 @@ pub mod ProductLaws
 pub mod QuantifiedLaws
 pub mod OperationLaws
 pub mod SupportLaws
+pub mod LiftLaws

@@ -4,3 +4,5 @@ pub mod Quantified
 pub mod QuantifiedLasts
 pub mod Supports
 pub mod SupportLasts
+pub mod Restricted
+pub mod RestrictedLasts

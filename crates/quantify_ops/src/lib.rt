@@ -7,5 +7,6 @@ pub mod nested;
 mod operations;
 mod products;
 mod quantification;
+mod restriction;
 
-pub use operations::{and_exists, exists, forall, support};
+pub use operations::{and_exists, exists, forall, restrict, support};

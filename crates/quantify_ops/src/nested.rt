@@ -7,9 +7,11 @@ ghost use Rattle.node_store.specs.Views.{AreTwo, Denotes, Grown, Is, Permanent, 
 ghost use Rattle.node_store.specs.Work.{Adds, IsWork};
 ghost use Rattle.quantify_ops.specs.Products.{IsProduct};
 ghost use Rattle.quantify_ops.specs.Works.{value_of_and_exists, value_of_exists, value_of_forall, value_of_support};
+ghost use Rattle.quantify_ops.specs.Restricted.{Restricted, work_of_restrict};
 
 use crate::dependence::Dependence;
 use crate::quantification::Quantification;
+use crate::restriction::{Restriction, is_false};
 use edge_bits::Edge;
 use node_store::binary::{Binary, flip_if};
 use node_store::evaluate::evaluate;
@@ -107,6 +109,32 @@ pub fn support<G: Grow>(store: &mut G, stack: &mut Stack, f: Edge) -> Result<Edg
     ensures known { stack.new.answers ≡ stack.old.answers }
 {
     match evaluate(store, stack, &Binary(Dependence { f }), Task::two(f, f)) {
+        Ok(edge) => Ok(edge),
+        Err(Halt::Memory) => Err(Stop::Memory),
+        Err(Halt::Full) => Err(Stop::Full),
+        Err(Halt::Overflow) => unreachable!(),
+    }
+}
+
+/// A function that is the same where a condition holds and simpler beyond it.
+pub fn restrict<G: Grow>(store: &mut G, stack: &mut Stack, f: Edge, c: Edge) -> Result<Edge, Stop>
+    requires operands { AreTwo Bdd (G.view store.old) f c }
+    requires permanent { Permanent (G.view store.old) }
+    requires room { 2 * (G.view store.old).vars ≤ stack.old.free }
+    ensures grown { Grown (G.view store.old) (G.view store.new) }
+    ensures restrict { IfOk result (λ e. Restricted (G.view store.old) (G.view store.new) f c e) }
+    ensures work { Adds (work_of_restrict f c (G.view store.old)) (G.view store.old) (G.view store.new) }
+    ensures memory { IsErrOf result Stop.Memory → (G.view store.old).may_want_memory ≡ true }
+    ensures full { IsErrOf result Stop.Full → Rose (G.view store.old) (G.view store.new) }
+    ensures due { IsErrOf result Stop.Full → IsWork (G.view store.new) (work_of_restrict f c (G.view store.old)) (G.view store.new).due }
+    ensures frames { stack.new.frames ≡ stack.old.frames }
+    ensures free { stack.new.free ≡ stack.old.free }
+    ensures known { stack.new.answers ≡ stack.old.answers }
+{
+    if is_false(store, c) {
+        return Ok(Edge::new(0, true));
+    }
+    match evaluate(store, stack, &Restriction { f, c }, Task::two(f, c)) {
         Ok(edge) => Ok(edge),
         Err(Halt::Memory) => Err(Stop::Memory),
         Err(Halt::Full) => Err(Stop::Full),
