@@ -4,3 +4,4 @@ pub mod QuantifiedLaws
 pub mod OperationLaws
 pub mod SupportLaws
 pub mod LiftLaws
+pub mod RestrictLaws

@@ -222,7 +222,8 @@ fn known(f: Edge, condition: Edge) -> Option<Edge>
         return Some(f);
     }
     if condition.index == f.index {
-        return Some(Edge::new(0, condition.complement != f.complement));
+        let one = Edge::new(0, f.complement);
+        return Some(flip_if(one, condition.complement));
     }
     None
 }
