@@ -133,10 +133,14 @@ module _ (f c : Edge) (v w : View) (d hi lo : Edge) (x : ℕ) (roots : AreTwo Bd
 pub ServesAbove-grown : (v w : View) (level : ℕ) (d c : Edge) → Grown v w → Is Bdd v d → Is Bdd v c → ServesAbove v level (bdd_at v d) (bdd_at v c) → ServesAbove w level (bdd_at w d) (bdd_at w c)
 ServesAbove-grown v w level d c m dd dc serves = rw (values_at-grown Bdd m dd, values_at-grown Bdd m dc) (λ a r free p. serves a r (IsFreeAbove-back level a m free) p)
 
+pub IsLifted-grown : (c : Edge) (v w : View) (start d : Edge) (level : ℕ) → Grown v w → Is Bdd v c → Is Bdd v start → IsLifted c v start d level → IsLifted c w start d level
+IsLifted-grown c v w start d level m root is l = record {
+  now = IsCondition-grown c v w d m root l.now;
+  above = let top = top-grown Bdd m l.now.edge in let above = l.above in omega arith;
+  serves = ServesAbove-grown v w level d start m l.now.edge is l.serves;
+}
+
 pub lifted_end : (c : Edge) (v w : View) (start d hi lo : Edge) (level x : ℕ) → Grown v w → Is Bdd v c → Is Bdd v start → IsCondition c v d → IsInner Bdd v d (bdd_at v d) x hi lo → level ≤ v.level x
     → ServesAbove v level (bdd_at v d) (bdd_at v start) → IsLifted c w start d level
-lifted_end c v w start d hi lo level x m root is i o le serves = record {
-  now = IsCondition-grown c v w d m root i;
-  above = let top = top-grown Bdd m i.edge in let here = o.here in omega arith;
-  serves = ServesAbove-grown v w level d start m i.edge is serves;
-}
+lifted_end c v w start d hi lo level x m root is i o le serves =
+    IsLifted-grown c v w start d level m root is (record { now = i; above = let here = o.here in omega arith; serves = serves })

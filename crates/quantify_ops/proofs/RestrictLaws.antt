@@ -12,10 +12,10 @@ use Rattle.function_laws.proofs.ValueLemmas.{everywhere}
 use Rattle.node_store.specs.Edges.{flip_if}
 use Rattle.node_store.specs.Kinds.{Function, BddFunction}
 use Rattle.node_store.specs.Memo.{MemoHolds}
-use Rattle.node_store.specs.Splits.{Leads, Waiting}
+use Rattle.node_store.specs.Splits.{AtSecond, Leads, WaitIs, Waiting}
 use Rattle.node_store.specs.Three.{complement_of, IsFlipped, IsPartOrComplement}
 use Rattle.node_store.specs.Views.{View, AreTwo, CanMake, CanPart, Denotes, Grown, Is, IsInner, IsKey, IsLeaf, IsLeafOf, IsVariable, PartsAt, Permanent, bdd_at, logic_one, logic_zero, node_values, truth_edge}
-use Rattle.node_store.specs.ViewLaws.{Grown-refl, Grown-trans, Denotes-flip, Denotes-truth, Is-from, Is-grown, Permanent-grown, values_at-is, values_at-grown}
+use Rattle.node_store.specs.ViewLaws.{Grown-refl, Grown-trans, Denotes-flip, Denotes-truth, Is-from, Is-grown, IsBelow-inner, Permanent-grown, level-grown, values_at-is, values_at-grown}
 use Rattle.node_store.specs.Work.{whole, IsPart, IsWork, Adds, Moves}
 use Rattle.node_store.specs.WorkLaws.{IsPart-back, IsPart-half, IsWork-due, IsWork-grown, Moves-made}
 use Rattle.node_store.specs.declared.operator.Frame.{Frame}
@@ -144,6 +144,33 @@ lifted_due f c w root t level due regular lifted = record {
   condition = lifted.now;
 }
 
+-- from the opened function of a task and its lifted condition
+module _ (f c : Edge) (v w1 w : View) (root t : Task) (r d hi lo : Edge) (level x : ℕ) (due : RestrictDue f c v root) (regular : r ≡ record { index = root.f.index; complement = false }) (m1 : Grown v w1)
+    (i : IsInner Bdd w1 r (bdd_at v r) x hi lo) (m2 : Grown w1 w) (lifted : IsLifted c w root.g d level) (is_level : level ≡ w1.level x) (tf : t.f ≡ r) (tg : t.g ≡ d) where
+  root_later : RestrictDue f c w root
+  root_later = RestrictDue-stays f c v w root (Grown-trans m1 m2) due
+
+  inner_later : IsInner Bdd w t.f (bdd_at w t.f) x hi lo
+  inner_later =
+      let is = regular_is v root.f r regular due.edge in
+      rw tf (IsInner-grown w1 w r hi lo x m2 (Is-grown Bdd m1 is) (subst (λ g. IsInner Bdd w1 r g x hi lo) (sym (values_at-grown Bdd m1 is)) i))
+
+  lifted_task : IsLifted c w root.g t.g level
+  lifted_task = rw tg lifted
+
+  level_is : level ≡ w.level x
+  level_is = is_level ∙ sym (level-grown m2 x)
+
+  pub start_leads : LeadsLevel w root root.f.complement t
+  start_leads = lifted_leads f c w root t level root_later (tf ∙ regular) lifted_task (λ u un lt.
+      let higher : w.level u < w.level x = (let is = level_is in omega arith) in IsBelow-inner Bdd u inner_later higher u un (omega arith))
+
+  pub start_due : RestrictDue f c w t
+  start_due = lifted_due f c w root t level root_later (tf ∙ regular) lifted_task
+
+  pub start_branch : CanBranch f c w t x hi lo
+  start_branch = record { due = start_due; inner = inner_later; above = let is = level_is in let above = lifted_task.above in omega arith }
+
 -- the branches of a task
 module _ (f c : Edge) (w : View) (t hi lo : Task) (x : ℕ) (due : RestrictDue f c w t) (s : RestrictParts w t x hi lo) where
   free_f : (b : Bool) → IsFree (cond b (bdd_at w hi.f) (bdd_at w lo.f)) x
@@ -248,6 +275,11 @@ pub second_waits : (f c : Edge) (w : View) (root : Task) (frame : Frame) (child 
     → Waiting (RestrictDue f c) RestrictAnswers (λ w t. ⊥) RestrictSplits one_depth w root frame child
 second_waits f c w root frame child hi is (inl q) = let bad : Only ≡ Second hi = sym q.only ∙ is in cc
 second_waits f c w root frame child hi is (inr q) = q
+
+pub second_parts : (f c : Edge) (w : View) (root : Task) (frame : Frame) (child : Task) (hi : Edge) → frame.wait ≡ Second hi → RestrictWaits f c w root frame child
+    → (hi_task : Task) × AtSecond (RestrictDue f c) RestrictAnswers RestrictSplits w frame hi child hi_task
+second_parts f c w root frame child hi is q =
+    subst (λ s. WaitIs (RestrictDue f c) RestrictAnswers RestrictSplits one_depth w root frame child s) is (second_waits f c w root frame child hi is q).wait
 
 -- the branch that is asked for first
 module _ (f c : Edge) (v w : View) (root t a b : Task) (x : ℕ) (flip : Bool) (hi lo c1 c0 : Edge) (m : Grown v w) (can : CanBranch f c v t x hi lo) (split : PartsAt Bdd w t.g (bdd_at v t.g) x c1 c0)
