@@ -1,5 +1,5 @@
 -- The condition of a restriction, with the variables above a level quantified one by one.
-use Rattle.std.proofs.Common.{◌≡◌, ◌≢◌, ℕ, ◌<◌, ◌≤◌, Bool, true, false, ◌||◌, List, [], ◌∷◌, ◌++◌, Option, ◌⊎◌, inl, inr, refl, sym, ap, ap₂, ◌∙◌, subst, arith}
+use Rattle.std.proofs.Common.{◌≡◌, ◌≢◌, ℕ, ◌<◌, ◌≤◌, Bool, true, false, ◌||◌, List, [], ◌∷◌, ◌++◌, Option, inl, inr, sym, ap, ap₂, ◌∙◌, subst, arith}
 use Rattle.std.proofs.lemmas.Bool.{cases_eq, cases_lt}
 use Rattle.edge_bits.specs.declared.edges.Edge.{Edge}
 use Rattle.edge_bits.specs.declared.edges.Kind.TheVariants.{Bdd}
@@ -10,7 +10,7 @@ use Rattle.function_laws.proofs.ExistsLemmas.{exists_all-push}
 use Rattle.function_laws.proofs.RestrictionLaws.{IsFree-exists_other, IsFree-exists_own, IsRestriction-lifted, nowhere-exists}
 use Rattle.function_laws.proofs.ValueLemmas.{everywhere, cofactor_comm, exists-choice_same, IsFree-cofactor, IsFree-cofactor_other, IsFree-place}
 use Rattle.node_store.specs.Kinds.{Function, BddFunction}
-use Rattle.node_store.specs.Views.{View, AreTwo, Denotes, Grown, Is, IsInner, IsVariable, Kept, Opens, bdd_at}
+use Rattle.node_store.specs.Views.{View, AreTwo, Denotes, Grown, Is, IsInner, Kept, Opens, bdd_at}
 use Rattle.node_store.specs.ViewLaws.{Grown-refl, Grown-trans, Is-from, Splits-grown, IsVariable-back, IsVariable-grown, level-grown, top-grown, values_at-is, values_at-grown}
 use Rattle.node_store.specs.TwoLaws.{AreTwo-grown}
 use Rattle.node_store.specs.Work.{whole, cut, IsPart, IsWork, Adds, Moves}

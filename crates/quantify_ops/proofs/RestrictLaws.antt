@@ -1,10 +1,10 @@
 -- A restriction, step by step.
-use Rattle.std.proofs.Common.{◌≡◌, ◌≢◌, ℕ, ◌-◌, ◌<◌, ◌≤◌, Bool, true, false, not, cond, List, [], ℤ, Option, Some, ◌⊎◌, inl, inr, Result, Ok, Err, IfOk, refl, sym, ap, ◌∙◌, subst, arith}
+use Rattle.std.proofs.Common.{◌≡◌, ℕ, ◌-◌, ◌<◌, Bool, true, false, not, cond, [], ℤ, Option, Some, ◌⊎◌, inl, inr, Result, Ok, Err, IfOk, refl, sym, ap, ◌∙◌, subst, arith}
 use Rattle.edge_bits.specs.declared.edges.Edge.{Edge}
 use Rattle.edge_bits.specs.declared.edges.Kind.TheVariants.{Bdd}
 use Rattle.edge_bits.specs.Assignments.{bit}
 use Rattle.function_laws.specs.Restrictions.{IsNowhere, IsRestriction}
-use Rattle.function_laws.specs.Values.{IsFree, choice, constant, exists_all, negation}
+use Rattle.function_laws.specs.Values.{IsFree, constant, exists_all, negation}
 use Rattle.function_laws.proofs.BoundedRestriction.{Restricts-from}
 use Rattle.function_laws.proofs.CubeLemmas.{by_bit, choice-at}
 use Rattle.function_laws.proofs.RestrictionLaws.{IsRestriction-branch, IsRestriction-choice, IsRestriction-constant, IsRestriction-everywhere, IsRestriction-not, IsRestriction-nowhere, IsRestriction-same, somewhere-choice}
@@ -13,24 +13,22 @@ use Rattle.node_store.specs.Edges.{flip_if}
 use Rattle.node_store.specs.Kinds.{Function, BddFunction}
 use Rattle.node_store.specs.Memo.{MemoHolds}
 use Rattle.node_store.specs.Splits.{AtSecond, Leads, WaitIs, Waiting}
-use Rattle.node_store.specs.Three.{complement_of, IsFlipped, IsPartOrComplement}
-use Rattle.node_store.specs.Views.{View, AreTwo, CanMake, CanPart, Denotes, Grown, Is, IsInner, IsKey, IsLeaf, IsLeafOf, IsVariable, PartsAt, Permanent, bdd_at, logic_one, logic_zero, node_values, truth_edge}
-use Rattle.node_store.specs.ViewLaws.{Grown-refl, Grown-trans, Denotes-flip, Denotes-truth, Is-from, Is-grown, IsBelow-inner, Permanent-grown, level-grown, values_at-is, values_at-grown}
+use Rattle.node_store.specs.Three.{IsFlipped}
+use Rattle.node_store.specs.Views.{View, AreTwo, CanMake, Denotes, Grown, Is, IsInner, IsKey, IsLeaf, IsLeafOf, PartsAt, Permanent, bdd_at, logic_one, logic_zero, node_values, truth_edge}
+use Rattle.node_store.specs.ViewLaws.{Grown-refl, Grown-trans, Denotes-flip, Denotes-truth, Is-from, Is-grown, IsBelow-inner, level-grown, values_at-is, values_at-grown}
 use Rattle.node_store.specs.Work.{whole, IsPart, IsWork, Adds, Moves}
 use Rattle.node_store.specs.WorkLaws.{IsPart-back, IsPart-half, IsWork-due, IsWork-grown, Moves-made}
 use Rattle.node_store.specs.declared.operator.Frame.{Frame}
 use Rattle.node_store.specs.declared.operator.Task.{Task}
-use Rattle.node_store.specs.declared.operator.Wait.{Wait}
 use Rattle.node_store.specs.declared.operator.Wait.TheVariants.{Only, First, Second}
-use Rattle.node_store.proofs.ThreeParts.{IsFlipped-part, IsPartOrComplement-half, bdd_leaf_index}
-use Rattle.node_store.proofs.TwoParts.{PartsAt-grown}
+use Rattle.node_store.proofs.ThreeParts.{IsFlipped-part, IsPartOrComplement-half}
 use Rattle.ite_core.specs.Cofactors.{one_depth}
 use Rattle.ite_core.specs.CofactorLasts.{one_depth-stays}
 use Rattle.ite_core.proofs.CofactorLaws.{regular_flipped, regular_is}
 use Rattle.ite_core.proofs.Terminals.{truth_at}
 use Rattle.quantify_ops.specs.Quantified.{IsFreeAbove}
-use Rattle.quantify_ops.specs.Restricted.{CanBranch, IsCondition, IsKnownRestriction, IsLifted, IsPartRestricted, LeadsLevel, OnlyWaits, RestrictAnswers, RestrictAsks, RestrictDue, RestrictParts, RestrictSplits, RestrictWaits, Restricted, restrict_key, work_of_restrict}
-use Rattle.quantify_ops.specs.RestrictedLasts.{RestrictDue-stays, RestrictParts-stay, operands, work_of_restrict-stays}
+use Rattle.quantify_ops.specs.Restricted.{CanBranch, IsLifted, LeadsLevel, OnlyWaits, RestrictAnswers, RestrictAsks, RestrictDue, RestrictParts, RestrictSplits, RestrictWaits, Restricted, restrict_key, work_of_restrict}
+use Rattle.quantify_ops.specs.RestrictedLasts.{RestrictDue-stays, work_of_restrict-stays}
 use Rattle.quantify_ops.proofs.LiftLaws.{IsInner-grown}
 
 -- what opening a condition tells
@@ -111,7 +109,7 @@ flipped_answer w false f r c e is some d p = (d, subst (λ g. IsRestriction g c 
 flipped_answer w true f r c e is some d p = (
   Is-from Bdd (Denotes-flip d),
   subst (λ g. IsRestriction f c g) (sym (values_at-is Bdd (Denotes-flip d)))
-  (subst (λ g. IsRestriction g c (negation (bdd_at w e))) (everywhere (negation r) f (λ k. ap (λ (h : ℕ → Bool). not (h k)) is ∙ twice (f k))) (IsRestriction-not r c (bdd_at w e) some p)),
+      (subst (λ g. IsRestriction g c (negation (bdd_at w e))) (everywhere (negation r) f (λ k. ap (λ (h : ℕ → Bool). not (h k)) is ∙ twice (f k))) (IsRestriction-not r c (bdd_at w e) some p)),
 )
   where
     twice : (b : Bool) → not (not b) ≡ b
@@ -128,7 +126,7 @@ lifted_leads f c w root t level due regular lifted free =
         gives = λ x e late a.
             let p = rw (values_at-grown Bdd late d, values_at-grown Bdd late lifted.now.edge) at a.restriction in
             let q = flipped_answer x root.f.complement (bdd_at w root.f) (bdd_at w t.f) (bdd_at w root.g) e (regular_flipped w root.f t.f regular due.edge) due.condition.somewhere a.answer
-                (lifted.serves (bdd_at w t.f) (bdd_at x e) free p) in
+            (lifted.serves (bdd_at w t.f) (bdd_at x e) free p) in
             record { answer = q.0; restriction = rw (values_at-grown Bdd late due.edge, values_at-grown Bdd late due.condition.edge) q.1 };
         over = λ x late bad. bad;
       };

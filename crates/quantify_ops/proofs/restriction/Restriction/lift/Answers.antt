@@ -80,7 +80,7 @@ variables-smaller g c =
     let o = c.args.self.now in let k = c.level.ensures.kept in let e = c.in_ok-lifted.ensures in let n = c.open-top-in-variables.ensures in
     let at = (goal.at.variables-smaller g c).In-Inner in
     let less = step_lower o.f o.c _ _ c.variables.lifted c.in-Inner.hi c.in-Inner.lo c.in-Inner.var (AreTwo-grown Bdd k.grown (roots g at)) (condition_at g at _ k.grown) (inner_at g at _ k.grown) e.grown
-        c.in_ok-lifted.lifted e.or _ n.kept.grown c.open-top-in-variables.result (n.opens Bdd (Is-from Bdd e.or)) in
+    c.in_ok-lifted.lifted e.or _ n.kept.grown c.open-top-in-variables.result (n.opens Bdd (Is-from Bdd e.or)) in
     let vars = k.grown.vars in let level = level-grown k.grown c.in-Inner.var in
     rw c.in-Inner.is (omega arith)
 
@@ -91,7 +91,7 @@ variables-preserved g c =
     let root = AreTwo-grown Bdd k.grown (roots g at) in let condition = condition_at g at _ k.grown in let here = inner_at g at _ k.grown in
     let next = step_condition o.f o.c _ _ c.variables.lifted c.in-Inner.hi c.in-Inner.lo c.in-Inner.var root condition here e.grown c.in_ok-lifted.lifted e.or in
     let higher : (g.G.Grow.view c.level.new.self).level c.in-Inner.var < c.args.level =
-        (let test = c.if-level.false in let is = c.level.ensures.level in let same = level-grown k.grown c.in-Inner.var in omega arith) in
+    (let test = c.if-level.false in let is = c.level.ensures.level in let same = level-grown k.grown c.in-Inner.var in omega arith) in
     record {
       moved = Restrict-both o.f o.c _ _ _ i.moved (Restrict-both o.f o.c _ _ _ (Restrict-kept o.f o.c _ _ k) (Restrict-both o.f o.c _ _ _
           (step_moved o.f o.c _ _ c.variables.lifted c.in-Inner.hi c.in-Inner.lo c.in-Inner.var root condition here e.grown e.work) (Restrict-kept o.f o.c _ _ n.kept)));

@@ -5,7 +5,6 @@ use Rattle.function_laws.specs.Restrictions.{IsRestriction}
 use Rattle.node_store.specs.Splits.{Waiting}
 use Rattle.node_store.specs.Views.{CanMake, bdd_at, node_values}
 use Rattle.node_store.specs.ViewLaws.{Grown-trans}
-use Rattle.node_store.specs.declared.operator.Task.{Task}
 use Rattle.node_store.proofs.Stops.{full_stop}
 use Rattle.ite_core.specs.Cofactors.{one_depth}
 use Rattle.quantify_ops.specs.Restricted.{RestrictAnswers, RestrictDue, RestrictSplits}

@@ -133,5 +133,5 @@ returns-clause-moved g c =
 pub returns-clause-next : goal.returns-clause-next
 returns-clause-next g c =
     let a = c.branch-frame.ensures.asks c.args.task
-        (leads g (goal.at.returns-clause-next g c).In_ok-condition _ c.memo_get.ensures.kept.grown c.two-lifted.result c.two-lifted.ensures.f c.two-lifted.ensures.g) in
+    (leads g (goal.at.returns-clause-next g c).In_ok-condition _ c.memo_get.ensures.kept.grown c.two-lifted.result c.two-lifted.ensures.f c.two-lifted.ensures.g) in
     record { waits = a.waits; due = a.due; less = a.less }
