@@ -213,7 +213,7 @@ IsFree-exists c f g v e free = λ k b. same_truth (g (set_bit k v b)) (g k) (the
     back k b t = there (set_bit k v b) (bit k v) (ap g (set_bit-set_same k v b (bit k v) ∙ set_bit-own k v) ∙ t)
 
 -- a choice by a variable that is not quantified, and by one that is
-choice-at : (x j : ℕ) (f g : ℕ → Bool) (b : Bool) → bit j x ≡ b → choice x f g j ≡ cond b (f j) (g j)
+pub choice-at : (x j : ℕ) (f g : ℕ → Bool) (b : Bool) → bit j x ≡ b → choice x f g j ≡ cond b (f j) (g j)
 choice-at x j f g b is = ap (λ c. cond c (f j) (g j)) is
 
 pub IsExists-choice : (x : ℕ) (c f g a b : ℕ → Bool) → IsFree c x → IsExists c f a → IsExists c g b → IsExists c (choice x f g) (choice x a b)

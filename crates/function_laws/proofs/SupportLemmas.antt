@@ -19,14 +19,14 @@ pub IsSupport-none : (f : ℕ → Bool) → ((v : ℕ) → IsFree f v) → IsSup
 IsSupport-none f free = record { needs = λ k v t none. free v; reaches = λ k h. refl }
 
 -- of a complement
-free_not : (f : ℕ → Bool) (v : ℕ) → IsFree f v → IsFree (negation f) v
+pub free_not : (f : ℕ → Bool) (v : ℕ) → IsFree f v → IsFree (negation f) v
 free_not f v free = λ k b. ap not (free k b)
 
-not_not : (b : Bool) → not (not b) ≡ b
+pub not_not : (b : Bool) → not (not b) ≡ b
 not_not true = refl
 not_not false = refl
 
-not_free : (f : ℕ → Bool) (v : ℕ) → IsFree (negation f) v → IsFree f v
+pub not_free : (f : ℕ → Bool) (v : ℕ) → IsFree (negation f) v → IsFree f v
 not_free f v free = λ k b. sym (not_not (f (set_bit k v b))) ∙ ap not (free k b) ∙ not_not (f k)
 
 pub IsSupport-not : (f s : ℕ → Bool) → IsSupport f s → IsSupport (negation f) s

@@ -25,3 +25,7 @@ pub record IsRestriction (f c r : ℕ → Bool) : Type 0 where
   pub is_cofactor : IsLiteralProduct c → (j k : ℕ) → c j ≡ true → AgreeBeyond c j k → r k ≡ f j
   -- if c holds nowhere, r is false
   pub is_false : ((k : ℕ) → c k ≡ false) → (k : ℕ) → r k ≡ false
+
+-- c holds at no assignment
+abbrev pub IsNowhere : (ℕ → Bool) → Type 0
+IsNowhere c = (k : ℕ) → c k ≡ false

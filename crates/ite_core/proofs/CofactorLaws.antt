@@ -5,6 +5,7 @@ use Rattle.edge_bits.specs.declared.edges.Kind.TheVariants.{Bdd}
 use Rattle.edge_bits.proofs.AssignmentLemmas.{bit-set_other}
 use Rattle.function_laws.specs.Values.{cofactor, choice, projection, negation, IsFree}
 use Rattle.function_laws.proofs.ValueLemmas.{cofactor-free, cofactor-choice_other, IsFree-cofactor, IsFree-cofactor_other}
+use Rattle.function_laws.proofs.ComposeLemmas.{IsFree-cofactor_any}
 use Rattle.node_store.specs.Edges.{flip_if}
 use Rattle.node_store.specs.Kinds.{Function, BddFunction}
 use Rattle.node_store.specs.KindLaws.{part-joined}
@@ -89,7 +90,7 @@ regular_is w e r same d = rw same (by_complement e.index e.complement d)
     by_complement i true d = Is-from Bdd (Denotes-flip d)
     by_complement i false d = d
 
-regular_flipped : (w : View) (e r : Edge) → r ≡ record { index = e.index; complement = false } → Is Bdd w e → IsFlipped Bdd e.complement (bdd_at w e) (bdd_at w r)
+pub regular_flipped : (w : View) (e r : Edge) → r ≡ record { index = e.index; complement = false } → Is Bdd w e → IsFlipped Bdd e.complement (bdd_at w e) (bdd_at w r)
 regular_flipped w e r same d = rw same (by_complement e.index e.complement d)
   where
     by_complement : (i : ℕ) (c : Bool) → Is Bdd w (record { index = i; complement = c }) → IsFlipped Bdd c (bdd_at w (record { index = i; complement = c })) (bdd_at w (record { index = i; complement = false }))
@@ -136,15 +137,8 @@ Cofactor-hit w f l v b e is h =
     subst (λ c. Denotes Bdd w e (cofactor_at w f v c)) bit (subst (λ x. Denotes Bdd w e (cofactor_at w f x h.bit)) variable h.answer)
 
 -- the two parts
-free_cofactor : (f : ℕ → Bool) (u v : ℕ) (b : Bool) → IsFree f u → IsFree (cofactor f v b) u
-free_cofactor f u v b free = by_test (eqb u v) refl
-  where
-    by_test : (c : Bool) → eqb u v ≡ c → IsFree (cofactor f v b) u
-    by_test true t = let same : v ≡ u = grind (arith, t) in subst (λ x. IsFree (cofactor f v b) x) same (IsFree-cofactor f v b)
-    by_test false t = let apart : u ≢ v = grind (arith, t) in IsFree-cofactor_other f u v b apart free
-
 below_cofactor : (w : View) (x : ℕ) (f : ℕ → Bool) (v : ℕ) (b : Bool) → IsBelow Bdd w x f → IsBelow Bdd w x (cofactor f v b)
-below_cofactor w x f v b below u un le = free_cofactor f u v b (below u un le)
+below_cofactor w x f v b below u un le = IsFree-cofactor_any f u v b (below u un le)
 
 Cofactor-is : (w : View) (t hi lo : Edge) (x v : ℕ) (b : Bool) → x ≢ v → Splits Bdd w x (bdd_at w t) hi lo → cofactor_at w t v b ≡ choice x (cofactor_at w hi v b) (cofactor_at w lo v b)
 Cofactor-is w t hi lo x v b apart s = ap (λ g. cofactor g v b) s.is ∙ cofactor-choice_other (bdd_at w hi) (bdd_at w lo) x v b apart

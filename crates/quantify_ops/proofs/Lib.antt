@@ -5,3 +5,5 @@ pub mod OperationLaws
 pub mod SupportLaws
 pub mod CompositionLaws
 pub mod SubstitutionLaws
+pub mod LiftLaws
+pub mod RestrictLaws

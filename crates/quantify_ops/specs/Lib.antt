@@ -8,3 +8,5 @@ pub mod Composed
 pub mod ComposedLasts
 pub mod Substituted
 pub mod SubstitutedLasts
+pub mod Restricted
+pub mod RestrictedLasts

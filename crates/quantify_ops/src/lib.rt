@@ -1,4 +1,4 @@
-//! Quantification of Boolean functions over any store (Bryant 1986).
+//! Quantification, composition and restriction of Boolean functions over any store (Bryant 1986).
 #![tactic(auto)]
 
 mod composition;
@@ -8,6 +8,7 @@ pub mod nested;
 mod operations;
 mod products;
 mod quantification;
+mod restriction;
 mod substitution;
 
-pub use operations::{and_exists, compose, exists, forall, support, vector_compose};
+pub use operations::{and_exists, compose, exists, forall, restrict, support, vector_compose};

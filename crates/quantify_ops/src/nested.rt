@@ -7,11 +7,13 @@ ghost use Rattle.node_store.specs.Views.{AreTwo, Denotes, Grown, Is, IsVariable,
 ghost use Rattle.node_store.specs.Work.{Adds, IsWork};
 ghost use Rattle.quantify_ops.specs.Composed.{value_of_compose};
 ghost use Rattle.quantify_ops.specs.Products.{IsProduct};
+ghost use Rattle.quantify_ops.specs.Restricted.{Restricted, work_of_restrict};
 ghost use Rattle.quantify_ops.specs.Works.{value_of_and_exists, value_of_exists, value_of_forall, value_of_support};
 
 use crate::composition::Composition;
 use crate::dependence::Dependence;
 use crate::quantification::Quantification;
+use crate::restriction::{Restriction, is_false};
 use edge_bits::Edge;
 use node_store::binary::{Binary, flip_if};
 use node_store::evaluate::evaluate;
@@ -147,6 +149,32 @@ pub fn compose<G: Grow>(
         projection,
     };
     match evaluate(store, stack, &Binary(op), Task::two(f, g)) {
+        Ok(edge) => Ok(edge),
+        Err(Halt::Memory) => Err(Stop::Memory),
+        Err(Halt::Full) => Err(Stop::Full),
+        Err(Halt::Overflow) => unreachable!(),
+    }
+}
+
+/// A function that is the same where a condition holds and simpler beyond it.
+pub fn restrict<G: Grow>(store: &mut G, stack: &mut Stack, f: Edge, c: Edge) -> Result<Edge, Stop>
+    requires operands { AreTwo Bdd (G.view store.old) f c }
+    requires permanent { Permanent (G.view store.old) }
+    requires room { 2 * (G.view store.old).vars ≤ stack.old.free }
+    ensures grown { Grown (G.view store.old) (G.view store.new) }
+    ensures restrict { IfOk result (λ e. Restricted (G.view store.old) (G.view store.new) f c e) }
+    ensures work { Adds (work_of_restrict f c (G.view store.old)) (G.view store.old) (G.view store.new) }
+    ensures memory { IsErrOf result Stop.Memory → (G.view store.old).may_want_memory ≡ true }
+    ensures full { IsErrOf result Stop.Full → Rose (G.view store.old) (G.view store.new) }
+    ensures due { IsErrOf result Stop.Full → IsWork (G.view store.new) (work_of_restrict f c (G.view store.old)) (G.view store.new).due }
+    ensures frames { stack.new.frames ≡ stack.old.frames }
+    ensures free { stack.new.free ≡ stack.old.free }
+    ensures known { stack.new.answers ≡ stack.old.answers }
+{
+    if is_false(store, c) {
+        return Ok(Edge::new(0, true));
+    }
+    match evaluate(store, stack, &Restriction { f, c }, Task::two(f, c)) {
         Ok(edge) => Ok(edge),
         Err(Halt::Memory) => Err(Stop::Memory),
         Err(Halt::Full) => Err(Stop::Full),

@@ -6,6 +6,7 @@ ghost use Rattle.node_store.specs.Views.{AreTwo, Denotes, Grown, Is, IsVariable,
 ghost use Rattle.node_store.specs.Work.{Adds, IsWork};
 ghost use Rattle.quantify_ops.specs.Composed.{value_of_compose};
 ghost use Rattle.quantify_ops.specs.Substituted.{AreSubstituted, ReachesDownTo, substituted_at, value_of_vector_compose};
+ghost use Rattle.quantify_ops.specs.Restricted.{Restricted, work_of_restrict};
 ghost use Rattle.quantify_ops.specs.Works.{value_of_support, work_of_and_exists, work_of_exists, work_of_forall};
 
 use crate::nested;
@@ -276,5 +277,45 @@ fn substitute<G: Grow>(
         Err(Halt::Memory) => Err(Stop::Memory),
         Err(Halt::Full) => Err(Stop::Full),
         Err(Halt::Overflow) => unreachable!(),
+    }
+}
+
+/// A function that is the same where a condition holds and simpler beyond it: it depends on no variable on which the first doesn't, is constant where that has one value on the condition, is the cofactor by a product of literals, and is false where the condition is (Coudert and Madre 1990). Another order of the variables may give another such function. What it stores are parts, by the first variables of the order and up to complement, of such functions for parts of the function, up to complement, and parts of the condition over which some variables were quantified, and of the condition with some variables quantified.
+pub fn restrict<G: Grow>(store: &mut G, f: Edge, c: Edge) -> Result<Edge, Stop>
+    requires { AreTwo Bdd (G.view store.old) f c }
+    ensures grown { Grown (G.view store.old) (G.view store.new) }
+    ensures restrict { IfOk result (λ e. Restricted (G.view store.old) (G.view store.new) f c e) }
+    ensures work { Adds (work_of_restrict f c (G.view store.old)) (G.view store.old) (G.view store.new) }
+    ensures full { IsErrOf result Stop.Full → Rose (G.view store.old) (G.view store.new) }
+    ensures due { IsErrOf result Stop.Full → IsWork (G.view store.new) (work_of_restrict f c (G.view store.old)) (G.view store.new).due }
+{
+    let mut stack = store.take_scratch();
+    let levels = store.levels(Kind::Bdd);
+    let outcome = restrict_with_room(store, &mut stack, levels, f, c);
+    store.give_scratch(stack);
+    outcome
+}
+
+// Makes room for twice as many frames as there are levels, and runs.
+fn restrict_with_room<G: Grow>(
+    store: &mut G,
+    stack: &mut Stack,
+    levels: u32,
+    f: Edge,
+    c: Edge,
+) -> Result<Edge, Stop>
+    requires operands { AreTwo Bdd (G.view store.old) f c }
+    requires permanent { Permanent (G.view store.old) }
+    requires levels { levels ≡ (G.view store.old).vars }
+    ensures grown { Grown (G.view store.old) (G.view store.new) }
+    ensures restrict { IfOk result (λ e. Restricted (G.view store.old) (G.view store.new) f c e) }
+    ensures work { Adds (work_of_restrict f c (G.view store.old)) (G.view store.old) (G.view store.new) }
+    ensures full { IsErrOf result Stop.Full → Rose (G.view store.old) (G.view store.new) }
+    ensures due { IsErrOf result Stop.Full → IsWork (G.view store.new) (work_of_restrict f c (G.view store.old)) (G.view store.new).due }
+    ensures frames { stack.new.frames ≡ stack.old.frames }
+{
+    match stack.reserve(2 * levels as usize) {
+        Ok(()) => nested::restrict(store, stack, f, c),
+        Err(_) => Err(Stop::Memory),
     }
 }

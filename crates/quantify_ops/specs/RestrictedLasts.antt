@@ -1,0 +1,95 @@
+-- What is true of tasks of a restriction stays true while a store grows.
+use Rattle.std.proofs.Common.{ℕ, Bool, true, false, cond, inl, inr, ◌∙◌, ap, sym}
+use Rattle.edge_bits.specs.declared.edges.Edge.{Edge}
+use Rattle.edge_bits.specs.declared.edges.Kind.TheVariants.{Bdd}
+use Rattle.function_laws.specs.Values.{exists_all}
+use Rattle.ite_core.specs.Cofactors.{one_depth}
+use Rattle.ite_core.specs.CofactorLasts.{one_depth-stays}
+use Rattle.node_store.specs.Kinds.{Function, BddFunction}
+use Rattle.node_store.specs.ThreeLaws.{IsPartOrComplement-grown}
+use Rattle.node_store.specs.TwoLaws.{AreTwo-grown, TwoSplits-stay}
+use Rattle.node_store.specs.Views.{View, AreTwo, Grown, Is, bdd_at}
+use Rattle.node_store.specs.ViewLaws.{Grown-trans, Is-grown, Permanent-grown, values_at-grown}
+use Rattle.node_store.specs.Waiting.{Waiting-stays}
+use Rattle.node_store.specs.WorkLaws.{IsPart-grown}
+use Rattle.node_store.specs.declared.operator.Frame.{Frame}
+use Rattle.node_store.specs.declared.operator.Task.{Task}
+use Rattle.quantify_ops.specs.Restricted.{IsPartRestricted, work_of_restrict, IsCondition, RestrictDue, RestrictAnswers, RestrictParts, RestrictSplits, OnlyWaits, RestrictWaits}
+
+pub IsPartRestricted-stays : (f c : Edge) (v w : View) (F : Function) → Grown v w → AreTwo Bdd v f c → IsPartRestricted f c v F → IsPartRestricted f c w F
+IsPartRestricted-stays f c v w F m d i = record {
+  a = i.a;
+  b = i.b;
+  r = i.r;
+  vars = i.vars;
+  part_f = rw (values_at-grown Bdd m d.first) (IsPartOrComplement-grown Bdd (bdd_at v f) i.a m i.part_f);
+  part_c = rw (values_at-grown Bdd m d.second) (IsPart-grown Bdd m (exists_all (bdd_at v c) i.vars) i.b i.part_c);
+  restriction = i.restriction;
+  is = i.is;
+}
+
+pub work_of_restrict-stays : (f c : Edge) (v w : View) (F : Function) → Grown v w → AreTwo Bdd v f c → work_of_restrict f c v F → work_of_restrict f c w F
+work_of_restrict-stays f c v w F m d (inl i) = inl (IsPartRestricted-stays f c v w F m d i)
+work_of_restrict-stays f c v w F m d (inr (vars, is)) = inr (vars, is ∙ ap (λ g. BddFunction (exists_all g vars)) (sym (values_at-grown Bdd m d.second)))
+
+pub IsCondition-grown : (c : Edge) (v w : View) (d : Edge) → Grown v w → Is Bdd v c → IsCondition c v d → IsCondition c w d
+IsCondition-grown c v w d m root i = record {
+  edge = Is-grown Bdd m i.edge;
+  somewhere = rw (values_at-grown Bdd m i.edge) i.somewhere;
+  vars = i.vars;
+  part = rw (values_at-grown Bdd m root, values_at-grown Bdd m i.edge) (IsPart-grown Bdd m (exists_all (bdd_at v c) i.vars) (bdd_at v d) i.part);
+}
+
+pub RestrictDue-stays : (f c : Edge) (v w : View) (t : Task) → Grown v w → RestrictDue f c v t → RestrictDue f c w t
+RestrictDue-stays f c v w t m d = record {
+  permanent = Permanent-grown m d.permanent;
+  roots = AreTwo-grown Bdd m d.roots;
+  edge = Is-grown Bdd m d.edge;
+  part = rw (values_at-grown Bdd m d.roots.first, values_at-grown Bdd m d.edge) (IsPartOrComplement-grown Bdd (bdd_at v f) (bdd_at v t.f) m d.part);
+  condition = IsCondition-grown c v w t.g m d.roots.second d.condition;
+}
+
+pub RestrictAnswers-stay : (v w : View) (t : Task) (e : Edge) → Grown v w → AreTwo Bdd v t.f t.g → RestrictAnswers v t e → RestrictAnswers w t e
+RestrictAnswers-stay v w t e m d a = record {
+  answer = Is-grown Bdd m a.answer;
+  restriction = rw (values_at-grown Bdd m d.first, values_at-grown Bdd m d.second, values_at-grown Bdd m a.answer) a.restriction;
+}
+
+-- the operands of a task
+pub operands : (f c : Edge) (w : View) (t : Task) → RestrictDue f c w t → AreTwo Bdd w t.f t.g
+operands f c w t d = record { first = d.edge; second = d.condition.edge }
+
+pub RestrictParts-stay : (v w : View) (t : Task) (x : ℕ) (a b : Task) → Grown v w → AreTwo Bdd v t.f t.g → RestrictParts v t x a b → RestrictParts w t x a b
+RestrictParts-stay v w t x a b m d s = record {
+  two = TwoSplits-stay Bdd v w t x a b m d s.two;
+  apart = rw (values_at-grown Bdd m s.two.f.hi_is, values_at-grown Bdd m s.two.f.lo_is) s.apart;
+}
+
+pub RestrictSplits-stay : (v w : View) (t : Task) (x : ℕ) (a b : Task) → Grown v w → AreTwo Bdd v t.f t.g → RestrictSplits v t x a b → RestrictSplits w t x a b
+RestrictSplits-stay v w t x a b m d s = record {
+  parts = RestrictParts-stay v w t x a b m d s.parts;
+  hi_somewhere = rw (values_at-grown Bdd m s.parts.two.g.hi_is) s.hi_somewhere;
+  lo_somewhere = rw (values_at-grown Bdd m s.parts.two.g.lo_is) s.lo_somewhere;
+}
+
+-- the condition of a branch that isn't taken
+other_is : (w : View) (t : Task) (x : ℕ) (child other : Task) (b : Bool) → RestrictParts w t x (cond b child other) (cond b other child) → Is Bdd w other.g
+other_is w t x child other true s = s.two.g.lo_is
+other_is w t x child other false s = s.two.g.hi_is
+
+pub OnlyWaits-stay : (f c : Edge) (v w : View) (t : Task) (frame : Frame) (u : Task) → Grown v w → OnlyWaits f c v t frame u → OnlyWaits f c w t frame u
+OnlyWaits-stay f c v w t frame u m q = record {
+  only = q.only;
+  due = RestrictDue-stays f c v w frame.task m q.due;
+  leads = record { gives = λ x e late a. q.leads.gives x e (Grown-trans m late) a; over = λ x late bad. bad };
+  is_then = q.is_then;
+  other = q.other;
+  parts = RestrictParts-stay v w frame.task frame.var (cond q.is_then u q.other) (cond q.is_then q.other u) m (operands f c v frame.task q.due) q.parts;
+  nowhere = rw (values_at-grown Bdd m (other_is v frame.task frame.var u q.other q.is_then q.parts)) q.nowhere;
+}
+
+pub RestrictWaits-stay : (f c : Edge) (v w : View) (t : Task) (frame : Frame) (u : Task) → Grown v w → RestrictDue f c v t → RestrictWaits f c v t frame u → RestrictWaits f c w t frame u
+RestrictWaits-stay f c v w t frame u m d (inl q) = inl (OnlyWaits-stay f c v w t frame u m q)
+RestrictWaits-stay f c v w t frame u m d (inr q) = inr (Waiting-stays (RestrictDue f c) RestrictAnswers (λ w t. ⊥) RestrictSplits one_depth (RestrictDue-stays f c)
+    (λ v w t e m d. RestrictAnswers-stay v w t e m (operands f c v t d)) (λ v w t x a b m d. RestrictSplits-stay v w t x a b m (operands f c v t d))
+    (λ v w t m d. one_depth-stays v w t m d.edge) v w t frame u m d q)

@@ -1,0 +1,240 @@
+//! A function restricted to a condition: simpler, and the same where the condition holds (Coudert and Madre 1990).
+
+ghost use Rattle.std.specs.Prelude.{◌≡◌, ◌≤◌, IfOk, IsErrOf, false, true};
+ghost use Rattle.edge_bits.specs.declared.edges.Kind.TheVariants.{Bdd};
+ghost use Rattle.function_laws.specs.Restrictions.{IsNowhere};
+ghost use Rattle.node_store.specs.Edges.{flip_if as flipped_edge};
+ghost use Rattle.node_store.specs.Views.{View, AreTwo, Is, Kept, Permanent, Rose, bdd_at};
+ghost use Rattle.node_store.specs.Work.{IsWork, Moves};
+ghost use Rattle.node_store.specs.declared.operator.Task.{Task};
+ghost use Rattle.quantify_ops.specs.Restricted.{CanBranch, IsCondition, IsKnownRestriction, IsLifted, LeadsLevel, RestrictAnswers, RestrictAsks, RestrictDue, restrict_key, work_of_restrict};
+
+use edge_bits::Edge;
+use ite_core::nested::or;
+use node_store::binary::flip_if;
+use node_store::operator::{Frame, Halt, Next, Operator, Task, Wait};
+use node_store::parts::parts;
+use node_store::{Grow, Key, Opened, Stack, Stop, numbers};
+
+/// A restriction, as the evaluator runs it: each task is a function and a condition that holds somewhere.
+#[derive(Drop)]
+pub(crate) struct Restriction {
+    pub f: Edge,
+    pub c: Edge,
+}
+
+impl<G: Grow> Operator<G> for Restriction {
+    ghost use Rattle.std.specs.Prelude.{refl};
+    ghost use Rattle.edge_bits.specs.declared.edges.Kind.TheVariants.{Bdd};
+    ghost use Rattle.node_store.specs.BinaryLaws.{BinaryMoves, BinaryMoves-none, BinaryMoves-both};
+    ghost use Rattle.node_store.specs.TwoLaws.{AreTwo-grown};
+    ghost use Rattle.node_store.specs.Views.{AreTwo};
+    ghost use Rattle.node_store.specs.Work.{IsWork};
+    ghost use Rattle.ite_core.specs.Cofactors.{one_depth};
+    ghost use Rattle.ite_core.specs.CofactorLasts.{one_depth-stays};
+    ghost use Rattle.quantify_ops.specs.Restricted.{RestrictAnswers, RestrictDue, RestrictWaits, work_of_restrict};
+    ghost use Rattle.quantify_ops.specs.RestrictedLasts.{RestrictAnswers-stay, RestrictDue-stays, RestrictWaits-stay, operands, work_of_restrict-stays};
+
+    ghost moves = { λ o. BinaryMoves (λ w. AreTwo Bdd w o.f o.c) (work_of_restrict o.f o.c) };
+
+    ghost due = { λ o w. RestrictDue o.f o.c w.view };
+
+    ghost answers = { λ _ w. RestrictAnswers w.view };
+
+    ghost overflows = { λ _ _ _. ⊥ };
+
+    ghost waits = { λ o w. RestrictWaits o.f o.c w.view };
+
+    ghost refused = { λ o w. IsWork w.view (work_of_restrict o.f o.c w.view) w.view.due };
+
+    ghost depth = { λ _ w. one_depth w.view };
+
+    ghost extra = { λ _ w. w.view.vars };
+
+    fn start(&self, store: &mut G, stack: &mut Stack, task: Task) -> Result<Next, Halt> {
+        // A complement's restriction is the restriction's complement.
+        let flip = task.f.complement;
+        let f = Edge::new(task.f.index, false);
+        let Opened::Inner(var, hi, lo) = store.open(f) else {
+            return Ok(Next::Done(task.f));
+        };
+        let level = store.level(var);
+        let condition = self.lift(store, stack, task.g, level)?;
+        if let Some(edge) = known(f, condition) {
+            return Ok(Next::Done(flip_if(edge, flip)));
+        }
+        if let Some(edge) = store.memo_get(&key_of(f, condition)) {
+            return Ok(Next::Done(flip_if(edge, flip)));
+        }
+        let lifted = Task::two(f, condition);
+        let (frame, child) = self.branch(store, lifted, flip, var, hi, lo);
+        Ok(Next::Call(frame, child))
+    }
+
+    fn resume(
+        &self,
+        store: &mut G,
+        _stack: &mut Stack,
+        frame: Frame,
+        answer: Edge,
+    ) -> Result<Next, Halt> {
+        match frame.wait {
+            Wait::Only => Ok(Next::Done(self.keep(store, frame, answer))),
+            Wait::First(later) => {
+                let frame = Frame {
+                    wait: Wait::Second(answer),
+                    ..frame
+                };
+                Ok(Next::Call(frame, later))
+            }
+            Wait::Second(hi) => {
+                let edge = store.make(frame.var, hi, answer)?;
+                Ok(Next::Done(self.keep(store, frame, edge)))
+            }
+            _ => unreachable!(),
+        }
+    }
+
+    ghost moves_none = { λ o. BinaryMoves-none (λ w. AreTwo Bdd w o.f o.c) (work_of_restrict o.f o.c) };
+
+    ghost moves_both = { λ o. BinaryMoves-both (λ w. AreTwo Bdd w o.f o.c) (work_of_restrict o.f o.c) (λ v w m d. AreTwo-grown Bdd m d) (work_of_restrict-stays o.f o.c) };
+
+    ghost moves_fulls = { λ o v w m. m.moves.grown.fulls };
+
+    ghost moves_wants = { λ o v w m. m.moves.grown.wants };
+
+    ghost due_stays = { λ o v w t m. RestrictDue-stays o.f o.c v.view w.view t m.moves.grown };
+
+    ghost answers_stay = { λ o v w t e m d. RestrictAnswers-stay v.view w.view t e m.moves.grown (operands o.f o.c v.view t d) };
+
+    ghost waits_stay = { λ o v w t f u m. RestrictWaits-stay o.f o.c v.view w.view t f u m.moves.grown };
+
+    ghost depth_stays = { λ o v w t m d. one_depth-stays v.view w.view t m.moves.grown d.edge };
+
+    ghost overflow_rises = { λ o w t f u d waits bad. bad };
+
+    ghost extra_stays = { λ o v w m. m.moves.grown.vars };
+}
+
+impl Restriction {
+    // The condition with the variables above a level quantified.
+    fn lift<G: Grow>(
+        &self,
+        store: &mut G,
+        stack: &mut Stack,
+        condition: Edge,
+        level: u32,
+    ) -> Result<Edge, Stop>
+        requires permanent { Permanent (G.view store.old) }
+        requires roots { AreTwo Bdd (G.view store.old) self.now.f self.now.c }
+        requires condition { IsCondition self.now.c (G.view store.old) condition }
+        requires within { level ≤ (G.view store.old).vars }
+        requires room { (G.view store.old).vars ≤ stack.old.free }
+        ensures moved { Moves (λ w. AreTwo Bdd w self.now.f self.now.c) (work_of_restrict self.now.f self.now.c) (G.view store.old) (G.view store.new) }
+        ensures lifted { IfOk result (λ e. IsLifted self.now.c (G.view store.new) condition e level) }
+        ensures memory { IsErrOf result Stop.Memory → (G.view store.old).may_want_memory ≡ true }
+        ensures due { IsErrOf result Stop.Full → IsWork (G.view store.new) (work_of_restrict self.now.f self.now.c (G.view store.new)) (G.view store.new).due }
+        ensures full { IsErrOf result Stop.Full → Rose (G.view store.old) (G.view store.new) }
+        ensures frames { stack.new.frames ≡ stack.old.frames }
+        ensures free { stack.new.free ≡ stack.old.free }
+        ensures known { stack.new.answers ≡ stack.old.answers }
+    {
+        let mut lifted = condition;
+        let mut top = store.open(lifted);
+        'variables: loop {
+            let Opened::Inner(var, hi, lo) = top else {
+                return Ok(lifted);
+            };
+            if store.level(var) >= level {
+                return Ok(lifted);
+            }
+            lifted = or(store, stack, hi, lo)?;
+            top = store.open(lifted);
+        }
+    }
+
+    // The frame of a task and the branch for which it waits first: the one that is taken alone, or the then branch.
+    fn branch<G: Grow>(
+        &self,
+        store: &mut G,
+        task: Task,
+        flip: bool,
+        var: u32,
+        hi: Edge,
+        lo: Edge,
+    ) -> (Frame, Task)
+        requires { CanBranch self.now.f self.now.c (G.view store.old) task var hi lo }
+        ensures kept { Kept (G.view store.old) (G.view store.new) }
+        ensures asks { (root : Task) → LeadsLevel (G.view store.old) root flip task → RestrictAsks self.now.f self.now.c (G.view store.new) root result.0 result.1 }
+    {
+        let (c1, c0) = parts(store, task.g, var);
+        let then_task = Task::two(hi, c1);
+        let else_task = Task::two(lo, c0);
+        let only = Frame {
+            task,
+            var,
+            flip,
+            wait: Wait::Only,
+        };
+        if is_false(store, c1) {
+            return (only, else_task);
+        }
+        if is_false(store, c0) {
+            return (only, then_task);
+        }
+        let first = Frame {
+            wait: Wait::First(else_task),
+            ..only
+        };
+        (first, then_task)
+    }
+
+    // Keeps the answer of a frame's task, and gives it the complement that the frame asks for.
+    fn keep<G: Grow>(&self, store: &mut G, frame: Frame, answer: Edge) -> Edge
+        requires due { RestrictDue self.now.f self.now.c (G.view store.old) frame.task }
+        requires answer { RestrictAnswers (G.view store.old) frame.task answer }
+        ensures kept { Kept (G.view store.old) (G.view store.new) }
+        ensures flipped { result ≡ flipped_edge frame.flip answer }
+    {
+        store.memo_put(key_of(frame.task.f, frame.task.g), answer);
+        flip_if(answer, frame.flip)
+    }
+}
+
+/// Whether a function is false.
+pub(crate) fn is_false<G: Grow>(store: &mut G, edge: Edge) -> bool
+    requires { Is Bdd (G.view store.old) edge }
+    ensures kept { Kept (G.view store.old) (G.view store.new) }
+    ensures yes { result ≡ true → IsNowhere (bdd_at (G.view store.new) edge) }
+    ensures no { result ≡ false → IsNowhere (bdd_at (G.view store.new) edge) → ⊥ }
+{
+    match store.open(edge) {
+        Opened::Inner(_, _, _) => false,
+        Opened::Leaf(_) => edge.complement,
+    }
+}
+
+// The answer where the condition is true, or is the function or its complement.
+fn known(f: Edge, condition: Edge) -> Option<Edge>
+    ensures { (w : View) → Permanent w → AreTwo Bdd w f condition → (IsNowhere (bdd_at w condition) → ⊥) → IsKnownRestriction w (record { f = f; g = condition; h = f }) result }
+{
+    if condition.index == 0 {
+        return Some(f);
+    }
+    if condition.index == f.index {
+        let one = Edge::new(0, f.complement);
+        return Some(flip_if(one, condition.complement));
+    }
+    None
+}
+
+fn key_of(f: Edge, condition: Edge) -> Key
+    ensures { result ≡ restrict_key f condition }
+{
+    Key {
+        op: numbers::RESTRICT,
+        f,
+        g: condition,
+        h: f,
+    }
+}
