@@ -1,16 +1,19 @@
 -- What restrict may answer, of functions of the first n variables: the sentences said of all assignments give those said of the 2 ^ n first.
 use Rattle.std.proofs.Common.{◌≡◌, ℕ, zero, suc, ◌^◌, ◌<◌, ◌≤◌, eqb, Bool, true, false, not, ◌&&◌, ◌||◌, inl, inr, refl, sym, ap, ap₂, ◌∙◌, subst, arith, eq-eqb, eqb-true, min, max}
-use Rattle.std.specs.Prelude.{◌==◌, ◌+◌, ◌%◌, bit_and, bit_or, bit_xor}
+use Rattle.std.specs.Prelude.{◌==◌, ◌+◌, ◌%◌, bit_and, bit_or, bit_xor, length}
 use Rattle.std.specs.Int.{bit_at}
 use Rattle.std.proofs.lemmas.Bool.{cases_eq}
 use Rattle.std.proofs.lemmas.Nat.Bits.{bit_at-lt, bit_at_above, bit_at_and, bit_at_or, bit_at_xor}
+use Rattle.edge_bits.specs.Words.{digit}
 use Rattle.edge_bits.specs.Assignments.{bit, set_bit}
-use Rattle.edge_bits.proofs.AssignmentLemmas.{bit-set_other, same_bits}
+use Rattle.edge_bits.proofs.AssignmentLemmas.{below_from_bits, bit-set_other, digit-bit, same_bits, set_bit-below}
 use Rattle.function_laws.specs.Cubes.{AgreeBeyond}
-use Rattle.function_laws.specs.Restricting.{Restricts, IsConstantOn, set_bits}
+use Rattle.function_laws.specs.Lists.{list_of, truth}
+use Rattle.function_laws.specs.Restricting.{Restricts, IsConstantOn, IsFreeBelow, set_bits}
 use Rattle.function_laws.specs.Restrictions.{NeedsValue, IsLiteralProduct, IsRestriction}
-use Rattle.function_laws.specs.Values.{IsFree, IsOf, constant, differs}
+use Rattle.function_laws.specs.Values.{IsFree, IsOf, cofactor, constant, differs}
 use Rattle.function_laws.proofs.CubeLemmas.{by_bit}
+use Rattle.function_laws.proofs.ListLemmas.{length-list_of, truth-list_of}
 use Rattle.function_laws.proofs.RestrictionLaws.{needs-not_free}
 use Rattle.function_laws.proofs.SizeLemmas.{var_below}
 use Rattle.function_laws.proofs.WidthLemmas.{same_everywhere, IsFree-from_below}
@@ -177,3 +180,36 @@ Restricts-from n f c r of_f of_c of_r p = record {
     everywhere_same k below here same = same_everywhere n (λ j. not (c j) || not (differs (f j) (f k))) (constant true)
         (λ v from j b. ap₂ (λ x y. not x || not (differs y (f k))) (of_c v from j b) (of_f v from j b)) (λ v from j b. refl)
         (λ j within. value_holds (c j) (f j) (f k) (λ there. same j k within below there here))
+
+set_bits-below : (n k cares bits : ℕ) → k < 2 ^ n → bits < 2 ^ n → set_bits k cares bits < 2 ^ n
+set_bits-below n k cares bits below inside = below_from_bits n (set_bits k cares bits) (λ v from.
+    sym (digit-bit (set_bits k cares bits) v) ∙ ap digit (bit-set_bits k cares bits v
+    ∙ ap₂ (λ x y. differs x (x && bit cares v) || y) (bit-above k n v below from) (bit-above bits n v inside from)))
+
+-- the bounded sentences speak of the first 2 ^ n values alone
+module _ (n : ℕ) (f g c d r s : ℕ → Bool) (same_f : (k : ℕ) → k < 2 ^ n → f k ≡ g k) (same_c : (k : ℕ) → k < 2 ^ n → c k ≡ d k) (same_r : (k : ℕ) → k < 2 ^ n → r k ≡ s k) where
+  same_cofactor : (h i : ℕ → Bool) → ((k : ℕ) → k < 2 ^ n → h k ≡ i k) → (v : ℕ) → 2 ^ v < 2 ^ n → (b : Bool) (k : ℕ) → k < 2 ^ n → cofactor h v b k ≡ cofactor i v b k
+  same_cofactor h i same v within b k below = same (set_bit k v b) (set_bit-below n k v b below (var_below n v within))
+
+  same_free : (h i : ℕ → Bool) → ((k : ℕ) → k < 2 ^ n → h k ≡ i k) → (v : ℕ) → 2 ^ v < 2 ^ n → IsFreeBelow (2 ^ n) h v → IsFreeBelow (2 ^ n) i v
+  same_free h i same v within free k below = sym (same_cofactor h i same v within true k below) ∙ free k below ∙ same_cofactor h i same v within false k below
+
+  pub Restricts-same : Restricts (2 ^ n) f c r → Restricts (2 ^ n) g d s
+  Restricts-same p = record {
+    agrees = λ k below holds. sym (same_r k below) ∙ p.agrees k below (same_c k below ∙ holds) ∙ same_f k below;
+    depends_on_no_more = λ v within free. same_free r s same_r v within (p.depends_on_no_more v within (same_free g f (λ k below. sym (same_f k below)) v within free));
+    is_constant = λ k below holds one i j bi bj ti tj. sym (same_r i bi)
+        ∙ p.is_constant k below (same_c k below ∙ holds) (λ x y bx by cx cy. same_f x bx ∙ one x y bx by (sym (same_c x bx) ∙ cx) (sym (same_c y by) ∙ cy) ∙ sym (same_f y by)) i j bi bj ti tj
+        ∙ same_r j bj;
+    is_cofactor = λ cares bits bc bb inside product k below. sym (same_r k below)
+        ∙ p.is_cofactor cares bits bc bb inside (λ j bj. same_c j bj ∙ product j bj) k below
+        ∙ same_f (set_bits k cares bits) (set_bits-below n k cares bits below bb);
+    is_false = λ none k below. sym (same_r k below) ∙ p.is_false (λ j bj. same_c j bj ∙ none j bj) k below;
+  }
+
+-- on lists of values
+pub Restricts-list_of : (n : ℕ) (f c r : ℕ → Bool) → Restricts (2 ^ n) f c r → Restricts (length (list_of (2 ^ n) f)) (truth (list_of (2 ^ n) f)) (truth (list_of (2 ^ n) c)) (truth (list_of (2 ^ n) r))
+Restricts-list_of n f c r p =
+    subst (λ size. Restricts size (truth (list_of (2 ^ n) f)) (truth (list_of (2 ^ n) c)) (truth (list_of (2 ^ n) r))) (sym (length-list_of (2 ^ n) f))
+    (Restricts-same n f (truth (list_of (2 ^ n) f)) c (truth (list_of (2 ^ n) c)) r (truth (list_of (2 ^ n) r))
+    (λ k below. sym (truth-list_of (2 ^ n) k f below)) (λ k below. sym (truth-list_of (2 ^ n) k c below)) (λ k below. sym (truth-list_of (2 ^ n) k r below)) p)
