@@ -3,30 +3,30 @@ use Rattle.std.proofs.Common.{◌≡◌, ◌≢◌, ℕ, zero, suc, ◌+◌, ◌
 use Rattle.std.proofs.Math.ListN.{set, length-set}
 use Rattle.std.specs.Prelude.{slice_get, option_map}
 use Rattle.std.specs.Str.{bytes_eq}
-use Rattle.std.specs.List.{All, cons_option, list_any, list_all, range_with_len}
+use Rattle.std.specs.List.{All, cons_option, flat_map, list_any, list_all, range_with_len}
 use Rattle.std.proofs.lemmas.Bool.{false≢true}
 use Rattle.std.proofs.lemmas.List.{length_push, length-map}
 use Rattle.std.proofs.lemmas.List.FromFn.{get_or-map-range_with_len, length-map-range_with_len}
-use Rattle.std.proofs.lemmas.List.Elements.{All-cons, All-nil, filter_map-append}
+use Rattle.std.proofs.lemmas.List.Elements.{All-cons, All-head, All-nil, All-tail, filter_map-append}
 use Rattle.std.proofs.lemmas.List.Folds.{list_any-append}
 use Rattle.std.proofs.lemmas.Option.{slice_get_within, slice_get-map, slice_get-get_or}
 use Rattle.std.proofs.lemmas.Slice.Eq.{bytes_eq-Decides}
 use Rattle.function_laws.specs.declared.history.Name.{Name}
 use Rattle.function_laws.specs.declared.history.Call.{Call}
 use Rattle.job_text.specs.declared.job.Act.{Act}
-use Rattle.job_text.specs.declared.job.Act.TheVariants.{One, Zero, Var, Not, And, Or, Xor, Ite, Cofactor, Exists, Forall, AndExists, Support, Drop, Same, Leq, Eval}
+use Rattle.job_text.specs.declared.job.Act.TheVariants.{One, Zero, Var, Not, And, Or, Xor, Ite, Cofactor, Exists, Forall, AndExists, Compose, VectorCompose, Restrict, Support, Drop, Same, Leq, Eval}
 use Rattle.job_text.specs.declared.job.Command.{Command}
 use Rattle.job_text.specs.declared.job.Register.{Register}
 use Rattle.job_text.specs.declared.operands.Operand.TheVariants as operands
 use Rattle.job_text.specs.Text.{Word}
-use Rattle.job_text.specs.Grammar.{CommandsSay, Says, Spelling, Spells, StandsFor, assigns, registers_after, spelling, tells, without}
-use Rattle.job_text.specs.Histories.{Calls, Held, HistoryLine, IsNamed, SayInOrder, held_by, registers_of, stops}
+use Rattle.job_text.specs.Grammar.{CommandsSay, IsProper, Says, Spelling, Spells, StandsFor, assigns, pair_operands, registers_after, spelling, tells, without}
+use Rattle.job_text.specs.Histories.{AreNamed, Calls, Held, HistoryLine, IsNamed, SayInOrder, held_by, registers_of, stops}
 use Rattle.job_text.proofs.Effects.{EachStands, one_register_less, one_register_more, operands_of, operands_stand, same_registers}
 use Rattle.net_jobs.specs.declared.playing.Progress.{Progress}
 use Rattle.edge_bits.specs.declared.edges.Edge.{Edge}
 use Rattle.node_slots.specs.Stores.{Plain, plain_view}
 use Rattle.net_jobs.specs.Agreement.{Rows, name_of}
-use Rattle.net_jobs.specs.Playing.{CanCall, Covers, GrowsOrLeft, IsHeld, RowsGoOn, SaysOne, SaysThrough, Stands, StandsAt, call_with, makes}
+use Rattle.net_jobs.specs.Playing.{CanCall, Covers, GrowsOrLeft, IsHeld, RowsGoOn, SaysOne, SaysThrough, Stands, StandsAt, call_with, makes, with_name}
 use Rattle.net_jobs.proofs.PlayLemmas.{grown_length}
 use Rattle.net_jobs.proofs.ListLemmas.{slice_get-push, slice_get-push_new, slice_get-push_old, slice_get-set_other}
 
@@ -39,30 +39,40 @@ variables_stand : (n : ℕ) (registers : List Register) (vs : List ℕ) → Each
 variables_stand n registers [] each = All-nil (λ v. v < n)
 variables_stand n registers (v ∷ vs) each = All-cons (λ v. v < n) v vs each.0.1.1 (variables_stand n registers vs each.1)
 
+-- and so are those of pairs, whose registers are rows
+pairs_stand : (n : ℕ) (registers : List Register) (rows : Rows) (pairs : List (ℕ × ℕ)) → Covers registers rows → EachStands n registers (flat_map pair_operands pairs)
+    → All (λ pair. (pair.0 < n) × IsHeld rows pair.1) pairs
+pairs_stand n registers rows [] covers each = All-nil (λ pair. (pair.0 < n) × IsHeld rows pair.1)
+pairs_stand n registers rows (pair ∷ pairs) covers each =
+    All-cons (λ pair. (pair.0 < n) × IsHeld rows pair.1) pair pairs (each.0.1.1, held n registers rows pair.1 covers each.1.0) (pairs_stand n registers rows pairs covers each.1.1)
+
 -- what a command says lets it be called
-can_each : (n : ℕ) (registers : List Register) (rows : Rows) (act : Act) → Covers registers rows → EachStands n registers (operands_of (spelling act)) → CanCall n rows act
-can_each n registers rows One covers each = tt
-can_each n registers rows Zero covers each = tt
-can_each n registers rows (Var v) covers each = each.0.1.1
-can_each n registers rows (Not a) covers each = held n registers rows a covers each.0
-can_each n registers rows (And a b) covers each = (held n registers rows a covers each.0, held n registers rows b covers each.1.0)
-can_each n registers rows (Or a b) covers each = (held n registers rows a covers each.0, held n registers rows b covers each.1.0)
-can_each n registers rows (Xor a b) covers each = (held n registers rows a covers each.0, held n registers rows b covers each.1.0)
-can_each n registers rows (Ite a b c) covers each =
+can_each : (n : ℕ) (registers : List Register) (rows : Rows) (act : Act) → Covers registers rows → EachStands n registers (operands_of (spelling act)) → IsProper act → CanCall n rows act
+can_each n registers rows One covers each proper = tt
+can_each n registers rows Zero covers each proper = tt
+can_each n registers rows (Var v) covers each proper = each.0.1.1
+can_each n registers rows (Not a) covers each proper = held n registers rows a covers each.0
+can_each n registers rows (And a b) covers each proper = (held n registers rows a covers each.0, held n registers rows b covers each.1.0)
+can_each n registers rows (Or a b) covers each proper = (held n registers rows a covers each.0, held n registers rows b covers each.1.0)
+can_each n registers rows (Xor a b) covers each proper = (held n registers rows a covers each.0, held n registers rows b covers each.1.0)
+can_each n registers rows (Ite a b c) covers each proper =
     (held n registers rows a covers each.0, held n registers rows b covers each.1.0, held n registers rows c covers each.1.1.0)
-can_each n registers rows (Cofactor a v b) covers each = (held n registers rows a covers each.0, each.1.0.1.1)
-can_each n registers rows (Exists a vs) covers each = (held n registers rows a covers each.0, variables_stand n registers vs each.1)
-can_each n registers rows (Forall a vs) covers each = (held n registers rows a covers each.0, variables_stand n registers vs each.1)
-can_each n registers rows (AndExists a b vs) covers each =
+can_each n registers rows (Cofactor a v b) covers each proper = (held n registers rows a covers each.0, each.1.0.1.1)
+can_each n registers rows (Exists a vs) covers each proper = (held n registers rows a covers each.0, variables_stand n registers vs each.1)
+can_each n registers rows (Forall a vs) covers each proper = (held n registers rows a covers each.0, variables_stand n registers vs each.1)
+can_each n registers rows (AndExists a b vs) covers each proper =
     (held n registers rows a covers each.0, held n registers rows b covers each.1.0, variables_stand n registers vs each.1.1)
-can_each n registers rows (Support a) covers each = held n registers rows a covers each.0
-can_each n registers rows (Drop a) covers each = held n registers rows a covers each.0
-can_each n registers rows (Same a b) covers each = (held n registers rows a covers each.0, held n registers rows b covers each.1.0)
-can_each n registers rows (Leq a b) covers each = (held n registers rows a covers each.0, held n registers rows b covers each.1.0)
-can_each n registers rows (Eval a bits) covers each = (held n registers rows a covers each.0, each.1.0.1.1)
+can_each n registers rows (Compose a v b) covers each proper = (held n registers rows a covers each.0, held n registers rows b covers each.1.1.0, each.1.0.1.1)
+can_each n registers rows (VectorCompose a pairs) covers each proper = (held n registers rows a covers each.0, pairs_stand n registers rows pairs covers each.1, proper.1)
+can_each n registers rows (Restrict a b) covers each proper = (held n registers rows a covers each.0, held n registers rows b covers each.1.0)
+can_each n registers rows (Support a) covers each proper = held n registers rows a covers each.0
+can_each n registers rows (Drop a) covers each proper = held n registers rows a covers each.0
+can_each n registers rows (Same a b) covers each proper = (held n registers rows a covers each.0, held n registers rows b covers each.1.0)
+can_each n registers rows (Leq a b) covers each proper = (held n registers rows a covers each.0, held n registers rows b covers each.1.0)
+can_each n registers rows (Eval a bits) covers each proper = (held n registers rows a covers each.0, each.1.0.1.1)
 
 pub can_call : (n : ℕ) (registers : List Register) (rows : Rows) (words : List Word) (act : Act) → Says n registers words act → Covers registers rows → CanCall n rows act
-can_call n registers rows words act says covers = can_each n registers rows act covers (operands_stand n registers words (spelling act) says)
+can_call n registers rows words act says covers = can_each n registers rows act covers (operands_stand n registers words (spelling act) says.0) says.1
 
 -- a row that was held is held among more rows
 held-push : (rows : Rows) (f : Edge) (a : ℕ) → IsHeld rows a → IsHeld (rows ++ Some f ∷ []) a
@@ -148,10 +158,10 @@ module _ (n : ℕ) (registers : List Register) (old new : Rows) (words : List Wo
       let less = one_register_less n registers words a says in
       subst (λ rs. Covers rs new) (sym less.2)
       (subst (λ rows. Covers (map (without less.0) registers) rows) (sym after) (covers-drop registers old less.0 a less.1.1 covers))
-  covers-after (Same a b) says after = covers-kept (spelling (Same a b)) refl says after
-  covers-after (Leq a b) says after = covers-kept (spelling (Leq a b)) refl says after
-  covers-after (Eval a bits) says after = covers-kept (spelling (Eval a bits)) refl says after
-  covers-after act says after = covers-assigned (spelling act) refl says after
+  covers-after (Same a b) says after = covers-kept (spelling (Same a b)) refl says.0 after
+  covers-after (Leq a b) says after = covers-kept (spelling (Leq a b)) refl says.0 after
+  covers-after (Eval a bits) says after = covers-kept (spelling (Eval a bits)) refl says.0 after
+  covers-after act says after = covers-assigned (spelling act) refl says.0 after
 
 -- what is named among some registers is named among more
 named-more : (registers more : List Held) (a : ℕ) (name : Name) → IsNamed registers a name → IsNamed (registers ++ more) a name
@@ -161,6 +171,12 @@ named-more registers more a name is = (is.0, slice_get-more registers more a _ i
     slice_get-more [] ys i x is = cc
     slice_get-more (y ∷ xs) ys zero x is = is
     slice_get-more (y ∷ xs) ys (suc i) x is = slice_get-more xs ys i x is
+
+are_named-more : (registers more : List Held) (pairs : List (ℕ × ℕ)) (names : List (ℕ × Name)) → AreNamed registers pairs names → AreNamed (registers ++ more) pairs names
+are_named-more registers more [] [] are = are
+are_named-more registers more [] (name ∷ names) are = are
+are_named-more registers more (pair ∷ pairs) [] are = are
+are_named-more registers more (pair ∷ pairs) (name ∷ names) are = (are.0, named-more registers more pair.1 name.1 are.1, are_named-more registers more pairs names are.2)
 
 calls-more : (registers more : List Held) (act : Act) (call : Call) → Calls registers act call → Calls (registers ++ more) act call
 calls-more registers more One call is = is
@@ -176,6 +192,9 @@ calls-more registers more (Cofactor a v b) call is = (is.0, named-more registers
 calls-more registers more (Exists a vs) call is = (is.0, named-more registers more a is.0 is.1, is.2)
 calls-more registers more (Forall a vs) call is = (is.0, named-more registers more a is.0 is.1, is.2)
 calls-more registers more (AndExists a b vs) call is = (is.0, is.1, named-more registers more a is.0 is.2, named-more registers more b is.1 is.3, is.4)
+calls-more registers more (Compose a v b) call is = (is.0, is.1, named-more registers more a is.0 is.2, named-more registers more b is.1 is.3, is.4)
+calls-more registers more (VectorCompose a pairs) call is = (is.0, is.1, named-more registers more a is.0 is.2, are_named-more registers more pairs is.1 is.3, is.4)
+calls-more registers more (Restrict a b) call is = (is.0, is.1, named-more registers more a is.0 is.2, named-more registers more b is.1 is.3, is.4)
 calls-more registers more (Support a) call is = (is.0, named-more registers more a is.0 is.1, is.2)
 calls-more registers more (Drop a) call is = (is.0, named-more registers more a is.0 is.1, is.2)
 calls-more registers more (Same a b) call is = (is.0, is.1, named-more registers more a is.0 is.2, named-more registers more b is.1 is.3, is.4)
@@ -221,6 +240,14 @@ module _ (start p : Plain) (commands : List Command) (rows : Rows) (assigned tex
       some_inner (slice_get (registers_of said) a) (name_of a)
       (sym (slice_get-map (λ register. register.name) (registers_of said) a) ∙ ap (λ xs. slice_get xs a) stands.names ∙ at)
 
+  all_named : (pairs : List (ℕ × ℕ)) → All (λ pair. (pair.0 < (plain_view p).vars) × IsHeld rows pair.1) pairs → AreNamed (registers_of said) pairs (map with_name pairs)
+  all_named [] all = tt
+  all_named (pair ∷ pairs) all = (
+    refl,
+    named pair.1 (All-head (λ pair. (pair.0 < (plain_view p).vars) × IsHeld rows pair.1) pair pairs all).1,
+    all_named pairs (All-tail (λ pair. (pair.0 < (plain_view p).vars) × IsHeld rows pair.1) pair pairs all),
+  )
+
   calls_of : (act : Act) → CanCall (plain_view p).vars rows act → Calls (registers_of said) act (call_with act)
   calls_of One can = refl
   calls_of Zero can = refl
@@ -234,6 +261,9 @@ module _ (start p : Plain) (commands : List Command) (rows : Rows) (assigned tex
   calls_of (Exists a vs) can = (name_of a, named a can.0, refl)
   calls_of (Forall a vs) can = (name_of a, named a can.0, refl)
   calls_of (AndExists a b vs) can = (name_of a, name_of b, named a can.0, named b can.1, refl)
+  calls_of (Compose a v b) can = (name_of a, name_of b, named a can.0, named b can.1, refl)
+  calls_of (VectorCompose a pairs) can = (name_of a, map with_name pairs, named a can.0, all_named pairs can.1, refl)
+  calls_of (Restrict a b) can = (name_of a, name_of b, named a can.0, named b can.1, refl)
   calls_of (Support a) can = (name_of a, named a can, refl)
   calls_of (Drop a) can = (name_of a, named a can, refl)
   calls_of (Same a b) can = (name_of a, name_of b, named a can.0, named b can.1, refl)

@@ -1,14 +1,18 @@
 -- What a command is answered.
-use Rattle.std.proofs.Common.{Result, Ok, Err, IfOk, IsErrOf, MatchResult, ◌≡◌, ℕ, ◌+◌, ◌≤◌, ◌++◌, ◌∷◌, [], ⊎_elim, Bool, true, false, ◌&&◌, not, List, length, Some, None, refl, sym, ap, ◌∙◌, subst, arith}
+use Rattle.std.proofs.Common.{inl, inr, Result, Ok, Err, IfOk, IsErrOf, MatchResult, ◌≡◌, ℕ, ◌+◌, ◌≤◌, ◌++◌, ◌∷◌, [], ⊎_elim, Bool, true, false, ◌&&◌, not, List, length, Some, None, refl, sym, ap, ◌∙◌, subst, arith}
 use Rattle.std.proofs.Math.ListN.{set, length-set}
 use Rattle.std.proofs.lemmas.Bool.{false≢true}
+use Rattle.std.specs.Prelude.{◌<◌, map}
+use Rattle.std.specs.List.{All}
 use Rattle.std.proofs.lemmas.List.{length_push}
+use Rattle.std.proofs.lemmas.List.Elements.{All-map}
 use Rattle.edge_bits.specs.declared.edges.Edge.{Edge}
 use Rattle.edge_bits.specs.declared.edges.Kind.TheVariants as kinds
 use Rattle.function_laws.specs.declared.history.Name.{Name}
 use Rattle.function_laws.specs.declared.history.Call.{Call}
 use Rattle.function_laws.specs.declared.history.Reply.{Reply as LawReply}
 use Rattle.function_laws.specs.declared.history.Reply.TheVariants.{Made, Full}
+use Rattle.function_laws.specs.Steps.{are_distinct}
 use Rattle.job_text.specs.declared.history_line.Reply.{Reply}
 use Rattle.job_text.specs.declared.history_line.Reply.TheVariants as reply
 use Rattle.job_text.specs.declared.job.Act.{Act}
@@ -21,8 +25,8 @@ use Rattle.node_slots.specs.Views.{View, Grown, Is}
 use Rattle.net_jobs.specs.declared.playing.Answer.{Answer}
 use Rattle.net_jobs.specs.declared.session.Session.{Session}
 use Rattle.node_slots.specs.Stores.{plain_view}
-use Rattle.net_jobs.specs.Agreement.{Adds, AreStored, IsStepOf, Refuses, Rows}
-use Rattle.net_jobs.specs.Playing.{GrowsOrLeft, IsAnswered, RowsAfter, RowsGoOn, call_with, makes, rows_left}
+use Rattle.net_jobs.specs.Agreement.{Adds, AreStored, GivesName, IsLive, IsStepOf, Refuses, Rows}
+use Rattle.net_jobs.specs.Playing.{GrowsOrLeft, IsAnswered, IsHeld, RowsAfter, RowsGoOn, call_with, makes, rows_left, with_name}
 use Rattle.net_jobs.proofs.ListLemmas.{slice_get-push, slice_get-set}
 use Rattle.net_jobs.proofs.SessionLemmas.{stored-grown}
 
@@ -49,14 +53,19 @@ stored-set w rows a stored row x has = ⊎_elim
     (λ other. stored row x other.1)
     (slice_get-set rows None (Some x) a row has)
 
+-- a reply that gives a name is told as done
+told_name : (answer : LawReply) (name : Name) → GivesName answer name → (told_of answer ≡ Some reply.Done) × (given_by answer ≡ Some name)
+told_name answer name (inl made) = (ap told_of made, ap given_by made)
+told_name answer name (inr chosen) = (ap told_of chosen.1, ap given_by chosen.1)
+
 pub answered-made : (w w' : View) (old new : Rows) (act : Act) (name : Name) → makes act ≡ true → Grown w w' → AreStored w old → Adds w old w' new (call_with act) name
     → IsAnswered w old w' new act (record { reply = reply.Done; made = true })
 answered-made w w' old new act name made grown stored adds = record {
-  reply = Made name;
-  told = refl;
+  reply = adds.reply;
+  told = (told_name adds.reply name adds.gives).0;
   made_if = ap (λ b. b && true) (sym made);
   step = adds.step;
-  rows = (ap Some adds.name_is, (adds.row.0, adds.row.1));
+  rows = ((told_name adds.reply name adds.gives).1 ∙ ap Some adds.name_is, (adds.row.0, adds.row.1));
   grown = grown;
   stored = subst (λ (rows : Rows). AreStored w' rows) (sym adds.row.1) (stored-push w' old adds.row.0 (stored-grown w w' old grown stored) adds.row.2);
   full = λ e. cc;
@@ -94,6 +103,20 @@ pub refuses_as : (old new : Session) (act : Act) (call : Call) → call ≡ call
     → Refuses (plain_view old.store) old.rows.items (plain_view new.store) new.rows.items (call_with act)
 refuses_as old new act call is refuses =
     subst (λ (c : Call). Refuses (plain_view old.store) old.rows.items (plain_view new.store) new.rows.items c) is refuses
+
+-- the variables of a vcompose, and the rows of its registers
+pub pair_variables : (n : ℕ) (rows : Rows) (pairs : List (ℕ × ℕ)) → All (λ pair. (pair.0 < n) × IsHeld rows pair.1) pairs → All (λ pair. pair.0 < n) (map with_name pairs)
+pair_variables n rows pairs all = All-map (λ pair. pair.0 < n) with_name pairs (λ k d below. (all k d below).0)
+
+pub pair_rows : (n : ℕ) (rows : Rows) (pairs : List (ℕ × ℕ)) → All (λ pair. (pair.0 < n) × IsHeld rows pair.1) pairs → All (λ pair. IsLive rows pair.1) (map with_name pairs)
+pair_rows n rows pairs all = All-map (λ pair. IsLive rows pair.1) with_name pairs (λ k d below. (refl, (all k d below).1))
+
+names : (pairs : List (ℕ × ℕ)) → map (λ pair. pair.0) (map with_name pairs) ≡ map (λ pair. pair.0) pairs
+names [] = refl
+names (pair ∷ pairs) = ap (λ rest. pair.0 ∷ rest) (names pairs)
+
+pub pair_distinct : (pairs : List (ℕ × ℕ)) → are_distinct (map (λ pair. pair.0) pairs) ≡ true → are_distinct (map (λ pair. pair.0) (map with_name pairs)) ≡ true
+pair_distinct pairs distinct = ap are_distinct (names pairs) ∙ distinct
 
 -- a command that makes a row, and what it is answered
 pub answered-operated : (w w' : View) (old new : Rows) (act : Act) (made : Result Name Stop) (result : Result Answer Memory) → makes act ≡ true → Grown w w' → AreStored w old

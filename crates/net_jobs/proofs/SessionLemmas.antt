@@ -1,30 +1,33 @@
 -- The calls of a session are steps of each table with which it agrees.
 use Rattle.std.proofs.Common.{inl, inr, ◌≡◌, ◌≢◌, ℕ, ◌+◌, ◌<◌, ◌≤◌, ◌^◌, Bool, true, false, cond, ◌&&◌, ◌||◌, ⊎_elim, List, [], ◌∷◌, ◌++◌, length, Option, Some, None, option_and_then, ◌↔◌, not, get_or, refl, sym, ap, ap₂, ◌∙◌, arith, subst, pos, ℤ, take, take_all, Result, Ok, Err, IfOk, IsTrue, IsErrOf, OnErr}
 use Rattle.std.proofs.Math.ListN.{set, length-set}
-use Rattle.std.specs.Prelude.{nat_lt}
+use Rattle.std.specs.Prelude.{map, nat_lt, option_map, slice_get}
 use Rattle.std.specs.List.{All, list_all}
 use Rattle.std.proofs.lemmas.Bool.{eq-eqb, lt-ltb, ne_eqb}
 use Rattle.std.proofs.lemmas.List.{length_push}
-use Rattle.std.proofs.lemmas.List.Elements.{All-weaker}
+use Rattle.std.proofs.lemmas.List.Elements.{All-head, All-map, All-tail, All-weaker}
 use Rattle.std.proofs.lemmas.List.Sums.{list_all-from_AllPass}
 use Rattle.edge_bits.specs.declared.edges.Edge.{Edge}
 use Rattle.edge_bits.specs.declared.edges.Kind.TheVariants as kinds
 use Rattle.edge_bits.specs.Words.{digit}
 use Rattle.function_laws.specs.declared.history.Name.{Name}
 use Rattle.function_laws.specs.declared.history.Call.{Call}
-use Rattle.function_laws.specs.declared.history.Call.TheVariants.{One, Zero, Var, Not, And, Or, Xor, Ite, Cofactor, Exists, Forall, AndExists, Support, Same, Leq, Eval, DropRow}
+use Rattle.function_laws.specs.declared.history.Call.TheVariants.{One, Zero, Var, Not, And, Or, Xor, Ite, Cofactor, Exists, Forall, AndExists, Compose, VectorCompose, Restrict, Support, Same, Leq, Eval, DropRow}
 use Rattle.function_laws.specs.declared.history.Function.{Function}
 use Rattle.function_laws.specs.declared.history.Function.TheVariants.{Bdd}
-use Rattle.function_laws.specs.declared.history.Reply.TheVariants.{Made, Truth, Value, Done}
+use Rattle.function_laws.specs.declared.history.Reply.TheVariants.{Made, Chose, Truth, Value, Done}
 use Rattle.function_laws.specs.Lists.{list_of, truth}
-use Rattle.function_laws.specs.Values.{assignment_of, cofactor, conjunction, constant, disjunction, exclusive, exists_all, forall_all, if_then_else, negation, projection, support}
-use Rattle.function_laws.specs.Functions.{and_exists_of, cofactor_of, exists_of, forall_of, ite_of, leq_of, not_of, or_of, support_of, xor_of}
+use Rattle.function_laws.specs.Values.{assignment_of, cofactor, composed, conjunction, constant, disjunction, exclusive, exists_all, forall_all, if_then_else, negation, projection, support}
+use Rattle.function_laws.specs.Functions.{and_exists_of, cofactor_of, compose_of, exists_of, forall_of, ite_of, leq_of, not_of, or_of, support_of, vector_compose_of, xor_of}
+use Rattle.function_laws.specs.Restricting.{Restricts}
 use Rattle.function_laws.specs.Tables.{Table, Sizes, same_name, with_name, with_row}
-use Rattle.function_laws.specs.Steps.{makes, compares, shows, tells, outcome, IsAllowed, after, may_be_full, value_at, as_bdd, with_one, with_two, with_three, when, same_kind}
+use Rattle.function_laws.specs.Steps.{Outcome, are_distinct, bdds_of, makes, needs_no_node, restricts, compares, shows, tells, outcome, IsAllowed, after, may_be_full, value_at, as_bdd, with_one, with_two, with_three, when, same_kind}
 use Rattle.edge_bits.proofs.AssignmentLemmas.{bit-set_other}
-use Rattle.function_laws.proofs.ListLemmas.{truth-list_of}
+use Rattle.function_laws.proofs.ListLemmas.{length-list_of, truth-list_of}
 use Rattle.function_laws.proofs.WidthLemmas.{same-from_lists}
 use Rattle.function_laws.proofs.BridgeLemmas.{and_of-list_of, cofactor_of-list_of, ite_of-list_of, leq_of-list_of, not_of-list_of, place_two-list_of, support_of-list_of, xor_of-list_of}
+use Rattle.function_laws.proofs.BoundedRestriction.{Restricts-list_of}
+use Rattle.function_laws.proofs.ComposeLemmas.{compose_of-list_of, listed, vector_compose_of-list_of}
 use Rattle.function_laws.proofs.ExistsLemmas.{and_exists_of-list_of, exists_of-list_of, forall_of-list_of}
 use Rattle.function_laws.proofs.StepLemmas.{made_is_allowed, after-made, value_is_allowed, done_is_allowed, outcome-and, outcome-var, outcome-eval, outcome-drop_row}
 use Rattle.node_store.specs.declared.grow.Stop.{Stop}
@@ -36,7 +39,9 @@ use Rattle.node_slots.specs.Views.{View, Denotes, Grown, Is, IsVariable, Permane
 use Rattle.node_store.specs.Kinds.{Function as StoreFunction}
 use Rattle.node_store.specs.Work.{IsWork}
 use Rattle.node_store.specs.ViewLaws.{Is-from, Is-grown, values_at-grown, values_at-is}
-use Rattle.net_jobs.specs.Agreement.{Adds, Agrees, AreStored, Has, IsDue, IsKept, IsLive, IsStepOf, Refuses, Rows, list_at, name_of, sizes_for}
+use Rattle.net_jobs.specs.Agreement.{Adds, Agrees, AreStored, Has, IsDue, IsKept, IsLive, IsStepOf, Refuses, Rows, edge_or, list_at, name_of, sizes_for, with_edge}
+use Rattle.quantify_ops.specs.Restricted.{Restricted}
+use Rattle.quantify_ops.specs.Substituted.{AreSubstituted, IsPair, function_with, functions_of, substituted_at}
 use Rattle.net_jobs.proofs.ListLemmas.{slice_get-push, slice_get-set}
 use Rattle.net_jobs.proofs.WalkingLemmas.{assignment_of-below}
 
@@ -95,6 +100,8 @@ pub adds : (w w' : View) (rows new : Rows) (call : Call) (name : Name) (e : Edge
 adds w w' rows new call name e grown stored is is_name is_new is_outcome = record {
   name_is = is_name;
   row = (e, is_new, is);
+  reply = Made name;
+  gives = inl refl;
   step = λ t agrees.
       let made : Name = name_of (length rows) in
       let allowed : IsAllowed t 0 call (Made made) = made_is_allowed t 0 call made (Bdd (list_at w' e)) (is_outcome t agrees) (agrees.not_given (length rows) (omega arith)) in
@@ -108,15 +115,22 @@ adds w w' rows new call name e grown stored is is_name is_new is_outcome = recor
 }
 
 -- a call that makes nodes may be refused
-pub refuses : (w w' : View) (rows new : Rows) (call : Call) → Grown w w' → AreStored w rows → Rose w w' → new ≡ rows → IsTrue (may_be_full call)
-    → ((t : Table) → Agrees w rows t → (f : Function) × (outcome t 0 call ≡ Some (makes f))) → Refuses w rows w' new call
-refuses w w' rows new call grown stored rose same may is_outcome = record {
+refuses_any : (w w' : View) (rows new : Rows) (call : Call) → Grown w w' → AreStored w rows → Rose w w' → new ≡ rows → IsTrue (may_be_full call)
+    → ((t : Table) → Agrees w rows t → (o : Outcome) × (outcome t 0 call ≡ Some o) × (needs_no_node o ≡ false)) → Refuses w rows w' new call
+refuses_any w w' rows new call grown stored rose same may is_outcome = record {
   rose = rose;
   rows_stay = same;
-  step = λ in_use need t agrees.
-      let out = is_outcome t agrees in
-      ((makes out.0, out.1, refl, may), agrees-grown w w' rows t grown stored agrees);
+  step = λ in_use need t agrees. let out = is_outcome t agrees in ((out.0, out.1, out.2, may), agrees-grown w w' rows t grown stored agrees);
 }
+
+pub refuses : (w w' : View) (rows new : Rows) (call : Call) → Grown w w' → AreStored w rows → Rose w w' → new ≡ rows → IsTrue (may_be_full call)
+    → ((t : Table) → Agrees w rows t → (f : Function) × (outcome t 0 call ≡ Some (makes f))) → Refuses w rows w' new call
+refuses w w' rows new call grown stored rose same may is_outcome =
+    refuses_any w w' rows new call grown stored rose same may (λ t agrees. let out = is_outcome t agrees in (makes out.0, out.1, refl))
+
+-- a row that is there has its edge
+pub has_edge : (rows : Rows) (row : ℕ) → (e : Edge) × Has rows row e → Has rows row (edge_or (slice_get rows row))
+has_edge rows row held = held.1 ∙ ap (λ o. Some (Some (edge_or o))) (sym held.1)
 
 list_inside : (f g : List Bool) → Bdd f ≡ Bdd g → f ≡ g
 list_inside f g e = cc
@@ -208,6 +222,66 @@ module _ (w : View) (rows : Rows) where
       ap₂ (λ n x. with_one (as_bdd x) (λ f. makes (Bdd (support_of n f)))) (variables_of t agrees) (live_at t a e agrees first is_e)
       ∙ ap (λ f. Some (makes (Bdd f))) (support_of-list_of w.vars (bdd_at w e))
 
+  pub outcome-of_compose : (a : Name) (v : ℕ) (b : Name) (e d : Edge) (t : Table) → v < w.vars → IsLive rows a → IsLive rows b → Has rows a.row e → Has rows b.row d → Agrees w rows t
+      → outcome t 0 (Compose a v b) ≡ Some (makes (Bdd (list_of (2 ^ w.vars) (composed (bdd_at w e) v (bdd_at w d)))))
+  outcome-of_compose a v b e d t within first second is_e is_d agrees =
+      ap₂ (λ c x. when c (with_two (as_bdd x) (as_bdd (t.live 0 b)) (λ f g. makes (Bdd (compose_of f v g)))))
+      (lt-ltb v t.sizes.variables (omega (arith, within, variables_of t agrees))) (live_at t a e agrees first is_e)
+      ∙ ap (λ y. with_two (Some (list_at w e)) (as_bdd y) (λ f g. makes (Bdd (compose_of f v g)))) (live_at t b d agrees second is_d)
+      ∙ ap (λ f. Some (makes (Bdd f))) (compose_of-list_of w.vars v (bdd_at w e) (bdd_at w d) within)
+
+  -- what the names of the pairs stand for
+  live_pairs : (pairs : List (ℕ × Name)) (t : Table) → All (λ pair. IsLive rows pair.1) pairs → Agrees w rows t
+      → bdds_of (t.live 0) pairs ≡ Some (map (listed (2 ^ w.vars)) (functions_of w (map (with_edge rows) pairs)))
+  live_pairs [] t all agrees = refl
+  live_pairs (pair ∷ pairs) t all agrees =
+      let live = All-head (λ pair. IsLive rows pair.1) pair pairs all in
+      ap₂ (λ x o. option_and_then (λ f. option_map (λ rest. (pair.0, f) ∷ rest) o) (as_bdd x))
+      (live_at t pair.1 (edge_or (slice_get rows pair.1.row)) agrees live (has_edge rows pair.1.row live.1)) (live_pairs pairs t (All-tail (λ pair. IsLive rows pair.1) pair pairs all) agrees)
+
+  pairs_in_range : (pairs : List (ℕ × Name)) (t : Table) → All (λ pair. pair.0 < w.vars) pairs → Agrees w rows t → list_all (λ pair. nat_lt pair.0 t.sizes.variables) pairs ≡ true
+  pairs_in_range pairs t vars agrees =
+      list_all-from_AllPass (λ pair. nat_lt pair.0 t.sizes.variables) pairs
+      (λ k d below. lt-ltb (get_or pairs k d).0 t.sizes.variables (omega (arith, vars k d below, variables_of t agrees)))
+
+  pub outcome-of_vector_compose : (a : Name) (pairs : List (ℕ × Name)) (e : Edge) (t : Table) → All (λ pair. pair.0 < w.vars) pairs → All (λ pair. IsLive rows pair.1) pairs
+      → are_distinct (map (λ pair. pair.0) pairs) ≡ true → IsLive rows a → Has rows a.row e → Agrees w rows t
+      → outcome t 0 (VectorCompose a pairs) ≡ Some (makes (Bdd (list_of (2 ^ w.vars) (substituted_at w e (map (with_edge rows) pairs)))))
+  outcome-of_vector_compose a pairs e t vars live distinct first is_e agrees =
+      let fs = functions_of w (map (with_edge rows) pairs) in
+      ap₂ (λ c x. when c (with_two (as_bdd x) (bdds_of (t.live 0) pairs) (λ f gs. makes (Bdd (vector_compose_of f gs)))))
+      (ap₂ (λ b c. b && c) (pairs_in_range pairs t vars agrees) distinct) (live_at t a e agrees first is_e)
+      ∙ ap (λ o. with_two (Some (list_at w e)) o (λ f gs. makes (Bdd (vector_compose_of f gs)))) (live_pairs pairs t live agrees)
+      ∙ ap (λ f. Some (makes (Bdd f))) (vector_compose_of-list_of w.vars (bdd_at w e) fs
+      (All-map (λ pair. pair.0 < w.vars) (function_with w) (map (with_edge rows) pairs) (All-map (λ pair. pair.0 < w.vars) (with_edge rows) pairs vars)))
+
+  pub outcome-of_restrict : (a b : Name) (e d : Edge) (t : Table) → IsLive rows a → IsLive rows b → Has rows a.row e → Has rows b.row d → Agrees w rows t
+      → outcome t 0 (Restrict a b) ≡ Some (restricts (list_at w e) (list_at w d))
+  outcome-of_restrict a b e d t first second is_e is_d agrees =
+      ap₂ (λ x y. with_two (as_bdd x) (as_bdd y) restricts) (live_at t a e agrees first is_e) (live_at t b d agrees second is_d)
+
+  -- what restrict chose is told by the reply
+  pub chooses : (w' : View) (new : Rows) (a b name : Name) (e d x : Edge) → Grown w w' → AreStored w rows → IsLive rows a → IsLive rows b → Has rows a.row e → Has rows b.row d
+      → Restricted w w' e d x → name ≡ name_of (length rows) → new ≡ rows ++ Some x ∷ [] → Adds w rows w' new (Restrict a b) name
+  chooses w' new a b name e d x grown stored first second is_e is_d chosen is_name is_new = record {
+    name_is = is_name;
+    row = (x, is_new, chosen.answer);
+    reply = Chose name (list_at w' x);
+    gives = inr (list_at w' x, refl);
+    step = λ t agrees.
+        let made : Name = name_of (length rows) in
+        let list : list_at w' x ≡ list_of (2 ^ w.vars) (bdd_at w' x) = ap (λ n. list_of (2 ^ n) (bdd_at w' x)) grown.vars in
+        let long : length (list_at w' x) ≡ length (list_at w e) = ap length list ∙ length-list_of (2 ^ w.vars) (bdd_at w' x) ∙ sym (length-list_of (2 ^ w.vars) (bdd_at w e)) in
+        let says : Restricts (length (list_at w e)) (truth (list_at w e)) (truth (list_at w d)) (truth (list_at w' x)) =
+        subst (λ g. Restricts (length (list_at w e)) (truth (list_at w e)) (truth (list_at w d)) (truth g)) (sym list) (Restricts-list_of w.vars (bdd_at w e) (bdd_at w d) (bdd_at w' x) chosen.restricts) in
+        let allowed : IsAllowed t 0 (Restrict a b) (Chose made (list_at w' x)) =
+        (restricts (list_at w e) (list_at w d), outcome-of_restrict a b e d t first second is_e is_d agrees, (agrees.not_given (length rows) (omega arith), long, says)) in (
+          subst (λ (r : Name). IsAllowed t 0 (Restrict a b) (Chose r (list_at w' x))) (sym is_name) allowed,
+          subst (λ (r : Name). Agrees w' new (with_name t 0 r (Bdd (list_at w' x)))) (sym is_name)
+              (subst (λ (u : Rows). Agrees w' u (with_name t 0 made (Bdd (list_at w' x)))) (sym is_new) (agrees_push w' rows t x (agrees-grown w w' rows t grown stored agrees))),
+        );
+  }
+
   pub step-leq : (w' : View) (a b : Name) (e d : Edge) (result : Result Bool Memory) → Grown w w' → AreStored w rows → IsLive rows a → IsLive rows b
       → Has rows a.row e → Has rows b.row d → IfOk result (λ told. (told ≡ true) ↔ Implies (bdd_at w e) (bdd_at w d))
       → IfOk result (λ told. IsStepOf w rows w' rows (Leq a b) (Truth told))
@@ -259,6 +333,21 @@ op_adds w w' rows new call made (Ok name) f grown stored denotes kept is_outcome
     adds w w' rows new call name kept.0 grown stored (Is-from kinds.Bdd is) kept.2 kept.3
     (λ t agrees. is_outcome t agrees ∙ ap (λ xs. Some (makes (Bdd xs))) (list-made w w' kept.0 f grown is))
 
+-- restrict made an edge
+pub restrict_adds : (w w' : View) (rows new : Rows) (a b : Name) (e d : Edge) (made : Result Edge Stop) (result : Result Name Stop) → Grown w w' → AreStored w rows → IsLive rows a → IsLive rows b
+    → Has rows a.row e → Has rows b.row d → IfOk made (λ x. Restricted w w' e d x) → IfOk result (λ name. IsKept made rows new name) → IfOk result (λ name. Adds w rows w' new (Restrict a b) name)
+restrict_adds w w' rows new a b e d made (Err x) grown stored first second is_e is_d chosen kept = tt
+restrict_adds w w' rows new a b e d made (Ok name) grown stored first second is_e is_d chosen kept =
+    chooses w rows w' new a b name e d kept.0 grown stored first second is_e is_d (subst (λ (r : Result Edge Stop). IfOk r (λ x. Restricted w w' e d x)) kept.1 chosen) kept.2 kept.3
+
+pub restrict_refuses : (w w' : View) (rows new : Rows) (a b : Name) (e d : Edge) (made : Result Edge Stop) (result : Result Name Stop) → Grown w w' → AreStored w rows → IsLive rows a → IsLive rows b
+    → Has rows a.row e → Has rows b.row d → (IsErrOf made stop.Full → Rose w w') → (IsErrOf result stop.Full → IsErrOf made stop.Full) → OnErr result (new ≡ rows)
+    → IsErrOf result stop.Full → Refuses w rows w' new (Restrict a b)
+restrict_refuses w w' rows new a b e d made (Ok name) grown stored first second is_e is_d rose full same is = cc
+restrict_refuses w w' rows new a b e d made (Err x) grown stored first second is_e is_d rose full same is =
+    refuses_any w w' rows new (Restrict a b) grown stored (rose (full is)) same refl
+    (λ t agrees. (restricts (list_at w e) (list_at w d), outcome-of_restrict w rows a b e d t first second is_e is_d agrees, refl))
+
 -- an operation that was refused for want of a slot
 pub op_refuses : (w w' : View) (rows new : Rows) (call : Call) (made : Result Edge Stop) (result : Result Name Stop) (f : ℕ → Bool) → Grown w w' → AreStored w rows
     → (IsErrOf made stop.Full → Rose w w') → (IsErrOf result stop.Full → IsErrOf made stop.Full) → OnErr result (new ≡ rows) → IsTrue (may_be_full call)
@@ -294,3 +383,18 @@ due_of_work w Work is = elim is.is [
   | inl plain ↦ (_, plain)
   | inr opposite ↦ (_, opposite)
 ]
+
+-- the pairs of a composition are of the store
+edge_names : (rows : Rows) (pairs : List (ℕ × Name)) → map (λ pair. pair.0) (map (with_edge rows) pairs) ≡ map (λ pair. pair.0) pairs
+edge_names rows [] = refl
+edge_names rows (pair ∷ pairs) = ap (λ rest. pair.0 ∷ rest) (edge_names rows pairs)
+
+pub are_substituted : (w : View) (rows : Rows) (e : Edge) (a : ℕ) (pairs : List (ℕ × Name)) → w.vars ≤ 1024 → AreStored w rows → Has rows a e
+    → All (λ pair. pair.0 < w.vars) pairs → All (λ pair. IsLive rows pair.1) pairs → are_distinct (map (λ pair. pair.0) pairs) ≡ true → AreSubstituted w e (map (with_edge rows) pairs)
+are_substituted w rows e a pairs few stored is_e vars live distinct = record {
+  edge = stored a e is_e;
+  each = All-map (IsPair w) (with_edge rows) pairs (λ k d below.
+      let row = (get_or pairs k d).1.row in
+      ((omega (arith, few, vars k d below), vars k d below), stored row (edge_or (slice_get rows row)) (has_edge rows row (live k d below).1)));
+  distinct = ap are_distinct (edge_names rows pairs) ∙ distinct;
+}

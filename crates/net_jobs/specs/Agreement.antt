@@ -1,11 +1,11 @@
 -- When a session of rows agrees with a table of functions, and which of its calls are steps of the table.
-use Rattle.std.specs.Prelude.{◌≡◌, ℕ, ◌≤◌, ◌^◌, Bool, true, false, List, [], ◌∷◌, ◌++◌, length, Option, Some, None, slice_get, Result, Ok}
+use Rattle.std.specs.Prelude.{◌≡◌, ℕ, ◌≤◌, ◌^◌, Bool, true, false, List, [], ◌∷◌, ◌++◌, ◌⊎◌, length, map, Option, Some, None, slice_get, Result, Ok}
 use Rattle.edge_bits.specs.declared.edges.Edge.{Edge}
 use Rattle.edge_bits.specs.declared.edges.Kind.TheVariants as kinds
 use Rattle.function_laws.specs.declared.history.Name.{Name}
 use Rattle.function_laws.specs.declared.history.Call.{Call}
 use Rattle.function_laws.specs.declared.history.Reply.{Reply}
-use Rattle.function_laws.specs.declared.history.Reply.TheVariants.{Made, Full}
+use Rattle.function_laws.specs.declared.history.Reply.TheVariants.{Made, Chose, Full}
 use Rattle.function_laws.specs.declared.history.Function.TheVariants.{Bdd}
 use Rattle.function_laws.specs.Lists.{list_of}
 use Rattle.function_laws.specs.Tables.{Table, Sizes}
@@ -40,6 +40,15 @@ is_gone (Some (Some e)) = false
 abbrev pub is_dropped : Rows → ℕ → Bool
 is_dropped rows row = is_gone (slice_get rows row)
 
+-- the edge of a row; of one that isn't there or was dropped any edge
+abbrev pub edge_or : Option (Option Edge) → Edge
+edge_or (Some (Some e)) = e
+edge_or _ = record { index = 0; complement = false }
+
+-- a variable with a row, and with the row's edge
+abbrev pub with_edge : Rows → ℕ × Name → ℕ × Edge
+with_edge rows pair = (pair.0, edge_or (slice_get rows pair.1.row))
+
 -- each row's edge denotes a function of the store
 abbrev pub AreStored : View → Rows → Type 0
 AreStored w rows = (row : ℕ) (e : Edge) → Has rows row e → Is kinds.Bdd w e
@@ -64,11 +73,17 @@ abbrev pub IsStepOf : View → Rows → View → Rows → Call → Reply → Typ
 IsStepOf w rows w' rows' call reply =
     (t : Table) → Agrees w rows t → IsAllowed t 0 call reply × Agrees w' rows' (after t 0 call reply)
 
--- The call made a row with this name at the end of the rows, and it is a step.
+-- the reply gives the name, of restrict with the function that was chosen
+abbrev pub GivesName : Reply → Name → Type 0
+GivesName reply name = (reply ≡ Made name) ⊎ ((f : List Bool) × (reply ≡ Chose name f))
+
+-- The call made a row with this name at the end of the rows, and it is a step with a reply that gives the name.
 pub record Adds (w : View) (rows : Rows) (w' : View) (rows' : Rows) (call : Call) (name : Name) : Type 0 where
   pub name_is : name ≡ name_of (length rows)
   pub row : (e : Edge) × (rows' ≡ rows ++ Some e ∷ []) × Is kinds.Bdd w' e
-  pub step : IsStepOf w rows w' rows' call (Made name)
+  pub reply : Reply
+  pub gives : GivesName reply name
+  pub step : IsStepOf w rows w' rows' call reply
 
 -- No slot was free for a node that was due: the count of answers Full rose, the rows stay, and a reply Full is a step.
 pub record Refuses (w : View) (rows : Rows) (w' : View) (rows' : Rows) (call : Call) : Type 0 where

@@ -5,10 +5,12 @@ use Rattle.function_laws.specs.declared.history.Call.{Call}
 use Rattle.function_laws.specs.declared.history.Call.TheVariants as calls
 use Rattle.function_laws.specs.declared.history.Reply.{Reply as LawReply}
 use Rattle.function_laws.specs.declared.history.Reply.TheVariants as laws
+use Rattle.function_laws.specs.declared.history.Name.{Name}
+use Rattle.function_laws.specs.Steps.{are_distinct}
 use Rattle.function_laws.specs.Tables.{opening}
 use Rattle.function_laws.specs.Histories.{IsLegal, table_after}
 use Rattle.job_text.specs.declared.job.Act.{Act}
-use Rattle.job_text.specs.declared.job.Act.TheVariants.{One, Zero, Var, Not, And, Or, Xor, Ite, Cofactor, Exists, Forall, AndExists, Support, Drop, Same, Leq, Eval}
+use Rattle.job_text.specs.declared.job.Act.TheVariants.{One, Zero, Var, Not, And, Or, Xor, Ite, Cofactor, Exists, Forall, AndExists, Compose, VectorCompose, Restrict, Support, Drop, Same, Leq, Eval}
 use Rattle.job_text.specs.declared.job.Command.{Command}
 use Rattle.job_text.specs.declared.history_line.Reply.TheVariants as replies
 use Rattle.job_text.specs.declared.job.Job.{Job}
@@ -41,11 +43,18 @@ CanCall n rows (Cofactor a v b) = IsHeld rows a × (v < n)
 CanCall n rows (Exists a vs) = IsHeld rows a × All (λ v. v < n) vs
 CanCall n rows (Forall a vs) = IsHeld rows a × All (λ v. v < n) vs
 CanCall n rows (AndExists a b vs) = IsHeld rows a × IsHeld rows b × All (λ v. v < n) vs
+CanCall n rows (Compose a v b) = IsHeld rows a × IsHeld rows b × (v < n)
+CanCall n rows (VectorCompose a pairs) = IsHeld rows a × All (λ pair. (pair.0 < n) × IsHeld rows pair.1) pairs × (are_distinct (map (λ pair. pair.0) pairs) ≡ true)
+CanCall n rows (Restrict a b) = IsHeld rows a × IsHeld rows b
 CanCall n rows (Support a) = IsHeld rows a
 CanCall n rows (Drop a) = IsHeld rows a
 CanCall n rows (Same a b) = IsHeld rows a × IsHeld rows b
 CanCall n rows (Leq a b) = IsHeld rows a × IsHeld rows b
 CanCall n rows (Eval a bits) = IsHeld rows a × (length bits ≡ n)
+
+-- a variable with a register, and with the name of that row
+abbrev pub with_name : ℕ × ℕ → ℕ × Name
+with_name pair = (pair.0, name_of pair.1)
 
 -- the call of a command, where the register of each number is the row of that number
 abbrev pub call_with : Act → Call
@@ -61,6 +70,9 @@ call_with (Cofactor a v b) = calls.Cofactor (name_of a) v b
 call_with (Exists a vs) = calls.Exists (name_of a) vs
 call_with (Forall a vs) = calls.Forall (name_of a) vs
 call_with (AndExists a b vs) = calls.AndExists (name_of a) (name_of b) vs
+call_with (Compose a v b) = calls.Compose (name_of a) v (name_of b)
+call_with (VectorCompose a pairs) = calls.VectorCompose (name_of a) (map with_name pairs)
+call_with (Restrict a b) = calls.Restrict (name_of a) (name_of b)
 call_with (Support a) = calls.Support (name_of a)
 call_with (Drop a) = calls.DropRow (name_of a)
 call_with (Same a b) = calls.Same (name_of a) (name_of b)

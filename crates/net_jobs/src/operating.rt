@@ -1,12 +1,14 @@
 //! The calls of a session that make a function of others.
 
-ghost use Rattle.std.specs.Prelude.{◌≡◌, ◌<◌, ◌^◌, All, vec_len, IfOk, IsErrOf};
+ghost use Rattle.std.specs.Prelude.{◌≡◌, ◌<◌, ◌^◌, All, map, true, vec_len, IfOk, IsErrOf};
 ghost use Rattle.function_laws.specs.declared.history.Call.TheVariants as calls;
+ghost use Rattle.function_laws.specs.Steps.{are_distinct};
 ghost use Rattle.node_slots.specs.Stores.{plain_view};
 ghost use Rattle.node_slots.specs.Views.{Grown};
-ghost use Rattle.net_jobs.specs.Agreement.{Adds, AreStored, IsFilled, IsLive, Refuses};
+ghost use Rattle.net_jobs.specs.Agreement.{Adds, AreStored, IsFilled, IsLive, Refuses, with_edge};
 
 use crate::session::{Session, keep, settle};
+use edge_bits::{Edge, Memory};
 use function_laws::Name;
 use node_slots::Stop;
 
@@ -177,6 +179,77 @@ impl Session {
     {
         let first = self.edge(f);
         let made = quantify_ops::support(&mut self.store, first);
+        settle(&self.store, &mut self.rows, made)
+    }
+
+    /// A row with another put for a variable, as a new row.
+    pub fn compose(&mut self, f: Name, v: u32, g: Name) -> Result<Name, Stop>
+        requires stored { AreStored (plain_view self.old.store) self.old.rows.items }
+        requires first { IsLive self.old.rows.items f }
+        requires second { IsLive self.old.rows.items g }
+        requires variable { v < (plain_view self.old.store).vars }
+        requires room { vec_len self.old.rows < 2 ^ 32 }
+        ensures ok { IfOk result (λ name. Adds (plain_view self.old.store) self.old.rows.items (plain_view self.new.store) self.new.rows.items (calls.Compose f v g) name) }
+        ensures full { IsErrOf result Stop.Full → Refuses (plain_view self.old.store) self.old.rows.items (plain_view self.new.store) self.new.rows.items (calls.Compose f v g) }
+        ensures filled { IsErrOf result Stop.Full → IsFilled self.new.store }
+        ensures grown { Grown (plain_view self.old.store) (plain_view self.new.store) }
+    {
+        let _few = self.store.vars();
+        let first = self.edge(f);
+        let second = self.edge(g);
+        let made = quantify_ops::compose(&mut self.store, first, v, second);
+        settle(&self.store, &mut self.rows, made)
+    }
+
+    /// A row with other rows put for variables, all at once, as a new row. No variable stands twice.
+    pub fn vector_compose(&mut self, f: Name, pairs: &[(u32, Name)]) -> Result<Name, Stop>
+        requires stored { AreStored (plain_view self.old.store) self.old.rows.items }
+        requires first { IsLive self.old.rows.items f }
+        requires variables { All (λ pair. pair.0 < (plain_view self.old.store).vars) pairs.now }
+        requires others { All (λ pair. IsLive self.old.rows.items pair.1) pairs.now }
+        requires distinct { are_distinct (map (λ pair. pair.0) pairs.now) ≡ true }
+        requires room { vec_len self.old.rows < 2 ^ 32 }
+        ensures ok { IfOk result (λ name. Adds (plain_view self.old.store) self.old.rows.items (plain_view self.new.store) self.new.rows.items (calls.VectorCompose f pairs.now) name) }
+        ensures full { IsErrOf result Stop.Full → Refuses (plain_view self.old.store) self.old.rows.items (plain_view self.new.store) self.new.rows.items (calls.VectorCompose f pairs.now) }
+        ensures filled { IsErrOf result Stop.Full → IsFilled self.new.store }
+        ensures grown { Grown (plain_view self.old.store) (plain_view self.new.store) }
+    {
+        let _few = self.store.vars();
+        let first = self.edge(f);
+        let edges = match self.edges(pairs) {
+            Ok(edges) => edges,
+            Err(Memory) => return Err(Stop::Memory),
+        };
+        let made = quantify_ops::vector_compose(&mut self.store, first, &edges);
+        settle(&self.store, &mut self.rows, made)
+    }
+
+    // The pairs' variables with the edges of their rows.
+    fn edges(&self, pairs: &[(u32, Name)]) -> Result<Vec<(u32, Edge)>, Memory>
+        requires { All (λ pair. IsLive self.now.rows.items pair.1) pairs.now }
+        ensures { IfOk result (λ edges. edges.items ≡ map (with_edge self.now.rows.items) pairs.now) }
+    {
+        let mut edges = Vec::new(*self.rows.allocator());
+        for pair in pairs {
+            edges.push((pair.0, self.edge(pair.1)))?;
+        }
+        Ok(edges)
+    }
+
+    /// One of the functions that agree with a row where another holds, as a new row.
+    pub fn restrict(&mut self, f: Name, g: Name) -> Result<Name, Stop>
+        requires stored { AreStored (plain_view self.old.store) self.old.rows.items }
+        requires first { IsLive self.old.rows.items f }
+        requires second { IsLive self.old.rows.items g }
+        requires room { vec_len self.old.rows < 2 ^ 32 }
+        ensures ok { IfOk result (λ name. Adds (plain_view self.old.store) self.old.rows.items (plain_view self.new.store) self.new.rows.items (calls.Restrict f g) name) }
+        ensures full { IsErrOf result Stop.Full → Refuses (plain_view self.old.store) self.old.rows.items (plain_view self.new.store) self.new.rows.items (calls.Restrict f g) }
+        ensures filled { IsErrOf result Stop.Full → IsFilled self.new.store }
+        ensures grown { Grown (plain_view self.old.store) (plain_view self.new.store) }
+    {
+        let first = self.edge(f);
+        let second = self.edge(g);
+        let made = quantify_ops::restrict(&mut self.store, first, second);
         settle(&self.store, &mut self.rows, made)
     }
 }

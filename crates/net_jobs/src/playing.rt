@@ -1,13 +1,14 @@
 //! The commands of a job, one after another, and the text of their history.
 
-ghost use Rattle.std.specs.Prelude.{◌≡◌, ◌≢◌, ◌<◌, ◌≤◌, ◌^◌, ◌+◌, ◌++◌, [], length, string_bytes, vec_len, All, slice_get, IfOk, IfSome, IsErrOf, MatchResult, OnOk, true, false, Some, not, List as ListOf, ◌∷◌, codes, ℕ};
+ghost use Rattle.std.specs.Prelude.{◌≡◌, ◌≢◌, ◌<◌, ◌≤◌, ◌^◌, ◌+◌, ◌++◌, [], length, string_bytes, vec_len, All, slice_get, IfOk, IfSome, IsErrOf, MatchResult, OnOk, true, false, Some, not, map, List as ListOf, ◌∷◌, codes, ℕ};
+ghost use Rattle.job_text.specs.declared.job.Act.TheVariants as acts;
 ghost use Rattle.job_text.specs.Grammar.{CommandsSay, IsJob, target_of};
 ghost use Rattle.job_text.specs.Histories.{HistoryLine, drop_of, left_of, line_text, stops, told_of};
 ghost use Rattle.function_laws.specs.declared.history.Reply.TheVariants as laws;
 ghost use Rattle.node_slots.specs.Stores.{IsOpening, Plain, plain_view};
 ghost use Rattle.node_slots.specs.Views.{Grown};
 ghost use Rattle.net_jobs.specs.Agreement.{Adds, AreStored, IsFilled, Refuses, is_dropped, name_of};
-ghost use Rattle.net_jobs.specs.Playing.{CanCall, DropsOne, DropsTheRest, IsAnswered, PlaysOver, RowsGoOn, SaysOne, SaysThrough, StandsAt, assigned_after, call_with, makes, target_at};
+ghost use Rattle.net_jobs.specs.Playing.{CanCall, DropsOne, DropsTheRest, IsAnswered, PlaysOver, RowsGoOn, SaysOne, SaysThrough, StandsAt, assigned_after, call_with, makes, target_at, with_name};
 
 use crate::gate::Gate;
 use crate::session::Session;
@@ -62,6 +63,33 @@ fn answer_of(made: Result<Name, Stop>) -> Result<Answer, Memory>
     }
 }
 
+/// The pairs' variables with the names of their registers.
+fn named(alloc: Global, pairs: &[(u32, u32)]) -> Result<Vec<(u32, Name)>, Memory>
+    ensures { IfOk result (λ names. names.items ≡ map with_name pairs.now) }
+{
+    let mut names = Vec::new(alloc);
+    for pair in pairs {
+        names.push((pair.0, register(pair.1)))?;
+    }
+    Ok(names)
+}
+
+/// Makes the call of a `vcompose`.
+fn vector_compose(session: &mut Session, a: u32, pairs: &[(u32, u32)]) -> Result<Name, Stop>
+    requires can { CanCall (plain_view session.old.store).vars session.old.rows.items (acts.VectorCompose a pairs.now) }
+    requires stored { AreStored (plain_view session.old.store) session.old.rows.items }
+    requires room { vec_len session.old.rows < 2 ^ 32 }
+    ensures ok { IfOk result (λ name. Adds (plain_view session.old.store) session.old.rows.items (plain_view session.new.store) session.new.rows.items (call_with (acts.VectorCompose a pairs.now)) name) }
+    ensures full { IsErrOf result Stop.Full → Refuses (plain_view session.old.store) session.old.rows.items (plain_view session.new.store) session.new.rows.items (call_with (acts.VectorCompose a pairs.now)) }
+    ensures filled { IsErrOf result Stop.Full → IsFilled session.new.store }
+    ensures grown { Grown (plain_view session.old.store) (plain_view session.new.store) }
+{
+    match named(*session.rows.allocator(), pairs) {
+        Ok(names) => session.vector_compose(register(a), &names),
+        Err(Memory) => Err(Stop::Memory),
+    }
+}
+
 /// Makes the call of a command that makes a row.
 fn operate(session: &mut Session, act: &Act) -> Result<Name, Stop>
     requires can { CanCall (plain_view session.old.store).vars session.old.rows.items act.now }
@@ -88,6 +116,9 @@ fn operate(session: &mut Session, act: &Act) -> Result<Name, Stop>
         Act::AndExists(a, b, vars) => {
             session.and_exists(register(*a), register(*b), vars.as_slice())
         }
+        Act::Compose(a, v, b) => session.compose(register(*a), *v, register(*b)),
+        Act::VectorCompose(a, pairs) => vector_compose(session, *a, pairs.as_slice()),
+        Act::Restrict(a, b) => session.restrict(register(*a), register(*b)),
         Act::Support(a) => session.support(register(*a)),
         Act::Drop(_) | Act::Same(_, _) | Act::Leq(_, _) | Act::Eval(_, _) => unreachable!(),
     }

@@ -1,8 +1,11 @@
-use Rattle.std.proofs.Common.{◌∙◌, sym, ap, ap₂}
+use Rattle.std.proofs.Common.{◌∙◌, sym, ap, ap₂, subst}
 use Rattle.function_laws.specs.declared.history.Call.TheVariants as calls
 use Rattle.function_laws.specs.declared.history.Name.{Name}
 use Rattle.net_jobs.specs.Agreement.{name_of}
-use Rattle.net_jobs.specs.Playing.{call_with}
+use Rattle.net_jobs.specs.Playing.{CanCall, call_with}
+use Rattle.job_text.specs.declared.job.Act.{Act}
+use Rattle.job_text.specs.declared.job.Act.TheVariants.{VectorCompose}
+use Rattle.node_slots.specs.Stores.{plain_view}
 use Rattle.net_jobs.proofs.PlayLemmas.{adds_as, refuses_as}
 use Rattle.net_jobs.proofs.playing.operate.Goals as goal
 
@@ -65,6 +68,30 @@ returns-in-AndExists-clause-ok c = adds_as c.args.session.now c.and_exists.new.s
 
 pub returns-in-AndExists-clause-full : goal.returns-in-AndExists-clause-full
 returns-in-AndExists-clause-full c e = refuses_as c.args.session.now c.and_exists.new.self c.args.act.now _ (ap₂ (λ (f g : Name). calls.AndExists f g c.as_slice-in-AndExists.result.now) c.register-in-AndExists.ensures c.register-in-AndExists-2.ensures ∙ ap (calls.AndExists (name_of c.in-AndExists.a) (name_of c.in-AndExists.b)) c.as_slice-in-AndExists.ensures ∙ sym (ap call_with c.in-AndExists.is)) (c.and_exists.ensures.full e)
+
+pub returns-in-Compose-clause-ok : goal.returns-in-Compose-clause-ok
+returns-in-Compose-clause-ok c = adds_as c.args.session.now c.compose.new.self c.args.act.now _ c.compose.result (ap₂ (λ (f g : Name). calls.Compose f c.in-Compose.v g) c.register-in-Compose.ensures c.register-in-Compose-2.ensures ∙ sym (ap call_with c.in-Compose.is)) c.compose.ensures.ok
+
+pub returns-in-Compose-clause-full : goal.returns-in-Compose-clause-full
+returns-in-Compose-clause-full c e = refuses_as c.args.session.now c.compose.new.self c.args.act.now _ (ap₂ (λ (f g : Name). calls.Compose f c.in-Compose.v g) c.register-in-Compose.ensures c.register-in-Compose-2.ensures ∙ sym (ap call_with c.in-Compose.is)) (c.compose.ensures.full e)
+
+pub vector_compose-requires-clause-can : goal.vector_compose-requires-clause-can
+vector_compose-requires-clause-can c =
+    let old = c.args.session.now in
+    let can = subst (λ (x : Act). CanCall (plain_view old.store).vars old.rows.items x) c.in-VectorCompose.is c.requires.can in
+    subst (λ ps. CanCall (plain_view old.store).vars old.rows.items (VectorCompose c.in-VectorCompose.a ps)) (sym c.as_slice-in-VectorCompose.ensures) can
+
+pub returns-in-VectorCompose-clause-ok : goal.returns-in-VectorCompose-clause-ok
+returns-in-VectorCompose-clause-ok c = adds_as c.args.session.now c.vector_compose.new.session c.args.act.now _ c.vector_compose.result (ap (λ ps. call_with (VectorCompose c.in-VectorCompose.a ps)) c.as_slice-in-VectorCompose.ensures ∙ sym (ap call_with c.in-VectorCompose.is)) c.vector_compose.ensures.ok
+
+pub returns-in-VectorCompose-clause-full : goal.returns-in-VectorCompose-clause-full
+returns-in-VectorCompose-clause-full c e = refuses_as c.args.session.now c.vector_compose.new.session c.args.act.now _ (ap (λ ps. call_with (VectorCompose c.in-VectorCompose.a ps)) c.as_slice-in-VectorCompose.ensures ∙ sym (ap call_with c.in-VectorCompose.is)) (c.vector_compose.ensures.full e)
+
+pub returns-in-Restrict-clause-ok : goal.returns-in-Restrict-clause-ok
+returns-in-Restrict-clause-ok c = adds_as c.args.session.now c.restrict.new.self c.args.act.now _ c.restrict.result (ap₂ calls.Restrict c.register-in-Restrict.ensures c.register-in-Restrict-2.ensures ∙ sym (ap call_with c.in-Restrict.is)) c.restrict.ensures.ok
+
+pub returns-in-Restrict-clause-full : goal.returns-in-Restrict-clause-full
+returns-in-Restrict-clause-full c e = refuses_as c.args.session.now c.restrict.new.self c.args.act.now _ (ap₂ calls.Restrict c.register-in-Restrict.ensures c.register-in-Restrict-2.ensures ∙ sym (ap call_with c.in-Restrict.is)) (c.restrict.ensures.full e)
 
 pub returns-in-Support-clause-ok : goal.returns-in-Support-clause-ok
 returns-in-Support-clause-ok c = adds_as c.args.session.now c.support.new.self c.args.act.now _ c.support.result (ap calls.Support c.register-in-Support.ensures ∙ sym (ap call_with c.in-Support.is)) c.support.ensures.ok
