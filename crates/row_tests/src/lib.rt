@@ -2,6 +2,8 @@
 #![tactic(auto)]
 
 #[cfg(test)]
+mod compositions;
+#[cfg(test)]
 mod faults;
 #[cfg(test)]
 mod outside;
