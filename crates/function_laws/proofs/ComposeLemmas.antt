@@ -1,11 +1,11 @@
 -- Composition at a top variable, and on lists of values.
-use Rattle.std.proofs.Common.{◌≡◌, ◌≢◌, ℕ, ◌+◌, ◌^◌, ◌<◌, ◌==◌, Bool, true, false, not, ◌&&◌, ◌||◌, eqb, cond, List, [], ◌∷◌, Option, Some, None, map, refl, sym, ap, ap₂, ◌∙◌, subst, arith, eqb-true}
+use Rattle.std.proofs.Common.{◌≡◌, ◌≢◌, ℕ, ◌^◌, ◌<◌, ◌==◌, Bool, true, false, not, ◌||◌, eqb, List, [], ◌∷◌, Option, Some, None, map, refl, sym, ap, ap₂, ◌∙◌, subst, arith, eqb-true}
 use Rattle.std.specs.Prelude.{find, if◌then◌else◌}
 use Rattle.std.specs.List.{All, list_any}
 use Rattle.std.proofs.lemmas.Bool.{and_parts, not-true}
 use Rattle.std.proofs.lemmas.List.Elements.{All-head, All-tail}
 use Rattle.edge_bits.specs.Assignments.{bit, set_bit}
-use Rattle.edge_bits.proofs.AssignmentLemmas.{bit-set_same, bit-set_other, set_bit-below, set_bit-set_same, set_bit_comm}
+use Rattle.edge_bits.proofs.AssignmentLemmas.{bit-set_same, bit-set_other, set_bit-below}
 use Rattle.function_laws.specs.Lists.{list_of, truth}
 use Rattle.function_laws.specs.Values.{IsFree, choice, cofactor, composed, composed_at_once, if_then_else, set_each}
 use Rattle.function_laws.specs.Functions.{compose_of, vector_compose_of}

@@ -11,7 +11,7 @@ use Rattle.edge_bits.specs.declared.edges.Kind.TheVariants as kinds
 use Rattle.function_laws.specs.declared.history.Name.{Name}
 use Rattle.function_laws.specs.declared.history.Call.{Call}
 use Rattle.function_laws.specs.declared.history.Reply.{Reply as LawReply}
-use Rattle.function_laws.specs.declared.history.Reply.TheVariants.{Made, Full}
+use Rattle.function_laws.specs.declared.history.Reply.TheVariants.{Full}
 use Rattle.function_laws.specs.Steps.{are_distinct}
 use Rattle.job_text.specs.declared.history_line.Reply.{Reply}
 use Rattle.job_text.specs.declared.history_line.Reply.TheVariants as reply

@@ -1,5 +1,5 @@
 -- When a session of rows agrees with a table of functions, and which of its calls are steps of the table.
-use Rattle.std.specs.Prelude.{◌≡◌, ℕ, ◌≤◌, ◌^◌, Bool, true, false, List, [], ◌∷◌, ◌++◌, ◌⊎◌, length, map, Option, Some, None, slice_get, Result, Ok}
+use Rattle.std.specs.Prelude.{◌≡◌, ℕ, ◌≤◌, ◌^◌, Bool, true, false, List, [], ◌∷◌, ◌++◌, ◌⊎◌, length, Option, Some, None, slice_get, Result, Ok}
 use Rattle.edge_bits.specs.declared.edges.Edge.{Edge}
 use Rattle.edge_bits.specs.declared.edges.Kind.TheVariants as kinds
 use Rattle.function_laws.specs.declared.history.Name.{Name}

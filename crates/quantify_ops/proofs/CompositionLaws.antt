@@ -1,5 +1,5 @@
 -- Composition by a variable, step by step.
-use Rattle.std.proofs.Common.{◌≡◌, ◌≢◌, ℕ, ◌+◌, ◌<◌, ◌≤◌, Bool, true, false, not, cond, ℤ, Option, Some, ◌⊎◌, inl, inr, refl, ap, sym, ◌∙◌, subst, arith}
+use Rattle.std.proofs.Common.{◌≡◌, ◌≢◌, ℕ, ◌+◌, ◌<◌, ◌≤◌, Bool, true, false, cond, ℤ, Option, Some, ◌⊎◌, inl, inr, refl, ap, sym, ◌∙◌, subst, arith}
 use Rattle.edge_bits.specs.declared.edges.Edge.{Edge}
 use Rattle.edge_bits.specs.declared.edges.Kind.TheVariants.{Bdd}
 use Rattle.function_laws.specs.Values.{IsFree, choice, cofactor, composed, if_then_else}
@@ -13,9 +13,9 @@ use Rattle.node_store.specs.Splits.{Branches}
 use Rattle.node_store.specs.Three.{AreThree, IsFlipped, IsPartOrComplement, value_of_three}
 use Rattle.node_store.specs.ThreeLaws.{IsPartOrComplement-grown}
 use Rattle.node_store.specs.Two.{TwoSplits, two_depth}
-use Rattle.node_store.specs.TwoLaws.{AreTwo-grown, TwoSplits-stay}
-use Rattle.node_store.specs.Views.{View, AreTwo, CanMake, Denotes, Grown, Is, IsBelow, IsInner, IsKey, IsLeaf, IsVariable, NotBothLeaves, Permanent, Splits, bdd_at, node_values}
-use Rattle.node_store.specs.ViewLaws.{Grown-refl, Grown-trans, Denotes-flip, Denotes-grown, Is-from, Is-grown, IsBelow-inner, IsVariable-grown, Permanent-grown, Splits-grown, level-grown, top-grown, values_at-grown, values_at-is}
+use Rattle.node_store.specs.TwoLaws.{AreTwo-grown}
+use Rattle.node_store.specs.Views.{View, AreTwo, CanMake, Denotes, Grown, Is, IsBelow, IsInner, IsKey, IsLeaf, IsVariable, Permanent, Splits, bdd_at, node_values}
+use Rattle.node_store.specs.ViewLaws.{Grown-refl, Grown-trans, Denotes-flip, Is-from, Is-grown, IsBelow-inner, IsVariable-grown, Splits-grown, level-grown, top-grown, values_at-grown, values_at-is}
 use Rattle.node_store.specs.Work.{whole, IsWork, Adds, Moves}
 use Rattle.node_store.specs.WorkLaws.{IsWork-due, IsWork-edge, IsWork-grown}
 use Rattle.node_store.specs.declared.binary.Branch.{Branch}
@@ -28,7 +28,7 @@ use Rattle.ite_core.specs.Implications.{CanCompare, IsCompared}
 use Rattle.quantify_ops.specs.Composed.{composed_at, AreComposed, value_of_compose, IsPartOrBelow, ComposeDue, ComposeAnswers, SplitsAround, ComposeSplits, IsAbove, IsFound, IsOwn}
 use Rattle.quantify_ops.specs.declared.composition.Found.{Found}
 use Rattle.quantify_ops.specs.declared.composition.Found.TheVariants.{Free, Own, Above}
-use Rattle.quantify_ops.specs.ComposedLasts.{composed_at-grown, AreComposed-grown, ComposeDue-stays, part-stays}
+use Rattle.quantify_ops.specs.ComposedLasts.{composed_at-grown, ComposeDue-stays}
 use Rattle.quantify_ops.proofs.ProductLaws.{IsWork-part}
 
 -- what the top node tells

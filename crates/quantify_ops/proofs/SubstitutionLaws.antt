@@ -1,19 +1,18 @@
 -- Composition of several functions at once, step by step.
-use Rattle.std.proofs.Common.{◌≡◌, ℕ, ◌<◌, ◌≤◌, ◌==◌, Bool, true, false, cond, ℤ, List, [], ◌∷◌, map, Option, Some, None, ◌⊎◌, inl, inr, refl, sym, ap, ap₂, ◌∙◌, subst, arith}
-use Rattle.std.specs.Prelude.{find, get_or, if◌then◌else◌, max}
+use Rattle.std.proofs.Common.{◌≡◌, ℕ, ◌<◌, ◌==◌, Bool, true, false, ℤ, List, [], ◌∷◌, map, Option, Some, None, inl, inr, refl, sym, ap, ◌∙◌, subst, arith}
+use Rattle.std.specs.Prelude.{find, get_or, if◌then◌else◌}
 use Rattle.std.specs.List.{All}
 use Rattle.std.proofs.lemmas.List.Elements.{All-head, All-map, All-tail}
 use Rattle.edge_bits.specs.declared.edges.Edge.{Edge}
 use Rattle.edge_bits.specs.declared.edges.Kind.TheVariants.{Bdd}
 use Rattle.function_laws.specs.Steps.{are_distinct}
-use Rattle.function_laws.specs.Values.{IsFree, choice, composed_at_once, if_then_else, projection}
+use Rattle.function_laws.specs.Values.{IsFree, composed_at_once, if_then_else, projection}
 use Rattle.function_laws.proofs.ComposeLemmas.{composed_at_once-choice, composed_at_once-free, image, value_or}
 use Rattle.node_store.specs.Kinds.{Function, BddFunction}
-use Rattle.node_store.specs.Memo.{literal_edge}
 use Rattle.node_store.specs.Splits.{Branches}
 use Rattle.node_store.specs.Three.{AreThree}
-use Rattle.node_store.specs.Views.{View, Denotes, Grown, Is, IsInner, IsLeaf, IsVariable, Permanent, Splits, bdd_at}
-use Rattle.node_store.specs.ViewLaws.{Grown-refl, Grown-trans, Is-from, Is-grown, IsBelow-inner, IsVariable-grown, Splits-grown, level-grown, top-grown, values_at-grown, values_at-is}
+use Rattle.node_store.specs.Views.{View, Denotes, Grown, Is, IsInner, IsLeaf, IsVariable, Permanent, bdd_at}
+use Rattle.node_store.specs.ViewLaws.{Grown-refl, Grown-trans, Is-from, Is-grown, IsBelow-inner, IsVariable-grown, Splits-grown, top-grown, values_at-grown, values_at-is}
 use Rattle.node_store.specs.Work.{IsWork, Adds, Moves}
 use Rattle.node_store.specs.WorkLaws.{IsPart-back, IsPart-half, IsWork-grown}
 use Rattle.node_store.specs.declared.operator.Task.{Task}
@@ -21,7 +20,7 @@ use Rattle.node_store.proofs.TwoParts.{Lacks-leaf}
 use Rattle.ite_core.proofs.CofactorLaws.{Denotes-literal}
 use Rattle.ite_core.specs.Cofactors.{one_depth}
 use Rattle.quantify_ops.specs.Substituted.{function_with, functions_of, IsPair, AreSubstituted, substituted_at, value_of_vector_compose, IsBelowAll, ReachesDownTo, lower_of, SubstituteDue, SubstituteAnswers, SubstituteSplits, image_or, image_edge}
-use Rattle.quantify_ops.specs.SubstitutedLasts.{functions_of-grown, substituted_at-grown, AreSubstituted-grown, SubstituteDue-stays, value_of_vector_compose-stays}
+use Rattle.quantify_ops.specs.SubstitutedLasts.{functions_of-grown, substituted_at-grown, SubstituteDue-stays, value_of_vector_compose-stays}
 
 -- the function that is put for a variable
 image_step : (w : View) (pair : ℕ × Edge) (pairs : List (ℕ × Edge)) (x : ℕ) (c : Bool) → Is Bdd w pair.1 → Denotes Bdd w (image_edge pairs x) (image (functions_of w pairs) x)

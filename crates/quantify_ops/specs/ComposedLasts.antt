@@ -1,8 +1,7 @@
 -- What is true of tasks of a composition stays true while a store grows.
-use Rattle.std.proofs.Common.{◌≡◌, ℕ, Bool, inl, inr, refl, ap, sym, ◌∙◌}
+use Rattle.std.proofs.Common.{◌≡◌, ℕ, inl, inr, refl, ap, sym, ◌∙◌}
 use Rattle.edge_bits.specs.declared.edges.Edge.{Edge}
 use Rattle.edge_bits.specs.declared.edges.Kind.TheVariants.{Bdd}
-use Rattle.function_laws.specs.Values.{composed}
 use Rattle.node_store.specs.Kinds.{Function, BddFunction}
 use Rattle.node_store.specs.Three.{IsPartOrComplement}
 use Rattle.node_store.specs.ThreeLaws.{IsPartOrComplement-grown}

@@ -1,5 +1,5 @@
 -- What is true of tasks of a composition of several functions stays true while a store grows.
-use Rattle.std.proofs.Common.{◌≡◌, ℕ, Bool, List, [], ◌∷◌, Option, Some, None, map, refl, ap, ap₂, sym, ◌∙◌}
+use Rattle.std.proofs.Common.{◌≡◌, ℕ, List, [], ◌∷◌, Option, Some, None, refl, ap, ap₂, sym, ◌∙◌}
 use Rattle.std.specs.List.{All}
 use Rattle.std.proofs.lemmas.List.Elements.{All-head, All-tail}
 use Rattle.edge_bits.specs.declared.edges.Edge.{Edge}
@@ -10,7 +10,7 @@ use Rattle.node_store.specs.Views.{View, Grown, Is, bdd_at}
 use Rattle.node_store.specs.ViewLaws.{Denotes-grown, Is-grown, IsVariable-grown, Permanent-grown, Splits-grown, level-grown, values_at-grown}
 use Rattle.node_store.specs.WorkLaws.{IsPart-grown}
 use Rattle.node_store.specs.declared.operator.Task.{Task}
-use Rattle.quantify_ops.specs.Substituted.{function_with, functions_of, IsPair, AreSubstituted, substituted_at, value_of_vector_compose, ReachesDownTo, SubstituteDue, SubstituteAnswers, SubstituteSplits}
+use Rattle.quantify_ops.specs.Substituted.{functions_of, IsPair, AreSubstituted, substituted_at, value_of_vector_compose, ReachesDownTo, SubstituteDue, SubstituteAnswers, SubstituteSplits}
 
 pub functions_of-grown : {v w : View} (pairs : List (ℕ × Edge)) → Grown v w → All (IsPair v) pairs → functions_of w pairs ≡ functions_of v pairs
 functions_of-grown [] m all = refl

@@ -1,5 +1,4 @@
-use Rattle.std.proofs.Common.{inl, refl, arith}
-use Rattle.edge_bits.specs.declared.edges.Kind.TheVariants.{Bdd}
+use Rattle.std.proofs.Common.{inl, refl}
 use Rattle.node_store.specs.Work.{whole}
 use Rattle.quantify_ops.proofs.CompositionLaws.{Compose-adds_start, Compose-due_start, root_answer}
 use Rattle.quantify_ops.proofs.nested.compose.Goals as goal

@@ -1,5 +1,4 @@
 use Rattle.std.proofs.Common.{refl}
-use Rattle.edge_bits.specs.declared.edges.Kind.TheVariants.{Bdd}
 use Rattle.node_store.specs.Work.{whole}
 use Rattle.node_store.specs.RememberingLaws.{Knows-nothing}
 use Rattle.quantify_ops.specs.Substituted.{SubstituteAnswers, SubstituteDue}

@@ -1,4 +1,4 @@
-use Rattle.std.proofs.Common.{arith, refl}
+use Rattle.std.proofs.Common.{refl}
 use Rattle.function_laws.specs.declared.history.Call.TheVariants.{Compose}
 use Rattle.function_laws.specs.Values.{composed}
 use Rattle.node_slots.specs.Stores.{plain_view}

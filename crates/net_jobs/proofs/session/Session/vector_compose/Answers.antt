@@ -1,10 +1,10 @@
-use Rattle.std.proofs.Common.{arith, refl, map, ap, sym, ◌∙◌, Some, ◌^◌}
+use Rattle.std.proofs.Common.{arith, refl, ap, sym, ◌∙◌, Some, ◌^◌}
 use Rattle.function_laws.specs.declared.history.Call.TheVariants.{VectorCompose}
 use Rattle.function_laws.specs.declared.history.Function.TheVariants.{Bdd}
 use Rattle.function_laws.specs.Lists.{list_of}
 use Rattle.function_laws.specs.Steps.{makes}
 use Rattle.node_slots.specs.Stores.{plain_view}
-use Rattle.quantify_ops.specs.Substituted.{AreSubstituted, substituted_at}
+use Rattle.quantify_ops.specs.Substituted.{substituted_at}
 use Rattle.net_jobs.proofs.SessionLemmas.{are_substituted, due_of_work, op_adds, op_refuses, outcome-of_vector_compose}
 use Rattle.net_jobs.proofs.session.Session.vector_compose.Goals as goal
 

@@ -1,5 +1,4 @@
 use Rattle.edge_bits.specs.declared.edges.Kind.TheVariants.{Bdd}
-use Rattle.node_store.specs.ViewLaws.{Grown-trans}
 use Rattle.quantify_ops.proofs.SubstitutionLaws.{substitute_leaf, substitute_below, Substitute-branches}
 use Rattle.quantify_ops.proofs.substitution.SubstitutionApply.expand.Goals as goal
 
