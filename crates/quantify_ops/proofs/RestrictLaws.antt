@@ -8,6 +8,7 @@ use Rattle.function_laws.specs.Values.{IsFree, constant, exists_all, negation}
 use Rattle.function_laws.proofs.BoundedRestriction.{Restricts-from}
 use Rattle.function_laws.proofs.CubeLemmas.{by_bit, choice-at}
 use Rattle.function_laws.proofs.RestrictionLaws.{IsRestriction-branch, IsRestriction-choice, IsRestriction-constant, IsRestriction-everywhere, IsRestriction-not, IsRestriction-nowhere, IsRestriction-same, somewhere-choice}
+use Rattle.function_laws.proofs.SupportLemmas.{not_not}
 use Rattle.function_laws.proofs.ValueLemmas.{everywhere}
 use Rattle.node_store.specs.Edges.{flip_if}
 use Rattle.node_store.specs.Kinds.{Function, BddFunction}
@@ -109,12 +110,8 @@ flipped_answer w false f r c e is some d p = (d, subst (λ g. IsRestriction g c 
 flipped_answer w true f r c e is some d p = (
   Is-from Bdd (Denotes-flip d),
   subst (λ g. IsRestriction f c g) (sym (values_at-is Bdd (Denotes-flip d)))
-      (subst (λ g. IsRestriction g c (negation (bdd_at w e))) (everywhere (negation r) f (λ k. ap (λ (h : ℕ → Bool). not (h k)) is ∙ twice (f k))) (IsRestriction-not r c (bdd_at w e) some p)),
+      (subst (λ g. IsRestriction g c (negation (bdd_at w e))) (everywhere (negation r) f (λ k. ap (λ (h : ℕ → Bool). not (h k)) is ∙ not_not (f k))) (IsRestriction-not r c (bdd_at w e) some p)),
 )
-  where
-    twice : (b : Bool) → not (not b) ≡ b
-    twice true = refl
-    twice false = refl
 
 pub lifted_leads : (f c : Edge) (w : View) (root t : Task) (level : ℕ) → RestrictDue f c w root → t.f ≡ record { index = root.f.index; complement = false } → IsLifted c w root.g t.g level
     → IsFreeAbove w level (bdd_at w t.f) → LeadsLevel w root root.f.complement t
