@@ -19,7 +19,7 @@ pub IsSupport-none : (f : ℕ → Bool) → ((v : ℕ) → IsFree f v) → IsSup
 IsSupport-none f free = record { needs = λ k v t none. free v; reaches = λ k h. refl }
 
 -- of a complement
-pub free_not : (f : ℕ → Bool) (v : ℕ) → IsFree f v → IsFree (negation f) v
+free_not : (f : ℕ → Bool) (v : ℕ) → IsFree f v → IsFree (negation f) v
 free_not f v free = λ k b. ap not (free k b)
 
 pub not_not : (b : Bool) → not (not b) ≡ b

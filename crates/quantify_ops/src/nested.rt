@@ -1,4 +1,4 @@
-//! The quantifiers on a stack that is handed in, over a product of variables, for runs within other operators. They ask for twice as many free frames as there are variables: for tasks of their own, and for those of a conjunction or a disjunction within.
+//! The operations on a stack that is handed in, the quantifiers over a product of variables, for runs within other operators. They ask for twice as many free frames as there are variables: for tasks of their own, and for those of an operation within.
 
 ghost use Rattle.std.specs.Prelude.{◌≡◌, ◌*◌, ◌≤◌, IfOk, IsErrOf, List, true, ℕ};
 ghost use Rattle.edge_bits.specs.declared.edges.Kind.TheVariants.{Bdd};
