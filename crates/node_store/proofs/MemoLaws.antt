@@ -1,15 +1,15 @@
 -- What a computed table holds stays right while the store grows.
 use Rattle.std.proofs.Common.{Bool, true, false, ◌==◌, ◌&&◌, ◌||◌}
-use Rattle.std.specs.Prelude.{◌+ℤ◌}
+use Rattle.std.specs.Prelude.{if◌then◌else◌, pos, ◌+ℤ◌, ◌-ℤ◌, ◌*ℤ◌, int_le}
 use Rattle.edge_bits.specs.declared.edges.Edge.{Edge}
 use Rattle.computed_cache.specs.declared.Key.{Key}
 use Rattle.edge_bits.specs.declared.edges.Kind.{Kind}
 use Rattle.edge_bits.specs.declared.edges.Kind.TheVariants.{Bdd, Add, Zdd}
 use Rattle.node_store.specs.Kinds.{ValueOf}
-use Rattle.node_store.specs.Numbers.{and_number, ite_number, cofactor_number, leq_number, exists_number, and_exists_number, support_number, compose_number, restrict_number, plus_number, union_number, meet_number}
+use Rattle.node_store.specs.Numbers.{and_number, ite_number, cofactor_number, leq_number, exists_number, and_exists_number, support_number, compose_number, restrict_number, plus_number, minus_number, times_number, min_number, max_number, threshold_number, add_ite_number, from_bdd_number, pattern_number, sum_over_number, union_number, meet_number}
 use Rattle.node_store.specs.Views.{View, Grown}
 use Rattle.node_store.specs.ViewLaws.{Denotes-grown, Is-grown, IsVariable-grown, values_at-grown}
-use Rattle.node_store.specs.Memo.{either, PlaceHolds, IteHolds, CofactorHolds, ImplicationHolds, ExistsHolds, AndExistsHolds, SupportHolds, ComposeHolds, RestrictHolds, MemoHolds}
+use Rattle.node_store.specs.Memo.{either, PlaceHolds, IteHolds, CofactorHolds, ImplicationHolds, ExistsHolds, AndExistsHolds, SupportHolds, ComposeHolds, RestrictHolds, FromTruthHolds, PatternHolds, SumHolds, MemoHolds}
 
 either-map : (b : Bool) (A B C D : Type 0) → (A → C) → (B → D) → either b A B → either b C D
 either-map true A B C D f g h = f h
@@ -89,6 +89,21 @@ RestrictHolds-grown g p = record {
   restricts = rw (values_at-grown Bdd g p.f, values_at-grown Bdd g p.condition, values_at-grown Bdd g p.answer) p.restricts;
 }
 
+pub FromTruthHolds-grown : {a b : View} {key : Key} {e : Edge} → Grown a b → FromTruthHolds a key e → FromTruthHolds b key e
+FromTruthHolds-grown g p = record { f = Is-grown Bdd g p.f; answer = rw (values_at-grown Bdd g p.f) (Denotes-grown Add g p.answer) }
+
+pub PatternHolds-grown : {a b : View} {key : Key} {e : Edge} → Grown a b → PatternHolds a key e → PatternHolds b key e
+PatternHolds-grown g p = record { f = Is-grown Add g p.f; answer = rw (values_at-grown Add g p.f) (Denotes-grown Bdd g p.answer) }
+
+pub SumHolds-grown : {a b : View} {key : Key} {e : Edge} → Grown a b → SumHolds a key e → SumHolds b key e
+SumHolds-grown g p = record {
+  variable = p.variable;
+  in_range = IsVariable-grown Add g p.variable p.in_range;
+  projection = p.projection;
+  f = Is-grown Add g p.f;
+  answer = rw (values_at-grown Add g p.f) (Denotes-grown Add g p.answer);
+}
+
 pub MemoHolds-grown : {a b : View} → Grown a b → (key : Key) (e : Edge) → MemoHolds a key e → MemoHolds b key e
 MemoHolds-grown {a} {b} g key e =
     either-map (key.op == and_number) _ _ _ _ (PlaceHolds-grown Bdd (λ a b. a && b) g)
@@ -101,6 +116,15 @@ MemoHolds-grown {a} {b} g key e =
     (either-map (key.op == compose_number) _ _ _ _ (ComposeHolds-grown g)
     (either-map (key.op == restrict_number) _ _ _ _ (RestrictHolds-grown g)
     (either-map (key.op == plus_number) _ _ _ _ (PlaceHolds-grown Add (λ a b. a +ℤ b) g)
+    (either-map (key.op == minus_number) _ _ _ _ (PlaceHolds-grown Add (λ a b. a -ℤ b) g)
+    (either-map (key.op == times_number) _ _ _ _ (PlaceHolds-grown Add (λ a b. a *ℤ b) g)
+    (either-map (key.op == min_number) _ _ _ _ (PlaceHolds-grown Add (λ a b. if int_le a b then a else b) g)
+    (either-map (key.op == max_number) _ _ _ _ (PlaceHolds-grown Add (λ a b. if int_le b a then a else b) g)
+    (either-map (key.op == threshold_number) _ _ _ _ (PlaceHolds-grown Add (λ a b. if int_le b a then a else pos 0) g)
+    (either-map (key.op == add_ite_number) _ _ _ _ (IteHolds-grown Add g)
+    (either-map (key.op == from_bdd_number) _ _ _ _ (FromTruthHolds-grown g)
+    (either-map (key.op == pattern_number) _ _ _ _ (PatternHolds-grown g)
+    (either-map (key.op == sum_over_number) _ _ _ _ (SumHolds-grown g)
     (either-map (key.op == union_number) _ _ _ _ (PlaceHolds-grown Zdd (λ a b. a || b) g)
     (either-map (key.op == meet_number) _ _ _ _ (PlaceHolds-grown Zdd (λ a b. a && b) g)
-    (λ h. h))))))))))))
+    (λ h. h)))))))))))))))))))))

@@ -1,14 +1,15 @@
 -- What a computed table may hold under a key, a case for each operation's number.
-use Rattle.std.specs.Prelude.{◌≡◌, ◌↔◌, ℕ, ◌+◌, Bool, true, false, not, ◌==◌, ◌&&◌, ◌||◌, ◌+ℤ◌}
+use Rattle.std.specs.Prelude.{◌≡◌, ◌↔◌, ℕ, ◌+◌, Bool, true, false, not, ◌==◌, ◌&&◌, ◌||◌, if◌then◌else◌, pos, ◌+ℤ◌, ◌-ℤ◌, ◌*ℤ◌, int_le}
 use Rattle.edge_bits.specs.declared.edges.Edge.{Edge}
 use Rattle.computed_cache.specs.declared.Key.{Key}
 use Rattle.edge_bits.specs.declared.edges.Kind.{Kind}
 use Rattle.edge_bits.specs.declared.edges.Kind.TheVariants.{Bdd, Add, Zdd}
 use Rattle.function_laws.specs.Cubes.{IsExists, IsSupport}
+use Rattle.function_laws.specs.Numbers.{from_truth, pattern, sum_over}
 use Rattle.function_laws.specs.Restrictions.{IsRestriction}
 use Rattle.function_laws.specs.Values.{cofactor, composed, conjunction, if_then_else}
 use Rattle.node_store.specs.Kinds.{ValueOf, place}
-use Rattle.node_store.specs.Numbers.{and_number, ite_number, cofactor_number, leq_number, exists_number, and_exists_number, support_number, compose_number, restrict_number, plus_number, union_number, meet_number}
+use Rattle.node_store.specs.Numbers.{and_number, ite_number, cofactor_number, leq_number, exists_number, and_exists_number, support_number, compose_number, restrict_number, plus_number, minus_number, times_number, min_number, max_number, threshold_number, add_ite_number, from_bdd_number, pattern_number, sum_over_number, union_number, meet_number}
 use Rattle.node_store.specs.Views.{View, Denotes, Is, IsVariable, values_at, truth_edge}
 
 abbrev pub either : Bool → Type 0 → Type 0 → Type 0
@@ -93,6 +94,24 @@ pub record RestrictHolds (w : View) (key : Key) (e : Edge) : Type 0 where
   pub answer : Is Bdd w e
   pub restricts : IsRestriction (values_at Bdd w key.f) (values_at Bdd w key.g) (values_at Bdd w e)
 
+-- a truth function, whose values are taken as 1 and 0
+pub record FromTruthHolds (w : View) (key : Key) (e : Edge) : Type 0 where
+  pub f : Is Bdd w key.f
+  pub answer : Denotes Add w e (from_truth (values_at Bdd w key.f))
+
+-- a function of numbers, and where it isn't 0
+pub record PatternHolds (w : View) (key : Key) (e : Edge) : Type 0 where
+  pub f : Is Add w key.f
+  pub answer : Denotes Bdd w e (pattern (values_at Add w key.f))
+
+-- a function of numbers and the projection of the variable over which it is summed
+pub record SumHolds (w : View) (key : Key) (e : Edge) : Type 0 where
+  pub variable : ℕ
+  pub in_range : IsVariable Add w variable
+  pub projection : key.g ≡ literal_edge variable true
+  pub f : Is Add w key.f
+  pub answer : Denotes Add w e (sum_over (values_at Add w key.f) variable)
+
 abbrev pub MemoHolds : View → Key → Edge → Type 0
 MemoHolds w key e =
     either (key.op == and_number) (PlaceHolds Bdd (λ a b. a && b) w key e)
@@ -105,6 +124,15 @@ MemoHolds w key e =
     (either (key.op == compose_number) (ComposeHolds w key e)
     (either (key.op == restrict_number) (RestrictHolds w key e)
     (either (key.op == plus_number) (PlaceHolds Add (λ a b. a +ℤ b) w key e)
+    (either (key.op == minus_number) (PlaceHolds Add (λ a b. a -ℤ b) w key e)
+    (either (key.op == times_number) (PlaceHolds Add (λ a b. a *ℤ b) w key e)
+    (either (key.op == min_number) (PlaceHolds Add (λ a b. if int_le a b then a else b) w key e)
+    (either (key.op == max_number) (PlaceHolds Add (λ a b. if int_le b a then a else b) w key e)
+    (either (key.op == threshold_number) (PlaceHolds Add (λ a b. if int_le b a then a else pos 0) w key e)
+    (either (key.op == add_ite_number) (IteHolds Add w key e)
+    (either (key.op == from_bdd_number) (FromTruthHolds w key e)
+    (either (key.op == pattern_number) (PatternHolds w key e)
+    (either (key.op == sum_over_number) (SumHolds w key e)
     (either (key.op == union_number) (PlaceHolds Zdd (λ a b. a || b) w key e)
     (either (key.op == meet_number) (PlaceHolds Zdd (λ a b. a && b) w key e)
-    ⊥)))))))))))
+    ⊥))))))))))))))))))))

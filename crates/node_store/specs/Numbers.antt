@@ -31,6 +31,33 @@ restrict_number = 9
 abbrev pub plus_number : ℕ
 plus_number = 20
 
+abbrev pub minus_number : ℕ
+minus_number = 21
+
+abbrev pub times_number : ℕ
+times_number = 22
+
+abbrev pub min_number : ℕ
+min_number = 23
+
+abbrev pub max_number : ℕ
+max_number = 24
+
+abbrev pub threshold_number : ℕ
+threshold_number = 25
+
+abbrev pub add_ite_number : ℕ
+add_ite_number = 26
+
+abbrev pub from_bdd_number : ℕ
+from_bdd_number = 27
+
+abbrev pub pattern_number : ℕ
+pattern_number = 28
+
+abbrev pub sum_over_number : ℕ
+sum_over_number = 29
+
 abbrev pub union_number : ℕ
 union_number = 40
 

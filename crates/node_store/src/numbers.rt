@@ -20,6 +20,24 @@ pub const RESTRICT: u8 = 9;
 
 pub const PLUS: u8 = 20;
 
+pub const MINUS: u8 = 21;
+
+pub const TIMES: u8 = 22;
+
+pub const MIN: u8 = 23;
+
+pub const MAX: u8 = 24;
+
+pub const THRESHOLD: u8 = 25;
+
+pub const ADD_ITE: u8 = 26;
+
+pub const FROM_BDD: u8 = 27;
+
+pub const PATTERN: u8 = 28;
+
+pub const SUM_OVER: u8 = 29;
+
 pub const UNION: u8 = 40;
 
 pub const MEET: u8 = 41;
