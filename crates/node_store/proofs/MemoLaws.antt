@@ -1,6 +1,6 @@
 -- What a computed table holds stays right while the store grows.
 use Rattle.std.proofs.Common.{Bool, true, false, ◌==◌, ◌&&◌, ◌||◌}
-use Rattle.std.specs.Prelude.{if◌then◌else◌, pos, ◌+ℤ◌, ◌-ℤ◌, ◌*ℤ◌, int_le}
+use Rattle.std.specs.Prelude.{if◌then◌else◌, pos, ◌+ℤ◌, ◌-ℤ◌, ◌*ℤ◌, int_le, nat_lt}
 use Rattle.edge_bits.specs.declared.edges.Edge.{Edge}
 use Rattle.computed_cache.specs.declared.Key.{Key}
 use Rattle.edge_bits.specs.declared.edges.Kind.{Kind}
@@ -9,7 +9,7 @@ use Rattle.node_store.specs.Kinds.{ValueOf}
 use Rattle.node_store.specs.Numbers.{and_number, ite_number, cofactor_number, leq_number, exists_number, and_exists_number, support_number, compose_number, restrict_number, plus_number, minus_number, times_number, min_number, max_number, threshold_number, add_ite_number, from_bdd_number, pattern_number, sum_over_number, union_number, meet_number}
 use Rattle.node_store.specs.Views.{View, Grown}
 use Rattle.node_store.specs.ViewLaws.{Denotes-grown, Is-grown, IsVariable-grown, values_at-grown}
-use Rattle.node_store.specs.Memo.{either, PlaceHolds, IteHolds, CofactorHolds, ImplicationHolds, ExistsHolds, AndExistsHolds, SupportHolds, ComposeHolds, RestrictHolds, FromTruthHolds, PatternHolds, SumHolds, MemoHolds}
+use Rattle.node_store.specs.Memo.{either, PlaceHolds, IteHolds, CofactorHolds, ImplicationHolds, ExistsHolds, AndExistsHolds, SupportHolds, ComposeHolds, RestrictHolds, FromTruthHolds, PatternHolds, SumHolds, NumberHolds, FamilyHolds, MemoHolds}
 
 either-map : (b : Bool) (A B C D : Type 0) → (A → C) → (B → D) → either b A B → either b C D
 either-map true A B C D f g h = f h
@@ -104,6 +104,28 @@ SumHolds-grown g p = record {
   answer = rw (values_at-grown Add g p.f) (Denotes-grown Add g p.answer);
 }
 
+NumberHolds-grown : {a b : View} → Grown a b → (key : Key) (e : Edge) → NumberHolds a key e → NumberHolds b key e
+unfolding NumberHolds
+NumberHolds-grown {a} {b} g key e =
+    either-map (key.op == plus_number) _ _ _ _ (PlaceHolds-grown Add (λ a b. a +ℤ b) g)
+    (either-map (key.op == minus_number) _ _ _ _ (PlaceHolds-grown Add (λ a b. a -ℤ b) g)
+    (either-map (key.op == times_number) _ _ _ _ (PlaceHolds-grown Add (λ a b. a *ℤ b) g)
+    (either-map (key.op == min_number) _ _ _ _ (PlaceHolds-grown Add (λ a b. if int_le a b then a else b) g)
+    (either-map (key.op == max_number) _ _ _ _ (PlaceHolds-grown Add (λ a b. if int_le b a then a else b) g)
+    (either-map (key.op == threshold_number) _ _ _ _ (PlaceHolds-grown Add (λ a b. if int_le b a then a else pos 0) g)
+    (either-map (key.op == add_ite_number) _ _ _ _ (IteHolds-grown Add g)
+    (either-map (key.op == from_bdd_number) _ _ _ _ (FromTruthHolds-grown g)
+    (either-map (key.op == pattern_number) _ _ _ _ (PatternHolds-grown g)
+    (either-map (key.op == sum_over_number) _ _ _ _ (SumHolds-grown g)
+    (λ h. h))))))))))
+
+FamilyHolds-grown : {a b : View} → Grown a b → (key : Key) (e : Edge) → FamilyHolds a key e → FamilyHolds b key e
+unfolding FamilyHolds
+FamilyHolds-grown {a} {b} g key e =
+    either-map (key.op == union_number) _ _ _ _ (PlaceHolds-grown Zdd (λ a b. a || b) g)
+    (either-map (key.op == meet_number) _ _ _ _ (PlaceHolds-grown Zdd (λ a b. a && b) g)
+    (λ h. h))
+
 pub MemoHolds-grown : {a b : View} → Grown a b → (key : Key) (e : Edge) → MemoHolds a key e → MemoHolds b key e
 MemoHolds-grown {a} {b} g key e =
     either-map (key.op == and_number) _ _ _ _ (PlaceHolds-grown Bdd (λ a b. a && b) g)
@@ -115,16 +137,4 @@ MemoHolds-grown {a} {b} g key e =
     (either-map (key.op == support_number) _ _ _ _ (SupportHolds-grown g)
     (either-map (key.op == compose_number) _ _ _ _ (ComposeHolds-grown g)
     (either-map (key.op == restrict_number) _ _ _ _ (RestrictHolds-grown g)
-    (either-map (key.op == plus_number) _ _ _ _ (PlaceHolds-grown Add (λ a b. a +ℤ b) g)
-    (either-map (key.op == minus_number) _ _ _ _ (PlaceHolds-grown Add (λ a b. a -ℤ b) g)
-    (either-map (key.op == times_number) _ _ _ _ (PlaceHolds-grown Add (λ a b. a *ℤ b) g)
-    (either-map (key.op == min_number) _ _ _ _ (PlaceHolds-grown Add (λ a b. if int_le a b then a else b) g)
-    (either-map (key.op == max_number) _ _ _ _ (PlaceHolds-grown Add (λ a b. if int_le b a then a else b) g)
-    (either-map (key.op == threshold_number) _ _ _ _ (PlaceHolds-grown Add (λ a b. if int_le b a then a else pos 0) g)
-    (either-map (key.op == add_ite_number) _ _ _ _ (IteHolds-grown Add g)
-    (either-map (key.op == from_bdd_number) _ _ _ _ (FromTruthHolds-grown g)
-    (either-map (key.op == pattern_number) _ _ _ _ (PatternHolds-grown g)
-    (either-map (key.op == sum_over_number) _ _ _ _ (SumHolds-grown g)
-    (either-map (key.op == union_number) _ _ _ _ (PlaceHolds-grown Zdd (λ a b. a || b) g)
-    (either-map (key.op == meet_number) _ _ _ _ (PlaceHolds-grown Zdd (λ a b. a && b) g)
-    (λ h. h)))))))))))))))))))))
+    (either-map (nat_lt key.op 40) _ _ _ _ (NumberHolds-grown g key e) (FamilyHolds-grown g key e))))))))))

@@ -1,5 +1,5 @@
 -- What a computed table may hold under a key, a case for each operation's number.
-use Rattle.std.specs.Prelude.{◌≡◌, ◌↔◌, ℕ, ◌+◌, Bool, true, false, not, ◌==◌, ◌&&◌, ◌||◌, if◌then◌else◌, pos, ◌+ℤ◌, ◌-ℤ◌, ◌*ℤ◌, int_le}
+use Rattle.std.specs.Prelude.{◌≡◌, ◌↔◌, ℕ, ◌+◌, Bool, true, false, not, ◌==◌, ◌&&◌, ◌||◌, if◌then◌else◌, pos, ◌+ℤ◌, ◌-ℤ◌, ◌*ℤ◌, int_le, nat_lt}
 use Rattle.edge_bits.specs.declared.edges.Edge.{Edge}
 use Rattle.computed_cache.specs.declared.Key.{Key}
 use Rattle.edge_bits.specs.declared.edges.Kind.{Kind}
@@ -112,6 +112,29 @@ pub record SumHolds (w : View) (key : Key) (e : Edge) : Type 0 where
   pub f : Is Add w key.f
   pub answer : Denotes Add w e (sum_over (values_at Add w key.f) variable)
 
+-- of operations on numbers
+unfoldable pub NumberHolds : View → Key → Edge → Type 0
+NumberHolds w key e =
+    either (key.op == plus_number) (PlaceHolds Add (λ a b. a +ℤ b) w key e)
+    (either (key.op == minus_number) (PlaceHolds Add (λ a b. a -ℤ b) w key e)
+    (either (key.op == times_number) (PlaceHolds Add (λ a b. a *ℤ b) w key e)
+    (either (key.op == min_number) (PlaceHolds Add (λ a b. if int_le a b then a else b) w key e)
+    (either (key.op == max_number) (PlaceHolds Add (λ a b. if int_le b a then a else b) w key e)
+    (either (key.op == threshold_number) (PlaceHolds Add (λ a b. if int_le b a then a else pos 0) w key e)
+    (either (key.op == add_ite_number) (IteHolds Add w key e)
+    (either (key.op == from_bdd_number) (FromTruthHolds w key e)
+    (either (key.op == pattern_number) (PatternHolds w key e)
+    (either (key.op == sum_over_number) (SumHolds w key e)
+    ⊥)))))))))
+
+-- of operations on families
+unfoldable pub FamilyHolds : View → Key → Edge → Type 0
+FamilyHolds w key e =
+    either (key.op == union_number) (PlaceHolds Zdd (λ a b. a || b) w key e)
+    (either (key.op == meet_number) (PlaceHolds Zdd (λ a b. a && b) w key e)
+    ⊥)
+
+-- of operations on truth functions; those on numbers have the numbers from 20 on, those on families from 40 on
 abbrev pub MemoHolds : View → Key → Edge → Type 0
 MemoHolds w key e =
     either (key.op == and_number) (PlaceHolds Bdd (λ a b. a && b) w key e)
@@ -123,16 +146,4 @@ MemoHolds w key e =
     (either (key.op == support_number) (SupportHolds w key e)
     (either (key.op == compose_number) (ComposeHolds w key e)
     (either (key.op == restrict_number) (RestrictHolds w key e)
-    (either (key.op == plus_number) (PlaceHolds Add (λ a b. a +ℤ b) w key e)
-    (either (key.op == minus_number) (PlaceHolds Add (λ a b. a -ℤ b) w key e)
-    (either (key.op == times_number) (PlaceHolds Add (λ a b. a *ℤ b) w key e)
-    (either (key.op == min_number) (PlaceHolds Add (λ a b. if int_le a b then a else b) w key e)
-    (either (key.op == max_number) (PlaceHolds Add (λ a b. if int_le b a then a else b) w key e)
-    (either (key.op == threshold_number) (PlaceHolds Add (λ a b. if int_le b a then a else pos 0) w key e)
-    (either (key.op == add_ite_number) (IteHolds Add w key e)
-    (either (key.op == from_bdd_number) (FromTruthHolds w key e)
-    (either (key.op == pattern_number) (PatternHolds w key e)
-    (either (key.op == sum_over_number) (SumHolds w key e)
-    (either (key.op == union_number) (PlaceHolds Zdd (λ a b. a || b) w key e)
-    (either (key.op == meet_number) (PlaceHolds Zdd (λ a b. a && b) w key e)
-    ⊥))))))))))))))))))))
+    (either (nat_lt key.op 40) (NumberHolds w key e) (FamilyHolds w key e))))))))))

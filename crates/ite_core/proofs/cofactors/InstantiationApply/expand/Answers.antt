@@ -1,6 +1,7 @@
 use Rattle.std.proofs.Common.{refl}
 use Rattle.edge_bits.specs.declared.edges.Kind.TheVariants.{Bdd}
-use Rattle.node_store.specs.ViewLaws.{Grown-trans, Is-grown, Permanent-grown, IsVariable-grown}
+use Rattle.node_store.specs.ViewLaws.{Grown-trans, Kept-trans, Is-grown, Permanent-grown, IsVariable-grown}
+use Rattle.node_store.specs.WorkLaws.{Moves-kept}
 use Rattle.ite_core.proofs.CofactorLaws.{regular_is, regular_answer, IsKey-literal, Cofactor-hit, Cofactor-branches}
 use Rattle.ite_core.proofs.cofactors.InstantiationApply.expand.Goals as goal
 
@@ -17,6 +18,9 @@ memo_get-requires g c =
     let o = c.args.self.now in let e = c.in-Parts.ensures in let m = e.kept.grown in
     rw c.key_of-key.ensures (IsKey-literal _ (Permanent-grown m c.requires.permanent) c.new-f.result o.literal o.var o.bit c.requires.literal
     (regular_is _ c.args.task.f _ c.new-f.ensures (Is-grown Bdd m c.requires.edge)) (IsVariable-grown Bdd m o.var c.requires.root.in_range))
+
+pub returns-in-Some-clause-moved : goal.returns-in-Some-clause-moved
+returns-in-Some-clause-moved g c = Moves-kept _ _ _ _ (Kept-trans c.in-Parts.ensures.kept c.in-Some.ensures.kept)
 
 pub returns-in-Some-clause-expanded : goal.returns-in-Some-clause-expanded
 returns-in-Some-clause-expanded g c =
