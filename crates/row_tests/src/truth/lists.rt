@@ -4,7 +4,7 @@ ghost use Rattle.std.specs.Prelude.{◌≡◌, ◌<◌, length, IfOk};
 ghost use Rattle.std.specs.List.{All};
 
 use edge_bits::Memory;
-use function_laws::{compose_of, exists_of, forall_of, ite_of};
+use function_laws::{compose_of, exists_of, forall_of, ite_of, restrict_holds};
 use std::alloc::Global;
 use std::test::Fail;
 
@@ -116,4 +116,22 @@ pub fn forall_number(alloc: Global, f: usize, vars: &[u32]) -> Result<usize, Fai
     check_variables(vars)?;
     let values = forall_of(alloc, &values_of(f), vars)?;
     Ok(number_of(&values))
+}
+
+/// The number of the product of the variables on which a function depends: those by which its cofactors differ.
+pub fn support_number(alloc: Global, f: usize) -> Result<usize, Memory> {
+    let mut support = ALWAYS;
+    for var in 0..VARIABLES {
+        let with = compose_number(alloc, f, var, ALWAYS)?;
+        let without = compose_number(alloc, f, var, NEVER)?;
+        if with != without {
+            support = ite_number(alloc, support, projection(var), NEVER)?;
+        }
+    }
+    Ok(support)
+}
+
+/// Whether a restriction of a function to a condition may be this function.
+pub fn restrict_allows(f: usize, condition: usize, answer: usize) -> bool {
+    restrict_holds(&values_of(f), &values_of(condition), &values_of(answer))
 }

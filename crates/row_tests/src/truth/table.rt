@@ -132,6 +132,31 @@ impl Functions {
         let f = self.edge(f)?;
         Ok(quantify_ops::support(&mut self.store, f)?)
     }
+
+    /// A function with another put for a variable.
+    pub fn compose(&mut self, f: usize, var: u32, g: usize) -> Result<Edge, Fail>
+        requires { var < 3 }
+    {
+        let (f, g) = (self.edge(f)?, self.edge(g)?);
+        Ok(quantify_ops::compose(&mut self.store, f, var, g)?)
+    }
+
+    /// A function with others put for the first and the second variable, both at once.
+    pub fn vector_compose(&mut self, f: usize, first: usize, second: usize) -> Result<Edge, Fail> {
+        let f = self.edge(f)?;
+        let pairs = [(0, self.edge(first)?), (1, self.edge(second)?)];
+        Ok(quantify_ops::vector_compose(&mut self.store, f, &pairs)?)
+    }
+
+    /// The number of the restriction of a function to a condition.
+    pub fn restrict(&mut self, f: usize, condition: usize) -> Result<usize, Fail> {
+        let (f, condition) = (self.edge(f)?, self.edge(condition)?);
+        let restriction = quantify_ops::restrict(&mut self.store, f, condition)?;
+        match self.edges.iter().position(|edge| *edge == restriction) {
+            Some(number) => Ok(number),
+            None => Err(Fail::new("an edge of no function of the table")),
+        }
+    }
 }
 
 // The edge of the list of values of a function of so many variables: if-then-else by the last of them, over the edges of both halves.
