@@ -1,1 +1,3 @@
+pub mod EightLemmas
 pub mod StoreLemmas
+pub mod TableLemmas

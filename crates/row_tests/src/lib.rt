@@ -1,4 +1,4 @@
-//! Worked rows: what the program answers to given words and texts.
+//! Worked rows: what the program answers to given words and texts. The operations over a store beside the plain calls over lists of values.
 #![tactic(auto)]
 
 #[cfg(test)]
@@ -13,3 +13,5 @@ mod plays;
 mod stores;
 #[cfg(test)]
 mod told;
+#[cfg(test)]
+mod truth;
