@@ -1,4 +1,5 @@
 pub mod Latest
 pub mod Chaining
+pub mod Keyed
 pub mod Entries
 pub mod Removal
