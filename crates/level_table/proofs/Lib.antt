@@ -3,3 +3,4 @@ pub mod Chaining
 pub mod Keyed
 pub mod Entries
 pub mod Removal
+pub mod LeafKeys
