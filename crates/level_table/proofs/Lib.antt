@@ -1,4 +1,6 @@
 pub mod Latest
 pub mod Chaining
+pub mod Keyed
 pub mod Entries
 pub mod Removal
+pub mod LeafKeys

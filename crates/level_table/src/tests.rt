@@ -1,6 +1,6 @@
 ghost use Rattle.std.specs.Prelude.{◌≡◌, ◌+◌, ◌-◌, ◌<◌, ◌≤◌, ◌^◌, length, []};
 
-use crate::LevelTable;
+use crate::{LeafTable, LevelTable};
 use edge_bits::Edge;
 use std::process::Abort;
 use std::test::Fail;
@@ -73,5 +73,43 @@ fn thousands(rt: HostRuntime) -> Result<(), Fail> {
         let slot = if i % 3 == 0 { None } else { Some(i) };
         assert_eq!(rt; table.find(hi, lo), slot);
     }
+    Ok(())
+}
+
+// Adds a value that is seen to be absent.
+fn add_value(rt: &impl Abort, table: &mut LeafTable, value: i64, slot: u32)
+    requires room { 1 ≤ table.old.spare }
+    requires few { length table.old.entries < 2 ^ 32 - 1 }
+    ensures spare { table.new.spare + 1 ≡ table.old.spare }
+    ensures longer { length table.new.entries ≡ length table.old.entries + 1 }
+{
+    let found = table.find_value(value);
+    assert!(rt; found.is_none());
+    table.insert(value, slot);
+}
+
+/// A few values by hand, of both signs and at both ends.
+#[test]
+fn values_by_hand(rt: HostRuntime) -> Result<(), Fail> {
+    let mut table = LeafTable::new(rt.alloc())?;
+    table.reserve(4)?;
+    add_value(&rt, &mut table, 7, 9);
+    add_value(&rt, &mut table, -7, 10);
+    add_value(&rt, &mut table, i64::MIN, 11);
+    add_value(&rt, &mut table, i64::MAX, 12);
+    assert_eq!(rt; table.find_value(7), Some(9));
+    assert_eq!(rt; table.find_value(-7), Some(10));
+    assert_eq!(rt; table.find_value(i64::MIN), Some(11));
+    assert_eq!(rt; table.find_value(i64::MAX), Some(12));
+    assert_eq!(rt; table.find_value(0), None);
+    table.remove(7);
+    table.remove(0);
+    assert_eq!(rt; table.find_value(7), None);
+    assert_eq!(rt; table.find_value(-7), Some(10));
+    assert_eq!(rt; table.len(), 3);
+    assert_eq!(rt; table.value_at(0), i64::MAX);
+    table.clear();
+    assert_eq!(rt; table.len(), 0);
+    assert_eq!(rt; table.find_value(-7), None);
     Ok(())
 }

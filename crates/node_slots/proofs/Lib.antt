@@ -10,3 +10,4 @@ pub mod Denoting
 pub mod Counting
 mod Slices
 mod Tables
+mod LeafTables

@@ -1,6 +1,8 @@
 -- The unique tables, where a word comes to stand.
-use Rattle.std.proofs.Common.{◌≡◌, ◌≢◌, ◌↔◌, ap₂, ℤ, IfSome, IfNone, ◌++◌, [], ◌-◌, ◌^◌, take, drop, take_all, inl, inr, ℕ, ◌+◌, ◌<◌, ◌≤◌, ◌⊎◌, Bool, true, false, List, length, Option, Some, None, refl, ap, sym, ◌∙◌, subst, arith}
-use Rattle.std.proofs.lemmas.Bool.{cases_eq, cases_lt}
+use Rattle.std.proofs.Common.{◌≡◌, ◌≢◌, ◌↔◌, ap₂, ℤ, ◌++◌, [], ◌-◌, ◌^◌, take, drop, take_all, inl, inr, ℕ, pos, ◌∷◌, ◌+◌, ◌<◌, ◌≤◌, ◌⊎◌, Bool, true, false, List, length, Some, None, refl, ap, sym, ◌∙◌, subst, arith}
+use Rattle.std.proofs.lemmas.Bool.{cases_eq, cases_lt, cases_Bool}
+use Rattle.std.proofs.lemmas.Bool.Decides.{Decides-int_eq}
+use Rattle.std.specs.Ordering.{int_eq}
 use Rattle.std.proofs.lemmas.List.{append-nil, drop_all, get_or-set_same, get_or-set_other, length-set}
 use Rattle.std.proofs.lemmas.Option.{slice_get_within}
 use Rattle.std.specs.Prelude.{slice_get}
@@ -11,9 +13,13 @@ use Rattle.edge_bits.specs.declared.words.Word.TheVariants.{Inner, Leaf}
 use Rattle.edge_bits.specs.Words.{unpack_of}
 use Rattle.edge_bits.specs.Reading.{slots_of}
 use Rattle.level_table.specs.declared.table.Entry.{Entry}
+use Rattle.level_table.specs.declared.leaves.LeafEntry.{LeafEntry}
+use Rattle.level_table.specs.Leaves.{Leaves, IsOfValue, is_of_value, slot_at_value}
+use Rattle.level_table.proofs.Keyed.{key-here, key-later}
+use Rattle.level_table.proofs.LeafKeys.{value_of, slot_of, values}
 use Rattle.level_table.specs.Tables.{IsOf, Table, is_of, slot_at}
 use Rattle.level_table.proofs.Entries.{is_of-true, slot-here, slot-later, true_is_of}
-use Rattle.node_slots.specs.Indexing.{Indexes, IsIndexed, IsPut, IsTableOf, IsTaken, no_nodes, node_at, projection_table}
+use Rattle.node_slots.specs.Indexing.{Indexes, IsIndexed, IsLeavesOf, IsPut, constants_table, IsTableOf, IsTaken, no_nodes, node_at, projection_table}
 use Rattle.node_slots.specs.Placing.{HasNoPlace, IsPlaced}
 use Rattle.node_slots.specs.Stores.{constant_value, permanent_word, projection_node}
 use Rattle.node_slots.proofs.Opening.{permanent_high, permanent_low}
@@ -31,14 +37,14 @@ module _ (old new : List ℕ) (word : Word) (s : ℕ) (put : IsPut old new word 
   put-length = ap length put.is ∙ length-set old s put.bits
 
   -- a word that stood stands
-  stays : (t : ℕ) (w : Word) → slots_of old t ≡ Some w → slots_of new t ≡ Some w
+  pub stays : (t : ℕ) (w : Word) → slots_of old t ≡ Some w → slots_of new t ≡ Some w
   stays t w is = elim (cases_eq t s) [
     | inl e ↦ (let never : None ≡ Some w = sym put.free ∙ ap (slots_of old) (sym e) ∙ is in cc)
     | inr ne ↦ put-other t ne ∙ is
   ]
 
   -- a word that stands stood, or is the new one
-  stood : (t : ℕ) (w : Word) → slots_of new t ≡ Some w → (slots_of old t ≡ Some w) ⊎ ((t ≡ s) × (word ≡ w))
+  pub stood : (t : ℕ) (w : Word) → slots_of new t ≡ Some w → (slots_of old t ≡ Some w) ⊎ ((t ≡ s) × (word ≡ w))
   stood t w is = elim (cases_eq t s) [
     | inl e ↦ inr (e, (let same : Some word ≡ Some w = sym put-here ∙ ap (slots_of new) (sym e) ∙ is in cc))
     | inr ne ↦ inl (sym (put-other t ne) ∙ is)
@@ -86,6 +92,13 @@ same_edge? a b = elim (cases_eq a.index b.index) [
     by_complement false false ec ed e = inl (ap (edge a.index) (ec ∙ sym ed) ∙ ap (λ i. edge i b.complement) e)
     by_complement true false ec ed e = inr (λ h. (let never : true ≡ false = sym ec ∙ ap (λ (x : Edge). x.complement) h ∙ ed in cc))
     by_complement false true ec ed e = inr (λ h. (let never : false ≡ true = sym ec ∙ ap (λ (x : Edge). x.complement) h ∙ ed in cc))
+
+-- two values too
+pub same_value? : (z x : ℤ) → (z ≡ x) ⊎ (z ≡ x → ⊥)
+same_value? z x = elim (cases_Bool (int_eq z x)) [
+  | inl t ↦ inl ((Decides-int_eq z x).0 t)
+  | inr f ↦ inr (λ e. (let t = (Decides-int_eq z x).1 e in cc))
+]
 
 same_pair? : (h hi : ℕ) (l lo : Edge) → ((h ≡ hi) × (l ≡ lo)) ⊎ (h ≡ hi → l ≡ lo → ⊥)
 same_pair? h hi l lo = elim (cases_eq h hi) [
@@ -156,33 +169,28 @@ no-place old new word next taken end same absent = record {
   same = same;
 }
 
--- where a leaf is put, or nothing
-pub leaf-tables : (old new : List ℕ) (x : ℤ) (next next' : ℕ) (result : Option ℕ) → IfSome result (IsPut old new (Leaf x)) → IfSome result (λ s. (s ≡ next) × (next' ≡ next + 1))
-    → IfNone result ((next ≡ length old) × (new ≡ old) × (next' ≡ next)) → (v : ℕ) (t : Table) → IsTableOf old next v t → IsTableOf new next' v t
-leaf-tables old new x next next' None put slot none v t table = rw (none.1, none.2) table
-leaf-tables old new x next next' (Some s) put slot none v t table = rw slot.1 (table-stays old new (Leaf x) s put next v t (λ n is same. cc) table)
-
 -- what a slice that was lent leaves in a vector
 pub lent : {X : Type 0} (xs ys : List X) (n : ℕ) → length ys ≡ length xs → n ≡ length xs → take n (ys ++ drop (length ys) xs) ≡ ys
 lent xs ys n same is =
     ap (λ zs. take n (ys ++ zs)) (drop_all (length ys) xs (omega (arith, same))) ∙ ap (take n) (append-nil ys) ∙ take_all n ys (omega (arith, same, is))
 
 -- all tables, where a leaf came to stand
-pub indexed-leaf : (words words' : List ℕ) (next next' : ℕ) (vs es : List Table) → IsIndexed words next vs es → IsTaken words' next' → length words' ≡ length words
-    → ((v : ℕ) (t : Table) → IsTableOf words next v t → IsTableOf words' next' v t) → IsIndexed words' next' vs es
-indexed-leaf words words' next next' vs es i taken same tables = record {
+pub indexed-leaf : (words words' : List ℕ) (next next' : ℕ) (vs es : List Table) (ls ls' : Leaves) → IsIndexed words next vs es ls → IsTaken words' next' → length words' ≡ length words
+    → ((v : ℕ) (t : Table) → IsTableOf words next v t → IsTableOf words' next' v t) → IsLeavesOf words' next' ls' → IsIndexed words' next' vs es ls'
+indexed-leaf words words' next next' vs es ls ls' i taken same tables leaves = record {
   taken = taken;
   few = rw same i.few;
   few_variables = i.few_variables;
   variable_tables = λ k t is. tables k t (i.variable_tables k t is);
   element_tables = λ k t is. tables (16384 + k) t (i.element_tables k t is);
+  leaf_table = leaves;
 }
 
-module _ (words words' : List ℕ) (next next' : ℕ) (vs es : List Table) (node : Node) (i : IsIndexed words next vs es) (taken : IsTaken words' next') (same : length words' ≡ length words)
-    (others : (v : ℕ) (t : Table) → v ≢ node.var → IsTableOf words next v t → IsTableOf words' next' v t) where
+module _ (words words' : List ℕ) (next next' : ℕ) (vs es : List Table) (ls : Leaves) (node : Node) (i : IsIndexed words next vs es ls) (taken : IsTaken words' next') (same : length words' ≡ length words)
+    (others : (v : ℕ) (t : Table) → v ≢ node.var → IsTableOf words next v t → IsTableOf words' next' v t) (leaves : IsLeavesOf words' next' ls) where
   -- and where a node of a variable did
   pub indexed-variable : (vs' : List Table) → node.var < 16384 → length vs' ≡ length vs → ((t : Table) → slice_get vs' node.var ≡ Some t → IsTableOf words' next' node.var t)
-      → ((k : ℕ) → k ≢ node.var → slice_get vs' k ≡ slice_get vs k) → IsIndexed words' next' vs' es
+      → ((k : ℕ) → k ≢ node.var → slice_get vs' k ≡ slice_get vs k) → IsIndexed words' next' vs' es ls
   indexed-variable vs' low count table tables = record {
     taken = taken;
     few = rw same i.few;
@@ -192,11 +200,12 @@ module _ (words words' : List ℕ) (next next' : ℕ) (vs es : List Table) (node
       | inr ne ↦ others k t ne (i.variable_tables k t (sym (tables k ne) ∙ is))
     ];
     element_tables = λ k t is. (let ne : 16384 + k ≢ node.var = omega (arith, low) in others (16384 + k) t ne (i.element_tables k t is));
+    leaf_table = leaves;
   }
 
   -- and where a node of an element did
   pub indexed-element : (es' : List Table) (at : ℕ) → node.var ≡ 16384 + at → ((t : Table) → slice_get es' at ≡ Some t → IsTableOf words' next' node.var t)
-      → ((k : ℕ) → k ≢ at → slice_get es' k ≡ slice_get es k) → IsIndexed words' next' vs es'
+      → ((k : ℕ) → k ≢ at → slice_get es' k ≡ slice_get es k) → IsIndexed words' next' vs es' ls
   indexed-element es' at high table tables = record {
     taken = taken;
     few = rw same i.few;
@@ -208,6 +217,7 @@ module _ (words words' : List ℕ) (next next' : ℕ) (vs es : List Table) (node
       | inl e ↦ subst (λ v. IsTableOf words' next' v t) (high ∙ ap (λ j. 16384 + j) (sym e)) (table t (sym (ap (slice_get es') e) ∙ is))
       | inr ne ↦ (let apart : 16384 + k ≢ node.var = omega (arith, ne, high) in others (16384 + k) t apart (i.element_tables k t (sym (tables k ne) ∙ is)))
     ];
+    leaf_table = leaves;
   }
 
 -- a table with the projection alone
@@ -232,6 +242,31 @@ projection_only spare slot hi lo s at = by_test (is_of hi lo (first_entry slot))
     by_test false is =
         let apart : IsOf hi lo (first_entry slot) → ⊥ = λ own. (let never : false ≡ true = sym is ∙ true_is_of hi lo (first_entry slot) own in cc) in
         let never : None ≡ Some s = sym (slot-later hi lo (first_entry slot) [] apart) ∙ at in cc
+
+-- the leaves' table with the constants alone
+abbrev zero_leaf : LeafEntry
+zero_leaf = record { value = pos 0; slot = 3 }
+
+abbrev one_leaf : LeafEntry
+one_leaf = record { value = pos 1; slot = 4 }
+
+zero_here : (spare : ℕ) → slot_at_value (constants_table spare).entries (pos 0) ≡ Some 3
+zero_here spare = key-here IsOfValue is_of_value value_of slot_of values (pos 0) zero_leaf (one_leaf ∷ []) refl
+
+one_here : (spare : ℕ) → slot_at_value (constants_table spare).entries (pos 1) ≡ Some 4
+one_here spare = key-later IsOfValue is_of_value value_of slot_of values (pos 1) zero_leaf (one_leaf ∷ []) (λ e. cc) ∙ key-here IsOfValue is_of_value value_of slot_of values (pos 1) one_leaf [] refl
+
+constants_only : (spare : ℕ) (x : ℤ) (s : ℕ) → slot_at_value (constants_table spare).entries x ≡ Some s → ((s ≡ 3) × (x ≡ pos 0)) ⊎ ((s ≡ 4) × (x ≡ pos 1))
+constants_only spare x s at = elim (same_value? x (pos 0)) [
+  | inl e ↦ inl ((let known : Some s ≡ Some 3 = sym at ∙ ap (slot_at_value (constants_table spare).entries) e ∙ zero_here spare in cc), e)
+  | inr ne ↦ elim (same_value? x (pos 1)) [
+    | inl e ↦ inr ((let known : Some s ≡ Some 4 = sym at ∙ ap (slot_at_value (constants_table spare).entries) e ∙ one_here spare in cc), e)
+    | inr apart ↦ (
+        let none : slot_at_value (constants_table spare).entries x ≡ None =
+        key-later IsOfValue is_of_value value_of slot_of values x zero_leaf (one_leaf ∷ []) (λ e. ne (sym e)) ∙ key-later IsOfValue is_of_value value_of slot_of values x one_leaf [] (λ e. apart (sym e)) in
+        let never : None ≡ Some s = sym none ∙ at in cc)
+  ]
+]
 
 -- the words that a store opens with, and is cleared to
 module _ (words : List ℕ) (n : ℕ) (few : n ≤ 1024) (room : 5 + n ≤ length words) (small : length words < 2 ^ 23)
@@ -273,9 +308,35 @@ module _ (words : List ℕ) (n : ℕ) (few : n ≤ 1024) (room : 5 + n ≤ lengt
     λ h. (let w = node_word s (node_at (16384 + i) hi lo) h.1 in let var : w.0 ≡ 16384 + i = ap (λ (m : Node). m.var) w.3 in absurd (omega (arith, var, w.1, few))),
   )
 
+  -- a leaf beyond the slots that are told by their number stands in that of a constant
+  constant_word : (s : ℕ) (x : ℤ) → 3 ≤ s → slots_of words s ≡ Some (Leaf x) → ((s ≡ 3) × (x ≡ pos 0)) ⊎ ((s ≡ 4) × (x ≡ pos 1))
+  constant_word s x high is = elim (cases_lt s 5) [
+    | inl low ↦ elim (cases_eq s 3) [
+      | inl e ↦ (let at : Some (Leaf (constant_value 3)) ≡ Some (Leaf x) = sym (permanent 3 (omega arith) ∙ ap Some (permanent_low 3 (omega arith))) ∙ ap (slots_of words) (sym e) ∙ is in inl (e, cc))
+      | inr ne ↦ (let e : s ≡ 4 = omega (arith, ne, high, low) in let at : Some (Leaf (constant_value 4)) ≡ Some (Leaf x) = sym (permanent 4 (omega arith) ∙ ap Some (permanent_low 4 (omega arith))) ∙ ap (slots_of words) (sym e) ∙ is in inr (e, cc))
+    ]
+    | inr above ↦ elim (cases_lt s (5 + n)) [
+      | inl below ↦ (let v : ℕ = s - 5 in let at : s ≡ 5 + v = omega arith in
+          let never : Some (Inner (projection_node v)) ≡ Some (Leaf x) = sym (projection_word v (omega arith)) ∙ ap (slots_of words) (sym at) ∙ is in cc)
+      | inr ends ↦ (let never : None ≡ Some (Leaf x) = sym (free s ends) ∙ is in cc)
+    ]
+  ]
+
+  constants_indexes : (spare : ℕ) (x : ℤ) (s : ℕ) → (slot_at_value (constants_table spare).entries x ≡ Some s) ↔ ((3 ≤ s) × (slots_of words s ≡ Some (Leaf x)))
+  constants_indexes spare x s = (
+    λ at. elim (constants_only spare x s at) [
+      | inl h ↦ (omega (arith, h.0), ap (slots_of words) h.0 ∙ permanent 3 (omega arith) ∙ ap Some (permanent_low 3 (omega arith)) ∙ ap (λ z. Some (Leaf z)) (sym h.1))
+      | inr h ↦ (omega (arith, h.0), ap (slots_of words) h.0 ∙ permanent 4 (omega arith) ∙ ap Some (permanent_low 4 (omega arith)) ∙ ap (λ z. Some (Leaf z)) (sym h.1))
+    ],
+    λ h. elim (constant_word s x h.0 h.1) [
+      | inl e ↦ ap (slot_at_value (constants_table spare).entries) e.1 ∙ zero_here spare ∙ ap (λ k. Some k) (sym e.0)
+      | inr e ↦ ap (slot_at_value (constants_table spare).entries) e.1 ∙ one_here spare ∙ ap (λ k. Some k) (sym e.0)
+    ],
+  )
+
   pub indexed-opening : (vs es : List Table) → length vs ≡ n → ((i : ℕ) (t : Table) → slice_get vs i ≡ Some t → (spare : ℕ) × (t ≡ projection_table spare (5 + i)) × (length words ≤ spare))
-      → ((i : ℕ) (t : Table) → slice_get es i ≡ Some t → (spare : ℕ) × (t ≡ no_nodes spare) × (length words ≤ spare)) → IsIndexed words (5 + n) vs es
-  indexed-opening vs es count variables elements = record {
+      → ((i : ℕ) (t : Table) → slice_get es i ≡ Some t → (spare : ℕ) × (t ≡ no_nodes spare) × (length words ≤ spare)) → (ls : Leaves) → ((spare : ℕ) × (ls ≡ constants_table spare) × (length words ≤ spare)) → IsIndexed words (5 + n) vs es ls
+  indexed-opening vs es count variables elements ls leaves = record {
     taken = record {
       high = omega arith;
       within = room;
@@ -293,15 +354,16 @@ module _ (words : List ℕ) (n : ℕ) (few : n ≤ 1024) (room : 5 + n ≤ lengt
         let known = elements i t is in
         subst (λ (u : Table). IsTableOf words (5 + n) (16384 + i) u) (sym known.1)
         (record { indexes = empty_indexes known.0 i; few = omega arith; room = omega (arith, known.2) });
+    leaf_table = subst (λ (u : Leaves). IsLeavesOf words (5 + n) u) (sym leaves.1) (record { indexes = constants_indexes leaves.0; few = omega arith; room = omega (arith, leaves.2, room) });
   }
 
 -- all tables, after the slots from the first that is not permanent on were freed
-pub cleared : (words words' : List ℕ) (next n : ℕ) (vs es vs' es' : List Table) → IsIndexed words next vs es → n ≡ length vs → 5 + length vs ≤ length words
+pub cleared : (words words' : List ℕ) (next n : ℕ) (vs es vs' es' : List Table) (ls ls' : Leaves) → IsIndexed words next vs es ls → n ≡ length vs → 5 + length vs ≤ length words
     → ((s : ℕ) → s < 5 + length vs → slots_of words s ≡ Some (permanent_word s)) → ((s : ℕ) → s < 5 + n → slots_of words' s ≡ slots_of words s)
     → ((s : ℕ) → 5 + n ≤ s → slots_of words' s ≡ None) → length words' ≡ length words → length vs' ≡ length vs → length es' ≡ length es
     → ((i : ℕ) (t : Table) → slice_get vs i ≡ Some t → slice_get vs' i ≡ Some (projection_table (t.spare + length t.entries) (5 + i)))
-    → ((i : ℕ) (t : Table) → slice_get es i ≡ Some t → slice_get es' i ≡ Some (no_nodes (t.spare + length t.entries))) → IsIndexed words' (5 + n) vs' es'
-cleared words words' next n vs es vs' es' i is room permanent kept free count vcount ecount variables elements =
+    → ((i : ℕ) (t : Table) → slice_get es i ≡ Some t → slice_get es' i ≡ Some (no_nodes (t.spare + length t.entries))) → ls' ≡ constants_table (ls.spare + length ls.entries) → IsIndexed words' (5 + n) vs' es' ls'
+cleared words words' next n vs es vs' es' ls ls' i is room permanent kept free count vcount ecount variables elements leaves =
     indexed-opening words' n (omega (arith, is, i.few_variables)) (omega (arith, is, room, count)) (omega (arith, i.few, count))
     (λ s below. kept s below ∙ permanent s (omega (arith, below, is))) free vs' es' (omega (arith, vcount, is))
     (λ k t at. (
@@ -312,3 +374,4 @@ cleared words words' next n vs es vs' es' i is room permanent kept free count vc
     let old = some_at es k (let below = slice_get_within es' k t at in omega (arith, below, ecount)) in
     let table = i.element_tables k old.0 old.1 in
     (old.0.spare + length old.0.entries, (let e = sym at ∙ elements k old.0 old.1 in cc), omega (arith, table.room, count))))
+    ls' (ls.spare + length ls.entries, leaves, (let enough = i.leaf_table.room in omega (arith, enough, count)))

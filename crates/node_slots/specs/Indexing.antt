@@ -1,11 +1,12 @@
 -- The unique tables of a store: which nodes they know.
-use Rattle.std.specs.Prelude.{◌≡◌, ◌↔◌, ℕ, ◌+◌, ◌-◌, ◌<◌, ◌≤◌, ◌^◌, ◌⊎◌, true, List, [], ◌∷◌, length, slice_get, slice_set, Some, None}
+use Rattle.std.specs.Prelude.{◌≡◌, ◌↔◌, ℕ, ◌+◌, ◌-◌, ◌<◌, ◌≤◌, ◌^◌, ◌⊎◌, true, List, ℤ, pos, [], ◌∷◌, length, slice_get, slice_set, Some, None}
 use Rattle.edge_bits.specs.declared.edges.Edge.{Edge}
 use Rattle.edge_bits.specs.declared.words.Node.{Node}
 use Rattle.edge_bits.specs.declared.words.Word.{Word}
 use Rattle.edge_bits.specs.declared.words.Word.TheVariants.{Inner, Leaf}
 use Rattle.edge_bits.specs.Words.{unpack_of}
 use Rattle.edge_bits.specs.Reading.{slots_of}
+use Rattle.level_table.specs.Leaves.{Leaves, slot_at_value}
 use Rattle.level_table.specs.Tables.{Table, slot_at}
 use Rattle.node_slots.specs.Stores.{Plain, IsStore}
 
@@ -36,13 +37,20 @@ pub record IsTableOf (words : List ℕ) (next v : ℕ) (table : Table) : Type 0 
   pub few : length table.entries ≤ next
   pub room : length words ≤ length table.entries + table.spare
 
--- each variable and each element has its table
-pub record IsIndexed (words : List ℕ) (next : ℕ) (variables elements : List Table) : Type 0 where
+-- the table holds exactly the leaves that aren't told by their slot's number, with room for as many as there are slots
+pub record IsLeavesOf (words : List ℕ) (next : ℕ) (table : Leaves) : Type 0 where
+  pub indexes : (x : ℤ) (s : ℕ) → (slot_at_value table.entries x ≡ Some s) ↔ ((3 ≤ s) × (slots_of words s ≡ Some (Leaf x)))
+  pub few : length table.entries ≤ next
+  pub room : length words ≤ length table.entries + table.spare
+
+-- each variable and each element has its table, and the leaves have theirs
+pub record IsIndexed (words : List ℕ) (next : ℕ) (variables elements : List Table) (leaves : Leaves) : Type 0 where
   pub taken : IsTaken words next
   pub few : length words < 2 ^ 23
   pub few_variables : length variables ≤ 1024
   pub variable_tables : (i : ℕ) (t : Table) → slice_get variables i ≡ Some t → IsTableOf words next i t
   pub element_tables : (i : ℕ) (t : Table) → slice_get elements i ≡ Some t → IsTableOf words next (16384 + i) t
+  pub leaf_table : IsLeavesOf words next leaves
 
 -- there is a table for the word's node
 abbrev pub HasTable : Nodes → Word → Type 0
@@ -65,6 +73,13 @@ abbrev pub projection_table : ℕ → ℕ → Table
 projection_table spare slot = record {
   entries = record { hi = 0; lo = record { index = 0; complement = true }; slot = slot } ∷ [];
   spare = spare - 1;
+}
+
+-- the leaves' table with those of the constants 0 and 1 alone
+abbrev pub constants_table : ℕ → Leaves
+constants_table spare = record {
+  entries = record { value = pos 0; slot = 3 } ∷ record { value = pos 1; slot = 4 } ∷ [];
+  spare = spare - 2;
 }
 
 -- the store is canonical, and its nodes have a table for each variable and element

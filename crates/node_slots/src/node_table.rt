@@ -3,17 +3,18 @@
 ghost use Rattle.std.specs.Prelude.{◌≡◌, ◌≢◌, ℕ, ◌+◌, ◌-◌, ◌<◌, ◌≤◌, ◌^◌, [], IfOk, IfSome, IfNone, length, slice_get, Some, None};
 ghost use Rattle.edge_bits.specs.Reading.{slots_of};
 ghost use Rattle.edge_bits.specs.Words.{IsInRange};
+ghost use Rattle.level_table.specs.Leaves.{Leaves};
 ghost use Rattle.level_table.specs.Tables.{Table};
-ghost use Rattle.node_slots.specs.Indexing.{HasTable, IsPut, IsTableOf, IsTaken, no_nodes, projection_table};
+ghost use Rattle.node_slots.specs.Indexing.{HasTable, IsLeavesOf, IsPut, IsTableOf, IsTaken, constants_table, no_nodes, projection_table};
 ghost use Rattle.node_slots.specs.Placing.{IsPlaced, HasNoPlace};
 ghost use Rattle.node_slots.specs.Stores.{permanent_word};
 
 use edge_bits::{Edge, Memory, Node, Word, pack, unpack};
-use level_table::LevelTable;
+use level_table::{LeafTable, LevelTable};
 use std::alloc::Global;
 use std::marker::Model;
 
-/// The words of a store's slots, with a unique table for the nodes of each variable and of each element (Brace, Rudell and Bryant 1990).
+/// The words of a store's slots, with a unique table for the nodes of each variable and of each element, and one for the leaves (Brace, Rudell and Bryant 1990).
 #[derive(Drop)]
 pub struct NodeTable {
     words: Vec<u64>,
@@ -21,6 +22,7 @@ pub struct NodeTable {
     next: usize,
     variables: Vec<LevelTable>,
     elements: Vec<LevelTable>,
+    leaves: LeafTable,
 }
 
 impl Model for NodeTable {
@@ -31,7 +33,7 @@ impl Model for NodeTable {
 
     ghost view = { λ t. record { words = t.words.items; variables = length t.variables.items; elements = length t.elements.items } };
 
-    ghost invariant = { λ t. IsIndexed t.words.items t.next t.variables.items t.elements.items };
+    ghost invariant = { λ t. IsIndexed t.words.items t.next t.variables.items t.elements.items t.leaves };
 }
 
 // Where a word stands, beyond the slots that are told by their number.
@@ -67,21 +69,30 @@ fn put(words: &mut Vec<u64>, next: &mut usize, word: Word) -> Option<usize>
     Some(slot)
 }
 
-// Where a leaf stands, or comes to stand where a slot is free.
-fn place_leaf(words: &mut Vec<u64>, next: &mut usize, value: i64) -> Option<usize>
+// Where a leaf stands by the leaves' table, or comes to stand where a slot is free.
+fn place_leaf(
+    words: &mut Vec<u64>,
+    next: &mut usize,
+    leaves: &mut LeafTable,
+    value: i64,
+) -> Option<usize>
     requires range { IsInRange (Word.Leaf value) }
     requires taken { IsTaken words.old.items next.old }
+    requires leaves { IsLeavesOf words.old.items next.old leaves.old }
+    requires few { length words.old.items < 2 ^ 23 }
     ensures placed { IfSome result (IsPlaced words.old.items words.new.items (Word.Leaf value)) }
     ensures full { IfNone result (HasNoPlace words.old.items words.new.items (Word.Leaf value)) }
     ensures taken { IsTaken words.new.items next.new }
+    ensures leaves { IsLeavesOf words.new.items next.new leaves.new }
     ensures tables { (v : ℕ) (t : Table) → IsTableOf words.old.items next.old v t → IsTableOf words.new.items next.new v t }
     ensures length { length words.new.items ≡ length words.old.items }
 {
-    let word = Word::Leaf(value);
-    if let Some(slot) = find(words, word) {
-        return Some(slot);
+    if let Some(slot) = leaves.find_value(value) {
+        return Some(slot as usize);
     }
-    put(words, next, word)
+    let slot = put(words, next, Word::Leaf(value))?;
+    leaves.insert(value, slot as u32);
+    Some(slot)
 }
 
 // Where the node stands by the table of this place, that of its variable, or comes to stand where a slot is free.
@@ -103,6 +114,7 @@ fn place_node(
     ensures table { (t : Table) → slice_get tables.new at ≡ Some t → IsTableOf words.new.items next.new node.var t }
     ensures tables { (i : ℕ) → i ≢ at → slice_get tables.new i ≡ slice_get tables.old i }
     ensures others { (v : ℕ) (t : Table) → v ≢ node.var → IsTableOf words.old.items next.old v t → IsTableOf words.new.items next.new v t }
+    ensures leaves { (t : Leaves) → IsLeavesOf words.old.items next.old t → IsLeavesOf words.new.items next.new t }
     ensures length { length words.new.items ≡ length words.old.items }
 {
     if let Some(slot) = tables[at].find(node.hi, node.lo) {
@@ -192,6 +204,36 @@ fn element_tables(alloc: Global, elements: u32, limit: u32) -> Result<Vec<LevelT
     Ok(tables)
 }
 
+// Puts the leaves of the constants 0 and 1 into their table.
+fn add_constants(leaves: &mut LeafTable)
+    requires empty { leaves.old.entries ≡ [] }
+    requires room { 2 ≤ leaves.old.spare }
+    ensures { leaves.new ≡ constants_table leaves.old.spare }
+{
+    leaves.insert(0, 3);
+    leaves.insert(1, 4);
+}
+
+// The leaves' table with the constants, with room for so many.
+fn leaf_table(alloc: Global, limit: u32) -> Result<LeafTable, Memory>
+    requires limit { 2 ≤ limit }
+    ensures { IfOk result (λ t. t ≡ constants_table limit) }
+{
+    let mut leaves = LeafTable::new(alloc)?;
+    leaves.reserve(limit)?;
+    add_constants(&mut leaves);
+    Ok(leaves)
+}
+
+// Empties the leaves' table, but for the constants.
+fn clear_leaves(leaves: &mut LeafTable)
+    requires room { 2 ≤ leaves.old.spare + length leaves.old.entries }
+    ensures { leaves.new ≡ constants_table (leaves.old.spare + length leaves.old.entries) }
+{
+    leaves.clear();
+    add_constants(leaves);
+}
+
 // Frees the slots from this one on.
 fn free_from(words: &mut Vec<u64>, from: usize)
     ensures kept { (s : ℕ) → s < from → slots_of words.new.items s ≡ slots_of words.old.items s }
@@ -239,11 +281,13 @@ impl NodeTable {
         let words = opening_words(alloc, vars, limit)?;
         let variables = variable_tables(alloc, vars, limit)?;
         let elements = element_tables(alloc, elements, limit)?;
+        let leaves = leaf_table(alloc, limit)?;
         Ok(NodeTable {
             words,
             next: 5 + vars as usize,
             variables,
             elements,
+            leaves,
         })
     }
 
@@ -264,7 +308,9 @@ impl NodeTable {
         ensures elements { self.new.elements ≡ self.old.elements }
     {
         match word {
-            Word::Leaf(value) => place_leaf(&mut self.words, &mut self.next, value),
+            Word::Leaf(value) => {
+                place_leaf(&mut self.words, &mut self.next, &mut self.leaves, value)
+            }
             Word::Inner(node) => {
                 let number = node.var as usize;
                 if number < 16384 {
@@ -303,6 +349,7 @@ impl NodeTable {
         free_from(&mut self.words, permanent);
         clear_variables(&mut self.variables);
         clear_elements(&mut self.elements);
+        clear_leaves(&mut self.leaves);
         self.next = permanent;
     }
 }

@@ -1,4 +1,4 @@
-//! A store of diagrams in one vector of words, with a unique table for each variable and element.
+//! A store of diagrams in one vector of words, with a unique table for each variable and element, and one for the leaves.
 
 ghost use Rattle.std.specs.Prelude.{◌≡◌, ℕ, ◌+◌, ◌<◌, ◌≤◌, ◌^◌, ◌↔◌, ◌⊎◌, IfOk, IfSome, IfNone, IsErrOf, IsOkAnd, IsTrue, count_by, length, Some, None, true};
 ghost use Rattle.std.specs.List.{range_with_len};
@@ -20,7 +20,7 @@ pub enum Refused {
     Leaf(i64),
 }
 
-/// A store in one vector of words. It finds a node by the unique table of its variable, and a leaf by a walk over the words; its computed table is empty.
+/// A store in one vector of words. It finds a node by the unique table of its variable, and a leaf by that of the leaves; its computed table is empty.
 #[derive(Drop)]
 pub struct PlainStore {
     alloc: Global,

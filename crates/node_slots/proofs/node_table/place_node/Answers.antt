@@ -7,6 +7,7 @@ use Rattle.level_table.specs.Tables.{Table, slot_at}
 use Rattle.node_slots.specs.Indexing.{IsTableOf}
 use Rattle.node_slots.proofs.Slices.{slice_get-set_other, slice_get-set_same}
 use Rattle.node_slots.proofs.Tables.{known-placed, no-place, put-placed, table-more, table-stays, unknown-absent}
+use Rattle.node_slots.proofs.LeafTables.{leaves-stay}
 use Rattle.node_slots.proofs.node_table.place_node.Goals as goal
 
 pub returns-in-Some-clause-placed : goal.returns-in-Some-clause-placed
@@ -75,3 +76,11 @@ returns-clause-others c = λ v t apart table.
     rw c.in_ok-slot.ensures.slot.1
     (table-stays c.args.words.now.items c.put.new.words.items (Inner c.args.node) c.in_ok-slot.slot c.in_ok-slot.ensures.some c.args.next.now v t
     (λ n is same. apart (let e : c.args.node ≡ n = cc in sym same ∙ sym (ap (λ (m : Node). m.var) e))) table)
+
+pub returns-in_err-slot-clause-leaves : goal.returns-in_err-slot-clause-leaves
+returns-in_err-slot-clause-leaves c = λ t table. let none = c.in_err-slot.ensures.none in rw (none.1, none.2) table
+
+pub returns-clause-leaves : goal.returns-clause-leaves
+returns-clause-leaves c = λ t table.
+    rw c.in_ok-slot.ensures.slot.1
+    (leaves-stay c.args.words.now.items c.put.new.words.items (Inner c.args.node) c.in_ok-slot.slot c.args.next.now t c.in_ok-slot.ensures.some (λ x is. cc) table)

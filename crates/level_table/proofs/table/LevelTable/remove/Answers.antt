@@ -1,7 +1,8 @@
 use Rattle.std.proofs.Common.{◌≡◌, ℕ, ◌+◌, ◌-◌, ◌<◌, length, get_or, map, swap_remove, sym, ◌∙◌, ap, arith}
 use Rattle.level_table.specs.declared.table.Entry.{Entry}
 use Rattle.level_table.specs.Tables.{Table, hash_of, IsOf, slot_at}
-use Rattle.level_table.proofs.Removal.{apart_without, absent_without, slot_without, map-swap_remove}
+use Rattle.level_table.proofs.Keyed.{map-swap_remove}
+use Rattle.level_table.proofs.Removal.{apart_without, absent_without, slot_without}
 use Rattle.level_table.proofs.table.LevelTable.remove.Goals as goal
 use Rattle.level_table.proofs.table.LevelTable.remove.Goals.{After-self-1}
 

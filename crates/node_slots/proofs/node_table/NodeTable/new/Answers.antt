@@ -9,3 +9,4 @@ invariant_of-result c =
     c.in_ok-variables.variables.items c.in_ok-elements.elements.items c.in_ok-variables.ensures.length
     (λ i t is. (c.args.limit, c.in_ok-variables.ensures.tables i t is, omega (arith, w.length)))
     (λ i t is. (c.args.limit, c.in_ok-elements.ensures.tables i t is, omega (arith, w.length)))
+    c.in_ok-leaves.leaves (c.args.limit, c.in_ok-leaves.ensures, omega (arith, w.length))

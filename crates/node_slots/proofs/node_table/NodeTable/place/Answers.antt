@@ -7,7 +7,7 @@ use Rattle.node_slots.proofs.node_table.NodeTable.place.Goals as goal
 pub invariant_of-self : goal.invariant_of-self
 invariant_of-self c =
     let e = c.place_leaf.ensures in
-    indexed-leaf c.self.inside.words.items c.place_leaf.new.words.items c.self.inside.next c.place_leaf.new.next c.self.inside.variables.items c.self.inside.elements.items c.self.invariant e.taken e.length e.tables
+    indexed-leaf c.self.inside.words.items c.place_leaf.new.words.items c.self.inside.next c.place_leaf.new.next c.self.inside.variables.items c.self.inside.elements.items c.self.inside.leaves c.place_leaf.new.leaves c.self.invariant e.taken e.length e.tables e.leaves
 
 pub place_node-requires-clause-table : goal.place_node-requires-clause-table
 place_node-requires-clause-table c = λ t is. c.self.invariant.variable_tables c.in-Inner.node.var t (ap (λ xs. slice_get xs c.in-Inner.node.var) (sym c.deref_mut.ensures.value) ∙ is)
@@ -19,7 +19,7 @@ invariant_of-self-then-number-lt16384 c =
     let value = c.deref_mut.ensures.value in
     let count : length c.place_node.new.tables ≡ length vs.items = c.place_node.auto.tables ∙ ap length value in
     rw (lent vs.items c.place_node.new.tables vs.len count vs.ok.0)
-    (indexed-variable c.self.inside.words.items c.place_node.new.words.items c.self.inside.next c.place_node.new.next vs.items c.self.inside.elements.items c.in-Inner.node c.self.invariant e.taken e.length e.others
+    (indexed-variable c.self.inside.words.items c.place_node.new.words.items c.self.inside.next c.place_node.new.next vs.items c.self.inside.elements.items c.self.inside.leaves c.in-Inner.node c.self.invariant e.taken e.length e.others (e.leaves c.self.inside.leaves c.self.invariant.leaf_table)
     c.place_node.new.tables c.if-number-lt16384.true count e.table (λ k ne. e.tables k ne ∙ ap (λ xs. slice_get xs k) value))
 
 pub place_node-requires-else-number-lt16384-clause-table : goal.place_node-requires-else-number-lt16384-clause-table
@@ -37,5 +37,6 @@ invariant_of-self-else-number-lt16384 c =
     let low = c.if-number-lt16384.false in
     let count : length c.place_node-else-number-lt16384.new.tables ≡ length es.items = c.place_node-else-number-lt16384.auto.tables ∙ ap length value in
     rw (lent es.items c.place_node-else-number-lt16384.new.tables es.len count es.ok.0)
-    (indexed-element c.self.inside.words.items c.place_node-else-number-lt16384.new.words.items c.self.inside.next c.place_node-else-number-lt16384.new.next c.self.inside.variables.items es.items c.in-Inner.node c.self.invariant e.taken e.length e.others
+    (indexed-element c.self.inside.words.items c.place_node-else-number-lt16384.new.words.items c.self.inside.next c.place_node-else-number-lt16384.new.next c.self.inside.variables.items es.items c.self.inside.leaves c.in-Inner.node c.self.invariant e.taken e.length e.others
+    (e.leaves c.self.inside.leaves c.self.invariant.leaf_table)
     c.place_node-else-number-lt16384.new.tables (c.in-Inner.node.var - 16384) (omega (arith, low)) e.table (λ k ne. e.tables k ne ∙ ap (λ xs. slice_get xs k) value))
