@@ -1,7 +1,7 @@
 -- Leaves of ADDs.
-use Rattle.std.proofs.Common.{◌≡◌, ℕ, ℤ, true, false, Option, Some, None, ◌⊎◌, inl, inr, Result, Ok, Err, refl, ap, sym, ◌∙◌, subst, arith, SFits, of_z, to_z, w64}
+use Rattle.std.proofs.Common.{◌≡◌, ℕ, ℤ, pos, Bool, true, false, cond, Option, Some, None, ◌⊎◌, inl, inr, Result, Ok, Err, refl, ap, sym, ◌∙◌, subst, arith, SFits, of_z, to_z, w64}
 use Rattle.std.specs.Int.{w128}
-use Rattle.std.specs.Prelude.{◌+ℤ◌, ◌-ℤ◌, IfOk, IsOkAnd}
+use Rattle.std.specs.Prelude.{◌+ℤ◌, ◌-ℤ◌, ◌*ℤ◌, if◌then◌else◌, int_le, IfOk, IsOkAnd}
 use Rattle.std.proofs.lemmas.Int.{ints, to_z-of_z}
 use Rattle.edge_bits.specs.declared.edges.Edge.{Edge}
 use Rattle.edge_bits.specs.declared.edges.Kind.{Kind}
@@ -9,8 +9,8 @@ use Rattle.edge_bits.specs.declared.edges.Kind.TheVariants.{Add}
 use Rattle.function_laws.specs.Values.{constant}
 use Rattle.function_laws.specs.Numbers.{is_value}
 use Rattle.node_store.specs.Kinds.{Function, AddFunction, ValueOf}
-use Rattle.node_store.specs.Views.{View, AreTwo, Denotes, Grown, Kept, add_at, values_at, IsInner, IsLeaf, IsLeafOf as IsLeafWith, number, NotBothLeaves}
-use Rattle.node_store.specs.ViewLaws.{Grown-trans, values_at-grown}
+use Rattle.node_store.specs.Views.{View, AreTwo, Denotes, Grown, Kept, add_at, values_at, IsInner, IsLeaf, IsLeafOf as IsLeafWith, number, NotBothLeaves, Permanent}
+use Rattle.node_store.specs.ViewLaws.{Denotes-grown, Grown-trans, values_at-grown}
 use Rattle.node_store.specs.Work.{Adds, whole}
 use Rattle.node_store.specs.WorkLaws.{Moves-made}
 use Rattle.node_store.specs.declared.grow.Stop.{Stop}
@@ -42,6 +42,12 @@ wide_sum x y fx fy = omega (arith, ints)
 pub wide_difference : (x y : ℤ) → SFits w64 x → SFits w64 y → to_z w128 (of_z w128 (wide x -ℤ wide y)) ≡ x -ℤ y
 wide_difference x y fx fy = omega (arith, ints)
 
+wide_same : (x : ℤ) → SFits w64 x → wide x ≡ x
+wide_same x fx = omega (arith, ints)
+
+pub wide_product : (x y exact : ℤ) → SFits w64 x → SFits w64 y → SFits w64 exact → exact ≡ to_z w64 (of_z w64 x) *ℤ to_z w64 (of_z w64 y) → wide exact ≡ x *ℤ y
+wide_product x y exact fx fy fe is = wide_same exact fe ∙ is ∙ ap (λ a. a *ℤ to_z w64 (of_z w64 y)) (to_z-of_z w64 x fx) ∙ ap (λ b. x *ℤ b) (to_z-of_z w64 y fy)
+
 -- the numbers of two leaves that were opened one after the other
 pub AreLeaves-passed : (a b c : View) (f g : Edge) (x y : ℤ) → SFits w64 x → SFits w64 y → Grown a b → AreTwo Add a f g
     → IsLeaf Add b f (add_at a f) x → IsLeaf Add c g (add_at b g) y → AreLeaves a f g (to_z w64 (of_z w64 x)) (to_z w64 (of_z w64 y))
@@ -69,6 +75,33 @@ leaf_overflow op w f g x y z l is out = (0, ap (λ (h : ℕ → ℤ). is_value (
 -- its value was due
 pub leaf_due : (op : ℤ → ℤ → ℤ) (w : View) (f g : Edge) (x y z : ℤ) (o : Option Function) → AreLeaves w f g x y → z ≡ op x y → o ≡ Some (AddFunction (constant z)) → o ≡ Some (AddFunction (place_at Add op w f g))
 leaf_due op w f g x y z o l is due = due ∙ ap (λ (h : ℕ → ℤ). Some (AddFunction h)) (sym (place_leaves op w f g x y z l is))
+
+-- the edge of the value that is chosen
+pub chosen_terminal : (op : ℤ → ℤ → ℤ) (v w : View) (f g h r : Edge) (x y z : ℤ) (b : Bool) → Kept v w → AreTwo Add v f g → AreLeaves v f g x y → Denotes Add v h (constant z) → cond b x z ≡ op x y → r ≡ cond b f h
+    → Denotes Add w r (place_at Add op w f g)
+chosen_terminal op v w f g h r x y z true k d l dh is same =
+    subst (λ e. Denotes Add w e (place_at Add op w f g)) (sym same)
+    (subst (λ t. Denotes Add w f t) (l.first ∙ sym (place_leaves op v f g x y x l is) ∙ sym (place_at-grown Add op k.grown d)) (Denotes-grown Add k.grown d.first))
+chosen_terminal op v w f g h r x y z false k d l dh is same =
+    subst (λ e. Denotes Add w e (place_at Add op w f g)) (sym same)
+    (subst (λ t. Denotes Add w h t) (sym (place_leaves op v f g x y z l is) ∙ sym (place_at-grown Add op k.grown d)) (Denotes-grown Add k.grown dh))
+
+pub second_leaf : (w : View) (f g : Edge) (x y : ℤ) → AreTwo Add w f g → AreLeaves w f g x y → Denotes Add w g (constant y)
+second_leaf w f g x y d l = subst (λ t. Denotes Add w g t) l.second d.second
+
+-- slot 3
+pub zero_leaf : (w : View) (e : Edge) → Permanent w → e ≡ record { index = 3; complement = false } → Denotes Add w e (constant (pos 0))
+zero_leaf w e p is = subst (λ t. Denotes Add w t (constant (pos 0))) (sym is) (record { is = p.add_zero; beyond = λ v h k b. refl; fits = λ x. refl })
+
+-- numbers that were passed by value compare as before
+pub order_passed : (x y : ℤ) → SFits w64 x → SFits w64 y → int_le (to_z w64 (of_z w64 x)) (to_z w64 (of_z w64 y)) ≡ int_le x y
+order_passed x y fx fy = ap (λ a. int_le a (to_z w64 (of_z w64 y))) (to_z-of_z w64 x fx) ∙ ap (λ b. int_le x b) (to_z-of_z w64 y fy)
+
+pub same_choice : (b c : Bool) (x y : ℤ) → b ≡ c → cond b x y ≡ (if c then x else y)
+same_choice true true x y e = refl
+same_choice false false x y e = refl
+same_choice true false x y e = cc
+same_choice false true x y e = cc
 
 -- what a call for a leaf stored
 pub constant_work : (v w : View) (x : ℤ) (r : Result Edge Stop) → Grown v w → ((s : ℕ) → w.made s ≡ true → (v.made s ≡ true) ⊎ IsOkAnd r (λ e. e.index ≡ s))

@@ -1,6 +1,6 @@
 //! The leaves of ADDs.
 
-ghost use Rattle.std.specs.Prelude.{◌≡◌, ℕ, ◌⊎◌, IfOk, IfSome, IfNone, IsErrOf, IsOkAnd, true, false, Some};
+ghost use Rattle.std.specs.Prelude.{◌≡◌, ℕ, ◌⊎◌, IfOk, IfSome, IfNone, IsErrOf, IsOkAnd, cond, true, false, Some};
 ghost use Rattle.edge_bits.specs.declared.edges.Kind.TheVariants.{Add};
 ghost use Rattle.function_laws.specs.Numbers.{is_value};
 ghost use Rattle.function_laws.specs.Values.{constant};
@@ -44,4 +44,11 @@ pub(crate) fn leaf_of<G: Grow>(store: &mut G, exact: i128) -> Result<Option<Edge
         return Err(Halt::Overflow);
     }
     Ok(Some(store.leaf(exact as i64)?))
+}
+
+/// The first edge or the second.
+pub(crate) fn chosen(first: bool, f: Edge, g: Edge) -> Edge
+    ensures { result ≡ cond first f g }
+{
+    if first { f } else { g }
 }

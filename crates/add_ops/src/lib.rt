@@ -2,8 +2,10 @@
 #![tactic(auto)]
 
 mod arithmetic;
+mod choices;
 mod leaves;
 mod operations;
+mod products;
 
 pub use arithmetic::Overflow;
-pub use operations::{constant, minus, plus};
+pub use operations::{constant, max, min, minus, plus, threshold, times};

@@ -1,4 +1,4 @@
-use Rattle.std.proofs.Common.{rules, SFits, w64, sym, ap, ◌∙◌}
+use Rattle.std.proofs.Common.{rules, SFits, w64}
 use Rattle.edge_bits.specs.declared.edges.Kind.TheVariants.{Add}
 use Rattle.node_store.specs.ViewLaws.{Is-grown}
 use Rattle.add_ops.proofs.LeafLaws.{first_inner, second_inner, AreLeaves-passed}

@@ -1,4 +1,4 @@
-use Rattle.std.proofs.Common.{rules, SFits, ◌≡◌, ℤ, to_z, of_z, w64}
+use Rattle.std.proofs.Common.{rules, SFits, ℤ, to_z, of_z, w64}
 use Rattle.std.specs.Int.{w128}
 use Rattle.std.specs.Prelude.{◌+ℤ◌}
 use Rattle.node_store.specs.ViewLaws.{Grown-trans}
