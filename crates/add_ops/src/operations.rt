@@ -1,0 +1,136 @@
+//! The operations as they are called, in the scratch that the store lends.
+
+ghost use Rattle.std.specs.Prelude.{◌≡◌, ◌+ℤ◌, ◌-ℤ◌, ◌*ℤ◌, if◌then◌else◌, int_le, pos, IfOk, IfErr, IsErrOf};
+ghost use Rattle.edge_bits.specs.Words.{IsLeafValue};
+ghost use Rattle.edge_bits.specs.declared.edges.Kind.TheVariants.{Add};
+ghost use Rattle.function_laws.specs.Numbers.{greater, lesser, minus as difference_of, plus as sum_of, threshold as threshold_of, times as product_of};
+ghost use Rattle.function_laws.specs.Values.{constant as constant_of};
+ghost use Rattle.node_store.specs.Two.{Overflows, value_of_two};
+ghost use Rattle.node_store.specs.Views.{AreTwo, Denotes, Grown, Rose, add_at};
+ghost use Rattle.node_store.specs.Work.{Adds, IsWork};
+ghost use Rattle.add_ops.specs.Leaves.{value_of_constant};
+
+use crate::arithmetic::{Addition, Overflow, Subtraction};
+use crate::choices::{Maximum, Minimum, Reaching};
+use crate::products::Multiplication;
+use edge_bits::{Edge, Kind};
+use node_store::operator::Halt;
+use node_store::pointwise::call_place_by_place;
+use node_store::{Grow, Stop};
+
+/// The constant function of a number, from -2^46 to 2^46 - 1. What it stores is its leaf.
+pub fn constant<G: Grow>(store: &mut G, value: i64) -> Result<Edge, Stop>
+    requires { IsLeafValue value }
+    ensures grown { Grown (G.view store.old) (G.view store.new) }
+    ensures constant { IfOk result (λ e. Denotes Add (G.view store.new) e (constant_of value)) }
+    ensures work { Adds (value_of_constant value) (G.view store.old) (G.view store.new) }
+    ensures full { IsErrOf result Stop.Full → Rose (G.view store.old) (G.view store.new) }
+    ensures due { IsErrOf result Stop.Full → IsWork (G.view store.new) (value_of_constant value) (G.view store.new).due }
+{
+    store.leaf(value)
+}
+
+/// The sum of two functions, where each of its values is from -2^46 to 2^46 - 1, and Overflow where one is not; an answer Stop may come before either. What it stores are parts of the sum by the first variables of the order.
+pub fn plus<G: Grow>(store: &mut G, f: Edge, g: Edge) -> Result<Result<Edge, Overflow>, Stop>
+    requires { AreTwo Add (G.view store.old) f g }
+    ensures grown { Grown (G.view store.old) (G.view store.new) }
+    ensures plus { IfOk result (λ sum. IfOk sum (λ e. Denotes Add (G.view store.new) e (sum_of (add_at (G.view store.old) f) (add_at (G.view store.old) g)))) }
+    ensures overflow { IfOk result (λ sum. IfErr sum (λ _. Overflows Add (sum_of (add_at (G.view store.old) f) (add_at (G.view store.old) g)))) }
+    ensures work { Adds (value_of_two Add (λ a b. a +ℤ b) f g (G.view store.old)) (G.view store.old) (G.view store.new) }
+    ensures full { IsErrOf result Stop.Full → Rose (G.view store.old) (G.view store.new) }
+    ensures due { IsErrOf result Stop.Full → IsWork (G.view store.new) (value_of_two Add (λ a b. a +ℤ b) f g (G.view store.old)) (G.view store.new).due }
+{
+    match call_place_by_place(store, Kind::Add, Addition, f, g) {
+        Ok(edge) => Ok(Ok(edge)),
+        Err(Halt::Overflow) => Ok(Err(Overflow)),
+        Err(Halt::Memory) => Err(Stop::Memory),
+        Err(Halt::Full) => Err(Stop::Full),
+    }
+}
+
+/// The first function less the second, where each of its values is from -2^46 to 2^46 - 1, and Overflow where one is not; an answer Stop may come before either. What it stores are parts of the difference by the first variables of the order.
+pub fn minus<G: Grow>(store: &mut G, f: Edge, g: Edge) -> Result<Result<Edge, Overflow>, Stop>
+    requires { AreTwo Add (G.view store.old) f g }
+    ensures grown { Grown (G.view store.old) (G.view store.new) }
+    ensures minus { IfOk result (λ difference. IfOk difference (λ e. Denotes Add (G.view store.new) e (difference_of (add_at (G.view store.old) f) (add_at (G.view store.old) g)))) }
+    ensures overflow { IfOk result (λ difference. IfErr difference (λ _. Overflows Add (difference_of (add_at (G.view store.old) f) (add_at (G.view store.old) g)))) }
+    ensures work { Adds (value_of_two Add (λ a b. a -ℤ b) f g (G.view store.old)) (G.view store.old) (G.view store.new) }
+    ensures full { IsErrOf result Stop.Full → Rose (G.view store.old) (G.view store.new) }
+    ensures due { IsErrOf result Stop.Full → IsWork (G.view store.new) (value_of_two Add (λ a b. a -ℤ b) f g (G.view store.old)) (G.view store.new).due }
+{
+    match call_place_by_place(store, Kind::Add, Subtraction, f, g) {
+        Ok(edge) => Ok(Ok(edge)),
+        Err(Halt::Overflow) => Ok(Err(Overflow)),
+        Err(Halt::Memory) => Err(Stop::Memory),
+        Err(Halt::Full) => Err(Stop::Full),
+    }
+}
+
+/// The product of two functions, where each of its values is from -2^46 to 2^46 - 1, and Overflow where one is not; an answer Stop may come before either. What it stores are parts of the product by the first variables of the order.
+pub fn times<G: Grow>(store: &mut G, f: Edge, g: Edge) -> Result<Result<Edge, Overflow>, Stop>
+    requires { AreTwo Add (G.view store.old) f g }
+    ensures grown { Grown (G.view store.old) (G.view store.new) }
+    ensures times { IfOk result (λ product. IfOk product (λ e. Denotes Add (G.view store.new) e (product_of (add_at (G.view store.old) f) (add_at (G.view store.old) g)))) }
+    ensures overflow { IfOk result (λ product. IfErr product (λ _. Overflows Add (product_of (add_at (G.view store.old) f) (add_at (G.view store.old) g)))) }
+    ensures work { Adds (value_of_two Add (λ a b. a *ℤ b) f g (G.view store.old)) (G.view store.old) (G.view store.new) }
+    ensures full { IsErrOf result Stop.Full → Rose (G.view store.old) (G.view store.new) }
+    ensures due { IsErrOf result Stop.Full → IsWork (G.view store.new) (value_of_two Add (λ a b. a *ℤ b) f g (G.view store.old)) (G.view store.new).due }
+{
+    match call_place_by_place(store, Kind::Add, Multiplication, f, g) {
+        Ok(edge) => Ok(Ok(edge)),
+        Err(Halt::Overflow) => Ok(Err(Overflow)),
+        Err(Halt::Memory) => Err(Stop::Memory),
+        Err(Halt::Full) => Err(Stop::Full),
+    }
+}
+
+/// The lesser value of two functions at each assignment. What it stores are parts of that function by the first variables of the order.
+pub fn min<G: Grow>(store: &mut G, f: Edge, g: Edge) -> Result<Edge, Stop>
+    requires { AreTwo Add (G.view store.old) f g }
+    ensures grown { Grown (G.view store.old) (G.view store.new) }
+    ensures min { IfOk result (λ e. Denotes Add (G.view store.new) e (lesser (add_at (G.view store.old) f) (add_at (G.view store.old) g))) }
+    ensures work { Adds (value_of_two Add (λ a b. if int_le a b then a else b) f g (G.view store.old)) (G.view store.old) (G.view store.new) }
+    ensures full { IsErrOf result Stop.Full → Rose (G.view store.old) (G.view store.new) }
+    ensures due { IsErrOf result Stop.Full → IsWork (G.view store.new) (value_of_two Add (λ a b. if int_le a b then a else b) f g (G.view store.old)) (G.view store.new).due }
+{
+    match call_place_by_place(store, Kind::Add, Minimum, f, g) {
+        Ok(edge) => Ok(edge),
+        Err(Halt::Memory) => Err(Stop::Memory),
+        Err(Halt::Full) => Err(Stop::Full),
+        Err(Halt::Overflow) => unreachable!(),
+    }
+}
+
+/// The greater value of two functions at each assignment. What it stores are parts of that function by the first variables of the order.
+pub fn max<G: Grow>(store: &mut G, f: Edge, g: Edge) -> Result<Edge, Stop>
+    requires { AreTwo Add (G.view store.old) f g }
+    ensures grown { Grown (G.view store.old) (G.view store.new) }
+    ensures max { IfOk result (λ e. Denotes Add (G.view store.new) e (greater (add_at (G.view store.old) f) (add_at (G.view store.old) g))) }
+    ensures work { Adds (value_of_two Add (λ a b. if int_le b a then a else b) f g (G.view store.old)) (G.view store.old) (G.view store.new) }
+    ensures full { IsErrOf result Stop.Full → Rose (G.view store.old) (G.view store.new) }
+    ensures due { IsErrOf result Stop.Full → IsWork (G.view store.new) (value_of_two Add (λ a b. if int_le b a then a else b) f g (G.view store.old)) (G.view store.new).due }
+{
+    match call_place_by_place(store, Kind::Add, Maximum, f, g) {
+        Ok(edge) => Ok(edge),
+        Err(Halt::Memory) => Err(Stop::Memory),
+        Err(Halt::Full) => Err(Stop::Full),
+        Err(Halt::Overflow) => unreachable!(),
+    }
+}
+
+/// The value of the first function where it is at least that of the second, and 0 elsewhere. What it stores are parts of that function by the first variables of the order.
+pub fn threshold<G: Grow>(store: &mut G, f: Edge, g: Edge) -> Result<Edge, Stop>
+    requires { AreTwo Add (G.view store.old) f g }
+    ensures grown { Grown (G.view store.old) (G.view store.new) }
+    ensures threshold { IfOk result (λ e. Denotes Add (G.view store.new) e (threshold_of (add_at (G.view store.old) f) (add_at (G.view store.old) g))) }
+    ensures work { Adds (value_of_two Add (λ a b. if int_le b a then a else pos 0) f g (G.view store.old)) (G.view store.old) (G.view store.new) }
+    ensures full { IsErrOf result Stop.Full → Rose (G.view store.old) (G.view store.new) }
+    ensures due { IsErrOf result Stop.Full → IsWork (G.view store.new) (value_of_two Add (λ a b. if int_le b a then a else pos 0) f g (G.view store.old)) (G.view store.new).due }
+{
+    match call_place_by_place(store, Kind::Add, Reaching, f, g) {
+        Ok(edge) => Ok(edge),
+        Err(Halt::Memory) => Err(Stop::Memory),
+        Err(Halt::Full) => Err(Stop::Full),
+        Err(Halt::Overflow) => unreachable!(),
+    }
+}
