@@ -1,15 +1,16 @@
 -- What a computed table holds stays right while the store grows.
-use Rattle.std.proofs.Common.{Bool, true, false, ◌==◌, ◌&&◌, ◌||◌}
-use Rattle.std.specs.Prelude.{if◌then◌else◌, pos, ◌+ℤ◌, ◌-ℤ◌, ◌*ℤ◌, int_le, nat_lt}
+use Rattle.std.proofs.Common.{Bool, true, false, not, sym, subst, ◌==◌, ◌&&◌, ◌||◌}
+use Rattle.std.specs.Prelude.{◌^◌, if◌then◌else◌, pos, ◌+ℤ◌, ◌-ℤ◌, ◌*ℤ◌, int_le, nat_lt}
 use Rattle.edge_bits.specs.declared.edges.Edge.{Edge}
 use Rattle.computed_cache.specs.declared.Key.{Key}
 use Rattle.edge_bits.specs.declared.edges.Kind.{Kind}
 use Rattle.edge_bits.specs.declared.edges.Kind.TheVariants.{Bdd, Add, Zdd}
+use Rattle.function_laws.specs.Families.{product, quotient}
 use Rattle.node_store.specs.Kinds.{ValueOf}
-use Rattle.node_store.specs.Numbers.{and_number, ite_number, cofactor_number, leq_number, exists_number, and_exists_number, support_number, compose_number, restrict_number, plus_number, minus_number, times_number, min_number, max_number, threshold_number, add_ite_number, from_bdd_number, pattern_number, sum_over_number, union_number, meet_number}
-use Rattle.node_store.specs.Views.{View, Grown}
+use Rattle.node_store.specs.Numbers.{and_number, ite_number, cofactor_number, leq_number, exists_number, and_exists_number, support_number, compose_number, restrict_number, plus_number, minus_number, times_number, min_number, max_number, threshold_number, add_ite_number, from_bdd_number, pattern_number, sum_over_number, union_number, meet_number, diff_number, product_number, quotient_number}
+use Rattle.node_store.specs.Views.{View, Denotes, Grown, values_at}
 use Rattle.node_store.specs.ViewLaws.{Denotes-grown, Is-grown, IsVariable-grown, values_at-grown}
-use Rattle.node_store.specs.Memo.{either, PlaceHolds, IteHolds, CofactorHolds, ImplicationHolds, ExistsHolds, AndExistsHolds, SupportHolds, ComposeHolds, RestrictHolds, FromTruthHolds, PatternHolds, SumHolds, NumberHolds, FamilyHolds, MemoHolds}
+use Rattle.node_store.specs.Memo.{either, PlaceHolds, IteHolds, CofactorHolds, ImplicationHolds, ExistsHolds, AndExistsHolds, SupportHolds, ComposeHolds, RestrictHolds, FromTruthHolds, PatternHolds, SumHolds, ProductHolds, QuotientHolds, NumberHolds, FamilyHolds, MemoHolds}
 
 either-map : (b : Bool) (A B C D : Type 0) → (A → C) → (B → D) → either b A B → either b C D
 either-map true A B C D f g h = f h
@@ -104,6 +105,20 @@ SumHolds-grown g p = record {
   answer = rw (values_at-grown Add g p.f) (Denotes-grown Add g p.answer);
 }
 
+pub ProductHolds-grown : {a b : View} {key : Key} {e : Edge} → Grown a b → ProductHolds a key e → ProductHolds b key e
+ProductHolds-grown {a} {b} {key} {e} g p = record {
+  f = Is-grown Zdd g p.f;
+  g = Is-grown Zdd g p.g;
+  answer = rw (values_at-grown Zdd g p.f, values_at-grown Zdd g p.g) (subst (λ n. Denotes Zdd b e (product (2 ^ n) (values_at Zdd a key.f) (values_at Zdd a key.g))) (sym g.elements) (Denotes-grown Zdd g p.answer));
+}
+
+pub QuotientHolds-grown : {a b : View} {key : Key} {e : Edge} → Grown a b → QuotientHolds a key e → QuotientHolds b key e
+QuotientHolds-grown {a} {b} {key} {e} g p = record {
+  f = Is-grown Zdd g p.f;
+  g = Is-grown Zdd g p.g;
+  answer = rw (values_at-grown Zdd g p.f, values_at-grown Zdd g p.g) (subst (λ n. Denotes Zdd b e (quotient (2 ^ n) (values_at Zdd a key.f) (values_at Zdd a key.g))) (sym g.elements) (Denotes-grown Zdd g p.answer));
+}
+
 NumberHolds-grown : {a b : View} → Grown a b → (key : Key) (e : Edge) → NumberHolds a key e → NumberHolds b key e
 unfolding NumberHolds
 NumberHolds-grown {a} {b} g key e =
@@ -124,7 +139,10 @@ unfolding FamilyHolds
 FamilyHolds-grown {a} {b} g key e =
     either-map (key.op == union_number) _ _ _ _ (PlaceHolds-grown Zdd (λ a b. a || b) g)
     (either-map (key.op == meet_number) _ _ _ _ (PlaceHolds-grown Zdd (λ a b. a && b) g)
-    (λ h. h))
+    (either-map (key.op == diff_number) _ _ _ _ (PlaceHolds-grown Zdd (λ a b. a && not b) g)
+    (either-map (key.op == product_number) _ _ _ _ (ProductHolds-grown g)
+    (either-map (key.op == quotient_number) _ _ _ _ (QuotientHolds-grown g)
+    (λ h. h)))))
 
 pub MemoHolds-grown : {a b : View} → Grown a b → (key : Key) (e : Edge) → MemoHolds a key e → MemoHolds b key e
 MemoHolds-grown {a} {b} g key e =

@@ -1,15 +1,16 @@
 -- What a computed table may hold under a key, a case for each operation's number.
-use Rattle.std.specs.Prelude.{◌≡◌, ◌↔◌, ℕ, ◌+◌, Bool, true, false, not, ◌==◌, ◌&&◌, ◌||◌, if◌then◌else◌, pos, ◌+ℤ◌, ◌-ℤ◌, ◌*ℤ◌, int_le, nat_lt}
+use Rattle.std.specs.Prelude.{◌≡◌, ◌↔◌, ℕ, ◌+◌, ◌^◌, Bool, true, false, not, ◌==◌, ◌&&◌, ◌||◌, if◌then◌else◌, pos, ◌+ℤ◌, ◌-ℤ◌, ◌*ℤ◌, int_le, nat_lt}
 use Rattle.edge_bits.specs.declared.edges.Edge.{Edge}
 use Rattle.computed_cache.specs.declared.Key.{Key}
 use Rattle.edge_bits.specs.declared.edges.Kind.{Kind}
 use Rattle.edge_bits.specs.declared.edges.Kind.TheVariants.{Bdd, Add, Zdd}
 use Rattle.function_laws.specs.Cubes.{IsExists, IsSupport}
+use Rattle.function_laws.specs.Families.{product, quotient}
 use Rattle.function_laws.specs.Numbers.{from_truth, pattern, sum_over}
 use Rattle.function_laws.specs.Restrictions.{IsRestriction}
 use Rattle.function_laws.specs.Values.{cofactor, composed, conjunction, if_then_else}
 use Rattle.node_store.specs.Kinds.{ValueOf, place}
-use Rattle.node_store.specs.Numbers.{and_number, ite_number, cofactor_number, leq_number, exists_number, and_exists_number, support_number, compose_number, restrict_number, plus_number, minus_number, times_number, min_number, max_number, threshold_number, add_ite_number, from_bdd_number, pattern_number, sum_over_number, union_number, meet_number}
+use Rattle.node_store.specs.Numbers.{and_number, ite_number, cofactor_number, leq_number, exists_number, and_exists_number, support_number, compose_number, restrict_number, plus_number, minus_number, times_number, min_number, max_number, threshold_number, add_ite_number, from_bdd_number, pattern_number, sum_over_number, union_number, meet_number, diff_number, product_number, quotient_number}
 use Rattle.node_store.specs.Views.{View, Denotes, Is, IsVariable, values_at, truth_edge}
 
 abbrev pub either : Bool → Type 0 → Type 0 → Type 0
@@ -112,6 +113,18 @@ pub record SumHolds (w : View) (key : Key) (e : Edge) : Type 0 where
   pub f : Is Add w key.f
   pub answer : Denotes Add w e (sum_over (values_at Add w key.f) variable)
 
+-- the unions of a member of one family and one of another, among the combinations of the store's elements
+pub record ProductHolds (w : View) (key : Key) (e : Edge) : Type 0 where
+  pub f : Is Zdd w key.f
+  pub g : Is Zdd w key.g
+  pub answer : Denotes Zdd w e (product (2 ^ w.elements) (values_at Zdd w key.f) (values_at Zdd w key.g))
+
+-- what gives, with each member of the second family, a member of the first, and is disjoint from it
+pub record QuotientHolds (w : View) (key : Key) (e : Edge) : Type 0 where
+  pub f : Is Zdd w key.f
+  pub g : Is Zdd w key.g
+  pub answer : Denotes Zdd w e (quotient (2 ^ w.elements) (values_at Zdd w key.f) (values_at Zdd w key.g))
+
 -- of operations on numbers
 unfoldable pub NumberHolds : View → Key → Edge → Type 0
 NumberHolds w key e =
@@ -132,7 +145,10 @@ unfoldable pub FamilyHolds : View → Key → Edge → Type 0
 FamilyHolds w key e =
     either (key.op == union_number) (PlaceHolds Zdd (λ a b. a || b) w key e)
     (either (key.op == meet_number) (PlaceHolds Zdd (λ a b. a && b) w key e)
-    ⊥)
+    (either (key.op == diff_number) (PlaceHolds Zdd (λ a b. a && not b) w key e)
+    (either (key.op == product_number) (ProductHolds w key e)
+    (either (key.op == quotient_number) (QuotientHolds w key e)
+    ⊥))))
 
 -- of operations on truth functions; those on numbers have the numbers from 20 on, those on families from 40 on
 abbrev pub MemoHolds : View → Key → Edge → Type 0

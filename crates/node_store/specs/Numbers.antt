@@ -63,3 +63,12 @@ union_number = 40
 
 abbrev pub meet_number : ℕ
 meet_number = 41
+
+abbrev pub diff_number : ℕ
+diff_number = 42
+
+abbrev pub product_number : ℕ
+product_number = 43
+
+abbrev pub quotient_number : ℕ
+quotient_number = 44

@@ -41,3 +41,9 @@ pub const SUM_OVER: u8 = 29;
 pub const UNION: u8 = 40;
 
 pub const MEET: u8 = 41;
+
+pub const DIFF: u8 = 42;
+
+pub const PRODUCT: u8 = 43;
+
+pub const QUOTIENT: u8 = 44;
