@@ -14,8 +14,8 @@ own false = refl
 pub edges_differ : (f g : Edge) (r : Bool) → r ≡ (eqb f.index g.index && beq f.complement g.complement) → r ≡ false → f ≡ g → ⊥
 edges_differ f g r is never same =
     let t : (eqb f.index g.index && beq f.complement g.complement) ≡ true =
-        subst (λ (e : Edge). (eqb f.index e.index && beq f.complement e.complement) ≡ true) same
-        (and_from (eqb f.index f.index) (beq f.complement f.complement) (eq-eqb f.index f.index refl) (own f.complement)) in
+    subst (λ (e : Edge). (eqb f.index e.index && beq f.complement e.complement) ≡ true) same
+    (and_from (eqb f.index f.index) (beq f.complement f.complement) (eq-eqb f.index f.index refl) (own f.complement)) in
     let bad : true ≡ false = sym t ∙ sym is ∙ never in cc
 
 -- a leaf that is not Empty is Base

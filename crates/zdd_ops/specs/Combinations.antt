@@ -1,12 +1,10 @@
 -- The bits of combinations, and of their unions and meets.
-use Rattle.std.proofs.Common.{◌≡◌, ◌≢◌, ℕ, ◌^◌, ◌==◌, eqb, Bool, true, false, not, cond, ◌&&◌, ◌||◌, ⊎_elim, refl, sym, ap, ap₂, ◌∙◌, subst, eq-eqb, ne_eqb}
+use Rattle.std.proofs.Common.{◌≡◌, ◌≢◌, ℕ, ◌^◌, ◌==◌, eqb, Bool, true, false, cond, ◌&&◌, ◌||◌, ⊎_elim, refl, sym, ap, ap₂, ◌∙◌, subst, eq-eqb, ne_eqb}
 use Rattle.std.specs.Prelude.{bit_or, bit_and, min, max}
-use Rattle.std.specs.Int.{bit_at}
-use Rattle.std.proofs.lemmas.Bool.{cases_eq, eqb-true, cond_both}
+use Rattle.std.proofs.lemmas.Bool.{cases_eq}
 use Rattle.std.proofs.lemmas.Nat.Bits.{bit_at-zero, bit_at-pow_same, bit_at-pow_other, bit_at_or, bit_at_and}
 use Rattle.edge_bits.specs.Words.{digit}
 use Rattle.edge_bits.specs.Assignments.{bit, set_bit}
-use Rattle.edge_bits.specs.Reading.{element_of}
 use Rattle.edge_bits.proofs.AssignmentLemmas.{bit-set_same, bit-set_other, set_bit-own, set_bit-set_same, same_bits, digit-bit}
 use Rattle.function_laws.specs.Families.{IsWithout, base, single, joined, empty}
 use Rattle.function_laws.proofs.ValueLemmas.{everywhere}
@@ -61,7 +59,7 @@ joined-single e = everywhere (joined e base empty) (single e) (λ a. by_bit a (b
     has : (a : ℕ) → bit a e ≡ true → (set_bit a e false == 0) ≡ (a == 2 ^ e)
     has a here = ⊎_elim
         (λ none. eq-eqb (set_bit a e false) 0 none ∙ sym (eq-eqb a (2 ^ e)
-          (sym (set_own a e here) ∙ sym (set_bit-set_same a e false true) ∙ ap (λ x. set_bit x e true) none ∙ sym (power_is e))))
+        (sym (set_own a e here) ∙ sym (set_bit-set_same a e false true) ∙ ap (λ x. set_bit x e true) none ∙ sym (power_is e))))
         (λ some. ne_eqb (set_bit a e false) 0 some ∙ sym (ne_eqb a (2 ^ e) (λ is. some (ap (λ x. set_bit x e false) (is ∙ power_is e) ∙ set_bit-set_same 0 e true false ∙ clear_own 0 e (bit-zero e)))))
         (cases_eq (set_bit a e false) 0)
 

@@ -1,3 +1,5 @@
 pub mod Elements
 pub mod Combinations
 pub mod Singles
+pub mod Elementwise
+pub mod Subsets

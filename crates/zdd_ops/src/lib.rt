@@ -5,6 +5,7 @@ mod constants;
 pub mod nested;
 mod operations;
 mod sets;
+mod subsets;
 
 pub use constants::{base, empty, single};
-pub use operations::{diff, meet, union};
+pub use operations::{change, diff, meet, subset0, subset1, union};

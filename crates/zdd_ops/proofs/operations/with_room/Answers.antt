@@ -1,0 +1,41 @@
+use Rattle.std.proofs.Common.{rules, ◌≡◌, ℕ, None, refl}
+use Rattle.std.specs.Prelude.{slice_index_or}
+use Rattle.node_store.specs.RememberingLaws.{Knows-nothing}
+use Rattle.node_store.specs.Work.{whole}
+use Rattle.zdd_ops.specs.Subsets.{SubsetAnswers, SubsetDue}
+use Rattle.zdd_ops.proofs.SubsetLaws.{Subset-adds, Subset-start}
+use Rattle.zdd_ops.proofs.operations.with_room.Goals as goal
+
+pub evaluate-requires-clause-due : goal.evaluate-requires-clause-due
+evaluate-requires-clause-due g c =
+    let e = c.two-task.ensures in
+    let none : (j : ℕ) → slice_index_or c.make_table.new.self.answers j None ≡ None = search rules in (
+      record {
+        permanent = c.requires.permanent;
+        element = c.requires.element;
+        of_root = c.requires.family;
+        family = rw e.f c.requires.family;
+        is_part = rw e.f whole;
+      },
+      Knows-nothing (SubsetDue g.O.ByElement.part c.args.op.element c.args.op.family) (SubsetAnswers g.O.ByElement.part c.args.op.element) (g.G.Grow.view c.args.store.now) c.make_table.new.self.answers c.make_table.new.self.answers refl none,
+    )
+
+pub returns-in-Ok-clause-work : goal.returns-in-Ok-clause-work
+returns-in-Ok-clause-work g c =
+    let o = g.O.ByElement in let l = g.met.O.ByElement in
+    Subset-adds o.part l.other l.lacks c.args.op.element c.args.op.family _ _ c.requires.family c.in-Ok.ensures.moved.moves
+
+pub returns-in-Err-Memory-clause-work : goal.returns-in-Err-Memory-clause-work
+returns-in-Err-Memory-clause-work g c =
+    let o = g.O.ByElement in let l = g.met.O.ByElement in
+    Subset-adds o.part l.other l.lacks c.args.op.element c.args.op.family _ _ c.requires.family c.in-Err-Memory.ensures.moved.moves
+
+pub returns-in-Err-Full-clause-work : goal.returns-in-Err-Full-clause-work
+returns-in-Err-Full-clause-work g c =
+    let o = g.O.ByElement in let l = g.met.O.ByElement in
+    Subset-adds o.part l.other l.lacks c.args.op.element c.args.op.family _ _ c.requires.family c.in-Err-Full.ensures.moved.moves
+
+pub returns-in-Err-Full-clause-due : goal.returns-in-Err-Full-clause-due
+returns-in-Err-Full-clause-due g c =
+    let o = g.O.ByElement in let l = g.met.O.ByElement in let e = c.in-Err-Full.ensures in let due = rw c.in-Err-Full.field-0-is at e.due in
+    λ is. Subset-start o.part l.other l.lacks c.args.op.element c.args.op.family _ _ e.moved.moves.grown c.requires.family _ (due refl)
