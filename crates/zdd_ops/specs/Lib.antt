@@ -3,3 +3,4 @@ pub mod Combinations
 pub mod Singles
 pub mod Elementwise
 pub mod Subsets
+pub mod Members
