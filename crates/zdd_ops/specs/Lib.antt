@@ -4,3 +4,5 @@ pub mod Singles
 pub mod Elementwise
 pub mod Subsets
 pub mod Members
+pub mod Products
+pub mod ProductLasts

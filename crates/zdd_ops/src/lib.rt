@@ -4,6 +4,7 @@
 mod constants;
 pub mod nested;
 mod operations;
+mod products;
 mod sets;
 mod subsets;
 
