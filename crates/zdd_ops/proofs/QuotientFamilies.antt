@@ -10,12 +10,9 @@ use Rattle.function_laws.specs.Products.{FitsEach, IsQuotient}
 use Rattle.function_laws.proofs.ListLemmas.{all_below-true, any_below-true, true-all_below, true-any_below}
 use Rattle.function_laws.proofs.ValueLemmas.{everywhere}
 use Rattle.zdd_ops.specs.Combinations.{bit-and, bit-or, bit-zero}
+use Rattle.zdd_ops.specs.Quotients.{HasMember}
 use Rattle.zdd_ops.specs.Members.{IsWithin, and_both, and_left, and_right, and_set, and_zero, clash, or_set, or_zero, own, same_truth, two_ways}
 use Rattle.zdd_ops.proofs.ProductFamilies.{from_else, from_then, has_not, in_else, in_then}
-
--- some combination is a member
-abbrev pub HasMember : (ℕ → Bool) → Type 0
-HasMember q = (b : ℕ) × (q b ≡ true)
 
 -- the test of one member of the divisor
 abbrev pub fits : (ℕ → Bool) → (ℕ → Bool) → ℕ → ℕ → Bool

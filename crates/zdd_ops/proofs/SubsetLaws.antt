@@ -17,23 +17,6 @@ use Rattle.zdd_ops.specs.Combinations.{base-without}
 use Rattle.zdd_ops.specs.Elementwise.{change-joined}
 use Rattle.zdd_ops.specs.Subsets.{Operation, SubsetAnswers, SubsetDue, SubsetSplits, subset_at, subset_at-grown, subset_depth, subset_work}
 
--- an opened node lasts
-pub IsInner-grown : (a b : View) (e : Edge) (x : ℕ) (hi lo : Edge) → Grown a b → Is Zdd a e → IsInner Zdd a e (family_at a e) x hi lo → IsInner Zdd b e (family_at b e) x hi lo
-IsInner-grown a b e x hi lo m d i =
-    let lx = level-grown m x in let n = m.elements in let t = top-grown Zdd m d in
-    let th = top-grown Zdd m i.splits.hi_is in let tl = top-grown Zdd m i.splits.lo_is in
-    let here = i.here in let within = i.within in let ht = i.hi_top in let lt = i.lo_top in
-    record {
-      in_range = IsVariable-grown Zdd m x i.in_range;
-      splits = rw (values_at-grown Zdd m d) (Splits-grown Zdd m i.splits);
-      proper = rw (values_at-grown Zdd m i.splits.hi_is) i.proper;
-      here = omega arith;
-      within = omega arith;
-      alone = λ u un same. i.alone u (IsVariable-back Zdd m u un) (let lu = level-grown m u in omega arith);
-      hi_top = omega arith;
-      lo_top = omega arith;
-    }
-
 -- where the element stands
 pub Here-own : (w : View) (e : Edge) (v x : ℕ) (hi lo : Edge) → IsInner Zdd w e (family_at w e) x hi lo → x ≡ v → Splits Zdd w v (family_at w e) hi lo
 Here-own w e v x hi lo i same = subst (λ y. Splits Zdd w y (family_at w e) hi lo) same i.splits

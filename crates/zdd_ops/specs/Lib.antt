@@ -6,3 +6,5 @@ pub mod Subsets
 pub mod Members
 pub mod Products
 pub mod ProductLasts
+pub mod Quotients
+pub mod QuotientLasts

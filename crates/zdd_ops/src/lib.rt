@@ -5,6 +5,7 @@ mod constants;
 pub mod nested;
 mod operations;
 mod products;
+mod quotients;
 mod sets;
 mod subsets;
 

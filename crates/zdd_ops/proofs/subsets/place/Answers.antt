@@ -2,7 +2,8 @@ use Rattle.std.proofs.Common.{sym, subst, arith}
 use Rattle.edge_bits.specs.declared.edges.Kind.TheVariants.{Zdd}
 use Rattle.node_store.specs.Views.{IsInner, IsLeaf, family_at}
 use Rattle.node_store.specs.ViewLaws.{Grown-trans, Is-grown, IsVariable-grown, Permanent-grown, level-grown, values_at-grown}
-use Rattle.zdd_ops.proofs.SubsetLaws.{Here-below, Here-leaf, Here-own, IsInner-grown}
+use Rattle.zdd_ops.specs.QuotientLasts.{IsInner-grown}
+use Rattle.zdd_ops.proofs.SubsetLaws.{Here-below, Here-leaf, Here-own}
 use Rattle.zdd_ops.proofs.subsets.place.Goals as goal
 use Rattle.zdd_ops.proofs.subsets.place.Goals.{In-Inner}
 use Rattle.zdd_ops.proofs.subsets.place.Given as given
