@@ -1,10 +1,15 @@
 -- Calls in the scratch that the store lends.
-use Rattle.std.proofs.Common.{◌≡◌, ℕ, ◌+◌, Bool, Result, Ok, Err, IfOk, ap, ◌∙◌, subst}
+use Rattle.std.proofs.Common.{◌≡◌, ℕ, ◌+◌, Bool, Result, Ok, Err, IfOk, ap, ap₂, ◌∙◌, subst}
 use Rattle.edge_bits.specs.declared.edges.Edge.{Edge}
 use Rattle.edge_bits.specs.declared.edges.Kind.TheVariants.{Zdd}
 use Rattle.node_store.specs.Kinds.{Function, ZddFamily}
-use Rattle.node_store.specs.Views.{View, Denotes, Grown, Is, IsVariable, family_at}
-use Rattle.node_store.specs.ViewLaws.{Denotes-grown, IsVariable-grown}
+use Rattle.node_store.specs.Views.{View, AreTwo, Denotes, Grown, Is, IsVariable, family_at}
+use Rattle.node_store.specs.ViewLaws.{Denotes-grown, IsVariable-grown, values_at-grown}
+use Rattle.zdd_ops.specs.Products.{product_at}
+use Rattle.zdd_ops.specs.ProductLasts.{portion-grown}
+use Rattle.zdd_ops.specs.Quotients.{quotient_at}
+use Rattle.zdd_ops.specs.QuotientLasts.{quotient_of-grown}
+use Rattle.zdd_ops.specs.declared.products.Portion.TheVariants.{Whole}
 use Rattle.node_store.specs.declared.grow.Stop.{Stop}
 use Rattle.zdd_ops.specs.Elements.{IsElement}
 use Rattle.zdd_ops.specs.Singles.{IsVariable-element, element_of-number}
@@ -24,3 +29,10 @@ element_value part w p e = ap (part (family_at w p)) (element_of-number e)
 -- the work of a call, told from the start
 pub work_back : (part : Operation) (v : ℕ) (p : Edge) (a w : View) → Grown a w → Is Zdd a p → (F : Function) → subset_work part v p w F → subset_work part v p a F
 work_back part v p a w m d F is = is ∙ ap ZddFamily (subset_at-grown part v p a w m d)
+
+-- products and quotients of the operands at the start
+pub product_told : (a w : View) (p q : Edge) → Grown a w → AreTwo Zdd a p q → product_at w (family_at w p) (family_at w q) ≡ product_at a (family_at a p) (family_at a q)
+product_told a w p q m d = ap₂ (product_at w) (values_at-grown Zdd m d.first) (values_at-grown Zdd m d.second) ∙ portion-grown a w m Whole (family_at a p) (family_at a q)
+
+pub quotient_told : (a w : View) (p q : Edge) → Grown a w → AreTwo Zdd a p q → quotient_at w (family_at w p) (family_at w q) ≡ quotient_at a (family_at a p) (family_at a q)
+quotient_told a w p q m d = quotient_of-grown a w m p q d

@@ -88,6 +88,7 @@ module _ (size e : ℕ) (p1 p0 q1 q0 : ℕ → Bool) (lp1 : IsWithout p1 e) (lp0
           or_left_false : (x y : Bool) → (x || y) ≡ false → x ≡ false
           or_left_false true y h = cc
           or_left_false false y h = refl
+
           or_right_false : (x y : Bool) → (x || y) ≡ false → y ≡ false
           or_right_false true y h = cc
           or_right_false false y h = h

@@ -277,20 +277,24 @@ module _ (p q : Edge) (w : View) (t hi lo : Task) (v : ℕ) (due : ProductDue p 
         product_at w (family_at w t.f) (family_at w t.g),
         (product_at w (family_at w t.f) (family_at w t.g), refl, inl own),
         subst (IsPart Zdd w (product_at w (family_at w t.f) (family_at w t.g)))
-          (sym (asks_as w t (Then u) is ∙ ap (λ x. portion_of (Then x) w (family_at w t.f) (family_at w t.g)) (parts_for (Then u) is).0))
-          (cut (product_at w (family_at w t.f) (family_at w t.g)) v true s.in_range (product_above w v (family_at w t.f) (family_at w t.g) s.f1 s.f0 s.g1 s.g0 s.in_range s.f s.g f_within g_within) whole),
+            (sym (asks_as w t (Then u) is ∙ ap (λ x. portion_of (Then x) w (family_at w t.f) (family_at w t.g)) (parts_for (Then u) is).0))
+            (cut (product_at w (family_at w t.f) (family_at w t.g)) v true s.in_range (product_above w v (family_at w t.f) (family_at w t.g) s.f1 s.f0 s.g1 s.g0 s.in_range s.f s.g f_within g_within) whole),
       )
       by_portion (First u) is =
           let same = asks_as w t (First u) is ∙ ap (λ x. portion_of (First x) w (family_at w t.f) (family_at w t.g)) (parts_for (First u) is).0
-              ∙ first_law w v (family_at w t.f) (family_at w t.g) s.f1 s.f0 s.g1 s.g0 s.in_range s.f s.g f_within g_within in (
+          ∙ first_law w v (family_at w t.f) (family_at w t.g) s.f1 s.f0 s.g1 s.g0 s.in_range s.f s.g f_within g_within in (
             asked_by w t,
-            (asked_by w t, refl, inr (record {
-              one = product_at w (family_at w s.f1) (family_at w s.g1);
-              other = product_at w (family_at w s.f1) (family_at w s.g0);
-              one_is = of_halves true true;
-              other_is = of_halves true false;
-              is = same;
-            })),
+            (
+              asked_by w t,
+              refl,
+              inr (record {
+                one = product_at w (family_at w s.f1) (family_at w s.g1);
+                other = product_at w (family_at w s.f1) (family_at w s.g0);
+                one_is = of_halves true true;
+                other_is = of_halves true false;
+                is = same;
+              }),
+            ),
             whole,
           )
 
@@ -373,16 +377,16 @@ module _ (p q : Edge) (w : View) (t : Task) (v : ℕ) (b : Branch) (due : Produc
           let d = top same (first same) in let x = low i.f0 i.g0 b.lo tasks.1 i.f0_top i.g0_top in
           let y = depth_of b.hi (Then v) tasks.0.portion in let n = can.f.within in
           branch
-            (task_due t.f t.g (Then v) b.hi tasks.0 due.two.first due.two.second due.f_part due.g_part (reaches_too b.hi (Then v) tasks.0))
-            (task_due i.f0 i.g0 Whole b.lo tasks.1 i.f.lo_is i.g.lo_is (one_half false) (other_half false) tt) (omega arith) (omega arith)
+          (task_due t.f t.g (Then v) b.hi tasks.0 due.two.first due.two.second due.f_part due.g_part (reaches_too b.hi (Then v) tasks.0))
+          (task_due i.f0 i.g0 Whole b.lo tasks.1 i.f.lo_is i.g.lo_is (one_half false) (other_half false) tt) (omega arith) (omega arith)
       by_portion (Then u) same me tasks =
           let d = high (same ∙ ap Then me) in let x = low i.f0 i.g1 b.lo tasks.2 i.f0_top i.g1_top in
           let y = depth_of b.hi (First v) tasks.1.portion in let n = can.f.within in
           branch
-            (task_due t.f t.g (First v) b.hi tasks.1 due.two.first due.two.second due.f_part due.g_part (reaches_too b.hi (First v) tasks.1))
-            (task_due i.f0 i.g1 Whole b.lo tasks.2 i.f.lo_is i.g.hi_is (one_half false) (other_half true) tt) (omega arith) (omega arith)
+          (task_due t.f t.g (First v) b.hi tasks.1 due.two.first due.two.second due.f_part due.g_part (reaches_too b.hi (First v) tasks.1))
+          (task_due i.f0 i.g1 Whole b.lo tasks.2 i.f.lo_is i.g.hi_is (one_half false) (other_half true) tt) (omega arith) (omega arith)
       by_portion (First u) same me tasks =
           let d = middle (same ∙ ap First me) in let x = low i.f1 i.g1 b.hi tasks.1 i.f1_top i.g1_top in let y = low i.f1 i.g0 b.lo tasks.2 i.f1_top i.g0_top in let n = can.f.within in
           branch
-            (task_due i.f1 i.g1 Whole b.hi tasks.1 i.f.hi_is i.g.hi_is (one_half true) (other_half true) tt)
-            (task_due i.f1 i.g0 Whole b.lo tasks.2 i.f.hi_is i.g.lo_is (one_half true) (other_half false) tt) (omega arith) (omega arith)
+          (task_due i.f1 i.g1 Whole b.hi tasks.1 i.f.hi_is i.g.hi_is (one_half true) (other_half true) tt)
+          (task_due i.f1 i.g0 Whole b.lo tasks.2 i.f.hi_is i.g.lo_is (one_half true) (other_half false) tt) (omega arith) (omega arith)

@@ -51,7 +51,7 @@ Divided p q a w t v b k m d is at can parted first =
     Product-branches p q w t v b (ProductDue-stays p q a w t m d) k is at
     (record { f = CanPart-grown a w t.f v m can.f; g = CanPart-grown a w t.g v m can.g }) parted
     (λ same. let x = first same in
-      let lv = level-grown m v in let tf = top-grown Zdd m d.two.first in let tg = top-grown Zdd m d.two.second in omega arith)
+    let lv = level-grown m v in let tf = top-grown Zdd m d.two.first in let tg = top-grown Zdd m d.two.second in omega arith)
 
 -- the memo
 module _ (w : View) (f g : Edge) (d : AreTwo Zdd w f g) where

@@ -100,13 +100,13 @@ module _ (size e : ℕ) (p1 p0 : ℕ → Bool) (lp1 : IsWithout p1 e) (lp0 : IsW
     ];
     fits = λ a h b qb. elim (two_ways (bit a e)) [
       | inl has ↦ (let lb = has_not q e b lq qb in let f = first.fits (set_bit a e false) (from_then (quotient size p1 q) (quotient size p0 q) e a h has) b qb in (
-          none_back a b e lb f.0,
-          with_it a b has lb f.1,
-        ))
+        none_back a b e lb f.0,
+        with_it a b has lb f.1,
+      ))
       | inr lacks ↦ (let lb = has_not q e b lq qb in let f = second.fits a (from_else (quotient size p1 q) (quotient size p0 q) e a h lacks) b qb in (
-          f.0,
-          in_else p1 p0 e (bit_or a b) lp0 f.1,
-        ))
+        f.0,
+        in_else p1 p0 e (bit_or a b) lp0 f.1,
+      ))
     ];
     holds = λ a b qb each. elim (two_ways (bit a e)) [
       | inl has ↦ ap (λ x. cond x (quotient size p1 q (set_bit a e false)) (quotient size p0 q a)) has ∙ first.holds (set_bit a e false) b qb (λ c qc.
@@ -155,7 +155,7 @@ module _ (size e : ℕ) (p1 p0 : ℕ → Bool) (lp1 : IsWithout p1 e) (lp0 : IsW
         let back : set_bit (set_bit c e true) e false ≡ c = set_bit-set_same c e true false ∙ own c e false (has_not q1 e c lq1 qc) in (
           ap₂ bit_and (sym (own a e false la)) (sym back) ∙ and_set a (set_bit c e true) e false false ∙ ap (λ x. set_bit x e false) f.0 ∙ cleared_zero e,
           subst (λ x. p1 x ≡ true) (sym (or_set a (set_bit c e true) e false false) ∙ ap₂ bit_or (own a e false la) back)
-          (from_then p1 p0 e (bit_or a (set_bit c e true)) f.1 (bit-or a (set_bit c e true) e ∙ ap (λ x. bit a e || x) (bit-set_same c e true) ∙ or_true (bit a e))),
+              (from_then p1 p0 e (bit_or a (set_bit c e true)) f.1 (bit-or a (set_bit c e true) e ∙ ap (λ x. bit a e || x) (bit-set_same c e true) ∙ or_true (bit a e))),
         )
       where
         or_true : (b : Bool) → (b || true) ≡ true
@@ -175,11 +175,11 @@ module _ (size e : ℕ) (p1 p0 : ℕ → Bool) (lp1 : IsWithout p1 e) (lp0 : IsW
         let la = left_false (bit a e) (bit m.0 e) (sym (bit-or a m.0 e) ∙ has_not p1 e (bit_or a m.0) lp1 mine.1) in
         elim (two_ways (bit d e)) [
           | inl has ↦ (let f = one (set_bit d e false) (from_then q1 q0 e d qd has) in (
-              sym (own (bit_and a d) e false (bit-and a d e ∙ ap (λ x. x && bit d e) la))
-              ∙ sym (and_set a d e false false) ∙ ap (λ x. bit_and x (set_bit d e false)) (own a e false la) ∙ f.0,
-              ap (λ x. cond x (p1 (set_bit (bit_or a d) e false)) (p0 (bit_or a d))) (bit-or a d e ∙ ap₂ (λ x y. x || y) la has)
-              ∙ subst (λ x. p1 x ≡ true) (ap (λ x. bit_or x (set_bit d e false)) (sym (own a e false la)) ∙ or_set a d e false false) f.1,
-            ))
+            sym (own (bit_and a d) e false (bit-and a d e ∙ ap (λ x. x && bit d e) la))
+                ∙ sym (and_set a d e false false) ∙ ap (λ x. bit_and x (set_bit d e false)) (own a e false la) ∙ f.0,
+            ap (λ x. cond x (p1 (set_bit (bit_or a d) e false)) (p0 (bit_or a d))) (bit-or a d e ∙ ap₂ (λ x y. x || y) la has)
+                ∙ subst (λ x. p1 x ≡ true) (ap (λ x. bit_or x (set_bit d e false)) (sym (own a e false la)) ∙ or_set a d e false false) f.1,
+          ))
           | inr lacks ↦ (let f = two d (from_else q1 q0 e d qd lacks) in (f.0, in_else p1 p0 e (bit_or a d) lp0 f.1))
         ]
       where
@@ -203,9 +203,9 @@ module _ (size e : ℕ) (p1 p0 : ℕ → Bool) (lp1 : IsWithout p1 e) (lp0 : IsW
     quotient-both n = everywhere (quotient size (joined e p1 p0) (joined e q1 q0)) (meet (quotient size p1 q1) (quotient size p0 q0)) (λ a.
         same_truth (quotient size (joined e p1 p0) (joined e q1 q0) a) (quotient size p1 q1 a && quotient size p0 q0 a)
         (λ h. and_both (quotient size p1 q1 a) (quotient size p0 q0 a)
-          (first.holds a m.0 m.1 (fits_first a (whole.fits a h))) (second.holds a n.0 n.1 (fits_second a (whole.fits a h))))
+        (first.holds a m.0 m.1 (fits_first a (whole.fits a h))) (second.holds a n.0 n.1 (fits_second a (whole.fits a h))))
         (λ h. whole.holds a (set_bit m.0 e true) member (fits_both a
-          (first.fits a (and_left (quotient size p1 q1 a) (quotient size p0 q0 a) h)) (second.fits a (and_right (quotient size p1 q1 a) (quotient size p0 q0 a) h)))))
+        (first.fits a (and_left (quotient size p1 q1 a) (quotient size p0 q0 a) h)) (second.fits a (and_right (quotient size p1 q1 a) (quotient size p0 q0 a) h)))))
       where
         first : IsQuotient p1 q1 (quotient size p1 q1)
         first = quotient-is size p1 q1 wq1

@@ -62,7 +62,7 @@ pub or_set : (b c e : ℕ) (x y : Bool) → bit_or (set_bit b e x) (set_bit c e 
 or_set b c e x y = same_bits (bit_or (set_bit b e x) (set_bit c e y)) (set_bit (bit_or b c) e (x || y)) (λ u.
     bit-or (set_bit b e x) (set_bit c e y) u ∙ ⊎_elim
     (λ same. subst (λ v. (bit (set_bit b e x) v || bit (set_bit c e y) v) ≡ bit (set_bit (bit_or b c) e (x || y)) v) (sym same)
-      (ap₂ (λ p q. p || q) (bit-set_same b e x) (bit-set_same c e y) ∙ sym (bit-set_same (bit_or b c) e (x || y))))
+    (ap₂ (λ p q. p || q) (bit-set_same b e x) (bit-set_same c e y) ∙ sym (bit-set_same (bit_or b c) e (x || y))))
     (λ apart. ap₂ (λ p q. p || q) (bit-set_other b e u x apart) (bit-set_other c e u y apart) ∙ sym (bit-or b c u) ∙ sym (bit-set_other (bit_or b c) e u (x || y) apart))
     (cases_eq u e))
 
@@ -70,7 +70,7 @@ pub and_set : (b c e : ℕ) (x y : Bool) → bit_and (set_bit b e x) (set_bit c 
 and_set b c e x y = same_bits (bit_and (set_bit b e x) (set_bit c e y)) (set_bit (bit_and b c) e (x && y)) (λ u.
     bit-and (set_bit b e x) (set_bit c e y) u ∙ ⊎_elim
     (λ same. subst (λ v. (bit (set_bit b e x) v && bit (set_bit c e y) v) ≡ bit (set_bit (bit_and b c) e (x && y)) v) (sym same)
-      (ap₂ (λ p q. p && q) (bit-set_same b e x) (bit-set_same c e y) ∙ sym (bit-set_same (bit_and b c) e (x && y))))
+    (ap₂ (λ p q. p && q) (bit-set_same b e x) (bit-set_same c e y) ∙ sym (bit-set_same (bit_and b c) e (x && y))))
     (λ apart. ap₂ (λ p q. p && q) (bit-set_other b e u x apart) (bit-set_other c e u y apart) ∙ sym (bit-and b c u) ∙ sym (bit-set_other (bit_and b c) e u (x && y) apart))
     (cases_eq u e))
 

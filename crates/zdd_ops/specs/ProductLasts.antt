@@ -80,10 +80,14 @@ product_depth-stays a b t m d r = depth-grown a b m (portion_in t.h) t d
 
 pub product_work-stays : (p q : Edge) (a b : View) (F : Function) → Grown a b → AreTwo Zdd a p q → product_work p q a F → product_work p q b F
 product_work-stays p q a b F m d (r, is, inl one) = (r, is, inl (product_of_parts-grown a b m p q r d one))
-product_work-stays p q a b F m d (r, is, inr two) = (r, is, inr (record {
-  one = two.one;
-  other = two.other;
-  one_is = product_of_parts-grown a b m p q two.one d two.one_is;
-  other_is = product_of_parts-grown a b m p q two.other d two.other_is;
-  is = two.is;
-}))
+product_work-stays p q a b F m d (r, is, inr two) = (
+  r,
+  is,
+  inr (record {
+    one = two.one;
+    other = two.other;
+    one_is = product_of_parts-grown a b m p q two.one d two.one_is;
+    other_is = product_of_parts-grown a b m p q two.other d two.other_is;
+    is = two.is;
+  }),
+)

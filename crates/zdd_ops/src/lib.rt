@@ -10,4 +10,4 @@ mod sets;
 mod subsets;
 
 pub use constants::{base, empty, single};
-pub use operations::{change, diff, meet, subset0, subset1, union};
+pub use operations::{change, diff, meet, product, quotient, subset0, subset1, union};

@@ -1,15 +1,21 @@
 //! The operations on a stack that is handed in, for runs within other operators.
 
-ghost use Rattle.std.specs.Prelude.{◌≡◌, ◌≤◌, ◌&&◌, ◌||◌, IfOk, IsErrOf, true};
+ghost use Rattle.std.specs.Prelude.{◌≡◌, ◌*◌, ◌≤◌, ◌&&◌, ◌||◌, not, IfOk, IsErrOf, true};
 ghost use Rattle.edge_bits.specs.declared.edges.Kind.TheVariants.{Zdd};
-ghost use Rattle.function_laws.specs.Families.{meet as meet_of, union as union_of};
+ghost use Rattle.function_laws.specs.Families.{diff as diff_of, meet as meet_of, union as union_of};
 ghost use Rattle.node_store.specs.Views.{AreTwo, Denotes, Grown, Permanent, Rose, family_at};
 ghost use Rattle.node_store.specs.Work.{Adds, IsWork};
 ghost use Rattle.node_store.specs.Two.{value_of_two};
+ghost use Rattle.zdd_ops.specs.Products.{product_at, product_work};
+ghost use Rattle.zdd_ops.specs.Quotients.{quotient_at, quotient_work};
 
-use crate::sets::{Meeting, Uniting};
+use crate::products::{Multiplication, Portion, portion_task};
+use crate::quotients::Division;
+use crate::sets::{Meeting, Removing, Uniting};
 use edge_bits::Edge;
-use node_store::operator::Halt;
+use node_store::binary::Binary;
+use node_store::evaluate::evaluate;
+use node_store::operator::{Halt, Task};
 use node_store::pointwise::place_by_place;
 use node_store::{Grow, Stack, Stop};
 
@@ -52,6 +58,80 @@ pub fn meet<G: Grow>(store: &mut G, stack: &mut Stack, p: Edge, q: Edge) -> Resu
     ensures known { stack.new.answers ≡ stack.old.answers }
 {
     match place_by_place(store, stack, Meeting, p, q) {
+        Ok(edge) => Ok(edge),
+        Err(Halt::Memory) => Err(Stop::Memory),
+        Err(Halt::Full) => Err(Stop::Full),
+        Err(Halt::Overflow) => unreachable!(),
+    }
+}
+
+/// The members of the first family that the second lacks. It asks for as many free frames as there are elements.
+pub fn diff<G: Grow>(store: &mut G, stack: &mut Stack, p: Edge, q: Edge) -> Result<Edge, Stop>
+    requires operands { AreTwo Zdd (G.view store.old) p q }
+    requires permanent { Permanent (G.view store.old) }
+    requires room { (G.view store.old).elements ≤ stack.old.free }
+    ensures grown { Grown (G.view store.old) (G.view store.new) }
+    ensures diff { IfOk result (λ e. Denotes Zdd (G.view store.new) e (diff_of (family_at (G.view store.old) p) (family_at (G.view store.old) q))) }
+    ensures work { Adds (value_of_two Zdd (λ a b. a && not b) p q (G.view store.old)) (G.view store.old) (G.view store.new) }
+    ensures memory { IsErrOf result Stop.Memory → (G.view store.old).may_want_memory ≡ true }
+    ensures full { IsErrOf result Stop.Full → Rose (G.view store.old) (G.view store.new) }
+    ensures due { IsErrOf result Stop.Full → IsWork (G.view store.new) (value_of_two Zdd (λ a b. a && not b) p q (G.view store.old)) (G.view store.new).due }
+    ensures frames { stack.new.frames ≡ stack.old.frames }
+    ensures free { stack.new.free ≡ stack.old.free }
+    ensures known { stack.new.answers ≡ stack.old.answers }
+{
+    match place_by_place(store, stack, Removing, p, q) {
+        Ok(edge) => Ok(edge),
+        Err(Halt::Memory) => Err(Stop::Memory),
+        Err(Halt::Full) => Err(Stop::Full),
+        Err(Halt::Overflow) => unreachable!(),
+    }
+}
+
+/// The unions of a member of the one family and one of the other. It asks for four times as many free frames as there are elements: three for the parts of a product at an element, and one for a union within.
+pub fn product<G: Grow>(store: &mut G, stack: &mut Stack, p: Edge, q: Edge) -> Result<Edge, Stop>
+    requires operands { AreTwo Zdd (G.view store.old) p q }
+    requires permanent { Permanent (G.view store.old) }
+    requires room { 4 * (G.view store.old).elements ≤ stack.old.free }
+    ensures grown { Grown (G.view store.old) (G.view store.new) }
+    ensures product { IfOk result (λ e. Denotes Zdd (G.view store.new) e (product_at (G.view store.old) (family_at (G.view store.old) p) (family_at (G.view store.old) q))) }
+    ensures work { Adds (product_work p q (G.view store.old)) (G.view store.old) (G.view store.new) }
+    ensures memory { IsErrOf result Stop.Memory → (G.view store.old).may_want_memory ≡ true }
+    ensures full { IsErrOf result Stop.Full → Rose (G.view store.old) (G.view store.new) }
+    ensures due { IsErrOf result Stop.Full → IsWork (G.view store.new) (product_work p q (G.view store.old)) (G.view store.new).due }
+    ensures frames { stack.new.frames ≡ stack.old.frames }
+    ensures free { stack.new.free ≡ stack.old.free }
+    ensures known { stack.new.answers ≡ stack.old.answers }
+{
+    match evaluate(
+        store,
+        stack,
+        &Binary(Multiplication { p, q }),
+        portion_task(p, q, Portion::Whole),
+    ) {
+        Ok(edge) => Ok(edge),
+        Err(Halt::Memory) => Err(Stop::Memory),
+        Err(Halt::Full) => Err(Stop::Full),
+        Err(Halt::Overflow) => unreachable!(),
+    }
+}
+
+/// The combinations that are disjoint from each member of the second family and give with it a member of the first; none where the second is empty. It asks for twice as many free frames as there are elements.
+pub fn quotient<G: Grow>(store: &mut G, stack: &mut Stack, p: Edge, q: Edge) -> Result<Edge, Stop>
+    requires operands { AreTwo Zdd (G.view store.old) p q }
+    requires permanent { Permanent (G.view store.old) }
+    requires room { 2 * (G.view store.old).elements ≤ stack.old.free }
+    ensures grown { Grown (G.view store.old) (G.view store.new) }
+    ensures quotient { IfOk result (λ e. Denotes Zdd (G.view store.new) e (quotient_at (G.view store.old) (family_at (G.view store.old) p) (family_at (G.view store.old) q))) }
+    ensures work { Adds (quotient_work p q (G.view store.old)) (G.view store.old) (G.view store.new) }
+    ensures memory { IsErrOf result Stop.Memory → (G.view store.old).may_want_memory ≡ true }
+    ensures full { IsErrOf result Stop.Full → Rose (G.view store.old) (G.view store.new) }
+    ensures due { IsErrOf result Stop.Full → IsWork (G.view store.new) (quotient_work p q (G.view store.old)) (G.view store.new).due }
+    ensures frames { stack.new.frames ≡ stack.old.frames }
+    ensures free { stack.new.free ≡ stack.old.free }
+    ensures known { stack.new.answers ≡ stack.old.answers }
+{
+    match evaluate(store, stack, &Binary(Division { p, q }), Task::two(p, q)) {
         Ok(edge) => Ok(edge),
         Err(Halt::Memory) => Err(Stop::Memory),
         Err(Halt::Full) => Err(Stop::Full),

@@ -92,12 +92,7 @@ impl<G: Grow> Apply<G> for Multiplication {
                 let Some(top) = top_of_two(store, task.f, task.g) else {
                     unreachable!();
                 };
-                Ok(Expansion::Split(divide(
-                    store,
-                    task,
-                    Portion::Whole,
-                    top.var,
-                )))
+                Ok(Expansion::Split(divide(store, task, Portion::Whole, top.var)))
             }
             Portion::Then(var) => Ok(Expansion::Split(divide(
                 store,
@@ -217,8 +212,8 @@ fn tasks(
     }
 }
 
-// The task of a portion of a product.
-fn portion_task(f: Edge, g: Edge, portion: Portion) -> Task
+/// The task of a portion of a product.
+pub(crate) fn portion_task(f: Edge, g: Edge, portion: Portion) -> Task
     requires { IsElementOf portion }
     ensures { IsTask f g portion result }
 {

@@ -24,15 +24,15 @@ returns-in_ok-make-in-Whole-clause-moved g c =
     let b = c.requires.parts.1 in let e = c.in_ok-make-in-Whole.ensures in let is = sym c.of.ensures ∙ c.in-Whole.is in let p = c.args.self.now.p in let q = c.args.self.now.q in
     Made-moved p q _ c.args.task _ _ c.args.var c.args.hi c.args.lo b.due b.splits b.hi_is b.lo_is _ c.in_ok-make-in-Whole.field-0 e.grown e.made
     (subst (Denotes Zdd (g.G.Grow.view c.make.new.self) c.in_ok-make-in-Whole.field-0) (Whole-node p q _ c.args.task _ _ c.args.var c.args.hi c.args.lo b.due b.splits b.hi_is b.lo_is is)
-      (e.ok Zdd (Whole-can p q _ c.args.task _ _ c.args.var c.args.hi c.args.lo b.due b.splits b.hi_is b.lo_is is)))
+    (e.ok Zdd (Whole-can p q _ c.args.task _ _ c.args.var c.args.hi c.args.lo b.due b.splits b.hi_is b.lo_is is)))
 
 pub returns-in_err-make-in-Whole-clause-due : goal.returns-in_err-make-in-Whole-clause-due
 returns-in_err-make-in-Whole-clause-due g c =
     let b = c.requires.parts.1 in let e = c.in_err-make-in-Whole.ensures in let is = sym c.of.ensures ∙ c.in-Whole.is in let p = c.args.self.now.p in let q = c.args.self.now.q in
     let r = err_from_is_err_and c.from_residual.result c.from_residual.ensures.1 in rw (r.1, r.2) (λ full.
-      Made-due p q _ c.args.task _ _ c.args.var c.args.hi c.args.lo b.due b.splits b.hi_is b.lo_is _ e.grown
-      (e.due (full_stop _ full) Zdd (Whole-can p q _ c.args.task _ _ c.args.var c.args.hi c.args.lo b.due b.splits b.hi_is b.lo_is is)
-      ∙ ap (λ f. Some (ZddFamily f)) (Whole-node p q _ c.args.task _ _ c.args.var c.args.hi c.args.lo b.due b.splits b.hi_is b.lo_is is)))
+    Made-due p q _ c.args.task _ _ c.args.var c.args.hi c.args.lo b.due b.splits b.hi_is b.lo_is _ e.grown
+    (e.due (full_stop _ full) Zdd (Whole-can p q _ c.args.task _ _ c.args.var c.args.hi c.args.lo b.due b.splits b.hi_is b.lo_is is)
+    ∙ ap (λ f. Some (ZddFamily f)) (Whole-node p q _ c.args.task _ _ c.args.var c.args.hi c.args.lo b.due b.splits b.hi_is b.lo_is is)))
 
 pub union-requires-clause-operands : goal.union-requires-clause-operands
 union-requires-clause-operands g c =
@@ -58,4 +58,4 @@ pub returns-in_err-union-in_default-clause-due : goal.returns-in_err-union-in_de
 returns-in_err-union-in_default-clause-due g c =
     let b = c.requires.parts.1 in let e = c.in_err-union-in_default.ensures in let p = c.args.self.now.p in let q = c.args.self.now.q in
     let r = err_from_is_err_and c.from_residual-in_err-union-in_default.result c.from_residual-in_err-union-in_default.ensures.1 in rw (r.1, r.2) (λ full.
-      Through p q _ c.args.task _ _ c.args.var c.args.hi c.args.lo b.due b.splits b.hi_is b.lo_is _ _ e.grown (λ is. c.in_default.not-Whole (c.of.ensures ∙ is)) (e.due (full_stop _ full)))
+    Through p q _ c.args.task _ _ c.args.var c.args.hi c.args.lo b.due b.splits b.hi_is b.lo_is _ _ e.grown (λ is. c.in_default.not-Whole (c.of.ensures ∙ is)) (e.due (full_stop _ full)))

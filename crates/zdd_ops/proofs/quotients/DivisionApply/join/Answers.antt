@@ -27,15 +27,15 @@ returns-in_ok-make-in-Lacks-clause-moved g c =
     let b = c.requires.parts.1 in let k = c.in-Lacks.ensures.kept in let l = c.in-Lacks.ensures.divided in let e = c.in_ok-make-in-Lacks.ensures in
     Made-moved_later c.args.self.now.p c.args.self.now.q _ c.args.task _ _ c.args.var c.args.hi c.args.lo b.due b.splits b.hi_is b.lo_is _ _ c.in_ok-make-in-Lacks.field-0 k e.grown e.made
     (subst (Denotes Zdd (g.G.Grow.view c.make.new.self) c.in_ok-make-in-Lacks.field-0) (Above-node_later c.args.self.now.p c.args.self.now.q _ c.args.task _ _ c.args.var c.args.hi c.args.lo b.due b.splits b.hi_is b.lo_is _ k l)
-      (e.ok Zdd (Above-can_later c.args.self.now.p c.args.self.now.q _ c.args.task _ _ c.args.var c.args.hi c.args.lo b.due b.splits b.hi_is b.lo_is _ k l)))
+    (e.ok Zdd (Above-can_later c.args.self.now.p c.args.self.now.q _ c.args.task _ _ c.args.var c.args.hi c.args.lo b.due b.splits b.hi_is b.lo_is _ k l)))
 
 pub returns-in_err-make-in-Lacks-clause-due : goal.returns-in_err-make-in-Lacks-clause-due
 returns-in_err-make-in-Lacks-clause-due g c =
     let b = c.requires.parts.1 in let k = c.in-Lacks.ensures.kept in let l = c.in-Lacks.ensures.divided in let e = c.in_err-make-in-Lacks.ensures in
     let r = err_from_is_err_and c.from_residual.result c.from_residual.ensures.1 in rw (r.1, r.2) (λ full.
-      Made-due c.args.self.now.p c.args.self.now.q _ c.args.task _ _ c.args.var c.args.hi c.args.lo b.due b.splits b.hi_is b.lo_is _ (Grown-trans k.grown e.grown)
-      (e.due (full_stop _ full) Zdd (Above-can_later c.args.self.now.p c.args.self.now.q _ c.args.task _ _ c.args.var c.args.hi c.args.lo b.due b.splits b.hi_is b.lo_is _ k l)
-      ∙ ap (λ f. Some (ZddFamily f)) (Above-node_later c.args.self.now.p c.args.self.now.q _ c.args.task _ _ c.args.var c.args.hi c.args.lo b.due b.splits b.hi_is b.lo_is _ k l)))
+    Made-due c.args.self.now.p c.args.self.now.q _ c.args.task _ _ c.args.var c.args.hi c.args.lo b.due b.splits b.hi_is b.lo_is _ (Grown-trans k.grown e.grown)
+    (e.due (full_stop _ full) Zdd (Above-can_later c.args.self.now.p c.args.self.now.q _ c.args.task _ _ c.args.var c.args.hi c.args.lo b.due b.splits b.hi_is b.lo_is _ k l)
+    ∙ ap (λ f. Some (ZddFamily f)) (Above-node_later c.args.self.now.p c.args.self.now.q _ c.args.task _ _ c.args.var c.args.hi c.args.lo b.due b.splits b.hi_is b.lo_is _ k l)))
 
 pub returns-then-is_empty-clause-moved : goal.returns-then-is_empty-clause-moved
 returns-then-is_empty-clause-moved g c =
@@ -74,5 +74,5 @@ pub returns-in_err-meet-in-Has-clause-due : goal.returns-in_err-meet-in-Has-clau
 returns-in_err-meet-in-Has-clause-due g c =
     let b = c.requires.parts.1 in let k = Kept-trans c.in-Has.ensures.kept c.is_empty.ensures.kept in let e = c.in_err-meet-in-Has.ensures in
     let r = err_from_is_err_and c.from_residual-in_err-meet-in-Has.result c.from_residual-in_err-meet-in-Has.ensures.1 in rw (r.1, r.2) (λ full.
-      Through c.args.self.now.p c.args.self.now.q _ c.args.task _ _ c.args.var c.args.hi c.args.lo b.due b.splits b.hi_is b.lo_is _ _ _ k.grown e.grown
-      (Both-meet c.args.self.now.p c.args.self.now.q _ c.args.task _ _ c.args.var c.args.hi c.args.lo b.due b.splits b.hi_is b.lo_is _ c.in-Has.field-0 c.in-Has.without c.in-Has.ensures.kept c.in-Has.ensures.divided (c.is_empty.ensures.no c.if-is_empty.false)) (e.due (full_stop _ full)))
+    Through c.args.self.now.p c.args.self.now.q _ c.args.task _ _ c.args.var c.args.hi c.args.lo b.due b.splits b.hi_is b.lo_is _ _ _ k.grown e.grown
+    (Both-meet c.args.self.now.p c.args.self.now.q _ c.args.task _ _ c.args.var c.args.hi c.args.lo b.due b.splits b.hi_is b.lo_is _ c.in-Has.field-0 c.in-Has.without c.in-Has.ensures.kept c.in-Has.ensures.divided (c.is_empty.ensures.no c.if-is_empty.false)) (e.due (full_stop _ full)))
