@@ -1,12 +1,9 @@
 -- Calls for products and quotients, from their start to their end.
-use Rattle.std.proofs.Common.{◌≡◌, ℕ, ◌+◌, ◌-◌, ◌*◌, ◌^◌, ◌≤◌, Bool, true, Option, ◌⊎◌, inl, inr, Result, Ok, Err, IfOk, refl, ap, ap₂, sym, ◌∙◌, subst, arith}
-use Rattle.std.specs.Prelude.{min}
+use Rattle.std.proofs.Common.{◌≡◌, ℕ, ◌+◌, ◌*◌, ◌^◌, ◌≤◌, Bool, Option, inl, inr, Result, Ok, Err, IfOk, ap, ap₂, sym, ◌∙◌, subst, arith}
 use Rattle.edge_bits.specs.declared.edges.Edge.{Edge}
 use Rattle.edge_bits.specs.declared.edges.Kind.TheVariants.{Zdd}
-use Rattle.function_laws.specs.Families.{product, quotient}
 use Rattle.function_laws.specs.Products.{IsProduct, IsQuotient}
-use Rattle.node_store.specs.Kinds.{Function, ZddFamily}
-use Rattle.node_store.specs.Two.{two_depth}
+use Rattle.node_store.specs.Kinds.{Function}
 use Rattle.node_store.specs.Views.{View, AreTwo, Denotes, Grown, Permanent, family_at}
 use Rattle.node_store.specs.ViewLaws.{Grown-refl, values_at-grown, values_at-is}
 use Rattle.node_store.specs.Work.{Adds, IsPart, IsWork, Moves, whole}
@@ -14,9 +11,9 @@ use Rattle.node_store.specs.WorkLaws.{IsPart-back, IsWork-grown}
 use Rattle.node_store.specs.declared.grow.Stop.{Stop}
 use Rattle.node_store.specs.declared.operator.Task.{Task}
 use Rattle.zdd_ops.specs.Members.{product-is}
-use Rattle.zdd_ops.specs.Products.{IsProductOfParts, IsTask, IsUnionOf, ProductAnswers, ProductDue, ReachesFor, portion_in, product_at, product_depth, product_work, depth_for}
+use Rattle.zdd_ops.specs.Products.{IsProductOfParts, IsTask, ProductAnswers, ProductDue, ReachesFor, product_at, product_depth, product_work, depth_for}
 use Rattle.zdd_ops.specs.ProductLasts.{portion-grown}
-use Rattle.zdd_ops.specs.Quotients.{IsQuotientOfParts, QuotientAnswers, QuotientDue, quotient_at, quotient_work}
+use Rattle.zdd_ops.specs.Quotients.{QuotientAnswers, QuotientDue, quotient_at, quotient_work}
 use Rattle.zdd_ops.specs.QuotientLasts.{quotient-grown, quotient_of-grown}
 use Rattle.zdd_ops.specs.declared.products.Portion.TheVariants.{Whole}
 use Rattle.zdd_ops.proofs.ProductLaws.{Is-within, task_asks}
@@ -52,13 +49,17 @@ module _ (a w : View) (p q : Edge) (m : Grown a w) (d : AreTwo Zdd a p q) where
 
   pub product_back : (F : Function) → product_work p q w F → product_work p q a F
   product_back F (r, is, inl one) = (r, is, inl (parts_back r one))
-  product_back F (r, is, inr two) = (r, is, inr (record {
-    one = two.one;
-    other = two.other;
-    one_is = parts_back two.one two.one_is;
-    other_is = parts_back two.other two.other_is;
-    is = two.is;
-  }))
+  product_back F (r, is, inr two) = (
+    r,
+    is,
+    inr (record {
+      one = two.one;
+      other = two.other;
+      one_is = parts_back two.one two.one_is;
+      other_is = parts_back two.other two.other_is;
+      is = two.is;
+    }),
+  )
 
   pub product_start : (o : Option Function) → IsWork w (product_work p q w) o → IsWork w (product_work p q a) o
   product_start o i = IsWork-grown (Grown-refl w) (product_work p q w) (product_work p q a) product_back o i

@@ -1,15 +1,14 @@
 -- Products of families, part by part.
-use Rattle.std.proofs.Common.{◌≡◌, ◌≢◌, ℕ, ◌<◌, ◌==◌, eqb, Bool, true, false, not, cond, ◌&&◌, ◌||◌, ◌⊎◌, inl, inr, refl, sym, ap, ap₂, ◌∙◌, subst}
+use Rattle.std.proofs.Common.{◌≡◌, ℕ, Bool, true, false, not, cond, ◌||◌, ◌⊎◌, inl, inr, refl, sym, ap, ap₂, ◌∙◌, subst}
 use Rattle.std.specs.Prelude.{bit_or}
 use Rattle.std.proofs.lemmas.Bool.{eqb-true}
 use Rattle.edge_bits.specs.Assignments.{bit, set_bit}
-use Rattle.edge_bits.proofs.AssignmentLemmas.{bit-set_same, bit-set_other, set_bit-set_same}
+use Rattle.edge_bits.proofs.AssignmentLemmas.{bit-set_same, set_bit-set_same}
 use Rattle.function_laws.specs.Families.{IsWithout, base, empty, joined, product, subset0, subset1, union}
-use Rattle.function_laws.specs.Products.{IsProduct}
 use Rattle.function_laws.proofs.FamilyLemmas.{joined-subsets}
 use Rattle.function_laws.proofs.ValueLemmas.{everywhere}
 use Rattle.zdd_ops.specs.Combinations.{bit-or}
-use Rattle.zdd_ops.specs.Members.{IsProduct-unique, IsWithin, Unions, and_both, and_left, and_right, clash, or_comm, or_set, own, product-is, product-unions, same_truth, two_ways, unions-product, zero_or}
+use Rattle.zdd_ops.specs.Members.{IsProduct-unique, IsWithin, and_both, and_left, and_right, clash, or_comm, or_set, own, product-is, product-unions, same_truth, two_ways, unions-product, zero_or}
 
 -- members of a node's family
 pub has_not : (p : ℕ → Bool) (e b : ℕ) → IsWithout p e → p b ≡ true → bit b e ≡ false

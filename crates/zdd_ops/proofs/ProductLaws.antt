@@ -1,6 +1,6 @@
 -- Products of families, step by step.
-use Rattle.std.proofs.Common.{◌≡◌, ◌≢◌, ℕ, zero, suc, ◌+◌, ◌-◌, ◌*◌, ◌^◌, ◌<◌, ◌≤◌, eqb, Bool, true, false, cond, Option, Some, None, ℤ, pos, ◌⊎◌, inl, inr, ⊎_elim, Result, Ok, Err, IfOk, not, ◌&&◌, refl, ap, ap₂, sym, ◌∙◌, subst, arith}
-use Rattle.std.specs.Prelude.{IsOkAnd, min, nat_lt}
+use Rattle.std.proofs.Common.{◌≡◌, ◌≢◌, ℕ, ◌+◌, ◌-◌, ◌*◌, ◌^◌, ◌<◌, ◌≤◌, Bool, true, false, cond, Some, ℤ, inl, inr, not, ◌&&◌, refl, ap, ap₂, sym, ◌∙◌, subst, arith}
+use Rattle.std.specs.Prelude.{min}
 use Rattle.std.proofs.lemmas.Bool.{cases_eq, eqb-true}
 use Rattle.std.proofs.lemmas.Nat.{pow_pos}
 use Rattle.edge_bits.specs.Words.{digit}
@@ -9,11 +9,11 @@ use Rattle.edge_bits.specs.Reading.{element_of}
 use Rattle.edge_bits.proofs.AssignmentLemmas.{below_from_bits, digit-bit}
 use Rattle.edge_bits.specs.declared.edges.Edge.{Edge}
 use Rattle.edge_bits.specs.declared.edges.Kind.TheVariants.{Zdd}
-use Rattle.function_laws.specs.Families.{IsWithout, base, empty, joined, product, subset0, subset1, union}
-use Rattle.function_laws.proofs.FamilyLemmas.{joined-subsets, subset0-joined, subset1-joined}
-use Rattle.node_store.specs.Kinds.{Function, BddFunction, AddFunction, ZddFamily, ValueOf, flipped, function_of, values_of}
-use Rattle.node_store.specs.Views.{View, AreTwo, CanMake, CanPart, Denotes, Grown, Is, IsBelow, IsLeafOf, IsTop, IsVariable, Kept, NotBothLeaves, PartsAt, Permanent, Splits, family_at, no_member, node_values, only_base}
-use Rattle.node_store.specs.ViewLaws.{Apart-variables, Grown-trans, IsVariable-grown, Is-from, Is-grown, level-grown, top-grown, values_at-grown, values_at-is}
+use Rattle.function_laws.specs.Families.{IsWithout, base, empty, joined, subset0, subset1, union}
+use Rattle.function_laws.proofs.FamilyLemmas.{subset0-joined, subset1-joined}
+use Rattle.node_store.specs.Kinds.{ZddFamily, flipped, values_of}
+use Rattle.node_store.specs.Views.{View, AreTwo, CanPart, Denotes, Grown, Is, IsBelow, IsLeafOf, IsVariable, NotBothLeaves, PartsAt, Permanent, Splits, family_at, no_member, only_base}
+use Rattle.node_store.specs.ViewLaws.{Apart-variables, Grown-trans, IsVariable-grown, Is-grown, level-grown, top-grown, values_at-grown}
 use Rattle.node_store.proofs.TwoParts.{PartsAt-grown}
 use Rattle.node_store.specs.declared.binary.Branch.{Branch}
 use Rattle.node_store.specs.Splits.{Branches}
@@ -22,10 +22,10 @@ use Rattle.zdd_ops.specs.declared.products.Portion.{Portion}
 use Rattle.zdd_ops.specs.declared.products.Portion.TheVariants.{Whole, Then, First}
 use Rattle.zdd_ops.specs.Elementwise.{subset1-lacks}
 use Rattle.node_store.specs.KindLaws.{Apart, Lacks-joined}
-use Rattle.node_store.specs.Work.{IsPart, IsWork, Moves, cut, whole}
+use Rattle.node_store.specs.Work.{IsPart, cut, whole}
 use Rattle.node_store.specs.WorkLaws.{IsPart-half}
 use Rattle.zdd_ops.specs.Members.{IsWithin, clash, two_ways}
-use Rattle.zdd_ops.specs.Products.{AreParts, CanPartBoth, IsAt, IsPartedTask, IsProductOfParts, IsTask, IsUnionOf, ProductAnswers, ProductDue, ProductSplits, Reaches, ReachesFor, asked_by, depth_for, product_depth, portion_in, portion_of, product_at, product_work}
+use Rattle.zdd_ops.specs.Products.{AreParts, CanPartBoth, IsAt, IsPartedTask, IsProductOfParts, IsTask, ProductAnswers, ProductDue, ProductSplits, Reaches, ReachesFor, asked_by, depth_for, product_depth, portion_in, portion_of, product_at, product_work}
 use Rattle.zdd_ops.proofs.ProductFamilies.{product-base, product-comm, product-empty, product-joined, product-lacks, product-then}
 
 -- the members of a store's family are combinations of its elements

@@ -1,20 +1,18 @@
 -- The steps of a product, from view to view.
-use Rattle.std.proofs.Common.{◌≡◌, ℕ, ◌+◌, ◌<◌, ◌≤◌, Bool, true, false, cond, not, ◌||◌, Option, Some, None, ◌⊎◌, inl, inr, Result, Ok, Err, IfOk, refl, ap, sym, ◌∙◌, subst, arith}
-use Rattle.std.specs.Prelude.{IsOkAnd, min, nat_lt}
+use Rattle.std.proofs.Common.{◌≡◌, ℕ, Bool, true, false, cond, ◌||◌, Option, Some, ◌⊎◌, inl, inr, refl, ap, sym, ◌∙◌, subst, arith}
+use Rattle.std.specs.Prelude.{min, nat_lt}
 use Rattle.edge_bits.specs.declared.edges.Edge.{Edge}
 use Rattle.edge_bits.specs.declared.edges.Kind.{Kind}
 use Rattle.edge_bits.specs.declared.edges.Kind.TheVariants.{Bdd, Add, Zdd}
-use Rattle.edge_bits.specs.Reading.{element_of}
 use Rattle.computed_cache.specs.declared.Key.{Key}
 use Rattle.function_laws.specs.Families.{union}
 use Rattle.node_store.specs.Kinds.{Function, ZddFamily, ValueOf, function_of, opposite, values_of}
 use Rattle.node_store.specs.Memo.{FamilyHolds, MemoHolds}
 use Rattle.node_store.specs.Numbers.{product_number}
-use Rattle.node_store.specs.Splits.{BothAnswered, Branches, Keeps}
+use Rattle.node_store.specs.Splits.{Branches, Keeps}
 use Rattle.node_store.specs.Two.{value_of_two}
-use Rattle.node_store.specs.Views.{View, AreTwo, CanMake, Denotes, Grown, Is, IsKey, IsTop, Kept, Permanent, family_at, node_values}
-use Rattle.node_store.specs.ViewLaws.{Denotes-grown, Is-from, Is-grown, level-grown, top-grown, values_at-grown, values_at-is}
-use Rattle.node_store.specs.TwoLaws.{AreTwo-grown}
+use Rattle.node_store.specs.Views.{View, AreTwo, CanMake, Denotes, Grown, IsKey, IsTop, Permanent, family_at, node_values}
+use Rattle.node_store.specs.ViewLaws.{Is-from, level-grown, top-grown, values_at-is}
 use Rattle.node_store.specs.Work.{Adds, IsPart, IsWork, Moves}
 use Rattle.node_store.specs.WorkLaws.{IsPart-both, IsPart-grown, IsWork-due, Moves-made}
 use Rattle.node_store.specs.declared.binary.Branch.{Branch}
@@ -22,7 +20,7 @@ use Rattle.node_store.specs.declared.operator.Task.{Task}
 use Rattle.zdd_ops.specs.Products.{CanPartBoth, IsAt, IsPartedTask, ProductAnswers, ProductDue, ProductSplits, Reaches, ReachesFor, asked_by, portion_in, product_at, product_depth, product_key, product_work}
 use Rattle.zdd_ops.specs.ProductLasts.{ProductDue-stays, asked-grown, product_work-stays}
 use Rattle.zdd_ops.specs.declared.products.Portion.{Portion}
-use Rattle.zdd_ops.specs.declared.products.Portion.TheVariants.{Whole, Then, First}
+use Rattle.zdd_ops.specs.declared.products.Portion.TheVariants.{Whole}
 use Rattle.zdd_ops.proofs.ProductLaws.{Asked-root, CanPart-grown, Other-is, Product-branches, Product-comm, Whole-hi_below, Whole-is, Whole-lo_below, asks_as}
 
 -- the top of both families

@@ -1,37 +1,33 @@
 -- The steps of a quotient, from view to view.
-use Rattle.std.proofs.Common.{◌≡◌, ℕ, ◌+◌, ◌-◌, ◌^◌, ◌<◌, ◌≤◌, eqb, Bool, true, false, cond, ◌&&◌, Option, Some, None, ℤ, pos, ◌⊎◌, inl, inr, refl, ap, ap₂, sym, ◌∙◌, subst, arith, of_z, w64}
+use Rattle.std.proofs.Common.{◌≡◌, ℕ, ◌^◌, ◌<◌, ◌≤◌, eqb, Bool, true, false, cond, ◌&&◌, Option, Some, ℤ, ◌⊎◌, inl, inr, refl, ap, ap₂, sym, ◌∙◌, subst, arith, of_z, w64}
 use Rattle.std.specs.Prelude.{min}
 use Rattle.edge_bits.specs.Assignments.{set_bit}
 use Rattle.edge_bits.specs.declared.edges.Edge.{Edge}
-use Rattle.edge_bits.specs.declared.edges.Kind.{Kind}
-use Rattle.edge_bits.specs.declared.edges.Kind.TheVariants.{Bdd, Add, Zdd}
+use Rattle.edge_bits.specs.declared.edges.Kind.TheVariants.{Zdd}
 use Rattle.edge_bits.specs.Reading.{element_of}
 use Rattle.computed_cache.specs.declared.Key.{Key}
 use Rattle.function_laws.specs.Lists.{any_below}
-use Rattle.function_laws.specs.Families.{IsWithout, base, empty, joined, meet, quotient, subset0}
+use Rattle.function_laws.specs.Families.{IsWithout, empty, joined, meet, subset0}
 use Rattle.function_laws.proofs.FamilyLemmas.{subset0-joined}
 use Rattle.function_laws.proofs.ListLemmas.{any_below-true, true-any_below}
 use Rattle.function_laws.proofs.ValueLemmas.{everywhere}
-use Rattle.node_store.specs.Kinds.{Function, ZddFamily, ValueOf, function_of, opposite, values_of}
+use Rattle.node_store.specs.Kinds.{Function, ZddFamily}
 use Rattle.node_store.specs.Memo.{FamilyHolds, MemoHolds}
-use Rattle.node_store.specs.Numbers.{quotient_number}
 use Rattle.node_store.specs.Splits.{Branches, Keeps}
 use Rattle.node_store.specs.Two.{two_depth, value_of_two}
-use Rattle.node_store.specs.Views.{View, AreTwo, CanMake, CanPart, Denotes, Grown, Is, IsBelow, IsInner, IsKey, IsLeaf, IsLeafOf, IsTop, IsVariable, Kept, NotBothLeaves, PartsAt, Permanent, Splits, family_at, no_member, node_values, only_base}
+use Rattle.node_store.specs.Views.{View, AreTwo, CanMake, CanPart, Denotes, Grown, Is, IsBelow, IsInner, IsKey, IsLeaf, IsLeafOf, IsTop, IsVariable, Kept, NotBothLeaves, PartsAt, Permanent, family_at, no_member, node_values, only_base}
 use Rattle.node_store.specs.ViewLaws.{Denotes-grown, Grown-trans, IsBelow-grown, IsBelow-inner, IsVariable-grown, Is-from, Is-grown, level-grown, top-grown, values_at-grown, values_at-is}
 use Rattle.node_store.specs.TwoLaws.{AreTwo-grown}
 use Rattle.node_store.specs.Work.{Adds, IsPart, IsWork, Moves, whole}
-use Rattle.node_store.specs.WorkLaws.{IsPart-both, IsPart-grown, IsPart-half, IsWork-due, Moves-made}
+use Rattle.node_store.specs.WorkLaws.{IsPart-half, IsWork-due, Moves-made}
 use Rattle.node_store.specs.declared.binary.Branch.{Branch}
 use Rattle.node_store.specs.declared.operator.Task.{Task}
 use Rattle.node_store.proofs.TwoParts.{PartsAt-grown}
 use Rattle.zdd_ops.specs.Combinations.{base-without}
 use Rattle.zdd_ops.specs.Members.{IsWithin, clash, two_ways}
 use Rattle.zdd_ops.specs.Products.{CanPartBoth}
-use Rattle.zdd_ops.specs.Quotients.{AreByIt, HasMember, IsDivided, IsQuotientOfParts, IsSplitTask, LacksIt, QuotientAnswers, QuotientDue, QuotientSplits, quotient_at, quotient_key, quotient_work}
-use Rattle.zdd_ops.specs.QuotientLasts.{IsInner-grown, LacksIt-grown, QuotientDue-stays, quotient_of-grown, quotient_work-stays}
-use Rattle.zdd_ops.specs.declared.quotients.Divisor.{Divisor}
-use Rattle.zdd_ops.specs.declared.quotients.Divisor.TheVariants.{Has, Lacks}
+use Rattle.zdd_ops.specs.Quotients.{AreByIt, HasMember, IsSplitTask, LacksIt, QuotientAnswers, QuotientDue, QuotientSplits, quotient_at, quotient_key, quotient_work}
+use Rattle.zdd_ops.specs.QuotientLasts.{QuotientDue-stays, quotient_of-grown, quotient_work-stays}
 use Rattle.zdd_ops.proofs.ProductFamilies.{in_then}
 use Rattle.zdd_ops.proofs.ProductLaws.{Is-within, base-within, base_at, empty_at}
 use Rattle.zdd_ops.proofs.QuotientFamilies.{quotient-above, quotient-both, quotient-by_base, quotient-by_empty, quotient-lacks, quotient-of_empty, quotient-one}

@@ -7,7 +7,7 @@ use Rattle.function_laws.specs.Families.{IsWithout, change, joined, subset0, sub
 use Rattle.function_laws.proofs.FamilyLemmas.{subset0-joined, subset1-joined}
 use Rattle.node_store.specs.Kinds.{Function, ZddFamily}
 use Rattle.node_store.specs.Views.{View, CanMake, Denotes, Grown, Is, IsBelow, IsInner, IsLeaf, IsLeafOf, IsVariable, Kept, Permanent, Splits, empty_edge, family_at, no_member, node_values, only_base}
-use Rattle.node_store.specs.ViewLaws.{Apart-variables, Denotes-empty, Denotes-grown, Grown-refl, Grown-trans, IsBelow-inner, IsVariable-grown, IsVariable-back, Is-from, Splits-absent, Splits-grown, level-grown, top-grown, values_at-grown, values_at-is}
+use Rattle.node_store.specs.ViewLaws.{Apart-variables, Denotes-empty, Denotes-grown, Grown-refl, Grown-trans, IsBelow-inner, Is-from, Splits-absent, values_at-grown, values_at-is}
 use Rattle.node_store.specs.Splits.{Branches}
 use Rattle.node_store.specs.Work.{Adds, IsWork, Moves}
 use Rattle.node_store.specs.WorkLaws.{IsPart-grown, IsPart-half, IsWork-due, IsWork-grown, Moves-made}

@@ -1,14 +1,13 @@
 -- Members of products and quotients.
-use Rattle.std.proofs.Common.{◌≡◌, ◌≢◌, ℕ, ◌+◌, ◌^◌, ◌<◌, ◌≤◌, ◌==◌, eqb, Bool, true, false, not, cond, ◌&&◌, ◌||◌, ◌⊎◌, inl, inr, ⊎_elim, refl, sym, ap, ap₂, ◌∙◌, subst, eq-eqb, ne_eqb, arith}
+use Rattle.std.proofs.Common.{◌≡◌, ℕ, ◌<◌, ◌==◌, Bool, true, false, not, ◌&&◌, ◌||◌, ◌⊎◌, inl, inr, ⊎_elim, refl, sym, ap, ap₂, ◌∙◌, subst, eq-eqb}
 use Rattle.std.specs.Prelude.{bit_or, bit_and}
 use Rattle.std.proofs.lemmas.Bool.{cases_eq, eqb-true}
 use Rattle.edge_bits.specs.Assignments.{bit, set_bit}
-use Rattle.edge_bits.proofs.AssignmentLemmas.{bit-set_same, bit-set_other, set_bit-own, set_bit-set_same, same_bits}
-use Rattle.function_laws.specs.Lists.{any_below, all_below}
-use Rattle.function_laws.specs.Families.{IsWithout, base, empty, joined, meet, product, quotient, subset0, subset1, union}
-use Rattle.function_laws.specs.Products.{FitsEach, IsProduct, IsQuotient}
-use Rattle.function_laws.proofs.FamilyLemmas.{joined-subsets}
-use Rattle.function_laws.proofs.ListLemmas.{all_below-true, any_below-true, true-all_below, true-any_below}
+use Rattle.edge_bits.proofs.AssignmentLemmas.{bit-set_same, bit-set_other, set_bit-own, same_bits}
+use Rattle.function_laws.specs.Lists.{any_below}
+use Rattle.function_laws.specs.Families.{product}
+use Rattle.function_laws.specs.Products.{IsProduct}
+use Rattle.function_laws.proofs.ListLemmas.{any_below-true, true-any_below}
 use Rattle.function_laws.proofs.ValueLemmas.{everywhere}
 use Rattle.zdd_ops.specs.Combinations.{bit-and, bit-or, bit-zero}
 

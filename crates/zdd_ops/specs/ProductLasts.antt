@@ -1,15 +1,15 @@
 -- Tasks of a product last while the store grows.
-use Rattle.std.proofs.Common.{◌≡◌, ℕ, ◌^◌, ◌<◌, ◌≤◌, Bool, ◌⊎◌, inl, inr, refl, ap, sym, ◌∙◌, subst, arith}
+use Rattle.std.proofs.Common.{◌≡◌, ℕ, Bool, inl, inr, refl, sym, ◌∙◌, arith}
 use Rattle.edge_bits.specs.declared.edges.Edge.{Edge}
 use Rattle.edge_bits.specs.declared.edges.Kind.TheVariants.{Zdd}
-use Rattle.node_store.specs.Kinds.{Function, ZddFamily}
+use Rattle.node_store.specs.Kinds.{Function}
 use Rattle.node_store.specs.Views.{View, AreTwo, Grown, Is, family_at}
 use Rattle.node_store.specs.ViewLaws.{Denotes-grown, IsVariable-grown, Permanent-grown, Splits-grown, level-grown, top-grown, values_at-grown}
 use Rattle.node_store.specs.TwoLaws.{AreTwo-grown}
 use Rattle.node_store.specs.Work.{IsPart}
 use Rattle.node_store.specs.WorkLaws.{IsPart-grown}
 use Rattle.node_store.specs.declared.operator.Task.{Task}
-use Rattle.zdd_ops.specs.Products.{IsProductOfParts, IsUnionOf, ProductAnswers, ProductDue, ProductSplits, Reaches, ReachesFor, asked_by, depth_for, portion_in, portion_of, product_at, product_depth, product_work}
+use Rattle.zdd_ops.specs.Products.{IsProductOfParts, ProductAnswers, ProductDue, ProductSplits, Reaches, ReachesFor, asked_by, depth_for, portion_in, portion_of, product_depth, product_work}
 use Rattle.zdd_ops.specs.declared.products.Portion.{Portion}
 use Rattle.zdd_ops.specs.declared.products.Portion.TheVariants.{Whole, Then, First}
 

@@ -1,5 +1,5 @@
 -- Tasks of a product of two families.
-use Rattle.std.specs.Prelude.{◌≡◌, ℕ, ◌+◌, ◌-◌, ◌*◌, ◌^◌, ◌==◌, ◌<◌, ◌≤◌, nat_lt, Bool, true, false, min, ◌⊎◌, Option, Some, None, if◌then◌else◌}
+use Rattle.std.specs.Prelude.{◌≡◌, ℕ, ◌-◌, ◌*◌, ◌^◌, ◌==◌, ◌<◌, ◌≤◌, nat_lt, Bool, true, false, min, ◌⊎◌, Option, Some, None, if◌then◌else◌}
 use Rattle.edge_bits.specs.declared.edges.Edge.{Edge}
 use Rattle.edge_bits.specs.declared.edges.Kind.TheVariants.{Zdd}
 use Rattle.edge_bits.specs.Reading.{element_of}
@@ -7,7 +7,7 @@ use Rattle.computed_cache.specs.declared.Key.{Key}
 use Rattle.function_laws.specs.Families.{product, subset0, subset1, union}
 use Rattle.node_store.specs.Kinds.{Function, ZddFamily}
 use Rattle.node_store.specs.Numbers.{product_number}
-use Rattle.node_store.specs.Views.{View, AreTwo, CanPart, Denotes, Is, IsVariable, NotBothLeaves, Permanent, Splits, family_at}
+use Rattle.node_store.specs.Views.{View, AreTwo, CanPart, Denotes, IsVariable, NotBothLeaves, Permanent, Splits, family_at}
 use Rattle.node_store.specs.Work.{IsPart}
 use Rattle.node_store.specs.declared.binary.Branch.{Branch}
 use Rattle.node_store.specs.declared.operator.Task.{Task}

@@ -1,15 +1,15 @@
 -- Tasks of a quotient last while the store grows.
-use Rattle.std.proofs.Common.{◌≡◌, ℕ, ◌^◌, ◌<◌, Bool, ◌⊎◌, inl, inr, refl, ap, sym, ◌∙◌, subst, arith}
+use Rattle.std.proofs.Common.{◌≡◌, ℕ, Bool, inl, inr, refl, sym, ◌∙◌, arith}
 use Rattle.edge_bits.specs.declared.edges.Edge.{Edge}
 use Rattle.edge_bits.specs.declared.edges.Kind.TheVariants.{Zdd}
-use Rattle.node_store.specs.Kinds.{Function, ZddFamily}
+use Rattle.node_store.specs.Kinds.{Function}
 use Rattle.node_store.specs.Views.{View, AreTwo, Grown, Is, IsInner, family_at}
 use Rattle.node_store.specs.ViewLaws.{Denotes-grown, IsBelow-grown, IsVariable-back, IsVariable-grown, Permanent-grown, Splits-grown, level-grown, top-grown, values_at-grown}
 use Rattle.node_store.specs.TwoLaws.{AreTwo-grown}
 use Rattle.node_store.specs.Work.{IsPart}
 use Rattle.node_store.specs.WorkLaws.{IsPart-grown}
 use Rattle.node_store.specs.declared.operator.Task.{Task}
-use Rattle.zdd_ops.specs.Quotients.{IsQuotientOfParts, LacksIt, QuotientAnswers, QuotientDue, QuotientSplits, quotient_at, quotient_work}
+use Rattle.zdd_ops.specs.Quotients.{LacksIt, QuotientAnswers, QuotientDue, QuotientSplits, quotient_at, quotient_work}
 
 -- an opened node lasts
 pub IsInner-grown : (a b : View) (e : Edge) (x : ℕ) (hi lo : Edge) → Grown a b → Is Zdd a e → IsInner Zdd a e (family_at a e) x hi lo → IsInner Zdd b e (family_at b e) x hi lo

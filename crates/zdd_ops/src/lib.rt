@@ -2,6 +2,7 @@
 #![tactic(auto)]
 
 mod constants;
+mod membership;
 pub mod nested;
 mod operations;
 mod products;
@@ -10,4 +11,5 @@ mod sets;
 mod subsets;
 
 pub use constants::{base, empty, single};
+pub use membership::contains;
 pub use operations::{change, diff, meet, product, quotient, subset0, subset1, union};

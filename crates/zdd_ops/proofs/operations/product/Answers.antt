@@ -1,7 +1,6 @@
 use Rattle.edge_bits.specs.declared.edges.Kind.TheVariants.{Zdd}
-use Rattle.std.proofs.Common.{ap₂, ◌∙◌}
 use Rattle.node_store.specs.TwoLaws.{AreTwo-grown}
-use Rattle.node_store.specs.ViewLaws.{Grown-trans, Kept-trans, values_at-grown}
+use Rattle.node_store.specs.ViewLaws.{Grown-trans, Kept-trans}
 use Rattle.node_store.proofs.ThreeWork.{Adds-between, IsWork-between}
 use Rattle.zdd_ops.proofs.CallLaws.{product_back, product_members}
 use Rattle.zdd_ops.proofs.OperationLaws.{lasts, product_told}

@@ -1,4 +1,4 @@
-use Rattle.std.proofs.Common.{◌≡◌, ◌≤◌, ◌<◌, sym, subst, arith}
+use Rattle.std.proofs.Common.{sym, subst, arith}
 use Rattle.edge_bits.specs.declared.edges.Kind.TheVariants.{Zdd}
 use Rattle.node_store.specs.Views.{IsInner, IsLeaf, family_at}
 use Rattle.node_store.specs.ViewLaws.{IsVariable-grown, level-grown, top-grown, values_at-grown}

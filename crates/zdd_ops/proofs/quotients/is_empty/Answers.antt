@@ -1,6 +1,5 @@
-use Rattle.std.proofs.Common.{◌≡◌, sym, subst}
+use Rattle.std.proofs.Common.{subst}
 use Rattle.edge_bits.specs.declared.edges.Kind.TheVariants.{Zdd}
-use Rattle.node_store.specs.Views.{IsInner, family_at}
 use Rattle.node_store.specs.ViewLaws.{values_at-grown}
 use Rattle.zdd_ops.specs.Quotients.{HasMember}
 use Rattle.zdd_ops.proofs.QuotientSteps.{leaf-empty, leaf-member, member-inner}

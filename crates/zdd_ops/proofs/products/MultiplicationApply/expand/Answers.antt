@@ -1,4 +1,4 @@
-use Rattle.std.proofs.Common.{◌≡◌, refl, sym, ◌∙◌, ap, subst}
+use Rattle.std.proofs.Common.{refl, sym, ◌∙◌}
 use Rattle.edge_bits.specs.declared.edges.Kind.TheVariants.{Zdd}
 use Rattle.node_store.specs.TwoLaws.{AreTwo-grown}
 use Rattle.node_store.specs.ViewLaws.{Grown-trans, Kept-trans, Permanent-grown}
@@ -6,7 +6,7 @@ use Rattle.node_store.specs.WorkLaws.{Moves-kept}
 use Rattle.zdd_ops.specs.Products.{product_work}
 use Rattle.zdd_ops.specs.ProductLasts.{ProductDue-stays}
 use Rattle.zdd_ops.specs.declared.products.Portion.TheVariants.{Whole, Then, First}
-use Rattle.zdd_ops.proofs.ProductSteps.{Divided, Product-key, Product-memo, Reaches-can, Top-can, Top-first, reaches_by}
+use Rattle.zdd_ops.proofs.ProductSteps.{Divided, Product-memo, Reaches-can, Top-can, Top-first, reaches_by}
 use Rattle.zdd_ops.proofs.products.MultiplicationApply.expand.Goals as goal
 
 pub top_of_two-requires : goal.top_of_two-requires

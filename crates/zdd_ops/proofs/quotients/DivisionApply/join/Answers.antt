@@ -1,4 +1,4 @@
-use Rattle.std.proofs.Common.{◌≡◌, Some, refl, ap, sym, ◌∙◌, subst}
+use Rattle.std.proofs.Common.{Some, ap, ◌∙◌, subst}
 use Rattle.std.proofs.lemmas.Result.{err_from_is_err_and}
 use Rattle.edge_bits.specs.declared.edges.Kind.TheVariants.{Zdd}
 use Rattle.node_store.specs.Kinds.{ZddFamily}
