@@ -4,6 +4,8 @@
 #[cfg(test)]
 mod compositions;
 #[cfg(test)]
+mod families;
+#[cfg(test)]
 mod faults;
 #[cfg(test)]
 mod numbers;
