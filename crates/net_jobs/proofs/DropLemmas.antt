@@ -37,7 +37,7 @@ drops_none start commands play said row gone stands = record {
 pub held_at : (rows : Rows) (row : ℕ) → row < length rows → is_dropped rows row ≡ false → IsHeld rows row
 held_at [] row below kept = absurd (omega arith)
 held_at (None ∷ rows) zero below kept = absurd (false≢true (sym kept))
-held_at (Some f ∷ rows) zero below kept = (f, refl)
+held_at (Some f ∷ rows) zero below kept = (f.kind, (f.edge, refl))
 held_at (row ∷ rows) (suc i) below kept = held_at rows i (omega arith) kept
 
 -- a drop makes no row

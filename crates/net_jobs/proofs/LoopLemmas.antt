@@ -24,14 +24,16 @@ use Rattle.job_text.specs.Histories.{AreNamed, Calls, Held, HistoryLine, IsNamed
 use Rattle.job_text.proofs.Effects.{EachStands, one_register_less, one_register_more, operands_of, operands_stand, same_registers}
 use Rattle.net_jobs.specs.declared.playing.Progress.{Progress}
 use Rattle.edge_bits.specs.declared.edges.Edge.{Edge}
+use Rattle.edge_bits.specs.declared.edges.Kind.{Kind}
+use Rattle.edge_bits.specs.declared.edges.Kind.TheVariants as kinds
 use Rattle.node_slots.specs.Stores.{Plain, plain_view}
-use Rattle.net_jobs.specs.Agreement.{Rows, name_of}
-use Rattle.net_jobs.specs.Playing.{CanCall, Covers, GrowsOrLeft, IsHeld, RowsGoOn, SaysOne, SaysThrough, Stands, StandsAt, call_with, makes, with_name}
+use Rattle.net_jobs.specs.Agreement.{Rows, name_of, row_of}
+use Rattle.net_jobs.specs.Playing.{CanCall, Covers, GrowsOrLeft, IsHeldAs, RowsGoOn, SaysOne, SaysThrough, Stands, StandsAt, call_with, makes, with_name}
 use Rattle.net_jobs.proofs.PlayLemmas.{grown_length}
 use Rattle.net_jobs.proofs.ListLemmas.{slice_get-push, slice_get-push_new, slice_get-push_old, slice_get-set_other}
 
 -- a register that a word stands for is a row
-held : (n : ℕ) (registers : List Register) (rows : Rows) (a : ℕ) → Covers registers rows → (word : Word) × StandsFor n registers word (operands.Register a) → IsHeld rows a
+held : (n : ℕ) (registers : List Register) (rows : Rows) (a : ℕ) → Covers registers rows → (word : Word) × StandsFor n registers word (operands.Register a) → IsHeldAs kinds.Bdd rows a
 held n registers rows a covers stands = covers.held a stands.0 stands.1.1
 
 -- variables that words stand for are variables
@@ -41,10 +43,10 @@ variables_stand n registers (v ∷ vs) each = All-cons (λ v. v < n) v vs each.0
 
 -- and so are those of pairs, whose registers are rows
 pairs_stand : (n : ℕ) (registers : List Register) (rows : Rows) (pairs : List (ℕ × ℕ)) → Covers registers rows → EachStands n registers (flat_map pair_operands pairs)
-    → All (λ pair. (pair.0 < n) × IsHeld rows pair.1) pairs
-pairs_stand n registers rows [] covers each = All-nil (λ pair. (pair.0 < n) × IsHeld rows pair.1)
+    → All (λ pair. (pair.0 < n) × IsHeldAs kinds.Bdd rows pair.1) pairs
+pairs_stand n registers rows [] covers each = All-nil (λ pair. (pair.0 < n) × IsHeldAs kinds.Bdd rows pair.1)
 pairs_stand n registers rows (pair ∷ pairs) covers each =
-    All-cons (λ pair. (pair.0 < n) × IsHeld rows pair.1) pair pairs (each.0.1.1, held n registers rows pair.1 covers each.1.0) (pairs_stand n registers rows pairs covers each.1.1)
+    All-cons (λ pair. (pair.0 < n) × IsHeldAs kinds.Bdd rows pair.1) pair pairs (each.0.1.1, held n registers rows pair.1 covers each.1.0) (pairs_stand n registers rows pairs covers each.1.1)
 
 -- what a command says lets it be called
 can_each : (n : ℕ) (registers : List Register) (rows : Rows) (act : Act) → Covers registers rows → EachStands n registers (operands_of (spelling act)) → IsProper act → CanCall n rows act
@@ -66,25 +68,25 @@ can_each n registers rows (Compose a v b) covers each proper = (held n registers
 can_each n registers rows (VectorCompose a pairs) covers each proper = (held n registers rows a covers each.0, pairs_stand n registers rows pairs covers each.1, proper.1)
 can_each n registers rows (Restrict a b) covers each proper = (held n registers rows a covers each.0, held n registers rows b covers each.1.0)
 can_each n registers rows (Support a) covers each proper = held n registers rows a covers each.0
-can_each n registers rows (Drop a) covers each proper = held n registers rows a covers each.0
-can_each n registers rows (Same a b) covers each proper = (held n registers rows a covers each.0, held n registers rows b covers each.1.0)
+can_each n registers rows (Drop a) covers each proper = (kinds.Bdd, held n registers rows a covers each.0)
+can_each n registers rows (Same a b) covers each proper = (kinds.Bdd, held n registers rows a covers each.0, held n registers rows b covers each.1.0)
 can_each n registers rows (Leq a b) covers each proper = (held n registers rows a covers each.0, held n registers rows b covers each.1.0)
-can_each n registers rows (Eval a bits) covers each proper = (held n registers rows a covers each.0, each.1.0.1.1)
+can_each n registers rows (Eval a bits) covers each proper = ((kinds.Bdd, tt, held n registers rows a covers each.0), each.1.0.1.1)
 
 pub can_call : (n : ℕ) (registers : List Register) (rows : Rows) (words : List Word) (act : Act) → Says n registers words act → Covers registers rows → CanCall n rows act
 can_call n registers rows words act says covers = can_each n registers rows act covers (operands_stand n registers words (spelling act) says.0) says.1
 
 -- a row that was held is held among more rows
-held-push : (rows : Rows) (f : Edge) (a : ℕ) → IsHeld rows a → IsHeld (rows ++ Some f ∷ []) a
-held-push rows f a held = (held.0, slice_get-push_old rows (Some f) a (slice_get_within rows a (Some held.0) held.1) ∙ held.1)
+held-push : (k j : Kind) (rows : Rows) (f : Edge) (a : ℕ) → IsHeldAs k rows a → IsHeldAs k (rows ++ Some (row_of j f) ∷ []) a
+held-push k j rows f a held = (held.0, slice_get-push_old rows (Some (row_of j f)) a (slice_get_within rows a (Some (row_of k held.0)) held.1) ∙ held.1)
 
 covers-push : (registers : List Register) (rows : Rows) (register : Register) (f : Edge) → Covers registers rows
-    → Covers (registers ++ register ∷ []) (rows ++ Some f ∷ [])
+    → Covers (registers ++ register ∷ []) (rows ++ Some (row_of kinds.Bdd f) ∷ [])
 covers-push registers rows register f covers = record {
-  as_many = length_push registers register ∙ ap (λ k. k + 1) covers.as_many ∙ sym (length_push rows (Some f));
+  as_many = length_push registers register ∙ ap (λ k. k + 1) covers.as_many ∙ sym (length_push rows (Some (row_of kinds.Bdd f)));
   held = λ a word is. ⊎_elim
-      (λ old. held-push rows f a (covers.held a word old.1))
-      (λ new. subst (λ i. IsHeld (rows ++ Some f ∷ []) i) (sym (new.0 ∙ covers.as_many)) (f, slice_get-push_new rows (Some f)))
+      (λ old. held-push kinds.Bdd kinds.Bdd rows f a (covers.held a word old.1))
+      (λ new. subst (λ i. IsHeldAs kinds.Bdd (rows ++ Some (row_of kinds.Bdd f) ∷ []) i) (sym (new.0 ∙ covers.as_many)) (f, slice_get-push_new rows (Some (row_of kinds.Bdd f))))
       (slice_get-push registers register (record { name = word; live = true }) a is);
 }
 
@@ -139,7 +141,7 @@ keeps_all (assigns command os) = false
 keeps_all (tells command os) = not (bytes_eq command (codes "drop"))
 
 module _ (n : ℕ) (registers : List Register) (old new : Rows) (words : List Word) (covers : Covers registers old) where
-  covers-assigned : (spelt : Spelling) → is_assigning spelt ≡ true → Spells n registers words spelt → (e : Edge) × (new ≡ old ++ Some e ∷ []) → Covers (registers_after registers words) new
+  covers-assigned : (spelt : Spelling) → is_assigning spelt ≡ true → Spells n registers words spelt → (e : Edge) × (new ≡ old ++ Some (row_of kinds.Bdd e) ∷ []) → Covers (registers_after registers words) new
   covers-assigned (assigns command os) is spells after =
       let more = one_register_more n registers words command os spells in
       subst (λ rs. Covers rs new) (sym more.1)
@@ -231,44 +233,44 @@ some_inner (Some register) name is =
 module _ (start p : Plain) (commands : List Command) (rows : Rows) (assigned text : List ℕ) (place : ℕ) (said : List HistoryLine)
     (stands : Stands start p commands rows assigned text place said) where
   -- a row's name is that of its register
-  named : (a : ℕ) → IsHeld rows a → IsNamed (registers_of said) a (name_of a)
-  named a held =
-      let below : a < length rows = slice_get_within rows a (Some held.0) held.1 in
+  named : (k : Kind) (a : ℕ) → IsHeldAs k rows a → IsNamed (registers_of said) a (name_of a)
+  named k a held =
+      let below : a < length rows = slice_get_within rows a (Some (row_of k held.0)) held.1 in
       let at : slice_get (map name_of (range_with_len 0 (length rows))) a ≡ Some (name_of a) =
       slice_get-get_or (map name_of (range_with_len 0 (length rows))) a (name_of a) (omega (arith, length-map-range_with_len name_of 0 (length rows)))
       ∙ ap (λ (x : Name). Some x) (get_or-map-range_with_len name_of 0 (length rows) a a (name_of a) below (zero-add a)) in
       some_inner (slice_get (registers_of said) a) (name_of a)
       (sym (slice_get-map (λ register. register.name) (registers_of said) a) ∙ ap (λ xs. slice_get xs a) stands.names ∙ at)
 
-  all_named : (pairs : List (ℕ × ℕ)) → All (λ pair. (pair.0 < (plain_view p).vars) × IsHeld rows pair.1) pairs → AreNamed (registers_of said) pairs (map with_name pairs)
+  all_named : (pairs : List (ℕ × ℕ)) → All (λ pair. (pair.0 < (plain_view p).vars) × IsHeldAs kinds.Bdd rows pair.1) pairs → AreNamed (registers_of said) pairs (map with_name pairs)
   all_named [] all = tt
   all_named (pair ∷ pairs) all = (
     refl,
-    named pair.1 (All-head (λ pair. (pair.0 < (plain_view p).vars) × IsHeld rows pair.1) pair pairs all).1,
-    all_named pairs (All-tail (λ pair. (pair.0 < (plain_view p).vars) × IsHeld rows pair.1) pair pairs all),
+    named kinds.Bdd pair.1 (All-head (λ pair. (pair.0 < (plain_view p).vars) × IsHeldAs kinds.Bdd rows pair.1) pair pairs all).1,
+    all_named pairs (All-tail (λ pair. (pair.0 < (plain_view p).vars) × IsHeldAs kinds.Bdd rows pair.1) pair pairs all),
   )
 
   calls_of : (act : Act) → CanCall (plain_view p).vars rows act → Calls (registers_of said) act (call_with act)
   calls_of One can = refl
   calls_of Zero can = refl
   calls_of (Var v) can = refl
-  calls_of (Not a) can = (name_of a, named a can, refl)
-  calls_of (And a b) can = (name_of a, name_of b, named a can.0, named b can.1, refl)
-  calls_of (Or a b) can = (name_of a, name_of b, named a can.0, named b can.1, refl)
-  calls_of (Xor a b) can = (name_of a, name_of b, named a can.0, named b can.1, refl)
-  calls_of (Ite a b c) can = (name_of a, name_of b, name_of c, named a can.0, named b can.1, named c can.2, refl)
-  calls_of (Cofactor a v b) can = (name_of a, named a can.0, refl)
-  calls_of (Exists a vs) can = (name_of a, named a can.0, refl)
-  calls_of (Forall a vs) can = (name_of a, named a can.0, refl)
-  calls_of (AndExists a b vs) can = (name_of a, name_of b, named a can.0, named b can.1, refl)
-  calls_of (Compose a v b) can = (name_of a, name_of b, named a can.0, named b can.1, refl)
-  calls_of (VectorCompose a pairs) can = (name_of a, map with_name pairs, named a can.0, all_named pairs can.1, refl)
-  calls_of (Restrict a b) can = (name_of a, name_of b, named a can.0, named b can.1, refl)
-  calls_of (Support a) can = (name_of a, named a can, refl)
-  calls_of (Drop a) can = (name_of a, named a can, refl)
-  calls_of (Same a b) can = (name_of a, name_of b, named a can.0, named b can.1, refl)
-  calls_of (Leq a b) can = (name_of a, name_of b, named a can.0, named b can.1, refl)
-  calls_of (Eval a bits) can = (name_of a, named a can.0, refl)
+  calls_of (Not a) can = (name_of a, named kinds.Bdd a can, refl)
+  calls_of (And a b) can = (name_of a, name_of b, named kinds.Bdd a can.0, named kinds.Bdd b can.1, refl)
+  calls_of (Or a b) can = (name_of a, name_of b, named kinds.Bdd a can.0, named kinds.Bdd b can.1, refl)
+  calls_of (Xor a b) can = (name_of a, name_of b, named kinds.Bdd a can.0, named kinds.Bdd b can.1, refl)
+  calls_of (Ite a b c) can = (name_of a, name_of b, name_of c, named kinds.Bdd a can.0, named kinds.Bdd b can.1, named kinds.Bdd c can.2, refl)
+  calls_of (Cofactor a v b) can = (name_of a, named kinds.Bdd a can.0, refl)
+  calls_of (Exists a vs) can = (name_of a, named kinds.Bdd a can.0, refl)
+  calls_of (Forall a vs) can = (name_of a, named kinds.Bdd a can.0, refl)
+  calls_of (AndExists a b vs) can = (name_of a, name_of b, named kinds.Bdd a can.0, named kinds.Bdd b can.1, refl)
+  calls_of (Compose a v b) can = (name_of a, name_of b, named kinds.Bdd a can.0, named kinds.Bdd b can.1, refl)
+  calls_of (VectorCompose a pairs) can = (name_of a, map with_name pairs, named kinds.Bdd a can.0, all_named pairs can.1, refl)
+  calls_of (Restrict a b) can = (name_of a, name_of b, named kinds.Bdd a can.0, named kinds.Bdd b can.1, refl)
+  calls_of (Support a) can = (name_of a, named kinds.Bdd a can, refl)
+  calls_of (Drop a) can = (name_of a, named can.0 a can.1, refl)
+  calls_of (Same a b) can = (name_of a, name_of b, named can.0 a can.1, named can.0 b can.2, refl)
+  calls_of (Leq a b) can = (name_of a, name_of b, named kinds.Bdd a can.0, named kinds.Bdd b can.1, refl)
+  calls_of (Eval a bits) can = (name_of a, named can.0.0 a can.0.2, refl)
 
   -- the commands were said in order, with one more
   pub in_order-after : (line : HistoryLine) (command : Command) → SayInOrder (registers_of said) said commands → slice_get commands (length said) ≡ Some command

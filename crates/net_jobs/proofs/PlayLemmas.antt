@@ -7,6 +7,7 @@ use Rattle.std.specs.List.{All}
 use Rattle.std.proofs.lemmas.List.{length_push}
 use Rattle.std.proofs.lemmas.List.Elements.{All-map}
 use Rattle.edge_bits.specs.declared.edges.Edge.{Edge}
+use Rattle.edge_bits.specs.declared.edges.Kind.{Kind}
 use Rattle.edge_bits.specs.declared.edges.Kind.TheVariants as kinds
 use Rattle.function_laws.specs.declared.history.Name.{Name}
 use Rattle.function_laws.specs.declared.history.Call.{Call}
@@ -23,12 +24,13 @@ use Rattle.node_store.specs.declared.grow.Stop.{Stop}
 use Rattle.node_store.specs.declared.grow.Stop.TheVariants as stop
 use Rattle.node_slots.specs.Views.{View, Grown, Is}
 use Rattle.net_jobs.specs.declared.playing.Answer.{Answer}
+use Rattle.net_jobs.specs.declared.session.Row.{Row}
 use Rattle.net_jobs.specs.declared.session.Session.{Session}
 use Rattle.node_slots.specs.Stores.{plain_view}
-use Rattle.net_jobs.specs.Agreement.{Adds, AreStored, GivesName, IsLive, IsStepOf, Refuses, Rows}
-use Rattle.net_jobs.specs.Playing.{GrowsOrLeft, IsAnswered, IsHeld, RowsAfter, RowsGoOn, call_with, makes, rows_left, with_name}
+use Rattle.net_jobs.specs.Agreement.{Adds, AreStored, GivesName, IsLiveOf, IsStepOf, Refuses, Rows, row_of}
+use Rattle.net_jobs.specs.Playing.{GrowsOrLeft, IsAnswered, IsHeldAs, RowsAfter, RowsGoOn, call_with, made_kind, makes, rows_left, with_name}
 use Rattle.net_jobs.proofs.ListLemmas.{slice_get-push, slice_get-set}
-use Rattle.net_jobs.proofs.SessionLemmas.{stored-grown}
+use Rattle.net_jobs.proofs.AgreementLemmas.{stored-grown}
 
 and_none : (b : Bool) → (b && false) ≡ false
 and_none true = refl
@@ -40,25 +42,25 @@ left_if_makes rows (Drop a) made = cc
 left_if_makes rows act made = refl
 
 -- one more row that is stored
-stored-push : (w : View) (rows : Rows) (e : Edge) → AreStored w rows → Is kinds.Bdd w e → AreStored w (rows ++ Some e ∷ [])
-stored-push w rows e stored is row x has = ⊎_elim
-    (λ old. stored row x old.1)
-    (λ new. let same : e ≡ x = cc in subst (λ (y : Edge). Is kinds.Bdd w y) same is)
-    (slice_get-push rows (Some e) (Some x) row has)
+stored-push : (w : View) (rows : Rows) (k : Kind) (e : Edge) → AreStored w rows → Is k w e → AreStored w (rows ++ Some (row_of k e) ∷ [])
+stored-push w rows k e stored is row j x has = ⊎_elim
+    (λ old. stored row j x old.1)
+    (λ new. let same : row_of k e ≡ row_of j x = cc in subst (λ (y : Row). Is y.kind w y.edge) same is)
+    (slice_get-push rows (Some (row_of k e)) (Some (row_of j x)) row has)
 
 -- a row that was dropped
 pub stored-set : (w : View) (rows : Rows) (a : ℕ) → AreStored w rows → AreStored w (set rows a None)
-stored-set w rows a stored row x has = ⊎_elim
-    (λ same. let never : None ≡ Some x = same.1 in cc)
-    (λ other. stored row x other.1)
-    (slice_get-set rows None (Some x) a row has)
+stored-set w rows a stored row k x has = ⊎_elim
+    (λ same. let never : None ≡ Some (row_of k x) = same.1 in cc)
+    (λ other. stored row k x other.1)
+    (slice_get-set rows None (Some (row_of k x)) a row has)
 
 -- a reply that gives a name is told as done
 told_name : (answer : LawReply) (name : Name) → GivesName answer name → (told_of answer ≡ Some reply.Done) × (given_by answer ≡ Some name)
 told_name answer name (inl made) = (ap told_of made, ap given_by made)
 told_name answer name (inr chosen) = (ap told_of chosen.1, ap given_by chosen.1)
 
-pub answered-made : (w w' : View) (old new : Rows) (act : Act) (name : Name) → makes act ≡ true → Grown w w' → AreStored w old → Adds w old w' new (call_with act) name
+pub answered-made : (w w' : View) (old new : Rows) (act : Act) (name : Name) → makes act ≡ true → Grown w w' → AreStored w old → Adds (made_kind act) w old w' new (call_with act) name
     → IsAnswered w old w' new act (record { reply = reply.Done; made = true })
 answered-made w w' old new act name made grown stored adds = record {
   reply = adds.reply;
@@ -67,7 +69,7 @@ answered-made w w' old new act name made grown stored adds = record {
   step = adds.step;
   rows = ((told_name adds.reply name adds.gives).1 ∙ ap Some adds.name_is, (adds.row.0, adds.row.1));
   grown = grown;
-  stored = subst (λ (rows : Rows). AreStored w' rows) (sym adds.row.1) (stored-push w' old adds.row.0 (stored-grown w w' old grown stored) adds.row.2);
+  stored = subst (λ (rows : Rows). AreStored w' rows) (sym adds.row.1) (stored-push w' old (made_kind act) adds.row.0 (stored-grown w w' old grown stored) adds.row.2);
   full = λ e. cc;
 }
 
@@ -93,23 +95,25 @@ makes_default (Eval a bits) not_drop not_same not_leq not_eval = absurd (not_eva
 makes_default act not_drop not_same not_leq not_eval = refl
 
 -- the call that was made is the command's
-pub adds_as : (old new : Session) (act : Act) (call : Call) (result : Result Name Stop) → call ≡ call_with act
-    → IfOk result (λ name. Adds (plain_view old.store) old.rows.items (plain_view new.store) new.rows.items call name)
-    → IfOk result (λ name. Adds (plain_view old.store) old.rows.items (plain_view new.store) new.rows.items (call_with act) name)
-adds_as old new act call result is adds =
-    subst (λ (c : Call). IfOk result (λ name. Adds (plain_view old.store) old.rows.items (plain_view new.store) new.rows.items c name)) is adds
+pub adds_as : (old new : Session) {act other : Act} (call : Call) (result : Result Name Stop) → act ≡ other → call ≡ call_with other
+    → IfOk result (λ name. Adds (made_kind other) (plain_view old.store) old.rows.items (plain_view new.store) new.rows.items call name)
+    → IfOk result (λ name. Adds (made_kind act) (plain_view old.store) old.rows.items (plain_view new.store) new.rows.items (call_with act) name)
+adds_as old new {act} {other} call result is called adds =
+    subst (λ (a : Act). IfOk result (λ name. Adds (made_kind a) (plain_view old.store) old.rows.items (plain_view new.store) new.rows.items (call_with a) name)) (sym is)
+    (subst (λ (c : Call). IfOk result (λ name. Adds (made_kind other) (plain_view old.store) old.rows.items (plain_view new.store) new.rows.items c name)) called adds)
 
-pub refuses_as : (old new : Session) (act : Act) (call : Call) → call ≡ call_with act → Refuses (plain_view old.store) old.rows.items (plain_view new.store) new.rows.items call
+pub refuses_as : (old new : Session) {act other : Act} (call : Call) → act ≡ other → call ≡ call_with other
+    → Refuses (plain_view old.store) old.rows.items (plain_view new.store) new.rows.items call
     → Refuses (plain_view old.store) old.rows.items (plain_view new.store) new.rows.items (call_with act)
-refuses_as old new act call is refuses =
-    subst (λ (c : Call). Refuses (plain_view old.store) old.rows.items (plain_view new.store) new.rows.items c) is refuses
+refuses_as old new {act} {other} call is called refuses =
+    subst (λ (c : Call). Refuses (plain_view old.store) old.rows.items (plain_view new.store) new.rows.items c) (called ∙ sym (ap call_with is)) refuses
 
 -- the variables of a vcompose, and the rows of its registers
-pub pair_variables : (n : ℕ) (rows : Rows) (pairs : List (ℕ × ℕ)) → All (λ pair. (pair.0 < n) × IsHeld rows pair.1) pairs → All (λ pair. pair.0 < n) (map with_name pairs)
+pub pair_variables : (n : ℕ) (rows : Rows) (pairs : List (ℕ × ℕ)) → All (λ pair. (pair.0 < n) × IsHeldAs kinds.Bdd rows pair.1) pairs → All (λ pair. pair.0 < n) (map with_name pairs)
 pair_variables n rows pairs all = All-map (λ pair. pair.0 < n) with_name pairs (λ k d below. (all k d below).0)
 
-pub pair_rows : (n : ℕ) (rows : Rows) (pairs : List (ℕ × ℕ)) → All (λ pair. (pair.0 < n) × IsHeld rows pair.1) pairs → All (λ pair. IsLive rows pair.1) (map with_name pairs)
-pair_rows n rows pairs all = All-map (λ pair. IsLive rows pair.1) with_name pairs (λ k d below. (refl, (all k d below).1))
+pub pair_rows : (n : ℕ) (rows : Rows) (pairs : List (ℕ × ℕ)) → All (λ pair. (pair.0 < n) × IsHeldAs kinds.Bdd rows pair.1) pairs → All (λ pair. IsLiveOf kinds.Bdd rows pair.1) (map with_name pairs)
+pair_rows n rows pairs all = All-map (λ pair. IsLiveOf kinds.Bdd rows pair.1) with_name pairs (λ k d below. (refl, (all k d below).1))
 
 names : (pairs : List (ℕ × ℕ)) → map (λ pair. pair.0) (map with_name pairs) ≡ map (λ pair. pair.0) pairs
 names [] = refl
@@ -120,7 +124,7 @@ pair_distinct pairs distinct = ap are_distinct (names pairs) ∙ distinct
 
 -- a command that makes a row, and what it is answered
 pub answered-operated : (w w' : View) (old new : Rows) (act : Act) (made : Result Name Stop) (result : Result Answer Memory) → makes act ≡ true → Grown w w' → AreStored w old
-    → IfOk made (λ name. Adds w old w' new (call_with act) name) → (IsErrOf made stop.Full → Refuses w old w' new (call_with act))
+    → IfOk made (λ name. Adds (made_kind act) w old w' new (call_with act) name) → (IsErrOf made stop.Full → Refuses w old w' new (call_with act))
     → IfOk result (λ answer. MatchResult made (λ _. answer ≡ record { reply = reply.Done; made = true }) (λ x. (x ≡ stop.Full) × (answer ≡ record { reply = reply.Full; made = false })))
     → IfOk result (λ answer. IsAnswered w old w' new act answer)
 answered-operated w w' old new act made (Err x) makes_one grown stored adds refuses is = tt
@@ -180,7 +184,7 @@ left_length rows act = refl
 
 -- at most one more row
 pub grown_length : (made : Bool) (old new : Rows) (act : Act) → GrowsOrLeft made old new act → length new ≤ length old + 1
-grown_length true old new act after = omega (arith, ap length after.1, length_push old (Some after.0))
+grown_length true old new act after = omega (arith, ap length after.1, length_push old (Some (row_of (made_kind act) after.0)))
 grown_length false old new act after = omega (arith, ap length after, left_length old act)
 
 pub answered-few : (w w' : View) (old new : Rows) (act : Act) (answer : Answer) → IsAnswered w old w' new act answer → length new ≤ length old + 1

@@ -1,6 +1,7 @@
 //! The commands of a job, one after another, and the text of their history.
 
 ghost use Rattle.std.specs.Prelude.{◌≡◌, ◌≢◌, ◌<◌, ◌≤◌, ◌^◌, ◌+◌, ◌++◌, [], length, string_bytes, vec_len, All, slice_get, IfOk, IfSome, IsErrOf, MatchResult, OnOk, true, false, Some, not, map, List as ListOf, ◌∷◌, codes, ℕ};
+ghost use Rattle.edge_bits.specs.declared.edges.Kind.TheVariants as kinds;
 ghost use Rattle.job_text.specs.declared.job.Act.TheVariants as acts;
 ghost use Rattle.job_text.specs.Grammar.{CommandsSay, IsJob, target_of};
 ghost use Rattle.job_text.specs.Histories.{HistoryLine, drop_of, left_of, line_text, stops, told_of};
@@ -8,7 +9,7 @@ ghost use Rattle.function_laws.specs.declared.history.Reply.TheVariants as laws;
 ghost use Rattle.node_slots.specs.Stores.{IsOpening, Plain, plain_view};
 ghost use Rattle.node_slots.specs.Views.{Grown};
 ghost use Rattle.net_jobs.specs.Agreement.{Adds, AreStored, IsFilled, Refuses, is_dropped, name_of};
-ghost use Rattle.net_jobs.specs.Playing.{CanCall, DropsOne, DropsTheRest, IsAnswered, PlaysOver, RowsGoOn, SaysOne, SaysThrough, StandsAt, assigned_after, call_with, makes, target_at, with_name};
+ghost use Rattle.net_jobs.specs.Playing.{CanCall, DropsOne, DropsTheRest, IsAnswered, PlaysOver, RowsGoOn, SaysOne, SaysThrough, StandsAt, assigned_after, call_with, made_kind, makes, target_at, with_name};
 
 use crate::gate::Gate;
 use crate::session::Session;
@@ -79,7 +80,7 @@ fn vector_compose(session: &mut Session, a: u32, pairs: &[(u32, u32)]) -> Result
     requires can { CanCall (plain_view session.old.store).vars session.old.rows.items (acts.VectorCompose a pairs.now) }
     requires stored { AreStored (plain_view session.old.store) session.old.rows.items }
     requires room { vec_len session.old.rows < 2 ^ 32 }
-    ensures ok { IfOk result (λ name. Adds (plain_view session.old.store) session.old.rows.items (plain_view session.new.store) session.new.rows.items (call_with (acts.VectorCompose a pairs.now)) name) }
+    ensures ok { IfOk result (λ name. Adds kinds.Bdd (plain_view session.old.store) session.old.rows.items (plain_view session.new.store) session.new.rows.items (call_with (acts.VectorCompose a pairs.now)) name) }
     ensures full { IsErrOf result Stop.Full → Refuses (plain_view session.old.store) session.old.rows.items (plain_view session.new.store) session.new.rows.items (call_with (acts.VectorCompose a pairs.now)) }
     ensures filled { IsErrOf result Stop.Full → IsFilled session.new.store }
     ensures grown { Grown (plain_view session.old.store) (plain_view session.new.store) }
@@ -96,7 +97,7 @@ fn operate(session: &mut Session, act: &Act) -> Result<Name, Stop>
     requires makes { makes act.now ≡ true }
     requires stored { AreStored (plain_view session.old.store) session.old.rows.items }
     requires room { vec_len session.old.rows < 2 ^ 32 }
-    ensures ok { IfOk result (λ name. Adds (plain_view session.old.store) session.old.rows.items (plain_view session.new.store) session.new.rows.items (call_with act.now) name) }
+    ensures ok { IfOk result (λ name. Adds (made_kind act.now) (plain_view session.old.store) session.old.rows.items (plain_view session.new.store) session.new.rows.items (call_with act.now) name) }
     ensures full { IsErrOf result Stop.Full → Refuses (plain_view session.old.store) session.old.rows.items (plain_view session.new.store) session.new.rows.items (call_with act.now) }
     ensures filled { IsErrOf result Stop.Full → IsFilled session.new.store }
     ensures grown { Grown (plain_view session.old.store) (plain_view session.new.store) }

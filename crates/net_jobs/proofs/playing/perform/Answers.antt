@@ -9,7 +9,7 @@ use Rattle.node_store.specs.ViewLaws.{Grown-refl}
 use Rattle.net_jobs.specs.Agreement.{AreStored, IsFilled, Rows}
 use Rattle.net_jobs.specs.Playing.{IsAnswered, call_with, makes, rows_left}
 use Rattle.net_jobs.proofs.PlayLemmas.{answered-operated, answered-other, filled-operated, makes_default, stored-set}
-use Rattle.net_jobs.proofs.SessionLemmas.{stored-grown}
+use Rattle.net_jobs.proofs.AgreementLemmas.{stored-grown}
 use Rattle.net_jobs.proofs.playing.perform.Goals as goal
 
 pub returns-in_default-clause-ok : goal.returns-in_default-clause-ok

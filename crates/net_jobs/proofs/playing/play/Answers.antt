@@ -22,6 +22,5 @@ returns g c =
     let at : slice_get c.as_slice.result.now 0 ≡ Some item =
     slice_get_read c.as_slice.result.now (length c.as_slice.result.now) 0 item refl (omega (arith, c.in-len1.len_at_least)) c.section-item.is in
     let section : slice_get job.sections 0 ≡ Some commands = ap (λ xs. slice_get xs 0) (sym c.as_slice.ensures) ∙ at ∙ ap (λ cs. Some cs) (sym c.as_slice-commands.ensures) in
-    let vars = c.in_ok-say_all.ensures.vars ∙ opening_vars job c.args.store c.requires.opened in
     plays_over job c.args.store commands c.say_all.new.play c.drop_all.new.play c.requires.job section
-    vars c.requires.opened.slots_are c.in_ok-drop_all.ensures.vars c.in_ok-say_all.ensures.said c.in_ok-drop_all.ensures.said
+    c.requires.opened c.in_ok-say_all.ensures.said c.in_ok-drop_all.ensures.said
