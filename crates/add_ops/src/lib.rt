@@ -3,9 +3,11 @@
 
 mod arithmetic;
 mod choices;
+mod conversion;
 mod leaves;
 mod operations;
 mod products;
+mod truths;
 
 pub use arithmetic::Overflow;
-pub use operations::{constant, max, min, minus, plus, threshold, times};
+pub use operations::{constant, from_bdd, max, min, minus, pattern, plus, threshold, times};
