@@ -1,18 +1,18 @@
 -- Truth functions as functions of numbers, and what functions of numbers tell.
-use Rattle.std.proofs.Common.{◌≡◌, ℕ, eqb, ℤ, pos, negsuc, Bool, true, false, not, refl, ap, sym, ◌∙◌, subst, arith, SFits, of_z, w64}
-use Rattle.std.specs.Prelude.{if◌then◌else◌}
+use Rattle.std.proofs.Common.{◌≡◌, ℕ, eqb, ℤ, pos, negsuc, Bool, true, false, not, refl, ap, sym, ◌∙◌, subst, arith, SFits, of_z, to_z, w64}
+use Rattle.std.specs.Prelude.{if◌then◌else◌, int_le}
 use Rattle.std.proofs.lemmas.Int.{ints}
 use Rattle.edge_bits.specs.declared.edges.Edge.{Edge}
 use Rattle.edge_bits.specs.declared.edges.Kind.TheVariants.{Bdd, Add}
 use Rattle.computed_cache.specs.declared.Key.{Key}
-use Rattle.function_laws.specs.Numbers.{from_truth, is_zero, pattern}
+use Rattle.function_laws.specs.Numbers.{at_least, from_truth, is_zero, pattern}
 use Rattle.function_laws.specs.Values.{constant}
 use Rattle.node_store.specs.Memo.{NumberHolds}
 use Rattle.node_store.specs.Numbers.{from_bdd_number, pattern_number}
 use Rattle.node_store.specs.Views.{View, Denotes, IsLeafOf, Permanent, logic_one, logic_zero, number}
 use Rattle.node_store.specs.ViewLaws.{Denotes-truth}
 use Rattle.add_ops.specs.Conversions.{IsKeyOf}
-use Rattle.add_ops.proofs.LeafLaws.{one_leaf, zero_leaf}
+use Rattle.add_ops.proofs.LeafLaws.{one_leaf, order_passed, zero_leaf}
 
 -- the keys
 pub from_truth_key : (f : Edge) (key : Key) → key ≡ record { op = from_bdd_number; f = f; g = f; h = f } → IsKeyOf Bdd Add (λ b. if b then pos 1 else pos 0) f key
@@ -61,3 +61,9 @@ twice false = refl
 pub non_zero : (w : View) → Permanent w → (e r : Edge) (f : ℕ → ℤ) (x : ℤ) → SFits w64 x → r ≡ record { index = 0; complement = eqb (of_z w64 x) 0 } → IsLeafOf Add e f x → Denotes Bdd w r (pattern f)
 non_zero w p _ r _ _ fits is (number e x) =
     subst (λ y. Denotes Bdd w y (constant (not (is_zero x)))) (ap (λ b. record { index = 0; complement = b }) (sym (zero_test x fits ∙ twice (is_zero x))) ∙ sym is) (Denotes-truth w p (not (is_zero x)))
+
+-- a test for a bound, of numbers that were passed by value
+pub reaches_bound : (w : View) → Permanent w → (e r : Edge) (f : ℕ → ℤ) (x y : ℤ) → SFits w64 x → SFits w64 y → r ≡ record { index = 0; complement = not (int_le (to_z w64 (of_z w64 y)) (to_z w64 (of_z w64 x))) }
+    → IsLeafOf Add e f x → Denotes Bdd w r (at_least f y)
+reaches_bound w p _ r _ _ y fx fy is (number e x) =
+    subst (λ a. Denotes Bdd w a (constant (int_le y x))) (ap (λ b. record { index = 0; complement = not b }) (sym (order_passed y x fy fx)) ∙ sym is) (Denotes-truth w p (int_le y x))

@@ -7,7 +7,10 @@ mod conversion;
 mod leaves;
 mod operations;
 mod products;
+mod remembered;
 mod truths;
 
 pub use arithmetic::Overflow;
-pub use operations::{constant, from_bdd, max, min, minus, pattern, plus, threshold, times};
+pub use operations::{
+    at_least, constant, from_bdd, max, min, minus, pattern, plus, threshold, times,
+};

@@ -3,7 +3,7 @@
 ghost use Rattle.std.specs.Prelude.{◌≡◌, ◌+ℤ◌, ◌-ℤ◌, ◌*ℤ◌, if◌then◌else◌, int_le, not, pos, IfOk, IfErr, IsErrOf};
 ghost use Rattle.edge_bits.specs.Words.{IsLeafValue};
 ghost use Rattle.edge_bits.specs.declared.edges.Kind.TheVariants.{Add, Bdd};
-ghost use Rattle.function_laws.specs.Numbers.{from_truth, greater, is_zero, lesser, minus as difference_of, pattern as pattern_of, plus as sum_of, threshold as threshold_of, times as product_of};
+ghost use Rattle.function_laws.specs.Numbers.{at_least as reaches, from_truth, greater, is_zero, lesser, minus as difference_of, pattern as pattern_of, plus as sum_of, threshold as threshold_of, times as product_of};
 ghost use Rattle.function_laws.specs.Values.{constant as constant_of};
 ghost use Rattle.node_store.specs.Two.{Overflows, value_of_two};
 ghost use Rattle.node_store.specs.Views.{AreTwo, Denotes, Grown, Is, Rose, add_at, bdd_at};
@@ -15,7 +15,8 @@ use crate::arithmetic::{Addition, Overflow, Subtraction};
 use crate::choices::{Maximum, Minimum, Reaching};
 use crate::conversion::call_conversion;
 use crate::products::Multiplication;
-use crate::truths::{Indicator, NonZero};
+use crate::remembered::call_remembering;
+use crate::truths::{Indicator, LowerBound, NonZero};
 use edge_bits::{Edge, Kind};
 use node_store::operator::Halt;
 use node_store::pointwise::call_place_by_place;
@@ -160,4 +161,16 @@ pub fn pattern<G: Grow>(store: &mut G, f: Edge) -> Result<Edge, Stop>
     ensures due { IsErrOf result Stop.Full → IsWork (G.view store.new) (value_of_one Add Bdd (λ z. not (is_zero z)) f (G.view store.old)) (G.view store.new).due }
 {
     call_conversion(store, Kind::Add, NonZero, f)
+}
+
+/// The truth function that holds where a function of numbers is at least this value, which may be any. What it stores are parts of that function by the first variables of the order, up to complement.
+pub fn at_least<G: Grow>(store: &mut G, f: Edge, value: i64) -> Result<Edge, Stop>
+    requires { Is Add (G.view store.old) f }
+    ensures grown { Grown (G.view store.old) (G.view store.new) }
+    ensures at_least { IfOk result (λ e. Denotes Bdd (G.view store.new) e (reaches (add_at (G.view store.old) f) value)) }
+    ensures work { Adds (value_of_one Add Bdd (λ z. int_le value z) f (G.view store.old)) (G.view store.old) (G.view store.new) }
+    ensures full { IsErrOf result Stop.Full → Rose (G.view store.old) (G.view store.new) }
+    ensures due { IsErrOf result Stop.Full → IsWork (G.view store.new) (value_of_one Add Bdd (λ z. int_le value z) f (G.view store.old)) (G.view store.new).due }
+{
+    call_remembering(store, Kind::Add, LowerBound { bound: value }, f)
 }

@@ -66,6 +66,36 @@ impl Conversion for NonZero {
     ghost on_variables = { tt };
 }
 
+/// Where a function of numbers reaches a bound, as the evaluator runs it. Its answers stand in the table of the call, since no key has room for the bound.
+#[derive(Drop)]
+pub(crate) struct LowerBound {
+    pub bound: i64,
+}
+
+impl Conversion for LowerBound {
+    ghost use Rattle.std.specs.Prelude.{int_le};
+    ghost use Rattle.edge_bits.specs.declared.edges.Kind.TheVariants.{Add, Bdd};
+
+    ghost source = { Add };
+
+    ghost target = { Bdd };
+
+    ghost op = { λ o z. int_le o.bound z };
+
+    fn at_leaf(&self, number: i64) -> Edge {
+        let reaches = self.bound <= number;
+        Edge::new(0, !reaches)
+    }
+
+    fn key(&self, _f: Edge) -> Option<Key> {
+        None
+    }
+
+    ghost from_variables = { tt };
+
+    ghost on_variables = { tt };
+}
+
 fn key_of(op: u8, f: Edge) -> Key
     ensures { result ≡ record { op = op; f = f; g = f; h = f } }
 {
