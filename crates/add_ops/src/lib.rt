@@ -8,6 +8,7 @@ mod leaves;
 mod operations;
 mod products;
 mod remembered;
+mod selection;
 mod truths;
 
 pub use arithmetic::Overflow;
