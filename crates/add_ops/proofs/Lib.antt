@@ -1,1 +1,3 @@
 pub mod LeafLaws
+mod ConversionLaws
+mod TruthLaws

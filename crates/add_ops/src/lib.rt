@@ -3,9 +3,15 @@
 
 mod arithmetic;
 mod choices;
+mod conversion;
 mod leaves;
 mod operations;
 mod products;
+mod remembered;
+mod selection;
+mod truths;
 
 pub use arithmetic::Overflow;
-pub use operations::{constant, max, min, minus, plus, threshold, times};
+pub use operations::{
+    at_least, constant, from_bdd, max, min, minus, pattern, plus, threshold, times,
+};
