@@ -1,6 +1,6 @@
 //! The registers of a section.
 
-ghost use Rattle.std.specs.Prelude.{◌≡◌, ◌≢◌, All, ◌∷◌, [], ◌<◌, ◌≤◌, ◌^◌, length, map, codes, IfOk, IfErr, IfSome, MatchOption, true, false, None, Some};
+ghost use Rattle.std.specs.Prelude.{◌≡◌, ◌≢◌, All, ◌∷◌, [], ◌<◌, ◌≤◌, ◌^◌, length, map, position, codes, IfOk, IfErr, IfSome, MatchOption, true, false, None, Some};
 ghost use Rattle.std.specs.List.{list_any, position_or_len};
 ghost use Rattle.job_text.specs.Text.{is_name};
 ghost use Rattle.job_text.specs.Grammar.{Refers, is_assignment, is_called, is_drop, kind_at, register_made, registers_after, without};
@@ -36,15 +36,19 @@ pub fn is_assigned(registers: &[Register], word: &[u8]) -> bool
     has_name(registers, word)
 }
 
+fn position_of(registers: &[Register], word: &[u8]) -> Option<usize>
+    ensures { result ≡ position (is_called word.now) registers.now }
+{
+    registers
+        .iter()
+        .position(|register| register.name.as_slice() == word)
+}
+
 /// The place of the first register of this name, or their number.
 fn place_of(registers: &[Register], word: &[u8]) -> usize
-    ensures place { result ≡ position_or_len (is_called word.now) registers.now }
-    ensures within { result ≤ length registers.now }
+    ensures { result ≡ position_or_len (is_called word.now) registers.now }
 {
-    let found = registers
-        .iter()
-        .position(|register| register.name.as_slice() == word);
-    found.unwrap_or(registers.len())
+    position_of(registers, word).unwrap_or(registers.len())
 }
 
 /// The register of the name, where it was not dropped.
@@ -55,15 +59,16 @@ pub fn find_register(registers: &[Register], word: &[u8]) -> Option<Found>
     ensures fault { MatchOption result (name_fault (register_called registers.now word.now) ≡ Some kinds.Name) (λ found. (name_fault (register_called registers.now word.now) ≡ None) × (kind_called registers.now word.now ≡ found.kind)) }
 {
     let place = place_of(registers, word);
-    let register = registers.get(place)?;
-    if register.live {
-        Some(Found {
-            number: place as u32,
-            kind: register.kind,
-        })
-    } else {
-        None
+    let Some(register) = registers.get(place) else {
+        return None;
+    };
+    if !register.live {
+        return None;
     }
+    Some(Found {
+        number: place as u32,
+        kind: register.kind,
+    })
 }
 
 /// The kind of the register of this number.
