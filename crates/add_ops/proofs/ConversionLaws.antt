@@ -12,7 +12,6 @@ use Rattle.node_store.specs.Views.{View, CanMake, Denotes, Grown, Is, IsBelow, I
 use Rattle.node_store.specs.ViewLaws.{Denotes-grown, Grown-refl, Grown-trans, Is-from, Is-grown, IsVariable-grown, Splits-grown, levels-grown, top-grown, values_at-grown, values_at-is}
 use Rattle.node_store.specs.Work.{IsWork, Adds, Moves}
 use Rattle.node_store.specs.WorkLaws.{IsPart-grown, IsPart-half, IsWork-due, IsWork-grown, Moves-made}
-use Rattle.node_store.specs.declared.grow.Stop.{Stop}
 use Rattle.node_store.specs.declared.operator.Task.{Task}
 use Rattle.add_ops.specs.Conversions.{converted, converted_at, value_of_one, OneDue, OneAnswers, OneSplits, one_depth}
 use Rattle.add_ops.specs.ConversionLasts.{converted_at-grown, OneDue-stays}
@@ -146,6 +145,6 @@ if_some P Q (Some x) more h = more x h
 if_some P Q None more h = h
 
 -- an answer lasts to the end, and is that of the operand at the start
-pub lasts : (k : Kind) (f h : ℕ → ValueOf k) (c d : View) → Grown c d → f ≡ h → (r : Result Edge Stop) → IfOk r (λ e. Denotes k c e f) → IfOk r (λ e. Denotes k d e h)
+pub lasts : {E : Type 0} (k : Kind) (f h : ℕ → ValueOf k) (c d : View) → Grown c d → f ≡ h → (r : Result Edge E) → IfOk r (λ e. Denotes k c e f) → IfOk r (λ e. Denotes k d e h)
 lasts k f h c d m same (Ok e) is = subst (λ x. Denotes k d e x) same (Denotes-grown k m is)
-lasts k f h c d m same (Err stop) is = is
+lasts k f h c d m same (Err e) is = is

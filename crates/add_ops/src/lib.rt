@@ -9,9 +9,10 @@ mod operations;
 mod products;
 mod remembered;
 mod selection;
+mod summation;
 mod truths;
 
 pub use arithmetic::Overflow;
 pub use operations::{
-    at_least, constant, from_bdd, max, min, minus, pattern, plus, threshold, times,
+    at_least, constant, from_bdd, max, min, minus, pattern, plus, sum_over, threshold, times,
 };
