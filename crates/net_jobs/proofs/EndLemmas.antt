@@ -10,13 +10,14 @@ use Rattle.std.proofs.lemmas.Option.{slice_get_within}
 use Rattle.function_laws.specs.Tables.{Sizes}
 use Rattle.function_laws.specs.Histories.{IsLegal}
 use Rattle.job_text.specs.declared.job.Command.{Command}
+use Rattle.job_text.specs.declared.job.Counts.{Counts}
 use Rattle.job_text.specs.declared.job.Job.{Job}
-use Rattle.job_text.specs.Grammar.{CommandsSay, IsJob}
+use Rattle.job_text.specs.Grammar.{CommandsSay, IsJob, counts_of}
 use Rattle.job_text.specs.Histories.{Held, HistoryLine, IsHistory, IsPlayed, IsSession, left_text, registers_of, sizes_of, told_of}
 use Rattle.net_jobs.specs.declared.playing.Progress.{Progress}
 use Rattle.node_slots.specs.Stores.{IsOpening, Plain, plain_view}
 use Rattle.net_jobs.specs.Agreement.{name_of, sizes_for}
-use Rattle.net_jobs.specs.Playing.{CallsLead, DropsTheRest, PlaysOver, SaysThrough, Stands, StandsAt, sizes_at}
+use Rattle.net_jobs.specs.Playing.{CallsLead, DropsTheRest, PlaysOver, SaysThrough, Stands, StandsAt, counts_at, counts_with, sizes_at}
 
 -- at the beginning nothing was said
 pub stands_first : (p : Plain) (commands : List Command) → Stands p p commands [] [] [] 0 []
@@ -62,19 +63,20 @@ opening_sizes : (job : Job) (p : Plain) → IsOpening job.vars job.elements job.
 opening_sizes job p opened =
     ap₂ sizes_for (ap length opened.variable_levels ∙ length-range_with_len 0 job.vars) (ap length opened.element_levels ∙ length-range_with_len 0 job.elements)
 
-pub opening_vars : (job : Job) (p : Plain) → IsOpening job.vars job.elements job.limit p → (plain_view p).vars ≡ job.vars
-opening_vars job p opened = ap (λ (z : Sizes). z.variables) (opening_sizes job p opened)
+opening_counts : (job : Job) (p : Plain) → IsOpening job.vars job.elements job.limit p → counts_at p ≡ counts_of job
+opening_counts job p opened = ap counts_with (opening_sizes job p opened)
 
 -- the one session's commands are those of the grammar
-first_says : (n : ℕ) (sections : List (List Command)) (commands : List Command) → All (CommandsSay n []) sections → slice_get sections 0 ≡ Some commands → CommandsSay n [] commands
+first_says : (n : Counts) (sections : List (List Command)) (commands : List Command) → All (CommandsSay n []) sections → slice_get sections 0 ≡ Some commands → CommandsSay n [] commands
 first_says n [] commands all is = cc
 first_says n (first ∷ sections) commands all is = subst (λ (cs : List Command). CommandsSay n [] cs) (same is) (all 0 first (omega arith))
   where
     same : Some first ≡ Some commands → first ≡ commands
     same e = cc
 
-pub commands_say : (job : Job) (n : ℕ) (commands : List Command) → IsJob job → n ≡ job.vars → slice_get job.sections 0 ≡ Some commands → CommandsSay n [] commands
-commands_say job n commands is_job vars section = subst (λ m. CommandsSay m [] commands) (sym vars) (first_says job.vars job.sections commands is_job.commands section)
+pub commands_say : (job : Job) (p : Plain) (commands : List Command) → IsJob job → IsOpening job.vars job.elements job.limit p → slice_get job.sections 0 ≡ Some commands → CommandsSay (counts_at p) [] commands
+commands_say job p commands is_job opened section =
+    subst (λ n. CommandsSay n [] commands) (sym (opening_counts job p opened)) (first_says (counts_of job) job.sections commands is_job.commands section)
 
 module _ (job : Job) (start : Plain) (commands : List Command) (mid end : Progress) (is_job : IsJob job) (section : slice_get job.sections 0 ≡ Some commands)
     (opened : IsOpening job.vars job.elements job.limit start) (says : (said : List HistoryLine) × StandsAt start commands mid said × SaysThrough commands said)

@@ -1,7 +1,8 @@
 -- What a command is answered.
-use Rattle.std.proofs.Common.{inl, inr, Result, Ok, Err, IfOk, IsErrOf, MatchResult, ◌≡◌, ℕ, ◌+◌, ◌≤◌, ◌++◌, ◌∷◌, [], ⊎_elim, Bool, true, false, ◌&&◌, not, List, length, Some, None, refl, sym, ap, ◌∙◌, subst, arith}
+use Rattle.std.proofs.Common.{inl, inr, Result, Ok, Err, IfErr, IfOk, IsErrOf, MatchResult, ◌≡◌, ℕ, ◌+◌, ◌≤◌, ◌++◌, ◌∷◌, [], ⊎_elim, Bool, true, false, ◌&&◌, not, List, length, Some, None, refl, sym, ap, ◌∙◌, subst, arith}
 use Rattle.std.proofs.Math.ListN.{set, length-set}
 use Rattle.std.proofs.lemmas.Bool.{false≢true}
+use Rattle.add_ops.specs.declared.arithmetic.Overflow.{Overflow as AddOverflow}
 use Rattle.std.specs.Prelude.{◌<◌, map}
 use Rattle.std.specs.List.{All}
 use Rattle.std.proofs.lemmas.List.{length_push}
@@ -12,7 +13,7 @@ use Rattle.edge_bits.specs.declared.edges.Kind.TheVariants as kinds
 use Rattle.function_laws.specs.declared.history.Name.{Name}
 use Rattle.function_laws.specs.declared.history.Call.{Call}
 use Rattle.function_laws.specs.declared.history.Reply.{Reply as LawReply}
-use Rattle.function_laws.specs.declared.history.Reply.TheVariants.{Full}
+use Rattle.function_laws.specs.declared.history.Reply.TheVariants.{Full, Overflow}
 use Rattle.function_laws.specs.Steps.{are_distinct}
 use Rattle.job_text.specs.declared.history_line.Reply.{Reply}
 use Rattle.job_text.specs.declared.history_line.Reply.TheVariants as reply
@@ -27,8 +28,8 @@ use Rattle.net_jobs.specs.declared.playing.Answer.{Answer}
 use Rattle.net_jobs.specs.declared.session.Row.{Row}
 use Rattle.net_jobs.specs.declared.session.Session.{Session}
 use Rattle.node_slots.specs.Stores.{plain_view}
-use Rattle.net_jobs.specs.Agreement.{Adds, AreStored, GivesName, IsLiveOf, IsStepOf, Refuses, Rows, row_of}
-use Rattle.net_jobs.specs.Playing.{GrowsOrLeft, IsAnswered, IsHeldAs, RowsAfter, RowsGoOn, call_with, made_kind, makes, rows_left, with_name}
+use Rattle.net_jobs.specs.Agreement.{Adds, AreStored, Exceeds, GivesName, IsLiveOf, IsStepOf, Refuses, Rows, row_of}
+use Rattle.net_jobs.specs.Playing.{GrowsOrLeft, IsAnswered, IsHeldAs, RowsAfter, RowsGoOn, call_with, is_about_numbers, made_kind, makes, may_exceed, rows_left, with_name}
 use Rattle.net_jobs.proofs.ListLemmas.{slice_get-push, slice_get-set}
 use Rattle.net_jobs.proofs.AgreementLemmas.{stored-grown}
 
@@ -86,6 +87,36 @@ answered-full w w' old new act made grown stored refuses = record {
   full = λ e. (refuses.rose, refl);
 }
 
+pub answered-overflow : (w w' : View) (old new : Rows) (act : Act) → makes act ≡ true → Grown w w' → AreStored w old → Exceeds w old w' new (call_with act)
+    → IsAnswered w old w' new act (record { reply = reply.Overflow; made = false })
+answered-overflow w w' old new act made grown stored exceeds = record {
+  reply = Overflow;
+  told = refl;
+  made_if = sym (and_none (makes act));
+  step = subst (λ (rows : Rows). IsStepOf w old w' rows (call_with act) Overflow) (sym exceeds.rows_stay) exceeds.step;
+  rows = (refl, exceeds.rows_stay ∙ sym (left_if_makes old act made));
+  grown = grown;
+  stored = subst (λ (rows : Rows). AreStored w' rows) (sym exceeds.rows_stay) (stored-grown w w' old grown stored);
+  full = λ e. cc;
+}
+
+-- a command whose values may be out of range makes a row, if they are not
+pub exact_makes : (act : Act) → may_exceed act ≡ true → makes act ≡ true
+exact_makes (Drop a) exact = cc
+exact_makes (Same a b) exact = cc
+exact_makes (Leq a b) exact = cc
+exact_makes (Eval a bits) exact = cc
+exact_makes act exact = refl
+
+-- and so does one about numbers
+pub numbers_make : (act : Act) → is_about_numbers act ≡ true → makes act ≡ true
+numbers_make (Drop a) numbers = cc
+numbers_make (Same a b) numbers = cc
+numbers_make (Leq a b) numbers = cc
+numbers_make (Eval a bits) numbers = cc
+numbers_make act numbers = refl
+
+-- the commands that are left
 pub makes_default : (act : Act) → ((a : ℕ) → act ≡ Drop a → ⊥) → ((a b : ℕ) → act ≡ Same a b → ⊥) → ((a b : ℕ) → act ≡ Leq a b → ⊥)
     → ((a : ℕ) (bits : List Bool) → act ≡ Eval a bits → ⊥) → makes act ≡ true
 makes_default (Drop a) not_drop not_same not_leq not_eval = absurd (not_drop a refl)
@@ -95,7 +126,7 @@ makes_default (Eval a bits) not_drop not_same not_leq not_eval = absurd (not_eva
 makes_default act not_drop not_same not_leq not_eval = refl
 
 -- the call that was made is the command's
-pub adds_as : (old new : Session) {act other : Act} (call : Call) (result : Result Name Stop) → act ≡ other → call ≡ call_with other
+pub adds_as : {E : Type 0} (old new : Session) {act other : Act} (call : Call) (result : Result Name E) → act ≡ other → call ≡ call_with other
     → IfOk result (λ name. Adds (made_kind other) (plain_view old.store) old.rows.items (plain_view new.store) new.rows.items call name)
     → IfOk result (λ name. Adds (made_kind act) (plain_view old.store) old.rows.items (plain_view new.store) new.rows.items (call_with act) name)
 adds_as old new {act} {other} call result is called adds =
@@ -107,6 +138,26 @@ pub refuses_as : (old new : Session) {act other : Act} (call : Call) → act ≡
     → Refuses (plain_view old.store) old.rows.items (plain_view new.store) new.rows.items (call_with act)
 refuses_as old new {act} {other} call is called refuses =
     subst (λ (c : Call). Refuses (plain_view old.store) old.rows.items (plain_view new.store) new.rows.items c) (called ∙ sym (ap call_with is)) refuses
+
+pub exceeds_as : (old new : Session) {act other : Act} (call : Call) → act ≡ other → call ≡ call_with other
+    → Exceeds (plain_view old.store) old.rows.items (plain_view new.store) new.rows.items call
+    → Exceeds (plain_view old.store) old.rows.items (plain_view new.store) new.rows.items (call_with act)
+exceeds_as old new {act} {other} call is called exceeds =
+    subst (λ (c : Call). Exceeds (plain_view old.store) old.rows.items (plain_view new.store) new.rows.items c) (called ∙ sym (ap call_with is)) exceeds
+
+-- the same of what may be answered with overflow
+pub exact_adds_as : (old new : Session) {act other : Act} (call : Call) (result : Result (Result Name AddOverflow) Stop) → act ≡ other → call ≡ call_with other
+    → IfOk result (λ told. IfOk told (λ name. Adds (made_kind other) (plain_view old.store) old.rows.items (plain_view new.store) new.rows.items call name))
+    → IfOk result (λ told. IfOk told (λ name. Adds (made_kind act) (plain_view old.store) old.rows.items (plain_view new.store) new.rows.items (call_with act) name))
+exact_adds_as old new call (Err x) is called adds = tt
+exact_adds_as old new call (Ok told) is called adds = adds_as old new call told is called adds
+
+pub exact_exceeds_as : (old new : Session) {act other : Act} (call : Call) (result : Result (Result Name AddOverflow) Stop) → act ≡ other → call ≡ call_with other
+    → IfOk result (λ told. IfErr told (λ _. Exceeds (plain_view old.store) old.rows.items (plain_view new.store) new.rows.items call))
+    → IfOk result (λ told. IfErr told (λ _. Exceeds (plain_view old.store) old.rows.items (plain_view new.store) new.rows.items (call_with act)))
+exact_exceeds_as old new call (Err x) is called exceeds = tt
+exact_exceeds_as old new call (Ok (Ok name)) is called exceeds = tt
+exact_exceeds_as old new call (Ok (Err x)) is called exceeds = exceeds_as old new call is called exceeds
 
 -- the variables of a vcompose, and the rows of its registers
 pub pair_variables : (n : ℕ) (rows : Rows) (pairs : List (ℕ × ℕ)) → All (λ pair. (pair.0 < n) × IsHeldAs kinds.Bdd rows pair.1) pairs → All (λ pair. pair.0 < n) (map with_name pairs)
@@ -133,6 +184,21 @@ answered-operated w w' old new act (Ok name) (Ok answer) makes_one grown stored 
 answered-operated w w' old new act (Err x) (Ok answer) makes_one grown stored adds refuses is =
     subst (λ (a : Answer). IsAnswered w old w' new act a) (sym is.1) (answered-full w w' old new act makes_one grown stored (refuses (ap Err is.0)))
 
+pub answered-exact : (w w' : View) (old new : Rows) (act : Act) (made : Result (Result Name AddOverflow) Stop) (result : Result Answer Memory) → may_exceed act ≡ true → Grown w w' → AreStored w old
+    → IfOk made (λ told. IfOk told (λ name. Adds (made_kind act) w old w' new (call_with act) name)) → IfOk made (λ told. IfErr told (λ _. Exceeds w old w' new (call_with act)))
+    → (IsErrOf made stop.Full → Refuses w old w' new (call_with act))
+    → IfOk result (λ answer. MatchResult made
+    (λ told. MatchResult told (λ _. answer ≡ record { reply = reply.Done; made = true }) (λ _. answer ≡ record { reply = reply.Overflow; made = false }))
+    (λ x. (x ≡ stop.Full) × (answer ≡ record { reply = reply.Full; made = false })))
+    → IfOk result (λ answer. IsAnswered w old w' new act answer)
+answered-exact w w' old new act made (Err x) exact grown stored adds exceeds refuses is = tt
+answered-exact w w' old new act (Ok (Ok name)) (Ok answer) exact grown stored adds exceeds refuses is =
+    subst (λ (a : Answer). IsAnswered w old w' new act a) (sym is) (answered-made w w' old new act name (exact_makes act exact) grown stored adds)
+answered-exact w w' old new act (Ok (Err x)) (Ok answer) exact grown stored adds exceeds refuses is =
+    subst (λ (a : Answer). IsAnswered w old w' new act a) (sym is) (answered-overflow w w' old new act (exact_makes act exact) grown stored exceeds)
+answered-exact w w' old new act (Err x) (Ok answer) exact grown stored adds exceeds refuses is =
+    subst (λ (a : Answer). IsAnswered w old w' new act a) (sym is.1) (answered-full w w' old new act (exact_makes act exact) grown stored (refuses (ap Err is.0)))
+
 -- it is refused only where it told so
 pub filled-operated : (Filled : Type 0) (made : Result Name Stop) (result : Result Answer Memory) → (IsErrOf made stop.Full → Filled)
     → IfOk result (λ answer. MatchResult made (λ _. answer ≡ record { reply = reply.Done; made = true }) (λ x. (x ≡ stop.Full) × (answer ≡ record { reply = reply.Full; made = false })))
@@ -140,6 +206,16 @@ pub filled-operated : (Filled : Type 0) (made : Result Name Stop) (result : Resu
 filled-operated Filled made (Err x) filled is = tt
 filled-operated Filled (Ok name) (Ok answer) filled is = λ e. (let never : reply.Done ≡ reply.Full = sym (ap (λ (a : Answer). a.reply) is) ∙ e in cc)
 filled-operated Filled (Err x) (Ok answer) filled is = λ e. filled (ap Err is.0)
+
+pub filled-exact : (Filled : Type 0) (made : Result (Result Name AddOverflow) Stop) (result : Result Answer Memory) → (IsErrOf made stop.Full → Filled)
+    → IfOk result (λ answer. MatchResult made
+    (λ told. MatchResult told (λ _. answer ≡ record { reply = reply.Done; made = true }) (λ _. answer ≡ record { reply = reply.Overflow; made = false }))
+    (λ x. (x ≡ stop.Full) × (answer ≡ record { reply = reply.Full; made = false })))
+    → IfOk result (λ answer. answer.reply ≡ reply.Full → Filled)
+filled-exact Filled made (Err x) filled is = tt
+filled-exact Filled (Ok (Ok name)) (Ok answer) filled is = λ e. (let never : reply.Done ≡ reply.Full = sym (ap (λ (a : Answer). a.reply) is) ∙ e in cc)
+filled-exact Filled (Ok (Err x)) (Ok answer) filled is = λ e. (let never : reply.Overflow ≡ reply.Full = sym (ap (λ (a : Answer). a.reply) is) ∙ e in cc)
+filled-exact Filled (Err x) (Ok answer) filled is = λ e. filled (ap Err is.0)
 
 -- a call that makes no row
 pub answered-other : (w w' : View) (old new : Rows) (act : Act) (call : Call) (answer : LawReply) (told : Reply) → call_with act ≡ call → makes act ≡ false → stops told ≡ false

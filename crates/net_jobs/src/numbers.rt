@@ -1,4 +1,4 @@
-//! The calls of a session that make an ADD of others.
+//! The calls of a session on functions of numbers.
 
 ghost use Rattle.std.specs.Prelude.{◌<◌, ◌^◌, vec_len, IfErr, IfOk, IsErrOf};
 ghost use Rattle.edge_bits.specs.Words.{IsLeafValue};
@@ -132,5 +132,87 @@ impl Session {
         let second = self.edge_of_add(g);
         let made = add_ops::threshold(&mut self.store, first, second);
         settle(&self.store, &mut self.rows, Kind::Add, made)
+    }
+
+    /// 1 where a row holds and 0 elsewhere, as a new row.
+    pub fn from_bdd(&mut self, f: Name) -> Result<Name, Stop>
+        requires stored { AreStored (plain_view self.old.store) self.old.rows.items }
+        requires first { IsLiveOf kinds.Bdd self.old.rows.items f }
+        requires room { vec_len self.old.rows < 2 ^ 32 }
+        ensures ok { IfOk result (λ name. Adds kinds.Add (plain_view self.old.store) self.old.rows.items (plain_view self.new.store) self.new.rows.items (calls.FromBdd f) name) }
+        ensures full { IsErrOf result Stop.Full → Refuses (plain_view self.old.store) self.old.rows.items (plain_view self.new.store) self.new.rows.items (calls.FromBdd f) }
+        ensures filled { IsErrOf result Stop.Full → IsFilled self.new.store }
+        ensures grown { Grown (plain_view self.old.store) (plain_view self.new.store) }
+    {
+        let first = self.edge_of_bdd(f);
+        let made = add_ops::from_bdd(&mut self.store, first);
+        settle(&self.store, &mut self.rows, Kind::Add, made)
+    }
+
+    /// The second row where the first holds, and the third elsewhere, as a new row.
+    pub fn add_ite(&mut self, f: Name, g: Name, h: Name) -> Result<Name, Stop>
+        requires stored { AreStored (plain_view self.old.store) self.old.rows.items }
+        requires first { IsLiveOf kinds.Bdd self.old.rows.items f }
+        requires second { IsLiveOf kinds.Add self.old.rows.items g }
+        requires third { IsLiveOf kinds.Add self.old.rows.items h }
+        requires room { vec_len self.old.rows < 2 ^ 32 }
+        ensures ok { IfOk result (λ name. Adds kinds.Add (plain_view self.old.store) self.old.rows.items (plain_view self.new.store) self.new.rows.items (calls.AddIte f g h) name) }
+        ensures full { IsErrOf result Stop.Full → Refuses (plain_view self.old.store) self.old.rows.items (plain_view self.new.store) self.new.rows.items (calls.AddIte f g h) }
+        ensures filled { IsErrOf result Stop.Full → IsFilled self.new.store }
+        ensures grown { Grown (plain_view self.old.store) (plain_view self.new.store) }
+    {
+        let first = self.edge_of_bdd(f);
+        let second = self.edge_of_add(g);
+        let third = self.edge_of_add(h);
+        let made = add_ops::add_ite(&mut self.store, first, second, third);
+        settle(&self.store, &mut self.rows, Kind::Add, made)
+    }
+
+    /// The sum of both cofactors of a row at a variable, as a new row.
+    pub fn sum_over(&mut self, f: Name, v: u32) -> Result<Result<Name, Overflow>, Stop>
+        requires stored { AreStored (plain_view self.old.store) self.old.rows.items }
+        requires first { IsLiveOf kinds.Add self.old.rows.items f }
+        requires variable { v < (plain_view self.old.store).vars }
+        requires room { vec_len self.old.rows < 2 ^ 32 }
+        ensures ok { IfOk result (λ told. IfOk told (λ name. Adds kinds.Add (plain_view self.old.store) self.old.rows.items (plain_view self.new.store) self.new.rows.items (calls.SumOver f v) name)) }
+        ensures overflow { IfOk result (λ told. IfErr told (λ _. Exceeds (plain_view self.old.store) self.old.rows.items (plain_view self.new.store) self.new.rows.items (calls.SumOver f v))) }
+        ensures full { IsErrOf result Stop.Full → Refuses (plain_view self.old.store) self.old.rows.items (plain_view self.new.store) self.new.rows.items (calls.SumOver f v) }
+        ensures filled { IsErrOf result Stop.Full → IsFilled self.new.store }
+        ensures grown { Grown (plain_view self.old.store) (plain_view self.new.store) }
+    {
+        let _few = self.store.vars();
+        let first = self.edge_of_add(f);
+        let made = add_ops::sum_over(&mut self.store, first, v);
+        settle_exact(&self.store, &mut self.rows, made)
+    }
+
+    /// Where a row is at least a number, as a new row.
+    pub fn at_least(&mut self, f: Name, value: i64) -> Result<Name, Stop>
+        requires stored { AreStored (plain_view self.old.store) self.old.rows.items }
+        requires first { IsLiveOf kinds.Add self.old.rows.items f }
+        requires room { vec_len self.old.rows < 2 ^ 32 }
+        ensures ok { IfOk result (λ name. Adds kinds.Bdd (plain_view self.old.store) self.old.rows.items (plain_view self.new.store) self.new.rows.items (calls.AtLeast f value) name) }
+        ensures full { IsErrOf result Stop.Full → Refuses (plain_view self.old.store) self.old.rows.items (plain_view self.new.store) self.new.rows.items (calls.AtLeast f value) }
+        ensures filled { IsErrOf result Stop.Full → IsFilled self.new.store }
+        ensures grown { Grown (plain_view self.old.store) (plain_view self.new.store) }
+    {
+        let first = self.edge_of_add(f);
+        let made = add_ops::at_least(&mut self.store, first, value);
+        settle(&self.store, &mut self.rows, Kind::Bdd, made)
+    }
+
+    /// Where a row is not 0, as a new row.
+    pub fn pattern(&mut self, f: Name) -> Result<Name, Stop>
+        requires stored { AreStored (plain_view self.old.store) self.old.rows.items }
+        requires first { IsLiveOf kinds.Add self.old.rows.items f }
+        requires room { vec_len self.old.rows < 2 ^ 32 }
+        ensures ok { IfOk result (λ name. Adds kinds.Bdd (plain_view self.old.store) self.old.rows.items (plain_view self.new.store) self.new.rows.items (calls.Pattern f) name) }
+        ensures full { IsErrOf result Stop.Full → Refuses (plain_view self.old.store) self.old.rows.items (plain_view self.new.store) self.new.rows.items (calls.Pattern f) }
+        ensures filled { IsErrOf result Stop.Full → IsFilled self.new.store }
+        ensures grown { Grown (plain_view self.old.store) (plain_view self.new.store) }
+    {
+        let first = self.edge_of_add(f);
+        let made = add_ops::pattern(&mut self.store, first);
+        settle(&self.store, &mut self.rows, Kind::Bdd, made)
     }
 }
