@@ -6,6 +6,8 @@ mod compositions;
 #[cfg(test)]
 mod faults;
 #[cfg(test)]
+mod number_jobs;
+#[cfg(test)]
 mod numbers;
 #[cfg(test)]
 mod outside;
