@@ -1,6 +1,6 @@
 -- What the operands of a command are, and what it leaves of the registers.
 use Rattle.edge_bits.specs.declared.edges.Kind.{Kind}
-use Rattle.std.proofs.Common.{◌≡◌, ℕ, Bool, true, false, cond, List, [], ◌∷◌, ◌++◌, map, drop, refl, ap, ◌∙◌, codes}
+use Rattle.std.proofs.Common.{◌≡◌, ℕ, Bool, false, cond, List, [], ◌∷◌, ◌++◌, map, drop, refl, ap, ◌∙◌, codes}
 use Rattle.std.specs.Str.{bytes_eq}
 use Rattle.job_text.specs.declared.job.Act.TheVariants as acts
 use Rattle.job_text.specs.declared.job.Counts.{Counts}
