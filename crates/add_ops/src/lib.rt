@@ -14,5 +14,6 @@ mod truths;
 
 pub use arithmetic::Overflow;
 pub use operations::{
-    at_least, constant, from_bdd, max, min, minus, pattern, plus, sum_over, threshold, times,
+    add_ite, at_least, constant, from_bdd, max, min, minus, pattern, plus, sum_over, threshold,
+    times,
 };
