@@ -162,10 +162,11 @@ without-live dropped word k None is = cc
 without-live dropped word k (Some register) is =
     let same : without dropped register ≡ record { name = word; live = true; kind = k } = cc in
     let name : register.name ≡ word = ap (λ (r : Register). r.name) same in
-    let kind : register.kind ≡ k = ap (λ (r : Register). r.kind) same in
     let flags : (register.live && not (bytes_eq register.name dropped)) ≡ true = ap (λ (r : Register). r.live) same in
-    let both = and_both register.live (not (bytes_eq register.name dropped)) flags in (
-      ap₂ (λ (w : Word) (b : Bool). Some (record { name = w; live = b; kind = register.kind })) name both.0 ∙ ap (λ (j : Kind). Some (record { name = word; live = true; kind = j })) kind,
+    let both = and_both register.live (not (bytes_eq register.name dropped)) flags in
+    let still : register.live ≡ (register.live && not (bytes_eq register.name dropped)) = both.0 ∙ sym flags in
+    let kept : Some register ≡ Some (without dropped register) = ap (λ (b : Bool). Some (record { name = register.name; live = b; kind = register.kind })) still in (
+      kept ∙ ap (λ (r : Register). Some r) same,
       ap (λ w. bytes_eq w dropped) (sym name) ∙ not_true (bytes_eq register.name dropped) both.1,
     )
 

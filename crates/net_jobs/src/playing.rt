@@ -109,7 +109,7 @@ fn vector_compose(session: &mut Session, a: u32, pairs: &[(u32, u32)]) -> Result
 }
 
 /// Makes the call of a command that makes a function of numbers, or a BDD of one, and whose values are in range.
-fn reckon(session: &mut Session, act: &Act) -> Result<Name, Stop>
+fn operate_on_numbers(session: &mut Session, act: &Act) -> Result<Name, Stop>
     requires can { CanCall (plain_view session.old.store).vars session.old.rows.items act.now }
     requires numbers { is_about_numbers act.now ≡ true }
     requires in_range { may_exceed act.now ≡ false }
@@ -134,7 +134,7 @@ fn reckon(session: &mut Session, act: &Act) -> Result<Name, Stop>
 }
 
 /// Makes the call of a command that makes a function of numbers whose values may be out of range.
-fn calculate(session: &mut Session, act: &Act) -> Result<Result<Name, Overflow>, Stop>
+fn operate_exactly(session: &mut Session, act: &Act) -> Result<Result<Name, Overflow>, Stop>
     requires can { CanCall (plain_view session.old.store).vars session.old.rows.items act.now }
     requires exact { may_exceed act.now ≡ true }
     requires stored { AreStored (plain_view session.old.store) session.old.rows.items }
@@ -214,7 +214,7 @@ fn perform(session: &mut Session, act: &Act) -> Result<Answer, Memory>
         Act::Leq(a, b) => yes_or_no(session.leq(register(*a), register(*b))?),
         Act::Eval(a, bits) => Reply::Number(session.eval(register(*a), bits.as_slice())),
         Act::Plus(_, _) | Act::Minus(_, _) | Act::Times(_, _) | Act::SumOver(_, _) => {
-            return exact_answer_of(calculate(session, act));
+            return exact_answer_of(operate_exactly(session, act));
         }
         Act::Constant(_)
         | Act::FromBdd(_)
@@ -223,7 +223,7 @@ fn perform(session: &mut Session, act: &Act) -> Result<Answer, Memory>
         | Act::Threshold(_, _)
         | Act::AddIte(_, _, _)
         | Act::AtLeast(_, _)
-        | Act::Pattern(_) => return answer_of(reckon(session, act)),
+        | Act::Pattern(_) => return answer_of(operate_on_numbers(session, act)),
         _ => return answer_of(operate(session, act)),
     };
     Ok(Answer { reply, made: false })

@@ -22,21 +22,21 @@ pub returns-in-Plus-clause-ok : goal.returns-in-Plus-clause-ok
 returns-in-Plus-clause-ok c =
     let old = c.args.session.now in
     let exact : may_exceed c.args.act.now ≡ true = search rules in
-    answered-exact (plain_view old.store) (plain_view c.calculate.new.session.store) old.rows.items c.calculate.new.session.rows.items c.args.act.now c.calculate.result c.exact_answer_of.result
-    exact c.calculate.ensures.grown c.requires.stored c.calculate.ensures.ok c.calculate.ensures.overflow c.calculate.ensures.full c.exact_answer_of.ensures.ok
+    answered-exact (plain_view old.store) (plain_view c.operate_exactly.new.session.store) old.rows.items c.operate_exactly.new.session.rows.items c.args.act.now c.operate_exactly.result c.exact_answer_of.result
+    exact c.operate_exactly.ensures.grown c.requires.stored c.operate_exactly.ensures.ok c.operate_exactly.ensures.overflow c.operate_exactly.ensures.full c.exact_answer_of.ensures.ok
 
 pub returns-in-Plus-clause-filled : goal.returns-in-Plus-clause-filled
-returns-in-Plus-clause-filled c = filled-exact (IsFilled c.calculate.new.session.store) c.calculate.result c.exact_answer_of.result c.calculate.ensures.filled c.exact_answer_of.ensures.ok
+returns-in-Plus-clause-filled c = filled-exact (IsFilled c.operate_exactly.new.session.store) c.operate_exactly.result c.exact_answer_of.result c.operate_exactly.ensures.filled c.exact_answer_of.ensures.ok
 
 pub returns-in-Constant-clause-ok : goal.returns-in-Constant-clause-ok
 returns-in-Constant-clause-ok c =
     let old = c.args.session.now in
     let numbers : is_about_numbers c.args.act.now ≡ true = search rules in
-    answered-operated (plain_view old.store) (plain_view c.reckon.new.session.store) old.rows.items c.reckon.new.session.rows.items c.args.act.now c.reckon.result c.answer_of-in-Constant.result
-    (numbers_make c.args.act.now numbers) c.reckon.ensures.grown c.requires.stored c.reckon.ensures.ok c.reckon.ensures.full c.answer_of-in-Constant.ensures.ok
+    answered-operated (plain_view old.store) (plain_view c.operate_on_numbers.new.session.store) old.rows.items c.operate_on_numbers.new.session.rows.items c.args.act.now c.operate_on_numbers.result c.answer_of-in-Constant.result
+    (numbers_make c.args.act.now numbers) c.operate_on_numbers.ensures.grown c.requires.stored c.operate_on_numbers.ensures.ok c.operate_on_numbers.ensures.full c.answer_of-in-Constant.ensures.ok
 
 pub returns-in-Constant-clause-filled : goal.returns-in-Constant-clause-filled
-returns-in-Constant-clause-filled c = filled-operated (IsFilled c.reckon.new.session.store) c.reckon.result c.answer_of-in-Constant.result c.reckon.ensures.filled c.answer_of-in-Constant.ensures.ok
+returns-in-Constant-clause-filled c = filled-operated (IsFilled c.operate_on_numbers.new.session.store) c.operate_on_numbers.result c.answer_of-in-Constant.result c.operate_on_numbers.ensures.filled c.answer_of-in-Constant.ensures.ok
 
 pub returns-in-Drop-clause-ok : goal.returns-in-Drop-clause-ok
 returns-in-Drop-clause-ok c =

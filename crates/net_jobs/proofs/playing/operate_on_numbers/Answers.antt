@@ -4,7 +4,7 @@ use Rattle.function_laws.specs.declared.history.Call.TheVariants as calls
 use Rattle.function_laws.specs.declared.history.Name.{Name}
 use Rattle.net_jobs.specs.Agreement.{name_of}
 use Rattle.net_jobs.proofs.PlayLemmas.{adds_as, refuses_as}
-use Rattle.net_jobs.proofs.playing.reckon.Goals as goal
+use Rattle.net_jobs.proofs.playing.operate_on_numbers.Goals as goal
 
 pub returns-in-Constant-clause-ok : goal.returns-in-Constant-clause-ok
 returns-in-Constant-clause-ok c =

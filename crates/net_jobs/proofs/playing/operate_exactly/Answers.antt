@@ -2,7 +2,7 @@ use Rattle.std.proofs.Common.{ap, ap₂}
 use Rattle.function_laws.specs.declared.history.Call.TheVariants as calls
 use Rattle.function_laws.specs.declared.history.Name.{Name}
 use Rattle.net_jobs.proofs.PlayLemmas.{exact_adds_as, exact_exceeds_as, refuses_as}
-use Rattle.net_jobs.proofs.playing.calculate.Goals as goal
+use Rattle.net_jobs.proofs.playing.operate_exactly.Goals as goal
 
 pub returns-in-Plus-clause-ok : goal.returns-in-Plus-clause-ok
 returns-in-Plus-clause-ok c = exact_adds_as c.args.session.now c.plus.new.self _ c.plus.result c.in-Plus.is (ap₂ calls.Plus c.register.ensures c.register-in-Plus.ensures) c.plus.ensures.ok
