@@ -93,6 +93,10 @@ second_leaf w f g x y d l = subst (λ t. Denotes Add w g t) l.second d.second
 pub zero_leaf : (w : View) (e : Edge) → Permanent w → e ≡ record { index = 3; complement = false } → Denotes Add w e (constant (pos 0))
 zero_leaf w e p is = subst (λ t. Denotes Add w t (constant (pos 0))) (sym is) (record { is = p.add_zero; beyond = λ v h k b. refl; fits = λ x. refl })
 
+-- slot 4
+pub one_leaf : (w : View) (e : Edge) → Permanent w → e ≡ record { index = 4; complement = false } → Denotes Add w e (constant (pos 1))
+one_leaf w e p is = subst (λ t. Denotes Add w t (constant (pos 1))) (sym is) (record { is = p.add_one; beyond = λ v h k b. refl; fits = λ x. refl })
+
 -- numbers that were passed by value compare as before
 pub order_passed : (x y : ℤ) → SFits w64 x → SFits w64 y → int_le (to_z w64 (of_z w64 x)) (to_z w64 (of_z w64 y)) ≡ int_le x y
 order_passed x y fx fy = ap (λ a. int_le a (to_z w64 (of_z w64 y))) (to_z-of_z w64 x fx) ∙ ap (λ b. int_le x b) (to_z-of_z w64 y fy)

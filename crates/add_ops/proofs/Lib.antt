@@ -1,1 +1,4 @@
 pub mod LeafLaws
+mod ConversionLaws
+mod TruthLaws
+mod SumLaws

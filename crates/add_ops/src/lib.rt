@@ -3,9 +3,17 @@
 
 mod arithmetic;
 mod choices;
+mod conversion;
 mod leaves;
 mod operations;
 mod products;
+mod remembered;
+mod selection;
+mod summation;
+mod truths;
 
 pub use arithmetic::Overflow;
-pub use operations::{constant, max, min, minus, plus, threshold, times};
+pub use operations::{
+    add_ite, at_least, constant, from_bdd, max, min, minus, pattern, plus, sum_over, threshold,
+    times,
+};

@@ -22,11 +22,11 @@ impl<G: Grow> Pointwise<G> for Multiplication {
     ghost op = { λ a b. a *ℤ b };
 
     fn terminal(&self, store: &mut G, f: Edge, g: Edge) -> Result<Option<Edge>, Halt> {
-        // Slot 3 is the number 0.
-        if f.index == 3 {
+        // Slot 3 is the number 0, and slot 4 is the number 1.
+        if f.index == 3 || g.index == 4 {
             return Ok(Some(f));
         }
-        if g.index == 3 {
+        if g.index == 3 || f.index == 4 {
             return Ok(Some(g));
         }
         let Some((x, y)) = leaves(store, f, g) else {

@@ -36,6 +36,37 @@ not_true : (b : Bool) → not b ≡ true → b ≡ false
 not_true true h = absurd (false≢true h)
 not_true false h = refl
 
+-- the word of bits
+abbrev pub digits_of : List Bool → List ℕ
+digits_of bs = map (λ c. cond c 49 48) bs
+
+length_word : (bs : List Bool) → length (digits_of bs) ≡ length bs
+length_word [] = refl
+length_word (b ∷ bs) = ap suc (length_word bs)
+
+all_bits : (bs : List Bool) → list_all (λ b. b == 48 || b == 49) (digits_of bs) ≡ true
+all_bits [] = refl
+all_bits (true ∷ bs) = all_bits bs
+all_bits (false ∷ bs) = all_bits bs
+
+pub no_none : (b : Bool) (bs : List Bool) → bytes_eq (bit_word (b ∷ bs)) (codes "none") ≡ false
+no_none true bs = refl
+no_none false bs = refl
+
+not_zero : (n : ℕ) → (suc n == 0) ≡ false
+not_zero n = grind (arith, nat_tests)
+
+pub form_of_bits : (bs : List Bool) → is_bits (bit_word bs) ≡ true
+form_of_bits [] = refl
+form_of_bits (b ∷ bs) =
+    ap (λ t. t || (not (length (bit_word (b ∷ bs)) == 0) && list_all (λ b. b == 48 || b == 49) (bit_word (b ∷ bs)))) (no_none b bs)
+    ∙ ap (λ t. not t && list_all (λ b. b == 48 || b == 49) (bit_word (b ∷ bs))) (not_zero (length (digits_of bs)))
+    ∙ all_bits (b ∷ bs)
+
+pub length_bit_word : (bs : List Bool) → bits_in (bit_word bs) ≡ length bs
+length_bit_word [] = refl
+length_bit_word (b ∷ bs) = ap (λ t. cond t 0 (length (bit_word (b ∷ bs)))) (no_none b bs) ∙ length_word (b ∷ bs)
+
 -- the bits of a 0-1 word that is not `none`
 pub bits_are : (w : List ℕ) (bs : List Bool) → is_bits w ≡ true → bytes_eq w (codes "none") ≡ false → bs ≡ map (λ b. b == 49) w → (w ≡ bit_word bs) × (length bs ≡ bits_in w)
 bits_are w bs h word e =

@@ -1,14 +1,17 @@
 -- Words without a fault say something, and each text has a reading.
-use Rattle.std.proofs.Common.{◌≡◌, ◌⊎◌, ℕ, zero, suc, ◌+◌, ◌==◌, ◌<◌, ◌≤◌, ◌&&◌, ◌||◌, Bool, true, false, cond, List, [], ◌∷◌, ◌++◌, length, map, Option, Some, None, option_map, Result, Ok, inl, inr, refl, ap, sym, ◌∙◌, subst, arith, codes, append_assoc}
-use Rattle.std.specs.Prelude.{slice_get, nat_lt, nat_le, is_some}
-use Rattle.std.specs.List.{list_any, list_all}
+use Rattle.std.proofs.Common.{◌≡◌, ◌⊎◌, ℕ, ◌+◌, ◌==◌, ◌<◌, ◌≤◌, ◌&&◌, ◌||◌, Bool, true, false, cond, List, [], ◌∷◌, ◌++◌, length, map, Option, Some, None, option_map, Result, Ok, inl, inr, refl, ap, sym, ◌∙◌, subst, arith, codes, append_assoc}
+use Rattle.std.specs.Prelude.{nat_lt, nat_le, is_some}
+use Rattle.std.specs.List.{list_any, list_all, position_or_len}
 use Rattle.std.specs.Str.{bytes_eq}
 use Rattle.std.specs.Str.Parse.{digits_value}
 use Rattle.std.proofs.lemmas.Bool.{false≢true}
 use Rattle.std.proofs.lemmas.Bool.Decides.{nat_tests}
 use Rattle.std.proofs.lemmas.List.{append-nil}
 use Rattle.std.proofs.lemmas.Slice.Eq.{bytes_eq-Decides}
+use Rattle.edge_bits.specs.declared.edges.Kind.{Kind}
+use Rattle.function_laws.specs.Numbers.{is_value}
 use Rattle.job_text.specs.declared.job.Act.{Act}
+use Rattle.job_text.specs.declared.job.Counts.{Counts}
 use Rattle.job_text.specs.declared.commands.Operation.{Operation}
 use Rattle.job_text.specs.declared.commands.Place.{Place}
 use Rattle.job_text.specs.declared.commands.Place.TheVariants as places
@@ -23,17 +26,17 @@ use Rattle.job_text.specs.declared.draft.Section.{Section}
 use Rattle.job_text.specs.declared.faults.FaultKind.{FaultKind}
 use Rattle.job_text.specs.declared.faults.FaultKind.TheVariants as kinds
 use Rattle.job_text.specs.declared.faults.JobError.{JobError}
-use Rattle.job_text.specs.Text.{Word, IsNumber, is_number, is_allowed, lines_of, words_of, line_words, bit_word}
-use Rattle.job_text.specs.Grammar.{Says, IsFresh, Refers, IsJobText}
-use Rattle.job_text.specs.Faults.{has_form, slot_fault, twice_fault, word_fault, named_after, first_fault, fault_in, or_else, command_fault, command_of, is_bit, is_bits, bits_in, is_session, number_fault, has_begun, words_fault, line_fault, IsFaultText}
-use Rattle.job_text.specs.Drafts.{IsOperand, AreOperands, no_operands, with_operand, with_operands, repeats, AllNew, act_of, context_in, Adds, adds_nothing, adds_vars, adds_limit, adds_session, adds_command}
+use Rattle.job_text.specs.Text.{Word, IsNumber, is_name, integer_value, is_number, is_allowed, lines_of, words_of, line_words, bit_word}
+use Rattle.job_text.specs.Grammar.{Says, IsFresh, Refers, IsJobText, is_called, kind_of}
+use Rattle.job_text.specs.Faults.{has_form, slot_fault, beside_fault, word_fault, left_after, nothing_left, first_fault, fault_in, or_else, command_fault, command_of, is_bit, is_bits, kind_called, kind_fault, name_fault, register_called, is_session, number_fault, has_begun, words_fault, line_fault, IsFaultText}
+use Rattle.job_text.specs.Drafts.{IsOperand, AreOperands, no_operands, with_operand, with_operands, misfit, left_by, AllFit, act_of, context_in, Adds, adds_nothing, adds_vars, adds_limit, adds_session, adds_command}
 use Rattle.job_text.specs.Readings.{EachHasOne}
 use Rattle.job_text.proofs.Bits.{bits_are}
 use Rattle.job_text.proofs.Meanings.{Fits, word_fault_is}
-use Rattle.job_text.proofs.Naming.{named_is}
+use Rattle.job_text.proofs.Naming.{left_is}
 use Rattle.job_text.proofs.Makings.{says_from}
 use Rattle.job_text.proofs.Reading.{IsRead, nothing_read, read_more, job_from}
-use Rattle.job_text.proofs.RegisterLists.{fresh_from}
+use Rattle.job_text.proofs.RegisterLists.{fresh_from, no_name_fault, refers, alike_are}
 
 -- What no fault at each place means
 whole : (b : Bool) (later : Option FaultKind) → cond b later (Some kinds.Word) ≡ None → (b ≡ true) × (later ≡ None)
@@ -56,48 +59,35 @@ where_true : (b : Bool) (fault : FaultKind) → cond b None (Some fault) ≡ Non
 where_true true fault h = refl
 where_true false fault h = cc
 
-fresh_of : (n : ℕ) (rs : List Register) (w : Word) → Fits n rs (places.Fresh, w) → IsFresh rs w
-fresh_of n rs w h = (h.0, fresh_from rs w (unless (list_any (λ register. bytes_eq register.name w) rs) kinds.Again h.1))
+fresh_of : (n : Counts) (rs : List Register) (w : Word) → Fits n rs (places.Fresh, w) → IsFresh rs w
+fresh_of n rs w h = (h.0, fresh_from rs w (unless (list_any (is_called w) rs) kinds.Again h.1))
 
-live_named : (r : Register) (w : Word) → (bytes_eq r.name w && r.live) ≡ true → r ≡ record { name = w; live = true }
-live_named r w h =
-    let k = and_true (bytes_eq r.name w) r.live h in
-    ap (λ t. record { name = t; live = r.live }) ((bytes_eq-Decides r.name w).0 k.0) ∙ ap (λ t. record { name = w; live = t }) k.1
+-- a register of any kind
+named_of : (rs : List Register) (w : Word) → is_name w ≡ true → name_fault (register_called rs w) ≡ None → (a : ℕ) × (kind : Kind) × Refers rs w a kind
+named_of rs w form h =
+    let r = no_name_fault (register_called rs w) h in
+    (position_or_len (is_called w) rs, (r.0).kind, refers rs w r.0 form r.1 r.2)
 
-find_live : (rs : List Register) (w : Word) → list_any (λ register. bytes_eq register.name w && register.live) rs ≡ true → (a : ℕ) × (slice_get rs a ≡ Some (record { name = w; live = true }))
-find_live [] w h = absurd (false≢true h)
-find_live (r ∷ rs) w h = by_cases (bytes_eq r.name w && r.live) refl (λ e. find_live rs w (sym (ap (λ b. b || list_any (λ register. bytes_eq register.name w && register.live) rs) e) ∙ h))
-  where
-    by_cases : (b : Bool) → (bytes_eq r.name w && r.live) ≡ b → ((bytes_eq r.name w && r.live) ≡ false → (a : ℕ) × (slice_get rs a ≡ Some (record { name = w; live = true })))
-        → (a : ℕ) × (slice_get (r ∷ rs) a ≡ Some (record { name = w; live = true }))
-    by_cases true e later = (zero, ap (λ t. Some t) (live_named r w e))
-    by_cases false e later = (suc (later e).0, (later e).1)
-
-held_of : (n : ℕ) (rs : List Register) (w : Word) → Fits n rs (places.Held, w) → (a : ℕ) × Refers rs w a
-held_of n rs w h =
-    let found = find_live rs w (where_true (list_any (λ register. bytes_eq register.name w && register.live) rs) kinds.Name h.1) in
-    (found.0, (h.0, found.1))
+-- and one of the kind that is due
+held_of : (n : Counts) (rs : List Register) (w : Word) (due : Kind) → Fits n rs (places.Held due, w) → (a : ℕ) × Refers rs w a due
+held_of n rs w due h =
+    let none = both (name_fault (register_called rs w)) (kind_fault due (kind_called rs w)) h.1 in
+    let r = no_name_fault (register_called rs w) none.0 in
+    let same : (r.0).kind ≡ due = ap kind_of (sym r.1) ∙ sym (alike_are due (kind_called rs w) none.1) in
+    (position_or_len (is_called w) rs, subst (λ (kind : Kind). Refers rs w (position_or_len (is_called w) rs) kind) same (refers rs w r.0 h.0 r.1 r.2))
 
 below : (d n : ℕ) → nat_lt d n ≡ true → d < n
 below d n e = grind (arith, nat_tests)
 
-variable_of : (n : ℕ) (rs : List Register) (w : Word) → Fits n rs (places.Variable, w) → (v : ℕ) × IsNumber w v × (v < n)
-variable_of n rs w h = (digits_value 10 w, (h.0, refl), below (digits_value 10 w) n (where_true (nat_lt (digits_value 10 w) n) kinds.Range h.1))
+variable_of : (n : Counts) (rs : List Register) (w : Word) → Fits n rs (places.Variable, w) → (v : ℕ) × IsNumber w v × (v < n.vars)
+variable_of n rs w h = (digits_value 10 w, (h.0, refl), below (digits_value 10 w) n.vars (where_true (nat_lt (digits_value 10 w) n.vars) kinds.Range h.1))
 
-same : (a b : ℕ) → (a == b) ≡ true → a ≡ b
-same a b e = grind (arith, nat_tests)
-
-word_of_bits : (w : Word) → is_bits w ≡ true → (bs : List Bool) × (w ≡ bit_word bs) × (length bs ≡ bits_in w)
+word_of_bits : (w : Word) → is_bits w ≡ true → (bs : List Bool) × (w ≡ bit_word bs)
 word_of_bits w h = by_cases (bytes_eq w (codes "none")) refl
   where
-    by_cases : (b : Bool) → bytes_eq w (codes "none") ≡ b → (bs : List Bool) × (w ≡ bit_word bs) × (length bs ≡ bits_in w)
-    by_cases true e = ([], (bytes_eq-Decides w (codes "none")).0 e, sym (ap (λ b. cond b 0 (length w)) e))
-    by_cases false e = let l = bits_are w (map (λ b. b == 49) w) h e refl in (map (λ b. b == 49) w, l.0, l.1)
-
-bits_at : (n : ℕ) (rs : List Register) (w : Word) → Fits n rs (places.Bits, w) → (bs : List Bool) × (w ≡ bit_word bs) × (length bs ≡ n)
-bits_at n rs w h =
-    let found = word_of_bits w h.0 in
-    (found.0, found.1, found.2 ∙ same (bits_in w) n (where_true (bits_in w == n) kinds.Range h.1))
+    by_cases : (b : Bool) → bytes_eq w (codes "none") ≡ b → (bs : List Bool) × (w ≡ bit_word bs)
+    by_cases true e = ([], (bytes_eq-Decides w (codes "none")).0 e)
+    by_cases false e = (map (λ b. b == 49) w, (bits_are w (map (λ b. b == 49) w) h e refl).0)
 
 bit_of : (w : Word) → is_bit w ≡ true → (b : Bool) × (w ≡ bit_word (b ∷ []))
 bit_of w h = by_cases (bytes_eq w (codes "0")) refl
@@ -107,35 +97,38 @@ bit_of w h = by_cases (bytes_eq w (codes "0")) refl
     by_cases false e = (true, (bytes_eq-Decides w (codes "1")).0 (sym (ap (λ b. b || bytes_eq w (codes "1")) e) ∙ h))
 
 -- What words without a fault stand for
-operand_at : (n : ℕ) (rs : List Register) (place : Place) (w : Word) → Fits n rs (place, w) → (o : Operand) × IsOperand n rs (place, w) o
+operand_at : (n : Counts) (rs : List Register) (place : Place) (w : Word) → Fits n rs (place, w) → (o : Operand) × IsOperand n rs (place, w) o
 operand_at n rs places.Fresh w h = (operands.Target, (refl, fresh_of n rs w h))
-operand_at n rs places.Held w h = let a = held_of n rs w h in (operands.Register a.0, (refl, a.1))
+operand_at n rs (places.Held kind) w h = let a = held_of n rs w kind h in (operands.Register kind a.0, (refl, a.1))
+operand_at n rs places.Any w h = let a = named_of rs w h.0 h.1 in (operands.Any a.0, (refl, (a.1, a.2)))
+operand_at n rs places.Alike w h = let a = named_of rs w h.0 h.1 in (operands.Alike a.0, (refl, (a.1, a.2)))
 operand_at n rs places.Variable w h = let v = variable_of n rs w h in (operands.Variable v.0, (refl, (v.1, v.2)))
 operand_at n rs places.NewVariable w h = let v = variable_of n rs w h in (operands.NewVariable v.0, (refl, (v.1, v.2)))
+operand_at n rs places.Value w h = (operands.Value (integer_value w), (refl, ((h.0, refl), where_true (is_value (integer_value w)) kinds.Range h.1)))
 operand_at n rs places.Bit w h = let b = bit_of w h.0 in (operands.Bit b.0, (refl, b.1))
-operand_at n rs places.Bits w h = let bs = bits_at n rs w h in (operands.Bits bs.0, (refl, (bs.1, bs.2)))
+operand_at n rs places.Bits w h = let bs = word_of_bits w h.0 in (operands.Bits bs.0, (refl, bs.1))
 
-operands_at : (n : ℕ) (rs : List Register) (others : Operands) (slots : List (Place × Word)) → list_all has_form slots ≡ true → first_fault n rs others.variables slots ≡ None
-    → (os : List Operand) × AreOperands n rs slots os × AllNew others os
+operands_at : (n : Counts) (rs : List Register) (others : Operands) (slots : List (Place × Word)) → list_all has_form slots ≡ true → first_fault n rs (left_by others) slots ≡ None
+    → (os : List Operand) × AreOperands n rs slots os × AllFit n rs others os
 operands_at n rs others [] h e = ([], tt, tt)
 operands_at n rs others (slot ∷ slots) h e =
     let form = and_true (has_form slot) (list_all has_form slots) h in
-    let none = both (word_fault n rs others.variables slot) (first_fault n rs (named_after others.variables slot) slots) e in
-    let o = operand_at n rs slot.0 slot.1 (form.0, (both (slot_fault n rs slot) (twice_fault others.variables slot) none.0).0) in
-    let new = unless (repeats others o.0) kinds.Range (sym (word_fault_is n rs others slot o.0 o.1) ∙ none.0) in
-    let more = operands_at n rs (with_operand others o.0) slots form.1 (sym (ap (λ t. first_fault n rs t slots) (named_is n rs others slot o.0 o.1)) ∙ none.1) in
-    (o.0 ∷ more.0, (o.1, more.1), (new, more.2))
+    let none = both (word_fault n rs (left_by others) slot) (first_fault n rs (left_after rs (left_by others) slot) slots) e in
+    let o = operand_at n rs slot.0 slot.1 (form.0, (both (slot_fault n rs slot) (beside_fault n rs (left_by others) slot) none.0).0) in
+    let fits : misfit n rs others o.0 ≡ None = sym (word_fault_is n rs others slot o.0 o.1) ∙ none.0 in
+    let more = operands_at n rs (with_operand rs others o.0) slots form.1 (sym (ap (λ t. first_fault n rs t slots) (left_is n rs others slot o.0 o.1)) ∙ none.1) in
+    (o.0 ∷ more.0, (o.1, more.1), (fits, more.2))
 
 -- what a command without a fault says
-of_command : (n : ℕ) (rs : List Register) (words : List Word) (o : Option (Operation × List (Place × Word))) → command_of words ≡ o → fault_in n rs (option_map (λ known. known.1) o) ≡ None
+of_command : (n : Counts) (rs : List Register) (words : List Word) (o : Option (Operation × List (Place × Word))) → command_of words ≡ o → fault_in n rs (option_map (λ known. known.1) o) ≡ None
     → (act : Act) × Says n rs words act
 of_command n rs words None e h = cc h
 of_command n rs words (Some known) e h =
-    let well = whole (list_all has_form known.1) (first_fault n rs [] known.1) h in
+    let well = whole (list_all has_form known.1) (first_fault n rs nothing_left known.1) h in
     let os = operands_at n rs no_operands known.1 well.0 well.1 in
-    (act_of known.0 (with_operands no_operands os.0), says_from n rs words known.0 known.1 os.0 e os.1 os.2)
+    (act_of known.0 (with_operands rs no_operands os.0), says_from n rs words known.0 known.1 os.0 e os.1 os.2)
 
-command_says : (n : ℕ) (rs : List Register) (words : List Word) → command_fault n rs words ≡ None → (act : Act) × Says n rs words act
+command_says : (n : Counts) (rs : List Register) (words : List Word) → command_fault n rs words ≡ None → (act : Act) × Says n rs words act
 unfolding command_fault
 command_says n rs words h = of_command n rs words (command_of words) refl h
 
@@ -167,22 +160,22 @@ limit_low d n e = grind (arith, nat_tests)
 limit_high : (d : ℕ) → nat_le d 8388607 ≡ true → d ≤ 8388607
 limit_high d e = grind (arith, nat_tests)
 
-sized_adds : (n : ℕ) (given : Option ℕ) (words : List Word) (b : Bool) → is_session words ≡ b
+sized_adds : (n : ℕ) (elements given : Option ℕ) (words : List Word) (b : Bool) → is_session words ≡ b
     → cond b None (cond (is_some given) (Some kinds.Word) (number_fault (codes "limit") (λ limit. nat_le (5 + n) limit && nat_le limit 8388607) kinds.Limit words)) ≡ None
-    → (next : Draft) × Adds (Sized n given) words next
-sized_adds n given words true e h = (_, adds_session (n, given, session_form words e, refl, refl))
-sized_adds n (Some limit) words false e h = cc h
-sized_adds n None words false e h =
+    → (next : Draft) × Adds (Sized n elements given) words next
+sized_adds n elements given words true e h = (_, adds_session (n, elements, given, session_form words e, refl, refl))
+sized_adds n elements (Some limit) words false e h = cc h
+sized_adds n elements None words false e h =
     let form = number_form (codes "limit") (λ limit. nat_le (5 + n) limit && nat_le limit 8388607) kinds.Limit words h in
     let d = digits_value 10 form.0 in
     let range = and_true (nat_le (5 + n) d) (nat_le d 8388607) form.3 in
-    (_, adds_limit (form.0, n, d, form.1, (form.2, refl), limit_low d n range.0, limit_high d range.1, refl, refl))
+    (_, adds_limit (form.0, n, d, elements, form.1, (form.2, refl), limit_low d n range.0, limit_high d range.1, refl, refl))
 
-begun_adds : (limit : ℕ) (section : Section) (words : List Word) (b : Bool) → cond b (Some kinds.Limit) (command_fault section.scope.vars section.scope.registers words) ≡ None
+begun_adds : (limit : ℕ) (section : Section) (words : List Word) (b : Bool) → cond b (Some kinds.Limit) (command_fault section.scope.counts section.scope.registers words) ≡ None
     → (next : Draft) × Adds (Begun limit section) words next
 begun_adds limit section words true h = cc h
 begun_adds limit section words false h =
-    let says = command_says section.scope.vars section.scope.registers words h in
+    let says = command_says section.scope.counts section.scope.registers words h in
     (_, adds_command (limit, section, says.0, refl, says.1, refl))
 
 adds : (draft : Draft) (words : List Word) → words_fault (context_in draft) words ≡ None → (next : Draft) × Adds draft words next
@@ -190,7 +183,7 @@ adds draft [] h = (draft, adds_nothing refl refl)
 adds Nothing (word ∷ words) h =
     let form = number_form (codes "vars") (λ n. nat_le n 1024) kinds.Range (word ∷ words) h in
     (_, adds_vars (form.0, digits_value 10 form.0, form.1, (form.2, refl), few (digits_value 10 form.0) form.3, refl, refl))
-adds (Sized n given) (word ∷ words) h = sized_adds n given (word ∷ words) (is_session (word ∷ words)) refl h
+adds (Sized n elements given) (word ∷ words) h = sized_adds n elements given (word ∷ words) (is_session (word ∷ words)) refl h
 adds (Begun limit section) (word ∷ words) h = begun_adds limit section (word ∷ words) (is_session (word ∷ words)) h
 
 -- Each text has a reading: line by line
@@ -204,9 +197,9 @@ HasReading text = ((job : Job) × IsJobText text job) ⊎ ((place : ℕ) × (kin
 
 at_end : (text : List ℕ) (draft : Draft) → IsRead (lines_of text) draft → HasReading text
 at_end text Nothing read = inr (length (lines_of text) + 1, kinds.Word, inr (record { faultless = read.faultless; early = ap has_begun read.context; counted = refl; word = refl }))
-at_end text (Sized n given) read = inr (length (lines_of text) + 1, kinds.Word, inr (record { faultless = read.faultless; early = ap has_begun read.context; counted = refl; word = refl }))
+at_end text (Sized n elements given) read = inr (length (lines_of text) + 1, kinds.Word, inr (record { faultless = read.faultless; early = ap has_begun read.context; counted = refl; word = refl }))
 at_end text (Begun limit section) read =
-    let job : Job = record { vars = section.scope.vars; elements = 0; limit = limit; sections = section.commands ∷ [] } in
+    let job : Job = record { vars = section.scope.counts.vars; elements = section.scope.counts.elements; limit = limit; sections = section.commands ∷ [] } in
     let result : Result Job JobError = Ok job in
     inl (job, job_from text (Begun limit section) result read (limit, section, refl, refl))
 

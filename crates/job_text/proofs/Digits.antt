@@ -20,16 +20,16 @@ all_at p xs i h k = by_cases (p (get_or xs i 0)) refl
 digit_lem : (c : ℕ) → is_ascii_digit c ≡ true → digit_value c ≡ c - 48
 digit_lem c h = grind (arith, nat_tests)
 
-capped : (v d digits : ℕ) → v ≡ min digits 4000000000 → min (v * 10 + d) 4000000000 ≡ min (digits * 10 + d) 4000000000
+capped : (v d digits : ℕ) → v ≡ min digits 100000000000000000 → min (v * 10 + d) 100000000000000000 ≡ min (digits * 10 + d) 100000000000000000
 capped v d digits h = omega arith
 
-pub digits_step : (word : List ℕ) (i v b : ℕ) → list_all is_ascii_digit word ≡ true → i < length word → v ≡ min (digits_value 10 (take i word)) 4000000000 → b ≡ get_or word i 0
-    → min (v * 10 + (b - 48)) 4000000000 ≡ min (digits_value 10 (take (i + 1) word)) 4000000000
+pub digits_step : (word : List ℕ) (i v b : ℕ) → list_all is_ascii_digit word ≡ true → i < length word → v ≡ min (digits_value 10 (take i word)) 100000000000000000 → b ≡ get_or word i 0
+    → min (v * 10 + (b - 48)) 100000000000000000 ≡ min (digits_value 10 (take (i + 1) word)) 100000000000000000
 digits_step word i v b all h e at =
     let d : digit_value (get_or word i 0) ≡ get_or word i 0 - 48 = digit_lem (get_or word i 0) (all_at is_ascii_digit word i all h) in
     capped v (b - 48) (digits_value 10 (take i word)) e
-    ∙ ap (λ t. min (digits_value 10 (take i word) * 10 + t) 4000000000) (ap (λ t. t - 48) at ∙ sym d)
-    ∙ ap (λ t. min t 4000000000) (sym (digits_value_more 10 word i h))
+    ∙ ap (λ t. min (digits_value 10 (take i word) * 10 + t) 100000000000000000) (ap (λ t. t - 48) at ∙ sym d)
+    ∙ ap (λ t. min t 100000000000000000) (sym (digits_value_more 10 word i h))
 
 -- a number has digits
 and_true : (a b c : Bool) → (a && b && c) ≡ true → b ≡ true

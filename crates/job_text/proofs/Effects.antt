@@ -1,11 +1,13 @@
 -- What the operands of a command are, and what it leaves of the registers.
-use Rattle.std.proofs.Common.{◌≡◌, ℕ, Bool, true, false, cond, List, [], ◌∷◌, ◌++◌, map, drop, refl, ap, ◌∙◌, codes}
+use Rattle.edge_bits.specs.declared.edges.Kind.{Kind}
+use Rattle.std.proofs.Common.{◌≡◌, ℕ, Bool, false, cond, List, [], ◌∷◌, ◌++◌, map, drop, refl, ap, ◌∙◌, codes}
 use Rattle.std.specs.Str.{bytes_eq}
 use Rattle.job_text.specs.declared.job.Act.TheVariants as acts
+use Rattle.job_text.specs.declared.job.Counts.{Counts}
 use Rattle.job_text.specs.declared.job.Register.{Register}
 use Rattle.job_text.specs.declared.operands.Operand.{Operand}
 use Rattle.job_text.specs.Text.{Word}
-use Rattle.job_text.specs.Grammar.{Says, Spelling, assigns, tells, Spells, StandsFor, AllStandFor, Refers, registers_after, is_assignment, is_drop, target_of, without}
+use Rattle.job_text.specs.Grammar.{Says, Spelling, assigns, tells, Spells, StandsFor, AllStandFor, Refers, register_made, registers_after, is_assignment, is_drop, target_of, without}
 use Rattle.job_text.proofs.Meanings.{no_assignment}
 
 abbrev pub operands_of : Spelling → List Operand
@@ -13,30 +15,30 @@ operands_of (assigns command os) = os
 operands_of (tells command os) = os
 
 -- for each operand there is a word that stands for it
-abbrev pub EachStands : ℕ → List Register → List Operand → Type 0
+abbrev pub EachStands : Counts → List Register → List Operand → Type 0
 EachStands n rs [] = Unit {0}
 EachStands n rs (o ∷ os) = ((word : Word) × StandsFor n rs word o) × EachStands n rs os
 
-each_stands : (n : ℕ) (rs : List Register) (words : List Word) (os : List Operand) → AllStandFor n rs words os → EachStands n rs os
+each_stands : (n : Counts) (rs : List Register) (words : List Word) (os : List Operand) → AllStandFor n rs words os → EachStands n rs os
 each_stands n rs words [] h = tt
 each_stands n rs [] (o ∷ os) h = absurd h
 each_stands n rs (word ∷ words) (o ∷ os) h = ((word, h.0), each_stands n rs words os h.1)
 
-pub operands_stand : (n : ℕ) (rs : List Register) (words : List Word) (spelt : Spelling) → Spells n rs words spelt → EachStands n rs (operands_of spelt)
+pub operands_stand : (n : Counts) (rs : List Register) (words : List Word) (spelt : Spelling) → Spells n rs words spelt → EachStands n rs (operands_of spelt)
 operands_stand n rs words (assigns command os) h = each_stands n rs h.1 os h.4
 operands_stand n rs words (tells command os) h = each_stands n rs h.0 os h.2
 
-abbrev after_tests : Bool → Bool → List Register → Word → Word → List Register
-after_tests more less rs r x = cond more (rs ++ record { name = r; live = true } ∷ []) (cond less (map (without x) rs) rs)
+abbrev after_tests : Bool → Bool → List Register → Word → Word → Word → List Register
+after_tests more less rs r command x = cond more (rs ++ register_made r command ∷ []) (cond less (map (without x) rs) rs)
 
 -- an assignment adds a register
-pub one_register_more : (n : ℕ) (rs : List Register) (words : List Word) (command : Word) (os : List Operand) → Spells n rs words (assigns command os)
-    → (r : Word) × (registers_after rs words ≡ rs ++ record { name = r; live = true } ∷ [])
+pub one_register_more : (n : Counts) (rs : List Register) (words : List Word) (command : Word) (os : List Operand) → Spells n rs words (assigns command os)
+    → (r : Word) × (registers_after rs words ≡ rs ++ register_made r command ∷ [])
 one_register_more n rs words command os h = (h.0, ap (registers_after rs) h.2)
 
-not_assigning : (rs : List Register) (words : List Word) (drops : Bool) → is_assignment words ≡ false → is_drop words ≡ drops → registers_after rs words ≡ after_tests false drops rs [] (target_of (drop 1 words))
+not_assigning : (rs : List Register) (words : List Word) (drops : Bool) → is_assignment words ≡ false → is_drop words ≡ drops → registers_after rs words ≡ after_tests false drops rs [] [] (target_of (drop 1 words))
 not_assigning rs words drops e f =
-    ap (λ b. after_tests b (is_drop words) rs (target_of words) (target_of (drop 1 words))) e ∙ ap (λ b. after_tests false b rs [] (target_of (drop 1 words))) f
+    ap (λ b. after_tests b (is_drop words) rs (target_of words) (target_of (drop 2 words)) (target_of (drop 1 words))) e ∙ ap (λ b. after_tests false b rs [] [] (target_of (drop 1 words))) f
 
 no_drop : (command : Word) (rest : List Word) → bytes_eq command (codes "drop") ≡ false → is_drop (command ∷ rest) ≡ false
 no_drop command [] h = refl
@@ -44,12 +46,12 @@ no_drop command (x ∷ []) h = h
 no_drop command (x ∷ y ∷ rest) h = refl
 
 -- a command that neither assigns nor drops leaves the registers
-pub same_registers : (n : ℕ) (rs : List Register) (words : List Word) (command : Word) (os : List Operand) → bytes_eq command (codes "drop") ≡ false → Spells n rs words (tells command os) → registers_after rs words ≡ rs
+pub same_registers : (n : Counts) (rs : List Register) (words : List Word) (command : Word) (os : List Operand) → bytes_eq command (codes "drop") ≡ false → Spells n rs words (tells command os) → registers_after rs words ≡ rs
 same_registers n rs words command os other h =
     ap (registers_after rs) h.1 ∙ not_assigning rs (command ∷ h.0) false (no_assignment n rs command h.0 os h.2) (no_drop command h.0 other)
 
 -- a drop takes the register of its word away
-pub one_register_less : (n : ℕ) (rs : List Register) (words : List Word) (a : ℕ) → Says n rs words (acts.Drop a) → (x : Word) × Refers rs x a × (registers_after rs words ≡ map (without x) rs)
+pub one_register_less : (n : Counts) (rs : List Register) (words : List Word) (a : ℕ) → Says n rs words (acts.Drop a) → (x : Word) × (kind : Kind) × Refers rs x a kind × (registers_after rs words ≡ map (without x) rs)
 one_register_less n rs words a (([], e, h), proper) = absurd h
-one_register_less n rs words a ((x ∷ [], e, h), proper) = (x, h.0, ap (registers_after rs) e)
+one_register_less n rs words a ((x ∷ [], e, h), proper) = (x, h.0.0, h.0.1, ap (registers_after rs) e)
 one_register_less n rs words a ((x ∷ y ∷ rest, e, h), proper) = absurd h.1

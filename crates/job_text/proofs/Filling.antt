@@ -16,14 +16,15 @@ use Rattle.job_text.specs.declared.faults.FaultKind.{FaultKind}
 use Rattle.job_text.specs.declared.faults.FaultKind.TheVariants as kinds
 use Rattle.job_text.specs.declared.faults.Stop.{Stop}
 use Rattle.job_text.specs.declared.faults.Stop.TheVariants as stops
+use Rattle.job_text.specs.declared.job.Counts.{Counts}
 use Rattle.job_text.specs.declared.job.Register.{Register}
 use Rattle.job_text.specs.declared.operands.Operand.{Operand}
 use Rattle.job_text.specs.declared.operands.Operands.{Operands}
 use Rattle.job_text.specs.Text.{Word}
-use Rattle.job_text.specs.Faults.{Form, form_in, filled, command_in, command_of, has_form, twice_fault, word_fault, named_after, first_fault, fault_in, command_fault, or_else}
-use Rattle.job_text.specs.Drafts.{form_of, slot_of, line_of, or_again, IsOperand, AreOperands, no_operands, with_operand, with_operands, repeats, AllNew, SlotStop, SlotsStop, CommandStop}
+use Rattle.job_text.specs.Faults.{Form, form_in, filled, command_in, command_of, has_form, beside_fault, word_fault, left_after, nothing_left, first_fault, fault_in, command_fault, or_else}
+use Rattle.job_text.specs.Drafts.{form_of, slot_of, line_of, or_again, IsOperand, AreOperands, no_operands, with_operand, with_operands, misfit, left_by, AllFit, SlotStop, SlotsStop, CommandStop}
 use Rattle.job_text.proofs.Meanings.{word_fault_is, no_word_fault}
-use Rattle.job_text.proofs.Naming.{named_is}
+use Rattle.job_text.proofs.Naming.{left_is}
 
 -- the first command of this word
 pub found_here : (ks : List Known) (w : Word) (i : ℕ) (d : Known) → i < length ks → form_in (map form_of (take i ks)) w ≡ None → bytes_eq (get_or ks i d).word.now w ≡ true
@@ -83,35 +84,35 @@ fills_none [] (p ∷ ps) w words e = cc
 fills_none (p ∷ due) repeated w words e = cc
 
 -- Words at their places stand for operands, up to one that has a fault.
-pub operands_more : (n : ℕ) (rs : List Register) (slots : List (Place × Word)) (slot : Place × Word) (os : List Operand) (o : Operand) → AreOperands n rs slots os → IsOperand n rs slot o
+pub operands_more : (n : Counts) (rs : List Register) (slots : List (Place × Word)) (slot : Place × Word) (os : List Operand) (o : Operand) → AreOperands n rs slots os → IsOperand n rs slot o
     → AreOperands n rs (slots ++ slot ∷ []) (os ++ o ∷ [])
 operands_more n rs [] slot [] o h more = (more, tt)
 operands_more n rs [] slot (x ∷ os) o h more = absurd h
 operands_more n rs (s ∷ slots) slot [] o h more = absurd h
 operands_more n rs (s ∷ slots) slot (x ∷ os) o h more = (h.0, operands_more n rs slots slot os o h.1 more)
 
-pub with_more : (given : Operands) (os : List Operand) (o : Operand) → with_operands given (os ++ o ∷ []) ≡ with_operand (with_operands given os) o
-with_more given [] o = refl
-with_more given (x ∷ os) o = with_more (with_operand given x) os o
+pub with_more : (rs : List Register) (given : Operands) (os : List Operand) (o : Operand) → with_operands rs given (os ++ o ∷ []) ≡ with_operand rs (with_operands rs given os) o
+with_more rs given [] o = refl
+with_more rs given (x ∷ os) o = with_more rs (with_operand rs given x) os o
 
-pub new_more : (others : Operands) (os : List Operand) (o : Operand) → AllNew others os → repeats (with_operands others os) o ≡ false → AllNew others (os ++ o ∷ [])
-new_more others [] o h new = (new, tt)
-new_more others (x ∷ os) o h new = (h.0, new_more (with_operand others x) os o h.1 new)
+pub fit_more : (n : Counts) (rs : List Register) (others : Operands) (os : List Operand) (o : Operand) → AllFit n rs others os → misfit n rs (with_operands rs others os) o ≡ None → AllFit n rs others (os ++ o ∷ [])
+fit_more n rs others [] o h new = (new, tt)
+fit_more n rs others (x ∷ os) o h new = (h.0, fit_more n rs (with_operand rs others x) os o h.1 new)
 
-fault_behind : (n : ℕ) (rs : List Register) (others : Operands) (slots : List (Place × Word)) (slot : Place × Word) (rest : List (Place × Word)) (os : List Operand) (fault : FaultKind) → AreOperands n rs slots os
-    → AllNew others os → word_fault n rs (with_operands others os).variables slot ≡ Some fault → first_fault n rs others.variables (slots ++ slot ∷ rest) ≡ Some fault
-fault_behind n rs others [] slot rest [] fault h new e = ap (λ o. or_else o (first_fault n rs (named_after others.variables slot) rest)) e
+fault_behind : (n : Counts) (rs : List Register) (others : Operands) (slots : List (Place × Word)) (slot : Place × Word) (rest : List (Place × Word)) (os : List Operand) (fault : FaultKind) → AreOperands n rs slots os
+    → AllFit n rs others os → word_fault n rs (left_by (with_operands rs others os)) slot ≡ Some fault → first_fault n rs (left_by others) (slots ++ slot ∷ rest) ≡ Some fault
+fault_behind n rs others [] slot rest [] fault h new e = ap (λ o. or_else o (first_fault n rs (left_after rs (left_by others) slot) rest)) e
 fault_behind n rs others [] slot rest (o ∷ os) fault h new e = absurd h
 fault_behind n rs others (s ∷ slots) slot rest [] fault h new e = absurd h
 fault_behind n rs others (s ∷ slots) slot rest (o ∷ os) fault h new e =
-    ap (λ t. or_else t (first_fault n rs (named_after others.variables s) (slots ++ slot ∷ rest))) (no_word_fault n rs others s o h.0 new.0)
-    ∙ ap (λ t. first_fault n rs t (slots ++ slot ∷ rest)) (named_is n rs others s o h.0)
-    ∙ fault_behind n rs (with_operand others o) slots slot rest os fault h.1 new.1 e
+    ap (λ t. or_else t (first_fault n rs (left_after rs (left_by others) s) (slots ++ slot ∷ rest))) (no_word_fault n rs others s o h.0 new.0)
+    ∙ ap (λ t. first_fault n rs t (slots ++ slot ∷ rest)) (left_is n rs others s o h.0)
+    ∙ fault_behind n rs (with_operand rs others o) slots slot rest os fault h.1 new.1 e
 
-first_at : (n : ℕ) (rs : List Register) (slots : List Slot) (i : ℕ) (d : Slot) (os : List Operand) (fault : FaultKind) → i < length slots → AreOperands n rs (map slot_of (take i slots)) os
-    → AllNew no_operands os → word_fault n rs (with_operands no_operands os).variables (slot_of (get_or slots i d)) ≡ Some fault → first_fault n rs [] (map slot_of slots) ≡ Some fault
+first_at : (n : Counts) (rs : List Register) (slots : List Slot) (i : ℕ) (d : Slot) (os : List Operand) (fault : FaultKind) → i < length slots → AreOperands n rs (map slot_of (take i slots)) os
+    → AllFit n rs no_operands os → word_fault n rs (left_by (with_operands rs no_operands os)) (slot_of (get_or slots i d)) ≡ Some fault → first_fault n rs nothing_left (map slot_of slots) ≡ Some fault
 first_at n rs slots i d os fault lt h new e =
-    ap (first_fault n rs []) (split slots i lt) ∙ fault_behind n rs no_operands (map slot_of (take i slots)) (slot_of (get_or slots i d)) (map slot_of (drop (suc i) slots)) os fault h new e
+    ap (first_fault n rs nothing_left) (split slots i lt) ∙ fault_behind n rs no_operands (map slot_of (take i slots)) (slot_of (get_or slots i d)) (map slot_of (drop (suc i) slots)) os fault h new e
   where
     split : (slots : List Slot) (i : ℕ) → i < length slots → map slot_of slots ≡ map slot_of (take i slots) ++ slot_of (get_or slots i d) ∷ map slot_of (drop (suc i) slots)
     split [] i lt = absurd (omega arith)
@@ -188,37 +189,36 @@ filled_is forms before command words own slots found e =
     ∙ ap (λ o. option_and_then (λ known. option_map {U = Operation × List (Place × Word)} (λ more. (known.operation, before ++ more)) (filled known.places known.repeated words)) o) found
 
 -- why a line is no command
-pub no_command : (n : ℕ) (rs : List Register) (words : List Word) (o : Option Line) → option_map line_of o ≡ command_of words → o ≡ None → command_fault n rs words ≡ Some kinds.Word
+pub no_command : (n : Counts) (rs : List Register) (words : List Word) (o : Option Line) → option_map line_of o ≡ command_of words → o ≡ None → command_fault n rs words ≡ Some kinds.Word
 unfolding command_fault
 no_command n rs words o e none = ap (λ t. fault_in n rs (option_map (λ known. known.1) t)) (sym e ∙ ap (option_map line_of) none)
 
-pub of_line : (n : ℕ) (rs : List Register) (words : List Word) (o : Option Line) (line : Line) → option_map line_of o ≡ command_of words → o ≡ Some line
+pub of_line : (n : Counts) (rs : List Register) (words : List Word) (o : Option Line) (line : Line) → option_map line_of o ≡ command_of words → o ≡ Some line
     → command_fault n rs words ≡ fault_in n rs (Some (map slot_of line.slots.items))
 unfolding command_fault
 of_line n rs words o line e some = ap (λ t. fault_in n rs (option_map (λ known. known.1) t)) (sym e ∙ ap (option_map line_of) some)
 
-pub ill_formed : (n : ℕ) (rs : List Register) (slots items : List Slot) → slots ≡ items → list_all (λ slot. has_form (slot_of slot)) slots ≡ false → fault_in n rs (Some (map slot_of items)) ≡ Some kinds.Word
+pub ill_formed : (n : Counts) (rs : List Register) (slots items : List Slot) → slots ≡ items → list_all (λ slot. has_form (slot_of slot)) slots ≡ false → fault_in n rs (Some (map slot_of items)) ≡ Some kinds.Word
 ill_formed n rs slots items same h =
-    ap (λ b. cond b (first_fault n rs [] (map slot_of items)) (Some kinds.Word)) (list_all-map has_form slot_of items ∙ ap (list_all (λ slot. has_form (slot_of slot))) (sym same) ∙ h)
+    ap (λ b. cond b (first_fault n rs nothing_left (map slot_of items)) (Some kinds.Word)) (list_all-map has_form slot_of items ∙ ap (list_all (λ slot. has_form (slot_of slot))) (sym same) ∙ h)
 
 pub well_formed : (slots items : List Slot) → slots ≡ items → list_all (λ slot. has_form (slot_of slot)) slots ≡ true → list_all has_form (map slot_of items) ≡ true
 well_formed slots items same h = list_all-map has_form slot_of items ∙ ap (list_all (λ slot. has_form (slot_of slot))) (sym same) ∙ h
 
-pub slots_stop : (n : ℕ) (rs : List Register) (slots : List Slot) (i : ℕ) (d : Slot) (os : List Operand) (stop : Stop) → i < length slots
-    → AreOperands n rs (map slot_of (take i slots)) os → AllNew no_operands os → SlotStop n rs (slot_of (get_or slots i d)) stop → SlotsStop n rs (map slot_of slots) stop
+pub slots_stop : (n : Counts) (rs : List Register) (slots : List Slot) (i : ℕ) (d : Slot) (os : List Operand) (stop : Stop) → i < length slots
+    → AreOperands n rs (map slot_of (take i slots)) os → AllFit n rs no_operands os → SlotStop n rs (slot_of (get_or slots i d)) stop → SlotsStop n rs (map slot_of slots) stop
 slots_stop n rs slots i d os stops.Memory lt h new e = tt
 slots_stop n rs slots i d os (stops.Fault fault) lt h new e =
-    first_at n rs slots i d os fault lt h new (ap (λ t. or_else t (twice_fault (with_operands no_operands os).variables (slot_of (get_or slots i d)))) e)
+    first_at n rs slots i d os fault lt h new (ap (λ t. or_else t (beside_fault n rs (left_by (with_operands rs no_operands os)) (slot_of (get_or slots i d)))) e)
 
--- a variable that is named again
-pub twice_stop : (n : ℕ) (rs : List Register) (slots : List Slot) (i : ℕ) (d : Slot) (os : List Operand) (o : Operand) → i < length slots → AreOperands n rs (map slot_of (take i slots)) os → AllNew no_operands os
-    → IsOperand n rs (slot_of (get_or slots i d)) o → repeats (with_operands no_operands os) o ≡ true → first_fault n rs [] (map slot_of slots) ≡ Some kinds.Range
-twice_stop n rs slots i d os o lt h new own again =
-    first_at n rs slots i d os kinds.Range lt h new
-    (word_fault_is n rs (with_operands no_operands os) (slot_of (get_or slots i d)) o own ∙ ap (λ b. cond b (Some kinds.Range) None) again)
+-- an operand that doesn't fit those to its left
+pub misfit_stop : (n : Counts) (rs : List Register) (slots : List Slot) (i : ℕ) (d : Slot) (os : List Operand) (o : Operand) (fault : FaultKind) → i < length slots → AreOperands n rs (map slot_of (take i slots)) os
+    → AllFit n rs no_operands os → IsOperand n rs (slot_of (get_or slots i d)) o → misfit n rs (with_operands rs no_operands os) o ≡ Some fault → first_fault n rs nothing_left (map slot_of slots) ≡ Some fault
+misfit_stop n rs slots i d os o fault lt h new own wrong =
+    first_at n rs slots i d os fault lt h new (word_fault_is n rs (with_operands rs no_operands os) (slot_of (get_or slots i d)) o own ∙ wrong)
 
-pub command_stop : (n : ℕ) (rs : List Register) (words : List Word) (slots items : List Slot) (stop : Stop) → command_fault n rs words ≡ fault_in n rs (Some (map slot_of items)) → slots ≡ items
+pub command_stop : (n : Counts) (rs : List Register) (words : List Word) (slots items : List Slot) (stop : Stop) → command_fault n rs words ≡ fault_in n rs (Some (map slot_of items)) → slots ≡ items
     → list_all has_form (map slot_of items) ≡ true → SlotsStop n rs (map slot_of slots) stop → CommandStop n rs words stop
 command_stop n rs words slots items stops.Memory e same h stop = tt
 command_stop n rs words slots items (stops.Fault fault) e same h stop =
-    e ∙ ap (λ b. cond b (first_fault n rs [] (map slot_of items)) (Some kinds.Word)) h ∙ ap (λ t. first_fault n rs [] (map slot_of t)) (sym same) ∙ stop
+    e ∙ ap (λ b. cond b (first_fault n rs nothing_left (map slot_of items)) (Some kinds.Word)) h ∙ ap (λ t. first_fault n rs nothing_left (map slot_of t)) (sym same) ∙ stop

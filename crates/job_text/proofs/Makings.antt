@@ -1,10 +1,11 @@
 -- What is made of a line that has the form of a command.
-use Rattle.std.proofs.Common.{◌≡◌, ℕ, Bool, true, false, cond, List, [], ◌∷◌, ◌++◌, Option, Some, None, option_map, option_and_then, refl, ap, sym, ◌∙◌, subst, codes}
+use Rattle.std.proofs.Common.{◌≡◌, Bool, true, false, cond, List, [], ◌∷◌, ◌++◌, Option, Some, None, option_map, option_and_then, refl, ap, sym, ◌∙◌, subst, codes}
 use Rattle.std.specs.Str.{bytes_eq}
 use Rattle.std.proofs.lemmas.Slice.Eq.{bytes_eq-Decides}
 use Rattle.job_text.specs.declared.commands.Operation.{Operation}
 use Rattle.job_text.specs.declared.commands.Place.{Place}
 use Rattle.job_text.specs.declared.commands.Place.TheVariants.{Fresh}
+use Rattle.job_text.specs.declared.job.Counts.{Counts}
 use Rattle.job_text.specs.declared.job.Register.{Register}
 use Rattle.job_text.specs.declared.operands.Operand.{Operand}
 use Rattle.job_text.specs.declared.operands.Operand.TheVariants as operands
@@ -12,7 +13,7 @@ use Rattle.job_text.specs.declared.operands.Operands.{Operands}
 use Rattle.job_text.specs.Text.{Word}
 use Rattle.job_text.specs.Grammar.{Says, Spelling, assigns, tells, spelling, Spells, IsProper, IsFresh, AllStandFor}
 use Rattle.job_text.specs.Faults.{Form, form_in, filled, command_in, command_of, assignment_of, telling_of, assigning, telling}
-use Rattle.job_text.specs.Drafts.{IsOperand, AreOperands, no_operands, with_operand, with_operands, AllNew, act_of}
+use Rattle.job_text.specs.Drafts.{IsOperand, AreOperands, no_operands, with_operand, with_operands, AllFit, act_of}
 use Rattle.job_text.proofs.Spellings.{Follows, each_assigns, each_tells, found_builds}
 
 -- The command of a line in a table, and its places.
@@ -43,10 +44,10 @@ filled_from forms before command words operation slots h = by_form (form_in form
     by_form (Some own) e g = by_slots own e (filled own.places own.repeated words) refl g
 
 -- the operands of words at their places
-abbrev Meant : ℕ → List Register → List Place → List Place → List Word → List Operand → Type 0
+abbrev Meant : Counts → List Register → List Place → List Place → List Word → List Operand → Type 0
 Meant n rs due repeated words os = Follows due repeated os × AllStandFor n rs words os
 
-one_more : (n : ℕ) (rs : List Register) (place : Place) (w : Word) (o : Option (List (Place × Word))) (slots : List (Place × Word)) (os : List Operand) → option_map (λ more. (place, w) ∷ more) o ≡ Some slots
+one_more : (n : Counts) (rs : List Register) (place : Place) (w : Word) (o : Option (List (Place × Word))) (slots : List (Place × Word)) (os : List Operand) → option_map (λ more. (place, w) ∷ more) o ≡ Some slots
     → AreOperands n rs slots os → (more : List (Place × Word)) × (operand : Operand) × (rest : List Operand) × (o ≡ Some more) × (os ≡ operand ∷ rest) × IsOperand n rs (place, w) operand × AreOperands n rs more rest
 one_more n rs place w None slots os e h = cc
 one_more n rs place w (Some more) [] os e h = cc
@@ -56,7 +57,7 @@ one_more n rs place w (Some more) (slot ∷ slots) (o ∷ os) e h =
     let rest : more ≡ slots = cc in
     (more, o, os, refl, refl, subst (λ (t : Place × Word). IsOperand n rs t o) (sym same) h.0, subst (λ (t : List (Place × Word)). AreOperands n rs t os) (sym rest) h.1)
 
-meant : (n : ℕ) (rs : List Register) (due repeated : List Place) (words : List Word) (slots : List (Place × Word)) (os : List Operand) → filled due repeated words ≡ Some slots → AreOperands n rs slots os
+meant : (n : Counts) (rs : List Register) (due repeated : List Place) (words : List Word) (slots : List (Place × Word)) (os : List Operand) → filled due repeated words ≡ Some slots → AreOperands n rs slots os
     → Meant n rs due repeated words os
 meant n rs [] repeated [] [] [] e h = (tt, tt)
 meant n rs [] repeated [] [] (o ∷ os) e h = absurd h
@@ -73,47 +74,50 @@ meant n rs (p ∷ ps) repeated (w ∷ words) slots os e h =
     subst (λ (t : List Operand). Meant n rs (p ∷ ps) repeated (w ∷ words) t) (sym k.4) ((k.5.0, more.0), (k.5.1, more.1))
 
 -- a target is fresh, and nothing more
-target_is : (n : ℕ) (rs : List Register) (r : Word) (o : Operand) → IsOperand n rs (Fresh, r) o → IsFresh rs r × (with_operand no_operands o ≡ no_operands)
+target_is : (n : Counts) (rs : List Register) (r : Word) (o : Operand) → IsOperand n rs (Fresh, r) o → IsFresh rs r × (with_operand rs no_operands o ≡ no_operands)
 target_is n rs r operands.Target h = (h.1, refl)
-target_is n rs r (operands.Register a) h = cc h.0
+target_is n rs r (operands.Register kind a) h = cc h.0
+target_is n rs r (operands.Any a) h = cc h.0
+target_is n rs r (operands.Alike a) h = cc h.0
 target_is n rs r (operands.Variable v) h = cc h.0
 target_is n rs r (operands.NewVariable v) h = cc h.0
+target_is n rs r (operands.Value w) h = cc h.0
 target_is n rs r (operands.Bit b) h = cc h.0
 target_is n rs r (operands.Bits bits) h = cc h.0
 
-assigns_from : (n : ℕ) (rs : List Register) (words : List Word) (r command : Word) (rest : List Word) (operation : Operation) (slots : List (Place × Word)) (os : List Operand)
-    → words ≡ r ∷ codes "=" ∷ command ∷ rest → IsFilled assigning ((Fresh, r) ∷ []) command rest operation slots → AreOperands n rs slots os → AllNew no_operands os → Says n rs words (act_of operation (with_operands no_operands os))
+assigns_from : (n : Counts) (rs : List Register) (words : List Word) (r command : Word) (rest : List Word) (operation : Operation) (slots : List (Place × Word)) (os : List Operand)
+    → words ≡ r ∷ codes "=" ∷ command ∷ rest → IsFilled assigning ((Fresh, r) ∷ []) command rest operation slots → AreOperands n rs slots os → AllFit n rs no_operands os → Says n rs words (act_of operation (with_operands rs no_operands os))
 assigns_from n rs words r command rest operation slots [] e h a new = absurd (subst (λ (t : List (Place × Word)). AreOperands n rs t []) (sym h.all) a)
 assigns_from n rs words r command rest operation slots (o ∷ os) e h a new =
     let all : IsOperand n rs (Fresh, r) o × AreOperands n rs h.behind os = subst (λ (t : List (Place × Word)). AreOperands n rs t (o ∷ os)) (sym h.all) a in
     let target = target_is n rs r o all.0 in
     let own = meant n rs h.own.places h.own.repeated rest h.behind os h.fills all.1 in
-    let builds = found_builds assigns assigning command h.own h.found each_assigns in
-    let made = builds.0 os own.0 (subst (λ (t : Operands). AllNew t os) target.1 new.1) in
-    let same = ap (λ t. act_of operation (with_operands t os)) target.1 ∙ ap (λ t. act_of t (with_operands no_operands os)) (sym h.does) in
-    let spelt : spelling (act_of operation (with_operands no_operands (o ∷ os))) ≡ assigns command os = ap spelling same ∙ made.0 ∙ ap (λ t. assigns t os) builds.1 in
-    (subst (λ (t : Spelling). Spells n rs words t) (sym spelt) (r, rest, e, target.0, own.1), subst IsProper (sym same) made.1)
+    let builds = found_builds n rs assigns assigning command h.own h.found (each_assigns n rs) in
+    let made = builds.0 os own.0 (subst (λ (t : Operands). AllFit n rs t os) target.1 new.1) in
+    let same = ap (λ t. act_of operation (with_operands rs t os)) target.1 ∙ ap (λ t. act_of t (with_operands rs no_operands os)) (sym h.does) in
+    let spelt : spelling (act_of operation (with_operands rs no_operands (o ∷ os))) ≡ assigns command os = ap spelling same ∙ made.0 ∙ ap (λ t. assigns t os) builds.1 in
+    (subst (λ (t : Spelling). Spells n rs words t) (sym spelt) (r, rest, e, target.0, own.1), subst (IsProper n rs) (sym same) made.1)
 
-tells_from : (n : ℕ) (rs : List Register) (words : List Word) (command : Word) (rest : List Word) (operation : Operation) (slots : List (Place × Word)) (os : List Operand)
-    → words ≡ command ∷ rest → IsFilled telling [] command rest operation slots → AreOperands n rs slots os → AllNew no_operands os → Says n rs words (act_of operation (with_operands no_operands os))
+tells_from : (n : Counts) (rs : List Register) (words : List Word) (command : Word) (rest : List Word) (operation : Operation) (slots : List (Place × Word)) (os : List Operand)
+    → words ≡ command ∷ rest → IsFilled telling [] command rest operation slots → AreOperands n rs slots os → AllFit n rs no_operands os → Says n rs words (act_of operation (with_operands rs no_operands os))
 tells_from n rs words command rest operation slots os e h a new =
     let all : AreOperands n rs h.behind os = subst (λ (t : List (Place × Word)). AreOperands n rs t os) (sym h.all) a in
     let own = meant n rs h.own.places h.own.repeated rest h.behind os h.fills all in
-    let builds = found_builds tells telling command h.own h.found each_tells in
+    let builds = found_builds n rs tells telling command h.own h.found (each_tells n rs) in
     let made = builds.0 os own.0 new in
-    let same = ap (λ t. act_of t (with_operands no_operands os)) (sym h.does) in
-    let spelt : spelling (act_of operation (with_operands no_operands os)) ≡ tells command os = ap spelling same ∙ made.0 ∙ ap (λ t. tells t os) builds.1 in
-    (subst (λ (t : Spelling). Spells n rs words t) (sym spelt) (rest, e, own.1), subst IsProper (sym same) made.1)
+    let same = ap (λ t. act_of t (with_operands rs no_operands os)) (sym h.does) in
+    let spelt : spelling (act_of operation (with_operands rs no_operands os)) ≡ tells command os = ap spelling same ∙ made.0 ∙ ap (λ t. tells t os) builds.1 in
+    (subst (λ (t : Spelling). Spells n rs words t) (sym spelt) (rest, e, own.1), subst (IsProper n rs) (sym same) made.1)
 
-pub says_from : (n : ℕ) (rs : List Register) (words : List Word) (operation : Operation) (slots : List (Place × Word)) (os : List Operand) → command_of words ≡ Some (operation, slots) → AreOperands n rs slots os
-    → AllNew no_operands os → Says n rs words (act_of operation (with_operands no_operands os))
+pub says_from : (n : Counts) (rs : List Register) (words : List Word) (operation : Operation) (slots : List (Place × Word)) (os : List Operand) → command_of words ≡ Some (operation, slots) → AreOperands n rs slots os
+    → AllFit n rs no_operands os → Says n rs words (act_of operation (with_operands rs no_operands os))
 says_from n rs [] operation slots os e h new = cc
 says_from n rs (first ∷ []) operation slots os e h new = tells_from n rs (first ∷ []) first [] operation slots os refl (filled_from telling [] first [] operation slots e) h new
 says_from n rs (first ∷ second ∷ []) operation slots os e h new =
     tells_from n rs (first ∷ second ∷ []) first (second ∷ []) operation slots os refl (filled_from telling [] first (second ∷ []) operation slots e) h new
 says_from n rs (first ∷ second ∷ third ∷ words) operation slots os e h new = by_cases (bytes_eq second (codes "=")) refl
   where
-    by_cases : (b : Bool) → bytes_eq second (codes "=") ≡ b → Says n rs (first ∷ second ∷ third ∷ words) (act_of operation (with_operands no_operands os))
+    by_cases : (b : Bool) → bytes_eq second (codes "=") ≡ b → Says n rs (first ∷ second ∷ third ∷ words) (act_of operation (with_operands rs no_operands os))
     by_cases true f =
         assigns_from n rs (first ∷ second ∷ third ∷ words) first third words operation slots os (ap (λ t. first ∷ t ∷ third ∷ words) ((bytes_eq-Decides second (codes "=")).0 f))
         (filled_from assigning ((Fresh, first) ∷ []) third words operation slots (sym (ap (λ b. cond b (assignment_of first third words) (telling_of first (second ∷ third ∷ words))) f) ∙ e)) h new

@@ -1,13 +1,16 @@
 -- Words that say something have no fault.
-use Rattle.std.proofs.Common.{◌≡◌, ◌≢◌, ℕ, zero, suc, ◌==◌, ◌<◌, ◌&&◌, ◌||◌, Bool, true, false, not, cond, List, [], ◌∷◌, ◌++◌, length, map, Some, None, option_map, option_and_then, refl, ap, sym, ◌∙◌, subst, arith, codes}
-use Rattle.std.specs.Prelude.{slice_get, nat_lt}
+use Rattle.std.proofs.Common.{◌≡◌, ◌≢◌, ℕ, suc, ◌<◌, ◌&&◌, ◌||◌, Bool, true, false, cond, List, [], ◌∷◌, ◌++◌, Some, None, option_map, option_and_then, refl, ap, sym, ◌∙◌, subst, arith, codes}
+use Rattle.std.specs.Prelude.{nat_lt}
 use Rattle.std.specs.List.{list_any, list_all, All}
 use Rattle.std.specs.Str.{bytes_eq}
 use Rattle.std.specs.Str.Parse.{digits_value}
 use Rattle.std.proofs.lemmas.Bool.{false≢true}
 use Rattle.std.proofs.lemmas.Bool.Decides.{nat_tests}
 use Rattle.std.proofs.lemmas.Slice.Eq.{bytes_eq-Decides}
+use Rattle.edge_bits.specs.declared.edges.Kind.{Kind}
+use Rattle.function_laws.specs.Numbers.{is_value}
 use Rattle.job_text.specs.declared.job.Act.{Act}
+use Rattle.job_text.specs.declared.job.Counts.{Counts}
 use Rattle.job_text.specs.declared.commands.Place.{Place}
 use Rattle.job_text.specs.declared.commands.Place.TheVariants as places
 use Rattle.job_text.specs.declared.job.Register.{Register}
@@ -15,16 +18,18 @@ use Rattle.job_text.specs.declared.operands.Operand.{Operand}
 use Rattle.job_text.specs.declared.operands.Operand.TheVariants as operands
 use Rattle.job_text.specs.declared.operands.Operands.{Operands}
 use Rattle.job_text.specs.declared.faults.FaultKind.TheVariants as kinds
-use Rattle.job_text.specs.Text.{Word, IsNumber, is_name, is_number, bit_word}
-use Rattle.job_text.specs.Grammar.{Says, Spelling, assigns, tells, Spells, spelling, StandsFor, AllStandFor, IsFresh, Refers, is_assignment}
-use Rattle.job_text.specs.Faults.{Form, form_in, assigning, telling, filled, command_in, has_form, slot_fault, twice_fault, word_fault, named_after, first_fault, fault_in, or_else, command_fault, command_of, is_bit, is_bits, bits_in, is_session}
-use Rattle.job_text.specs.Drafts.{place_of, IsOperand, AreOperands, no_operands, with_operand, repeats, AllNew}
+use Rattle.job_text.specs.Text.{Word, IsNumber, is_name, is_number, is_integer, bit_word}
+use Rattle.job_text.specs.Grammar.{Says, Spelling, assigns, tells, Spells, spelling, StandsFor, AllStandFor, IsFresh, Refers, is_assignment, is_called, kind_of}
+use Rattle.job_text.specs.Faults.{Form, form_in, assigning, telling, filled, command_in, has_form, slot_fault, beside_fault, word_fault, left_after, nothing_left, first_fault, fault_in, or_else, command_fault, command_of, is_bit, is_bits, is_session, name_fault, kind_fault, register_called}
+use Rattle.job_text.specs.Drafts.{place_of, IsOperand, AreOperands, no_operands, with_operand, misfit, left_by, AllFit}
+use Rattle.job_text.proofs.Bits.{form_of_bits}
 use Rattle.job_text.proofs.Forms.{telling_is}
-use Rattle.job_text.proofs.Naming.{named_is, twice_is}
+use Rattle.job_text.proofs.Naming.{left_is, beside_is}
+use Rattle.job_text.proofs.RegisterLists.{called_is, kind_itself}
 use Rattle.job_text.proofs.Spellings.{Follows, IsKnown, known}
 
 -- the word has the form that is due, and no fault
-abbrev pub Fits : ℕ → List Register → Place × Word → Type 0
+abbrev pub Fits : Counts → List Register → Place × Word → Type 0
 Fits n registers slot = (has_form slot ≡ true) × (slot_fault n registers slot ≡ None)
 
 other_name : (r : Register) (w : Word) → r.name ≢ w → bytes_eq r.name w ≡ false
@@ -34,112 +39,64 @@ other_name r w h = by_cases (bytes_eq r.name w) refl
     by_cases false e = e
     by_cases true e = absurd (h ((bytes_eq-Decides r.name w).0 e))
 
-any_none : (rs : List Register) (w : Word) → All (λ register. register.name ≢ w) rs → list_any (λ register. bytes_eq register.name w) rs ≡ false
+any_none : (rs : List Register) (w : Word) → All (λ register. register.name ≢ w) rs → list_any (is_called w) rs ≡ false
 any_none [] w h = refl
-any_none (r ∷ rs) w h =
-    ap (λ b. b || list_any (λ register. bytes_eq register.name w) rs) (other_name r w (h 0 r (omega arith)))
-    ∙ any_none rs w (λ k d lt. h (suc k) d (omega arith))
+any_none (r ∷ rs) w h = ap (λ b. b || list_any (is_called w) rs) (other_name r w (h 0 r (omega arith))) ∙ any_none rs w (λ k d lt. h (suc k) d (omega arith))
 
-or_true : (a : Bool) → (a || true) ≡ true
-or_true true = refl
-or_true false = refl
-
-same_some : (r : Register) (w : Word) → Some r ≡ Some (record { name = w; live = true }) → (bytes_eq r.name w && r.live) ≡ true
-same_some r w e =
-    let same : r ≡ record { name = w; live = true } = cc in
-    ap (λ (q : Register). bytes_eq q.name w && q.live) same ∙ ap (λ b. b && true) ((bytes_eq-Decides w w).1 refl)
-
-any_one : (rs : List Register) (w : Word) (a : ℕ) → slice_get rs a ≡ Some (record { name = w; live = true }) → list_any (λ register. bytes_eq register.name w && register.live) rs ≡ true
-any_one [] w a h = cc
-any_one (r ∷ rs) w zero h = ap (λ b. b || list_any (λ register. bytes_eq register.name w && register.live) rs) (same_some r w h)
-any_one (r ∷ rs) w (suc a) h = ap (λ b. (bytes_eq r.name w && r.live) || b) (any_one rs w a h) ∙ or_true (bytes_eq r.name w && r.live)
-
-pub fresh_fits : (n : ℕ) (rs : List Register) (w : Word) → IsFresh rs w → Fits n rs (places.Fresh, w)
+pub fresh_fits : (n : Counts) (rs : List Register) (w : Word) → IsFresh rs w → Fits n rs (places.Fresh, w)
 fresh_fits n rs w h = (h.0, ap (λ b. cond b (Some kinds.Again) None) (any_none rs w h.1))
 
-pub held_fits : (n : ℕ) (rs : List Register) (w : Word) (a : ℕ) → Refers rs w a → Fits n rs (places.Held, w)
-held_fits n rs w a h = (h.0, ap (λ b. cond b None (Some kinds.Name)) (any_one rs w a h.1))
+pub held_fits : (n : Counts) (rs : List Register) (w : Word) (a : ℕ) (kind : Kind) → Refers rs w a kind → Fits n rs (places.Held kind, w)
+held_fits n rs w a kind h = (h.0, ap (λ o. or_else (name_fault o) (kind_fault kind (kind_of o))) (called_is rs w a kind h) ∙ kind_itself kind)
+
+named_well : (rs : List Register) (w : Word) (a : ℕ) (kind : Kind) → Refers rs w a kind → name_fault (register_called rs w) ≡ None
+named_well rs w a kind h = ap name_fault (called_is rs w a kind h)
 
 below : (v d n : ℕ) → d ≡ v → v < n → nat_lt d n ≡ true
 below v d n e h = grind (arith, nat_tests)
 
-pub variable_fits : (n : ℕ) (rs : List Register) (w : Word) (v : ℕ) → IsNumber w v → v < n → Fits n rs (places.Variable, w)
-variable_fits n rs w v h lt = (h.0, ap (λ b. cond b None (Some kinds.Range)) (below v (digits_value 10 w) n h.1 lt))
+pub variable_fits : (n : Counts) (rs : List Register) (w : Word) (v : ℕ) → IsNumber w v → v < n.vars → Fits n rs (places.Variable, w)
+variable_fits n rs w v h lt = (h.0, ap (λ b. cond b None (Some kinds.Range)) (below v (digits_value 10 w) n.vars h.1 lt))
 
-abbrev pub digits_of : List Bool → List ℕ
-digits_of bs = map (λ c. cond c 49 48) bs
-
-length_word : (bs : List Bool) → length (digits_of bs) ≡ length bs
-length_word [] = refl
-length_word (b ∷ bs) = ap suc (length_word bs)
-
-all_bits : (bs : List Bool) → list_all (λ b. b == 48 || b == 49) (digits_of bs) ≡ true
-all_bits [] = refl
-all_bits (true ∷ bs) = all_bits bs
-all_bits (false ∷ bs) = all_bits bs
-
-pub no_none : (b : Bool) (bs : List Bool) → bytes_eq (bit_word (b ∷ bs)) (codes "none") ≡ false
-no_none true bs = refl
-no_none false bs = refl
-
-not_zero : (n : ℕ) → (suc n == 0) ≡ false
-not_zero n = grind (arith, nat_tests)
-
-form_of_bits : (bs : List Bool) → is_bits (bit_word bs) ≡ true
-form_of_bits [] = refl
-form_of_bits (b ∷ bs) =
-    ap (λ t. t || (not (length (bit_word (b ∷ bs)) == 0) && list_all (λ b. b == 48 || b == 49) (bit_word (b ∷ bs)))) (no_none b bs)
-    ∙ ap (λ t. not t && list_all (λ b. b == 48 || b == 49) (bit_word (b ∷ bs))) (not_zero (length (digits_of bs)))
-    ∙ all_bits (b ∷ bs)
-
-pub length_bit_word : (bs : List Bool) → bits_in (bit_word bs) ≡ length bs
-length_bit_word [] = refl
-length_bit_word (b ∷ bs) = ap (λ t. cond t 0 (length (bit_word (b ∷ bs)))) (no_none b bs) ∙ length_word (b ∷ bs)
-
-same_number : (a b : ℕ) → a ≡ b → (a == b) ≡ true
-same_number a b e = grind (arith, nat_tests)
-
-pub bits_fit : (n : ℕ) (rs : List Register) (bs : List Bool) → length bs ≡ n → Fits n rs (places.Bits, bit_word bs)
-bits_fit n rs bs e = (form_of_bits bs, ap (λ b. cond b None (Some kinds.Range)) (same_number (bits_in (bit_word bs)) n (length_bit_word bs ∙ e)))
-
-pub bit_fits : (n : ℕ) (rs : List Register) (w : Word) (b : Bool) → w ≡ bit_word (b ∷ []) → Fits n rs (places.Bit, w)
+pub bit_fits : (n : Counts) (rs : List Register) (w : Word) (b : Bool) → w ≡ bit_word (b ∷ []) → Fits n rs (places.Bit, w)
 bit_fits n rs w true e = (ap is_bit e, refl)
 bit_fits n rs w false e = (ap is_bit e, refl)
 
 -- A word that stands for the operand of its place has no fault there.
-pub operand_fits : (n : ℕ) (rs : List Register) (slot : Place × Word) (operand : Operand) → IsOperand n rs slot operand → Fits n rs slot
+pub operand_fits : (n : Counts) (rs : List Register) (slot : Place × Word) (operand : Operand) → IsOperand n rs slot operand → Fits n rs slot
 operand_fits n rs slot operands.Target h = subst (λ (p : Place). Fits n rs (p, slot.1)) h.0 (fresh_fits n rs slot.1 h.1)
-operand_fits n rs slot (operands.Register a) h = subst (λ (p : Place). Fits n rs (p, slot.1)) h.0 (held_fits n rs slot.1 a h.1)
+operand_fits n rs slot (operands.Register kind a) h = subst (λ (p : Place). Fits n rs (p, slot.1)) h.0 (held_fits n rs slot.1 a kind h.1)
+operand_fits n rs slot (operands.Any a) h = subst (λ (p : Place). Fits n rs (p, slot.1)) h.0 (h.1.1.0, named_well rs slot.1 a h.1.0 h.1.1)
+operand_fits n rs slot (operands.Alike a) h = subst (λ (p : Place). Fits n rs (p, slot.1)) h.0 (h.1.1.0, named_well rs slot.1 a h.1.0 h.1.1)
 operand_fits n rs slot (operands.Variable v) h = subst (λ (p : Place). Fits n rs (p, slot.1)) h.0 (variable_fits n rs slot.1 v h.1.0 h.1.1)
 operand_fits n rs slot (operands.NewVariable v) h = subst (λ (p : Place). Fits n rs (p, slot.1)) h.0 (variable_fits n rs slot.1 v h.1.0 h.1.1)
+operand_fits n rs slot (operands.Value w) h = subst (λ (p : Place). Fits n rs (p, slot.1)) h.0 (h.1.0.0, ap (λ b. cond b None (Some kinds.Range)) (ap is_value h.1.0.1 ∙ h.1.1))
 operand_fits n rs slot (operands.Bit b) h = subst (λ (p : Place). Fits n rs (p, slot.1)) h.0 (bit_fits n rs slot.1 b h.1)
-operand_fits n rs slot (operands.Bits bs) h =
-    subst (λ (p : Place). Fits n rs (p, slot.1)) h.0 (subst (λ (w : Word). Fits n rs (places.Bits, w)) (sym h.1.0) (bits_fit n rs bs h.1.1))
+operand_fits n rs slot (operands.Bits bs) h = subst (λ (p : Place). Fits n rs (p, slot.1)) h.0 (ap is_bits h.1 ∙ form_of_bits bs, refl)
 
--- all that may be wrong with it there is that it is no new variable
-pub word_fault_is : (n : ℕ) (rs : List Register) (others : Operands) (slot : Place × Word) (o : Operand) → IsOperand n rs slot o
-    → word_fault n rs others.variables slot ≡ cond (repeats others o) (Some kinds.Range) None
-word_fault_is n rs others slot o h = ap (λ t. or_else t (twice_fault others.variables slot)) (operand_fits n rs slot o h).1 ∙ twice_is n rs others slot o h
+-- all that may be wrong with it there is that the operand doesn't fit those to its left
+pub word_fault_is : (n : Counts) (rs : List Register) (others : Operands) (slot : Place × Word) (o : Operand) → IsOperand n rs slot o → word_fault n rs (left_by others) slot ≡ misfit n rs others o
+word_fault_is n rs others slot o h = ap (λ t. or_else t (beside_fault n rs (left_by others) slot)) (operand_fits n rs slot o h).1 ∙ beside_is n rs others slot o h
 
-pub no_word_fault : (n : ℕ) (rs : List Register) (others : Operands) (slot : Place × Word) (o : Operand) → IsOperand n rs slot o → repeats others o ≡ false → word_fault n rs others.variables slot ≡ None
-no_word_fault n rs others slot o h new = word_fault_is n rs others slot o h ∙ ap (λ b. cond b (Some kinds.Range) None) new
+pub no_word_fault : (n : Counts) (rs : List Register) (others : Operands) (slot : Place × Word) (o : Operand) → IsOperand n rs slot o → misfit n rs others o ≡ None → word_fault n rs (left_by others) slot ≡ None
+no_word_fault n rs others slot o h new = word_fault_is n rs others slot o h ∙ new
 
-all_forms : (n : ℕ) (rs : List Register) (slots : List (Place × Word)) (os : List Operand) → AreOperands n rs slots os → list_all has_form slots ≡ true
+all_forms : (n : Counts) (rs : List Register) (slots : List (Place × Word)) (os : List Operand) → AreOperands n rs slots os → list_all has_form slots ≡ true
 all_forms n rs [] [] h = refl
 all_forms n rs [] (o ∷ os) h = absurd h
 all_forms n rs (slot ∷ slots) [] h = absurd h
 all_forms n rs (slot ∷ slots) (o ∷ os) h = ap (λ b. b && list_all has_form slots) (operand_fits n rs slot o h.0).0 ∙ all_forms n rs slots os h.1
 
-no_fault : (n : ℕ) (rs : List Register) (others : Operands) (slots : List (Place × Word)) (os : List Operand) → AreOperands n rs slots os → AllNew others os → first_fault n rs others.variables slots ≡ None
+no_fault : (n : Counts) (rs : List Register) (others : Operands) (slots : List (Place × Word)) (os : List Operand) → AreOperands n rs slots os → AllFit n rs others os → first_fault n rs (left_by others) slots ≡ None
 no_fault n rs others [] [] h new = refl
 no_fault n rs others [] (o ∷ os) h new = absurd h
 no_fault n rs others (slot ∷ slots) [] h new = absurd h
 no_fault n rs others (slot ∷ slots) (o ∷ os) h new =
-    ap (λ t. or_else t (first_fault n rs (named_after others.variables slot) slots)) (no_word_fault n rs others slot o h.0 new.0)
-    ∙ ap (λ t. first_fault n rs t slots) (named_is n rs others slot o h.0) ∙ no_fault n rs (with_operand others o) slots os h.1 new.1
+    ap (λ t. or_else t (first_fault n rs (left_after rs (left_by others) slot) slots)) (no_word_fault n rs others slot o h.0 new.0)
+    ∙ ap (λ t. first_fault n rs t slots) (left_is n rs others slot o h.0) ∙ no_fault n rs (with_operand rs others o) slots os h.1 new.1
 
-pub fits_all : (n : ℕ) (rs : List Register) (slots : List (Place × Word)) (os : List Operand) → AreOperands n rs slots os → AllNew no_operands os → fault_in n rs (Some slots) ≡ None
-fits_all n rs slots os h new = ap (λ b. cond b (first_fault n rs [] slots) (Some kinds.Word)) (all_forms n rs slots os h) ∙ no_fault n rs no_operands slots os h new
+pub fits_all : (n : Counts) (rs : List Register) (slots : List (Place × Word)) (os : List Operand) → AreOperands n rs slots os → AllFit n rs no_operands os → fault_in n rs (Some slots) ≡ None
+fits_all n rs slots os h new = ap (λ b. cond b (first_fault n rs nothing_left slots) (Some kinds.Word)) (all_forms n rs slots os h) ∙ no_fault n rs no_operands slots os h new
 
 -- the words with the places of their operands
 abbrev pub slots_for : List Operand → List Word → List (Place × Word)
@@ -147,13 +104,13 @@ slots_for [] words = []
 slots_for (o ∷ os) [] = []
 slots_for (o ∷ os) (word ∷ words) = (place_of o, word) ∷ slots_for os words
 
-pub are_operands : (n : ℕ) (rs : List Register) (words : List Word) (os : List Operand) → AllStandFor n rs words os → AreOperands n rs (slots_for os words) os
+pub are_operands : (n : Counts) (rs : List Register) (words : List Word) (os : List Operand) → AllStandFor n rs words os → AreOperands n rs (slots_for os words) os
 are_operands n rs [] [] h = tt
 are_operands n rs [] (o ∷ os) h = absurd h
 are_operands n rs (word ∷ words) [] h = absurd h
 are_operands n rs (word ∷ words) (o ∷ os) h = ((refl, h.0), are_operands n rs words os h.1)
 
-pub filled_by : (n : ℕ) (rs : List Register) (due repeated : List Place) (words : List Word) (os : List Operand) → AllStandFor n rs words os → Follows due repeated os
+pub filled_by : (n : Counts) (rs : List Register) (due repeated : List Place) (words : List Word) (os : List Operand) → AllStandFor n rs words os → Follows due repeated os
     → filled due repeated words ≡ Some (slots_for os words)
 filled_by n rs [] repeated [] [] h f = refl
 filled_by n rs (p ∷ ps) repeated [] [] h f = absurd f
@@ -172,9 +129,9 @@ command_is forms before command words own slots e f =
     ∙ ap (λ o. option_map (λ slots. (own.operation, before ++ slots)) o) f
 
 -- `=` stands for nothing
-equals_is_none : (is_name (codes "=") ≡ false) × (is_number (codes "=") ≡ false)
+equals_is_none : (is_name (codes "=") ≡ false) × (is_number (codes "=") ≡ false) × (is_integer (codes "=") ≡ false)
 unfolding is_name is_number
-equals_is_none = (refl, refl)
+equals_is_none = (refl, refl, refl)
 
 bits_no_equals : (bs : List Bool) → bytes_eq (bit_word bs) (codes "=") ≡ false
 bits_no_equals [] = refl
@@ -188,22 +145,25 @@ unlike_equals p w none h = by_cases (bytes_eq w (codes "=")) refl
     by_cases false e = e
     by_cases true e = absurd (false≢true (sym none ∙ ap p (sym ((bytes_eq-Decides w (codes "=")).0 e)) ∙ h))
 
-pub no_equals : (n : ℕ) (rs : List Register) (w : Word) (o : Operand) → StandsFor n rs w o → bytes_eq w (codes "=") ≡ false
+pub no_equals : (n : Counts) (rs : List Register) (w : Word) (o : Operand) → StandsFor n rs w o → bytes_eq w (codes "=") ≡ false
 no_equals n rs w operands.Target h = unlike_equals is_name w equals_is_none.0 h.0
-no_equals n rs w (operands.Register a) h = unlike_equals is_name w equals_is_none.0 h.0
+no_equals n rs w (operands.Register kind a) h = unlike_equals is_name w equals_is_none.0 h.0
+no_equals n rs w (operands.Any a) h = unlike_equals is_name w equals_is_none.0 h.1.0
+no_equals n rs w (operands.Alike a) h = unlike_equals is_name w equals_is_none.0 h.1.0
 no_equals n rs w (operands.Variable v) h = unlike_equals is_number w equals_is_none.1 h.0.0
 no_equals n rs w (operands.NewVariable v) h = unlike_equals is_number w equals_is_none.1 h.0.0
+no_equals n rs w (operands.Value v) h = unlike_equals is_integer w equals_is_none.2 h.0.0
 no_equals n rs w (operands.Bit b) h = ap (λ t. bytes_eq t (codes "=")) h ∙ bits_no_equals (b ∷ [])
-no_equals n rs w (operands.Bits bs) h = ap (λ t. bytes_eq t (codes "=")) h.0 ∙ bits_no_equals bs
+no_equals n rs w (operands.Bits bs) h = ap (λ t. bytes_eq t (codes "=")) h ∙ bits_no_equals bs
 
-pub no_assignment : (n : ℕ) (rs : List Register) (command : Word) (words : List Word) (os : List Operand) → AllStandFor n rs words os → is_assignment (command ∷ words) ≡ false
+pub no_assignment : (n : Counts) (rs : List Register) (command : Word) (words : List Word) (os : List Operand) → AllStandFor n rs words os → is_assignment (command ∷ words) ≡ false
 no_assignment n rs command [] os h = refl
 no_assignment n rs command (w ∷ []) os h = refl
 no_assignment n rs command (w ∷ x ∷ words) [] h = absurd h
 no_assignment n rs command (w ∷ x ∷ words) (o ∷ os) h = no_equals n rs w o h.0
 
 -- what says something is no faulty command
-spells_well : (n : ℕ) (rs : List Register) (words : List Word) (act : Act) (spelt : Spelling) → IsKnown act spelt → Spells n rs words spelt → command_fault n rs words ≡ None
+spells_well : (n : Counts) (rs : List Register) (words : List Word) (act : Act) (spelt : Spelling) → IsKnown n rs act spelt → Spells n rs words spelt → command_fault n rs words ≡ None
 unfolding command_fault
 spells_well n rs words act (assigns command os) known h =
     ap (λ ws. fault_in n rs (option_map (λ known. known.1) (command_of ws))) h.2
@@ -217,18 +177,18 @@ spells_well n rs words act (tells command os) known h =
     ∙ command_is telling [] command h.0 known.0.own (slots_for os h.0) known.0.found (filled_by n rs known.0.own.places known.0.own.repeated h.0 os h.2 known.0.follows))
     ∙ fits_all n rs (slots_for os h.0) os (are_operands n rs h.0 os h.2) known.0.new
 
-pub says_well : (n : ℕ) (rs : List Register) (words : List Word) (act : Act) → Says n rs words act → command_fault n rs words ≡ None
-says_well n rs words act h = spells_well n rs words act (spelling act) (known act h.1) h.0
+pub says_well : (n : Counts) (rs : List Register) (words : List Word) (act : Act) → Says n rs words act → command_fault n rs words ≡ None
+says_well n rs words act h = spells_well n rs words act (spelling act) (known n rs act h.1) h.0
 
 -- a command has words, and is no `session`
 one_word : (command : Word) (rest : List Word) → bytes_eq command (codes "session") ≡ false → is_session (command ∷ rest) ≡ false
 one_word command [] h = h
 one_word command (word ∷ rest) h = refl
 
-spells_words : (n : ℕ) (rs : List Register) (words : List Word) (act : Act) (spelt : Spelling) → IsKnown act spelt → Spells n rs words spelt
+spells_words : (n : Counts) (rs : List Register) (words : List Word) (act : Act) (spelt : Spelling) → IsKnown n rs act spelt → Spells n rs words spelt
     → (first : Word) × (rest : List Word) × (words ≡ first ∷ rest) × (is_session words ≡ false)
 spells_words n rs words act (assigns command os) known h = (h.0, codes "=" ∷ command ∷ h.1, h.2, ap is_session h.2)
 spells_words n rs words act (tells command os) known h = (command, h.0, h.1, ap is_session h.1 ∙ one_word command h.0 known.1)
 
-pub says_words : (n : ℕ) (rs : List Register) (words : List Word) (act : Act) → Says n rs words act → (first : Word) × (rest : List Word) × (words ≡ first ∷ rest) × (is_session words ≡ false)
-says_words n rs words act h = spells_words n rs words act (spelling act) (known act h.1) h.0
+pub says_words : (n : Counts) (rs : List Register) (words : List Word) (act : Act) → Says n rs words act → (first : Word) × (rest : List Word) × (words ≡ first ∷ rest) × (is_session words ≡ false)
+says_words n rs words act h = spells_words n rs words act (spelling act) (known n rs act h.1) h.0

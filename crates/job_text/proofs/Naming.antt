@@ -1,43 +1,67 @@
--- Variables that a line names once.
-use Rattle.std.proofs.Common.{◌≡◌, ℕ, ◌==◌, true, false, not, cond, List, [], ◌∷◌, ◌++◌, map, Some, None, refl, ap, sym, ◌∙◌, subst, arith, append_assoc}
+-- What the words of a line name, and which fit those to their left.
+use Rattle.std.proofs.Common.{◌≡◌, ℕ, ◌==◌, Bool, true, false, not, cond, List, [], ◌∷◌, ◌++◌, map, Some, None, refl, ap, sym, ◌∙◌, subst, arith, append_assoc}
 use Rattle.std.specs.List.{list_any, flat_map}
 use Rattle.std.proofs.lemmas.Bool.{and_parts, and_from, or_parts, or_from, not-true, not_from_false}
 use Rattle.std.proofs.lemmas.Bool.Decides.{nat_tests}
 use Rattle.std.proofs.lemmas.List.{append-nil}
 use Rattle.std.proofs.lemmas.List.Folds.{list_any-append}
 use Rattle.function_laws.specs.Steps.{are_distinct}
+use Rattle.edge_bits.specs.declared.edges.Kind.TheVariants.{Bdd}
 use Rattle.job_text.specs.declared.commands.Place.{Place}
 use Rattle.job_text.specs.declared.faults.FaultKind.TheVariants as kinds
+use Rattle.job_text.specs.declared.job.Counts.{Counts}
 use Rattle.job_text.specs.declared.job.Register.{Register}
 use Rattle.job_text.specs.declared.operands.Operand.{Operand}
 use Rattle.job_text.specs.declared.operands.Operand.TheVariants as operands
 use Rattle.job_text.specs.declared.operands.Operands.{Operands}
 use Rattle.job_text.specs.Text.{Word}
-use Rattle.job_text.specs.Grammar.{pair_operands}
-use Rattle.job_text.specs.Faults.{named_after, twice_fault}
-use Rattle.job_text.specs.Drafts.{IsOperand, with_operand, repeats, AllNew}
+use Rattle.job_text.specs.Grammar.{bits_for, pair_operands}
+use Rattle.job_text.specs.Faults.{beside_fault, bits_in, kind_fault, left_after}
+use Rattle.job_text.specs.Drafts.{IsOperand, with_operand, misfit, left_by, AllFit}
+use Rattle.job_text.proofs.Bits.{length_bit_word}
+use Rattle.job_text.proofs.RegisterLists.{kind_is}
 
--- a word names what its operand adds to the variables
-pub named_is : (n : ℕ) (rs : List Register) (others : Operands) (slot : Place × Word) (o : Operand) → IsOperand n rs slot o → named_after others.variables slot ≡ (with_operand others o).variables
-named_is n rs others slot operands.Target h = subst (λ (p : Place). named_after others.variables (p, slot.1) ≡ others.variables) h.0 refl
-named_is n rs others slot (operands.Register a) h = subst (λ (p : Place). named_after others.variables (p, slot.1) ≡ others.variables) h.0 refl
-named_is n rs others slot (operands.Variable v) h =
-    subst (λ (p : Place). named_after others.variables (p, slot.1) ≡ others.variables ++ v ∷ []) h.0 (ap (λ t. others.variables ++ t ∷ []) h.1.0.1)
-named_is n rs others slot (operands.NewVariable v) h =
-    subst (λ (p : Place). named_after others.variables (p, slot.1) ≡ others.variables ++ v ∷ []) h.0 (ap (λ t. others.variables ++ t ∷ []) h.1.0.1)
-named_is n rs others slot (operands.Bit b) h = subst (λ (p : Place). named_after others.variables (p, slot.1) ≡ others.variables) h.0 refl
-named_is n rs others slot (operands.Bits bits) h = subst (λ (p : Place). named_after others.variables (p, slot.1) ≡ others.variables) h.0 refl
+-- a word names what its operand adds
+pub left_is : (n : Counts) (rs : List Register) (others : Operands) (slot : Place × Word) (o : Operand) → IsOperand n rs slot o → left_after rs (left_by others) slot ≡ left_by (with_operand rs others o)
+left_is n rs others slot operands.Target h =
+    subst (λ (p : Place). left_after rs (left_by others) (p, slot.1) ≡ left_by (with_operand rs others operands.Target)) h.0 refl
+left_is n rs others slot (operands.Register kind a) h =
+    subst (λ (p : Place). left_after rs (left_by others) (p, slot.1) ≡ left_by (with_operand rs others (operands.Register kind a))) h.0 (ap (λ k. record { variables = others.variables; kind = k }) (kind_is rs slot.1 a kind h.1))
+left_is n rs others slot (operands.Any a) h =
+    subst (λ (p : Place). left_after rs (left_by others) (p, slot.1) ≡ left_by (with_operand rs others (operands.Any a))) h.0 (ap (λ k. record { variables = others.variables; kind = k }) (kind_is rs slot.1 a h.1.0 h.1.1))
+left_is n rs others slot (operands.Alike a) h =
+    subst (λ (p : Place). left_after rs (left_by others) (p, slot.1) ≡ left_by (with_operand rs others (operands.Alike a))) h.0 (ap (λ k. record { variables = others.variables; kind = k }) (kind_is rs slot.1 a h.1.0 h.1.1))
+left_is n rs others slot (operands.Variable v) h =
+    subst (λ (p : Place). left_after rs (left_by others) (p, slot.1) ≡ left_by (with_operand rs others (operands.Variable v))) h.0 (ap (λ t. record { variables = others.variables ++ t ∷ []; kind = others.kind }) h.1.0.1)
+left_is n rs others slot (operands.NewVariable v) h =
+    subst (λ (p : Place). left_after rs (left_by others) (p, slot.1) ≡ left_by (with_operand rs others (operands.NewVariable v))) h.0 (ap (λ t. record { variables = others.variables ++ t ∷ []; kind = others.kind }) h.1.0.1)
+left_is n rs others slot (operands.Value w) h =
+    subst (λ (p : Place). left_after rs (left_by others) (p, slot.1) ≡ left_by (with_operand rs others (operands.Value w))) h.0 refl
+left_is n rs others slot (operands.Bit b) h =
+    subst (λ (p : Place). left_after rs (left_by others) (p, slot.1) ≡ left_by (with_operand rs others (operands.Bit b))) h.0 refl
+left_is n rs others slot (operands.Bits bits) h =
+    subst (λ (p : Place). left_after rs (left_by others) (p, slot.1) ≡ left_by (with_operand rs others (operands.Bits bits))) h.0 refl
 
--- and is at fault where its operand repeats one of them
-pub twice_is : (n : ℕ) (rs : List Register) (others : Operands) (slot : Place × Word) (o : Operand) → IsOperand n rs slot o → twice_fault others.variables slot ≡ cond (repeats others o) (Some kinds.Range) None
-twice_is n rs others slot operands.Target h = subst (λ (p : Place). twice_fault others.variables (p, slot.1) ≡ None) h.0 refl
-twice_is n rs others slot (operands.Register a) h = subst (λ (p : Place). twice_fault others.variables (p, slot.1) ≡ None) h.0 refl
-twice_is n rs others slot (operands.Variable v) h = subst (λ (p : Place). twice_fault others.variables (p, slot.1) ≡ None) h.0 refl
-twice_is n rs others slot (operands.NewVariable v) h =
-    subst (λ (p : Place). twice_fault others.variables (p, slot.1) ≡ cond (list_any (λ u. u == v) others.variables) (Some kinds.Range) None) h.0
-    (ap (λ t. cond (list_any (λ u. u == t) others.variables) (Some kinds.Range) None) h.1.0.1)
-twice_is n rs others slot (operands.Bit b) h = subst (λ (p : Place). twice_fault others.variables (p, slot.1) ≡ None) h.0 refl
-twice_is n rs others slot (operands.Bits bits) h = subst (λ (p : Place). twice_fault others.variables (p, slot.1) ≡ None) h.0 refl
+-- and is at fault beside others where its operand is
+pub beside_is : (n : Counts) (rs : List Register) (others : Operands) (slot : Place × Word) (o : Operand) → IsOperand n rs slot o → beside_fault n rs (left_by others) slot ≡ misfit n rs others o
+beside_is n rs others slot operands.Target h =
+    subst (λ (p : Place). beside_fault n rs (left_by others) (p, slot.1) ≡ misfit n rs others operands.Target) h.0 refl
+beside_is n rs others slot (operands.Register kind a) h =
+    subst (λ (p : Place). beside_fault n rs (left_by others) (p, slot.1) ≡ misfit n rs others (operands.Register kind a)) h.0 refl
+beside_is n rs others slot (operands.Any a) h =
+    subst (λ (p : Place). beside_fault n rs (left_by others) (p, slot.1) ≡ misfit n rs others (operands.Any a)) h.0 refl
+beside_is n rs others slot (operands.Alike a) h =
+    subst (λ (p : Place). beside_fault n rs (left_by others) (p, slot.1) ≡ misfit n rs others (operands.Alike a)) h.0 (ap (kind_fault others.kind) (kind_is rs slot.1 a h.1.0 h.1.1))
+beside_is n rs others slot (operands.Variable v) h =
+    subst (λ (p : Place). beside_fault n rs (left_by others) (p, slot.1) ≡ misfit n rs others (operands.Variable v)) h.0 refl
+beside_is n rs others slot (operands.NewVariable v) h =
+    subst (λ (p : Place). beside_fault n rs (left_by others) (p, slot.1) ≡ misfit n rs others (operands.NewVariable v)) h.0 (ap (λ t. cond (list_any (λ u. u == t) others.variables) (Some kinds.Range) None) h.1.0.1)
+beside_is n rs others slot (operands.Value w) h =
+    subst (λ (p : Place). beside_fault n rs (left_by others) (p, slot.1) ≡ misfit n rs others (operands.Value w)) h.0 refl
+beside_is n rs others slot (operands.Bit b) h =
+    subst (λ (p : Place). beside_fault n rs (left_by others) (p, slot.1) ≡ misfit n rs others (operands.Bit b)) h.0 refl
+beside_is n rs others slot (operands.Bits bits) h =
+    subst (λ (p : Place). beside_fault n rs (left_by others) (p, slot.1) ≡ misfit n rs others (operands.Bits bits)) h.0 (ap (λ k. cond (k == bits_for n others.kind) None (Some kinds.Range)) (ap bits_in h.1 ∙ length_bit_word bits))
 
 -- Numbers that are distinct, where each is tested against those before it
 turned : (u v : ℕ) → (u == v) ≡ false → (v == u) ≡ false
@@ -64,20 +88,27 @@ none_before (u ∷ us) v vs h =
 abbrev first_of : ℕ × ℕ → ℕ
 first_of pair = pair.0
 
-abbrev with_pair : Operands → ℕ × ℕ → Operands
-with_pair others pair = with_operand (with_operand others (operands.NewVariable pair.0)) (operands.Register pair.1)
+abbrev with_pair : List Register → Operands → ℕ × ℕ → Operands
+with_pair rs others pair = with_operand rs (with_operand rs others (operands.NewVariable pair.0)) (operands.Register Bdd pair.1)
+
+-- a variable that fits is none of the others
+fits_new : (b : Bool) → cond b (Some kinds.Range) None ≡ None → b ≡ false
+fits_new true h = cc
+fits_new false h = refl
 
 -- pairs whose variables are distinct name each anew
-pub pairs_new : (others : Operands) (pairs : List (ℕ × ℕ)) → are_distinct (others.variables ++ map first_of pairs) ≡ true → AllNew others (flat_map pair_operands pairs)
-pairs_new others [] h = tt
-pairs_new others (pair ∷ pairs) h = (
-  none_before others.variables pair.0 (map first_of pairs) h,
-  (refl, pairs_new (with_pair others pair) pairs (ap are_distinct (append_assoc others.variables (pair.0 ∷ []) (map first_of pairs)) ∙ h)),
+pub pairs_new : (n : Counts) (rs : List Register) (others : Operands) (pairs : List (ℕ × ℕ)) → are_distinct (others.variables ++ map first_of pairs) ≡ true → AllFit n rs others (flat_map pair_operands pairs)
+pairs_new n rs others [] h = tt
+pairs_new n rs others (pair ∷ pairs) h = (
+  ap (λ b. cond b (Some kinds.Range) None) (none_before others.variables pair.0 (map first_of pairs) h),
+  (refl, pairs_new n rs (with_pair rs others pair) pairs (ap are_distinct (append_assoc others.variables (pair.0 ∷ []) (map first_of pairs)) ∙ h)),
 )
 
 -- and pairs that name each variable anew have distinct ones
-pub pairs_distinct : (others : Operands) (pairs : List (ℕ × ℕ)) → are_distinct others.variables ≡ true → AllNew others (flat_map pair_operands pairs) → are_distinct (others.variables ++ map first_of pairs) ≡ true
-pairs_distinct others [] d h = ap are_distinct (append-nil others.variables) ∙ d
-pairs_distinct others (pair ∷ pairs) d h =
+pub pairs_distinct : (n : Counts) (rs : List Register) (others : Operands) (pairs : List (ℕ × ℕ)) → are_distinct others.variables ≡ true → AllFit n rs others (flat_map pair_operands pairs)
+    → are_distinct (others.variables ++ map first_of pairs) ≡ true
+pairs_distinct n rs others [] d h = ap are_distinct (append-nil others.variables) ∙ d
+pairs_distinct n rs others (pair ∷ pairs) d h =
     sym (ap are_distinct (append_assoc others.variables (pair.0 ∷ []) (map first_of pairs)))
-    ∙ pairs_distinct (with_pair others pair) pairs (distinct_more others.variables pair.0 d h.0) h.1.1
+    ∙ pairs_distinct n rs (with_pair rs others pair) pairs
+    (distinct_more others.variables pair.0 d (fits_new (list_any (λ u. u == pair.0) others.variables) h.0)) h.1.1

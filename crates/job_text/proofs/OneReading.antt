@@ -1,17 +1,18 @@
 -- A text has one reading.
-use Rattle.std.proofs.Common.{◌≡◌, ℕ, suc, ◌+◌, ◌≤◌, ◌&&◌, Bool, true, false, not, cond, List, [], ◌∷◌, ◌++◌, length, map, filter, Some, None, inl, inr, refl, ap, sym, ◌∙◌, subst, arith, codes}
+use Rattle.std.proofs.Common.{◌≡◌, ℕ, suc, ◌+◌, ◌≤◌, ◌&&◌, Bool, true, false, not, cond, List, [], ◌∷◌, ◌++◌, length, map, filter, Option, Some, None, inl, inr, refl, ap, sym, ◌∙◌, subst, arith, codes}
 use Rattle.std.specs.List.{list_all, flat_map, All}
 use Rattle.std.specs.Str.Parse.{digits_value}
 use Rattle.std.proofs.lemmas.Bool.{false≢true}
 use Rattle.std.proofs.lemmas.List.{append-nil}
 use Rattle.job_text.specs.declared.job.Command.{Command}
 use Rattle.job_text.specs.declared.job.Job.{Job}
+use Rattle.job_text.specs.declared.job.Counts.{Counts}
 use Rattle.job_text.specs.declared.job.Register.{Register}
 use Rattle.job_text.specs.declared.faults.FaultKind.{FaultKind}
 use Rattle.job_text.specs.declared.faults.FaultKind.TheVariants as kinds
 use Rattle.job_text.specs.Text.{Word, is_allowed, lines_of, words_of}
-use Rattle.job_text.specs.Grammar.{CommandsSay, registers_after, section_lines, said_lines, LimitLines, IsJobText}
-use Rattle.job_text.specs.Faults.{Context, at_start, sized, within, has_begun, words_fault, line_fault, context_after, context_behind, Faultless, FaultyLine}
+use Rattle.job_text.specs.Grammar.{CommandsSay, counts_of, registers_after, section_lines, said_lines, LimitLines, IsJobText}
+use Rattle.job_text.specs.Faults.{Context, at_start, sized, within, counts_with, has_begun, words_fault, line_fault, context_after, context_behind, Faultless, FaultyLine}
 use Rattle.job_text.specs.Readings.{OneJob, OneFault, JobOrFault}
 use Rattle.job_text.proofs.Acts.{same_commands}
 use Rattle.job_text.proofs.Reading.{registers_behind, has_words, not_zero, command_line, vars_line, limit_line}
@@ -101,7 +102,7 @@ from_said c (line ∷ lines) clean h =
     let both = and_true (list_all is_allowed line) (list_all (list_all is_allowed) lines) clean in
     one_line c line lines both.0 (λ c' g. from_said c' lines both.1 g) (words_of line) refl h
 
-commands_well : (c : Context) (n : ℕ) (rs : List Register) (commands : List Command) → c ≡ within n rs → CommandsSay n rs commands
+commands_well : (c : Context) (n : Counts) (rs : List Register) (commands : List Command) → c ≡ within n rs → CommandsSay n rs commands
     → SaidWell c (map (λ (command : Command). command.words) commands)
     × (behind_said c (map (λ (command : Command). command.words) commands) ≡ within n (registers_behind rs commands))
 commands_well c n rs [] e h = (tt, e)
@@ -111,22 +112,23 @@ commands_well c n rs (command ∷ commands) e h =
     ((line.0, more.0), more.1)
 
 -- the lines of the limit and the section, behind `vars`
-section_well : (c : Context) (n : ℕ) (limited : Bool) (commands : List Command) → c ≡ sized n limited → CommandsSay n [] commands
-    → SaidWell c (section_lines commands) × (behind_said c (section_lines commands) ≡ within n (registers_behind [] commands))
-section_well c n limited commands e h =
-    let rest = commands_well (context_after c (codes "session" ∷ [])) n [] commands (ap (λ t. context_after t (codes "session" ∷ [])) e) h in
+section_well : (c : Context) (n : ℕ) (elements : Option ℕ) (limited : Bool) (commands : List Command) → c ≡ sized n elements limited → CommandsSay (counts_with n elements) [] commands
+    → SaidWell c (section_lines commands) × (behind_said c (section_lines commands) ≡ within (counts_with n elements) (registers_behind [] commands))
+section_well c n elements limited commands e h =
+    let rest = commands_well (context_after c (codes "session" ∷ [])) (counts_with n elements) [] commands (ap (λ t. context_after t (codes "session" ∷ [])) e) h in
     ((ap (λ t. words_fault t (codes "session" ∷ [])) e, rest.0), rest.1)
 
-behind_limit : (c : Context) (n limit : ℕ) (limits : List (List Word)) (commands : List Command) → c ≡ sized n false → LimitLines limit limits → 5 + n ≤ limit → limit ≤ 8388607 → CommandsSay n [] commands
-    → SaidWell c (limits ++ section_lines commands) × (behind_said c (limits ++ section_lines commands) ≡ within n (registers_behind [] commands))
-behind_limit c n limit limits commands e (inl h) low high says =
-    subst (λ (t : List (List Word)). SaidWell c (t ++ section_lines commands) × (behind_said c (t ++ section_lines commands) ≡ within n (registers_behind [] commands))) (sym h.0)
-    (section_well c n false commands e says)
-behind_limit c n limit limits commands e (inr h) low high says =
+behind_limit : (c : Context) (n : ℕ) (elements : Option ℕ) (limit : ℕ) (limits : List (List Word)) (commands : List Command) → c ≡ sized n elements false → LimitLines limit limits → 5 + n ≤ limit → limit ≤ 8388607
+    → CommandsSay (counts_with n elements) [] commands
+    → SaidWell c (limits ++ section_lines commands) × (behind_said c (limits ++ section_lines commands) ≡ within (counts_with n elements) (registers_behind [] commands))
+behind_limit c n elements limit limits commands e (inl h) low high says =
+    subst (λ (t : List (List Word)). SaidWell c (t ++ section_lines commands) × (behind_said c (t ++ section_lines commands) ≡ within (counts_with n elements) (registers_behind [] commands))) (sym h.0)
+    (section_well c n elements false commands e says)
+behind_limit c n elements limit limits commands e (inr h) low high says =
     let line = codes "limit" ∷ h.0 ∷ [] in
-    let rest = section_well (context_after c line) n true commands (ap (λ t. context_after t line) e) says in
-    subst (λ (t : List (List Word)). SaidWell c (t ++ section_lines commands) × (behind_said c (t ++ section_lines commands) ≡ within n (registers_behind [] commands))) (sym h.1)
-    ((ap (λ t. words_fault t line) e ∙ limit_line n h.0 limit h.2 low high, rest.0), rest.1)
+    let rest = section_well (context_after c line) n elements true commands (ap (λ t. context_after t line) e) says in
+    subst (λ (t : List (List Word)). SaidWell c (t ++ section_lines commands) × (behind_said c (t ++ section_lines commands) ≡ within (counts_with n elements) (registers_behind [] commands))) (sym h.1)
+    ((ap (λ t. words_fault t line) e ∙ limit_line n elements h.0 limit h.2 low high, rest.0), rest.1)
 
 one_of : (xs : List (List Command)) → length xs ≡ 1 → (x : List Command) × (xs ≡ x ∷ [])
 one_of [] e = absurd (omega arith)
@@ -134,11 +136,11 @@ one_of (x ∷ []) e = (x, refl)
 one_of (x ∷ y ∷ xs) e = absurd (omega arith)
 
 -- the lines with words of a job
-job_lines : (text : List ℕ) (job : Job) (h : IsJobText text job) → (commands : List Command) × (job.sections ≡ commands ∷ []) × CommandsSay job.vars [] commands
+job_lines : (text : List ℕ) (job : Job) (h : IsJobText text job) → (commands : List Command) × (job.sections ≡ commands ∷ []) × CommandsSay (counts_of job) [] commands
     × (said_lines (lines_of text) ≡ (codes "vars" ∷ h.number ∷ []) ∷ h.limits ++ section_lines commands)
 job_lines text job h =
     let one = one_of job.sections h.is_job.one_section in
-    let says : All (CommandsSay job.vars []) (one.0 ∷ []) = subst (λ (t : List (List Command)). All (CommandsSay job.vars []) t) one.1 h.is_job.commands in (
+    let says : All (CommandsSay (counts_of job) []) (one.0 ∷ []) = subst (λ (t : List (List Command)). All (CommandsSay (counts_of job) []) t) one.1 h.is_job.commands in (
       one.0,
       one.1,
       says 0 one.0 (omega arith),
@@ -146,21 +148,22 @@ job_lines text job h =
           ∙ ap (λ t. (codes "vars" ∷ h.number ∷ []) ∷ h.limits ++ t) (append-nil (section_lines one.0)),
     )
 
-job_faultless : (text : List ℕ) (job : Job) → IsJobText text job → (rs : List Register) × Faultless at_start (lines_of text) × (context_behind at_start (lines_of text) ≡ within job.vars rs)
+job_faultless : (text : List ℕ) (job : Job) → IsJobText text job → (n : Counts) × (rs : List Register) × Faultless at_start (lines_of text) × (context_behind at_start (lines_of text) ≡ within n rs)
 job_faultless text job h =
     let said = job_lines text job h in
     let line = codes "vars" ∷ h.number ∷ [] in
     let first = vars_line h.number job.vars h.vars h.is_job.few_variables in
-    let rest = behind_limit (context_after at_start line) job.vars job.limit h.limits said.0 first.1 h.limit h.is_job.lowest_limit h.is_job.highest_limit said.2 in
+    let says : CommandsSay (counts_with job.vars None) [] said.0 = subst (λ (m : ℕ). CommandsSay (record { vars = job.vars; elements = m }) [] said.0) h.no_elements said.2 in
+    let rest = behind_limit (context_after at_start line) job.vars None job.limit h.limits said.0 first.1 h.limit h.is_job.lowest_limit h.is_job.highest_limit says in
     let well : SaidWell at_start (line ∷ h.limits ++ section_lines said.0) = (first.0, rest.0) in
     let all = from_said at_start (lines_of text) h.clean (subst (SaidWell at_start) (sym said.3) well) in
-    (registers_behind [] said.0, all.0, all.1 ∙ ap (behind_said at_start) said.3 ∙ rest.1)
+    (counts_with job.vars None, registers_behind [] said.0, all.0, all.1 ∙ ap (behind_said at_start) said.3 ∙ rest.1)
 
 pub job_or_fault : JobOrFault
-job_or_fault text job place fault h (inl bad) = bad_within text place fault bad (job_faultless text job h).1
+job_or_fault text job place fault h (inl bad) = bad_within text place fault bad (job_faultless text job h).2
 job_or_fault text job place fault h (inr early) =
     let good = job_faultless text job h in
-    false≢true (sym early.early ∙ ap has_begun good.2)
+    false≢true (sym early.early ∙ ap has_begun good.3)
 
 same_job : (one other : Job) → one.vars ≡ other.vars → one.elements ≡ other.elements → one.limit ≡ other.limit → one.sections ≡ other.sections → one ≡ other
 same_job one other v e l s =
@@ -196,5 +199,8 @@ one_job text one other h h' =
     let behind : h.limits ++ section_lines said.0 ≡ h'.limits ++ section_lines said'.0 = cc in
     let rest = same_rest one.limit other.limit h.limits h'.limits said.0 said'.0 h.limit h'.limit behind in
     let vars : one.vars ≡ other.vars = sym h.vars.1 ∙ ap (digits_value 10) numbers ∙ h'.vars.1 in
-    same_job one other vars (h.is_job.no_elements ∙ sym h'.is_job.no_elements) rest.0
-    (said.1 ∙ ap (λ t. t ∷ []) (same_commands one.vars [] said.0 said'.0 tt said.2 (subst (λ (n : ℕ). CommandsSay n [] said'.0) (sym vars) said'.2) rest.1) ∙ sym said'.1)
+    let elements : one.elements ≡ other.elements = h.no_elements ∙ sym h'.no_elements in
+    let counts : counts_of one ≡ counts_of other =
+    ap (λ (t : ℕ). record { vars = t; elements = one.elements }) vars ∙ ap (λ (t : ℕ). record { vars = other.vars; elements = t }) elements in
+    same_job one other vars elements rest.0
+    (said.1 ∙ ap (λ t. t ∷ []) (same_commands (counts_of one) [] said.0 said'.0 said.2 (subst (λ (n : Counts). CommandsSay n [] said'.0) (sym counts) said'.2) rest.1) ∙ sym said'.1)

@@ -10,6 +10,7 @@ use Rattle.std.proofs.lemmas.List.Elements.{filter-append, All-cons}
 use Rattle.job_text.specs.declared.job.Act.{Act}
 use Rattle.job_text.specs.declared.job.Command.{Command}
 use Rattle.job_text.specs.declared.job.Job.{Job}
+use Rattle.job_text.specs.declared.job.Counts.{Counts}
 use Rattle.job_text.specs.declared.job.Register.{Register}
 use Rattle.job_text.specs.declared.draft.Draft.{Draft}
 use Rattle.job_text.specs.declared.draft.Draft.TheVariants.{Nothing, Sized, Begun}
@@ -40,12 +41,14 @@ GivenLimit (Some limit) lines = (number : Word) × (lines ≡ (codes "limit" ∷
 -- the lines with words that make a draft
 abbrev pub Spelled : Draft → List (List Word) → Type 0
 Spelled Nothing said = said ≡ []
-Spelled (Sized n given) said = (number : Word) × (limits : List (List Word)) × IsNumber number n × GivenLimit given limits
+Spelled (Sized n elements given) said = (number : Word) × (limits : List (List Word)) × IsNumber number n × GivenLimit given limits
     × (said ≡ (codes "vars" ∷ number ∷ []) ∷ limits)
-Spelled (Begun limit section) said = (number : Word) × (limits : List (List Word)) × IsNumber number section.scope.vars × LimitLines limit limits
+    × (elements ≡ None)
+Spelled (Begun limit section) said = (number : Word) × (limits : List (List Word)) × IsNumber number section.scope.counts.vars × LimitLines limit limits
     × (said ≡ (codes "vars" ∷ number ∷ []) ∷ limits ++ section_lines section.commands)
-    × CommandsSay section.scope.vars [] section.commands
+    × CommandsSay section.scope.counts [] section.commands
     × (section.scope.registers ≡ registers_behind [] section.commands)
+    × (section.scope.counts.elements ≡ 0)
 
 -- These lines have no fault, and make this draft.
 pub record IsRead (lines : List (List ℕ)) (draft : Draft) : Type 0 where
@@ -84,7 +87,7 @@ not_zero n = grind (arith, nat_tests)
 pub some_words : (word : Word) (words : List Word) → filter has_words ((word ∷ words) ∷ []) ≡ (word ∷ words) ∷ []
 some_words word words = ap (λ b. cond (not b) ((word ∷ words) ∷ []) []) (not_zero (length words))
 
-pub say_more : (n : ℕ) (rs : List Register) (commands : List Command) (words : List Word) (act : Act) → CommandsSay n rs commands → Says n (registers_behind rs commands) words act
+pub say_more : (n : Counts) (rs : List Register) (commands : List Command) (words : List Word) (act : Act) → CommandsSay n rs commands → Says n (registers_behind rs commands) words act
     → CommandsSay n rs (commands ++ record { words = words; act = act } ∷ [])
 say_more n rs [] words act h says = (says, tt)
 say_more n rs (c ∷ commands) words act h says = (h.0, say_more n (registers_after rs c.words) commands words act h.1 says)
@@ -106,10 +109,10 @@ limit_in_range d l n e low high = grind (arith, nat_tests)
 number_well : (b c : Bool) (fault : FaultKind) → b ≡ true → c ≡ true → cond (true && b) (cond c None (Some fault)) (Some kinds.Word) ≡ None
 number_well b c fault e f = ap (λ t. cond (true && t) (cond c None (Some fault)) (Some kinds.Word)) e ∙ ap (λ t. cond t None (Some fault)) f
 
-no_session : (n : ℕ) (rs : List Register) (first : Word) (rest : List Word) → is_session (first ∷ rest) ≡ false → words_fault (within n rs) (first ∷ rest) ≡ command_fault n rs (first ∷ rest)
+no_session : (n : Counts) (rs : List Register) (first : Word) (rest : List Word) → is_session (first ∷ rest) ≡ false → words_fault (within n rs) (first ∷ rest) ≡ command_fault n rs (first ∷ rest)
 no_session n rs first rest e = ap (λ b. cond b (Some kinds.Limit) (command_fault n rs (first ∷ rest))) e
 
-pub command_line : (c : Context) (n : ℕ) (rs : List Register) (words : List Word) (act : Act) → c ≡ within n rs → Says n rs words act
+pub command_line : (c : Context) (n : Counts) (rs : List Register) (words : List Word) (act : Act) → c ≡ within n rs → Says n rs words act
     → (words_fault c words ≡ None) × (context_after c words ≡ within n (registers_after rs words))
 command_line c n rs words act e says =
     let some = says_words n rs words act says in (
@@ -118,14 +121,14 @@ command_line c n rs words act e says =
     )
 
 pub vars_line : (number : Word) (n : ℕ) → IsNumber number n → n ≤ 1024
-    → (words_fault at_start (codes "vars" ∷ number ∷ []) ≡ None) × (context_after at_start (codes "vars" ∷ number ∷ []) ≡ sized n false)
+    → (words_fault at_start (codes "vars" ∷ number ∷ []) ≡ None) × (context_after at_start (codes "vars" ∷ number ∷ []) ≡ sized n None false)
 vars_line number n h le = (
   number_well (is_number number) (nat_le (digits_value 10 number) 1024) kinds.Range h.0 (in_range (digits_value 10 number) n h.1 le),
-  ap (λ k. sized k false) h.1,
+  ap (λ k. sized k None false) h.1,
 )
 
-pub limit_line : (n : ℕ) (number : Word) (limit : ℕ) → IsNumber number limit → 5 + n ≤ limit → limit ≤ 8388607 → words_fault (sized n false) (codes "limit" ∷ number ∷ []) ≡ None
-limit_line n number limit h low high =
+pub limit_line : (n : ℕ) (elements : Option ℕ) (number : Word) (limit : ℕ) → IsNumber number limit → 5 + n ≤ limit → limit ≤ 8388607 → words_fault (sized n elements false) (codes "limit" ∷ number ∷ []) ≡ None
+limit_line n elements number limit h low high =
     number_well (is_number number) (nat_le (5 + n) (digits_value 10 number) && nat_le (digits_value 10 number) 8388607) kinds.Limit h.0
     (limit_in_range (digits_value 10 number) limit n h.1 low high)
 
@@ -138,15 +141,15 @@ adds_well old new words (adds_vars h) =
       ap (λ t. context_after (context_in t) words) h.5 ∙ ap (context_after at_start) h.2 ∙ line.1 ∙ sym (ap context_in h.6),
     )
 adds_well old new words (adds_limit h) = (
-  ap (λ t. words_fault (context_in t) words) h.7 ∙ ap (words_fault (sized h.1 false)) h.3 ∙ limit_line h.1 h.0 h.2 h.4 h.5 h.6,
-  ap (λ t. context_after (context_in t) words) h.7 ∙ ap (context_after (sized h.1 false)) h.3 ∙ sym (ap context_in h.8),
+  ap (λ t. words_fault (context_in t) words) h.8 ∙ ap (words_fault (sized h.1 h.3 false)) h.4 ∙ limit_line h.1 h.3 h.0 h.2 h.5 h.6 h.7,
+  ap (λ t. context_after (context_in t) words) h.8 ∙ ap (context_after (sized h.1 h.3 false)) h.4 ∙ sym (ap context_in h.9),
 )
 adds_well old new words (adds_session h) = (
-  ap (λ t. words_fault (context_in t) words) h.3 ∙ ap (words_fault (context_in (Sized h.0 h.1))) h.2,
-  ap (λ t. context_after (context_in t) words) h.3 ∙ ap (context_after (context_in (Sized h.0 h.1))) h.2 ∙ sym (ap context_in h.4),
+  ap (λ t. words_fault (context_in t) words) h.4 ∙ ap (words_fault (context_in (Sized h.0 h.1 h.2))) h.3,
+  ap (λ t. context_after (context_in t) words) h.4 ∙ ap (context_after (context_in (Sized h.0 h.1 h.2))) h.3 ∙ sym (ap context_in h.5),
 )
 adds_well old new words (adds_command h) =
-    let line = command_line (context_in old) (h.1).scope.vars (h.1).scope.registers words h.2 (ap context_in h.3) h.4 in
+    let line = command_line (context_in old) (h.1).scope.counts (h.1).scope.registers words h.2 (ap context_in h.3) h.4 in
     (line.0, line.1 ∙ sym (ap context_in h.5))
 
 -- What it makes of the lines with words
@@ -161,32 +164,34 @@ adds_spelled old new words said (adds_nothing e f) h =
 adds_spelled old new words said (adds_vars g) h =
     let empty : said ≡ [] = subst (λ (t : Draft). Spelled t said) g.5 h in
     subst (λ (t : Draft). Spelled t (said ++ filter has_words (words ∷ []))) (sym g.6)
-    (g.0, [], g.3, refl, ap (λ t. t ++ filter has_words (words ∷ [])) empty ∙ ap (λ ws. filter has_words (ws ∷ [])) g.2 ∙ some_words (codes "vars") (g.0 ∷ []))
+    (g.0, [], g.3, refl, ap (λ t. t ++ filter has_words (words ∷ [])) empty ∙ ap (λ ws. filter has_words (ws ∷ [])) g.2 ∙ some_words (codes "vars") (g.0 ∷ []), refl)
 adds_spelled old new words said (adds_limit g) h =
-    let k : Spelled (Sized g.1 None) said = subst (λ (t : Draft). Spelled t said) g.7 h in
-    subst (λ (t : Draft). Spelled t (said ++ filter has_words (words ∷ []))) (sym g.8) (
+    let k : Spelled (Sized g.1 g.3 None) said = subst (λ (t : Draft). Spelled t said) g.8 h in
+    subst (λ (t : Draft). Spelled t (said ++ filter has_words (words ∷ []))) (sym g.9) (
       k.0,
       (codes "limit" ∷ g.0 ∷ []) ∷ [],
       k.2,
-      (g.0, refl, g.4),
-      ap (λ t. t ++ filter has_words (words ∷ [])) (k.4 ∙ ap (λ t. (codes "vars" ∷ k.0 ∷ []) ∷ t) k.3) ∙ ap (λ ws. (codes "vars" ∷ k.0 ∷ []) ∷ filter has_words (ws ∷ [])) g.3
+      (g.0, refl, g.5),
+      ap (λ t. t ++ filter has_words (words ∷ [])) (k.4 ∙ ap (λ t. (codes "vars" ∷ k.0 ∷ []) ∷ t) k.3) ∙ ap (λ ws. (codes "vars" ∷ k.0 ∷ []) ∷ filter has_words (ws ∷ [])) g.4
           ∙ ap (λ t. (codes "vars" ∷ k.0 ∷ []) ∷ t) (some_words (codes "limit") (g.0 ∷ [])),
+      k.5,
     )
 adds_spelled old new words said (adds_session g) h =
-    let k : Spelled (Sized g.0 g.1) said = subst (λ (t : Draft). Spelled t said) g.3 h in
-    subst (λ (t : Draft). Spelled t (said ++ filter has_words (words ∷ []))) (sym g.4) (
+    let k : Spelled (Sized g.0 g.1 g.2) said = subst (λ (t : Draft). Spelled t said) g.4 h in
+    subst (λ (t : Draft). Spelled t (said ++ filter has_words (words ∷ []))) (sym g.5) (
       k.0,
       k.1,
       k.2,
-      limit_lines g.1 k.1 k.3,
-      ap (λ t. t ++ filter has_words (words ∷ [])) k.4 ∙ ap (λ ws. (codes "vars" ∷ k.0 ∷ []) ∷ k.1 ++ filter has_words (ws ∷ [])) g.2
+      limit_lines g.2 k.1 k.3,
+      ap (λ t. t ++ filter has_words (words ∷ [])) k.4 ∙ ap (λ ws. (codes "vars" ∷ k.0 ∷ []) ∷ k.1 ++ filter has_words (ws ∷ [])) g.3
           ∙ ap (λ t. (codes "vars" ∷ k.0 ∷ []) ∷ k.1 ++ t) (some_words (codes "session") []),
       tt,
       refl,
+      ap (λ t. unwrap_or t 0) k.5,
     )
 adds_spelled old new words said (adds_command g) h =
     let k : Spelled (Begun g.0 g.1) said = subst (λ (t : Draft). Spelled t said) g.3 h in
-    let n = (g.1).scope.vars in
+    let n = (g.1).scope.counts in
     let rs = (g.1).scope.registers in
     let some = says_words n rs words g.2 g.4 in
     let one : filter has_words (words ∷ []) ≡ words ∷ [] = ap (λ ws. filter has_words (ws ∷ [])) some.2 ∙ some_words some.0 some.1 ∙ sym (ap (λ ws. ws ∷ []) some.2) in
@@ -199,6 +204,7 @@ adds_spelled old new words said (adds_command g) h =
           ∙ ap (λ t. (codes "vars" ∷ k.0 ∷ []) ∷ k.1 ++ t) (sym (section_more (g.1).commands words g.2)),
       say_more n [] (g.1).commands words g.2 k.5 (subst (λ (t : List Register). Says n t words g.2) k.6 g.4),
       ap (λ t. registers_after t words) k.6 ∙ sym (behind_more [] (g.1).commands words g.2),
+      k.7,
     )
 
 -- and of the number of registers
@@ -216,26 +222,30 @@ registers_grow rs words = grows (is_assignment words) (is_drop words) rs _ _
 
 pub small_up : (draft : Draft) (a b : ℕ) → a ≤ b → IsSmall draft a → IsSmall draft b
 small_up Nothing a b le h = tt
-small_up (Sized n given) a b le h = h
-small_up (Begun limit section) a b le h = (h.0, h.1, h.2, omega (arith, h.3))
+small_up (Sized n elements given) a b le h = h
+small_up (Begun limit section) a b le h = (h.0, h.1, h.2, h.3, omega (arith, h.4))
 
 default_limit : (n : ℕ) (given : Option ℕ) → n ≤ 1024 → IfSome given (λ limit. (5 + n ≤ limit) × (limit ≤ 8388607)) → (5 + n ≤ unwrap_or given 262144) × (unwrap_or given 262144 ≤ 8388607)
 default_limit n None le h = (omega arith, omega arith)
 default_limit n (Some limit) le h = h
 
+few_elements : (elements : Option ℕ) → IfSome elements (λ m. m ≤ 1024) → unwrap_or elements 0 ≤ 1024
+few_elements None h = omega arith
+few_elements (Some m) h = h
+
 pub adds_small : (old new : Draft) (words : List Word) (count : ℕ) → Adds old words new → IsSmall old count → IsSmall new (count + 1)
 adds_small old new words count (adds_nothing e f) h = subst (λ (t : Draft). IsSmall t (count + 1)) (sym f) (small_up old count (count + 1) (omega arith) h)
-adds_small old new words count (adds_vars g) h = subst (λ (t : Draft). IsSmall t (count + 1)) (sym g.6) (g.4, tt)
+adds_small old new words count (adds_vars g) h = subst (λ (t : Draft). IsSmall t (count + 1)) (sym g.6) (g.4, tt, tt)
 adds_small old new words count (adds_limit g) h =
-    let k : IsSmall (Sized g.1 None) count = subst (λ (t : Draft). IsSmall t count) g.7 h in
-    subst (λ (t : Draft). IsSmall t (count + 1)) (sym g.8) (k.0, (g.5, g.6))
+    let k : IsSmall (Sized g.1 g.3 None) count = subst (λ (t : Draft). IsSmall t count) g.8 h in
+    subst (λ (t : Draft). IsSmall t (count + 1)) (sym g.9) (k.0, k.1, (g.6, g.7))
 adds_small old new words count (adds_session g) h =
-    let k : IsSmall (Sized g.0 g.1) count = subst (λ (t : Draft). IsSmall t count) g.3 h in
-    let limit = default_limit g.0 g.1 k.0 k.1 in
-    subst (λ (t : Draft). IsSmall t (count + 1)) (sym g.4) (k.0, limit.0, limit.1, omega arith)
+    let k : IsSmall (Sized g.0 g.1 g.2) count = subst (λ (t : Draft). IsSmall t count) g.4 h in
+    let limit = default_limit g.0 g.2 k.0 k.2 in
+    subst (λ (t : Draft). IsSmall t (count + 1)) (sym g.5) (k.0, few_elements g.1 k.1, limit.0, limit.1, omega arith)
 adds_small old new words count (adds_command g) h =
     let k : IsSmall (Begun g.0 g.1) count = subst (λ (t : Draft). IsSmall t count) g.3 h in
-    subst (λ (t : Draft). IsSmall t (count + 1)) (sym g.5) (k.0, k.1, k.2, omega (arith, registers_grow (g.1).scope.registers words, k.3))
+    subst (λ (t : Draft). IsSmall t (count + 1)) (sym g.5) (k.0, k.1, k.2, k.3, omega (arith, registers_grow (g.1).scope.registers words, k.4))
 
 pub read_more : (lines : List (List ℕ)) (line : List ℕ) (old new : Draft) (words : List Word) → IsRead lines old → line_words line ≡ Some words → Adds old words new → IsRead (lines ++ line ∷ []) new
 read_more lines line old new words read e adds =
@@ -296,7 +306,7 @@ all_one : (P : List Command → Type 0) (commands : List Command) → P commands
 all_one P commands h = All-cons P commands [] h (λ k d lt. absurd (omega arith))
 
 pub job_from : (text : List ℕ) (draft : Draft) (r : Result Job JobError) → IsRead (lines_of text) draft
-    → IfOk r (λ job. (limit : ℕ) × (section : Section) × (draft ≡ Begun limit section) × (job ≡ record { vars = section.scope.vars; elements = 0; limit = limit; sections = section.commands ∷ [] }))
+    → IfOk r (λ job. (limit : ℕ) × (section : Section) × (draft ≡ Begun limit section) × (job ≡ record { vars = section.scope.counts.vars; elements = section.scope.counts.elements; limit = limit; sections = section.commands ∷ [] }))
     → IfOk r (λ job. IsJobText text job)
 job_from text draft (Err e) read h = h
 job_from text draft (Ok job) read h =
@@ -308,16 +318,17 @@ job_from text draft (Ok job) read h =
       clean = read.clean;
       number = spelled.0;
       vars = spelled.2;
+      no_elements = spelled.7;
       limits = spelled.1;
       limit = spelled.3;
       lines = spelled.4 ∙ ap (λ t. (codes "vars" ∷ spelled.0 ∷ []) ∷ spelled.1 ++ t) (sym (append-nil (section_lines section.commands)));
       is_job = record {
         few_variables = small.0;
-        no_elements = refl;
-        lowest_limit = small.1;
-        highest_limit = small.2;
+        few_elements = small.1;
+        lowest_limit = small.2;
+        highest_limit = small.3;
         one_section = refl;
-        commands = all_one (CommandsSay section.scope.vars []) section.commands spelled.5;
+        commands = all_one (CommandsSay section.scope.counts []) section.commands spelled.5;
       };
     })
 

@@ -9,7 +9,7 @@ use Rattle.job_text.specs.Text.{lines_of, without_empty_end}
 least : (k n : ℕ) → k ≤ n → unwrap_or (cond (ltb k n) (Some k) None) n ≡ k
 least k n h = grind (arith, nat_tests)
 
-pub place_lem : (p : ℕ → Bool) (xs : List ℕ) → position_or_len p xs ≤ length xs → unwrap_or (position p xs) (length xs) ≡ position_or_len p xs
+pub place_lem : {X : Type 0} (p : X → Bool) (xs : List X) → position_or_len p xs ≤ length xs → unwrap_or (position p xs) (length xs) ≡ position_or_len p xs
 place_lem p xs h = least (position_or_len p xs) (length xs) h
 
 more_lines : (line : List ℕ) (parts : List (List ℕ)) → 0 < length parts → without_empty_end (line ∷ parts) ≡ line ∷ without_empty_end parts

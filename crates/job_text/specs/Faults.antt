@@ -1,20 +1,24 @@
 -- What is wrong with a text: its first faulty line, and on it the first fault.
-use Rattle.std.specs.Prelude.{◌≡◌, ℕ, ◌+◌, ◌==◌, nat_lt, nat_le, Bool, true, false, ◌&&◌, ◌||◌, not, List, [], ◌∷◌, ◌++◌, Option, Some, None, length, codes, if◌then◌else◌, ◌⊎◌, find, option_and_then}
+use Rattle.std.specs.Prelude.{◌≡◌, ℕ, ◌+◌, ◌==◌, nat_lt, nat_le, Bool, true, false, ◌&&◌, ◌||◌, not, List, [], ◌∷◌, ◌++◌, Option, Some, None, length, codes, if◌then◌else◌, ◌⊎◌, find, option_and_then, unwrap_or}
 use Rattle.std.specs.List.{list_all, list_any}
 use Rattle.std.specs.Option.{option_map}
 use Rattle.std.specs.Str.{bytes_eq}
 use Rattle.std.specs.Str.Parse.{digits_value}
+use Rattle.edge_bits.specs.declared.edges.Kind.{Kind}
+use Rattle.edge_bits.specs.declared.edges.Kind.TheVariants.{Bdd, Add, Zdd}
+use Rattle.function_laws.specs.Numbers.{is_value}
 use Rattle.job_text.specs.declared.commands.Operation.{Operation}
 use Rattle.job_text.specs.declared.commands.Operation.TheVariants as does
 use Rattle.job_text.specs.declared.commands.Place.{Place}
-use Rattle.job_text.specs.declared.commands.Place.TheVariants.{Fresh, Held, Variable, NewVariable, Bit, Bits}
+use Rattle.job_text.specs.declared.commands.Place.TheVariants.{Fresh, Held, Any, Alike, Variable, NewVariable, Value, Bit, Bits}
 use Rattle.job_text.specs.declared.faults.FaultKind.{FaultKind}
 use Rattle.job_text.specs.declared.faults.FaultKind.TheVariants as kinds
 use Rattle.job_text.specs.declared.faults.JobError.{JobError}
 use Rattle.job_text.specs.declared.faults.JobError.TheVariants as errors
+use Rattle.job_text.specs.declared.job.Counts.{Counts}
 use Rattle.job_text.specs.declared.job.Register.{Register}
-use Rattle.job_text.specs.Text.{Word, is_number, is_name, is_allowed, lines_of, words_of}
-use Rattle.job_text.specs.Grammar.{registers_after}
+use Rattle.job_text.specs.Text.{Word, is_number, is_integer, integer_value, is_name, is_allowed, lines_of, words_of}
+use Rattle.job_text.specs.Grammar.{is_called, kind_of, bits_for, registers_after}
 
 -- A command: its word, what it does, and what is due behind the word. First come the places, and then those that repeat,
 -- from the first to the last, any number of times.
@@ -27,34 +31,53 @@ pub record Form : Type 0 where
 abbrev pub form : Word → Operation → List Place → List Place → Form
 form word operation places repeated = record { word = word; operation = operation; places = places; repeated = repeated }
 
+-- a register that is a BDD, and one that is an ADD
+abbrev pub bdd : Place
+bdd = Held Bdd
+
+abbrev pub add : Place
+add = Held Add
+
 -- the commands that assign, by the word behind `r =`
 abbrev pub assigning : List Form
 assigning =
     form (codes "true") does.One [] []
     ∷ form (codes "false") does.Zero [] []
     ∷ form (codes "var") does.Var (Variable ∷ []) []
-    ∷ form (codes "not") does.Not (Held ∷ []) []
-    ∷ form (codes "and") does.And (Held ∷ Held ∷ []) []
-    ∷ form (codes "or") does.Or (Held ∷ Held ∷ []) []
-    ∷ form (codes "xor") does.Xor (Held ∷ Held ∷ []) []
-    ∷ form (codes "ite") does.Ite (Held ∷ Held ∷ Held ∷ []) []
-    ∷ form (codes "cofactor") does.Cofactor (Held ∷ Variable ∷ Bit ∷ []) []
-    ∷ form (codes "exists") does.Exists (Held ∷ []) (Variable ∷ [])
-    ∷ form (codes "forall") does.Forall (Held ∷ []) (Variable ∷ [])
-    ∷ form (codes "andexists") does.AndExists (Held ∷ Held ∷ []) (Variable ∷ [])
-    ∷ form (codes "compose") does.Compose (Held ∷ Variable ∷ Held ∷ []) []
-    ∷ form (codes "vcompose") does.VectorCompose (Held ∷ NewVariable ∷ Held ∷ []) (NewVariable ∷ Held ∷ [])
-    ∷ form (codes "restrict") does.Restrict (Held ∷ Held ∷ []) []
-    ∷ form (codes "support") does.Support (Held ∷ []) []
+    ∷ form (codes "not") does.Not (bdd ∷ []) []
+    ∷ form (codes "and") does.And (bdd ∷ bdd ∷ []) []
+    ∷ form (codes "or") does.Or (bdd ∷ bdd ∷ []) []
+    ∷ form (codes "xor") does.Xor (bdd ∷ bdd ∷ []) []
+    ∷ form (codes "ite") does.Ite (bdd ∷ bdd ∷ bdd ∷ []) []
+    ∷ form (codes "cofactor") does.Cofactor (bdd ∷ Variable ∷ Bit ∷ []) []
+    ∷ form (codes "exists") does.Exists (bdd ∷ []) (Variable ∷ [])
+    ∷ form (codes "forall") does.Forall (bdd ∷ []) (Variable ∷ [])
+    ∷ form (codes "andexists") does.AndExists (bdd ∷ bdd ∷ []) (Variable ∷ [])
+    ∷ form (codes "compose") does.Compose (bdd ∷ Variable ∷ bdd ∷ []) []
+    ∷ form (codes "vcompose") does.VectorCompose (bdd ∷ NewVariable ∷ bdd ∷ []) (NewVariable ∷ bdd ∷ [])
+    ∷ form (codes "restrict") does.Restrict (bdd ∷ bdd ∷ []) []
+    ∷ form (codes "support") does.Support (bdd ∷ []) []
+    ∷ form (codes "num") does.Constant (Value ∷ []) []
+    ∷ form (codes "ofbdd") does.FromBdd (bdd ∷ []) []
+    ∷ form (codes "plus") does.Plus (add ∷ add ∷ []) []
+    ∷ form (codes "minus") does.Minus (add ∷ add ∷ []) []
+    ∷ form (codes "times") does.Times (add ∷ add ∷ []) []
+    ∷ form (codes "min") does.Min (add ∷ add ∷ []) []
+    ∷ form (codes "max") does.Max (add ∷ add ∷ []) []
+    ∷ form (codes "threshold") does.Threshold (add ∷ add ∷ []) []
+    ∷ form (codes "addite") does.AddIte (bdd ∷ add ∷ add ∷ []) []
+    ∷ form (codes "sum") does.SumOver (add ∷ Variable ∷ []) []
+    ∷ form (codes "atleast") does.AtLeast (add ∷ Value ∷ []) []
+    ∷ form (codes "pattern") does.Pattern (add ∷ []) []
     ∷ []
 
 -- the other commands, by their first word
 abbrev pub telling : List Form
 telling =
-    form (codes "drop") does.Drop (Held ∷ []) []
-    ∷ form (codes "same") does.Same (Held ∷ Held ∷ []) []
-    ∷ form (codes "leq") does.Leq (Held ∷ Held ∷ []) []
-    ∷ form (codes "eval") does.Eval (Held ∷ Bits ∷ []) []
+    form (codes "drop") does.Drop (Any ∷ []) []
+    ∷ form (codes "same") does.Same (Any ∷ Alike ∷ []) []
+    ∷ form (codes "leq") does.Leq (bdd ∷ bdd ∷ []) []
+    ∷ form (codes "eval") does.Eval (Any ∷ Bits ∷ []) []
     ∷ []
 
 -- a command of a table, by its word
@@ -105,59 +128,107 @@ bits_in word = if bytes_eq word (codes "none") then 0 else length word
 -- the word has the form that is due
 abbrev pub has_form : Place × Word → Bool
 has_form (Fresh, word) = is_name word
-has_form (Held, word) = is_name word
+has_form (Held kind, word) = is_name word
+has_form (Any, word) = is_name word
+has_form (Alike, word) = is_name word
 has_form (Variable, word) = is_number word
 has_form (NewVariable, word) = is_number word
+has_form (Value, word) = is_integer word
 has_form (Bit, word) = is_bit word
 has_form (Bits, word) = is_bits word
 
--- the fault of a word of due form, over n variables and these registers, whatever stands beside it
-abbrev pub slot_fault : ℕ → List Register → Place × Word → Option FaultKind
-slot_fault n registers (Fresh, word) = if list_any (λ register. bytes_eq register.name word) registers then Some kinds.Again else None
-slot_fault n registers (Held, word) = if list_any (λ register. bytes_eq register.name word && register.live) registers then None else Some kinds.Name
-slot_fault n registers (Variable, word) = if nat_lt (digits_value 10 word) n then None else Some kinds.Range
-slot_fault n registers (NewVariable, word) = if nat_lt (digits_value 10 word) n then None else Some kinds.Range
-slot_fault n registers (Bit, word) = None
-slot_fault n registers (Bits, word) = if bits_in word == n then None else Some kinds.Range
+-- the register of this name, dropped or not
+abbrev pub register_called : List Register → Word → Option Register
+register_called registers word = find (is_called word) registers
+
+abbrev pub same_kind : Kind → Kind → Bool
+same_kind Bdd Bdd = true
+same_kind Add Add = true
+same_kind Zdd Zdd = true
+same_kind _ _ = false
+
+-- the fault where a register of any kind is due, and this one has the name that stands there
+abbrev pub name_fault : Option Register → Option FaultKind
+name_fault None = Some kinds.Name
+name_fault (Some register) = if register.live then None else Some kinds.Name
+
+-- the fault where this kind is due, and a register of that kind is named
+abbrev pub kind_fault : Kind → Kind → Option FaultKind
+kind_fault due kind = if same_kind due kind then None else Some kinds.Kind
 
 abbrev pub or_else : Option FaultKind → Option FaultKind → Option FaultKind
 or_else None later = later
 or_else (Some fault) later = Some fault
 
--- the fault of a word where a new variable is due, if it names one of these
-abbrev pub twice_fault : List ℕ → Place × Word → Option FaultKind
-twice_fault named (Fresh, word) = None
-twice_fault named (Held, word) = None
-twice_fault named (Variable, word) = None
-twice_fault named (NewVariable, word) = if list_any (λ v. v == digits_value 10 word) named then Some kinds.Range else None
-twice_fault named (Bit, word) = None
-twice_fault named (Bits, word) = None
+-- the fault of a number that is due to be below another
+abbrev pub below_fault : ℕ → Word → Option FaultKind
+below_fault n word = if nat_lt (digits_value 10 word) n then None else Some kinds.Range
 
--- the fault of a word of due form, where the words to its left name these variables
-abbrev pub word_fault : ℕ → List Register → List ℕ → Place × Word → Option FaultKind
-word_fault n registers named slot = or_else (slot_fault n registers slot) (twice_fault named slot)
+-- the kind of the register of this name
+abbrev pub kind_called : List Register → Word → Kind
+kind_called registers word = kind_of (register_called registers word)
 
--- the variables that are named up to this word
-abbrev pub named_after : List ℕ → Place × Word → List ℕ
-named_after named (Fresh, word) = named
-named_after named (Held, word) = named
-named_after named (Variable, word) = named ++ digits_value 10 word ∷ []
-named_after named (NewVariable, word) = named ++ digits_value 10 word ∷ []
-named_after named (Bit, word) = named
-named_after named (Bits, word) = named
+-- the fault of a word of due form, over these registers and these numbers of variables and elements, whatever stands beside it
+abbrev pub slot_fault : Counts → List Register → Place × Word → Option FaultKind
+slot_fault n registers (Fresh, word) = if list_any (is_called word) registers then Some kinds.Again else None
+slot_fault n registers (Held kind, word) = or_else (name_fault (register_called registers word)) (kind_fault kind (kind_called registers word))
+slot_fault n registers (Any, word) = name_fault (register_called registers word)
+slot_fault n registers (Alike, word) = name_fault (register_called registers word)
+slot_fault n registers (Variable, word) = below_fault n.vars word
+slot_fault n registers (NewVariable, word) = below_fault n.vars word
+slot_fault n registers (Value, word) = if is_value (integer_value word) then None else Some kinds.Range
+slot_fault n registers (Bit, word) = None
+slot_fault n registers (Bits, word) = None
 
--- the first fault from the left, where the words before these name these variables
-abbrev pub first_fault : ℕ → List Register → List ℕ → List (Place × Word) → Option FaultKind
-first_fault n registers named [] = None
-first_fault n registers named (slot ∷ slots) = or_else (word_fault n registers named slot) (first_fault n registers (named_after named slot) slots)
+-- What the words to the left of a word name: the variables, and the kind of the last register (that of a BDD, if there is none).
+pub record Left : Type 0 where
+  pub variables : List ℕ
+  pub kind : Kind
+
+abbrev pub nothing_left : Left
+nothing_left = record { variables = []; kind = Bdd }
+
+-- the fault of a word by what stands to its left: a register of another kind than the last, a variable that was named, bits of
+-- another number than is due for the last register
+abbrev pub beside_fault : Counts → List Register → Left → Place × Word → Option FaultKind
+beside_fault n registers left (Fresh, word) = None
+beside_fault n registers left (Held kind, word) = None
+beside_fault n registers left (Any, word) = None
+beside_fault n registers left (Alike, word) = kind_fault left.kind (kind_called registers word)
+beside_fault n registers left (Variable, word) = None
+beside_fault n registers left (NewVariable, word) = if list_any (λ v. v == digits_value 10 word) left.variables then Some kinds.Range else None
+beside_fault n registers left (Value, word) = None
+beside_fault n registers left (Bit, word) = None
+beside_fault n registers left (Bits, word) = if bits_in word == bits_for n left.kind then None else Some kinds.Range
+
+-- the fault of a word of due form, where this stands to its left
+abbrev pub word_fault : Counts → List Register → Left → Place × Word → Option FaultKind
+word_fault n registers left slot = or_else (slot_fault n registers slot) (beside_fault n registers left slot)
+
+-- what is named up to this word
+abbrev pub left_after : List Register → Left → Place × Word → Left
+left_after registers left (Fresh, word) = left
+left_after registers left (Held kind, word) = record left { kind = kind_called registers word }
+left_after registers left (Any, word) = record left { kind = kind_called registers word }
+left_after registers left (Alike, word) = record left { kind = kind_called registers word }
+left_after registers left (Variable, word) = record left { variables = left.variables ++ digits_value 10 word ∷ [] }
+left_after registers left (NewVariable, word) = record left { variables = left.variables ++ digits_value 10 word ∷ [] }
+left_after registers left (Value, word) = left
+left_after registers left (Bit, word) = left
+left_after registers left (Bits, word) = left
+
+-- the first fault from the left, where the words before these name this
+abbrev pub first_fault : Counts → List Register → Left → List (Place × Word) → Option FaultKind
+first_fault n registers left [] = None
+first_fault n registers left (slot ∷ slots) = or_else (word_fault n registers left slot) (first_fault n registers (left_after registers left slot) slots)
 
 -- what is wrong with the form comes before all else
-abbrev pub fault_in : ℕ → List Register → Option (List (Place × Word)) → Option FaultKind
+abbrev pub fault_in : Counts → List Register → Option (List (Place × Word)) → Option FaultKind
 fault_in n registers None = Some kinds.Word
-fault_in n registers (Some slots) = if list_all has_form slots then first_fault n registers [] slots else Some kinds.Word
+fault_in n registers (Some slots) = if list_all has_form slots then first_fault n registers nothing_left slots else Some kinds.Word
 
 -- the fault of a command of these words
-unfoldable pub command_fault : ℕ → List Register → List Word → Option FaultKind
+unfoldable pub command_fault : Counts → List Register → List Word → Option FaultKind
 command_fault n registers words = fault_in n registers (option_map (λ known. known.1) (command_of words))
 
 -- the fault of a line that is due to be a word and a number in range
@@ -174,16 +245,20 @@ is_session _ = false
 pub data Context : Type 0 where
   -- the line `vars` is due
   at_start : Context
-  -- there are so many variables, and the limit was given or not; no section has begun
-  sized : ℕ → Bool → Context
-  -- there are so many variables, and these registers of the section
-  within : ℕ → List Register → Context
+  -- there are so many variables and, if that was given, so many elements, and the limit was given or not; no section has begun
+  sized : ℕ → Option ℕ → Bool → Context
+  -- there are so many variables and elements, and these registers of the section
+  within : Counts → List Register → Context
+
+-- the numbers of variables and elements; without a line for them there are no elements
+abbrev pub counts_with : ℕ → Option ℕ → Counts
+counts_with n elements = record { vars = n; elements = unwrap_or elements 0 }
 
 -- the fault of a line of these words
 abbrev pub words_fault : Context → List Word → Option FaultKind
 words_fault context [] = None
 words_fault at_start (word ∷ words) = number_fault (codes "vars") (λ n. nat_le n 1024) kinds.Range (word ∷ words)
-words_fault (sized n limited) (word ∷ words) =
+words_fault (sized n elements limited) (word ∷ words) =
     if is_session (word ∷ words) then None else if limited then Some kinds.Word else
     number_fault (codes "limit") (λ limit. nat_le (5 + n) limit && nat_le limit 8388607) kinds.Limit (word ∷ words)
 words_fault (within n registers) (word ∷ words) =
@@ -201,8 +276,8 @@ number_behind _ = 0
 -- what a line of these words leaves, where it has no fault
 abbrev pub context_after : Context → List Word → Context
 context_after context [] = context
-context_after at_start (word ∷ words) = sized (number_behind (word ∷ words)) false
-context_after (sized n limited) (word ∷ words) = if is_session (word ∷ words) then within n [] else sized n true
+context_after at_start (word ∷ words) = sized (number_behind (word ∷ words)) None false
+context_after (sized n elements limited) (word ∷ words) = if is_session (word ∷ words) then within (counts_with n elements) [] else sized n elements true
 context_after (within n registers) (word ∷ words) = within n (registers_after registers (word ∷ words))
 
 abbrev pub has_begun : Context → Bool

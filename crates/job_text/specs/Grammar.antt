@@ -1,36 +1,49 @@
 -- The texts of jobs: what each command is spelled, and which lines make a job.
-use Rattle.std.specs.Prelude.{◌≡◌, ◌≢◌, ℕ, ◌<◌, ◌≤◌, ◌==◌, Bool, true, false, not, List, [], ◌∷◌, ◌++◌, Some, All, length, map, filter, drop, ◌&&◌, slice_get, codes, ◌+◌, ◌⊎◌, if◌then◌else◌}
-use Rattle.std.specs.List.{list_all, flat_map}
+use Rattle.std.specs.Prelude.{◌≡◌, ◌≢◌, ℕ, ◌<◌, ◌≤◌, ◌==◌, Bool, true, false, not, List, [], ◌∷◌, ◌++◌, Option, Some, None, All, length, map, filter, drop, ◌&&◌, slice_get, codes, ◌+◌, ◌⊎◌, if◌then◌else◌}
+use Rattle.std.specs.List.{list_all, list_any, flat_map, position_or_len}
 use Rattle.std.specs.Str.{bytes_eq}
+use Rattle.edge_bits.specs.declared.edges.Kind.{Kind}
+use Rattle.edge_bits.specs.declared.edges.Kind.TheVariants.{Bdd, Add, Zdd}
+use Rattle.function_laws.specs.Numbers.{is_value}
 use Rattle.function_laws.specs.Steps.{are_distinct}
 use Rattle.job_text.specs.declared.job.Act.{Act}
-use Rattle.job_text.specs.declared.job.Act.TheVariants.{One, Zero, Var, Not, And, Or, Xor, Ite, Cofactor, Exists, Forall, AndExists, Compose, VectorCompose, Restrict, Support, Drop, Same, Leq, Eval}
+use Rattle.job_text.specs.declared.job.Act.TheVariants.{One, Zero, Var, Not, And, Or, Xor, Ite, Cofactor, Exists, Forall, AndExists, Compose, VectorCompose, Restrict, Support, Constant, FromBdd, Plus, Minus, Times, Min, Max, Threshold, AddIte, SumOver, AtLeast, Pattern, Drop, Same, Leq, Eval}
 use Rattle.job_text.specs.declared.job.Command.{Command}
+use Rattle.job_text.specs.declared.job.Counts.{Counts}
 use Rattle.job_text.specs.declared.job.Job.{Job}
 use Rattle.job_text.specs.declared.job.Register.{Register}
 use Rattle.job_text.specs.declared.operands.Operand.{Operand}
 use Rattle.job_text.specs.declared.operands.Operand.TheVariants as operands
-use Rattle.job_text.specs.Text.{Word, IsNumber, is_name, is_allowed, bit_word, lines_of, words_of}
+use Rattle.job_text.specs.Text.{Word, IsNumber, IsInteger, is_name, is_allowed, bit_word, lines_of, words_of}
 
 -- the word is a name that was not assigned in this section
 abbrev pub IsFresh : List Register → Word → Type 0
 IsFresh registers word = (is_name word ≡ true) × All (λ register. register.name ≢ word) registers
 
--- the word names the register that was assigned as number a and was not dropped
-abbrev pub Refers : List Register → Word → ℕ → Type 0
-Refers registers word a = (is_name word ≡ true) × (slice_get registers a ≡ Some (record { name = word; live = true }))
+-- the register has this name
+abbrev pub is_called : Word → Register → Bool
+is_called word register = bytes_eq register.name word
 
--- the word stands for this, where n variables and these registers are there
-abbrev pub StandsFor : ℕ → List Register → Word → Operand → Type 0
+-- the word names the register that was assigned as number a and was not dropped, the first of this name; it has this kind
+abbrev pub Refers : List Register → Word → ℕ → Kind → Type 0
+Refers registers word a kind =
+    (is_name word ≡ true) × (slice_get registers a ≡ Some (record { name = word; live = true; kind = kind }))
+    × (position_or_len (is_called word) registers ≡ a)
+
+-- the word stands for this, over these registers and these numbers of variables and elements
+abbrev pub StandsFor : Counts → List Register → Word → Operand → Type 0
 StandsFor n registers word operands.Target = IsFresh registers word
-StandsFor n registers word (operands.Register a) = Refers registers word a
-StandsFor n registers word (operands.Variable v) = IsNumber word v × (v < n)
-StandsFor n registers word (operands.NewVariable v) = IsNumber word v × (v < n)
+StandsFor n registers word (operands.Register kind a) = Refers registers word a kind
+StandsFor n registers word (operands.Any a) = (kind : Kind) × Refers registers word a kind
+StandsFor n registers word (operands.Alike a) = (kind : Kind) × Refers registers word a kind
+StandsFor n registers word (operands.Variable v) = IsNumber word v × (v < n.vars)
+StandsFor n registers word (operands.NewVariable v) = IsNumber word v × (v < n.vars)
+StandsFor n registers word (operands.Value w) = IsInteger word w × (is_value w ≡ true)
 StandsFor n registers word (operands.Bit b) = word ≡ bit_word (b ∷ [])
-StandsFor n registers word (operands.Bits bits) = (word ≡ bit_word bits) × (length bits ≡ n)
+StandsFor n registers word (operands.Bits bits) = word ≡ bit_word bits
 
 -- the words stand for these, one by one
-abbrev pub AllStandFor : ℕ → List Register → List Word → List Operand → Type 0
+abbrev pub AllStandFor : Counts → List Register → List Word → List Operand → Type 0
 AllStandFor n registers [] [] = Unit {0}
 AllStandFor n registers (word ∷ words) (operand ∷ operands) = StandsFor n registers word operand × AllStandFor n registers words operands
 AllStandFor n registers _ _ = ⊥
@@ -42,44 +55,80 @@ pub data Spelling : Type 0 where
 
 -- a variable, and the register that is put for it
 abbrev pub pair_operands : ℕ × ℕ → List Operand
-pair_operands pair = operands.NewVariable pair.0 ∷ operands.Register pair.1 ∷ []
+pair_operands pair = operands.NewVariable pair.0 ∷ operands.Register Bdd pair.1 ∷ []
+
+-- a register that is a BDD, and one that is an ADD
+abbrev pub bdd : ℕ → Operand
+bdd a = operands.Register Bdd a
+
+abbrev pub add : ℕ → Operand
+add a = operands.Register Add a
 
 abbrev pub spelling : Act → Spelling
 spelling One = assigns (codes "true") []
 spelling Zero = assigns (codes "false") []
 spelling (Var v) = assigns (codes "var") (operands.Variable v ∷ [])
-spelling (Not a) = assigns (codes "not") (operands.Register a ∷ [])
-spelling (And a b) = assigns (codes "and") (operands.Register a ∷ operands.Register b ∷ [])
-spelling (Or a b) = assigns (codes "or") (operands.Register a ∷ operands.Register b ∷ [])
-spelling (Xor a b) = assigns (codes "xor") (operands.Register a ∷ operands.Register b ∷ [])
-spelling (Ite a b c) = assigns (codes "ite") (operands.Register a ∷ operands.Register b ∷ operands.Register c ∷ [])
-spelling (Cofactor a v b) = assigns (codes "cofactor") (operands.Register a ∷ operands.Variable v ∷ operands.Bit b ∷ [])
-spelling (Exists a vs) = assigns (codes "exists") (operands.Register a ∷ map operands.Variable vs)
-spelling (Forall a vs) = assigns (codes "forall") (operands.Register a ∷ map operands.Variable vs)
-spelling (AndExists a b vs) = assigns (codes "andexists") (operands.Register a ∷ operands.Register b ∷ map operands.Variable vs)
-spelling (Compose a v b) = assigns (codes "compose") (operands.Register a ∷ operands.Variable v ∷ operands.Register b ∷ [])
-spelling (VectorCompose a pairs) = assigns (codes "vcompose") (operands.Register a ∷ flat_map pair_operands pairs)
-spelling (Restrict a b) = assigns (codes "restrict") (operands.Register a ∷ operands.Register b ∷ [])
-spelling (Support a) = assigns (codes "support") (operands.Register a ∷ [])
-spelling (Drop a) = tells (codes "drop") (operands.Register a ∷ [])
-spelling (Same a b) = tells (codes "same") (operands.Register a ∷ operands.Register b ∷ [])
-spelling (Leq a b) = tells (codes "leq") (operands.Register a ∷ operands.Register b ∷ [])
-spelling (Eval a bits) = tells (codes "eval") (operands.Register a ∷ operands.Bits bits ∷ [])
+spelling (Not a) = assigns (codes "not") (bdd a ∷ [])
+spelling (And a b) = assigns (codes "and") (bdd a ∷ bdd b ∷ [])
+spelling (Or a b) = assigns (codes "or") (bdd a ∷ bdd b ∷ [])
+spelling (Xor a b) = assigns (codes "xor") (bdd a ∷ bdd b ∷ [])
+spelling (Ite a b c) = assigns (codes "ite") (bdd a ∷ bdd b ∷ bdd c ∷ [])
+spelling (Cofactor a v b) = assigns (codes "cofactor") (bdd a ∷ operands.Variable v ∷ operands.Bit b ∷ [])
+spelling (Exists a vs) = assigns (codes "exists") (bdd a ∷ map operands.Variable vs)
+spelling (Forall a vs) = assigns (codes "forall") (bdd a ∷ map operands.Variable vs)
+spelling (AndExists a b vs) = assigns (codes "andexists") (bdd a ∷ bdd b ∷ map operands.Variable vs)
+spelling (Compose a v b) = assigns (codes "compose") (bdd a ∷ operands.Variable v ∷ bdd b ∷ [])
+spelling (VectorCompose a pairs) = assigns (codes "vcompose") (bdd a ∷ flat_map pair_operands pairs)
+spelling (Restrict a b) = assigns (codes "restrict") (bdd a ∷ bdd b ∷ [])
+spelling (Support a) = assigns (codes "support") (bdd a ∷ [])
+spelling (Constant w) = assigns (codes "num") (operands.Value w ∷ [])
+spelling (FromBdd a) = assigns (codes "ofbdd") (bdd a ∷ [])
+spelling (Plus a b) = assigns (codes "plus") (add a ∷ add b ∷ [])
+spelling (Minus a b) = assigns (codes "minus") (add a ∷ add b ∷ [])
+spelling (Times a b) = assigns (codes "times") (add a ∷ add b ∷ [])
+spelling (Min a b) = assigns (codes "min") (add a ∷ add b ∷ [])
+spelling (Max a b) = assigns (codes "max") (add a ∷ add b ∷ [])
+spelling (Threshold a b) = assigns (codes "threshold") (add a ∷ add b ∷ [])
+spelling (AddIte a b c) = assigns (codes "addite") (bdd a ∷ add b ∷ add c ∷ [])
+spelling (SumOver a v) = assigns (codes "sum") (add a ∷ operands.Variable v ∷ [])
+spelling (AtLeast a w) = assigns (codes "atleast") (add a ∷ operands.Value w ∷ [])
+spelling (Pattern a) = assigns (codes "pattern") (add a ∷ [])
+spelling (Drop a) = tells (codes "drop") (operands.Any a ∷ [])
+spelling (Same a b) = tells (codes "same") (operands.Any a ∷ operands.Alike b ∷ [])
+spelling (Leq a b) = tells (codes "leq") (bdd a ∷ bdd b ∷ [])
+spelling (Eval a bits) = tells (codes "eval") (operands.Any a ∷ operands.Bits bits ∷ [])
 
--- the words have this spelling, where n variables and these registers are there
-abbrev pub Spells : ℕ → List Register → List Word → Spelling → Type 0
+-- the words have this spelling, over these registers and these numbers of variables and elements
+abbrev pub Spells : Counts → List Register → List Word → Spelling → Type 0
 Spells n registers words (assigns command operands) =
     (r : Word) × (rest : List Word) × (words ≡ r ∷ codes "=" ∷ command ∷ rest) × IsFresh registers r × AllStandFor n registers rest operands
 Spells n registers words (tells command operands) = (rest : List Word) × (words ≡ command ∷ rest) × AllStandFor n registers rest operands
 
--- `vcompose` has a pair at least, and no variable in two of them
-abbrev pub IsProper : Act → Type 0
-IsProper (VectorCompose a pairs) = (0 < length pairs) × (are_distinct (map (λ pair. pair.0) pairs) ≡ true)
-IsProper _ = Unit {0}
+-- the kind of the register that was assigned as number a
+abbrev pub kind_of : Option Register → Kind
+kind_of None = Bdd
+kind_of (Some register) = register.kind
 
--- The words say this, where n variables and these registers are there.
-abbrev pub Says : ℕ → List Register → List Word → Act → Type 0
-Says n registers words act = Spells n registers words (spelling act) × IsProper act
+abbrev pub kind_at : List Register → ℕ → Kind
+kind_at registers a = kind_of (slice_get registers a)
+
+-- how many bits a diagram of the kind is evaluated at: one for each element for a family, else one for each variable
+abbrev pub bits_for : Counts → Kind → ℕ
+bits_for n Bdd = n.vars
+bits_for n Add = n.vars
+bits_for n Zdd = n.elements
+
+-- `vcompose` has a pair at least, and no variable in two of them; the registers of `same` have one kind; `eval` has as many
+-- bits as are due for the kind of its register
+abbrev pub IsProper : Counts → List Register → Act → Type 0
+IsProper n registers (VectorCompose a pairs) = (0 < length pairs) × (are_distinct (map (λ pair. pair.0) pairs) ≡ true)
+IsProper n registers (Same a b) = kind_at registers a ≡ kind_at registers b
+IsProper n registers (Eval a bits) = length bits ≡ bits_for n (kind_at registers a)
+IsProper n registers _ = Unit {0}
+
+-- The words say this, over these registers and these numbers of variables and elements.
+abbrev pub Says : Counts → List Register → List Word → Act → Type 0
+Says n registers words act = Spells n registers words (spelling act) × IsProper n registers act
 
 -- the name that a command assigns
 abbrev pub target_of : List Word → Word
@@ -93,21 +142,35 @@ is_assignment _ = false
 
 -- the register, dropped where it has this name
 abbrev pub without : Word → Register → Register
-without word register = record { name = register.name; live = register.live && not (bytes_eq register.name word) }
+without word register = record { name = register.name; live = register.live && not (bytes_eq register.name word); kind = register.kind }
 
 -- `drop` and a name
 abbrev pub is_drop : List Word → Bool
 is_drop (first ∷ second ∷ []) = bytes_eq first (codes "drop")
 is_drop _ = false
 
+-- the words of the commands that make ADDs
+abbrev pub making_adds : List Word
+making_adds =
+    codes "num" ∷ codes "ofbdd" ∷ codes "plus" ∷ codes "minus" ∷ codes "times" ∷ codes "min" ∷ codes "max" ∷ codes "threshold"
+    ∷ codes "addite" ∷ codes "sum" ∷ []
+
+-- the kind of what a command makes, by its word
+abbrev pub kind_made : Word → Kind
+kind_made command = if list_any (λ word. bytes_eq word command) making_adds then Add else Bdd
+
+-- what an assignment to this name by a command of this word adds
+abbrev pub register_made : Word → Word → Register
+register_made name command = record { name = name; live = true; kind = kind_made command }
+
 -- the registers after a command of these words
 abbrev pub registers_after : List Register → List Word → List Register
 registers_after registers words =
-    if is_assignment words then registers ++ record { name = target_of words; live = true } ∷ [] else
+    if is_assignment words then registers ++ register_made (target_of words) (target_of (drop 2 words)) ∷ [] else
     if is_drop words then map (without (target_of (drop 1 words))) registers else registers
 
 -- each command says what it does, where these registers and those of the commands before it are there
-abbrev pub CommandsSay : ℕ → List Register → List Command → Type 0
+abbrev pub CommandsSay : Counts → List Register → List Command → Type 0
 CommandsSay n registers [] = Unit {0}
 CommandsSay n registers (command ∷ commands) =
     Says n registers command.words command.act × CommandsSay n (registers_after registers command.words) commands
@@ -120,14 +183,18 @@ section_lines commands = (codes "session" ∷ []) ∷ map (λ command. command.w
 abbrev pub said_lines : List (List ℕ) → List (List Word)
 said_lines lines = filter (λ words. not (length words == 0)) (map words_of lines)
 
+-- the numbers of variables and elements of a job
+abbrev pub counts_of : Job → Counts
+counts_of job = record { vars = job.vars; elements = job.elements }
+
 -- what holds of every job that is read: its numbers are in range, and in each section each command says what it does
 pub record IsJob (job : Job) : Type 0 where
   pub few_variables : job.vars ≤ 1024
-  pub no_elements : job.elements ≡ 0
+  pub few_elements : job.elements ≤ 1024
   pub lowest_limit : 5 + job.vars ≤ job.limit
   pub highest_limit : job.limit ≤ 8388607
   pub one_section : length job.sections ≡ 1
-  pub commands : All (CommandsSay job.vars []) job.sections
+  pub commands : All (CommandsSay (counts_of job) []) job.sections
 
 -- the line that gives the limit; there is none for 262,144
 abbrev pub LimitLines : ℕ → List (List Word) → Type 0
@@ -139,6 +206,7 @@ pub record IsJobText (text : List ℕ) (job : Job) : Type 0 where
   pub clean : list_all (list_all is_allowed) (lines_of text) ≡ true
   pub number : Word
   pub vars : IsNumber number job.vars
+  pub no_elements : job.elements ≡ 0
   pub limits : List (List Word)
   pub limit : LimitLines job.limit limits
   pub lines : said_lines (lines_of text) ≡ (codes "vars" ∷ number ∷ []) ∷ limits ++ flat_map section_lines job.sections

@@ -13,7 +13,7 @@ use Rattle.function_laws.specs.Histories.{IsLegal}
 use Rattle.job_text.specs.declared.history_line.Reply.{Reply}
 use Rattle.job_text.specs.declared.history_line.Reply.TheVariants as reply
 use Rattle.job_text.specs.declared.job.Act.{Act}
-use Rattle.job_text.specs.declared.job.Act.TheVariants.{One, Zero, Var, Not, And, Or, Xor, Ite, Cofactor, Exists, Forall, AndExists, Compose, VectorCompose, Restrict, Support, Drop, Same, Leq, Eval}
+use Rattle.job_text.specs.declared.job.Act.TheVariants.{One, Zero, Var, Not, And, Or, Xor, Ite, Cofactor, Exists, Forall, AndExists, Compose, VectorCompose, Restrict, Support, Constant, FromBdd, Plus, Minus, Times, Min, Max, Threshold, AddIte, SumOver, AtLeast, Pattern, Drop, Same, Leq, Eval}
 use Rattle.job_text.specs.declared.job.Command.{Command}
 use Rattle.job_text.specs.declared.job.Job.{Job}
 use Rattle.job_text.specs.Text.{Word}
@@ -122,6 +122,18 @@ Calls registers (Compose a v b) call = (x y : Name) × IsNamed registers a x × 
 Calls registers (VectorCompose a pairs) call = (x : Name) × (named : List (ℕ × Name)) × IsNamed registers a x × AreNamed registers pairs named × (call ≡ calls.VectorCompose x named)
 Calls registers (Restrict a b) call = (x y : Name) × IsNamed registers a x × IsNamed registers b y × (call ≡ calls.Restrict x y)
 Calls registers (Support a) call = (x : Name) × IsNamed registers a x × (call ≡ calls.Support x)
+Calls registers (Constant w) call = call ≡ calls.Constant w
+Calls registers (FromBdd a) call = (x : Name) × IsNamed registers a x × (call ≡ calls.FromBdd x)
+Calls registers (Plus a b) call = (x y : Name) × IsNamed registers a x × IsNamed registers b y × (call ≡ calls.Plus x y)
+Calls registers (Minus a b) call = (x y : Name) × IsNamed registers a x × IsNamed registers b y × (call ≡ calls.Minus x y)
+Calls registers (Times a b) call = (x y : Name) × IsNamed registers a x × IsNamed registers b y × (call ≡ calls.Times x y)
+Calls registers (Min a b) call = (x y : Name) × IsNamed registers a x × IsNamed registers b y × (call ≡ calls.Min x y)
+Calls registers (Max a b) call = (x y : Name) × IsNamed registers a x × IsNamed registers b y × (call ≡ calls.Max x y)
+Calls registers (Threshold a b) call = (x y : Name) × IsNamed registers a x × IsNamed registers b y × (call ≡ calls.Threshold x y)
+Calls registers (AddIte a b c) call = (x y z : Name) × IsNamed registers a x × IsNamed registers b y × IsNamed registers c z × (call ≡ calls.AddIte x y z)
+Calls registers (SumOver a v) call = (x : Name) × IsNamed registers a x × (call ≡ calls.SumOver x v)
+Calls registers (AtLeast a w) call = (x : Name) × IsNamed registers a x × (call ≡ calls.AtLeast x w)
+Calls registers (Pattern a) call = (x : Name) × IsNamed registers a x × (call ≡ calls.Pattern x)
 Calls registers (Drop a) call = (x : Name) × IsNamed registers a x × (call ≡ calls.DropRow x)
 Calls registers (Same a b) call = (x y : Name) × IsNamed registers a x × IsNamed registers b y × (call ≡ calls.Same x y)
 Calls registers (Leq a b) call = (x y : Name) × IsNamed registers a x × IsNamed registers b y × (call ≡ calls.Leq x y)

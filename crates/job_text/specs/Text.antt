@@ -1,5 +1,5 @@
 -- A text as lines, and a line as words.
-use Rattle.std.specs.Prelude.{◌≡◌, ℕ, ◌==◌, nat_le, Bool, true, ◌&&◌, ◌||◌, not, List, [], ◌∷◌, map, filter, length, slice_index, Option, Some, None, codes, if◌then◌else◌}
+use Rattle.std.specs.Prelude.{◌≡◌, ℕ, ◌==◌, nat_le, Bool, true, ◌&&◌, ◌||◌, not, List, [], ◌∷◌, map, filter, drop, length, slice_index, ℤ, pos, neg_ℤ, Option, Some, None, codes, if◌then◌else◌}
 use Rattle.std.specs.List.{slice_split, before_first, list_all}
 use Rattle.std.specs.Char.{is_ascii_digit}
 use Rattle.std.specs.Str.Parse.{digits_value}
@@ -39,6 +39,25 @@ is_number word = not (length word == 0) && list_all is_ascii_digit word && (not 
 -- a word that is a number, and its value
 abbrev pub IsNumber : Word → ℕ → Type 0
 IsNumber word n = (is_number word ≡ true) × (digits_value 10 word ≡ n)
+
+-- the word begins with `-`
+abbrev pub is_negative : Word → Bool
+is_negative word = slice_index word 0 == 45
+
+-- what stands behind a `-`, or the whole word
+abbrev pub magnitude : Word → Word
+magnitude word = if is_negative word then drop 1 word else word
+
+-- a number, or `-` and a number other than 0
+abbrev pub is_integer : Word → Bool
+is_integer word = is_number (magnitude word) && not (is_negative word && digits_value 10 (magnitude word) == 0)
+
+abbrev pub integer_value : Word → ℤ
+integer_value word = if is_negative word then neg_ℤ (pos (digits_value 10 (magnitude word))) else pos (digits_value 10 (magnitude word))
+
+-- a word that is a whole number, and its value
+abbrev pub IsInteger : Word → ℤ → Type 0
+IsInteger word w = (is_integer word ≡ true) × (integer_value word ≡ w)
 
 abbrev pub is_letter : ℕ → Bool
 is_letter b = (nat_le 65 b && nat_le b 90) || (nat_le 97 b && nat_le b 122)

@@ -1,8 +1,13 @@
 //! The commands: their words, and what is due behind them.
 
 ghost use Rattle.std.specs.Prelude.{◌≡◌, map, option_map};
+ghost use Rattle.std.specs.List.{list_any};
+ghost use Rattle.std.specs.Str.{bytes_eq};
+ghost use Rattle.job_text.specs.Grammar.{kind_made};
 ghost use Rattle.job_text.specs.Faults.{assigning, telling, form_in};
 ghost use Rattle.job_text.specs.Drafts.{form_of};
+
+use edge_bits::Kind;
 
 /// What a command does with its operands.
 #[derive(Clone, Copy)]
@@ -23,6 +28,18 @@ pub enum Operation {
     VectorCompose,
     Restrict,
     Support,
+    Constant,
+    FromBdd,
+    Plus,
+    Minus,
+    Times,
+    Min,
+    Max,
+    Threshold,
+    AddIte,
+    SumOver,
+    AtLeast,
+    Pattern,
     Drop,
     Same,
     Leq,
@@ -34,15 +51,21 @@ pub enum Operation {
 pub enum Place {
     /// A name that was not assigned in this section.
     Fresh,
-    /// A register that was assigned and not dropped.
-    Held,
+    /// A register of this kind that was assigned and not dropped.
+    Held(Kind),
+    /// A register of any kind that was assigned and not dropped.
+    Any,
+    /// A register of the kind of the one to its left.
+    Alike,
     /// The number of a variable.
     Variable,
     /// The number of a variable that no word to its left names.
     NewVariable,
+    /// A whole number from -2^46 to 2^46 - 1.
+    Value,
     /// `0` or `1`.
     Bit,
-    /// A bit for each variable.
+    /// As many bits as are due for the register to its left.
     Bits,
 }
 
@@ -55,8 +78,14 @@ pub struct Known {
     pub repeated: &'static [Place],
 }
 
+/// A register that is a BDD.
+const BDD: Place = Place::Held(Kind::Bdd);
+
+/// A register that is an ADD.
+const ADD: Place = Place::Held(Kind::Add);
+
 /// The commands that assign, by the word behind `r =`.
-const ASSIGNING: [Known; 16] = [
+const ASSIGNING: [Known; 28] = [
     Known {
         word: b"true",
         operation: Operation::One,
@@ -78,79 +107,151 @@ const ASSIGNING: [Known; 16] = [
     Known {
         word: b"not",
         operation: Operation::Not,
-        places: &[Place::Held],
+        places: &[BDD],
         repeated: &[],
     },
     Known {
         word: b"and",
         operation: Operation::And,
-        places: &[Place::Held, Place::Held],
+        places: &[BDD, BDD],
         repeated: &[],
     },
     Known {
         word: b"or",
         operation: Operation::Or,
-        places: &[Place::Held, Place::Held],
+        places: &[BDD, BDD],
         repeated: &[],
     },
     Known {
         word: b"xor",
         operation: Operation::Xor,
-        places: &[Place::Held, Place::Held],
+        places: &[BDD, BDD],
         repeated: &[],
     },
     Known {
         word: b"ite",
         operation: Operation::Ite,
-        places: &[Place::Held, Place::Held, Place::Held],
+        places: &[BDD, BDD, BDD],
         repeated: &[],
     },
     Known {
         word: b"cofactor",
         operation: Operation::Cofactor,
-        places: &[Place::Held, Place::Variable, Place::Bit],
+        places: &[BDD, Place::Variable, Place::Bit],
         repeated: &[],
     },
     Known {
         word: b"exists",
         operation: Operation::Exists,
-        places: &[Place::Held],
+        places: &[BDD],
         repeated: &[Place::Variable],
     },
     Known {
         word: b"forall",
         operation: Operation::Forall,
-        places: &[Place::Held],
+        places: &[BDD],
         repeated: &[Place::Variable],
     },
     Known {
         word: b"andexists",
         operation: Operation::AndExists,
-        places: &[Place::Held, Place::Held],
+        places: &[BDD, BDD],
         repeated: &[Place::Variable],
     },
     Known {
         word: b"compose",
         operation: Operation::Compose,
-        places: &[Place::Held, Place::Variable, Place::Held],
+        places: &[BDD, Place::Variable, BDD],
         repeated: &[],
     },
     Known {
         word: b"vcompose",
         operation: Operation::VectorCompose,
-        places: &[Place::Held, Place::NewVariable, Place::Held],
-        repeated: &[Place::NewVariable, Place::Held],
+        places: &[BDD, Place::NewVariable, BDD],
+        repeated: &[Place::NewVariable, BDD],
     },
     Known {
         word: b"restrict",
         operation: Operation::Restrict,
-        places: &[Place::Held, Place::Held],
+        places: &[BDD, BDD],
         repeated: &[],
     },
     Known {
         word: b"support",
         operation: Operation::Support,
-        places: &[Place::Held],
+        places: &[BDD],
+        repeated: &[],
+    },
+    Known {
+        word: b"num",
+        operation: Operation::Constant,
+        places: &[Place::Value],
+        repeated: &[],
+    },
+    Known {
+        word: b"ofbdd",
+        operation: Operation::FromBdd,
+        places: &[BDD],
+        repeated: &[],
+    },
+    Known {
+        word: b"plus",
+        operation: Operation::Plus,
+        places: &[ADD, ADD],
+        repeated: &[],
+    },
+    Known {
+        word: b"minus",
+        operation: Operation::Minus,
+        places: &[ADD, ADD],
+        repeated: &[],
+    },
+    Known {
+        word: b"times",
+        operation: Operation::Times,
+        places: &[ADD, ADD],
+        repeated: &[],
+    },
+    Known {
+        word: b"min",
+        operation: Operation::Min,
+        places: &[ADD, ADD],
+        repeated: &[],
+    },
+    Known {
+        word: b"max",
+        operation: Operation::Max,
+        places: &[ADD, ADD],
+        repeated: &[],
+    },
+    Known {
+        word: b"threshold",
+        operation: Operation::Threshold,
+        places: &[ADD, ADD],
+        repeated: &[],
+    },
+    Known {
+        word: b"addite",
+        operation: Operation::AddIte,
+        places: &[BDD, ADD, ADD],
+        repeated: &[],
+    },
+    Known {
+        word: b"sum",
+        operation: Operation::SumOver,
+        places: &[ADD, Place::Variable],
+        repeated: &[],
+    },
+    Known {
+        word: b"atleast",
+        operation: Operation::AtLeast,
+        places: &[ADD, Place::Value],
+        repeated: &[],
+    },
+    Known {
+        word: b"pattern",
+        operation: Operation::Pattern,
+        places: &[ADD],
         repeated: &[],
     },
 ];
@@ -160,27 +261,41 @@ const TELLING: [Known; 4] = [
     Known {
         word: b"drop",
         operation: Operation::Drop,
-        places: &[Place::Held],
+        places: &[Place::Any],
         repeated: &[],
     },
     Known {
         word: b"same",
         operation: Operation::Same,
-        places: &[Place::Held, Place::Held],
+        places: &[Place::Any, Place::Alike],
         repeated: &[],
     },
     Known {
         word: b"leq",
         operation: Operation::Leq,
-        places: &[Place::Held, Place::Held],
+        places: &[BDD, BDD],
         repeated: &[],
     },
     Known {
         word: b"eval",
         operation: Operation::Eval,
-        places: &[Place::Held, Place::Bits],
+        places: &[Place::Any, Place::Bits],
         repeated: &[],
     },
+];
+
+/// The words of the commands that make ADDs.
+const MAKING_ADDS: [&'static [u8]; 10] = [
+    b"num",
+    b"ofbdd",
+    b"plus",
+    b"minus",
+    b"times",
+    b"min",
+    b"max",
+    b"threshold",
+    b"addite",
+    b"sum",
 ];
 
 /// The command of this word.
@@ -207,4 +322,22 @@ pub fn telling(word: &[u8]) -> Option<Known>
     ensures { option_map form_of result ≡ form_in telling word.now }
 {
     find_command(&TELLING, word)
+}
+
+/// Whether the word is one of these.
+fn is_one_of(words: &[&[u8]], word: &[u8]) -> bool
+    ensures { result ≡ list_any (λ other. bytes_eq other.now word.now) words.now }
+{
+    words.iter().any(|other| *other == word)
+}
+
+/// The kind of what a command makes, by its word.
+pub fn kind_made(word: &[u8]) -> Kind
+    ensures { result ≡ kind_made word.now }
+{
+    if is_one_of(&MAKING_ADDS, word) {
+        Kind::Add
+    } else {
+        Kind::Bdd
+    }
 }

@@ -5,7 +5,7 @@ ghost use Rattle.job_text.specs.Grammar.{Says, registers_after, without, is_drop
 ghost use Rattle.job_text.specs.Drafts.{CommandStop, with_act};
 
 use crate::faults::Stop;
-use crate::job::{Act, Command};
+use crate::job::{Act, Command, Counts};
 use crate::registers::registers_behind;
 use crate::scope::Scope;
 use edge_bits::List;
@@ -23,19 +23,26 @@ pub struct Section {
 pub enum Draft {
     /// Nothing was read.
     Nothing,
-    /// The number of variables was read, and the limit if it was given.
-    Sized { vars: u32, limit: Option<u32> },
+    /// The number of variables was read, and those of elements and of slots if they were given.
+    Sized {
+        vars: u32,
+        elements: Option<u32>,
+        limit: Option<u32>,
+    },
     /// A section has begun.
-    Begun { limit: u32, section: Section },
+    Begun {
+        limit: u32,
+        section: Section,
+    },
 }
 
 impl Section {
-    /// A section without commands, where there are so many variables.
-    pub fn new(alloc: Global, vars: u32) -> Section
-        ensures { result ≡ record { scope = record { vars = vars; registers = [] }; commands = [] } }
+    /// A section without commands, where there are so many variables and elements.
+    pub fn new(alloc: Global, counts: Counts) -> Section
+        ensures { result ≡ record { scope = record { counts = counts; registers = [] }; commands = [] } }
     {
         let scope = Scope {
-            vars,
+            counts,
             registers: List::new(alloc),
         };
         Section {
@@ -47,21 +54,21 @@ impl Section {
     /// The section with one more command.
     pub fn with_command(self, alloc: Global, words: List<List<u8>>) -> Result<Section, Stop>
         requires some { 0 < length words }
-        requires vars { self.scope.vars ≤ 1024 }
+        requires vars { self.scope.counts.vars ≤ 1024 }
         requires registers { length self.scope.registers ≤ 67108864 }
-        ensures ok { IfOk result (λ next. (act : Act) × Says self.scope.vars self.scope.registers words act × (next ≡ with_act self words act)) }
-        ensures stop { IfErr result (λ stop. CommandStop self.scope.vars self.scope.registers words stop) }
+        ensures ok { IfOk result (λ next. (act : Act) × Says self.scope.counts self.scope.registers words act × (next ≡ with_act self words act)) }
+        ensures stop { IfErr result (λ stop. CommandStop self.scope.counts self.scope.registers words stop) }
     {
         let Section {
             scope,
             mut commands,
         } = self;
         let act = scope.command(alloc, words.as_slice())?;
-        let Scope { vars, registers } = scope;
+        let Scope { counts, registers } = scope;
         let registers = registers_behind(alloc, registers, words.as_slice())?;
         commands.push(Command { words, act })?;
         Ok(Section {
-            scope: Scope { vars, registers },
+            scope: Scope { counts, registers },
             commands,
         })
     }

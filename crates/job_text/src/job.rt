@@ -1,4 +1,4 @@
-use edge_bits::List;
+use edge_bits::{Kind, List};
 
 /// What a command does. Registers go by number of assignment in their section, from 0.
 #[derive(Drop)]
@@ -35,13 +35,37 @@ pub enum Act {
     Restrict(u32, u32),
     /// `r = support A`: the product of the variables on which the register depends.
     Support(u32),
+    /// `r = num W`: the constant, from -2^46 to 2^46 - 1.
+    Constant(i64),
+    /// `r = ofbdd A`: 1 where the register holds, 0 elsewhere.
+    FromBdd(u32),
+    /// `r = plus A B`: the sum of two registers, place by place.
+    Plus(u32, u32),
+    /// `r = minus A B`: the first register less the second, place by place.
+    Minus(u32, u32),
+    /// `r = times A B`: the product of two registers, place by place.
+    Times(u32, u32),
+    /// `r = min A B`: the lesser of two registers, place by place.
+    Min(u32, u32),
+    /// `r = max A B`: the greater of two registers, place by place.
+    Max(u32, u32),
+    /// `r = threshold A B`: the first register where it is at least the second, elsewhere 0.
+    Threshold(u32, u32),
+    /// `r = addite A B C`: the second register where the first, a BDD, holds, elsewhere the third.
+    AddIte(u32, u32, u32),
+    /// `r = sum A V`: the sum of the register's two cofactors by the variable.
+    SumOver(u32, u32),
+    /// `r = atleast A W`: where the register is at least the number.
+    AtLeast(u32, i64),
+    /// `r = pattern A`: where the register is not 0.
+    Pattern(u32),
     /// `drop A`: the register is let go.
     Drop(u32),
-    /// `same A B`: whether two registers have the same function.
+    /// `same A B`: whether two registers of one kind have the same function.
     Same(u32, u32),
     /// `leq A B`: whether the second register holds wherever the first does.
     Leq(u32, u32),
-    /// `eval A bits`: the value of a register, where bit i is the value of variable i.
+    /// `eval A bits`: the value of a register, where bit i is the value of variable i (of a family: of element i).
     Eval(u32, List<bool>),
 }
 
@@ -61,9 +85,17 @@ pub struct Job {
     pub sections: List<List<Command>>,
 }
 
-/// A register of a section: its name, and whether it was not dropped.
+/// A register of a section: its name, whether it was not dropped, and its kind of diagram.
 #[derive(Drop)]
 pub struct Register {
     pub name: List<u8>,
     pub live: bool,
+    pub kind: Kind,
+}
+
+/// How many variables and elements there are, at most 1,024 each.
+#[derive(Clone, Copy, Drop)]
+pub struct Counts {
+    pub vars: u32,
+    pub elements: u32,
 }

@@ -1,12 +1,13 @@
 //! The operands of a command.
 
-ghost use Rattle.std.specs.Prelude.{◌≡◌, ◌==◌, IfOk, drop, false, slice_index, slice_index_or};
+ghost use Rattle.std.specs.Prelude.{◌≡◌, ◌==◌, IfOk, drop, false, pos, slice_index, slice_index_or};
 ghost use Rattle.std.specs.List.{list_any, zip};
-ghost use Rattle.job_text.specs.Drafts.{no_operands, with_operand, repeats, act_of};
+ghost use Rattle.job_text.specs.Drafts.{no_operands, with_operand, with_register, act_of};
 
 use crate::commands::Operation;
-use crate::job::Act;
-use edge_bits::List;
+use crate::job::{Act, Register};
+use crate::registers::kind_at;
+use edge_bits::{Kind, List};
 use std::alloc::{AllocError, Global};
 
 /// What a word of a command stands for.
@@ -14,23 +15,32 @@ use std::alloc::{AllocError, Global};
 pub enum Operand {
     /// The register that the command assigns.
     Target,
-    /// A register, by its number.
-    Register(u32),
+    /// A register of the kind that is due, by its number.
+    Register(Kind, u32),
+    /// A register of any kind, by its number.
+    Any(u32),
+    /// A register that is due to have the kind of the one to its left, by its number.
+    Alike(u32),
     /// A variable, by its number.
     Variable(u32),
     /// A variable that no word to the left names, by its number.
     NewVariable(u32),
+    /// A whole number.
+    Value(i64),
     /// The value of a variable.
     Bit(bool),
-    /// The values of all variables.
+    /// The values of all variables, or of all elements.
     Bits(List<bool>),
 }
 
-/// The operands of a command, of each kind in the order of their words.
+/// The operands of a command, each sort in the order of their words.
 #[derive(Drop)]
 pub struct Operands {
     pub registers: List<u32>,
+    /// The kind of the last register, or that of a BDD where there is none.
+    pub kind: Kind,
     pub variables: List<u32>,
+    pub values: List<i64>,
     pub bits: List<bool>,
 }
 
@@ -40,42 +50,46 @@ impl Operands {
     {
         Operands {
             registers: List::new(alloc),
+            kind: Kind::Bdd,
             variables: List::new(alloc),
+            values: List::new(alloc),
             bits: List::new(alloc),
         }
     }
 
-    /// The operands with one more.
-    pub fn with(self, operand: Operand) -> Result<Operands, AllocError>
-        ensures { IfOk result (λ more. more ≡ with_operand self operand) }
+    /// The operands with one more register.
+    fn with_register(self, known: &[Register], a: u32) -> Result<Operands, AllocError>
+        ensures { IfOk result (λ more. more ≡ with_register known.now self a) }
     {
-        let Operands {
-            mut registers,
-            mut variables,
-            mut bits,
-        } = self;
-        match operand {
-            Operand::Target => {}
-            Operand::Register(a) => registers.push(a)?,
-            Operand::Variable(v) | Operand::NewVariable(v) => variables.push(v)?,
-            Operand::Bit(bit) => bits.push(bit)?,
-            Operand::Bits(all) => bits = all,
-        }
-        Ok(Operands {
-            registers,
-            variables,
-            bits,
-        })
+        let mut more = self;
+        more.kind = kind_at(known, a);
+        more.registers.push(a)?;
+        Ok(more)
     }
 
-    /// Whether the operand is a variable that is due to be new, and is one of theirs.
-    pub fn repeats(&self, operand: &Operand) -> bool
-        ensures { result ≡ repeats self.now operand.now }
+    /// The operands with one more, where these registers are known.
+    pub fn with(self, known: &[Register], operand: Operand) -> Result<Operands, AllocError>
+        ensures { IfOk result (λ more. more ≡ with_operand known.now self operand) }
     {
+        let mut more = self;
         match operand {
-            Operand::NewVariable(v) => contains(self.variables.as_slice(), *v),
-            _ => false,
+            Operand::Target => {}
+            Operand::Register(_, a) | Operand::Any(a) | Operand::Alike(a) => {
+                return more.with_register(known, a);
+            }
+            Operand::Variable(v) | Operand::NewVariable(v) => more.variables.push(v)?,
+            Operand::Value(w) => more.values.push(w)?,
+            Operand::Bit(bit) => more.bits.push(bit)?,
+            Operand::Bits(all) => more.bits = all,
         }
+        Ok(more)
+    }
+
+    /// Whether the variable is one of theirs.
+    pub fn names(&self, v: u32) -> bool
+        ensures { result ≡ list_any (λ other. other == v) self.now.variables }
+    {
+        contains(self.variables.as_slice(), v)
     }
 
     /// The register of this place among them.
@@ -93,11 +107,13 @@ impl Operands {
         let b = self.register(1);
         let c = self.register(2);
         let v = number_at(self.variables.as_slice(), 0);
+        let w = value_at(self.values.as_slice(), 0);
         let bit = bit_at(self.bits.as_slice(), 0);
         let Operands {
             registers,
             variables,
             bits,
+            ..
         } = self;
         let act = match operation {
             Operation::One => Act::One,
@@ -116,6 +132,18 @@ impl Operands {
             Operation::VectorCompose => vector_compose(alloc, &registers, &variables)?,
             Operation::Restrict => Act::Restrict(a, b),
             Operation::Support => Act::Support(a),
+            Operation::Constant => Act::Constant(w),
+            Operation::FromBdd => Act::FromBdd(a),
+            Operation::Plus => Act::Plus(a, b),
+            Operation::Minus => Act::Minus(a, b),
+            Operation::Times => Act::Times(a, b),
+            Operation::Min => Act::Min(a, b),
+            Operation::Max => Act::Max(a, b),
+            Operation::Threshold => Act::Threshold(a, b),
+            Operation::AddIte => Act::AddIte(a, b, c),
+            Operation::SumOver => Act::SumOver(a, v),
+            Operation::AtLeast => Act::AtLeast(a, w),
+            Operation::Pattern => Act::Pattern(a),
             Operation::Drop => Act::Drop(a),
             Operation::Same => Act::Same(a, b),
             Operation::Leq => Act::Leq(a, b),
@@ -176,6 +204,13 @@ fn number_at(numbers: &[u32], place: usize) -> u32
     ensures { result ≡ slice_index numbers.now place }
 {
     numbers.get(place).copied().unwrap_or(0)
+}
+
+/// The value at the place, and 0 where there is none.
+fn value_at(values: &[i64], place: usize) -> i64
+    ensures { result ≡ slice_index_or values.now place (pos 0) }
+{
+    values.get(place).copied().unwrap_or(0)
 }
 
 /// The bit at the place, and 0 where there is none.

@@ -13,7 +13,7 @@ ghost use Rattle.job_text.specs.declared.draft.Section.{Section as SectionOf};
 
 use crate::draft::{Draft, Section};
 use crate::faults::{FaultKind, JobError, JobFault, Stop};
-use crate::job::Job;
+use crate::job::{Counts, Job};
 use crate::text::{cut_line, is_number, number_value, words};
 use edge_bits::List;
 use std::alloc::Global;
@@ -93,10 +93,18 @@ fn with_line(alloc: Global, draft: Draft, words: List<List<u8>>) -> Result<Draft
     }
     match draft {
         Draft::Nothing => match vars_line(words.as_slice()) {
-            Ok(vars) => Ok(Draft::Sized { vars, limit: None }),
+            Ok(vars) => Ok(Draft::Sized {
+                vars,
+                elements: None,
+                limit: None,
+            }),
             Err(kind) => Err(Stop::Fault(kind)),
         },
-        Draft::Sized { vars, limit } => sized_line(alloc, vars, limit, words.as_slice()),
+        Draft::Sized {
+            vars,
+            elements,
+            limit,
+        } => sized_line(alloc, vars, elements, limit, words.as_slice()),
         Draft::Begun { limit, section } => begun_line(alloc, limit, section, words),
     }
 }
@@ -105,19 +113,24 @@ fn with_line(alloc: Global, draft: Draft, words: List<List<u8>>) -> Result<Draft
 fn sized_line(
     alloc: Global,
     vars: u32,
+    elements: Option<u32>,
     limit: Option<u32>,
     words: &[List<u8>],
 ) -> Result<Draft, Stop>
     requires some { 0 < length words.now }
     requires vars { vars ≤ 1024 }
-    ensures ok { IfOk result (λ next. Adds (Draft.Sized vars limit) words.now next) }
-    ensures stop { IfErr result (λ stop. LineStop (Draft.Sized vars limit) words.now stop) }
+    ensures ok { IfOk result (λ next. Adds (Draft.Sized vars elements limit) words.now next) }
+    ensures stop { IfErr result (λ stop. LineStop (Draft.Sized vars elements limit) words.now stop) }
 {
     if session_line(words) {
         let limit = limit.unwrap_or(DEFAULT_LIMIT);
+        let counts = Counts {
+            vars,
+            elements: elements.unwrap_or(0),
+        };
         return Ok(Draft::Begun {
             limit,
-            section: Section::new(alloc, vars),
+            section: Section::new(alloc, counts),
         });
     }
     if limit.is_some() {
@@ -126,6 +139,7 @@ fn sized_line(
     match limit_line(vars, words) {
         Ok(limit) => Ok(Draft::Sized {
             vars,
+            elements,
             limit: Some(limit),
         }),
         Err(kind) => Err(Stop::Fault(kind)),
@@ -140,7 +154,7 @@ fn begun_line(
     words: List<List<u8>>,
 ) -> Result<Draft, Stop>
     requires some { 0 < length words }
-    requires vars { section.scope.vars ≤ 1024 }
+    requires vars { section.scope.counts.vars ≤ 1024 }
     requires registers { length section.scope.registers ≤ 67108864 }
     ensures ok { IfOk result (λ next. Adds (Draft.Begun limit section) words next) }
     ensures stop { IfErr result (λ stop. LineStop (Draft.Begun limit section) words stop) }
@@ -188,7 +202,7 @@ pub fn parse(alloc: Global, text: &[u8]) -> Result<Job, JobError>
 fn finish(alloc: Global, draft: Draft, lines: u64) -> Result<Job, JobError>
     requires { lines < 2 ^ 32 }
     ensures job { IfOk result (λ job. (limit : ℕ) × (section : SectionOf) × (draft ≡ Draft.Begun limit section)
-        × (job ≡ record { vars = section.scope.vars; elements = 0; limit = limit; sections = section.commands ∷ [] })) }
+        × (job ≡ record { vars = section.scope.counts.vars; elements = section.scope.counts.elements; limit = limit; sections = section.commands ∷ [] })) }
     ensures fault { IfErr result (λ error. EndStop draft lines error) }
 {
     match draft {
@@ -199,8 +213,8 @@ fn finish(alloc: Global, draft: Draft, lines: u64) -> Result<Job, JobError>
                 return Err(JobError::Memory);
             }
             Ok(Job {
-                vars: scope.vars,
-                elements: 0,
+                vars: scope.counts.vars,
+                elements: scope.counts.elements,
                 limit,
                 sections,
             })

@@ -1,39 +1,59 @@
 //! The words of a command against what they may name.
 
-ghost use Rattle.std.specs.Prelude.{◌≡◌, ◌<◌, ◌≤◌, ◌^◌, true, length, map, IfOk, IfErr, List as ListOf};
+ghost use Rattle.std.specs.Prelude.{◌≡◌, ◌<◌, ◌≤◌, ◌^◌, true, length, map, IfOk, IfErr, None, Some, if◌then◌else◌, List as ListOf};
 ghost use Rattle.std.specs.List.{list_all};
-ghost use Rattle.job_text.specs.Text.{is_name, is_number};
-ghost use Rattle.job_text.specs.Grammar.{Says};
-ghost use Rattle.job_text.specs.Faults.{has_form, is_bit, is_bits};
-ghost use Rattle.job_text.specs.Drafts.{IsOperand, AreOperands, AllNew, with_operands, no_operands, slot_of, SlotStop, SlotsStop, CommandStop};
+ghost use Rattle.job_text.specs.Text.{is_integer, is_name, is_number};
+ghost use Rattle.job_text.specs.Grammar.{Refers, Says, bits_for};
+ghost use Rattle.job_text.specs.Faults.{has_form, is_bit, is_bits, kind_called, name_fault, register_called};
+ghost use Rattle.job_text.specs.declared.faults.FaultKind.TheVariants as kinds;
+ghost use Rattle.job_text.specs.Drafts.{IsOperand, AreOperands, AllFit, misfit, with_operands, no_operands, slot_of, SlotStop, SlotsStop, CommandStop};
 ghost use Rattle.job_text.specs.declared.commands.Place.TheVariants as places;
 ghost use Rattle.job_text.specs.declared.operands.Operand.{Operand as OperandOf};
 
 use crate::commands::Place;
 use crate::faults::{FaultKind, Stop};
-use crate::job::{Act, Register};
+use crate::job::{Act, Counts, Register};
 use crate::operands::{Operand, Operands};
-use crate::registers::{find_register, is_assigned};
+use crate::registers::{Found, find_register, is_assigned, kind_at, same_kind};
 use crate::slots::{Slot, all_have_form, command_line};
-use crate::text::{bits_of, number_value};
-use edge_bits::List;
+use crate::text::{bits_of, integer_value, number_value};
+use edge_bits::{Kind, List};
 use std::alloc::Global;
 
 /// What the commands of a section may name.
 #[derive(Drop)]
 pub struct Scope {
-    /// The number of variables.
-    pub vars: u32,
+    /// The numbers of variables and elements.
+    pub counts: Counts,
     /// The registers in order of assignment.
     pub registers: List<Register>,
+}
+
+impl Counts {
+    /// How many bits a diagram of the kind is evaluated at.
+    fn bits_for(&self, kind: Kind) -> u32
+        ensures { result ≡ bits_for self.now kind }
+    {
+        match kind {
+            Kind::Bdd | Kind::Add => self.vars,
+            Kind::Zdd => self.elements,
+        }
+    }
+}
+
+/// The fault, unless all is well.
+fn unless(well: bool, fault: FaultKind) -> Option<FaultKind>
+    ensures { result ≡ (if well then None else Some fault) }
+{
+    if well { None } else { Some(fault) }
 }
 
 impl Scope {
     /// A target.
     fn target(&self, word: &[u8]) -> Result<Operand, Stop>
         requires { is_name word.now ≡ true }
-        ensures ok { IfOk result (λ operand. IsOperand self.now.vars self.now.registers (places.Fresh, word.now) operand) }
-        ensures stop { IfErr result (λ stop. SlotStop self.now.vars self.now.registers (places.Fresh, word.now) stop) }
+        ensures ok { IfOk result (λ operand. IsOperand self.now.counts self.now.registers (places.Fresh, word.now) operand) }
+        ensures stop { IfErr result (λ stop. SlotStop self.now.counts self.now.registers (places.Fresh, word.now) stop) }
     {
         if is_assigned(self.registers.as_slice(), word) {
             return Err(Stop::Fault(FaultKind::Again));
@@ -41,82 +61,139 @@ impl Scope {
         Ok(Operand::Target)
     }
 
-    /// A register.
-    fn register(&self, word: &[u8]) -> Result<Operand, Stop>
+    /// The register of this name.
+    fn find(&self, word: &[u8]) -> Result<Found, Stop>
         requires name { is_name word.now ≡ true }
         requires few { length self.now.registers < 2 ^ 32 }
-        ensures ok { IfOk result (λ operand. IsOperand self.now.vars self.now.registers (places.Held, word.now) operand) }
-        ensures stop { IfErr result (λ stop. SlotStop self.now.vars self.now.registers (places.Held, word.now) stop) }
+        ensures found { IfOk result (λ found. Refers self.now.registers word.now found.number found.kind) }
+        ensures called { IfOk result (λ found. (name_fault (register_called self.now.registers word.now) ≡ None) × (kind_called self.now.registers word.now ≡ found.kind)) }
+        ensures stop { IfErr result (λ stop. (stop ≡ Stop.Fault kinds.Name) × (name_fault (register_called self.now.registers word.now) ≡ Some kinds.Name)) }
     {
-        let Some(a) = find_register(self.registers.as_slice(), word) else {
-            return Err(Stop::Fault(FaultKind::Name));
-        };
-        Ok(Operand::Register(a))
+        match find_register(self.registers.as_slice(), word) {
+            Some(found) => Ok(found),
+            None => Err(Stop::Fault(FaultKind::Name)),
+        }
+    }
+
+    /// A register of this kind.
+    fn register(&self, kind: Kind, word: &[u8]) -> Result<Operand, Stop>
+        requires name { is_name word.now ≡ true }
+        requires few { length self.now.registers < 2 ^ 32 }
+        ensures ok { IfOk result (λ operand. IsOperand self.now.counts self.now.registers (places.Held kind, word.now) operand) }
+        ensures stop { IfErr result (λ stop. SlotStop self.now.counts self.now.registers (places.Held kind, word.now) stop) }
+    {
+        let found = self.find(word)?;
+        if same_kind(kind, found.kind) {
+            Ok(Operand::Register(kind, found.number))
+        } else {
+            Err(Stop::Fault(FaultKind::Kind))
+        }
+    }
+
+    /// A register of any kind.
+    fn any(&self, word: &[u8]) -> Result<u32, Stop>
+        requires name { is_name word.now ≡ true }
+        requires few { length self.now.registers < 2 ^ 32 }
+        ensures ok { IfOk result (λ a. IsOperand self.now.counts self.now.registers (places.Any, word.now) (Operand.Any a)) }
+        ensures ok_alike { IfOk result (λ a. IsOperand self.now.counts self.now.registers (places.Alike, word.now) (Operand.Alike a)) }
+        ensures stop { IfErr result (λ stop. SlotStop self.now.counts self.now.registers (places.Any, word.now) stop) }
+        ensures stop_alike { IfErr result (λ stop. SlotStop self.now.counts self.now.registers (places.Alike, word.now) stop) }
+    {
+        Ok(self.find(word)?.number)
     }
 
     /// The number of a variable.
     fn variable(&self, word: &[u8]) -> Result<u32, Stop>
         requires number { is_number word.now ≡ true }
-        requires few { self.now.vars ≤ 1024 }
-        ensures ok { IfOk result (λ v. IsOperand self.now.vars self.now.registers (places.Variable, word.now) (Operand.Variable v)) }
-        ensures ok_new { IfOk result (λ v. IsOperand self.now.vars self.now.registers (places.NewVariable, word.now) (Operand.NewVariable v)) }
-        ensures stop { IfErr result (λ stop. SlotStop self.now.vars self.now.registers (places.Variable, word.now) stop) }
-        ensures stop_new { IfErr result (λ stop. SlotStop self.now.vars self.now.registers (places.NewVariable, word.now) stop) }
+        requires few { self.now.counts.vars ≤ 1024 }
+        ensures ok { IfOk result (λ v. IsOperand self.now.counts self.now.registers (places.Variable, word.now) (Operand.Variable v)) }
+        ensures ok_new { IfOk result (λ v. IsOperand self.now.counts self.now.registers (places.NewVariable, word.now) (Operand.NewVariable v)) }
+        ensures stop { IfErr result (λ stop. SlotStop self.now.counts self.now.registers (places.Variable, word.now) stop) }
+        ensures stop_new { IfErr result (λ stop. SlotStop self.now.counts self.now.registers (places.NewVariable, word.now) stop) }
     {
         let v = number_value(word);
-        if v < self.vars {
+        if v < self.counts.vars {
             Ok(v)
         } else {
             Err(Stop::Fault(FaultKind::Range))
         }
     }
 
-    /// A bit for each variable.
+    /// A whole number.
+    fn value(&self, word: &[u8]) -> Result<Operand, Stop>
+        requires number { is_integer word.now ≡ true }
+        ensures ok { IfOk result (λ operand. IsOperand self.now.counts self.now.registers (places.Value, word.now) operand) }
+        ensures stop { IfErr result (λ stop. SlotStop self.now.counts self.now.registers (places.Value, word.now) stop) }
+    {
+        match integer_value(word) {
+            Some(w) => Ok(Operand::Value(w)),
+            None => Err(Stop::Fault(FaultKind::Range)),
+        }
+    }
+
+    /// Bits.
     fn bits(&self, alloc: Global, word: &[u8]) -> Result<Operand, Stop>
         requires { is_bits word.now ≡ true }
-        ensures ok { IfOk result (λ operand. IsOperand self.now.vars self.now.registers (places.Bits, word.now) operand) }
-        ensures stop { IfErr result (λ stop. SlotStop self.now.vars self.now.registers (places.Bits, word.now) stop) }
+        ensures ok { IfOk result (λ operand. IsOperand self.now.counts self.now.registers (places.Bits, word.now) operand) }
+        ensures stop { IfErr result (λ stop. SlotStop self.now.counts self.now.registers (places.Bits, word.now) stop) }
     {
-        let bits = bits_of(alloc, word)?;
-        if bits.len() != self.vars as usize {
-            return Err(Stop::Fault(FaultKind::Range));
-        }
-        Ok(Operand::Bits(bits))
+        Ok(Operand::Bits(bits_of(alloc, word)?))
     }
 
     /// What a word of due form stands for.
     fn operand(&self, alloc: Global, slot: &Slot<'_>) -> Result<Operand, Stop>
         requires form { has_form (slot_of slot.now) ≡ true }
-        requires vars { self.now.vars ≤ 1024 }
+        requires vars { self.now.counts.vars ≤ 1024 }
         requires registers { length self.now.registers < 2 ^ 32 }
-        ensures ok { IfOk result (λ operand. IsOperand self.now.vars self.now.registers (slot_of slot.now) operand) }
-        ensures stop { IfErr result (λ stop. SlotStop self.now.vars self.now.registers (slot_of slot.now) stop) }
+        ensures ok { IfOk result (λ operand. IsOperand self.now.counts self.now.registers (slot_of slot.now) operand) }
+        ensures stop { IfErr result (λ stop. SlotStop self.now.counts self.now.registers (slot_of slot.now) stop) }
     {
         match slot.place {
             Place::Fresh => self.target(slot.word),
-            Place::Held => self.register(slot.word),
+            Place::Held(kind) => self.register(kind, slot.word),
+            Place::Any => Ok(Operand::Any(self.any(slot.word)?)),
+            Place::Alike => Ok(Operand::Alike(self.any(slot.word)?)),
             Place::Variable => Ok(Operand::Variable(self.variable(slot.word)?)),
             Place::NewVariable => Ok(Operand::NewVariable(self.variable(slot.word)?)),
+            Place::Value => self.value(slot.word),
             Place::Bit => Ok(Operand::Bit(slot.word == b"1".as_slice())),
             Place::Bits => self.bits(alloc, slot.word),
+        }
+    }
+
+    /// What is wrong with an operand beside those to its left.
+    fn misfit(&self, others: &Operands, operand: &Operand) -> Option<FaultKind>
+        ensures { result ≡ misfit self.now.counts self.now.registers others.now operand.now }
+    {
+        match operand {
+            Operand::Alike(a) => {
+                let kind = kind_at(self.registers.as_slice(), *a);
+                unless(same_kind(others.kind, kind), FaultKind::Kind)
+            }
+            Operand::NewVariable(v) => unless(!others.names(*v), FaultKind::Range),
+            Operand::Bits(bits) => {
+                let due = self.counts.bits_for(others.kind);
+                unless(bits.len() == due as usize, FaultKind::Range)
+            }
+            _ => None,
         }
     }
 
     /// What words of due form stand for.
     fn operands(&self, alloc: Global, slots: &[Slot<'_>]) -> Result<Operands, Stop>
         requires forms { list_all has_form (map slot_of slots.now) ≡ true }
-        requires vars { self.now.vars ≤ 1024 }
+        requires vars { self.now.counts.vars ≤ 1024 }
         requires registers { length self.now.registers < 2 ^ 32 }
-        ensures ok { IfOk result (λ operands. (each : ListOf OperandOf) × AreOperands self.now.vars self.now.registers (map slot_of slots.now) each × AllNew no_operands each × (operands ≡ with_operands no_operands each)) }
-        ensures stop { IfErr result (λ stop. SlotsStop self.now.vars self.now.registers (map slot_of slots.now) stop) }
+        ensures ok { IfOk result (λ operands. (each : ListOf OperandOf) × AreOperands self.now.counts self.now.registers (map slot_of slots.now) each × AllFit self.now.counts self.now.registers no_operands each × (operands ≡ with_operands self.now.registers no_operands each)) }
+        ensures stop { IfErr result (λ stop. SlotsStop self.now.counts self.now.registers (map slot_of slots.now) stop) }
     {
         let mut operands = Operands::new(alloc);
         for slot in slots {
             let operand = self.operand(alloc, slot)?;
-            if operands.repeats(&operand) {
-                return Err(Stop::Fault(FaultKind::Range));
+            if let Some(fault) = self.misfit(&operands, &operand) {
+                return Err(Stop::Fault(fault));
             }
-            operands = operands.with(operand)?;
+            operands = operands.with(self.registers.as_slice(), operand)?;
         }
         Ok(operands)
     }
@@ -124,10 +201,10 @@ impl Scope {
     /// A line of a section that is no `session`.
     pub fn command(&self, alloc: Global, words: &[List<u8>]) -> Result<Act, Stop>
         requires some { 0 < length words.now }
-        requires vars { self.now.vars ≤ 1024 }
+        requires vars { self.now.counts.vars ≤ 1024 }
         requires registers { length self.now.registers < 2 ^ 32 }
-        ensures ok { IfOk result (λ act. Says self.now.vars self.now.registers words.now act) }
-        ensures stop { IfErr result (λ stop. CommandStop self.now.vars self.now.registers words.now stop) }
+        ensures ok { IfOk result (λ act. Says self.now.counts self.now.registers words.now act) }
+        ensures stop { IfErr result (λ stop. CommandStop self.now.counts self.now.registers words.now stop) }
     {
         let Some(line) = command_line(alloc, words)? else {
             return Err(Stop::Fault(FaultKind::Word));

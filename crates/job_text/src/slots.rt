@@ -7,7 +7,7 @@ ghost use Rattle.job_text.specs.Drafts.{slot_of, line_of, or_again};
 
 use crate::commands::{Known, Operation, Place, assigning, telling};
 use crate::registers::as_assignment;
-use crate::text::{is_bit, is_bits, is_name, is_number};
+use crate::text::{is_bit, is_bits, is_integer, is_name, is_number};
 use edge_bits::List;
 use std::alloc::{AllocError, Global};
 
@@ -31,8 +31,9 @@ impl Slot<'_> {
         ensures { result ≡ has_form (slot_of self.now) }
     {
         match self.place {
-            Place::Fresh | Place::Held => is_name(self.word),
+            Place::Fresh | Place::Held(_) | Place::Any | Place::Alike => is_name(self.word),
             Place::Variable | Place::NewVariable => is_number(self.word),
+            Place::Value => is_integer(self.word),
             Place::Bit => is_bit(self.word),
             Place::Bits => is_bits(self.word),
         }

@@ -4,7 +4,8 @@ ghost use Rattle.std.specs.Prelude.{◌≡◌, ◌∷◌, ◌<◌, ◌≤◌, �
 ghost use Rattle.std.specs.List.{list_all, before_first, position_or_len, slice_split};
 ghost use Rattle.std.specs.Str.Parse.{digits_value};
 ghost use Rattle.job_text.specs.Faults.{is_bit, is_bits, bits_in};
-ghost use Rattle.job_text.specs.Text.{bit_word, lines_of, words_of, line_words, is_allowed, is_separator, is_number, is_name, is_letter, is_name_byte};
+ghost use Rattle.function_laws.specs.Numbers.{is_value};
+ghost use Rattle.job_text.specs.Text.{bit_word, lines_of, words_of, line_words, is_allowed, is_separator, is_number, is_negative, magnitude, is_integer, integer_value, IsInteger, is_name, is_letter, is_name_byte};
 ghost use Rattle.std.specs.Char.{is_ascii_digit};
 
 use edge_bits::List;
@@ -121,7 +122,9 @@ pub fn words(alloc: Global, line: &[u8]) -> Result<Option<List<List<u8>>>, Alloc
     Ok(Some(words))
 }
 
-const MOST: u32 = 4_000_000_000;
+const MOST: u64 = 100_000_000_000_000_000;
+
+const MOST_COUNTED: u64 = 4_000_000_000;
 
 fn all_digits(word: &[u8]) -> bool
     ensures { result ≡ list_all is_ascii_digit word.now }
@@ -138,16 +141,64 @@ pub fn is_number(word: &[u8]) -> bool
     !word.is_empty() && all_digits(word) && (word[0] != b'0' || word.len() == 1)
 }
 
+/// The value of digits; 10^17 stands for all from there on.
+fn digits_value(word: &[u8]) -> u64
+    requires { list_all is_ascii_digit word.now ≡ true }
+    ensures { result ≡ min (digits_value 10 word.now) 100000000000000000 }
+{
+    let mut value = 0u64;
+    for b in word {
+        value = (value * 10 + u64::from(b.saturating_sub(b'0'))).min(MOST);
+    }
+    value
+}
+
 /// The value of a number; four billion stands for all from there on.
 pub fn number_value(word: &[u8]) -> u32
     requires { list_all is_ascii_digit word.now ≡ true }
     ensures { result ≡ min (digits_value 10 word.now) 4000000000 }
 {
-    let mut value = 0u64;
-    for b in word {
-        value = (value * 10 + u64::from(b.saturating_sub(b'0'))).min(u64::from(MOST));
+    digits_value(word).min(MOST_COUNTED) as u32
+}
+
+/// Whether the word begins with `-`.
+fn is_negative(word: &[u8]) -> bool
+    ensures { result ≡ is_negative word.now }
+{
+    !word.is_empty() && word[0] == b'-'
+}
+
+/// What stands behind a `-`, or the whole word.
+fn magnitude(word: &[u8]) -> &[u8]
+    ensures { result.now ≡ magnitude word.now }
+{
+    if is_negative(word) { &word[1..] } else { word }
+}
+
+/// Whether the word is a whole number.
+#[tactic(auto, unfolding(crate::specs::Text::is_integer))]
+pub fn is_integer(word: &[u8]) -> bool
+    ensures { result ≡ is_integer word.now }
+{
+    let digits = magnitude(word);
+    is_number(digits) && !(is_negative(word) && digits_value(digits) == 0)
+}
+
+const VALUES: i64 = 1 << 46;
+
+/// The value of a whole number from -2^46 to 2^46 - 1; none for others.
+pub fn integer_value(word: &[u8]) -> Option<i64>
+    requires { is_integer word.now ≡ true }
+    ensures some { IfSome result (λ w. IsInteger word.now w × (is_value w ≡ true)) }
+    ensures none { IfNone result (is_value (integer_value word.now) ≡ false) }
+{
+    let size = digits_value(magnitude(word)) as i64;
+    let value = if is_negative(word) { -size } else { size };
+    if -VALUES <= value && value < VALUES {
+        Some(value)
+    } else {
+        None
     }
-    value as u32
 }
 
 /// Whether the word is `0` or `1`.

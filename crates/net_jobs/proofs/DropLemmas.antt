@@ -37,7 +37,7 @@ drops_none start commands play said row gone stands = record {
 pub held_at : (rows : Rows) (row : ℕ) → row < length rows → is_dropped rows row ≡ false → IsHeld rows row
 held_at [] row below kept = absurd (omega arith)
 held_at (None ∷ rows) zero below kept = absurd (false≢true (sym kept))
-held_at (Some f ∷ rows) zero below kept = (f, refl)
+held_at (Some f ∷ rows) zero below kept = (f.kind, (f.edge, refl))
 held_at (row ∷ rows) (suc i) below kept = held_at rows i (omega arith) kept
 
 -- a drop makes no row
@@ -91,7 +91,6 @@ pub record DropsUpTo (commands : List Command) (start play : Progress) (row : �
   pub others : (other : ℕ) → row ≤ other → is_dropped play.session.rows.items other ≡ is_dropped start.session.rows.items other
   pub assigned : play.assigned.items ≡ start.assigned.items
   pub rows : length play.session.rows.items ≡ length start.session.rows.items
-  pub vars : (plain_view play.session.store).vars ≡ (plain_view start.session.store).vars
   pub stored : AreStored (plain_view play.session.store) play.session.rows.items
   pub place : play.place ≤ start.place + row
 
@@ -146,10 +145,10 @@ said_if false left register is = sym (ap (λ b. map drop_of (if b then register 
 pub next_drop : (commands : List Command) (start old new : Progress) (row : ℕ) → DropsUpTo commands start old row → row < length start.session.rows.items
     → ((first : Plain) (said : List HistoryLine) → StandsAt first commands old said → DropsOne first commands old new said row)
     → ((other : ℕ) → other ≢ row → is_dropped new.session.rows.items other ≡ is_dropped old.session.rows.items other)
-    → new.assigned.items ≡ old.assigned.items → length new.session.rows.items ≡ length old.session.rows.items → (plain_view new.session.store).vars ≡ (plain_view old.session.store).vars
+    → new.assigned.items ≡ old.assigned.items → length new.session.rows.items ≡ length old.session.rows.items
     → AreStored (plain_view new.session.store) new.session.rows.items → new.place ≤ old.place + 1
     → DropsUpTo commands start new (row + 1)
-next_drop commands start old new row up below one others assigned rows vars stored place = record {
+next_drop commands start old new row up below one others assigned rows stored place = record {
   lines = λ first said stands.
       let before = up.lines first said stands in
       let next = one first (said ++ before.0) before.1 in
@@ -171,7 +170,6 @@ next_drop commands start old new row up below one others assigned rows vars stor
   others = λ other from. others other (omega (arith, from)) ∙ up.others other (omega (arith, from));
   assigned = assigned ∙ up.assigned;
   rows = rows ∙ up.rows;
-  vars = vars ∙ up.vars;
   stored = stored;
   place = omega (arith, up.place, place);
 }
@@ -182,7 +180,6 @@ first_drop commands start stored = record {
   others = λ other from. refl;
   assigned = refl;
   rows = refl;
-  vars = refl;
   stored = stored;
   place = omega arith;
 }

@@ -10,20 +10,21 @@ use Rattle.std.proofs.lemmas.Option.{slice_get_within}
 use Rattle.function_laws.specs.Tables.{Sizes}
 use Rattle.function_laws.specs.Histories.{IsLegal}
 use Rattle.job_text.specs.declared.job.Command.{Command}
+use Rattle.job_text.specs.declared.job.Counts.{Counts}
 use Rattle.job_text.specs.declared.job.Job.{Job}
-use Rattle.job_text.specs.Grammar.{CommandsSay, IsJob}
+use Rattle.job_text.specs.Grammar.{CommandsSay, IsJob, counts_of}
 use Rattle.job_text.specs.Histories.{Held, HistoryLine, IsHistory, IsPlayed, IsSession, left_text, registers_of, sizes_of, told_of}
 use Rattle.net_jobs.specs.declared.playing.Progress.{Progress}
 use Rattle.node_slots.specs.Stores.{IsOpening, Plain, plain_view}
 use Rattle.net_jobs.specs.Agreement.{name_of, sizes_for}
-use Rattle.net_jobs.specs.Playing.{CallsLead, DropsTheRest, PlaysOver, SaysThrough, Stands, StandsAt}
+use Rattle.net_jobs.specs.Playing.{CallsLead, DropsTheRest, PlaysOver, SaysThrough, Stands, StandsAt, counts_at, counts_with, sizes_at}
 
 -- at the beginning nothing was said
 pub stands_first : (p : Plain) (commands : List Command) → Stands p p commands [] [] [] 0 []
 stands_first p commands = record {
   legal = tt;
-  agrees = record { sizes_are = refl; live = λ row e has. cc; not_given = λ row from. refl };
-  stored = λ row e has. cc;
+  agrees = record { sizes_are = refl; live = λ row k e has. cc; not_given = λ row from. refl };
+  stored = λ row k e has. cc;
   calls = refl;
   as_many = refl;
   told = All-nil (λ line. told_of line.entry.reply ≡ Some line.reply);
@@ -52,20 +53,33 @@ all_kept (line ∷ lines) alone =
     ap (λ b. cond b (line ∷ filter (λ line. line.entry.session == 0) lines) (filter (λ line. line.entry.session == 0) lines)) (eq-eqb line.entry.session 0 (alone 0 line (omega arith)))
     ∙ ap (λ xs. line ∷ xs) (all_kept lines (λ k d below. alone (suc k) d (omega arith)))
 
+-- the numbers of variables and elements stay
+lead-sizes : (limit : ℕ) (old : Plain) (lines : List HistoryLine) (new : Plain) → CallsLead limit old lines new → sizes_at new ≡ sizes_at old
+lead-sizes limit old [] new same = ap sizes_at same
+lead-sizes limit old (line ∷ lines) new lead = lead-sizes limit lead.0 lines new lead.2 ∙ ap₂ sizes_for lead.1.grown.vars lead.1.grown.elements
+
+-- a store that was opened for a job has the job's numbers
+opening_sizes : (job : Job) (p : Plain) → IsOpening job.vars job.elements job.limit p → sizes_at p ≡ sizes_of job
+opening_sizes job p opened =
+    ap₂ sizes_for (ap length opened.variable_levels ∙ length-range_with_len 0 job.vars) (ap length opened.element_levels ∙ length-range_with_len 0 job.elements)
+
+opening_counts : (job : Job) (p : Plain) → IsOpening job.vars job.elements job.limit p → counts_at p ≡ counts_of job
+opening_counts job p opened = ap counts_with (opening_sizes job p opened)
+
 -- the one session's commands are those of the grammar
-first_says : (n : ℕ) (sections : List (List Command)) (commands : List Command) → All (CommandsSay n []) sections → slice_get sections 0 ≡ Some commands → CommandsSay n [] commands
+first_says : (n : Counts) (sections : List (List Command)) (commands : List Command) → All (CommandsSay n []) sections → slice_get sections 0 ≡ Some commands → CommandsSay n [] commands
 first_says n [] commands all is = cc
 first_says n (first ∷ sections) commands all is = subst (λ (cs : List Command). CommandsSay n [] cs) (same is) (all 0 first (omega arith))
   where
     same : Some first ≡ Some commands → first ≡ commands
     same e = cc
 
-pub commands_say : (job : Job) (n : ℕ) (commands : List Command) → IsJob job → n ≡ job.vars → slice_get job.sections 0 ≡ Some commands → CommandsSay n [] commands
-commands_say job n commands is_job vars section = subst (λ m. CommandsSay m [] commands) (sym vars) (first_says job.vars job.sections commands is_job.commands section)
+pub commands_say : (job : Job) (p : Plain) (commands : List Command) → IsJob job → IsOpening job.vars job.elements job.limit p → slice_get job.sections 0 ≡ Some commands → CommandsSay (counts_at p) [] commands
+commands_say job p commands is_job opened section =
+    subst (λ n. CommandsSay n [] commands) (sym (opening_counts job p opened)) (first_says (counts_of job) job.sections commands is_job.commands section)
 
 module _ (job : Job) (start : Plain) (commands : List Command) (mid end : Progress) (is_job : IsJob job) (section : slice_get job.sections 0 ≡ Some commands)
-    (vars : (plain_view mid.session.store).vars ≡ job.vars) (limit : length start.words ≡ job.limit) (same_vars : (plain_view end.session.store).vars ≡ (plain_view mid.session.store).vars)
-    (says : (said : List HistoryLine) × StandsAt start commands mid said × SaysThrough commands said)
+    (opened : IsOpening job.vars job.elements job.limit start) (says : (said : List HistoryLine) × StandsAt start commands mid said × SaysThrough commands said)
     (drops_rest : (first : Plain) (said : List HistoryLine) → StandsAt first commands mid said → DropsTheRest first commands end said) where
   abbrev said : List HistoryLine
   said = says.0
@@ -86,11 +100,8 @@ module _ (job : Job) (start : Plain) (commands : List Command) (mid end : Progre
     drops_the_rest = rest.rest;
   }
 
-  sizes_are : sizes_of job ≡ sizes_for (plain_view end.session.store).vars
-  sizes_are = ap₂ sizes (sym (same_vars ∙ vars)) is_job.no_elements
-    where
-      sizes : ℕ → ℕ → Sizes
-      sizes n m = record { variables = n; elements = m; most_variables = n; most_elements = m }
+  sizes_are : sizes_of job ≡ sizes_at end.session.store
+  sizes_are = sym (lead-sizes (length start.words) start (said ++ rest.dropped) end.session.store rest.stands.calls ∙ opening_sizes job start opened)
 
   only_section : (s : ℕ) (others : List Command) → slice_get job.sections s ≡ Some others → (s ≡ 0) × (others ≡ commands)
   only_section s others is = (first, back others commands (sym is ∙ ap (slice_get job.sections) first ∙ section))
@@ -117,18 +128,9 @@ module _ (job : Job) (start : Plain) (commands : List Command) (mid end : Progre
   plays_over = record {
     lines = said ++ rest.dropped;
     history = is_history;
-    calls = subst (λ n. CallsLead n start (said ++ rest.dropped) end.session.store) limit rest.stands.calls;
+    calls = subst (λ n. CallsLead n start (said ++ rest.dropped) end.session.store) opened.slots_are rest.stands.calls;
     bytes = rest.stands.written;
   }
-
--- the number of variables stays
-lead-vars : (limit : ℕ) (old : Plain) (lines : List HistoryLine) (new : Plain) → CallsLead limit old lines new → (plain_view new).vars ≡ (plain_view old).vars
-lead-vars limit old [] new same = ap (λ (p : Plain). (plain_view p).vars) same
-lead-vars limit old (line ∷ lines) new lead = lead-vars limit lead.0 lines new lead.2 ∙ lead.1.grown.vars
-
--- a store that was opened for a job has the job's number of variables
-pub opening_vars : (job : Job) (p : Plain) → IsOpening job.vars job.elements job.limit p → (plain_view p).vars ≡ job.vars
-opening_vars job p opened = ap length opened.variable_levels ∙ length-range_with_len 0 job.vars
 
 -- with the last line
 pub played : (job : Job) (old new : Plain) (text whole : List ℕ) (left : ℕ) → IsOpening job.vars job.elements job.limit old → PlaysOver job old new text
@@ -136,5 +138,5 @@ pub played : (job : Job) (old new : Plain) (text whole : List ℕ) (left : ℕ) 
 played job old new text whole left opened plays is_left is_whole = record {
   lines = plays.lines;
   history = plays.history;
-  bytes = is_whole ∙ ap₂ (λ xs n. xs ++ left_text n) plays.bytes (is_left ∙ ap (λ n. 5 + n) (lead-vars job.limit old plays.lines new plays.calls ∙ opening_vars job old opened));
+  bytes = is_whole ∙ ap₂ (λ xs n. xs ++ left_text n) plays.bytes (is_left ∙ ap (λ (z : Sizes). 5 + z.variables) (lead-sizes job.limit old plays.lines new plays.calls ∙ opening_sizes job old opened));
 }

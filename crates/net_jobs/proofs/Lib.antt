@@ -1,9 +1,12 @@
+pub mod AgreementLemmas
 pub mod DropLemmas
 pub mod EndLemmas
 pub mod Known
 pub mod ListLemmas
 pub mod LoopLemmas
+pub mod NumberLemmas
 pub mod PlayLemmas
+pub mod QuestionLemmas
 pub mod SessionLemmas
 pub mod SizeLemmas
 pub mod StandsLemmas

@@ -14,79 +14,129 @@ use Rattle.std.proofs.lemmas.Slice.Eq.{bytes_eq-Decides}
 use Rattle.function_laws.specs.declared.history.Name.{Name}
 use Rattle.function_laws.specs.declared.history.Call.{Call}
 use Rattle.job_text.specs.declared.job.Act.{Act}
-use Rattle.job_text.specs.declared.job.Act.TheVariants.{One, Zero, Var, Not, And, Or, Xor, Ite, Cofactor, Exists, Forall, AndExists, Compose, VectorCompose, Restrict, Support, Drop, Same, Leq, Eval}
+use Rattle.job_text.specs.declared.job.Act.TheVariants.{One, Zero, Var, Not, And, Or, Xor, Ite, Cofactor, Exists, Forall, AndExists, Compose, VectorCompose, Restrict, Support, Constant, FromBdd, Plus, Minus, Times, Min, Max, Threshold, AddIte, SumOver, AtLeast, Pattern, Drop, Same, Leq, Eval}
 use Rattle.job_text.specs.declared.job.Command.{Command}
+use Rattle.job_text.specs.declared.job.Counts.{Counts}
 use Rattle.job_text.specs.declared.job.Register.{Register}
 use Rattle.job_text.specs.declared.operands.Operand.TheVariants as operands
 use Rattle.job_text.specs.Text.{Word}
-use Rattle.job_text.specs.Grammar.{CommandsSay, IsProper, Says, Spelling, Spells, StandsFor, assigns, pair_operands, registers_after, spelling, tells, without}
+use Rattle.job_text.specs.Grammar.{CommandsSay, IsProper, Refers, Says, Spelling, Spells, StandsFor, assigns, bits_for, kind_at, kind_made, kind_of, pair_operands, registers_after, spelling, tells, without}
 use Rattle.job_text.specs.Histories.{AreNamed, Calls, Held, HistoryLine, IsNamed, SayInOrder, held_by, registers_of, stops}
 use Rattle.job_text.proofs.Effects.{EachStands, one_register_less, one_register_more, operands_of, operands_stand, same_registers}
 use Rattle.net_jobs.specs.declared.playing.Progress.{Progress}
 use Rattle.edge_bits.specs.declared.edges.Edge.{Edge}
+use Rattle.edge_bits.specs.declared.edges.Kind.{Kind}
+use Rattle.edge_bits.specs.declared.edges.Kind.TheVariants as kinds
 use Rattle.node_slots.specs.Stores.{Plain, plain_view}
-use Rattle.net_jobs.specs.Agreement.{Rows, name_of}
-use Rattle.net_jobs.specs.Playing.{CanCall, Covers, GrowsOrLeft, IsHeld, RowsGoOn, SaysOne, SaysThrough, Stands, StandsAt, call_with, makes, with_name}
+use Rattle.net_jobs.specs.Agreement.{Rows, name_of, row_of}
+use Rattle.net_jobs.specs.Playing.{CanCall, Covers, GrowsOrLeft, IsHeldAs, RowsGoOn, SaysOne, SaysThrough, Stands, StandsAt, call_with, counts_at, counts_with, made_kind, makes, sizes_at, with_name}
+use Rattle.net_jobs.specs.Walking.{IsOnVariables}
 use Rattle.net_jobs.proofs.PlayLemmas.{grown_length}
 use Rattle.net_jobs.proofs.ListLemmas.{slice_get-push, slice_get-push_new, slice_get-push_old, slice_get-set_other}
 
--- a register that a word stands for is a row
-held : (n : ℕ) (registers : List Register) (rows : Rows) (a : ℕ) → Covers registers rows → (word : Word) × StandsFor n registers word (operands.Register a) → IsHeld rows a
-held n registers rows a covers stands = covers.held a stands.0 stands.1.1
+-- a register that a word stands for is a row of its kind
+held : (n : Counts) (registers : List Register) (rows : Rows) (k : Kind) (a : ℕ) → Covers registers rows → (word : Word) × StandsFor n registers word (operands.Register k a) → IsHeldAs k rows a
+held n registers rows k a covers stands = covers.held a stands.0 k stands.1.1
 
 -- variables that words stand for are variables
-variables_stand : (n : ℕ) (registers : List Register) (vs : List ℕ) → EachStands n registers (map operands.Variable vs) → All (λ v. v < n) vs
-variables_stand n registers [] each = All-nil (λ v. v < n)
-variables_stand n registers (v ∷ vs) each = All-cons (λ v. v < n) v vs each.0.1.1 (variables_stand n registers vs each.1)
+variables_stand : (n : Counts) (registers : List Register) (vs : List ℕ) → EachStands n registers (map operands.Variable vs) → All (λ v. v < n.vars) vs
+variables_stand n registers [] each = All-nil (λ v. v < n.vars)
+variables_stand n registers (v ∷ vs) each = All-cons (λ v. v < n.vars) v vs each.0.1.1 (variables_stand n registers vs each.1)
 
 -- and so are those of pairs, whose registers are rows
-pairs_stand : (n : ℕ) (registers : List Register) (rows : Rows) (pairs : List (ℕ × ℕ)) → Covers registers rows → EachStands n registers (flat_map pair_operands pairs)
-    → All (λ pair. (pair.0 < n) × IsHeld rows pair.1) pairs
-pairs_stand n registers rows [] covers each = All-nil (λ pair. (pair.0 < n) × IsHeld rows pair.1)
+pairs_stand : (n : Counts) (registers : List Register) (rows : Rows) (pairs : List (ℕ × ℕ)) → Covers registers rows → EachStands n registers (flat_map pair_operands pairs)
+    → All (λ pair. (pair.0 < n.vars) × IsHeldAs kinds.Bdd rows pair.1) pairs
+pairs_stand n registers rows [] covers each = All-nil (λ pair. (pair.0 < n.vars) × IsHeldAs kinds.Bdd rows pair.1)
 pairs_stand n registers rows (pair ∷ pairs) covers each =
-    All-cons (λ pair. (pair.0 < n) × IsHeld rows pair.1) pair pairs (each.0.1.1, held n registers rows pair.1 covers each.1.0) (pairs_stand n registers rows pairs covers each.1.1)
+    All-cons (λ pair. (pair.0 < n.vars) × IsHeldAs kinds.Bdd rows pair.1) pair pairs (each.0.1.1, held n registers rows kinds.Bdd pair.1 covers each.1.0) (pairs_stand n registers rows pairs covers each.1.1)
+
+-- the kind of a register that a word names
+refers-kind : (registers : List Register) (word : Word) (a : ℕ) (k : Kind) → Refers registers word a k → kind_at registers a ≡ k
+refers-kind registers word a k refers = ap kind_of refers.1
+
+-- two registers of one kind are rows of one kind
+alike : (n : Counts) (registers : List Register) (rows : Rows) (a b : ℕ) → Covers registers rows → (word : Word) × StandsFor n registers word (operands.Any a) → (word : Word) × StandsFor n registers word (operands.Alike b)
+    → kind_at registers a ≡ kind_at registers b → (k : Kind) × IsHeldAs k rows a × IsHeldAs k rows b
+alike n registers rows a b covers first second same =
+    let k = first.1.0 in
+    let one : second.1.0 ≡ k = sym (refers-kind registers second.0 b second.1.0 second.1.1) ∙ sym same ∙ refers-kind registers first.0 a k first.1.1 in
+    (k, covers.held a first.0 k first.1.1.1, subst (λ (j : Kind). IsHeldAs j rows b) one (covers.held b second.0 second.1.0 second.1.1.1))
+
+-- a register that is evaluated has a bit for each variable
+bits-long : (n : Counts) (k : Kind) → IsOnVariables k → bits_for n k ≡ n.vars
+bits-long n kinds.Bdd on = refl
+bits-long n kinds.Add on = refl
+bits-long n kinds.Zdd on = absurd on
+
+evaluated : (n : Counts) (registers : List Register) (rows : Rows) (a : ℕ) (bits : List Bool) → Covers registers rows → (word : Word) × StandsFor n registers word (operands.Any a)
+    → length bits ≡ bits_for n (kind_at registers a) → ((k : Kind) × IsOnVariables k × IsHeldAs k rows a) × (length bits ≡ n.vars)
+evaluated n registers rows a bits covers stands long =
+    let k = stands.1.0 in
+    let on : IsOnVariables k = covers.on_variables a (record { name = stands.0; live = true; kind = k }) stands.1.1.1 in
+    ((k, on, covers.held a stands.0 k stands.1.1.1), long ∙ ap (bits_for n) (refers-kind registers stands.0 a k stands.1.1) ∙ bits-long n k on)
 
 -- what a command says lets it be called
-can_each : (n : ℕ) (registers : List Register) (rows : Rows) (act : Act) → Covers registers rows → EachStands n registers (operands_of (spelling act)) → IsProper act → CanCall n rows act
+can_each : (n : Counts) (registers : List Register) (rows : Rows) (act : Act) → Covers registers rows → EachStands n registers (operands_of (spelling act)) → IsProper n registers act → CanCall n.vars rows act
 can_each n registers rows One covers each proper = tt
 can_each n registers rows Zero covers each proper = tt
 can_each n registers rows (Var v) covers each proper = each.0.1.1
-can_each n registers rows (Not a) covers each proper = held n registers rows a covers each.0
-can_each n registers rows (And a b) covers each proper = (held n registers rows a covers each.0, held n registers rows b covers each.1.0)
-can_each n registers rows (Or a b) covers each proper = (held n registers rows a covers each.0, held n registers rows b covers each.1.0)
-can_each n registers rows (Xor a b) covers each proper = (held n registers rows a covers each.0, held n registers rows b covers each.1.0)
+can_each n registers rows (Not a) covers each proper = held n registers rows kinds.Bdd a covers each.0
+can_each n registers rows (And a b) covers each proper = (held n registers rows kinds.Bdd a covers each.0, held n registers rows kinds.Bdd b covers each.1.0)
+can_each n registers rows (Or a b) covers each proper = (held n registers rows kinds.Bdd a covers each.0, held n registers rows kinds.Bdd b covers each.1.0)
+can_each n registers rows (Xor a b) covers each proper = (held n registers rows kinds.Bdd a covers each.0, held n registers rows kinds.Bdd b covers each.1.0)
 can_each n registers rows (Ite a b c) covers each proper =
-    (held n registers rows a covers each.0, held n registers rows b covers each.1.0, held n registers rows c covers each.1.1.0)
-can_each n registers rows (Cofactor a v b) covers each proper = (held n registers rows a covers each.0, each.1.0.1.1)
-can_each n registers rows (Exists a vs) covers each proper = (held n registers rows a covers each.0, variables_stand n registers vs each.1)
-can_each n registers rows (Forall a vs) covers each proper = (held n registers rows a covers each.0, variables_stand n registers vs each.1)
+    (held n registers rows kinds.Bdd a covers each.0, held n registers rows kinds.Bdd b covers each.1.0, held n registers rows kinds.Bdd c covers each.1.1.0)
+can_each n registers rows (Cofactor a v b) covers each proper = (held n registers rows kinds.Bdd a covers each.0, each.1.0.1.1)
+can_each n registers rows (Exists a vs) covers each proper = (held n registers rows kinds.Bdd a covers each.0, variables_stand n registers vs each.1)
+can_each n registers rows (Forall a vs) covers each proper = (held n registers rows kinds.Bdd a covers each.0, variables_stand n registers vs each.1)
 can_each n registers rows (AndExists a b vs) covers each proper =
-    (held n registers rows a covers each.0, held n registers rows b covers each.1.0, variables_stand n registers vs each.1.1)
-can_each n registers rows (Compose a v b) covers each proper = (held n registers rows a covers each.0, held n registers rows b covers each.1.1.0, each.1.0.1.1)
-can_each n registers rows (VectorCompose a pairs) covers each proper = (held n registers rows a covers each.0, pairs_stand n registers rows pairs covers each.1, proper.1)
-can_each n registers rows (Restrict a b) covers each proper = (held n registers rows a covers each.0, held n registers rows b covers each.1.0)
-can_each n registers rows (Support a) covers each proper = held n registers rows a covers each.0
-can_each n registers rows (Drop a) covers each proper = held n registers rows a covers each.0
-can_each n registers rows (Same a b) covers each proper = (held n registers rows a covers each.0, held n registers rows b covers each.1.0)
-can_each n registers rows (Leq a b) covers each proper = (held n registers rows a covers each.0, held n registers rows b covers each.1.0)
-can_each n registers rows (Eval a bits) covers each proper = (held n registers rows a covers each.0, each.1.0.1.1)
+    (held n registers rows kinds.Bdd a covers each.0, held n registers rows kinds.Bdd b covers each.1.0, variables_stand n registers vs each.1.1)
+can_each n registers rows (Compose a v b) covers each proper = (held n registers rows kinds.Bdd a covers each.0, held n registers rows kinds.Bdd b covers each.1.1.0, each.1.0.1.1)
+can_each n registers rows (VectorCompose a pairs) covers each proper = (held n registers rows kinds.Bdd a covers each.0, pairs_stand n registers rows pairs covers each.1, proper.1)
+can_each n registers rows (Restrict a b) covers each proper = (held n registers rows kinds.Bdd a covers each.0, held n registers rows kinds.Bdd b covers each.1.0)
+can_each n registers rows (Support a) covers each proper = held n registers rows kinds.Bdd a covers each.0
+can_each n registers rows (Constant z) covers each proper = each.0.1.1
+can_each n registers rows (FromBdd a) covers each proper = held n registers rows kinds.Bdd a covers each.0
+can_each n registers rows (Plus a b) covers each proper = (held n registers rows kinds.Add a covers each.0, held n registers rows kinds.Add b covers each.1.0)
+can_each n registers rows (Minus a b) covers each proper = (held n registers rows kinds.Add a covers each.0, held n registers rows kinds.Add b covers each.1.0)
+can_each n registers rows (Times a b) covers each proper = (held n registers rows kinds.Add a covers each.0, held n registers rows kinds.Add b covers each.1.0)
+can_each n registers rows (Min a b) covers each proper = (held n registers rows kinds.Add a covers each.0, held n registers rows kinds.Add b covers each.1.0)
+can_each n registers rows (Max a b) covers each proper = (held n registers rows kinds.Add a covers each.0, held n registers rows kinds.Add b covers each.1.0)
+can_each n registers rows (Threshold a b) covers each proper = (held n registers rows kinds.Add a covers each.0, held n registers rows kinds.Add b covers each.1.0)
+can_each n registers rows (AddIte a b c) covers each proper =
+    (held n registers rows kinds.Bdd a covers each.0, held n registers rows kinds.Add b covers each.1.0, held n registers rows kinds.Add c covers each.1.1.0)
+can_each n registers rows (SumOver a v) covers each proper = (held n registers rows kinds.Add a covers each.0, each.1.0.1.1)
+can_each n registers rows (AtLeast a z) covers each proper = (held n registers rows kinds.Add a covers each.0, each.1.0.1.1)
+can_each n registers rows (Pattern a) covers each proper = held n registers rows kinds.Add a covers each.0
+can_each n registers rows (Drop a) covers each proper = (each.0.1.0, covers.held a each.0.0 each.0.1.0 each.0.1.1.1)
+can_each n registers rows (Same a b) covers each proper = alike n registers rows a b covers each.0 each.1.0 proper
+can_each n registers rows (Leq a b) covers each proper = (held n registers rows kinds.Bdd a covers each.0, held n registers rows kinds.Bdd b covers each.1.0)
+can_each n registers rows (Eval a bits) covers each proper = evaluated n registers rows a bits covers each.0 proper
 
-pub can_call : (n : ℕ) (registers : List Register) (rows : Rows) (words : List Word) (act : Act) → Says n registers words act → Covers registers rows → CanCall n rows act
+pub can_call : (n : Counts) (registers : List Register) (rows : Rows) (words : List Word) (act : Act) → Says n registers words act → Covers registers rows → CanCall n.vars rows act
 can_call n registers rows words act says covers = can_each n registers rows act covers (operands_stand n registers words (spelling act) says.0) says.1
 
 -- a row that was held is held among more rows
-held-push : (rows : Rows) (f : Edge) (a : ℕ) → IsHeld rows a → IsHeld (rows ++ Some f ∷ []) a
-held-push rows f a held = (held.0, slice_get-push_old rows (Some f) a (slice_get_within rows a (Some held.0) held.1) ∙ held.1)
+held-push : (k j : Kind) (rows : Rows) (f : Edge) (a : ℕ) → IsHeldAs k rows a → IsHeldAs k (rows ++ Some (row_of j f) ∷ []) a
+held-push k j rows f a held = (held.0, slice_get-push_old rows (Some (row_of j f)) a (slice_get_within rows a (Some (row_of k held.0)) held.1) ∙ held.1)
 
-covers-push : (registers : List Register) (rows : Rows) (register : Register) (f : Edge) → Covers registers rows
-    → Covers (registers ++ register ∷ []) (rows ++ Some f ∷ [])
-covers-push registers rows register f covers = record {
-  as_many = length_push registers register ∙ ap (λ k. k + 1) covers.as_many ∙ sym (length_push rows (Some f));
-  held = λ a word is. ⊎_elim
-      (λ old. held-push rows f a (covers.held a word old.1))
-      (λ new. subst (λ i. IsHeld (rows ++ Some f ∷ []) i) (sym (new.0 ∙ covers.as_many)) (f, slice_get-push_new rows (Some f)))
-      (slice_get-push registers register (record { name = word; live = true }) a is);
-}
+covers-push : (registers : List Register) (rows : Rows) (word : Word) (k : Kind) (f : Edge) → IsOnVariables k → Covers registers rows
+    → Covers (registers ++ record { name = word; live = true; kind = k } ∷ []) (rows ++ Some (row_of k f) ∷ [])
+covers-push registers rows word k f on covers =
+    let register : Register = record { name = word; live = true; kind = k } in
+    record {
+      as_many = length_push registers register ∙ ap (λ i. i + 1) covers.as_many ∙ sym (length_push rows (Some (row_of k f)));
+      held = λ a name j is. ⊎_elim
+          (λ old. held-push j k rows f a (covers.held a name j old.1))
+          (λ new. let same : k ≡ j = ap (λ (r : Register). r.kind) new.1 in
+          subst (λ i. IsHeldAs j (rows ++ Some (row_of k f) ∷ []) i) (sym (new.0 ∙ covers.as_many))
+          (f, slice_get-push_new rows (Some (row_of k f)) ∙ ap (λ (x : Kind). Some (Some (row_of x f))) same))
+          (slice_get-push registers register (record { name = name; live = true; kind = j }) a is);
+      on_variables = λ a other is. ⊎_elim
+          (λ old. covers.on_variables a other old.1)
+          (λ new. subst (λ (r : Register). IsOnVariables r.kind) new.1 on)
+          (slice_get-push registers register other a is);
+    }
 
 and_both : (a b : Bool) → (a && b) ≡ true → (a ≡ true) × (b ≡ true)
 and_both true b is = (refl, is)
@@ -99,52 +149,63 @@ not_true false is = refl
 same_word : (w : Word) → bytes_eq w w ≡ true
 same_word w = (bytes_eq-Decides w w).1 refl
 
+-- a register after a drop was there before, with its kind
+without-there : (dropped : Word) (o : Option Register) (register : Register) → option_map (without dropped) o ≡ Some register → (before : Register) × (o ≡ Some before) × (before.kind ≡ register.kind)
+without-there dropped None register is = cc
+without-there dropped (Some before) register is =
+    let same : without dropped before ≡ register = cc in (before, refl, ap (λ (r : Register). r.kind) same)
+
 -- a register that is live after a drop was live before, and has another name
-without-live : (dropped word : Word) (o : Option Register) → option_map (without dropped) o ≡ Some (record { name = word; live = true })
-    → (o ≡ Some (record { name = word; live = true })) × (bytes_eq word dropped ≡ false)
-without-live dropped word None is = cc
-without-live dropped word (Some register) is =
-    let same : without dropped register ≡ record { name = word; live = true } = cc in
+without-live : (dropped word : Word) (k : Kind) (o : Option Register) → option_map (without dropped) o ≡ Some (record { name = word; live = true; kind = k })
+    → (o ≡ Some (record { name = word; live = true; kind = k })) × (bytes_eq word dropped ≡ false)
+without-live dropped word k None is = cc
+without-live dropped word k (Some register) is =
+    let same : without dropped register ≡ record { name = word; live = true; kind = k } = cc in
     let name : register.name ≡ word = ap (λ (r : Register). r.name) same in
     let flags : (register.live && not (bytes_eq register.name dropped)) ≡ true = ap (λ (r : Register). r.live) same in
-    let both = and_both register.live (not (bytes_eq register.name dropped)) flags in (
-      ap₂ (λ (w : Word) (b : Bool). Some (record { name = w; live = b })) name both.0,
+    let both = and_both register.live (not (bytes_eq register.name dropped)) flags in
+    let still : register.live ≡ (register.live && not (bytes_eq register.name dropped)) = both.0 ∙ sym flags in
+    let kept : Some register ≡ Some (without dropped register) = ap (λ (b : Bool). Some (record { name = register.name; live = b; kind = register.kind })) still in (
+      kept ∙ ap (λ (r : Register). Some r) same,
       ap (λ w. bytes_eq w dropped) (sym name) ∙ not_true (bytes_eq register.name dropped) both.1,
     )
 
-covers-drop : (registers : List Register) (rows : Rows) (word : Word) (a : ℕ) → slice_get registers a ≡ Some (record { name = word; live = true })
+covers-drop : (registers : List Register) (rows : Rows) (word : Word) (kind : Kind) (a : ℕ) → slice_get registers a ≡ Some (record { name = word; live = true; kind = kind })
     → Covers registers rows → Covers (map (without word) registers) (set rows a None)
-covers-drop registers rows word a is covers = record {
+covers-drop registers rows word kind a is covers = record {
   as_many = length-map registers (without word) ∙ covers.as_many ∙ sym (length-set rows a None);
-  held = λ k name at.
-      let before = without-live word name (slice_get registers k) (sym (slice_get-map (without word) registers k) ∙ at) in
-      let apart : k ≢ a = λ same.
-      let first : Register = record { name = name; live = true } in
-      let second : Register = record { name = word; live = true } in
+  held = λ i name k at.
+      let before = without-live word name k (slice_get registers i) (sym (slice_get-map (without word) registers i) ∙ at) in
+      let apart : i ≢ a = λ same.
+      let first : Register = record { name = name; live = true; kind = k } in
+      let second : Register = record { name = word; live = true; kind = kind } in
       let both : Some first ≡ Some second = sym before.0 ∙ ap (slice_get registers) same ∙ is in
       let one : first ≡ second = cc in
       let equal : name ≡ word = ap (λ (r : Register). r.name) one in
       false≢true (sym before.1 ∙ ap (λ w. bytes_eq w word) equal ∙ same_word word) in
-      let held = covers.held k name before.0 in
-      (held.0, slice_get-set_other rows None a k apart ∙ held.1);
+      let held = covers.held i name k before.0 in
+      (held.0, slice_get-set_other rows None a i apart ∙ held.1);
+  on_variables = λ i register at.
+      let before = without-there word (slice_get registers i) register (sym (slice_get-map (without word) registers i) ∙ at) in
+      subst (λ (k : Kind). IsOnVariables k) before.2 (covers.on_variables i before.0 before.1);
 }
 
--- the spelling of a command that makes a row, and of one that makes none and drops none
-abbrev is_assigning : Spelling → Bool
-is_assigning (assigns command os) = true
-is_assigning (tells command os) = false
+-- the spelling of a command that makes a row of a kind, and of one that makes none and drops none
+abbrev assigns_kind : Kind → Spelling → Type 0
+assigns_kind k (assigns command os) = kind_made command ≡ k
+assigns_kind k (tells command os) = ⊥
 
 abbrev keeps_all : Spelling → Bool
 keeps_all (assigns command os) = false
 keeps_all (tells command os) = not (bytes_eq command (codes "drop"))
 
-module _ (n : ℕ) (registers : List Register) (old new : Rows) (words : List Word) (covers : Covers registers old) where
-  covers-assigned : (spelt : Spelling) → is_assigning spelt ≡ true → Spells n registers words spelt → (e : Edge) × (new ≡ old ++ Some e ∷ []) → Covers (registers_after registers words) new
-  covers-assigned (assigns command os) is spells after =
+module _ (n : Counts) (registers : List Register) (old new : Rows) (words : List Word) (covers : Covers registers old) where
+  covers-assigned : (k : Kind) (spelt : Spelling) → IsOnVariables k → assigns_kind k spelt → Spells n registers words spelt → (e : Edge) × (new ≡ old ++ Some (row_of k e) ∷ []) → Covers (registers_after registers words) new
+  covers-assigned k (assigns command os) on is spells after =
       let more = one_register_more n registers words command os spells in
-      subst (λ rs. Covers rs new) (sym more.1)
-      (subst (λ rows. Covers (registers ++ record { name = more.0; live = true } ∷ []) rows) (sym after.1) (covers-push registers old (record { name = more.0; live = true }) after.0 covers))
-  covers-assigned (tells command os) is spells after = cc
+      subst (λ rs. Covers rs new) (sym (more.1 ∙ ap (λ (j : Kind). registers ++ record { name = more.0; live = true; kind = j } ∷ []) is))
+      (subst (λ rows. Covers (registers ++ record { name = more.0; live = true; kind = k } ∷ []) rows) (sym after.1) (covers-push registers old more.0 k after.0 on covers))
+  covers-assigned k (tells command os) on is spells after = absurd is
 
   covers-kept : (spelt : Spelling) → keeps_all spelt ≡ true → Spells n registers words spelt → new ≡ old → Covers (registers_after registers words) new
   covers-kept (assigns command os) is spells after = cc
@@ -156,12 +217,12 @@ module _ (n : ℕ) (registers : List Register) (old new : Rows) (words : List Wo
   pub covers-after : (act : Act) → Says n registers words act → GrowsOrLeft (makes act) old new act → Covers (registers_after registers words) new
   covers-after (Drop a) says after =
       let less = one_register_less n registers words a says in
-      subst (λ rs. Covers rs new) (sym less.2)
-      (subst (λ rows. Covers (map (without less.0) registers) rows) (sym after) (covers-drop registers old less.0 a less.1.1 covers))
+      subst (λ rs. Covers rs new) (sym less.3)
+      (subst (λ rows. Covers (map (without less.0) registers) rows) (sym after) (covers-drop registers old less.0 less.1 a less.2.1 covers))
   covers-after (Same a b) says after = covers-kept (spelling (Same a b)) refl says.0 after
   covers-after (Leq a b) says after = covers-kept (spelling (Leq a b)) refl says.0 after
   covers-after (Eval a bits) says after = covers-kept (spelling (Eval a bits)) refl says.0 after
-  covers-after act says after = covers-assigned (spelling act) refl says.0 after
+  covers-after act says after = covers-assigned (made_kind act) (spelling act) tt refl says.0 after
 
 -- what is named among some registers is named among more
 named-more : (registers more : List Held) (a : ℕ) (name : Name) → IsNamed registers a name → IsNamed (registers ++ more) a name
@@ -196,6 +257,19 @@ calls-more registers more (Compose a v b) call is = (is.0, is.1, named-more regi
 calls-more registers more (VectorCompose a pairs) call is = (is.0, is.1, named-more registers more a is.0 is.2, are_named-more registers more pairs is.1 is.3, is.4)
 calls-more registers more (Restrict a b) call is = (is.0, is.1, named-more registers more a is.0 is.2, named-more registers more b is.1 is.3, is.4)
 calls-more registers more (Support a) call is = (is.0, named-more registers more a is.0 is.1, is.2)
+calls-more registers more (Constant z) call is = is
+calls-more registers more (FromBdd a) call is = (is.0, named-more registers more a is.0 is.1, is.2)
+calls-more registers more (Plus a b) call is = (is.0, is.1, named-more registers more a is.0 is.2, named-more registers more b is.1 is.3, is.4)
+calls-more registers more (Minus a b) call is = (is.0, is.1, named-more registers more a is.0 is.2, named-more registers more b is.1 is.3, is.4)
+calls-more registers more (Times a b) call is = (is.0, is.1, named-more registers more a is.0 is.2, named-more registers more b is.1 is.3, is.4)
+calls-more registers more (Min a b) call is = (is.0, is.1, named-more registers more a is.0 is.2, named-more registers more b is.1 is.3, is.4)
+calls-more registers more (Max a b) call is = (is.0, is.1, named-more registers more a is.0 is.2, named-more registers more b is.1 is.3, is.4)
+calls-more registers more (Threshold a b) call is = (is.0, is.1, named-more registers more a is.0 is.2, named-more registers more b is.1 is.3, is.4)
+calls-more registers more (AddIte a b c) call is =
+    (is.0, is.1, is.2, named-more registers more a is.0 is.3, named-more registers more b is.1 is.4, named-more registers more c is.2 is.5, is.6)
+calls-more registers more (SumOver a v) call is = (is.0, named-more registers more a is.0 is.1, is.2)
+calls-more registers more (AtLeast a z) call is = (is.0, named-more registers more a is.0 is.1, is.2)
+calls-more registers more (Pattern a) call is = (is.0, named-more registers more a is.0 is.1, is.2)
 calls-more registers more (Drop a) call is = (is.0, named-more registers more a is.0 is.1, is.2)
 calls-more registers more (Same a b) call is = (is.0, is.1, named-more registers more a is.0 is.2, named-more registers more b is.1 is.3, is.4)
 calls-more registers more (Leq a b) call is = (is.0, is.1, named-more registers more a is.0 is.2, named-more registers more b is.1 is.3, is.4)
@@ -231,44 +305,56 @@ some_inner (Some register) name is =
 module _ (start p : Plain) (commands : List Command) (rows : Rows) (assigned text : List ℕ) (place : ℕ) (said : List HistoryLine)
     (stands : Stands start p commands rows assigned text place said) where
   -- a row's name is that of its register
-  named : (a : ℕ) → IsHeld rows a → IsNamed (registers_of said) a (name_of a)
-  named a held =
-      let below : a < length rows = slice_get_within rows a (Some held.0) held.1 in
+  named : (k : Kind) (a : ℕ) → IsHeldAs k rows a → IsNamed (registers_of said) a (name_of a)
+  named k a held =
+      let below : a < length rows = slice_get_within rows a (Some (row_of k held.0)) held.1 in
       let at : slice_get (map name_of (range_with_len 0 (length rows))) a ≡ Some (name_of a) =
       slice_get-get_or (map name_of (range_with_len 0 (length rows))) a (name_of a) (omega (arith, length-map-range_with_len name_of 0 (length rows)))
       ∙ ap (λ (x : Name). Some x) (get_or-map-range_with_len name_of 0 (length rows) a a (name_of a) below (zero-add a)) in
       some_inner (slice_get (registers_of said) a) (name_of a)
       (sym (slice_get-map (λ register. register.name) (registers_of said) a) ∙ ap (λ xs. slice_get xs a) stands.names ∙ at)
 
-  all_named : (pairs : List (ℕ × ℕ)) → All (λ pair. (pair.0 < (plain_view p).vars) × IsHeld rows pair.1) pairs → AreNamed (registers_of said) pairs (map with_name pairs)
+  all_named : (pairs : List (ℕ × ℕ)) → All (λ pair. (pair.0 < (plain_view p).vars) × IsHeldAs kinds.Bdd rows pair.1) pairs → AreNamed (registers_of said) pairs (map with_name pairs)
   all_named [] all = tt
   all_named (pair ∷ pairs) all = (
     refl,
-    named pair.1 (All-head (λ pair. (pair.0 < (plain_view p).vars) × IsHeld rows pair.1) pair pairs all).1,
-    all_named pairs (All-tail (λ pair. (pair.0 < (plain_view p).vars) × IsHeld rows pair.1) pair pairs all),
+    named kinds.Bdd pair.1 (All-head (λ pair. (pair.0 < (plain_view p).vars) × IsHeldAs kinds.Bdd rows pair.1) pair pairs all).1,
+    all_named pairs (All-tail (λ pair. (pair.0 < (plain_view p).vars) × IsHeldAs kinds.Bdd rows pair.1) pair pairs all),
   )
 
   calls_of : (act : Act) → CanCall (plain_view p).vars rows act → Calls (registers_of said) act (call_with act)
   calls_of One can = refl
   calls_of Zero can = refl
   calls_of (Var v) can = refl
-  calls_of (Not a) can = (name_of a, named a can, refl)
-  calls_of (And a b) can = (name_of a, name_of b, named a can.0, named b can.1, refl)
-  calls_of (Or a b) can = (name_of a, name_of b, named a can.0, named b can.1, refl)
-  calls_of (Xor a b) can = (name_of a, name_of b, named a can.0, named b can.1, refl)
-  calls_of (Ite a b c) can = (name_of a, name_of b, name_of c, named a can.0, named b can.1, named c can.2, refl)
-  calls_of (Cofactor a v b) can = (name_of a, named a can.0, refl)
-  calls_of (Exists a vs) can = (name_of a, named a can.0, refl)
-  calls_of (Forall a vs) can = (name_of a, named a can.0, refl)
-  calls_of (AndExists a b vs) can = (name_of a, name_of b, named a can.0, named b can.1, refl)
-  calls_of (Compose a v b) can = (name_of a, name_of b, named a can.0, named b can.1, refl)
-  calls_of (VectorCompose a pairs) can = (name_of a, map with_name pairs, named a can.0, all_named pairs can.1, refl)
-  calls_of (Restrict a b) can = (name_of a, name_of b, named a can.0, named b can.1, refl)
-  calls_of (Support a) can = (name_of a, named a can, refl)
-  calls_of (Drop a) can = (name_of a, named a can, refl)
-  calls_of (Same a b) can = (name_of a, name_of b, named a can.0, named b can.1, refl)
-  calls_of (Leq a b) can = (name_of a, name_of b, named a can.0, named b can.1, refl)
-  calls_of (Eval a bits) can = (name_of a, named a can.0, refl)
+  calls_of (Not a) can = (name_of a, named kinds.Bdd a can, refl)
+  calls_of (And a b) can = (name_of a, name_of b, named kinds.Bdd a can.0, named kinds.Bdd b can.1, refl)
+  calls_of (Or a b) can = (name_of a, name_of b, named kinds.Bdd a can.0, named kinds.Bdd b can.1, refl)
+  calls_of (Xor a b) can = (name_of a, name_of b, named kinds.Bdd a can.0, named kinds.Bdd b can.1, refl)
+  calls_of (Ite a b c) can = (name_of a, name_of b, name_of c, named kinds.Bdd a can.0, named kinds.Bdd b can.1, named kinds.Bdd c can.2, refl)
+  calls_of (Cofactor a v b) can = (name_of a, named kinds.Bdd a can.0, refl)
+  calls_of (Exists a vs) can = (name_of a, named kinds.Bdd a can.0, refl)
+  calls_of (Forall a vs) can = (name_of a, named kinds.Bdd a can.0, refl)
+  calls_of (AndExists a b vs) can = (name_of a, name_of b, named kinds.Bdd a can.0, named kinds.Bdd b can.1, refl)
+  calls_of (Compose a v b) can = (name_of a, name_of b, named kinds.Bdd a can.0, named kinds.Bdd b can.1, refl)
+  calls_of (VectorCompose a pairs) can = (name_of a, map with_name pairs, named kinds.Bdd a can.0, all_named pairs can.1, refl)
+  calls_of (Restrict a b) can = (name_of a, name_of b, named kinds.Bdd a can.0, named kinds.Bdd b can.1, refl)
+  calls_of (Support a) can = (name_of a, named kinds.Bdd a can, refl)
+  calls_of (Constant z) can = refl
+  calls_of (FromBdd a) can = (name_of a, named kinds.Bdd a can, refl)
+  calls_of (Plus a b) can = (name_of a, name_of b, named kinds.Add a can.0, named kinds.Add b can.1, refl)
+  calls_of (Minus a b) can = (name_of a, name_of b, named kinds.Add a can.0, named kinds.Add b can.1, refl)
+  calls_of (Times a b) can = (name_of a, name_of b, named kinds.Add a can.0, named kinds.Add b can.1, refl)
+  calls_of (Min a b) can = (name_of a, name_of b, named kinds.Add a can.0, named kinds.Add b can.1, refl)
+  calls_of (Max a b) can = (name_of a, name_of b, named kinds.Add a can.0, named kinds.Add b can.1, refl)
+  calls_of (Threshold a b) can = (name_of a, name_of b, named kinds.Add a can.0, named kinds.Add b can.1, refl)
+  calls_of (AddIte a b c) can = (name_of a, name_of b, name_of c, named kinds.Bdd a can.0, named kinds.Add b can.1, named kinds.Add c can.2, refl)
+  calls_of (SumOver a v) can = (name_of a, named kinds.Add a can.0, refl)
+  calls_of (AtLeast a z) can = (name_of a, named kinds.Add a can.0, refl)
+  calls_of (Pattern a) can = (name_of a, named kinds.Add a can, refl)
+  calls_of (Drop a) can = (name_of a, named can.0 a can.1, refl)
+  calls_of (Same a b) can = (name_of a, name_of b, named can.0 a can.1, named can.0 b can.2, refl)
+  calls_of (Leq a b) can = (name_of a, name_of b, named kinds.Bdd a can.0, named kinds.Bdd b can.1, refl)
+  calls_of (Eval a bits) can = (name_of a, named can.0.0 a can.0.2, refl)
 
   -- the commands were said in order, with one more
   pub in_order-after : (line : HistoryLine) (command : Command) → SayInOrder (registers_of said) said commands → slice_get commands (length said) ≡ Some command
@@ -283,7 +369,7 @@ module _ (start p : Plain) (commands : List Command) (rows : Rows) (assigned tex
 -- So many commands were said, none of which stopped the session.
 pub record SaysUpTo (start : Plain) (commands : List Command) (play : Progress) (i : ℕ) : Type 0 where
   pub registers : List Register
-  pub rest : CommandsSay (plain_view play.session.store).vars registers (drop i commands)
+  pub rest : CommandsSay (counts_at play.session.store) registers (drop i commands)
   pub covers : Covers registers play.session.rows.items
   pub said : List HistoryLine
   pub stands : StandsAt start commands play said
@@ -293,7 +379,7 @@ pub record SaysUpTo (start : Plain) (commands : List Command) (play : Progress) 
   pub few_rows : length play.session.rows.items ≤ i
 
 -- the commands from a place on begin with that one
-rest_at : (n : ℕ) (registers : List Register) (commands : List Command) (i : ℕ) (command : Command) → slice_get commands i ≡ Some command
+rest_at : (n : Counts) (registers : List Register) (commands : List Command) (i : ℕ) (command : Command) → slice_get commands i ≡ Some command
     → CommandsSay n registers (drop i commands) → Says n registers command.words command.act × CommandsSay n (registers_after registers command.words) (drop (i + 1) commands)
 rest_at n registers [] i command is rest = cc
 rest_at n registers (first ∷ commands) zero command is rest =
@@ -307,7 +393,7 @@ rest_at n registers (first ∷ commands) (suc i) command is rest =
 pub can_at : (start : Plain) (commands : List Command) (play : Progress) (i : ℕ) (command : Command) → SaysUpTo start commands play i → slice_get commands i ≡ Some command
     → CanCall (plain_view play.session.store).vars play.session.rows.items command.act
 can_at start commands play i command up is =
-    can_call (plain_view play.session.store).vars up.registers play.session.rows.items command.words command.act (rest_at (plain_view play.session.store).vars up.registers commands i command is up.rest).0 up.covers
+    can_call (counts_at play.session.store) up.registers play.session.rows.items command.words command.act (rest_at (counts_at play.session.store) up.registers commands i command is up.rest).0 up.covers
 
 in_order_one : (start : Plain) (commands : List Command) (old new : Progress) (i : ℕ) (goes_on : Bool) (command : Command) (up : SaysUpTo start commands old i) → slice_get commands i ≡ Some command
     → (one : SaysOne start commands command goes_on old new up.said) → SayInOrder (registers_of (up.said ++ one.line ∷ [])) (up.said ++ one.line ∷ []) commands
@@ -321,15 +407,15 @@ or_both false true first second = absurd (false≢true (sym second))
 or_both false false first second = refl
 
 pub next_command : (start : Plain) (commands : List Command) (old new : Progress) (i : ℕ) (command : Command) (up : SaysUpTo start commands old i) → slice_get commands i ≡ Some command
-    → SaysOne start commands command true old new up.said → RowsGoOn true old.session.rows.items new.session.rows.items command.act → (plain_view new.session.store).vars ≡ (plain_view old.session.store).vars
+    → SaysOne start commands command true old new up.said → RowsGoOn true old.session.rows.items new.session.rows.items command.act → sizes_at new.session.store ≡ sizes_at old.session.store
     → SaysUpTo start commands new (i + 1)
-next_command start commands old new i command up is one rows vars =
-    let rest = rest_at (plain_view old.session.store).vars up.registers commands i command is up.rest in
+next_command start commands old new i command up is one rows sizes =
+    let rest = rest_at (counts_at old.session.store) up.registers commands i command is up.rest in
     let grown : GrowsOrLeft (makes command.act) old.session.rows.items new.session.rows.items command.act = rows refl in
     record {
       registers = registers_after up.registers command.words;
-      rest = subst (λ n. CommandsSay n (registers_after up.registers command.words) (drop (i + 1) commands)) (sym vars) rest.1;
-      covers = covers-after (plain_view old.session.store).vars up.registers old.session.rows.items new.session.rows.items command.words up.covers command.act rest.0 grown;
+      rest = subst (λ n. CommandsSay n (registers_after up.registers command.words) (drop (i + 1) commands)) (sym (ap counts_with sizes)) rest.1;
+      covers = covers-after (counts_at old.session.store) up.registers old.session.rows.items new.session.rows.items command.words up.covers command.act rest.0 grown;
       said = up.said ++ one.line ∷ [];
       stands = one.stands;
       in_order = in_order_one start commands old new i true command up is one;

@@ -1,17 +1,19 @@
 -- What a command is answered.
-use Rattle.std.proofs.Common.{inl, inr, Result, Ok, Err, IfOk, IsErrOf, MatchResult, ◌≡◌, ℕ, ◌+◌, ◌≤◌, ◌++◌, ◌∷◌, [], ⊎_elim, Bool, true, false, ◌&&◌, not, List, length, Some, None, refl, sym, ap, ◌∙◌, subst, arith}
+use Rattle.std.proofs.Common.{inl, inr, Result, Ok, Err, IfErr, IfOk, IsErrOf, MatchResult, ◌≡◌, ℕ, ◌+◌, ◌≤◌, ◌++◌, ◌∷◌, [], ⊎_elim, Bool, true, false, ◌&&◌, not, List, length, Some, None, refl, sym, ap, ◌∙◌, subst, arith}
 use Rattle.std.proofs.Math.ListN.{set, length-set}
 use Rattle.std.proofs.lemmas.Bool.{false≢true}
+use Rattle.add_ops.specs.declared.arithmetic.Overflow.{Overflow as AddOverflow}
 use Rattle.std.specs.Prelude.{◌<◌, map}
 use Rattle.std.specs.List.{All}
 use Rattle.std.proofs.lemmas.List.{length_push}
 use Rattle.std.proofs.lemmas.List.Elements.{All-map}
 use Rattle.edge_bits.specs.declared.edges.Edge.{Edge}
+use Rattle.edge_bits.specs.declared.edges.Kind.{Kind}
 use Rattle.edge_bits.specs.declared.edges.Kind.TheVariants as kinds
 use Rattle.function_laws.specs.declared.history.Name.{Name}
 use Rattle.function_laws.specs.declared.history.Call.{Call}
 use Rattle.function_laws.specs.declared.history.Reply.{Reply as LawReply}
-use Rattle.function_laws.specs.declared.history.Reply.TheVariants.{Full}
+use Rattle.function_laws.specs.declared.history.Reply.TheVariants.{Full, Overflow}
 use Rattle.function_laws.specs.Steps.{are_distinct}
 use Rattle.job_text.specs.declared.history_line.Reply.{Reply}
 use Rattle.job_text.specs.declared.history_line.Reply.TheVariants as reply
@@ -23,12 +25,13 @@ use Rattle.node_store.specs.declared.grow.Stop.{Stop}
 use Rattle.node_store.specs.declared.grow.Stop.TheVariants as stop
 use Rattle.node_slots.specs.Views.{View, Grown, Is}
 use Rattle.net_jobs.specs.declared.playing.Answer.{Answer}
+use Rattle.net_jobs.specs.declared.session.Row.{Row}
 use Rattle.net_jobs.specs.declared.session.Session.{Session}
 use Rattle.node_slots.specs.Stores.{plain_view}
-use Rattle.net_jobs.specs.Agreement.{Adds, AreStored, GivesName, IsLive, IsStepOf, Refuses, Rows}
-use Rattle.net_jobs.specs.Playing.{GrowsOrLeft, IsAnswered, IsHeld, RowsAfter, RowsGoOn, call_with, makes, rows_left, with_name}
+use Rattle.net_jobs.specs.Agreement.{Adds, AreStored, Exceeds, GivesName, IsLiveOf, IsStepOf, Refuses, Rows, row_of}
+use Rattle.net_jobs.specs.Playing.{GrowsOrLeft, IsAnswered, IsHeldAs, RowsAfter, RowsGoOn, call_with, is_about_numbers, made_kind, makes, may_exceed, rows_left, with_name}
 use Rattle.net_jobs.proofs.ListLemmas.{slice_get-push, slice_get-set}
-use Rattle.net_jobs.proofs.SessionLemmas.{stored-grown}
+use Rattle.net_jobs.proofs.AgreementLemmas.{stored-grown}
 
 and_none : (b : Bool) → (b && false) ≡ false
 and_none true = refl
@@ -40,25 +43,25 @@ left_if_makes rows (Drop a) made = cc
 left_if_makes rows act made = refl
 
 -- one more row that is stored
-stored-push : (w : View) (rows : Rows) (e : Edge) → AreStored w rows → Is kinds.Bdd w e → AreStored w (rows ++ Some e ∷ [])
-stored-push w rows e stored is row x has = ⊎_elim
-    (λ old. stored row x old.1)
-    (λ new. let same : e ≡ x = cc in subst (λ (y : Edge). Is kinds.Bdd w y) same is)
-    (slice_get-push rows (Some e) (Some x) row has)
+stored-push : (w : View) (rows : Rows) (k : Kind) (e : Edge) → AreStored w rows → Is k w e → AreStored w (rows ++ Some (row_of k e) ∷ [])
+stored-push w rows k e stored is row j x has = ⊎_elim
+    (λ old. stored row j x old.1)
+    (λ new. let same : row_of k e ≡ row_of j x = cc in subst (λ (y : Row). Is y.kind w y.edge) same is)
+    (slice_get-push rows (Some (row_of k e)) (Some (row_of j x)) row has)
 
 -- a row that was dropped
 pub stored-set : (w : View) (rows : Rows) (a : ℕ) → AreStored w rows → AreStored w (set rows a None)
-stored-set w rows a stored row x has = ⊎_elim
-    (λ same. let never : None ≡ Some x = same.1 in cc)
-    (λ other. stored row x other.1)
-    (slice_get-set rows None (Some x) a row has)
+stored-set w rows a stored row k x has = ⊎_elim
+    (λ same. let never : None ≡ Some (row_of k x) = same.1 in cc)
+    (λ other. stored row k x other.1)
+    (slice_get-set rows None (Some (row_of k x)) a row has)
 
 -- a reply that gives a name is told as done
 told_name : (answer : LawReply) (name : Name) → GivesName answer name → (told_of answer ≡ Some reply.Done) × (given_by answer ≡ Some name)
 told_name answer name (inl made) = (ap told_of made, ap given_by made)
 told_name answer name (inr chosen) = (ap told_of chosen.1, ap given_by chosen.1)
 
-pub answered-made : (w w' : View) (old new : Rows) (act : Act) (name : Name) → makes act ≡ true → Grown w w' → AreStored w old → Adds w old w' new (call_with act) name
+pub answered-made : (w w' : View) (old new : Rows) (act : Act) (name : Name) → makes act ≡ true → Grown w w' → AreStored w old → Adds (made_kind act) w old w' new (call_with act) name
     → IsAnswered w old w' new act (record { reply = reply.Done; made = true })
 answered-made w w' old new act name made grown stored adds = record {
   reply = adds.reply;
@@ -67,7 +70,7 @@ answered-made w w' old new act name made grown stored adds = record {
   step = adds.step;
   rows = ((told_name adds.reply name adds.gives).1 ∙ ap Some adds.name_is, (adds.row.0, adds.row.1));
   grown = grown;
-  stored = subst (λ (rows : Rows). AreStored w' rows) (sym adds.row.1) (stored-push w' old adds.row.0 (stored-grown w w' old grown stored) adds.row.2);
+  stored = subst (λ (rows : Rows). AreStored w' rows) (sym adds.row.1) (stored-push w' old (made_kind act) adds.row.0 (stored-grown w w' old grown stored) adds.row.2);
   full = λ e. cc;
 }
 
@@ -84,6 +87,36 @@ answered-full w w' old new act made grown stored refuses = record {
   full = λ e. (refuses.rose, refl);
 }
 
+pub answered-overflow : (w w' : View) (old new : Rows) (act : Act) → makes act ≡ true → Grown w w' → AreStored w old → Exceeds w old w' new (call_with act)
+    → IsAnswered w old w' new act (record { reply = reply.Overflow; made = false })
+answered-overflow w w' old new act made grown stored exceeds = record {
+  reply = Overflow;
+  told = refl;
+  made_if = sym (and_none (makes act));
+  step = subst (λ (rows : Rows). IsStepOf w old w' rows (call_with act) Overflow) (sym exceeds.rows_stay) exceeds.step;
+  rows = (refl, exceeds.rows_stay ∙ sym (left_if_makes old act made));
+  grown = grown;
+  stored = subst (λ (rows : Rows). AreStored w' rows) (sym exceeds.rows_stay) (stored-grown w w' old grown stored);
+  full = λ e. cc;
+}
+
+-- a command whose values may be out of range makes a row, if they are not
+pub exact_makes : (act : Act) → may_exceed act ≡ true → makes act ≡ true
+exact_makes (Drop a) exact = cc
+exact_makes (Same a b) exact = cc
+exact_makes (Leq a b) exact = cc
+exact_makes (Eval a bits) exact = cc
+exact_makes act exact = refl
+
+-- and so does one about numbers
+pub numbers_make : (act : Act) → is_about_numbers act ≡ true → makes act ≡ true
+numbers_make (Drop a) numbers = cc
+numbers_make (Same a b) numbers = cc
+numbers_make (Leq a b) numbers = cc
+numbers_make (Eval a bits) numbers = cc
+numbers_make act numbers = refl
+
+-- the commands that are left
 pub makes_default : (act : Act) → ((a : ℕ) → act ≡ Drop a → ⊥) → ((a b : ℕ) → act ≡ Same a b → ⊥) → ((a b : ℕ) → act ≡ Leq a b → ⊥)
     → ((a : ℕ) (bits : List Bool) → act ≡ Eval a bits → ⊥) → makes act ≡ true
 makes_default (Drop a) not_drop not_same not_leq not_eval = absurd (not_drop a refl)
@@ -93,23 +126,45 @@ makes_default (Eval a bits) not_drop not_same not_leq not_eval = absurd (not_eva
 makes_default act not_drop not_same not_leq not_eval = refl
 
 -- the call that was made is the command's
-pub adds_as : (old new : Session) (act : Act) (call : Call) (result : Result Name Stop) → call ≡ call_with act
-    → IfOk result (λ name. Adds (plain_view old.store) old.rows.items (plain_view new.store) new.rows.items call name)
-    → IfOk result (λ name. Adds (plain_view old.store) old.rows.items (plain_view new.store) new.rows.items (call_with act) name)
-adds_as old new act call result is adds =
-    subst (λ (c : Call). IfOk result (λ name. Adds (plain_view old.store) old.rows.items (plain_view new.store) new.rows.items c name)) is adds
+pub adds_as : {E : Type 0} (old new : Session) {act other : Act} (call : Call) (result : Result Name E) → act ≡ other → call ≡ call_with other
+    → IfOk result (λ name. Adds (made_kind other) (plain_view old.store) old.rows.items (plain_view new.store) new.rows.items call name)
+    → IfOk result (λ name. Adds (made_kind act) (plain_view old.store) old.rows.items (plain_view new.store) new.rows.items (call_with act) name)
+adds_as old new {act} {other} call result is called adds =
+    subst (λ (a : Act). IfOk result (λ name. Adds (made_kind a) (plain_view old.store) old.rows.items (plain_view new.store) new.rows.items (call_with a) name)) (sym is)
+    (subst (λ (c : Call). IfOk result (λ name. Adds (made_kind other) (plain_view old.store) old.rows.items (plain_view new.store) new.rows.items c name)) called adds)
 
-pub refuses_as : (old new : Session) (act : Act) (call : Call) → call ≡ call_with act → Refuses (plain_view old.store) old.rows.items (plain_view new.store) new.rows.items call
+pub refuses_as : (old new : Session) {act other : Act} (call : Call) → act ≡ other → call ≡ call_with other
+    → Refuses (plain_view old.store) old.rows.items (plain_view new.store) new.rows.items call
     → Refuses (plain_view old.store) old.rows.items (plain_view new.store) new.rows.items (call_with act)
-refuses_as old new act call is refuses =
-    subst (λ (c : Call). Refuses (plain_view old.store) old.rows.items (plain_view new.store) new.rows.items c) is refuses
+refuses_as old new {act} {other} call is called refuses =
+    subst (λ (c : Call). Refuses (plain_view old.store) old.rows.items (plain_view new.store) new.rows.items c) (called ∙ sym (ap call_with is)) refuses
+
+pub exceeds_as : (old new : Session) {act other : Act} (call : Call) → act ≡ other → call ≡ call_with other
+    → Exceeds (plain_view old.store) old.rows.items (plain_view new.store) new.rows.items call
+    → Exceeds (plain_view old.store) old.rows.items (plain_view new.store) new.rows.items (call_with act)
+exceeds_as old new {act} {other} call is called exceeds =
+    subst (λ (c : Call). Exceeds (plain_view old.store) old.rows.items (plain_view new.store) new.rows.items c) (called ∙ sym (ap call_with is)) exceeds
+
+-- the same of what may be answered with overflow
+pub exact_adds_as : (old new : Session) {act other : Act} (call : Call) (result : Result (Result Name AddOverflow) Stop) → act ≡ other → call ≡ call_with other
+    → IfOk result (λ told. IfOk told (λ name. Adds (made_kind other) (plain_view old.store) old.rows.items (plain_view new.store) new.rows.items call name))
+    → IfOk result (λ told. IfOk told (λ name. Adds (made_kind act) (plain_view old.store) old.rows.items (plain_view new.store) new.rows.items (call_with act) name))
+exact_adds_as old new call (Err x) is called adds = tt
+exact_adds_as old new call (Ok told) is called adds = adds_as old new call told is called adds
+
+pub exact_exceeds_as : (old new : Session) {act other : Act} (call : Call) (result : Result (Result Name AddOverflow) Stop) → act ≡ other → call ≡ call_with other
+    → IfOk result (λ told. IfErr told (λ _. Exceeds (plain_view old.store) old.rows.items (plain_view new.store) new.rows.items call))
+    → IfOk result (λ told. IfErr told (λ _. Exceeds (plain_view old.store) old.rows.items (plain_view new.store) new.rows.items (call_with act)))
+exact_exceeds_as old new call (Err x) is called exceeds = tt
+exact_exceeds_as old new call (Ok (Ok name)) is called exceeds = tt
+exact_exceeds_as old new call (Ok (Err x)) is called exceeds = exceeds_as old new call is called exceeds
 
 -- the variables of a vcompose, and the rows of its registers
-pub pair_variables : (n : ℕ) (rows : Rows) (pairs : List (ℕ × ℕ)) → All (λ pair. (pair.0 < n) × IsHeld rows pair.1) pairs → All (λ pair. pair.0 < n) (map with_name pairs)
+pub pair_variables : (n : ℕ) (rows : Rows) (pairs : List (ℕ × ℕ)) → All (λ pair. (pair.0 < n) × IsHeldAs kinds.Bdd rows pair.1) pairs → All (λ pair. pair.0 < n) (map with_name pairs)
 pair_variables n rows pairs all = All-map (λ pair. pair.0 < n) with_name pairs (λ k d below. (all k d below).0)
 
-pub pair_rows : (n : ℕ) (rows : Rows) (pairs : List (ℕ × ℕ)) → All (λ pair. (pair.0 < n) × IsHeld rows pair.1) pairs → All (λ pair. IsLive rows pair.1) (map with_name pairs)
-pair_rows n rows pairs all = All-map (λ pair. IsLive rows pair.1) with_name pairs (λ k d below. (refl, (all k d below).1))
+pub pair_rows : (n : ℕ) (rows : Rows) (pairs : List (ℕ × ℕ)) → All (λ pair. (pair.0 < n) × IsHeldAs kinds.Bdd rows pair.1) pairs → All (λ pair. IsLiveOf kinds.Bdd rows pair.1) (map with_name pairs)
+pair_rows n rows pairs all = All-map (λ pair. IsLiveOf kinds.Bdd rows pair.1) with_name pairs (λ k d below. (refl, (all k d below).1))
 
 names : (pairs : List (ℕ × ℕ)) → map (λ pair. pair.0) (map with_name pairs) ≡ map (λ pair. pair.0) pairs
 names [] = refl
@@ -120,7 +175,7 @@ pair_distinct pairs distinct = ap are_distinct (names pairs) ∙ distinct
 
 -- a command that makes a row, and what it is answered
 pub answered-operated : (w w' : View) (old new : Rows) (act : Act) (made : Result Name Stop) (result : Result Answer Memory) → makes act ≡ true → Grown w w' → AreStored w old
-    → IfOk made (λ name. Adds w old w' new (call_with act) name) → (IsErrOf made stop.Full → Refuses w old w' new (call_with act))
+    → IfOk made (λ name. Adds (made_kind act) w old w' new (call_with act) name) → (IsErrOf made stop.Full → Refuses w old w' new (call_with act))
     → IfOk result (λ answer. MatchResult made (λ _. answer ≡ record { reply = reply.Done; made = true }) (λ x. (x ≡ stop.Full) × (answer ≡ record { reply = reply.Full; made = false })))
     → IfOk result (λ answer. IsAnswered w old w' new act answer)
 answered-operated w w' old new act made (Err x) makes_one grown stored adds refuses is = tt
@@ -129,6 +184,21 @@ answered-operated w w' old new act (Ok name) (Ok answer) makes_one grown stored 
 answered-operated w w' old new act (Err x) (Ok answer) makes_one grown stored adds refuses is =
     subst (λ (a : Answer). IsAnswered w old w' new act a) (sym is.1) (answered-full w w' old new act makes_one grown stored (refuses (ap Err is.0)))
 
+pub answered-exact : (w w' : View) (old new : Rows) (act : Act) (made : Result (Result Name AddOverflow) Stop) (result : Result Answer Memory) → may_exceed act ≡ true → Grown w w' → AreStored w old
+    → IfOk made (λ told. IfOk told (λ name. Adds (made_kind act) w old w' new (call_with act) name)) → IfOk made (λ told. IfErr told (λ _. Exceeds w old w' new (call_with act)))
+    → (IsErrOf made stop.Full → Refuses w old w' new (call_with act))
+    → IfOk result (λ answer. MatchResult made
+    (λ told. MatchResult told (λ _. answer ≡ record { reply = reply.Done; made = true }) (λ _. answer ≡ record { reply = reply.Overflow; made = false }))
+    (λ x. (x ≡ stop.Full) × (answer ≡ record { reply = reply.Full; made = false })))
+    → IfOk result (λ answer. IsAnswered w old w' new act answer)
+answered-exact w w' old new act made (Err x) exact grown stored adds exceeds refuses is = tt
+answered-exact w w' old new act (Ok (Ok name)) (Ok answer) exact grown stored adds exceeds refuses is =
+    subst (λ (a : Answer). IsAnswered w old w' new act a) (sym is) (answered-made w w' old new act name (exact_makes act exact) grown stored adds)
+answered-exact w w' old new act (Ok (Err x)) (Ok answer) exact grown stored adds exceeds refuses is =
+    subst (λ (a : Answer). IsAnswered w old w' new act a) (sym is) (answered-overflow w w' old new act (exact_makes act exact) grown stored exceeds)
+answered-exact w w' old new act (Err x) (Ok answer) exact grown stored adds exceeds refuses is =
+    subst (λ (a : Answer). IsAnswered w old w' new act a) (sym is.1) (answered-full w w' old new act (exact_makes act exact) grown stored (refuses (ap Err is.0)))
+
 -- it is refused only where it told so
 pub filled-operated : (Filled : Type 0) (made : Result Name Stop) (result : Result Answer Memory) → (IsErrOf made stop.Full → Filled)
     → IfOk result (λ answer. MatchResult made (λ _. answer ≡ record { reply = reply.Done; made = true }) (λ x. (x ≡ stop.Full) × (answer ≡ record { reply = reply.Full; made = false })))
@@ -136,6 +206,16 @@ pub filled-operated : (Filled : Type 0) (made : Result Name Stop) (result : Resu
 filled-operated Filled made (Err x) filled is = tt
 filled-operated Filled (Ok name) (Ok answer) filled is = λ e. (let never : reply.Done ≡ reply.Full = sym (ap (λ (a : Answer). a.reply) is) ∙ e in cc)
 filled-operated Filled (Err x) (Ok answer) filled is = λ e. filled (ap Err is.0)
+
+pub filled-exact : (Filled : Type 0) (made : Result (Result Name AddOverflow) Stop) (result : Result Answer Memory) → (IsErrOf made stop.Full → Filled)
+    → IfOk result (λ answer. MatchResult made
+    (λ told. MatchResult told (λ _. answer ≡ record { reply = reply.Done; made = true }) (λ _. answer ≡ record { reply = reply.Overflow; made = false }))
+    (λ x. (x ≡ stop.Full) × (answer ≡ record { reply = reply.Full; made = false })))
+    → IfOk result (λ answer. answer.reply ≡ reply.Full → Filled)
+filled-exact Filled made (Err x) filled is = tt
+filled-exact Filled (Ok (Ok name)) (Ok answer) filled is = λ e. (let never : reply.Done ≡ reply.Full = sym (ap (λ (a : Answer). a.reply) is) ∙ e in cc)
+filled-exact Filled (Ok (Err x)) (Ok answer) filled is = λ e. (let never : reply.Overflow ≡ reply.Full = sym (ap (λ (a : Answer). a.reply) is) ∙ e in cc)
+filled-exact Filled (Err x) (Ok answer) filled is = λ e. filled (ap Err is.0)
 
 -- a call that makes no row
 pub answered-other : (w w' : View) (old new : Rows) (act : Act) (call : Call) (answer : LawReply) (told : Reply) → call_with act ≡ call → makes act ≡ false → stops told ≡ false
@@ -180,7 +260,7 @@ left_length rows act = refl
 
 -- at most one more row
 pub grown_length : (made : Bool) (old new : Rows) (act : Act) → GrowsOrLeft made old new act → length new ≤ length old + 1
-grown_length true old new act after = omega (arith, ap length after.1, length_push old (Some after.0))
+grown_length true old new act after = omega (arith, ap length after.1, length_push old (Some (row_of (made_kind act) after.0)))
 grown_length false old new act after = omega (arith, ap length after, left_length old act)
 
 pub answered-few : (w w' : View) (old new : Rows) (act : Act) (answer : Answer) → IsAnswered w old w' new act answer → length new ≤ length old + 1

@@ -13,7 +13,7 @@ use Rattle.std.proofs.lemmas.Option.{slice_get_within}
 use Rattle.function_laws.specs.declared.history.Entry.{Entry}
 use Rattle.function_laws.specs.declared.history.Name.{Name}
 use Rattle.function_laws.specs.declared.history.Reply.TheVariants as laws
-use Rattle.function_laws.specs.Tables.{Table, opening}
+use Rattle.function_laws.specs.Tables.{Sizes, Table, opening}
 use Rattle.function_laws.specs.Steps.{IsAllowed, after}
 use Rattle.function_laws.specs.Histories.{IsLegal, table_after}
 use Rattle.function_laws.proofs.HistoryLemmas.{IsLegalFrom-push, table_after-push}
@@ -25,16 +25,16 @@ use Rattle.job_text.specs.Text.{Word}
 use Rattle.job_text.specs.Grammar.{target_of}
 use Rattle.job_text.specs.Histories.{Held, HistoryLine, drops, given_by, held_as, held_by, line_text, registers_of, stops, text_of, told_of}
 use Rattle.net_jobs.specs.declared.playing.Answer.{Answer}
-use Rattle.edge_bits.specs.declared.edges.Edge.{Edge}
+use Rattle.net_jobs.specs.declared.session.Row.{Row}
 use Rattle.node_slots.specs.Stores.{Plain, plain_view}
 use Rattle.node_slots.specs.Views.{View}
-use Rattle.net_jobs.specs.Agreement.{Agrees, IsFilled, Rows, is_dropped, is_gone, name_of, sizes_for}
-use Rattle.net_jobs.specs.Playing.{CallOf, CallsLead, CanCall, IsAnswered, RowsAfter, Stands, assigned_after, call_with, makes, target_at}
+use Rattle.net_jobs.specs.Agreement.{Agrees, IsFilled, Rows, is_dropped, is_gone, name_of, row_of, sizes_for}
+use Rattle.net_jobs.specs.Playing.{CallOf, CallsLead, CanCall, IsAnswered, RowsAfter, Stands, assigned_after, call_with, made_kind, makes, sizes_at, target_at}
 use Rattle.net_jobs.proofs.ListLemmas.{slice_get-set_other, slice_get-set_same}
 use Rattle.net_jobs.proofs.PlayLemmas.{left_length}
 
 -- one more row was not dropped, and the others are as before
-dropped-push : (rows : Rows) (f : Edge) (row : ℕ) → is_dropped (rows ++ Some f ∷ []) row ≡ is_dropped rows row
+dropped-push : (rows : Rows) (f : Row) (row : ℕ) → is_dropped (rows ++ Some f ∷ []) row ≡ is_dropped rows row
 dropped-push [] f zero = refl
 dropped-push [] f (suc row) = refl
 dropped-push (x ∷ rows) f zero = refl
@@ -86,8 +86,8 @@ dropped-after w w' rows new act answer answered can row = by_made answer.made an
             → (is_dropped rows row || drops (name_of row) (call_with act)) ≡ is_dropped new row
         by_act (Drop a) can true is after = cc
         by_act (Drop a) can false is after =
-            sym (dropped-set rows a row (slice_get_within rows a (Some can.0) can.1)) ∙ ap (λ r. is_dropped r row) (sym after.1)
-        by_act act can true is after = or_false (is_dropped rows row) ∙ sym (dropped-push rows after.1.0 row) ∙ ap (λ r. is_dropped r row) (sym after.1.1)
+            sym (dropped-set rows a row (slice_get_within rows a (Some (row_of can.0 can.1.0)) can.1.1)) ∙ ap (λ r. is_dropped r row) (sym after.1)
+        by_act act can true is after = or_false (is_dropped rows row) ∙ sym (dropped-push rows (row_of (made_kind act) after.1.0) row) ∙ ap (λ r. is_dropped r row) (sym after.1.1)
         by_act act can false is after = or_false (is_dropped rows row) ∙ ap (λ r. is_dropped r row) (sym after.1)
 
 module _ (start p p' : Plain) (commands : List Command) (rows new : Rows) (assigned text : List ℕ) (place i : ℕ) (said : List HistoryLine)
@@ -102,7 +102,7 @@ module _ (start p p' : Plain) (commands : List Command) (rows new : Rows) (assig
   entries = map (λ line. line.entry) said
 
   abbrev before : Table
-  before = table_after (opening (sizes_for (plain_view p).vars)) entries
+  before = table_after (opening (sizes_at p)) entries
 
   steps : IsAllowed before 0 (call_with act) answered.reply × Agrees (plain_view p') new (after before 0 (call_with act) answered.reply)
   steps = answered.step before stands.agrees
@@ -110,16 +110,19 @@ module _ (start p p' : Plain) (commands : List Command) (rows new : Rows) (assig
   entries-push : map (λ line. line.entry) (said ++ said_line ∷ []) ≡ entries ++ said_line.entry ∷ []
   entries-push = map-append (λ line. line.entry) said (said_line ∷ [])
 
-  legal-after : IsLegal (sizes_for (plain_view p').vars) (map (λ line. line.entry) (said ++ said_line ∷ []))
-  legal-after = subst (λ n. IsLegal (sizes_for n) (map (λ line. line.entry) (said ++ said_line ∷ []))) (sym answered.grown.vars)
-      (subst (λ (es : List Entry). IsLegal (sizes_for (plain_view p).vars) es) (sym entries-push)
-      (IsLegalFrom-push 0 (opening (sizes_for (plain_view p).vars)) entries said_line.entry stands.legal
+  same_sizes : sizes_at p' ≡ sizes_at p
+  same_sizes = ap₂ sizes_for answered.grown.vars answered.grown.elements
+
+  legal-after : IsLegal (sizes_at p') (map (λ line. line.entry) (said ++ said_line ∷ []))
+  legal-after = subst (λ (z : Sizes). IsLegal z (map (λ line. line.entry) (said ++ said_line ∷ []))) (sym same_sizes)
+      (subst (λ (es : List Entry). IsLegal (sizes_at p) es) (sym entries-push)
+      (IsLegalFrom-push 0 (opening (sizes_at p)) entries said_line.entry stands.legal
       (stands.number ∙ sym (length-map said (λ line. line.entry)) ∙ sym (zero-add (length entries))) steps.0))
 
-  agrees-after : Agrees (plain_view p') new (table_after (opening (sizes_for (plain_view p').vars)) (map (λ line. line.entry) (said ++ said_line ∷ [])))
-  agrees-after = subst (λ n. Agrees (plain_view p') new (table_after (opening (sizes_for n)) (map (λ line. line.entry) (said ++ said_line ∷ [])))) (sym answered.grown.vars)
+  agrees-after : Agrees (plain_view p') new (table_after (opening (sizes_at p')) (map (λ line. line.entry) (said ++ said_line ∷ [])))
+  agrees-after = subst (λ (z : Sizes). Agrees (plain_view p') new (table_after (opening z) (map (λ line. line.entry) (said ++ said_line ∷ [])))) (sym same_sizes)
       (subst (λ (t : Table). Agrees (plain_view p') new t)
-      (sym (ap (table_after (opening (sizes_for (plain_view p).vars))) entries-push ∙ table_after-push (opening (sizes_for (plain_view p).vars)) entries said_line.entry)) steps.1)
+      (sym (ap (table_after (opening (sizes_at p))) entries-push ∙ table_after-push (opening (sizes_at p)) entries said_line.entry)) steps.1)
 
   registers-after : (made : Bool) → RowsAfter made rows new act answered.reply → (made ≡ true → target_at commands i ≡ target_of words)
       → (map (λ register. register.word) (registers_of (said ++ said_line ∷ [])) ≡ map (target_at commands) (assigned_after made assigned i))
@@ -128,7 +131,7 @@ module _ (start p p' : Plain) (commands : List Command) (rows new : Rows) (assig
   registers-after true after word =
       let regs = registers-push said said_line (name_of (length rows)) after.0 in
       let held : Held = record { word = target_of words; name = name_of (length rows) } in
-      let more : length new ≡ length rows + 1 = ap length after.1.1 ∙ length_push rows (Some after.1.0) in (
+      let more : length new ≡ length rows + 1 = ap length after.1.1 ∙ length_push rows (Some (row_of (made_kind act) after.1.0)) in (
         ap (map (λ register. register.word)) regs ∙ map-append (λ register. register.word) (registers_of said) (held ∷ [])
             ∙ ap₂ (λ xs x. xs ++ x ∷ []) stands.words (sym (word refl)) ∙ sym (map-append (target_at commands) assigned (i ∷ [])),
         ap (map (λ register. register.name)) regs ∙ map-append (λ register. register.name) (registers_of said) (held ∷ [])

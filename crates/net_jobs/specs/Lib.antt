@@ -4,3 +4,4 @@ pub mod Codes
 pub mod Ends
 pub mod Playing
 pub mod Refusals
+pub mod Walking

@@ -6,12 +6,14 @@ use Rattle.function_laws.specs.declared.history.Call.TheVariants as calls
 use Rattle.function_laws.specs.declared.history.Reply.{Reply as LawReply}
 use Rattle.function_laws.specs.declared.history.Reply.TheVariants as laws
 use Rattle.function_laws.specs.declared.history.Name.{Name}
+use Rattle.function_laws.specs.Numbers.{is_value}
 use Rattle.function_laws.specs.Steps.{are_distinct}
-use Rattle.function_laws.specs.Tables.{opening}
+use Rattle.function_laws.specs.Tables.{Sizes, opening}
 use Rattle.function_laws.specs.Histories.{IsLegal, table_after}
 use Rattle.job_text.specs.declared.job.Act.{Act}
-use Rattle.job_text.specs.declared.job.Act.TheVariants.{One, Zero, Var, Not, And, Or, Xor, Ite, Cofactor, Exists, Forall, AndExists, Compose, VectorCompose, Restrict, Support, Drop, Same, Leq, Eval}
+use Rattle.job_text.specs.declared.job.Act.TheVariants.{One, Zero, Var, Not, And, Or, Xor, Ite, Cofactor, Exists, Forall, AndExists, Compose, VectorCompose, Restrict, Support, Constant, FromBdd, Plus, Minus, Times, Min, Max, Threshold, AddIte, SumOver, AtLeast, Pattern, Drop, Same, Leq, Eval}
 use Rattle.job_text.specs.declared.job.Command.{Command}
+use Rattle.job_text.specs.declared.job.Counts.{Counts}
 use Rattle.job_text.specs.declared.history_line.Reply.TheVariants as replies
 use Rattle.job_text.specs.declared.job.Job.{Job}
 use Rattle.job_text.specs.declared.job.Register.{Register}
@@ -21,36 +23,56 @@ use Rattle.job_text.specs.Histories.{Held, HistoryLine, IsHistory, SayInOrder, d
 use Rattle.net_jobs.specs.declared.playing.Answer.{Answer}
 use Rattle.net_jobs.specs.declared.playing.Progress.{Progress}
 use Rattle.edge_bits.specs.declared.edges.Edge.{Edge}
+use Rattle.edge_bits.specs.declared.edges.Kind.{Kind}
+use Rattle.edge_bits.specs.declared.edges.Kind.TheVariants as kinds
 use Rattle.node_slots.specs.Stores.{Plain, in_use, plain_view}
 use Rattle.node_slots.specs.Views.{View, Grown, Rose}
-use Rattle.net_jobs.specs.Agreement.{Agrees, AreStored, Has, IsStepOf, Rows, is_dropped, name_of, sizes_for}
+use Rattle.net_jobs.specs.Agreement.{Agrees, AreStored, Has, IsStepOf, Rows, is_dropped, name_of, row_of, sizes_for}
+use Rattle.net_jobs.specs.Walking.{IsOnVariables}
+
+-- the row was not dropped and has this kind
+abbrev pub IsHeldAs : Kind → Rows → ℕ → Type 0
+IsHeldAs k rows row = (e : Edge) × Has k rows row e
 
 -- the row was not dropped
 abbrev pub IsHeld : Rows → ℕ → Type 0
-IsHeld rows row = (e : Edge) × Has rows row e
+IsHeld rows row = (k : Kind) × IsHeldAs k rows row
 
--- the conditions of a command's call: its variables are some of n, its registers are rows that were not dropped, it has n bits
+-- the conditions of a command's call: its variables are some of n, its registers are rows of the kinds that are due and were
+-- not dropped, it has n bits
 abbrev pub CanCall : ℕ → Rows → Act → Type 0
 CanCall n rows One = Unit {0}
 CanCall n rows Zero = Unit {0}
 CanCall n rows (Var v) = v < n
-CanCall n rows (Not a) = IsHeld rows a
-CanCall n rows (And a b) = IsHeld rows a × IsHeld rows b
-CanCall n rows (Or a b) = IsHeld rows a × IsHeld rows b
-CanCall n rows (Xor a b) = IsHeld rows a × IsHeld rows b
-CanCall n rows (Ite a b c) = IsHeld rows a × IsHeld rows b × IsHeld rows c
-CanCall n rows (Cofactor a v b) = IsHeld rows a × (v < n)
-CanCall n rows (Exists a vs) = IsHeld rows a × All (λ v. v < n) vs
-CanCall n rows (Forall a vs) = IsHeld rows a × All (λ v. v < n) vs
-CanCall n rows (AndExists a b vs) = IsHeld rows a × IsHeld rows b × All (λ v. v < n) vs
-CanCall n rows (Compose a v b) = IsHeld rows a × IsHeld rows b × (v < n)
-CanCall n rows (VectorCompose a pairs) = IsHeld rows a × All (λ pair. (pair.0 < n) × IsHeld rows pair.1) pairs × (are_distinct (map (λ pair. pair.0) pairs) ≡ true)
-CanCall n rows (Restrict a b) = IsHeld rows a × IsHeld rows b
-CanCall n rows (Support a) = IsHeld rows a
+CanCall n rows (Not a) = IsHeldAs kinds.Bdd rows a
+CanCall n rows (And a b) = IsHeldAs kinds.Bdd rows a × IsHeldAs kinds.Bdd rows b
+CanCall n rows (Or a b) = IsHeldAs kinds.Bdd rows a × IsHeldAs kinds.Bdd rows b
+CanCall n rows (Xor a b) = IsHeldAs kinds.Bdd rows a × IsHeldAs kinds.Bdd rows b
+CanCall n rows (Ite a b c) = IsHeldAs kinds.Bdd rows a × IsHeldAs kinds.Bdd rows b × IsHeldAs kinds.Bdd rows c
+CanCall n rows (Cofactor a v b) = IsHeldAs kinds.Bdd rows a × (v < n)
+CanCall n rows (Exists a vs) = IsHeldAs kinds.Bdd rows a × All (λ v. v < n) vs
+CanCall n rows (Forall a vs) = IsHeldAs kinds.Bdd rows a × All (λ v. v < n) vs
+CanCall n rows (AndExists a b vs) = IsHeldAs kinds.Bdd rows a × IsHeldAs kinds.Bdd rows b × All (λ v. v < n) vs
+CanCall n rows (Compose a v b) = IsHeldAs kinds.Bdd rows a × IsHeldAs kinds.Bdd rows b × (v < n)
+CanCall n rows (VectorCompose a pairs) = IsHeldAs kinds.Bdd rows a × All (λ pair. (pair.0 < n) × IsHeldAs kinds.Bdd rows pair.1) pairs × (are_distinct (map (λ pair. pair.0) pairs) ≡ true)
+CanCall n rows (Restrict a b) = IsHeldAs kinds.Bdd rows a × IsHeldAs kinds.Bdd rows b
+CanCall n rows (Support a) = IsHeldAs kinds.Bdd rows a
+CanCall n rows (Constant z) = is_value z ≡ true
+CanCall n rows (FromBdd a) = IsHeldAs kinds.Bdd rows a
+CanCall n rows (Plus a b) = IsHeldAs kinds.Add rows a × IsHeldAs kinds.Add rows b
+CanCall n rows (Minus a b) = IsHeldAs kinds.Add rows a × IsHeldAs kinds.Add rows b
+CanCall n rows (Times a b) = IsHeldAs kinds.Add rows a × IsHeldAs kinds.Add rows b
+CanCall n rows (Min a b) = IsHeldAs kinds.Add rows a × IsHeldAs kinds.Add rows b
+CanCall n rows (Max a b) = IsHeldAs kinds.Add rows a × IsHeldAs kinds.Add rows b
+CanCall n rows (Threshold a b) = IsHeldAs kinds.Add rows a × IsHeldAs kinds.Add rows b
+CanCall n rows (AddIte a b c) = IsHeldAs kinds.Bdd rows a × IsHeldAs kinds.Add rows b × IsHeldAs kinds.Add rows c
+CanCall n rows (SumOver a v) = IsHeldAs kinds.Add rows a × (v < n)
+CanCall n rows (AtLeast a z) = IsHeldAs kinds.Add rows a × (is_value z ≡ true)
+CanCall n rows (Pattern a) = IsHeldAs kinds.Add rows a
 CanCall n rows (Drop a) = IsHeld rows a
-CanCall n rows (Same a b) = IsHeld rows a × IsHeld rows b
-CanCall n rows (Leq a b) = IsHeld rows a × IsHeld rows b
-CanCall n rows (Eval a bits) = IsHeld rows a × (length bits ≡ n)
+CanCall n rows (Same a b) = (k : Kind) × IsHeldAs k rows a × IsHeldAs k rows b
+CanCall n rows (Leq a b) = IsHeldAs kinds.Bdd rows a × IsHeldAs kinds.Bdd rows b
+CanCall n rows (Eval a bits) = ((k : Kind) × IsOnVariables k × IsHeldAs k rows a) × (length bits ≡ n)
 
 -- a variable with a register, and with the name of that row
 abbrev pub with_name : ℕ × ℕ → ℕ × Name
@@ -74,6 +96,18 @@ call_with (Compose a v b) = calls.Compose (name_of a) v (name_of b)
 call_with (VectorCompose a pairs) = calls.VectorCompose (name_of a) (map with_name pairs)
 call_with (Restrict a b) = calls.Restrict (name_of a) (name_of b)
 call_with (Support a) = calls.Support (name_of a)
+call_with (Constant z) = calls.Constant z
+call_with (FromBdd a) = calls.FromBdd (name_of a)
+call_with (Plus a b) = calls.Plus (name_of a) (name_of b)
+call_with (Minus a b) = calls.Minus (name_of a) (name_of b)
+call_with (Times a b) = calls.Times (name_of a) (name_of b)
+call_with (Min a b) = calls.Min (name_of a) (name_of b)
+call_with (Max a b) = calls.Max (name_of a) (name_of b)
+call_with (Threshold a b) = calls.Threshold (name_of a) (name_of b)
+call_with (AddIte a b c) = calls.AddIte (name_of a) (name_of b) (name_of c)
+call_with (SumOver a v) = calls.SumOver (name_of a) v
+call_with (AtLeast a z) = calls.AtLeast (name_of a) z
+call_with (Pattern a) = calls.Pattern (name_of a)
 call_with (Drop a) = calls.DropRow (name_of a)
 call_with (Same a b) = calls.Same (name_of a) (name_of b)
 call_with (Leq a b) = calls.Leq (name_of a) (name_of b)
@@ -87,6 +121,40 @@ makes (Leq a b) = false
 makes (Eval a bits) = false
 makes _ = true
 
+-- the command may come to a value out of range
+abbrev pub may_exceed : Act → Bool
+may_exceed (Plus a b) = true
+may_exceed (Minus a b) = true
+may_exceed (Times a b) = true
+may_exceed (SumOver a v) = true
+may_exceed _ = false
+
+-- the command is about functions of numbers
+abbrev pub is_about_numbers : Act → Bool
+is_about_numbers (Constant z) = true
+is_about_numbers (FromBdd a) = true
+is_about_numbers (Min a b) = true
+is_about_numbers (Max a b) = true
+is_about_numbers (Threshold a b) = true
+is_about_numbers (AddIte a b c) = true
+is_about_numbers (AtLeast a z) = true
+is_about_numbers (Pattern a) = true
+is_about_numbers act = may_exceed act
+
+-- the kind of the row that a command makes
+abbrev pub made_kind : Act → Kind
+made_kind (Constant z) = kinds.Add
+made_kind (FromBdd a) = kinds.Add
+made_kind (Plus a b) = kinds.Add
+made_kind (Minus a b) = kinds.Add
+made_kind (Times a b) = kinds.Add
+made_kind (Min a b) = kinds.Add
+made_kind (Max a b) = kinds.Add
+made_kind (Threshold a b) = kinds.Add
+made_kind (AddIte a b c) = kinds.Add
+made_kind (SumOver a v) = kinds.Add
+made_kind _ = kinds.Bdd
+
 -- the rows after a command that made none
 abbrev pub rows_left : Rows → Act → Rows
 rows_left rows (Drop a) = slice_set rows a None
@@ -94,12 +162,12 @@ rows_left rows _ = rows
 
 -- the reply gives the name of a new row at the end, or none
 abbrev pub RowsAfter : Bool → Rows → Rows → Act → LawReply → Type 0
-RowsAfter true old new act reply = (given_by reply ≡ Some (name_of (length old))) × ((e : Edge) × (new ≡ old ++ Some e ∷ []))
+RowsAfter true old new act reply = (given_by reply ≡ Some (name_of (length old))) × ((e : Edge) × (new ≡ old ++ Some (row_of (made_kind act) e) ∷ []))
 RowsAfter false old new act reply = (given_by reply ≡ None) × (new ≡ rows_left old act)
 
 -- one more row at the end, or what is left of them
 abbrev pub GrowsOrLeft : Bool → Rows → Rows → Act → Type 0
-GrowsOrLeft true old new act = (e : Edge) × (new ≡ old ++ Some e ∷ [])
+GrowsOrLeft true old new act = (e : Edge) × (new ≡ old ++ Some (row_of (made_kind act) e) ∷ [])
 GrowsOrLeft false old new act = new ≡ rows_left old act
 
 -- the rows after a command, where the session goes on
@@ -148,12 +216,23 @@ pub record PlaysOver (job : Job) (old new : Plain) (text : List ℕ) : Type 0 wh
   pub calls : CallsLead job.limit old lines new
   pub bytes : text ≡ flat_map text_of lines
 
+-- the numbers of a store, which no command changes
+abbrev pub sizes_at : Plain → Sizes
+sizes_at p = sizes_for (plain_view p).vars (plain_view p).elements
+
+-- the same, as the grammar counts them
+abbrev pub counts_with : Sizes → Counts
+counts_with sizes = record { vars = sizes.variables; elements = sizes.elements }
+
+abbrev pub counts_at : Plain → Counts
+counts_at p = counts_with (sizes_at p)
+
 -- These lines were said, and are a legal history. The rows are those of the table that it leaves, in the order in which
 -- they were made; `assigned` has for each of them the place of the command that made it; the text is that of the lines. Their
 -- calls led from the store at the start to this one.
 pub record Stands (start p : Plain) (commands : List Command) (rows : Rows) (assigned text : List ℕ) (place : ℕ) (said : List HistoryLine) : Type 0 where
-  pub legal : IsLegal (sizes_for (plain_view p).vars) (map (λ line. line.entry) said)
-  pub agrees : Agrees (plain_view p) rows (table_after (opening (sizes_for (plain_view p).vars)) (map (λ line. line.entry) said))
+  pub legal : IsLegal (sizes_at p) (map (λ line. line.entry) said)
+  pub agrees : Agrees (plain_view p) rows (table_after (opening (sizes_at p)) (map (λ line. line.entry) said))
   pub stored : AreStored (plain_view p) rows
   pub calls : CallsLead (length start.words) start said p
   pub as_many : length p.words ≡ length start.words
@@ -166,10 +245,11 @@ pub record Stands (start p : Plain) (commands : List Command) (rows : Rows) (ass
   pub written : text ≡ flat_map text_of said
   pub number : place ≡ length said
 
--- Each register of the grammar that was not dropped is a row that was not dropped.
+-- Each register of the grammar that was not dropped is a row of its kind that was not dropped, and no register is a family.
 pub record Covers (registers : List Register) (rows : Rows) : Type 0 where
   pub as_many : length registers ≡ length rows
-  pub held : (a : ℕ) (word : Word) → slice_get registers a ≡ Some (record { name = word; live = true }) → IsHeld rows a
+  pub held : (a : ℕ) (word : Word) (k : Kind) → slice_get registers a ≡ Some (record { name = word; live = true; kind = k }) → IsHeldAs k rows a
+  pub on_variables : (a : ℕ) (register : Register) → slice_get registers a ≡ Some register → IsOnVariables register.kind
 
 -- the commands were said in order, up to the first that stopped or to their end
 pub record SaysThrough (commands : List Command) (said : List HistoryLine) : Type 0 where

@@ -3,6 +3,7 @@
 
 mod gate;
 mod memory;
+mod numbers;
 mod operating;
 mod playing;
 mod reading;

@@ -1,17 +1,19 @@
 //! The commands of a job, one after another, and the text of their history.
 
-ghost use Rattle.std.specs.Prelude.{◌≡◌, ◌≢◌, ◌<◌, ◌≤◌, ◌^◌, ◌+◌, ◌++◌, [], length, string_bytes, vec_len, All, slice_get, IfOk, IfSome, IsErrOf, MatchResult, OnOk, true, false, Some, not, map, List as ListOf, ◌∷◌, codes, ℕ};
+ghost use Rattle.std.specs.Prelude.{◌≡◌, ◌≢◌, ◌<◌, ◌≤◌, ◌^◌, ◌+◌, ◌++◌, [], length, string_bytes, vec_len, All, slice_get, IfErr, IfOk, IfSome, IsErrOf, MatchResult, OnOk, true, false, Some, not, map, List as ListOf, ◌∷◌, codes, ℕ};
+ghost use Rattle.edge_bits.specs.declared.edges.Kind.TheVariants as kinds;
 ghost use Rattle.job_text.specs.declared.job.Act.TheVariants as acts;
 ghost use Rattle.job_text.specs.Grammar.{CommandsSay, IsJob, target_of};
 ghost use Rattle.job_text.specs.Histories.{HistoryLine, drop_of, left_of, line_text, stops, told_of};
 ghost use Rattle.function_laws.specs.declared.history.Reply.TheVariants as laws;
 ghost use Rattle.node_slots.specs.Stores.{IsOpening, Plain, plain_view};
 ghost use Rattle.node_slots.specs.Views.{Grown};
-ghost use Rattle.net_jobs.specs.Agreement.{Adds, AreStored, IsFilled, Refuses, is_dropped, name_of};
-ghost use Rattle.net_jobs.specs.Playing.{CanCall, DropsOne, DropsTheRest, IsAnswered, PlaysOver, RowsGoOn, SaysOne, SaysThrough, StandsAt, assigned_after, call_with, makes, target_at, with_name};
+ghost use Rattle.net_jobs.specs.Agreement.{Adds, AreStored, Exceeds, IsFilled, Refuses, is_dropped, name_of};
+ghost use Rattle.net_jobs.specs.Playing.{CanCall, DropsOne, DropsTheRest, IsAnswered, PlaysOver, RowsGoOn, SaysOne, SaysThrough, StandsAt, assigned_after, call_with, counts_at, is_about_numbers, made_kind, makes, may_exceed, sizes_at, target_at, with_name};
 
 use crate::gate::Gate;
 use crate::session::Session;
+use add_ops::Overflow;
 use edge_bits::{List, Memory};
 use function_laws::Name;
 use job_text::{Act, Command, Job, Reply, line};
@@ -63,6 +65,22 @@ fn answer_of(made: Result<Name, Stop>) -> Result<Answer, Memory>
     }
 }
 
+/// The same, of an operation whose values may be out of range.
+fn exact_answer_of(made: Result<Result<Name, Overflow>, Stop>) -> Result<Answer, Memory>
+    ensures ok { IfOk result (λ answer. MatchResult made
+        (λ told. MatchResult told (λ _. answer ≡ record { reply = Reply.Done; made = true }) (λ _. answer ≡ record { reply = Reply.Overflow; made = false }))
+        (λ stop. (stop ≡ Stop.Full) × (answer ≡ record { reply = Reply.Full; made = false }))) }
+{
+    match made {
+        Ok(Ok(name)) => answer_of(Ok(name)),
+        Ok(Err(Overflow)) => Ok(Answer {
+            reply: Reply::Overflow,
+            made: false,
+        }),
+        Err(stop) => answer_of(Err(stop)),
+    }
+}
+
 /// The pairs' variables with the names of their registers.
 fn named(alloc: Global, pairs: &[(u32, u32)]) -> Result<Vec<(u32, Name)>, Memory>
     ensures { IfOk result (λ names. names.items ≡ map with_name pairs.now) }
@@ -79,7 +97,7 @@ fn vector_compose(session: &mut Session, a: u32, pairs: &[(u32, u32)]) -> Result
     requires can { CanCall (plain_view session.old.store).vars session.old.rows.items (acts.VectorCompose a pairs.now) }
     requires stored { AreStored (plain_view session.old.store) session.old.rows.items }
     requires room { vec_len session.old.rows < 2 ^ 32 }
-    ensures ok { IfOk result (λ name. Adds (plain_view session.old.store) session.old.rows.items (plain_view session.new.store) session.new.rows.items (call_with (acts.VectorCompose a pairs.now)) name) }
+    ensures ok { IfOk result (λ name. Adds kinds.Bdd (plain_view session.old.store) session.old.rows.items (plain_view session.new.store) session.new.rows.items (call_with (acts.VectorCompose a pairs.now)) name) }
     ensures full { IsErrOf result Stop.Full → Refuses (plain_view session.old.store) session.old.rows.items (plain_view session.new.store) session.new.rows.items (call_with (acts.VectorCompose a pairs.now)) }
     ensures filled { IsErrOf result Stop.Full → IsFilled session.new.store }
     ensures grown { Grown (plain_view session.old.store) (plain_view session.new.store) }
@@ -90,13 +108,60 @@ fn vector_compose(session: &mut Session, a: u32, pairs: &[(u32, u32)]) -> Result
     }
 }
 
-/// Makes the call of a command that makes a row.
+/// Makes the call of a command that makes a function of numbers, or a BDD of one, and whose values are in range.
+fn operate_on_numbers(session: &mut Session, act: &Act) -> Result<Name, Stop>
+    requires can { CanCall (plain_view session.old.store).vars session.old.rows.items act.now }
+    requires numbers { is_about_numbers act.now ≡ true }
+    requires in_range { may_exceed act.now ≡ false }
+    requires stored { AreStored (plain_view session.old.store) session.old.rows.items }
+    requires room { vec_len session.old.rows < 2 ^ 32 }
+    ensures ok { IfOk result (λ name. Adds (made_kind act.now) (plain_view session.old.store) session.old.rows.items (plain_view session.new.store) session.new.rows.items (call_with act.now) name) }
+    ensures full { IsErrOf result Stop.Full → Refuses (plain_view session.old.store) session.old.rows.items (plain_view session.new.store) session.new.rows.items (call_with act.now) }
+    ensures filled { IsErrOf result Stop.Full → IsFilled session.new.store }
+    ensures grown { Grown (plain_view session.old.store) (plain_view session.new.store) }
+{
+    match act {
+        Act::Constant(value) => session.constant(*value),
+        Act::FromBdd(a) => session.from_bdd(register(*a)),
+        Act::Min(a, b) => session.min(register(*a), register(*b)),
+        Act::Max(a, b) => session.max(register(*a), register(*b)),
+        Act::Threshold(a, b) => session.threshold(register(*a), register(*b)),
+        Act::AddIte(a, b, c) => session.add_ite(register(*a), register(*b), register(*c)),
+        Act::AtLeast(a, value) => session.at_least(register(*a), *value),
+        Act::Pattern(a) => session.pattern(register(*a)),
+        _ => unreachable!(),
+    }
+}
+
+/// Makes the call of a command that makes a function of numbers whose values may be out of range.
+fn operate_exactly(session: &mut Session, act: &Act) -> Result<Result<Name, Overflow>, Stop>
+    requires can { CanCall (plain_view session.old.store).vars session.old.rows.items act.now }
+    requires exact { may_exceed act.now ≡ true }
+    requires stored { AreStored (plain_view session.old.store) session.old.rows.items }
+    requires room { vec_len session.old.rows < 2 ^ 32 }
+    ensures ok { IfOk result (λ told. IfOk told (λ name. Adds (made_kind act.now) (plain_view session.old.store) session.old.rows.items (plain_view session.new.store) session.new.rows.items (call_with act.now) name)) }
+    ensures overflow { IfOk result (λ told. IfErr told (λ _. Exceeds (plain_view session.old.store) session.old.rows.items (plain_view session.new.store) session.new.rows.items (call_with act.now))) }
+    ensures full { IsErrOf result Stop.Full → Refuses (plain_view session.old.store) session.old.rows.items (plain_view session.new.store) session.new.rows.items (call_with act.now) }
+    ensures filled { IsErrOf result Stop.Full → IsFilled session.new.store }
+    ensures grown { Grown (plain_view session.old.store) (plain_view session.new.store) }
+{
+    match act {
+        Act::Plus(a, b) => session.plus(register(*a), register(*b)),
+        Act::Minus(a, b) => session.minus(register(*a), register(*b)),
+        Act::Times(a, b) => session.times(register(*a), register(*b)),
+        Act::SumOver(a, v) => session.sum_over(register(*a), *v),
+        _ => unreachable!(),
+    }
+}
+
+/// Makes the call of a command that makes a BDD of BDDs.
 fn operate(session: &mut Session, act: &Act) -> Result<Name, Stop>
     requires can { CanCall (plain_view session.old.store).vars session.old.rows.items act.now }
     requires makes { makes act.now ≡ true }
+    requires truths { is_about_numbers act.now ≡ false }
     requires stored { AreStored (plain_view session.old.store) session.old.rows.items }
     requires room { vec_len session.old.rows < 2 ^ 32 }
-    ensures ok { IfOk result (λ name. Adds (plain_view session.old.store) session.old.rows.items (plain_view session.new.store) session.new.rows.items (call_with act.now) name) }
+    ensures ok { IfOk result (λ name. Adds (made_kind act.now) (plain_view session.old.store) session.old.rows.items (plain_view session.new.store) session.new.rows.items (call_with act.now) name) }
     ensures full { IsErrOf result Stop.Full → Refuses (plain_view session.old.store) session.old.rows.items (plain_view session.new.store) session.new.rows.items (call_with act.now) }
     ensures filled { IsErrOf result Stop.Full → IsFilled session.new.store }
     ensures grown { Grown (plain_view session.old.store) (plain_view session.new.store) }
@@ -120,7 +185,7 @@ fn operate(session: &mut Session, act: &Act) -> Result<Name, Stop>
         Act::VectorCompose(a, pairs) => vector_compose(session, *a, pairs.as_slice()),
         Act::Restrict(a, b) => session.restrict(register(*a), register(*b)),
         Act::Support(a) => session.support(register(*a)),
-        Act::Drop(_) | Act::Same(_, _) | Act::Leq(_, _) | Act::Eval(_, _) => unreachable!(),
+        _ => unreachable!(),
     }
 }
 
@@ -148,6 +213,17 @@ fn perform(session: &mut Session, act: &Act) -> Result<Answer, Memory>
         Act::Same(a, b) => yes_or_no(session.same(register(*a), register(*b))),
         Act::Leq(a, b) => yes_or_no(session.leq(register(*a), register(*b))?),
         Act::Eval(a, bits) => Reply::Number(session.eval(register(*a), bits.as_slice())),
+        Act::Plus(_, _) | Act::Minus(_, _) | Act::Times(_, _) | Act::SumOver(_, _) => {
+            return exact_answer_of(operate_exactly(session, act));
+        }
+        Act::Constant(_)
+        | Act::FromBdd(_)
+        | Act::Min(_, _)
+        | Act::Max(_, _)
+        | Act::Threshold(_, _)
+        | Act::AddIte(_, _, _)
+        | Act::AtLeast(_, _)
+        | Act::Pattern(_) => return answer_of(operate_on_numbers(session, act)),
         _ => return answer_of(operate(session, act)),
     };
     Ok(Answer { reply, made: false })
@@ -163,7 +239,7 @@ fn speak(alloc: Global, play: &mut Progress, command: &Command) -> Result<Answer
     ensures filled { IfOk result (λ answer. answer.reply ≡ Reply.Full → IsFilled play.new.session.store) }
     ensures text { IfOk result (λ answer. play.new.text.items ≡ play.old.text.items ++ line_text play.old.place 0 command.now.words answer.reply) }
     ensures place { OnOk result (play.new.place ≡ play.old.place + 1) }
-    ensures vars { OnOk result ((plain_view play.new.session.store).vars ≡ (plain_view play.old.session.store).vars) }
+    ensures sizes { OnOk result (sizes_at play.new.session.store ≡ sizes_at play.old.session.store) }
     ensures assigned { OnOk result (play.new.assigned.items ≡ play.old.assigned.items) }
 {
     let answer = perform(&mut play.session, &command.act)?;
@@ -201,7 +277,7 @@ fn say(alloc: Global, play: &mut Progress, commands: &[Command], i: usize) -> Re
         → IfSome (slice_get commands.now i) (λ command. SaysOne start commands.now command goes_on play.old play.new said)) }
     ensures rows { IfOk result (λ goes_on. IfSome (slice_get commands.now i) (λ command. RowsGoOn goes_on play.old.session.rows.items play.new.session.rows.items command.act)) }
     ensures few { OnOk result (vec_len play.new.session.rows ≤ vec_len play.old.session.rows + 1) }
-    ensures vars { OnOk result ((plain_view play.new.session.store).vars ≡ (plain_view play.old.session.store).vars) }
+    ensures sizes { OnOk result (sizes_at play.new.session.store ≡ sizes_at play.old.session.store) }
     ensures place { OnOk result (play.new.place ≡ play.old.place + 1) }
 {
     let answer = speak(alloc, play, &commands[i])?;
@@ -217,13 +293,12 @@ fn say_all<G: Gate>(
     gate: &G,
 ) -> Result<(), Memory>
     requires few { length commands.now < 2 ^ 32 }
-    requires say { CommandsSay (plain_view play.old.session.store).vars [] commands.now }
+    requires say { CommandsSay (counts_at play.old.session.store) [] commands.now }
     requires rows { play.old.session.rows.items ≡ [] }
     requires start { StandsAt play.old.session.store commands.now play.old [] }
     ensures said { OnOk result ((said : ListOf HistoryLine) × StandsAt play.old.session.store commands.now play.new said × SaysThrough commands.now said) }
     ensures place { OnOk result (play.new.place ≤ length commands.now) }
     ensures rows { OnOk result (vec_len play.new.session.rows ≤ length commands.now) }
-    ensures vars { OnOk result ((plain_view play.new.session.store).vars ≡ (plain_view play.old.session.store).vars) }
 {
     for i in 0..commands.len() {
         gate.pass(0, i as u32);
@@ -278,7 +353,6 @@ fn drop_at(
     ensures others { OnOk result ((other : ℕ) → other ≢ row → is_dropped play.new.session.rows.items other ≡ is_dropped play.old.session.rows.items other) }
     ensures assigned { OnOk result (play.new.assigned.items ≡ play.old.assigned.items) }
     ensures rows { OnOk result (vec_len play.new.session.rows ≡ vec_len play.old.session.rows) }
-    ensures vars { OnOk result ((plain_view play.new.session.store).vars ≡ (plain_view play.old.session.store).vars) }
     ensures place { OnOk result (play.new.place ≤ play.old.place + 1) }
 {
     if !play.session.is_live(row) {
@@ -297,7 +371,6 @@ fn drop_all(alloc: Global, play: &mut Progress, commands: &[Command]) -> Result<
     requires room { vec_len play.old.session.rows < 2 ^ 32 }
     requires place { play.old.place < 2 ^ 32 }
     ensures said { OnOk result ((start : Plain) (said : ListOf HistoryLine) → StandsAt start commands.now play.old said → DropsTheRest start commands.now play.new said) }
-    ensures vars { OnOk result ((plain_view play.new.session.store).vars ≡ (plain_view play.old.session.store).vars) }
 {
     for row in 0..play.assigned.len() {
         drop_at(alloc, play, commands, row)?;

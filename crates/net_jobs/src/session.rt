@@ -1,30 +1,41 @@
 //! A session whose rows are edges of a store: its rows, the calls that make a row of no other, and those that make none.
 
-ghost use Rattle.std.specs.Prelude.{◌≡◌, ◌<◌, ◌≤◌, ◌^◌, ◌+◌, ◌++◌, ◌∷◌, [], not, length, vec_len, IfOk, IsErrOf, OnErr, Some, None, slice_set, ◌↔◌, IsTrue};
+ghost use Rattle.std.specs.Prelude.{◌≡◌, ◌<◌, ◌^◌, not, length, vec_len, IfErr, IfOk, IsErrOf, OnErr, None, slice_set};
+ghost use Rattle.edge_bits.specs.declared.edges.Edge.{Edge as EdgeOf};
+ghost use Rattle.edge_bits.specs.declared.edges.Kind.{Kind as KindOf};
 ghost use Rattle.edge_bits.specs.declared.edges.Kind.TheVariants as kinds;
 ghost use Rattle.function_laws.specs.declared.history.Call.TheVariants as calls;
 ghost use Rattle.function_laws.specs.declared.history.Reply.TheVariants as replies;
 ghost use Rattle.node_slots.specs.Stores.{plain_view};
-ghost use Rattle.node_slots.specs.Views.{Grown, Is, Permanent};
-ghost use Rattle.net_jobs.specs.Agreement.{Adds, AreStored, Has, IsDue, IsFilled, IsKept, IsLive, IsStepOf, Refuses, is_dropped, name_of};
+ghost use Rattle.node_slots.specs.Views.{Grown, Is};
+ghost use Rattle.net_jobs.specs.Agreement.{Adds, AreAlike, AreStored, Has, IsDue, IsFilled, IsKept, IsLive, IsLiveOf, IsStepOf, is_dropped};
+ghost use Rattle.net_jobs.specs.Walking.{IsOnVariables};
 
 use crate::walking::value_at;
+use add_ops::Overflow;
 use edge_bits::{Edge, Kind, Memory};
 use function_laws::Name;
 use node_slots::{Grow, PlainStore, Stop};
 use std::alloc::Global;
 
-/// The edges of a session by the number of their row, and none where a row was dropped.
+/// A row of a session: an edge, and the kind of what it denotes.
+#[derive(Clone, Copy)]
+pub struct Row {
+    pub kind: Kind,
+    pub edge: Edge,
+}
+
+/// The rows of a session by their number, and none where a row was dropped.
 #[derive(Drop)]
 pub struct Session {
     pub store: PlainStore,
-    pub rows: Vec<Option<Edge>>,
+    pub rows: Vec<Option<Row>>,
 }
 
-/// A new row of the edge that was made, if it was made. An error changes nothing.
-pub fn keep(rows: &mut Vec<Option<Edge>>, made: Result<Edge, Stop>) -> Result<Name, Stop>
+/// A new row of this kind and of the edge that was made, if it was made. An error changes nothing.
+pub fn keep(rows: &mut Vec<Option<Row>>, kind: Kind, made: Result<Edge, Stop>) -> Result<Name, Stop>
     requires room { vec_len rows.old < 2 ^ 32 }
-    ensures ok { IfOk result (λ name. IsKept made rows.old.items rows.new.items name) }
+    ensures ok { IfOk result (λ name. (e : EdgeOf) × (made ≡ Ok e) × IsKept kind e rows.old.items rows.new.items name) }
     ensures full { IsErrOf result Stop.Full → IsErrOf made Stop.Full }
     ensures err { OnErr result (rows.new.items ≡ rows.old.items) }
 {
@@ -33,7 +44,7 @@ pub fn keep(rows: &mut Vec<Option<Edge>>, made: Result<Edge, Stop>) -> Result<Na
         Err(stop) => return Err(stop),
     };
     let row = rows.len() as u32;
-    match rows.push(Some(edge)) {
+    match rows.push(Some(Row { kind, edge })) {
         Ok(()) => Ok(Name {
             row,
             generation: u64::from(row),
@@ -42,15 +53,16 @@ pub fn keep(rows: &mut Vec<Option<Edge>>, made: Result<Edge, Stop>) -> Result<Na
     }
 }
 
-/// A new row of the edge that was made, if it was made. Where a node was refused, each slot is in use.
+/// A new row of this kind and of the edge that was made, if it was made. Where a node was refused, each slot is in use.
 pub fn settle(
     store: &PlainStore,
-    rows: &mut Vec<Option<Edge>>,
+    rows: &mut Vec<Option<Row>>,
+    kind: Kind,
     made: Result<Edge, Stop>,
 ) -> Result<Name, Stop>
     requires room { vec_len rows.old < 2 ^ 32 }
     requires due { IsErrOf made Stop.Full → IsDue (plain_view store.now) }
-    ensures ok { IfOk result (λ name. IsKept made rows.old.items rows.new.items name) }
+    ensures ok { IfOk result (λ name. (e : EdgeOf) × (made ≡ Ok e) × IsKept kind e rows.old.items rows.new.items name) }
     ensures full { IsErrOf result Stop.Full → IsErrOf made Stop.Full }
     ensures filled { IsErrOf result Stop.Full → IsFilled store.now }
     ensures err { OnErr result (rows.new.items ≡ rows.old.items) }
@@ -58,7 +70,32 @@ pub fn settle(
     if made.is_err() {
         let _in_use = store.in_use();
     }
-    keep(rows, made)
+    keep(rows, kind, made)
+}
+
+/// The same, of a function of numbers whose values may be out of range.
+pub fn settle_exact(
+    store: &PlainStore,
+    rows: &mut Vec<Option<Row>>,
+    made: Result<Result<Edge, Overflow>, Stop>,
+) -> Result<Result<Name, Overflow>, Stop>
+    requires room { vec_len rows.old < 2 ^ 32 }
+    requires due { IsErrOf made Stop.Full → IsDue (plain_view store.now) }
+    ensures ok { IfOk result (λ told. IfOk told (λ name. (e : EdgeOf) × (made ≡ Ok (Ok e)) × IsKept kinds.Add e rows.old.items rows.new.items name)) }
+    ensures overflow { IfOk result (λ told. IfErr told (λ overflow. (made ≡ Ok (Err overflow)) × (rows.new.items ≡ rows.old.items))) }
+    ensures full { IsErrOf result Stop.Full → IsErrOf made Stop.Full }
+    ensures filled { IsErrOf result Stop.Full → IsFilled store.now }
+    ensures err { OnErr result (rows.new.items ≡ rows.old.items) }
+{
+    let reached = match made {
+        Ok(Err(overflow)) => return Ok(Err(overflow)),
+        Ok(Ok(edge)) => Ok(edge),
+        Err(stop) => Err(stop),
+    };
+    match settle(store, rows, Kind::Add, reached) {
+        Ok(name) => Ok(Ok(name)),
+        Err(stop) => Err(stop),
+    }
 }
 
 impl Session {
@@ -73,36 +110,56 @@ impl Session {
     /// The edge of a row that was not dropped.
     pub fn edge(&self, name: Name) -> Edge
         requires { IsLive self.now.rows.items name }
-        ensures { Has self.now.rows.items name.row result }
+        ensures { (k : KindOf) → IsLiveOf k self.now.rows.items name → Has k self.now.rows.items name.row result }
     {
         match self.rows[name.row as usize] {
-            Some(edge) => edge,
+            Some(row) => row.edge,
             None => unreachable!(),
         }
+    }
+
+    /// The edge of a row that is a BDD.
+    pub fn edge_of_bdd(&self, name: Name) -> Edge
+        requires stored { AreStored (plain_view self.now.store) self.now.rows.items }
+        requires row { IsLiveOf kinds.Bdd self.now.rows.items name }
+        ensures has { Has kinds.Bdd self.now.rows.items name.row result }
+        ensures denotes { Is kinds.Bdd (plain_view self.now.store) result }
+    {
+        self.edge(name)
+    }
+
+    /// The edge of a row that is an ADD.
+    pub fn edge_of_add(&self, name: Name) -> Edge
+        requires stored { AreStored (plain_view self.now.store) self.now.rows.items }
+        requires row { IsLiveOf kinds.Add self.now.rows.items name }
+        ensures has { Has kinds.Add self.now.rows.items name.row result }
+        ensures denotes { Is kinds.Add (plain_view self.now.store) result }
+    {
+        self.edge(name)
     }
 
     /// Logic one, as a new row.
     pub fn one(&mut self) -> Result<Name, Stop>
         requires stored { AreStored (plain_view self.old.store) self.old.rows.items }
         requires room { vec_len self.old.rows < 2 ^ 32 }
-        ensures ok { IfOk result (λ name. Adds (plain_view self.old.store) self.old.rows.items (plain_view self.new.store) self.new.rows.items calls.One name) }
+        ensures ok { IfOk result (λ name. Adds kinds.Bdd (plain_view self.old.store) self.old.rows.items (plain_view self.new.store) self.new.rows.items calls.One name) }
         ensures full { IsErrOf result Stop.Full → ⊥ }
         ensures grown { Grown (plain_view self.old.store) (plain_view self.new.store) }
     {
         let _levels = self.store.levels(Kind::Bdd);
-        keep(&mut self.rows, Ok(Edge::new(0, false)))
+        keep(&mut self.rows, Kind::Bdd, Ok(Edge::new(0, false)))
     }
 
     /// Logic zero, as a new row.
     pub fn zero(&mut self) -> Result<Name, Stop>
         requires stored { AreStored (plain_view self.old.store) self.old.rows.items }
         requires room { vec_len self.old.rows < 2 ^ 32 }
-        ensures ok { IfOk result (λ name. Adds (plain_view self.old.store) self.old.rows.items (plain_view self.new.store) self.new.rows.items calls.Zero name) }
+        ensures ok { IfOk result (λ name. Adds kinds.Bdd (plain_view self.old.store) self.old.rows.items (plain_view self.new.store) self.new.rows.items calls.Zero name) }
         ensures full { IsErrOf result Stop.Full → ⊥ }
         ensures grown { Grown (plain_view self.old.store) (plain_view self.new.store) }
     {
         let _levels = self.store.levels(Kind::Bdd);
-        keep(&mut self.rows, Ok(Edge::new(0, true)))
+        keep(&mut self.rows, Kind::Bdd, Ok(Edge::new(0, true)))
     }
 
     /// The projection of a variable, as a new row.
@@ -110,20 +167,19 @@ impl Session {
         requires variable { v < (plain_view self.old.store).vars }
         requires stored { AreStored (plain_view self.old.store) self.old.rows.items }
         requires room { vec_len self.old.rows < 2 ^ 32 }
-        ensures ok { IfOk result (λ name. Adds (plain_view self.old.store) self.old.rows.items (plain_view self.new.store) self.new.rows.items (calls.Var v) name) }
+        ensures ok { IfOk result (λ name. Adds kinds.Bdd (plain_view self.old.store) self.old.rows.items (plain_view self.new.store) self.new.rows.items (calls.Var v) name) }
         ensures full { IsErrOf result Stop.Full → ⊥ }
         ensures grown { Grown (plain_view self.old.store) (plain_view self.new.store) }
     {
         let _few = self.store.vars();
         let _levels = self.store.levels(Kind::Bdd);
-        keep(&mut self.rows, Ok(Edge::new(5 + v, false)))
+        keep(&mut self.rows, Kind::Bdd, Ok(Edge::new(5 + v, false)))
     }
 
-    /// Whether two rows have one function.
+    /// Whether two rows of one kind have one function.
     pub fn same(&self, f: Name, g: Name) -> bool
         requires stored { AreStored (plain_view self.now.store) self.now.rows.items }
-        requires first { IsLive self.now.rows.items f }
-        requires second { IsLive self.now.rows.items g }
+        requires rows { AreAlike self.now.rows.items f g }
         ensures { IsStepOf (plain_view self.now.store) self.now.rows.items (plain_view self.now.store) self.now.rows.items (calls.Same f g) (replies.Truth result) }
     {
         let first = self.edge(f);
@@ -134,32 +190,28 @@ impl Session {
     /// Whether the second row holds wherever the first does.
     pub fn leq(&mut self, f: Name, g: Name) -> Result<bool, Memory>
         requires stored { AreStored (plain_view self.old.store) self.old.rows.items }
-        requires first { IsLive self.old.rows.items f }
-        requires second { IsLive self.old.rows.items g }
+        requires first { IsLiveOf kinds.Bdd self.old.rows.items f }
+        requires second { IsLiveOf kinds.Bdd self.old.rows.items g }
         ensures step { IfOk result (λ told. IsStepOf (plain_view self.old.store) self.old.rows.items (plain_view self.new.store) self.old.rows.items (calls.Leq f g) (replies.Truth told)) }
         ensures rows { self.new.rows.items ≡ self.old.rows.items }
         ensures grown { Grown (plain_view self.old.store) (plain_view self.new.store) }
     {
-        let first = self.edge(f);
-        let second = self.edge(g);
+        let first = self.edge_of_bdd(f);
+        let second = self.edge_of_bdd(g);
         ite_core::leq(&mut self.store, first, second)
     }
 
-    /// The value of a row where bit i is the value of variable i: 0 or 1.
+    /// The value of a row where bit i is the value of variable i: of a BDD 0 or 1, of an ADD its number.
     pub fn eval(&mut self, f: Name, bits: &[bool]) -> i64
         requires stored { AreStored (plain_view self.old.store) self.old.rows.items }
-        requires row { IsLive self.old.rows.items f }
+        requires row { (k : KindOf) × IsOnVariables k × IsLiveOf k self.old.rows.items f }
         requires bits { length bits.now ≡ (plain_view self.old.store).vars }
         ensures step { IsStepOf (plain_view self.old.store) self.old.rows.items (plain_view self.new.store) self.old.rows.items (calls.Eval f bits.now) (replies.Value result) }
         ensures rows { self.new.rows.items ≡ self.old.rows.items }
         ensures grown { Grown (plain_view self.old.store) (plain_view self.new.store) }
     {
         let edge = self.edge(f);
-        if value_at(&mut self.store, edge, bits) {
-            1
-        } else {
-            0
-        }
+        value_at(&mut self.store, edge, bits)
     }
 
     /// Lets a row go.

@@ -50,6 +50,7 @@ fn faulty_jobs(rt: HostRuntime) -> Result<(), Fail> {
         ("vars 1\nsession\nlimit 6", "3 word"),
         ("limit 6\nvars 1\nsession", "1 word"),
         ("vars 1\nsession\nb = num -0", "3 word"),
+        ("vars 1\nsession\na = num 1\nb = not a", "4 kind"),
         ("vars 1\nsession\na = true\neval a 11", "4 range"),
         ("vars 1\nsession\na = true\neval a 2", "4 word"),
         ("vars 0\nsession\na = true\neval a 0", "4 range"),

@@ -8,6 +8,8 @@ mod families;
 #[cfg(test)]
 mod faults;
 #[cfg(test)]
+mod number_jobs;
+#[cfg(test)]
 mod numbers;
 #[cfg(test)]
 mod outside;

@@ -1,17 +1,25 @@
-use Rattle.std.proofs.Common.{sym, ap, ◌∙◌}
-use Rattle.std.specs.Str.{bytes_eq}
-use Rattle.std.proofs.lemmas.Slice.Eq.{bytes_eq-Decides}
-use Rattle.job_text.proofs.RegisterLists.{found_at, live_at}
+use Rattle.std.proofs.Common.{subst, sym, ℕ}
+use Rattle.job_text.specs.Grammar.{Refers}
+use Rattle.job_text.proofs.RegisterLists.{none_called, one_called, dropped_fault, live_well, refers}
 use Rattle.job_text.proofs.registers.find_register.Goals as goal
 
-pub returns-then-eq-clause-found : goal.returns-then-eq-clause-found
-returns-then-eq-clause-found c = (
-  c.requires.name,
-  found_at c.args.registers.now c.loop-i.i c.index-registers-i.result c.args.word.now c.loop-i-test.true c.index-registers-i.is c.if-register.true
-      (sym c.as_slice.ensures ∙ (bytes_eq-Decides c.as_slice.result.now c.args.word.now).0 (sym c.eq.ensures ∙ c.if-eq.true)),
-)
+pub returns-in_default-clause-fault : goal.returns-in_default-clause-fault
+returns-in_default-clause-fault c = none_called c.args.registers.now c.args.word.now c.place_of-place.result c.place_of-place.ensures c.in_default.ensures.lookup.0
 
-pub returns-then-eq-clause-some : goal.returns-then-eq-clause-some
-returns-then-eq-clause-some c =
-    live_at c.args.registers.now c.loop-i.i c.index-registers-i.result c.args.word.now c.loop-i-test.true c.index-registers-i.is c.if-register.true
-    (ap (λ t. bytes_eq t c.args.word.now) (sym c.as_slice.ensures) ∙ sym c.eq.ensures ∙ c.if-eq.true)
+pub returns-then-not-register-clause-fault : goal.returns-then-not-register-clause-fault
+returns-then-not-register-clause-fault c =
+    dropped_fault c.args.registers.now c.args.word.now c.in-Some.register.now
+    (one_called c.args.registers.now c.args.word.now c.place_of-place.result c.in-Some.register.now c.place_of-place.ensures c.in-Some.ensures.lookup.0 c.in-Some.ensures.lookup.1) c.if-not-register.true
+
+pub returns-clause-found : goal.returns-clause-found
+returns-clause-found c =
+    let rs = c.args.registers.now in
+    let w = c.args.word.now in
+    let r = c.in-Some.register.now in
+    subst (λ (i : ℕ). Refers rs w i r.kind) (sym c.place_of-place.ensures)
+    (refers rs w r c.requires.name (one_called rs w c.place_of-place.result r c.place_of-place.ensures c.in-Some.ensures.lookup.0 c.in-Some.ensures.lookup.1) c.if-not-register.false)
+
+pub returns-clause-fault : goal.returns-clause-fault
+returns-clause-fault c =
+    live_well c.args.registers.now c.args.word.now c.in-Some.register.now
+    (one_called c.args.registers.now c.args.word.now c.place_of-place.result c.in-Some.register.now c.place_of-place.ensures c.in-Some.ensures.lookup.0 c.in-Some.ensures.lookup.1) c.if-not-register.false

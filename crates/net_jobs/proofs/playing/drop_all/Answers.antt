@@ -15,11 +15,11 @@ loop-row-preserved c =
     let same : length new.session.rows.items ≡ length old.session.rows.items =
     omega (arith, new.session.rows.ok.0, old.session.rows.ok.0, c.in_ok-drop_at.ensures.rows) in
     next_drop c.args.commands.now start old new c.loop-row.row c.loop-row.invariant below c.in_ok-drop_at.ensures.said c.in_ok-drop_at.ensures.others
-    c.in_ok-drop_at.ensures.assigned same c.in_ok-drop_at.ensures.vars c.in_ok-drop_at.ensures.stored c.in_ok-drop_at.ensures.place
+    c.in_ok-drop_at.ensures.assigned same c.in_ok-drop_at.ensures.stored c.in_ok-drop_at.ensures.place
 
-pub returns-clause-said : goal.returns-clause-said
-returns-clause-said c =
+pub returns : goal.returns
+returns c =
     let start = c.args.play.now in
     let end : c.loop-row.row ≡ length start.assigned.items =
     omega (arith, start.assigned.ok.0, c.len-row-end.ensures, c.loop-row-test.false, c.loop-row.auto.row-end) in
-    last_drop c.args.commands.now start c.loop-row.play c.loop-row.row c.loop-row.invariant end
+    record { said = last_drop c.args.commands.now start c.loop-row.play c.loop-row.row c.loop-row.invariant end }

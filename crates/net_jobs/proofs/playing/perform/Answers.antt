@@ -1,4 +1,4 @@
-use Rattle.std.proofs.Common.{◌∙◌, sym, ap, ap₂, refl, rules, SFits, w64, subst, false, None}
+use Rattle.std.proofs.Common.{◌≡◌, true, ◌∙◌, sym, ap, ap₂, refl, rules, SFits, w64, subst, false, None}
 use Rattle.std.proofs.Math.ListN.{set}
 use Rattle.std.proofs.lemmas.Int.{to_z-of_z}
 use Rattle.function_laws.specs.declared.history.Call.TheVariants as calls
@@ -7,9 +7,9 @@ use Rattle.job_text.specs.declared.history_line.Reply.TheVariants as reply
 use Rattle.node_slots.specs.Stores.{plain_view}
 use Rattle.node_store.specs.ViewLaws.{Grown-refl}
 use Rattle.net_jobs.specs.Agreement.{AreStored, IsFilled, Rows}
-use Rattle.net_jobs.specs.Playing.{IsAnswered, call_with, makes, rows_left}
-use Rattle.net_jobs.proofs.PlayLemmas.{answered-operated, answered-other, filled-operated, makes_default, stored-set}
-use Rattle.net_jobs.proofs.SessionLemmas.{stored-grown}
+use Rattle.net_jobs.specs.Playing.{IsAnswered, call_with, is_about_numbers, makes, may_exceed, rows_left}
+use Rattle.net_jobs.proofs.PlayLemmas.{answered-exact, answered-operated, answered-other, filled-exact, filled-operated, makes_default, numbers_make, stored-set}
+use Rattle.net_jobs.proofs.AgreementLemmas.{stored-grown}
 use Rattle.net_jobs.proofs.playing.perform.Goals as goal
 
 pub returns-in_default-clause-ok : goal.returns-in_default-clause-ok
@@ -17,6 +17,26 @@ returns-in_default-clause-ok c =
     let old = c.args.session.now in
     answered-operated (plain_view old.store) (plain_view c.operate.new.session.store) old.rows.items c.operate.new.session.rows.items c.args.act.now c.operate.result c.answer_of.result
     (makes_default c.args.act.now c.in_default.not-Drop c.in_default.not-Same c.in_default.not-Leq c.in_default.not-Eval) c.operate.ensures.grown c.requires.stored c.operate.ensures.ok c.operate.ensures.full c.answer_of.ensures.ok
+
+pub returns-in-Plus-clause-ok : goal.returns-in-Plus-clause-ok
+returns-in-Plus-clause-ok c =
+    let old = c.args.session.now in
+    let exact : may_exceed c.args.act.now ≡ true = search rules in
+    answered-exact (plain_view old.store) (plain_view c.operate_exactly.new.session.store) old.rows.items c.operate_exactly.new.session.rows.items c.args.act.now c.operate_exactly.result c.exact_answer_of.result
+    exact c.operate_exactly.ensures.grown c.requires.stored c.operate_exactly.ensures.ok c.operate_exactly.ensures.overflow c.operate_exactly.ensures.full c.exact_answer_of.ensures.ok
+
+pub returns-in-Plus-clause-filled : goal.returns-in-Plus-clause-filled
+returns-in-Plus-clause-filled c = filled-exact (IsFilled c.operate_exactly.new.session.store) c.operate_exactly.result c.exact_answer_of.result c.operate_exactly.ensures.filled c.exact_answer_of.ensures.ok
+
+pub returns-in-Constant-clause-ok : goal.returns-in-Constant-clause-ok
+returns-in-Constant-clause-ok c =
+    let old = c.args.session.now in
+    let numbers : is_about_numbers c.args.act.now ≡ true = search rules in
+    answered-operated (plain_view old.store) (plain_view c.operate_on_numbers.new.session.store) old.rows.items c.operate_on_numbers.new.session.rows.items c.args.act.now c.operate_on_numbers.result c.answer_of-in-Constant.result
+    (numbers_make c.args.act.now numbers) c.operate_on_numbers.ensures.grown c.requires.stored c.operate_on_numbers.ensures.ok c.operate_on_numbers.ensures.full c.answer_of-in-Constant.ensures.ok
+
+pub returns-in-Constant-clause-filled : goal.returns-in-Constant-clause-filled
+returns-in-Constant-clause-filled c = filled-operated (IsFilled c.operate_on_numbers.new.session.store) c.operate_on_numbers.result c.answer_of-in-Constant.result c.operate_on_numbers.ensures.filled c.answer_of-in-Constant.ensures.ok
 
 pub returns-in-Drop-clause-ok : goal.returns-in-Drop-clause-ok
 returns-in-Drop-clause-ok c =

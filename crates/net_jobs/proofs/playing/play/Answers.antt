@@ -1,7 +1,7 @@
 use Rattle.std.proofs.Common.{◌≡◌, ◌∙◌, sym, ap, refl, length, Some, arith}
 use Rattle.std.specs.Prelude.{slice_get}
 use Rattle.std.proofs.lemmas.Option.{slice_get_read}
-use Rattle.net_jobs.proofs.EndLemmas.{commands_say, opening_vars, plays_over}
+use Rattle.net_jobs.proofs.EndLemmas.{commands_say, plays_over}
 use Rattle.net_jobs.proofs.playing.play.Goals as goal
 
 pub say_all-requires-clause-say : goal.say_all-requires-clause-say
@@ -12,7 +12,7 @@ say_all-requires-clause-say g c κs within =
     let at : slice_get c.as_slice.result.now 0 ≡ Some item =
     slice_get_read c.as_slice.result.now (length c.as_slice.result.now) 0 item refl (omega (arith, c.in-len1.len_at_least)) c.section-item.is in
     let section : slice_get job.sections 0 ≡ Some commands = ap (λ xs. slice_get xs 0) (sym c.as_slice.ensures) ∙ at ∙ ap (λ cs. Some cs) (sym c.as_slice-commands.ensures) in
-    commands_say job (length c.args.store.variable_levels) commands c.requires.job (opening_vars job c.args.store c.requires.opened) section
+    commands_say job c.args.store commands c.requires.job c.requires.opened section
 
 pub returns : goal.returns
 returns g c =
@@ -22,6 +22,5 @@ returns g c =
     let at : slice_get c.as_slice.result.now 0 ≡ Some item =
     slice_get_read c.as_slice.result.now (length c.as_slice.result.now) 0 item refl (omega (arith, c.in-len1.len_at_least)) c.section-item.is in
     let section : slice_get job.sections 0 ≡ Some commands = ap (λ xs. slice_get xs 0) (sym c.as_slice.ensures) ∙ at ∙ ap (λ cs. Some cs) (sym c.as_slice-commands.ensures) in
-    let vars = c.in_ok-say_all.ensures.vars ∙ opening_vars job c.args.store c.requires.opened in
     plays_over job c.args.store commands c.say_all.new.play c.drop_all.new.play c.requires.job section
-    vars c.requires.opened.slots_are c.in_ok-drop_all.ensures.vars c.in_ok-say_all.ensures.said c.in_ok-drop_all.ensures.said
+    c.requires.opened c.in_ok-say_all.ensures.said c.in_ok-drop_all.ensures.said

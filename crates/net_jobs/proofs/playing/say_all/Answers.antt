@@ -1,4 +1,4 @@
-use Rattle.std.proofs.Common.{◌∙◌, sym, subst, Bool, Option, IfSome, arith}
+use Rattle.std.proofs.Common.{sym, subst, Bool, Option, IfSome, arith}
 use Rattle.job_text.specs.declared.job.Command.{Command}
 use Rattle.node_slots.specs.Stores.{plain_view}
 use Rattle.net_jobs.specs.Playing.{CanCall, RowsGoOn, SaysOne}
@@ -43,8 +43,7 @@ loop-i-preserved g c =
     record {
       up = next_command start commands old new c.loop-i.i at.0 up at.1
           (subst (λ (b : Bool). SaysOne start commands at.0 b old new up.said) c.if-not-branch.false one)
-          (subst (λ (b : Bool). RowsGoOn b old.session.rows.items new.session.rows.items (at.0).act) c.if-not-branch.false rows) c.in_ok-say.ensures.vars;
-      vars = c.in_ok-say.ensures.vars ∙ c.loop-i.invariant.vars;
+          (subst (λ (b : Bool). RowsGoOn b old.session.rows.items new.session.rows.items (at.0).act) c.if-not-branch.false rows) c.in_ok-say.ensures.sizes;
     }
 
 pub returns-clause-said : goal.returns-clause-said

@@ -1,4 +1,4 @@
-use Rattle.std.proofs.Common.{ap₂, ◌∙◌}
+use Rattle.std.proofs.Common.{ap₂, ◌∙◌, refl}
 use Rattle.function_laws.specs.declared.history.Call.TheVariants as calls
 use Rattle.job_text.specs.declared.job.Act.TheVariants.{VectorCompose}
 use Rattle.node_slots.specs.Stores.{plain_view}
@@ -18,10 +18,10 @@ vector_compose-requires-clause-distinct c = rw (c.deref.ensures.value, c.in-Ok.e
 
 pub returns-in-Ok-clause-ok : goal.returns-in-Ok-clause-ok
 returns-in-Ok-clause-ok c =
-    adds_as c.args.session.now c.vector_compose.new.self (VectorCompose c.args.a c.args.pairs.now) _ c.vector_compose.result
+    adds_as c.args.session.now c.vector_compose.new.self {act = VectorCompose c.args.a c.args.pairs.now} {other = VectorCompose c.args.a c.args.pairs.now} _ c.vector_compose.result refl
     (ap₂ calls.VectorCompose c.register.ensures (c.deref.ensures.value ∙ c.in-Ok.ensures)) c.vector_compose.ensures.ok
 
 pub returns-in-Ok-clause-full : goal.returns-in-Ok-clause-full
 returns-in-Ok-clause-full c e =
-    refuses_as c.args.session.now c.vector_compose.new.self (VectorCompose c.args.a c.args.pairs.now) _
+    refuses_as c.args.session.now c.vector_compose.new.self {act = VectorCompose c.args.a c.args.pairs.now} {other = VectorCompose c.args.a c.args.pairs.now} _ refl
     (ap₂ calls.VectorCompose c.register.ensures (c.deref.ensures.value ∙ c.in-Ok.ensures)) (c.vector_compose.ensures.full e)

@@ -1,13 +1,15 @@
 use Rattle.std.proofs.Common.{◌≡◌, ◌-◌, ◌+◌}
-use Rattle.edge_bits.specs.declared.edges.Kind.TheVariants as kinds
+use Rattle.edge_bits.specs.declared.edges.Kind.{Kind}
 use Rattle.function_laws.specs.Values.{assignment_of}
-use Rattle.node_slots.specs.Views.{Is, Kept, bdd_at}
+use Rattle.node_slots.specs.Views.{Kept, values_at}
+use Rattle.net_jobs.specs.Walking.{CanWalk}
 use Rattle.net_jobs.proofs.walking.value_at.Given as goal
 
 abbrev pub invariant-walk : goal.invariant-walk
 invariant-walk g l = record {
-  edge : Is kinds.Bdd (g.G.Grow.view l.store) l.at;
-  value : bdd_at (g.G.Grow.view l.store) l.at (assignment_of l.bits) ≡ bdd_at (g.G.Grow.view l.initial.store) l.fn.edge (assignment_of l.bits);
+  edge : (k : Kind) × CanWalk k (g.G.Grow.view l.store) l.at;
+  leads : (k : Kind) → CanWalk k (g.G.Grow.view l.initial.store) l.fn.edge → CanWalk k (g.G.Grow.view l.store) l.at
+      × (values_at k (g.G.Grow.view l.store) l.at (assignment_of l.bits) ≡ values_at k (g.G.Grow.view l.initial.store) l.fn.edge (assignment_of l.bits));
   kept : Kept (g.G.Grow.view l.initial.store) (g.G.Grow.view l.store);
 }
 

@@ -8,12 +8,12 @@ use Rattle.job_text.proofs.Makings.{says_from}
 use Rattle.job_text.proofs.scope.Scope.command.Goals as goal
 
 pub returns-in_default-clause-stop : goal.returns-in_default-clause-stop
-returns-in_default-clause-stop c = no_command c.args.self.now.vars c.args.self.now.registers c.args.words.now c.in_ok-line.field-0 c.in_ok-line.ensures c.in_default.is
+returns-in_default-clause-stop c = no_command c.args.self.now.counts c.args.self.now.registers c.args.words.now c.in_ok-line.field-0 c.in_ok-line.ensures c.in_default.is
 
 pub returns-then-not-all_have_form-clause-stop : goal.returns-then-not-all_have_form-clause-stop
 returns-then-not-all_have_form-clause-stop c =
-    of_line c.args.self.now.vars c.args.self.now.registers c.args.words.now c.in_ok-line.field-0 c.in-Some.line c.in_ok-line.ensures c.in-Some.is
-    ∙ ill_formed c.args.self.now.vars c.args.self.now.registers c.deref.result.now c.in-Some.line.slots.items c.deref.ensures.value (sym c.all_have_form.ensures ∙ c.if-not-all_have_form.true)
+    of_line c.args.self.now.counts c.args.self.now.registers c.args.words.now c.in_ok-line.field-0 c.in-Some.line c.in_ok-line.ensures c.in-Some.is
+    ∙ ill_formed c.args.self.now.counts c.args.self.now.registers c.deref.result.now c.in-Some.line.slots.items c.deref.ensures.value (sym c.all_have_form.ensures ∙ c.if-not-all_have_form.true)
 
 pub operands-requires-clause-forms : goal.operands-requires-clause-forms
 operands-requires-clause-forms c =
@@ -22,7 +22,7 @@ operands-requires-clause-forms c =
 pub returns-in_err-operands-clause-stop : goal.returns-in_err-operands-clause-stop
 returns-in_err-operands-clause-stop c =
     let p = err_from_is_err_and c.from_residual-in_err-operands.result c.from_residual-in_err-operands.ensures.1 in
-    let n = c.args.self.now.vars in
+    let n = c.args.self.now.counts in
     let rs = c.args.self.now.registers in
     rw (p.1, p.2)
     (command_stop n rs c.args.words.now c.deref-2.result.now c.in-Some.line.slots.items _
@@ -31,7 +31,7 @@ returns-in_err-operands-clause-stop c =
 
 pub returns-clause-ok : goal.returns-clause-ok
 returns-clause-ok c =
-    let n = c.args.self.now.vars in
+    let n = c.args.self.now.counts in
     let rs = c.args.self.now.registers in
     let each = c.in_ok-operands.ensures.ok in
     let items = subst (λ (t : List _). AreOperands n rs (map slot_of t) each.0) c.deref-2.ensures.value each.1 in

@@ -1,26 +1,28 @@
 use Rattle.std.proofs.Common.{refl}
+use Rattle.edge_bits.specs.declared.edges.Kind.TheVariants as kinds
 use Rattle.function_laws.specs.declared.history.Call.TheVariants.{Cofactor}
 use Rattle.function_laws.specs.Values.{cofactor}
 use Rattle.node_slots.specs.Stores.{plain_view}
 use Rattle.node_slots.specs.Views.{bdd_at}
-use Rattle.net_jobs.proofs.SessionLemmas.{due_of_work, op_adds, op_refuses, outcome-of_cofactor}
+use Rattle.net_jobs.proofs.AgreementLemmas.{due_of_work, op_adds, op_refuses}
+use Rattle.net_jobs.proofs.SessionLemmas.{outcome-of_cofactor}
 use Rattle.net_jobs.proofs.session.Session.cofactor.Goals as goal
 
 pub returns-clause-ok : goal.returns-clause-ok
 returns-clause-ok c =
     let w = plain_view c.args.self.now.store in
     let rows = c.args.self.now.rows.items in
-    op_adds w (plain_view c.cofactor-made.new.store) rows c.settle.new.rows.items (Cofactor c.args.f c.args.v c.args.bit) c.cofactor-made.result c.settle.result
-    (cofactor (bdd_at w c.edge-first.result) c.args.v c.args.bit) c.cofactor-made.ensures.grown c.requires.stored c.cofactor-made.ensures.cofactor c.settle.ensures.ok
-    (λ t agrees. outcome-of_cofactor w rows c.args.f c.args.v c.args.bit c.edge-first.result t c.requires.variable c.requires.first c.edge-first.ensures agrees)
+    op_adds kinds.Bdd w (plain_view c.cofactor-made.new.store) rows c.settle.new.rows.items (Cofactor c.args.f c.args.v c.args.bit) c.cofactor-made.result c.settle.result
+    (cofactor (bdd_at w c.edge_of_bdd-first.result) c.args.v c.args.bit) c.cofactor-made.ensures.grown c.requires.stored c.cofactor-made.ensures.cofactor c.settle.ensures.ok
+    (λ t agrees. outcome-of_cofactor w rows c.args.f c.args.v c.args.bit c.edge_of_bdd-first.result t c.requires.variable c.requires.first c.edge_of_bdd-first.ensures.has agrees)
 
 pub returns-clause-full : goal.returns-clause-full
 returns-clause-full c =
     let w = plain_view c.args.self.now.store in
     let rows = c.args.self.now.rows.items in
-    op_refuses w (plain_view c.cofactor-made.new.store) rows c.settle.new.rows.items (Cofactor c.args.f c.args.v c.args.bit) c.cofactor-made.result c.settle.result
-    (cofactor (bdd_at w c.edge-first.result) c.args.v c.args.bit) c.cofactor-made.ensures.grown c.requires.stored c.cofactor-made.ensures.full c.settle.ensures.full c.settle.ensures.err refl
-    (λ t agrees. outcome-of_cofactor w rows c.args.f c.args.v c.args.bit c.edge-first.result t c.requires.variable c.requires.first c.edge-first.ensures agrees)
+    op_refuses kinds.Bdd w (plain_view c.cofactor-made.new.store) rows c.settle.new.rows.items (Cofactor c.args.f c.args.v c.args.bit) c.cofactor-made.result c.settle.result
+    (cofactor (bdd_at w c.edge_of_bdd-first.result) c.args.v c.args.bit) c.cofactor-made.ensures.grown c.requires.stored c.cofactor-made.ensures.full c.settle.ensures.full c.settle.ensures.err refl
+    (λ t agrees. outcome-of_cofactor w rows c.args.f c.args.v c.args.bit c.edge_of_bdd-first.result t c.requires.variable c.requires.first c.edge_of_bdd-first.ensures.has agrees)
 
 pub settle-requires-clause-due : goal.settle-requires-clause-due
 settle-requires-clause-due c = λ e. due_of_work (plain_view c.cofactor-made.new.store) _ (c.cofactor-made.ensures.due e)

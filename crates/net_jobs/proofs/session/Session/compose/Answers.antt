@@ -1,26 +1,28 @@
 use Rattle.std.proofs.Common.{refl}
+use Rattle.edge_bits.specs.declared.edges.Kind.TheVariants as kinds
 use Rattle.function_laws.specs.declared.history.Call.TheVariants.{Compose}
 use Rattle.function_laws.specs.Values.{composed}
 use Rattle.node_slots.specs.Stores.{plain_view}
 use Rattle.node_slots.specs.Views.{bdd_at}
-use Rattle.net_jobs.proofs.SessionLemmas.{due_of_work, op_adds, op_refuses, outcome-of_compose}
+use Rattle.net_jobs.proofs.AgreementLemmas.{due_of_work, op_adds, op_refuses}
+use Rattle.net_jobs.proofs.SessionLemmas.{outcome-of_compose}
 use Rattle.net_jobs.proofs.session.Session.compose.Goals as goal
 
 pub returns-clause-ok : goal.returns-clause-ok
 returns-clause-ok c =
     let w = plain_view c.args.self.now.store in
     let rows = c.args.self.now.rows.items in
-    op_adds w (plain_view c.compose-made.new.store) rows c.settle.new.rows.items (Compose c.args.f c.args.v c.args.g) c.compose-made.result c.settle.result
-    (composed (bdd_at w c.edge-first.result) c.args.v (bdd_at w c.edge-second.result)) c.compose-made.ensures.grown c.requires.stored c.compose-made.ensures.compose c.settle.ensures.ok
-    (λ t agrees. outcome-of_compose w rows c.args.f c.args.v c.args.g c.edge-first.result c.edge-second.result t c.requires.variable c.requires.first c.requires.second c.edge-first.ensures c.edge-second.ensures agrees)
+    op_adds kinds.Bdd w (plain_view c.compose-made.new.store) rows c.settle.new.rows.items (Compose c.args.f c.args.v c.args.g) c.compose-made.result c.settle.result
+    (composed (bdd_at w c.edge_of_bdd-first.result) c.args.v (bdd_at w c.edge_of_bdd-second.result)) c.compose-made.ensures.grown c.requires.stored c.compose-made.ensures.compose c.settle.ensures.ok
+    (λ t agrees. outcome-of_compose w rows c.args.f c.args.v c.args.g c.edge_of_bdd-first.result c.edge_of_bdd-second.result t c.requires.variable c.requires.first c.requires.second c.edge_of_bdd-first.ensures.has c.edge_of_bdd-second.ensures.has agrees)
 
 pub returns-clause-full : goal.returns-clause-full
 returns-clause-full c =
     let w = plain_view c.args.self.now.store in
     let rows = c.args.self.now.rows.items in
-    op_refuses w (plain_view c.compose-made.new.store) rows c.settle.new.rows.items (Compose c.args.f c.args.v c.args.g) c.compose-made.result c.settle.result
-    (composed (bdd_at w c.edge-first.result) c.args.v (bdd_at w c.edge-second.result)) c.compose-made.ensures.grown c.requires.stored c.compose-made.ensures.full c.settle.ensures.full c.settle.ensures.err refl
-    (λ t agrees. outcome-of_compose w rows c.args.f c.args.v c.args.g c.edge-first.result c.edge-second.result t c.requires.variable c.requires.first c.requires.second c.edge-first.ensures c.edge-second.ensures agrees)
+    op_refuses kinds.Bdd w (plain_view c.compose-made.new.store) rows c.settle.new.rows.items (Compose c.args.f c.args.v c.args.g) c.compose-made.result c.settle.result
+    (composed (bdd_at w c.edge_of_bdd-first.result) c.args.v (bdd_at w c.edge_of_bdd-second.result)) c.compose-made.ensures.grown c.requires.stored c.compose-made.ensures.full c.settle.ensures.full c.settle.ensures.err refl
+    (λ t agrees. outcome-of_compose w rows c.args.f c.args.v c.args.g c.edge_of_bdd-first.result c.edge_of_bdd-second.result t c.requires.variable c.requires.first c.requires.second c.edge_of_bdd-first.ensures.has c.edge_of_bdd-second.ensures.has agrees)
 
 pub settle-requires-clause-due : goal.settle-requires-clause-due
 settle-requires-clause-due c = λ e. due_of_work (plain_view c.compose-made.new.store) _ (c.compose-made.ensures.due e)

@@ -1,26 +1,28 @@
 use Rattle.std.proofs.Common.{arith, refl}
+use Rattle.edge_bits.specs.declared.edges.Kind.TheVariants as kinds
 use Rattle.function_laws.specs.declared.history.Call.TheVariants.{Exists}
 use Rattle.function_laws.specs.Values.{exists_all}
 use Rattle.node_slots.specs.Stores.{plain_view}
 use Rattle.node_slots.specs.Views.{bdd_at}
-use Rattle.net_jobs.proofs.SessionLemmas.{are_variables, due_of_work, op_adds, op_refuses, outcome-of_exists}
+use Rattle.net_jobs.proofs.AgreementLemmas.{are_variables, due_of_work, op_adds, op_refuses}
+use Rattle.net_jobs.proofs.SessionLemmas.{outcome-of_exists}
 use Rattle.net_jobs.proofs.session.Session.exists.Goals as goal
 
 pub returns-clause-ok : goal.returns-clause-ok
 returns-clause-ok c =
     let w = plain_view c.args.self.now.store in
     let rows = c.args.self.now.rows.items in
-    op_adds w (plain_view c.exists-made.new.store) rows c.settle.new.rows.items (Exists c.args.f c.args.vars.now) c.exists-made.result c.settle.result
-    (exists_all (bdd_at w c.edge-first.result) c.args.vars.now) c.exists-made.ensures.grown c.requires.stored c.exists-made.ensures.exists c.settle.ensures.ok
-    (λ t agrees. outcome-of_exists w rows c.args.f c.args.vars.now c.edge-first.result t c.requires.variables c.requires.first c.edge-first.ensures agrees)
+    op_adds kinds.Bdd w (plain_view c.exists-made.new.store) rows c.settle.new.rows.items (Exists c.args.f c.args.vars.now) c.exists-made.result c.settle.result
+    (exists_all (bdd_at w c.edge_of_bdd-first.result) c.args.vars.now) c.exists-made.ensures.grown c.requires.stored c.exists-made.ensures.exists c.settle.ensures.ok
+    (λ t agrees. outcome-of_exists w rows c.args.f c.args.vars.now c.edge_of_bdd-first.result t c.requires.variables c.requires.first c.edge_of_bdd-first.ensures.has agrees)
 
 pub returns-clause-full : goal.returns-clause-full
 returns-clause-full c =
     let w = plain_view c.args.self.now.store in
     let rows = c.args.self.now.rows.items in
-    op_refuses w (plain_view c.exists-made.new.store) rows c.settle.new.rows.items (Exists c.args.f c.args.vars.now) c.exists-made.result c.settle.result
-    (exists_all (bdd_at w c.edge-first.result) c.args.vars.now) c.exists-made.ensures.grown c.requires.stored c.exists-made.ensures.full c.settle.ensures.full c.settle.ensures.err refl
-    (λ t agrees. outcome-of_exists w rows c.args.f c.args.vars.now c.edge-first.result t c.requires.variables c.requires.first c.edge-first.ensures agrees)
+    op_refuses kinds.Bdd w (plain_view c.exists-made.new.store) rows c.settle.new.rows.items (Exists c.args.f c.args.vars.now) c.exists-made.result c.settle.result
+    (exists_all (bdd_at w c.edge_of_bdd-first.result) c.args.vars.now) c.exists-made.ensures.grown c.requires.stored c.exists-made.ensures.full c.settle.ensures.full c.settle.ensures.err refl
+    (λ t agrees. outcome-of_exists w rows c.args.f c.args.vars.now c.edge_of_bdd-first.result t c.requires.variables c.requires.first c.edge_of_bdd-first.ensures.has agrees)
 
 pub settle-requires-clause-due : goal.settle-requires-clause-due
 settle-requires-clause-due c = λ e. due_of_work (plain_view c.exists-made.new.store) _ (c.exists-made.ensures.due e)

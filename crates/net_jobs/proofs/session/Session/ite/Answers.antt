@@ -1,28 +1,30 @@
 use Rattle.std.proofs.Common.{refl}
+use Rattle.edge_bits.specs.declared.edges.Kind.TheVariants as kinds
 use Rattle.function_laws.specs.declared.history.Call.TheVariants.{Ite}
 use Rattle.function_laws.specs.Values.{if_then_else}
 use Rattle.node_slots.specs.Stores.{plain_view}
 use Rattle.node_slots.specs.Views.{bdd_at}
-use Rattle.net_jobs.proofs.SessionLemmas.{due_of_work, op_adds, op_refuses, outcome-of_ite}
+use Rattle.net_jobs.proofs.AgreementLemmas.{due_of_work, op_adds, op_refuses}
+use Rattle.net_jobs.proofs.SessionLemmas.{outcome-of_ite}
 use Rattle.net_jobs.proofs.session.Session.ite.Goals as goal
 
 pub returns-clause-ok : goal.returns-clause-ok
 returns-clause-ok c =
     let w = plain_view c.args.self.now.store in
     let rows = c.args.self.now.rows.items in
-    op_adds w (plain_view c.ite-made.new.store) rows c.settle.new.rows.items (Ite c.args.f c.args.g c.args.h) c.ite-made.result c.settle.result
-    (if_then_else (bdd_at w c.edge-first.result) (bdd_at w c.edge-second.result) (bdd_at w c.edge-third.result)) c.ite-made.ensures.grown c.requires.stored c.ite-made.ensures.ite c.settle.ensures.ok
-    (λ t agrees. outcome-of_ite w rows c.args.f c.args.g c.args.h c.edge-first.result c.edge-second.result c.edge-third.result t
-    c.requires.first c.requires.second c.requires.third c.edge-first.ensures c.edge-second.ensures c.edge-third.ensures agrees)
+    op_adds kinds.Bdd w (plain_view c.ite-made.new.store) rows c.settle.new.rows.items (Ite c.args.f c.args.g c.args.h) c.ite-made.result c.settle.result
+    (if_then_else (bdd_at w c.edge_of_bdd-first.result) (bdd_at w c.edge_of_bdd-second.result) (bdd_at w c.edge_of_bdd-third.result)) c.ite-made.ensures.grown c.requires.stored c.ite-made.ensures.ite c.settle.ensures.ok
+    (λ t agrees. outcome-of_ite w rows c.args.f c.args.g c.args.h c.edge_of_bdd-first.result c.edge_of_bdd-second.result c.edge_of_bdd-third.result t
+    c.requires.first c.requires.second c.requires.third c.edge_of_bdd-first.ensures.has c.edge_of_bdd-second.ensures.has c.edge_of_bdd-third.ensures.has agrees)
 
 pub returns-clause-full : goal.returns-clause-full
 returns-clause-full c =
     let w = plain_view c.args.self.now.store in
     let rows = c.args.self.now.rows.items in
-    op_refuses w (plain_view c.ite-made.new.store) rows c.settle.new.rows.items (Ite c.args.f c.args.g c.args.h) c.ite-made.result c.settle.result
-    (if_then_else (bdd_at w c.edge-first.result) (bdd_at w c.edge-second.result) (bdd_at w c.edge-third.result)) c.ite-made.ensures.grown c.requires.stored c.ite-made.ensures.full c.settle.ensures.full c.settle.ensures.err refl
-    (λ t agrees. outcome-of_ite w rows c.args.f c.args.g c.args.h c.edge-first.result c.edge-second.result c.edge-third.result t
-    c.requires.first c.requires.second c.requires.third c.edge-first.ensures c.edge-second.ensures c.edge-third.ensures agrees)
+    op_refuses kinds.Bdd w (plain_view c.ite-made.new.store) rows c.settle.new.rows.items (Ite c.args.f c.args.g c.args.h) c.ite-made.result c.settle.result
+    (if_then_else (bdd_at w c.edge_of_bdd-first.result) (bdd_at w c.edge_of_bdd-second.result) (bdd_at w c.edge_of_bdd-third.result)) c.ite-made.ensures.grown c.requires.stored c.ite-made.ensures.full c.settle.ensures.full c.settle.ensures.err refl
+    (λ t agrees. outcome-of_ite w rows c.args.f c.args.g c.args.h c.edge_of_bdd-first.result c.edge_of_bdd-second.result c.edge_of_bdd-third.result t
+    c.requires.first c.requires.second c.requires.third c.edge_of_bdd-first.ensures.has c.edge_of_bdd-second.ensures.has c.edge_of_bdd-third.ensures.has agrees)
 
 pub settle-requires-clause-due : goal.settle-requires-clause-due
 settle-requires-clause-due c = λ e. due_of_work (plain_view c.ite-made.new.store) _ (c.ite-made.ensures.due e)

@@ -1,15 +1,24 @@
-use Rattle.edge_bits.specs.declared.edges.Kind.TheVariants as kinds
 use Rattle.node_slots.specs.Stores.{plain_view}
-use Rattle.net_jobs.proofs.SessionLemmas.{step-same}
+use Rattle.net_jobs.proofs.QuestionLemmas.{step-same}
 use Rattle.net_jobs.proofs.session.Session.same.Goals as goal
+
+pub edge-first-requires : goal.edge-first-requires
+edge-first-requires c = (c.requires.rows.0, c.requires.rows.1)
+
+pub edge-second-requires : goal.edge-second-requires
+edge-second-requires c = (c.requires.rows.0, c.requires.rows.2)
+
+pub same-requires : goal.same-requires
+same-requires c =
+    let alike = c.requires.rows in
+    let k = alike.0 in
+    (k, record { first = c.requires.stored c.args.f.row k c.edge-first.result (c.edge-first.ensures k alike.1); second = c.requires.stored c.args.g.row k c.edge-second.result (c.edge-second.ensures k alike.2) })
 
 pub returns : goal.returns
 returns c =
-    let w = plain_view c.args.self.now.store in
-    let rows = c.args.self.now.rows.items in
-    let e = c.edge-first.result in
-    let d = c.edge-second.result in
-    let is_e = c.requires.stored c.args.f.row e c.edge-first.ensures in
-    let is_d = c.requires.stored c.args.g.row d c.edge-second.ensures in
-    step-same w rows c.args.f c.args.g e d c.same.result c.requires.stored c.requires.first c.requires.second c.edge-first.ensures c.edge-second.ensures
-    (c.same.ensures kinds.Bdd (record { first = is_e; second = is_d }))
+    let alike = c.requires.rows in
+    let k = alike.0 in
+    let is_e = c.edge-first.ensures k alike.1 in
+    let is_d = c.edge-second.ensures k alike.2 in
+    step-same k (plain_view c.args.self.now.store) c.args.self.now.rows.items c.args.f c.args.g c.edge-first.result c.edge-second.result c.same.result c.requires.stored alike.1 alike.2 is_e is_d
+    (c.same.ensures k (record { first = c.requires.stored c.args.f.row k c.edge-first.result is_e; second = c.requires.stored c.args.g.row k c.edge-second.result is_d }))

@@ -1,14 +1,16 @@
 use Rattle.std.proofs.Common.{false}
+use Rattle.edge_bits.specs.declared.edges.Kind.TheVariants as kinds
 use Rattle.function_laws.specs.declared.history.Call.TheVariants.{Zero}
 use Rattle.function_laws.specs.Values.{constant}
 use Rattle.node_slots.specs.Stores.{plain_view}
-use Rattle.net_jobs.proofs.SessionLemmas.{op_adds, one_denotes, outcome-of_zero}
+use Rattle.net_jobs.proofs.AgreementLemmas.{op_adds}
+use Rattle.net_jobs.proofs.SessionLemmas.{one_denotes, outcome-of_zero}
 use Rattle.net_jobs.proofs.session.Session.zero.Goals as goal
 
 pub returns-clause-ok : goal.returns-clause-ok
 returns-clause-ok c =
     let w = plain_view c.args.self.now.store in
     let rows = c.args.self.now.rows.items in
-    op_adds w (plain_view c.levels-levels.new.self) rows c.keep.new.rows.items Zero _ c.keep.result (constant false) c.levels-levels.ensures.kept.grown c.requires.stored
+    op_adds kinds.Bdd w (plain_view c.levels-levels.new.self) rows c.keep.new.rows.items Zero _ c.keep.result (constant false) c.levels-levels.ensures.kept.grown c.requires.stored
     (one_denotes (plain_view c.levels-levels.new.self) false c.new.result c.levels-levels.ensures.permanent c.new.ensures)
     c.keep.ensures.ok (λ t agrees. outcome-of_zero w rows t agrees)

@@ -1,0 +1,29 @@
+use Rattle.std.proofs.Common.{arith}
+use Rattle.edge_bits.specs.declared.edges.Kind.TheVariants.{Add}
+use Rattle.node_store.specs.ViewLaws.{Grown-trans, IsVariable-grown, level-grown}
+use Rattle.add_ops.proofs.SumLaws.{halves_leaf, halves_own, halves_below, SplitsAbove-from}
+use Rattle.add_ops.proofs.summation.find.Goals as goal
+
+pub returns-in_default-clause-found : goal.returns-in_default-clause-found
+returns-in_default-clause-found g c = let e = c.in_default.ensures in halves_leaf _ _ c.args.f c.args.var _ e.kept.grown c.requires.edge (e.opens Add c.requires.edge)
+
+pub returns-then-top-var-clause-found : goal.returns-then-top-var-clause-found
+returns-then-top-var-clause-found g c =
+    let e = c.in-Inner.ensures in halves_own _ _ c.args.f c.args.var c.in-Inner.top c.in-Inner.hi c.in-Inner.lo e.kept.grown c.requires.edge c.if-top-var.true (e.opens Add c.requires.edge)
+
+pub level-level-requires : goal.level-level-requires
+level-level-requires g c = (Add, IsVariable-grown Add c.in-Inner.ensures.kept.grown c.args.var c.requires.in_range)
+
+pub level-top_level-requires : goal.level-top_level-requires
+level-top_level-requires g c = (Add, IsVariable-grown Add c.level-level.ensures.kept.grown c.in-Inner.top (c.in-Inner.ensures.opens Add c.requires.edge).in_range)
+
+pub returns-then-level-top_level-clause-found : goal.returns-then-level-top_level-clause-found
+returns-then-level-top_level-clause-found g c =
+    let e = c.in-Inner.ensures in let m1 = c.level-level.ensures.kept.grown in let m2 = c.level-top_level.ensures.kept.grown in
+    let a = c.level-level.ensures.level in let b = c.level-top_level.ensures.level in let l = level-grown m1 c.in-Inner.top in let lt = c.if-level-top_level.true in
+    halves_below _ _ _ c.args.f c.args.var c.in-Inner.top c.in-Inner.hi c.in-Inner.lo e.kept.grown (Grown-trans m1 m2) c.requires.edge c.requires.in_range (e.opens Add c.requires.edge) (omega arith)
+
+pub returns-clause-found : goal.returns-clause-found
+returns-clause-found g c =
+    let e = c.in-Inner.ensures in let m1 = c.level-level.ensures.kept.grown in let m2 = c.level-top_level.ensures.kept.grown in
+    SplitsAbove-from _ _ _ c.args.f c.args.var c.in-Inner.top c.in-Inner.hi c.in-Inner.lo e.kept.grown (Grown-trans m1 m2) c.requires.edge (e.opens Add c.requires.edge) c.if-top-var.false
