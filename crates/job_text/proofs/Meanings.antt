@@ -39,7 +39,7 @@ other_name r w h = by_cases (bytes_eq r.name w) refl
     by_cases false e = e
     by_cases true e = absurd (h ((bytes_eq-Decides r.name w).0 e))
 
-any_none : (rs : List Register) (w : Word) → All (λ register. register.name ≢ w) rs → list_any (is_called w) rs ≡ false
+pub any_none : (rs : List Register) (w : Word) → All (λ register. register.name ≢ w) rs → list_any (is_called w) rs ≡ false
 any_none [] w h = refl
 any_none (r ∷ rs) w h = ap (λ b. b || list_any (is_called w) rs) (other_name r w (h 0 r (omega arith))) ∙ any_none rs w (λ k d lt. h (suc k) d (omega arith))
 

@@ -6,7 +6,7 @@ ghost use Rattle.job_text.specs.Drafts.{CommandStop, with_act};
 
 use crate::faults::Stop;
 use crate::job::{Act, Command, Counts};
-use crate::registers::registers_behind;
+use crate::registers::Registers;
 use crate::scope::Scope;
 use edge_bits::List;
 use std::alloc::Global;
@@ -43,7 +43,7 @@ impl Section {
     {
         let scope = Scope {
             counts,
-            registers: List::new(alloc),
+            registers: Registers::new(alloc),
         };
         Section {
             scope,
@@ -66,7 +66,7 @@ impl Section {
         } = self;
         let act = scope.command(alloc, words.as_slice())?;
         let Scope { counts, registers } = scope;
-        let registers = registers_behind(alloc, registers, words.as_slice())?;
+        let registers = registers.after(alloc, words.as_slice())?;
         commands.push(Command { words, act })?;
         Ok(Section {
             scope: Scope { counts, registers },

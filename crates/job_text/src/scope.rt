@@ -12,9 +12,9 @@ ghost use Rattle.job_text.specs.declared.operands.Operand.{Operand as OperandOf}
 
 use crate::commands::Place;
 use crate::faults::{FaultKind, Stop};
-use crate::job::{Act, Counts, Register};
+use crate::job::{Act, Counts};
 use crate::operands::{Operand, Operands};
-use crate::registers::{Found, find_register, is_assigned, kind_at, same_kind};
+use crate::registers::{Found, Registers, kind_at, same_kind};
 use crate::slots::{Slot, all_have_form, command_line};
 use crate::text::{bits_of, integer_value, number_value};
 use edge_bits::{Kind, List};
@@ -26,7 +26,7 @@ pub struct Scope {
     /// The numbers of variables and elements.
     pub counts: Counts,
     /// The registers in order of assignment.
-    pub registers: List<Register>,
+    pub registers: Registers,
 }
 
 impl Counts {
@@ -55,7 +55,7 @@ impl Scope {
         ensures ok { IfOk result (λ operand. IsOperand self.now.counts self.now.registers (places.Fresh, word.now) operand) }
         ensures stop { IfErr result (λ stop. SlotStop self.now.counts self.now.registers (places.Fresh, word.now) stop) }
     {
-        if is_assigned(self.registers.as_slice(), word) {
+        if self.registers.is_assigned(word) {
             return Err(Stop::Fault(FaultKind::Again));
         }
         Ok(Operand::Target)
@@ -69,7 +69,7 @@ impl Scope {
         ensures called { IfOk result (λ found. (name_fault (register_called self.now.registers word.now) ≡ None) × (kind_called self.now.registers word.now ≡ found.kind)) }
         ensures stop { IfErr result (λ stop. (stop ≡ Stop.Fault kinds.Name) × (name_fault (register_called self.now.registers word.now) ≡ Some kinds.Name)) }
     {
-        match find_register(self.registers.as_slice(), word) {
+        match self.registers.find(word) {
             Some(found) => Ok(found),
             None => Err(Stop::Fault(FaultKind::Name)),
         }
