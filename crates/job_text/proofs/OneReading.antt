@@ -233,6 +233,12 @@ same_elements m m' counted counted' rest rest' (inr h) (inr h') other other' e =
     let numbers : h.0 ≡ h'.0 = cc in
     (sym (h.2).1 ∙ ap (digits_value 10) numbers ∙ (h'.2).1, cc)
 
+same_counts : (v v' m m' : ℕ) → v ≡ v' → m ≡ m' → ◌≡◌ {A = Counts} (record { vars = v; elements = m }) (record { vars = v'; elements = m' })
+same_counts v v' m m' e f = ap (λ (t : ℕ). record { vars = t; elements = m }) e ∙ ap (λ (t : ℕ). record { vars = v'; elements = t }) f
+
+same_sections : (one other : List (List Command)) (commands commands' : List Command) → one ≡ commands ∷ [] → other ≡ commands' ∷ [] → commands ≡ commands' → one ≡ other
+same_sections one other commands commands' e f same = e ∙ ap (λ t. t ∷ []) same ∙ sym f
+
 pub one_job : OneJob
 one_job text one other h h' =
     let said = job_lines text one h in
@@ -245,7 +251,7 @@ one_job text one other h h' =
     (λ number more e. no_elements_first one.limit h.limits said.0 number more h.limit e) (λ number more e. no_elements_first other.limit h'.limits said'.0 number more h'.limit e) behind in
     let rest = same_rest one.limit other.limit h.limits h'.limits said.0 said'.0 h.limit h'.limit counted.1 in
     let vars : one.vars ≡ other.vars = sym h.vars.1 ∙ ap (digits_value 10) numbers ∙ h'.vars.1 in
-    let counts : counts_of one ≡ counts_of other =
-    ap (λ (t : ℕ). record { vars = t; elements = one.elements }) vars ∙ ap (λ (t : ℕ). record { vars = other.vars; elements = t }) counted.0 in
+    let counts : counts_of one ≡ counts_of other = same_counts one.vars other.vars one.elements other.elements vars counted.0 in
     same_job one other vars counted.0 rest.0
-    (said.1 ∙ ap (λ t. t ∷ []) (same_commands (counts_of one) [] said.0 said'.0 said.2 (subst (λ (n : Counts). CommandsSay n [] said'.0) (sym counts) said'.2) rest.1) ∙ sym said'.1)
+    (same_sections one.sections other.sections said.0 said'.0 said.1 said'.1
+    (same_commands (counts_of one) [] said.0 said'.0 said.2 (subst (λ (n : Counts). CommandsSay n [] said'.0) (sym counts) said'.2) rest.1))

@@ -109,6 +109,10 @@ none_left : (os : List Operand) → Follows [] [] os → os ≡ []
 none_left [] h = refl
 none_left (o ∷ os) h = absurd h
 
+-- an operand in front of others that are known
+front : (o : Operand) (os rest given : List Operand) → os ≡ o ∷ rest → rest ≡ given → os ≡ o ∷ given
+front o os rest given e f = e ∙ ap (λ t. o ∷ t) f
+
 -- the operand of the first place, and then what follows
 register_first : (kind : Kind) (due repeated : List Place) (os : List Operand) → Follows (Held kind ∷ due) repeated os → (a : ℕ) × (rest : List Operand) × (os ≡ operands.Register kind a ∷ rest) × Follows due repeated rest
 register_first kind due repeated [] h = absurd h
@@ -266,7 +270,7 @@ register_and_pairs os h =
       x.0,
       (y.0, z.0),
       more.0,
-      x.2 ∙ ap (λ t. bdd x.0 ∷ t) (y.2 ∙ ap (λ t. operands.NewVariable y.0 ∷ t) (z.2 ∙ ap (λ t. bdd z.0 ∷ t) more.1)),
+      front (bdd x.0) os x.1 _ x.2 (front (operands.NewVariable y.0) x.1 y.1 _ y.2 (front (bdd z.0) y.1 z.1 (flat_map pair_operands more.0) z.2 more.1)),
     )
 
 -- Over some registers and numbers
