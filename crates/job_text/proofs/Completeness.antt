@@ -1,5 +1,5 @@
 -- Words without a fault say something, and each text has a reading.
-use Rattle.std.proofs.Common.{◌≡◌, ◌⊎◌, ℕ, ◌+◌, ◌==◌, ◌<◌, ◌≤◌, ◌&&◌, ◌||◌, Bool, true, false, cond, List, [], ◌∷◌, ◌++◌, length, map, Option, Some, None, option_map, Result, Ok, inl, inr, refl, ap, sym, ◌∙◌, subst, arith, codes, append_assoc}
+use Rattle.std.proofs.Common.{◌≡◌, ◌⊎◌, ℕ, ◌+◌, ◌==◌, ◌<◌, ◌≤◌, ◌&&◌, ◌||◌, Bool, true, false, not, cond, List, [], ◌∷◌, ◌++◌, length, map, Option, Some, None, option_map, Result, Ok, inl, inr, refl, ap, sym, ◌∙◌, subst, arith, codes, append_assoc}
 use Rattle.std.specs.Prelude.{nat_lt, nat_le, is_some}
 use Rattle.std.specs.List.{list_any, list_all, position_or_len}
 use Rattle.std.specs.Str.{bytes_eq}
@@ -29,7 +29,7 @@ use Rattle.job_text.specs.declared.faults.JobError.{JobError}
 use Rattle.job_text.specs.Text.{Word, IsNumber, is_name, integer_value, is_number, is_allowed, lines_of, words_of, line_words, bit_word}
 use Rattle.job_text.specs.Grammar.{Says, IsFresh, Refers, IsJobText, is_called, kind_of}
 use Rattle.job_text.specs.Faults.{has_form, slot_fault, beside_fault, word_fault, left_after, nothing_left, first_fault, fault_in, or_else, command_fault, command_of, is_bit, is_bits, kind_called, kind_fault, name_fault, register_called, is_session, number_fault, has_begun, words_fault, line_fault, IsFaultText}
-use Rattle.job_text.specs.Drafts.{IsOperand, AreOperands, no_operands, with_operand, with_operands, misfit, left_by, AllFit, act_of, context_in, Adds, adds_nothing, adds_vars, adds_limit, adds_session, adds_command}
+use Rattle.job_text.specs.Drafts.{IsOperand, AreOperands, no_operands, with_operand, with_operands, misfit, left_by, AllFit, act_of, context_in, Adds, adds_nothing, adds_vars, adds_elements, adds_limit, adds_session, adds_command}
 use Rattle.job_text.specs.Readings.{EachHasOne}
 use Rattle.job_text.proofs.Bits.{bits_are}
 use Rattle.job_text.proofs.Meanings.{Fits, word_fault_is}
@@ -82,6 +82,9 @@ below d n e = grind (arith, nat_tests)
 variable_of : (n : Counts) (rs : List Register) (w : Word) → Fits n rs (places.Variable, w) → (v : ℕ) × IsNumber w v × (v < n.vars)
 variable_of n rs w h = (digits_value 10 w, (h.0, refl), below (digits_value 10 w) n.vars (where_true (nat_lt (digits_value 10 w) n.vars) kinds.Range h.1))
 
+element_of : (n : Counts) (rs : List Register) (w : Word) → Fits n rs (places.Element, w) → (e : ℕ) × IsNumber w e × (e < n.elements)
+element_of n rs w h = (digits_value 10 w, (h.0, refl), below (digits_value 10 w) n.elements (where_true (nat_lt (digits_value 10 w) n.elements) kinds.Range h.1))
+
 word_of_bits : (w : Word) → is_bits w ≡ true → (bs : List Bool) × (w ≡ bit_word bs)
 word_of_bits w h = by_cases (bytes_eq w (codes "none")) refl
   where
@@ -104,6 +107,7 @@ operand_at n rs places.Any w h = let a = named_of rs w h.0 h.1 in (operands.Any 
 operand_at n rs places.Alike w h = let a = named_of rs w h.0 h.1 in (operands.Alike a.0, (refl, (a.1, a.2)))
 operand_at n rs places.Variable w h = let v = variable_of n rs w h in (operands.Variable v.0, (refl, (v.1, v.2)))
 operand_at n rs places.NewVariable w h = let v = variable_of n rs w h in (operands.NewVariable v.0, (refl, (v.1, v.2)))
+operand_at n rs places.Element w h = let e = element_of n rs w h in (operands.Element e.0, (refl, (e.1, e.2)))
 operand_at n rs places.Value w h = (operands.Value (integer_value w), (refl, ((h.0, refl), where_true (is_value (integer_value w)) kinds.Range h.1)))
 operand_at n rs places.Bit w h = let b = bit_of w h.0 in (operands.Bit b.0, (refl, b.1))
 operand_at n rs places.Bits w h = let bs = word_of_bits w h.0 in (operands.Bits bs.0, (refl, bs.1))
@@ -160,16 +164,34 @@ limit_low d n e = grind (arith, nat_tests)
 limit_high : (d : ℕ) → nat_le d 8388607 ≡ true → d ≤ 8388607
 limit_high d e = grind (arith, nat_tests)
 
-sized_adds : (n : ℕ) (elements given : Option ℕ) (words : List Word) (b : Bool) → is_session words ≡ b
-    → cond b None (cond (is_some given) (Some kinds.Word) (number_fault (codes "limit") (λ limit. nat_le (5 + n) limit && nat_le limit 8388607) kinds.Limit words)) ≡ None
-    → (next : Draft) × Adds (Sized n elements given) words next
-sized_adds n elements given words true e h = (_, adds_session (n, elements, given, session_form words e, refl, refl))
-sized_adds n elements (Some limit) words false e h = cc h
-sized_adds n elements None words false e h =
-    let form = number_form (codes "limit") (λ limit. nat_le (5 + n) limit && nat_le limit 8388607) kinds.Limit words h in
+abbrev is_limit : ℕ → ℕ → Bool
+is_limit n limit = nat_le (5 + n) limit && nat_le limit 8388607
+
+abbrev is_few : ℕ → Bool
+is_few m = nat_le m 1024
+
+limit_adds : (n : ℕ) (elements : Option ℕ) (words : List Word) → number_fault (codes "limit") (is_limit n) kinds.Limit words ≡ None → (next : Draft) × Adds (Sized n elements None) words next
+limit_adds n elements words h =
+    let form = number_form (codes "limit") (is_limit n) kinds.Limit words h in
     let d = digits_value 10 form.0 in
     let range = and_true (nat_le (5 + n) d) (nat_le d 8388607) form.3 in
     (_, adds_limit (form.0, n, d, elements, form.1, (form.2, refl), limit_low d n range.0, limit_high d range.1, refl, refl))
+
+elements_add : (n : ℕ) (words : List Word) → number_fault (codes "elements") is_few kinds.Range words ≡ None → (next : Draft) × Adds (Sized n None None) words next
+elements_add n words h =
+    let form = number_form (codes "elements") is_few kinds.Range words h in
+    (_, adds_elements (form.0, n, digits_value 10 form.0, form.1, (form.2, refl), few (digits_value 10 form.0) form.3, refl, refl))
+
+-- a line between `vars` and `session`: of elements, or of the limit
+sized_adds : (n : ℕ) (elements given : Option ℕ) (words : List Word) (b c : Bool) → is_session words ≡ b
+    → cond b None (cond (is_some given) (Some kinds.Word)
+    (cond (c && not (is_some elements)) (number_fault (codes "elements") is_few kinds.Range words) (number_fault (codes "limit") (is_limit n) kinds.Limit words))) ≡ None
+    → (next : Draft) × Adds (Sized n elements given) words next
+sized_adds n elements given words true c e h = (_, adds_session (n, elements, given, session_form words e, refl, refl))
+sized_adds n elements (Some limit) words false c e h = cc h
+sized_adds n None None words false true e h = elements_add n words h
+sized_adds n (Some m) None words false true e h = limit_adds n (Some m) words h
+sized_adds n elements None words false false e h = limit_adds n elements words h
 
 begun_adds : (limit : ℕ) (section : Section) (words : List Word) (b : Bool) → cond b (Some kinds.Limit) (command_fault section.scope.counts section.scope.registers words) ≡ None
     → (next : Draft) × Adds (Begun limit section) words next
@@ -183,7 +205,7 @@ adds draft [] h = (draft, adds_nothing refl refl)
 adds Nothing (word ∷ words) h =
     let form = number_form (codes "vars") (λ n. nat_le n 1024) kinds.Range (word ∷ words) h in
     (_, adds_vars (form.0, digits_value 10 form.0, form.1, (form.2, refl), few (digits_value 10 form.0) form.3, refl, refl))
-adds (Sized n elements given) (word ∷ words) h = sized_adds n elements given (word ∷ words) (is_session (word ∷ words)) refl h
+adds (Sized n elements given) (word ∷ words) h = sized_adds n elements given (word ∷ words) (is_session (word ∷ words)) (bytes_eq word (codes "elements")) refl h
 adds (Begun limit section) (word ∷ words) h = begun_adds limit section (word ∷ words) (is_session (word ∷ words)) h
 
 -- Each text has a reading: line by line

@@ -1,14 +1,17 @@
 -- What the operands of a command are, and what it leaves of the registers.
 use Rattle.edge_bits.specs.declared.edges.Kind.{Kind}
-use Rattle.std.proofs.Common.{◌≡◌, ℕ, Bool, false, cond, List, [], ◌∷◌, ◌++◌, map, drop, refl, ap, ◌∙◌, codes}
+use Rattle.std.proofs.Common.{◌≡◌, ℕ, Bool, true, false, cond, List, [], ◌∷◌, ◌++◌, map, drop, refl, ap, sym, ◌∙◌, codes}
+use Rattle.std.specs.List.{list_any}
 use Rattle.std.specs.Str.{bytes_eq}
+use Rattle.std.proofs.lemmas.Bool.{false≢true}
+use Rattle.job_text.specs.declared.job.Act.{Act}
 use Rattle.job_text.specs.declared.job.Act.TheVariants as acts
 use Rattle.job_text.specs.declared.job.Counts.{Counts}
 use Rattle.job_text.specs.declared.job.Register.{Register}
 use Rattle.job_text.specs.declared.operands.Operand.{Operand}
 use Rattle.job_text.specs.Text.{Word}
-use Rattle.job_text.specs.Grammar.{Says, Spelling, assigns, tells, Spells, StandsFor, AllStandFor, Refers, register_made, registers_after, is_assignment, is_drop, target_of, without}
-use Rattle.job_text.proofs.Meanings.{no_assignment}
+use Rattle.job_text.specs.Grammar.{Says, Spelling, assigns, tells, Spells, spelling, is_called, StandsFor, AllStandFor, Refers, register_made, registers_after, is_assignment, is_drop, target_of, without}
+use Rattle.job_text.proofs.Meanings.{any_none, no_assignment}
 
 abbrev pub operands_of : Spelling → List Operand
 operands_of (assigns command os) = os
@@ -55,3 +58,11 @@ pub one_register_less : (n : Counts) (rs : List Register) (words : List Word) (a
 one_register_less n rs words a (([], e, h), proper) = absurd h
 one_register_less n rs words a ((x ∷ [], e, h), proper) = (x, h.0.0, h.0.1, ap (registers_after rs) e)
 one_register_less n rs words a ((x ∷ y ∷ rest, e, h), proper) = absurd h.1
+
+-- no register has the name that an assignment says
+pub assigns_fresh : (n : Counts) (rs : List Register) (words : List Word) (act : Act) → Says n rs words act → is_assignment words ≡ true → list_any (is_called (target_of words)) rs ≡ false
+assigns_fresh n rs words act says e = spelt_fresh n rs words (spelling act) says.0 e
+  where
+    spelt_fresh : (n : Counts) (rs : List Register) (words : List Word) (spelt : Spelling) → Spells n rs words spelt → is_assignment words ≡ true → list_any (is_called (target_of words)) rs ≡ false
+    spelt_fresh n rs words (assigns command os) h e = ap (λ t. list_any (is_called (target_of t)) rs) h.2 ∙ any_none rs h.0 h.3.1
+    spelt_fresh n rs words (tells command os) h e = absurd (false≢true (sym (ap is_assignment h.1 ∙ no_assignment n rs command h.0 os h.2) ∙ e))

@@ -11,5 +11,6 @@ pub mod Naming
 pub mod OneReading
 pub mod Reading
 pub mod RegisterLists
+pub mod NameIndex
 pub mod Spellings
 pub mod Split

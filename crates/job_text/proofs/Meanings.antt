@@ -39,7 +39,7 @@ other_name r w h = by_cases (bytes_eq r.name w) refl
     by_cases false e = e
     by_cases true e = absurd (h ((bytes_eq-Decides r.name w).0 e))
 
-any_none : (rs : List Register) (w : Word) → All (λ register. register.name ≢ w) rs → list_any (is_called w) rs ≡ false
+pub any_none : (rs : List Register) (w : Word) → All (λ register. register.name ≢ w) rs → list_any (is_called w) rs ≡ false
 any_none [] w h = refl
 any_none (r ∷ rs) w h = ap (λ b. b || list_any (is_called w) rs) (other_name r w (h 0 r (omega arith))) ∙ any_none rs w (λ k d lt. h (suc k) d (omega arith))
 
@@ -58,6 +58,9 @@ below v d n e h = grind (arith, nat_tests)
 pub variable_fits : (n : Counts) (rs : List Register) (w : Word) (v : ℕ) → IsNumber w v → v < n.vars → Fits n rs (places.Variable, w)
 variable_fits n rs w v h lt = (h.0, ap (λ b. cond b None (Some kinds.Range)) (below v (digits_value 10 w) n.vars h.1 lt))
 
+pub element_fits : (n : Counts) (rs : List Register) (w : Word) (e : ℕ) → IsNumber w e → e < n.elements → Fits n rs (places.Element, w)
+element_fits n rs w e h lt = (h.0, ap (λ b. cond b None (Some kinds.Range)) (below e (digits_value 10 w) n.elements h.1 lt))
+
 pub bit_fits : (n : Counts) (rs : List Register) (w : Word) (b : Bool) → w ≡ bit_word (b ∷ []) → Fits n rs (places.Bit, w)
 bit_fits n rs w true e = (ap is_bit e, refl)
 bit_fits n rs w false e = (ap is_bit e, refl)
@@ -70,6 +73,7 @@ operand_fits n rs slot (operands.Any a) h = subst (λ (p : Place). Fits n rs (p,
 operand_fits n rs slot (operands.Alike a) h = subst (λ (p : Place). Fits n rs (p, slot.1)) h.0 (h.1.1.0, named_well rs slot.1 a h.1.0 h.1.1)
 operand_fits n rs slot (operands.Variable v) h = subst (λ (p : Place). Fits n rs (p, slot.1)) h.0 (variable_fits n rs slot.1 v h.1.0 h.1.1)
 operand_fits n rs slot (operands.NewVariable v) h = subst (λ (p : Place). Fits n rs (p, slot.1)) h.0 (variable_fits n rs slot.1 v h.1.0 h.1.1)
+operand_fits n rs slot (operands.Element e) h = subst (λ (p : Place). Fits n rs (p, slot.1)) h.0 (element_fits n rs slot.1 e h.1.0 h.1.1)
 operand_fits n rs slot (operands.Value w) h = subst (λ (p : Place). Fits n rs (p, slot.1)) h.0 (h.1.0.0, ap (λ b. cond b None (Some kinds.Range)) (ap is_value h.1.0.1 ∙ h.1.1))
 operand_fits n rs slot (operands.Bit b) h = subst (λ (p : Place). Fits n rs (p, slot.1)) h.0 (bit_fits n rs slot.1 b h.1)
 operand_fits n rs slot (operands.Bits bs) h = subst (λ (p : Place). Fits n rs (p, slot.1)) h.0 (ap is_bits h.1 ∙ form_of_bits bs, refl)
@@ -152,6 +156,7 @@ no_equals n rs w (operands.Any a) h = unlike_equals is_name w equals_is_none.0 h
 no_equals n rs w (operands.Alike a) h = unlike_equals is_name w equals_is_none.0 h.1.0
 no_equals n rs w (operands.Variable v) h = unlike_equals is_number w equals_is_none.1 h.0.0
 no_equals n rs w (operands.NewVariable v) h = unlike_equals is_number w equals_is_none.1 h.0.0
+no_equals n rs w (operands.Element e) h = unlike_equals is_number w equals_is_none.1 h.0.0
 no_equals n rs w (operands.Value v) h = unlike_equals is_integer w equals_is_none.2 h.0.0
 no_equals n rs w (operands.Bit b) h = ap (λ t. bytes_eq t (codes "=")) h ∙ bits_no_equals (b ∷ [])
 no_equals n rs w (operands.Bits bs) h = ap (λ t. bytes_eq t (codes "=")) h ∙ bits_no_equals bs

@@ -1,9 +1,10 @@
 -- A text has one reading.
-use Rattle.std.proofs.Common.{◌≡◌, ℕ, suc, ◌+◌, ◌≤◌, ◌&&◌, Bool, true, false, not, cond, List, [], ◌∷◌, ◌++◌, length, map, filter, Option, Some, None, inl, inr, refl, ap, sym, ◌∙◌, subst, arith, codes}
+use Rattle.std.proofs.Common.{◌≡◌, ℕ, suc, ◌+◌, ◌≤◌, ◌&&◌, Bool, true, false, not, cond, List, [], ◌∷◌, ◌++◌, length, map, filter, Option, Some, None, inl, inr, refl, ap, sym, ◌∙◌, subst, arith, codes, append_assoc}
 use Rattle.std.specs.List.{list_all, flat_map, All}
 use Rattle.std.specs.Str.Parse.{digits_value}
 use Rattle.std.proofs.lemmas.Bool.{false≢true}
 use Rattle.std.proofs.lemmas.List.{append-nil}
+use Rattle.std.proofs.lemmas.Slice.Eq.{bytes_eq-Decides}
 use Rattle.job_text.specs.declared.job.Command.{Command}
 use Rattle.job_text.specs.declared.job.Job.{Job}
 use Rattle.job_text.specs.declared.job.Counts.{Counts}
@@ -11,11 +12,11 @@ use Rattle.job_text.specs.declared.job.Register.{Register}
 use Rattle.job_text.specs.declared.faults.FaultKind.{FaultKind}
 use Rattle.job_text.specs.declared.faults.FaultKind.TheVariants as kinds
 use Rattle.job_text.specs.Text.{Word, is_allowed, lines_of, words_of}
-use Rattle.job_text.specs.Grammar.{CommandsSay, counts_of, registers_after, section_lines, said_lines, LimitLines, IsJobText}
+use Rattle.job_text.specs.Grammar.{CommandsSay, counts_of, registers_after, section_lines, said_lines, ElementLines, LimitLines, IsJobText}
 use Rattle.job_text.specs.Faults.{Context, at_start, sized, within, counts_with, has_begun, words_fault, line_fault, context_after, context_behind, Faultless, FaultyLine}
 use Rattle.job_text.specs.Readings.{OneJob, OneFault, JobOrFault}
 use Rattle.job_text.proofs.Acts.{same_commands}
-use Rattle.job_text.proofs.Reading.{registers_behind, has_words, not_zero, command_line, vars_line, limit_line}
+use Rattle.job_text.proofs.Reading.{registers_behind, has_words, not_zero, command_line, vars_line, elements_line, limit_line}
 
 -- Where there is a fault, that line is not without one.
 at_bad : (c : Context) (good : List (List ℕ)) (bad : List ℕ) (rest : List (List ℕ)) (fault : FaultKind) → Faultless c (good ++ bad ∷ rest) → line_fault (context_behind c good) bad ≡ Some fault → ⊥
@@ -130,6 +131,22 @@ behind_limit c n elements limit limits commands e (inr h) low high says =
     subst (λ (t : List (List Word)). SaidWell c (t ++ section_lines commands) × (behind_said c (t ++ section_lines commands) ≡ within (counts_with n elements) (registers_behind [] commands))) (sym h.1)
     ((ap (λ t. words_fault t line) e ∙ limit_line n elements h.0 limit h.2 low high, rest.0), rest.1)
 
+behind_elements : (c : Context) (n m limit : ℕ) (counted limits : List (List Word)) (commands : List Command) → c ≡ sized n None false → ElementLines m counted → m ≤ 1024 → LimitLines limit limits → 5 + n ≤ limit → limit ≤ 8388607
+    → CommandsSay (record { vars = n; elements = m }) [] commands
+    → SaidWell c (counted ++ (limits ++ section_lines commands)) × (behind_said c (counted ++ (limits ++ section_lines commands)) ≡ within (record { vars = n; elements = m }) (registers_behind [] commands))
+behind_elements c n m limit counted limits commands e (inl h) few limited low high says =
+    let said = limits ++ section_lines commands in
+    let rest = behind_limit c n None limit limits commands e limited low high (subst (λ (k : ℕ). CommandsSay (record { vars = n; elements = k }) [] commands) h.1 says) in
+    subst (λ (t : List (List Word)). SaidWell c (t ++ said) × (behind_said c (t ++ said) ≡ within (record { vars = n; elements = m }) (registers_behind [] commands))) (sym h.0)
+    (rest.0, rest.1 ∙ ap (λ (k : ℕ). within (record { vars = n; elements = k }) (registers_behind [] commands)) (sym h.1))
+behind_elements c n m limit counted limits commands e (inr h) few limited low high says =
+    let said = limits ++ section_lines commands in
+    let line = codes "elements" ∷ h.0 ∷ [] in
+    let own = elements_line n h.0 m h.2 few in
+    let rest = behind_limit (context_after c line) n (Some m) limit limits commands (ap (λ t. context_after t line) e ∙ own.1) limited low high says in
+    subst (λ (t : List (List Word)). SaidWell c (t ++ said) × (behind_said c (t ++ said) ≡ within (record { vars = n; elements = m }) (registers_behind [] commands))) (sym h.1)
+    ((ap (λ t. words_fault t line) e ∙ own.0, rest.0), rest.1)
+
 one_of : (xs : List (List Command)) → length xs ≡ 1 → (x : List Command) × (xs ≡ x ∷ [])
 one_of [] e = absurd (omega arith)
 one_of (x ∷ []) e = (x, refl)
@@ -137,33 +154,33 @@ one_of (x ∷ y ∷ xs) e = absurd (omega arith)
 
 -- the lines with words of a job
 job_lines : (text : List ℕ) (job : Job) (h : IsJobText text job) → (commands : List Command) × (job.sections ≡ commands ∷ []) × CommandsSay (counts_of job) [] commands
-    × (said_lines (lines_of text) ≡ (codes "vars" ∷ h.number ∷ []) ∷ h.limits ++ section_lines commands)
+    × (said_lines (lines_of text) ≡ (codes "vars" ∷ h.number ∷ []) ∷ h.element_lines ++ (h.limits ++ section_lines commands))
 job_lines text job h =
     let one = one_of job.sections h.is_job.one_section in
     let says : All (CommandsSay (counts_of job) []) (one.0 ∷ []) = subst (λ (t : List (List Command)). All (CommandsSay (counts_of job) []) t) one.1 h.is_job.commands in (
       one.0,
       one.1,
       says 0 one.0 (omega arith),
-      h.lines ∙ ap (λ t. (codes "vars" ∷ h.number ∷ []) ∷ h.limits ++ flat_map section_lines t) one.1
-          ∙ ap (λ t. (codes "vars" ∷ h.number ∷ []) ∷ h.limits ++ t) (append-nil (section_lines one.0)),
+      h.lines ∙ ap (λ t. (codes "vars" ∷ h.number ∷ []) ∷ h.element_lines ++ h.limits ++ flat_map section_lines t) one.1
+          ∙ ap (λ t. (codes "vars" ∷ h.number ∷ []) ∷ h.element_lines ++ h.limits ++ t) (append-nil (section_lines one.0))
+          ∙ append_assoc ((codes "vars" ∷ h.number ∷ []) ∷ h.element_lines) h.limits (section_lines one.0),
     )
 
-job_faultless : (text : List ℕ) (job : Job) → IsJobText text job → (n : Counts) × (rs : List Register) × Faultless at_start (lines_of text) × (context_behind at_start (lines_of text) ≡ within n rs)
+job_faultless : (text : List ℕ) (job : Job) → IsJobText text job → (rs : List Register) × Faultless at_start (lines_of text) × (context_behind at_start (lines_of text) ≡ within (counts_of job) rs)
 job_faultless text job h =
     let said = job_lines text job h in
     let line = codes "vars" ∷ h.number ∷ [] in
     let first = vars_line h.number job.vars h.vars h.is_job.few_variables in
-    let says : CommandsSay (counts_with job.vars None) [] said.0 = subst (λ (m : ℕ). CommandsSay (record { vars = job.vars; elements = m }) [] said.0) h.no_elements said.2 in
-    let rest = behind_limit (context_after at_start line) job.vars None job.limit h.limits said.0 first.1 h.limit h.is_job.lowest_limit h.is_job.highest_limit says in
-    let well : SaidWell at_start (line ∷ h.limits ++ section_lines said.0) = (first.0, rest.0) in
+    let rest = behind_elements (context_after at_start line) job.vars job.elements job.limit h.element_lines h.limits said.0 first.1 h.elements h.is_job.few_elements h.limit h.is_job.lowest_limit h.is_job.highest_limit said.2 in
+    let well : SaidWell at_start (line ∷ h.element_lines ++ (h.limits ++ section_lines said.0)) = (first.0, rest.0) in
     let all = from_said at_start (lines_of text) h.clean (subst (SaidWell at_start) (sym said.3) well) in
-    (counts_with job.vars None, registers_behind [] said.0, all.0, all.1 ∙ ap (behind_said at_start) said.3 ∙ rest.1)
+    (registers_behind [] said.0, all.0, all.1 ∙ ap (behind_said at_start) said.3 ∙ rest.1)
 
 pub job_or_fault : JobOrFault
-job_or_fault text job place fault h (inl bad) = bad_within text place fault bad (job_faultless text job h).2
+job_or_fault text job place fault h (inl bad) = bad_within text place fault bad (job_faultless text job h).1
 job_or_fault text job place fault h (inr early) =
     let good = job_faultless text job h in
-    false≢true (sym early.early ∙ ap has_begun good.3)
+    false≢true (sym early.early ∙ ap has_begun good.2)
 
 same_job : (one other : Job) → one.vars ≡ other.vars → one.elements ≡ other.elements → one.limit ≡ other.limit → one.sections ≡ other.sections → one ≡ other
 same_job one other v e l s =
@@ -190,17 +207,51 @@ same_rest limit limit' limits limits' commands commands' (inr h) (inr h') e =
     let numbers : h.0 ≡ h'.0 = cc in
     (sym (h.2).1 ∙ ap (digits_value 10) numbers ∙ (h'.2).1, cc)
 
+-- a limit and the section's lines don't begin with a number of elements
+no_elements_first : (limit : ℕ) (limits : List (List Word)) (commands : List Command) (number : Word) (rest : List (List Word)) → LimitLines limit limits
+    → limits ++ section_lines commands ≡ (codes "elements" ∷ number ∷ []) ∷ rest → ⊥
+no_elements_first limit limits commands number rest (inl h) e =
+    let lines : section_lines commands ≡ (codes "elements" ∷ number ∷ []) ∷ rest = sym (ap (λ t. t ++ section_lines commands) h.0) ∙ e in
+    cc
+no_elements_first limit limits commands number rest (inr h) e =
+    let lines : (codes "limit" ∷ h.0 ∷ []) ∷ section_lines commands ≡ (codes "elements" ∷ number ∷ []) ∷ rest = sym (ap (λ t. t ++ section_lines commands) h.1) ∙ e in
+    let words : codes "limit" ≡ codes "elements" = cc in
+    false≢true ((bytes_eq-Decides (codes "limit") (codes "elements")).1 words)
+
+-- the number of elements is told from what follows
+same_elements : (m m' : ℕ) (counted counted' rest rest' : List (List Word)) → ElementLines m counted → ElementLines m' counted'
+    → ((number : Word) (more : List (List Word)) → rest ≡ (codes "elements" ∷ number ∷ []) ∷ more → ⊥)
+    → ((number : Word) (more : List (List Word)) → rest' ≡ (codes "elements" ∷ number ∷ []) ∷ more → ⊥) → counted ++ rest ≡ counted' ++ rest' → (m ≡ m') × (rest ≡ rest')
+same_elements m m' counted counted' rest rest' (inl h) (inl h') other other' e =
+    (h.1 ∙ sym h'.1, sym (ap (λ t. t ++ rest) h.0) ∙ e ∙ ap (λ t. t ++ rest') h'.0)
+same_elements m m' counted counted' rest rest' (inl h) (inr h') other other' e =
+    absurd (other h'.0 rest' (sym (ap (λ t. t ++ rest) h.0) ∙ e ∙ ap (λ t. t ++ rest') h'.1))
+same_elements m m' counted counted' rest rest' (inr h) (inl h') other other' e =
+    absurd (other' h.0 rest (sym (sym (ap (λ t. t ++ rest) h.1) ∙ e ∙ ap (λ t. t ++ rest') h'.0)))
+same_elements m m' counted counted' rest rest' (inr h) (inr h') other other' e =
+    let lines : (codes "elements" ∷ h.0 ∷ []) ∷ rest ≡ (codes "elements" ∷ h'.0 ∷ []) ∷ rest' = sym (ap (λ t. t ++ rest) h.1) ∙ e ∙ ap (λ t. t ++ rest') h'.1 in
+    let numbers : h.0 ≡ h'.0 = cc in
+    (sym (h.2).1 ∙ ap (digits_value 10) numbers ∙ (h'.2).1, cc)
+
+same_counts : (v v' m m' : ℕ) → v ≡ v' → m ≡ m' → ◌≡◌ {A = Counts} (record { vars = v; elements = m }) (record { vars = v'; elements = m' })
+same_counts v v' m m' e f = ap (λ (t : ℕ). record { vars = t; elements = m }) e ∙ ap (λ (t : ℕ). record { vars = v'; elements = t }) f
+
+same_sections : (one other : List (List Command)) (commands commands' : List Command) → one ≡ commands ∷ [] → other ≡ commands' ∷ [] → commands ≡ commands' → one ≡ other
+same_sections one other commands commands' e f same = e ∙ ap (λ t. t ∷ []) same ∙ sym f
+
 pub one_job : OneJob
 one_job text one other h h' =
     let said = job_lines text one h in
     let said' = job_lines text other h' in
-    let lines : (codes "vars" ∷ h.number ∷ []) ∷ h.limits ++ section_lines said.0 ≡ (codes "vars" ∷ h'.number ∷ []) ∷ h'.limits ++ section_lines said'.0 = sym said.3 ∙ said'.3 in
+    let lines : (codes "vars" ∷ h.number ∷ []) ∷ h.element_lines ++ (h.limits ++ section_lines said.0) ≡ (codes "vars" ∷ h'.number ∷ []) ∷ h'.element_lines ++ (h'.limits ++ section_lines said'.0) =
+    sym said.3 ∙ said'.3 in
     let numbers : h.number ≡ h'.number = cc in
-    let behind : h.limits ++ section_lines said.0 ≡ h'.limits ++ section_lines said'.0 = cc in
-    let rest = same_rest one.limit other.limit h.limits h'.limits said.0 said'.0 h.limit h'.limit behind in
+    let behind : h.element_lines ++ (h.limits ++ section_lines said.0) ≡ h'.element_lines ++ (h'.limits ++ section_lines said'.0) = cc in
+    let counted = same_elements one.elements other.elements h.element_lines h'.element_lines (h.limits ++ section_lines said.0) (h'.limits ++ section_lines said'.0) h.elements h'.elements
+    (λ number more e. no_elements_first one.limit h.limits said.0 number more h.limit e) (λ number more e. no_elements_first other.limit h'.limits said'.0 number more h'.limit e) behind in
+    let rest = same_rest one.limit other.limit h.limits h'.limits said.0 said'.0 h.limit h'.limit counted.1 in
     let vars : one.vars ≡ other.vars = sym h.vars.1 ∙ ap (digits_value 10) numbers ∙ h'.vars.1 in
-    let elements : one.elements ≡ other.elements = h.no_elements ∙ sym h'.no_elements in
-    let counts : counts_of one ≡ counts_of other =
-    ap (λ (t : ℕ). record { vars = t; elements = one.elements }) vars ∙ ap (λ (t : ℕ). record { vars = other.vars; elements = t }) elements in
-    same_job one other vars elements rest.0
-    (said.1 ∙ ap (λ t. t ∷ []) (same_commands (counts_of one) [] said.0 said'.0 said.2 (subst (λ (n : Counts). CommandsSay n [] said'.0) (sym counts) said'.2) rest.1) ∙ sym said'.1)
+    let counts : counts_of one ≡ counts_of other = same_counts one.vars other.vars one.elements other.elements vars counted.0 in
+    same_job one other vars counted.0 rest.0
+    (same_sections one.sections other.sections said.0 said'.0 said.1 said'.1
+    (same_commands (counts_of one) [] said.0 said'.0 said.2 (subst (λ (n : Counts). CommandsSay n [] said'.0) (sym counts) said'.2) rest.1))

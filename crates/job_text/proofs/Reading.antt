@@ -20,9 +20,9 @@ use Rattle.job_text.specs.declared.faults.FaultKind.TheVariants as kinds
 use Rattle.job_text.specs.declared.faults.JobError.{JobError}
 use Rattle.job_text.specs.declared.faults.JobError.TheVariants as errors
 use Rattle.job_text.specs.Text.{Word, IsNumber, is_number, is_allowed, lines_of, words_of, line_words}
-use Rattle.job_text.specs.Grammar.{Says, CommandsSay, registers_after, is_assignment, is_drop, without, section_lines, said_lines, LimitLines, IsJobText}
+use Rattle.job_text.specs.Grammar.{Says, CommandsSay, registers_after, is_assignment, is_drop, without, section_lines, said_lines, ElementLines, LimitLines, IsJobText}
 use Rattle.job_text.specs.Faults.{Context, at_start, sized, within, has_begun, words_fault, line_fault, context_after, context_behind, Faultless, FaultyLine, HasFault, command_fault, is_session}
-use Rattle.job_text.specs.Drafts.{context_in, Adds, adds_nothing, adds_vars, adds_limit, adds_session, adds_command, IsSmall, EndStop}
+use Rattle.job_text.specs.Drafts.{context_in, Adds, adds_nothing, adds_vars, adds_elements, adds_limit, adds_session, adds_command, IsSmall, EndStop}
 use Rattle.job_text.proofs.Meanings.{says_well, says_words}
 
 abbrev pub has_words : List Word → Bool
@@ -33,22 +33,26 @@ abbrev pub registers_behind : List Register → List Command → List Register
 registers_behind registers [] = registers
 registers_behind registers (command ∷ commands) = registers_behind (registers_after registers command.words) commands
 
--- the line of a limit that was given
-abbrev pub GivenLimit : Option ℕ → List (List Word) → Type 0
-GivenLimit None lines = lines ≡ []
-GivenLimit (Some limit) lines = (number : Word) × (lines ≡ (codes "limit" ∷ number ∷ []) ∷ []) × IsNumber number limit
+-- the line of a number that was given
+abbrev pub GivenLine : Word → Option ℕ → List (List Word) → Type 0
+GivenLine word None lines = lines ≡ []
+GivenLine word (Some n) lines = (number : Word) × (lines ≡ (word ∷ number ∷ []) ∷ []) × IsNumber number n
+
+-- the line of the number of variables
+abbrev pub line_of_vars : Word → List Word
+line_of_vars number = codes "vars" ∷ number ∷ []
 
 -- the lines with words that make a draft
 abbrev pub Spelled : Draft → List (List Word) → Type 0
 Spelled Nothing said = said ≡ []
-Spelled (Sized n elements given) said = (number : Word) × (limits : List (List Word)) × IsNumber number n × GivenLimit given limits
-    × (said ≡ (codes "vars" ∷ number ∷ []) ∷ limits)
-    × (elements ≡ None)
-Spelled (Begun limit section) said = (number : Word) × (limits : List (List Word)) × IsNumber number section.scope.counts.vars × LimitLines limit limits
-    × (said ≡ (codes "vars" ∷ number ∷ []) ∷ limits ++ section_lines section.commands)
+Spelled (Sized n elements given) said = (number : Word) × (counted limits : List (List Word)) × IsNumber number n × GivenLine (codes "elements") elements counted
+    × GivenLine (codes "limit") given limits
+    × (said ≡ line_of_vars number ∷ counted ++ limits)
+Spelled (Begun limit section) said = (number : Word) × (counted limits : List (List Word)) × IsNumber number section.scope.counts.vars × ElementLines section.scope.counts.elements counted
+    × LimitLines limit limits
+    × (said ≡ line_of_vars number ∷ counted ++ (limits ++ section_lines section.commands))
     × CommandsSay section.scope.counts [] section.commands
     × (section.scope.registers ≡ registers_behind [] section.commands)
-    × (section.scope.counts.elements ≡ 0)
 
 -- These lines have no fault, and make this draft.
 pub record IsRead (lines : List (List ℕ)) (draft : Draft) : Type 0 where
@@ -127,6 +131,13 @@ vars_line number n h le = (
   ap (λ k. sized k None false) h.1,
 )
 
+pub elements_line : (n : ℕ) (number : Word) (m : ℕ) → IsNumber number m → m ≤ 1024
+    → (words_fault (sized n None false) (codes "elements" ∷ number ∷ []) ≡ None) × (context_after (sized n None false) (codes "elements" ∷ number ∷ []) ≡ sized n (Some m) false)
+elements_line n number m h le = (
+  number_well (is_number number) (nat_le (digits_value 10 number) 1024) kinds.Range h.0 (in_range (digits_value 10 number) m h.1 le),
+  ap (λ k. sized n (Some k) false) h.1,
+)
+
 pub limit_line : (n : ℕ) (elements : Option ℕ) (number : Word) (limit : ℕ) → IsNumber number limit → 5 + n ≤ limit → limit ≤ 8388607 → words_fault (sized n elements false) (codes "limit" ∷ number ∷ []) ≡ None
 limit_line n elements number limit h low high =
     number_well (is_number number) (nat_le (5 + n) (digits_value 10 number) && nat_le (digits_value 10 number) 8388607) kinds.Limit h.0
@@ -139,6 +150,11 @@ adds_well old new words (adds_vars h) =
     let line = vars_line h.0 h.1 h.3 h.4 in (
       ap (λ t. words_fault (context_in t) words) h.5 ∙ ap (words_fault at_start) h.2 ∙ line.0,
       ap (λ t. context_after (context_in t) words) h.5 ∙ ap (context_after at_start) h.2 ∙ line.1 ∙ sym (ap context_in h.6),
+    )
+adds_well old new words (adds_elements h) =
+    let line = elements_line h.1 h.0 h.2 h.4 h.5 in (
+      ap (λ t. words_fault (context_in t) words) h.6 ∙ ap (words_fault (sized h.1 None false)) h.3 ∙ line.0,
+      ap (λ t. context_after (context_in t) words) h.6 ∙ ap (context_after (sized h.1 None false)) h.3 ∙ line.1 ∙ sym (ap context_in h.7),
     )
 adds_well old new words (adds_limit h) = (
   ap (λ t. words_fault (context_in t) words) h.8 ∙ ap (words_fault (sized h.1 h.3 false)) h.4 ∙ limit_line h.1 h.3 h.0 h.2 h.5 h.6 h.7,
@@ -153,9 +169,13 @@ adds_well old new words (adds_command h) =
     (line.0, line.1 ∙ sym (ap context_in h.5))
 
 -- What it makes of the lines with words
-limit_lines : (given : Option ℕ) (limits : List (List Word)) → GivenLimit given limits → LimitLines (unwrap_or given 262144) limits
+limit_lines : (given : Option ℕ) (limits : List (List Word)) → GivenLine (codes "limit") given limits → LimitLines (unwrap_or given 262144) limits
 limit_lines None limits h = inl (h, refl)
 limit_lines (Some limit) limits h = inr h
+
+element_lines : (elements : Option ℕ) (counted : List (List Word)) → GivenLine (codes "elements") elements counted → ElementLines (unwrap_or elements 0) counted
+element_lines None counted h = inl (h, refl)
+element_lines (Some m) counted h = inr h
 
 pub adds_spelled : (old new : Draft) (words : List Word) (said : List (List Word)) → Adds old words new → Spelled old said → Spelled new (said ++ filter has_words (words ∷ []))
 adds_spelled old new words said (adds_nothing e f) h =
@@ -164,47 +184,68 @@ adds_spelled old new words said (adds_nothing e f) h =
 adds_spelled old new words said (adds_vars g) h =
     let empty : said ≡ [] = subst (λ (t : Draft). Spelled t said) g.5 h in
     subst (λ (t : Draft). Spelled t (said ++ filter has_words (words ∷ []))) (sym g.6)
-    (g.0, [], g.3, refl, ap (λ t. t ++ filter has_words (words ∷ [])) empty ∙ ap (λ ws. filter has_words (ws ∷ [])) g.2 ∙ some_words (codes "vars") (g.0 ∷ []), refl)
+    (g.0, [], [], g.3, refl, refl, ap (λ t. t ++ filter has_words (words ∷ [])) empty ∙ ap (λ ws. filter has_words (ws ∷ [])) g.2 ∙ some_words (codes "vars") (g.0 ∷ []))
+adds_spelled old new words said (adds_elements g) h =
+    let k : Spelled (Sized g.1 None None) said = subst (λ (t : Draft). Spelled t said) g.6 h in
+    let line = codes "elements" ∷ g.0 ∷ [] in
+    let before : said ≡ line_of_vars k.0 ∷ [] = k.6 ∙ ap (λ t. line_of_vars k.0 ∷ t ++ k.2) k.4 ∙ ap (λ t. line_of_vars k.0 ∷ t) k.5 in
+    let behind : filter has_words (words ∷ []) ≡ line ∷ [] = ap (λ ws. filter has_words (ws ∷ [])) g.3 ∙ some_words (codes "elements") (g.0 ∷ []) in
+    subst (λ (t : Draft). Spelled t (said ++ filter has_words (words ∷ []))) (sym g.7) (
+      k.0,
+      line ∷ [],
+      [],
+      k.3,
+      (g.0, refl, g.4),
+      refl,
+      ap (λ t. t ++ filter has_words (words ∷ [])) before ∙ ap (λ t. line_of_vars k.0 ∷ t) behind,
+    )
 adds_spelled old new words said (adds_limit g) h =
     let k : Spelled (Sized g.1 g.3 None) said = subst (λ (t : Draft). Spelled t said) g.8 h in
+    let line = codes "limit" ∷ g.0 ∷ [] in
+    let before : said ≡ line_of_vars k.0 ∷ k.1 = k.6 ∙ ap (λ t. line_of_vars k.0 ∷ k.1 ++ t) k.5 ∙ append-nil (line_of_vars k.0 ∷ k.1) in
+    let behind : filter has_words (words ∷ []) ≡ line ∷ [] = ap (λ ws. filter has_words (ws ∷ [])) g.4 ∙ some_words (codes "limit") (g.0 ∷ []) in
     subst (λ (t : Draft). Spelled t (said ++ filter has_words (words ∷ []))) (sym g.9) (
       k.0,
-      (codes "limit" ∷ g.0 ∷ []) ∷ [],
-      k.2,
+      k.1,
+      line ∷ [],
+      k.3,
+      k.4,
       (g.0, refl, g.5),
-      ap (λ t. t ++ filter has_words (words ∷ [])) (k.4 ∙ ap (λ t. (codes "vars" ∷ k.0 ∷ []) ∷ t) k.3) ∙ ap (λ ws. (codes "vars" ∷ k.0 ∷ []) ∷ filter has_words (ws ∷ [])) g.4
-          ∙ ap (λ t. (codes "vars" ∷ k.0 ∷ []) ∷ t) (some_words (codes "limit") (g.0 ∷ [])),
-      k.5,
+      ap (λ t. t ++ filter has_words (words ∷ [])) before ∙ ap (λ t. line_of_vars k.0 ∷ k.1 ++ t) behind,
     )
 adds_spelled old new words said (adds_session g) h =
     let k : Spelled (Sized g.0 g.1 g.2) said = subst (λ (t : Draft). Spelled t said) g.4 h in
-    subst (λ (t : Draft). Spelled t (said ++ filter has_words (words ∷ []))) (sym g.5) (
-      k.0,
-      k.1,
-      k.2,
-      limit_lines g.2 k.1 k.3,
-      ap (λ t. t ++ filter has_words (words ∷ [])) k.4 ∙ ap (λ ws. (codes "vars" ∷ k.0 ∷ []) ∷ k.1 ++ filter has_words (ws ∷ [])) g.3
-          ∙ ap (λ t. (codes "vars" ∷ k.0 ∷ []) ∷ k.1 ++ t) (some_words (codes "session") []),
-      tt,
-      refl,
-      ap (λ t. unwrap_or t 0) k.5,
-    )
-adds_spelled old new words said (adds_command g) h =
-    let k : Spelled (Begun g.0 g.1) said = subst (λ (t : Draft). Spelled t said) g.3 h in
-    let n = (g.1).scope.counts in
-    let rs = (g.1).scope.registers in
-    let some = says_words n rs words g.2 g.4 in
-    let one : filter has_words (words ∷ []) ≡ words ∷ [] = ap (λ ws. filter has_words (ws ∷ [])) some.2 ∙ some_words some.0 some.1 ∙ sym (ap (λ ws. ws ∷ []) some.2) in
+    let behind : filter has_words (words ∷ []) ≡ section_lines [] = ap (λ ws. filter has_words (ws ∷ [])) g.3 ∙ some_words (codes "session") [] in
     subst (λ (t : Draft). Spelled t (said ++ filter has_words (words ∷ []))) (sym g.5) (
       k.0,
       k.1,
       k.2,
       k.3,
-      ap (λ t. said ++ t) one ∙ ap (λ t. t ++ words ∷ []) k.4 ∙ append_assoc ((codes "vars" ∷ k.0 ∷ []) ∷ k.1) (section_lines (g.1).commands) (words ∷ [])
-          ∙ ap (λ t. (codes "vars" ∷ k.0 ∷ []) ∷ k.1 ++ t) (sym (section_more (g.1).commands words g.2)),
-      say_more n [] (g.1).commands words g.2 k.5 (subst (λ (t : List Register). Says n t words g.2) k.6 g.4),
-      ap (λ t. registers_after t words) k.6 ∙ sym (behind_more [] (g.1).commands words g.2),
-      k.7,
+      element_lines g.1 k.1 k.4,
+      limit_lines g.2 k.2 k.5,
+      ap (λ t. t ++ filter has_words (words ∷ [])) k.6 ∙ append_assoc (line_of_vars k.0 ∷ k.1) k.2 (filter has_words (words ∷ [])) ∙ ap (λ t. line_of_vars k.0 ∷ k.1 ++ (k.2 ++ t)) behind,
+      tt,
+      refl,
+    )
+adds_spelled old new words said (adds_command g) h =
+    let k : Spelled (Begun g.0 g.1) said = subst (λ (t : Draft). Spelled t said) g.3 h in
+    let n = (g.1).scope.counts in
+    let rs = (g.1).scope.registers in
+    let commands = (g.1).commands in
+    let some = says_words n rs words g.2 g.4 in
+    let one : filter has_words (words ∷ []) ≡ words ∷ [] = ap (λ ws. filter has_words (ws ∷ [])) some.2 ∙ some_words some.0 some.1 ∙ sym (ap (λ ws. ws ∷ []) some.2) in
+    let more : (k.2 ++ section_lines commands) ++ words ∷ [] ≡ k.2 ++ section_lines (commands ++ record { words = words; act = g.2 } ∷ []) =
+    append_assoc k.2 (section_lines commands) (words ∷ []) ∙ ap (λ t. k.2 ++ t) (sym (section_more commands words g.2)) in
+    subst (λ (t : Draft). Spelled t (said ++ filter has_words (words ∷ []))) (sym g.5) (
+      k.0,
+      k.1,
+      k.2,
+      k.3,
+      k.4,
+      k.5,
+      ap (λ t. said ++ t) one ∙ ap (λ t. t ++ words ∷ []) k.6 ∙ append_assoc (line_of_vars k.0 ∷ k.1) (k.2 ++ section_lines commands) (words ∷ []) ∙ ap (λ t. line_of_vars k.0 ∷ k.1 ++ t) more,
+      say_more n [] commands words g.2 k.7 (subst (λ (t : List Register). Says n t words g.2) k.8 g.4),
+      ap (λ t. registers_after t words) k.8 ∙ sym (behind_more [] commands words g.2),
     )
 
 -- and of the number of registers
@@ -236,6 +277,9 @@ few_elements (Some m) h = h
 pub adds_small : (old new : Draft) (words : List Word) (count : ℕ) → Adds old words new → IsSmall old count → IsSmall new (count + 1)
 adds_small old new words count (adds_nothing e f) h = subst (λ (t : Draft). IsSmall t (count + 1)) (sym f) (small_up old count (count + 1) (omega arith) h)
 adds_small old new words count (adds_vars g) h = subst (λ (t : Draft). IsSmall t (count + 1)) (sym g.6) (g.4, tt, tt)
+adds_small old new words count (adds_elements g) h =
+    let k : IsSmall (Sized g.1 None None) count = subst (λ (t : Draft). IsSmall t count) g.6 h in
+    subst (λ (t : Draft). IsSmall t (count + 1)) (sym g.7) (k.0, g.5, tt)
 adds_small old new words count (adds_limit g) h =
     let k : IsSmall (Sized g.1 g.3 None) count = subst (λ (t : Draft). IsSmall t count) g.8 h in
     subst (λ (t : Draft). IsSmall t (count + 1)) (sym g.9) (k.0, k.1, (g.6, g.7))
@@ -317,18 +361,20 @@ job_from text draft (Ok job) read h =
     (record {
       clean = read.clean;
       number = spelled.0;
-      vars = spelled.2;
-      no_elements = spelled.7;
-      limits = spelled.1;
-      limit = spelled.3;
-      lines = spelled.4 ∙ ap (λ t. (codes "vars" ∷ spelled.0 ∷ []) ∷ spelled.1 ++ t) (sym (append-nil (section_lines section.commands)));
+      vars = spelled.3;
+      element_lines = spelled.1;
+      elements = spelled.4;
+      limits = spelled.2;
+      limit = spelled.5;
+      lines = spelled.6 ∙ sym (append_assoc (line_of_vars spelled.0 ∷ spelled.1) spelled.2 (section_lines section.commands))
+          ∙ ap (λ t. line_of_vars spelled.0 ∷ spelled.1 ++ spelled.2 ++ t) (sym (append-nil (section_lines section.commands)));
       is_job = record {
         few_variables = small.0;
         few_elements = small.1;
         lowest_limit = small.2;
         highest_limit = small.3;
         one_section = refl;
-        commands = all_one (CommandsSay section.scope.counts []) section.commands spelled.5;
+        commands = all_one (CommandsSay section.scope.counts []) section.commands spelled.7;
       };
     })
 

@@ -7,7 +7,7 @@ use Rattle.std.proofs.lemmas.Bool.Decides.{nat_tests}
 use Rattle.std.proofs.lemmas.List.{append-nil}
 use Rattle.std.proofs.lemmas.Slice.Eq.{bytes_eq-Decides}
 use Rattle.edge_bits.specs.declared.edges.Kind.{Kind}
-use Rattle.edge_bits.specs.declared.edges.Kind.TheVariants.{Bdd, Add}
+use Rattle.edge_bits.specs.declared.edges.Kind.TheVariants.{Bdd, Add, Zdd}
 use Rattle.job_text.specs.declared.job.Act.{Act}
 use Rattle.job_text.specs.declared.job.Act.TheVariants as acts
 use Rattle.job_text.specs.declared.job.Counts.{Counts}
@@ -15,7 +15,7 @@ use Rattle.job_text.specs.declared.job.Register.{Register}
 use Rattle.job_text.specs.declared.commands.Operation.{Operation}
 use Rattle.job_text.specs.declared.commands.Operation.TheVariants as does
 use Rattle.job_text.specs.declared.commands.Place.{Place}
-use Rattle.job_text.specs.declared.commands.Place.TheVariants.{Fresh, Held, Any, Alike, Variable, NewVariable, Value, Bit, Bits}
+use Rattle.job_text.specs.declared.commands.Place.TheVariants.{Fresh, Held, Any, Alike, Variable, NewVariable, Element, Value, Bit, Bits}
 use Rattle.job_text.specs.declared.faults.FaultKind.TheVariants as kinds
 use Rattle.job_text.specs.declared.operands.Operand.{Operand}
 use Rattle.job_text.specs.declared.operands.Operand.TheVariants as operands
@@ -85,6 +85,7 @@ IsAt Any o = (a : ℕ) × (o ≡ operands.Any a)
 IsAt Alike o = (a : ℕ) × (o ≡ operands.Alike a)
 IsAt Variable o = (v : ℕ) × (o ≡ operands.Variable v)
 IsAt NewVariable o = (v : ℕ) × (o ≡ operands.NewVariable v)
+IsAt Element o = (e : ℕ) × (o ≡ operands.Element e)
 IsAt Value o = (w : ℤ) × (o ≡ operands.Value w)
 IsAt Bit o = (b : Bool) × (o ≡ operands.Bit b)
 IsAt Bits o = (bits : List Bool) × (o ≡ operands.Bits bits)
@@ -96,6 +97,7 @@ at_own (operands.Any a) = (a, refl)
 at_own (operands.Alike a) = (a, refl)
 at_own (operands.Variable v) = (v, refl)
 at_own (operands.NewVariable v) = (v, refl)
+at_own (operands.Element e) = (e, refl)
 at_own (operands.Value w) = (w, refl)
 at_own (operands.Bit b) = (b, refl)
 at_own (operands.Bits bits) = (bits, refl)
@@ -106,6 +108,10 @@ at_due o place e = subst (λ (p : Place). IsAt p o) e (at_own o)
 none_left : (os : List Operand) → Follows [] [] os → os ≡ []
 none_left [] h = refl
 none_left (o ∷ os) h = absurd h
+
+-- an operand in front of others that are known
+front : (o : Operand) (os rest given : List Operand) → os ≡ o ∷ rest → rest ≡ given → os ≡ o ∷ given
+front o os rest given e f = e ∙ ap (λ t. o ∷ t) f
 
 -- the operand of the first place, and then what follows
 register_first : (kind : Kind) (due repeated : List Place) (os : List Operand) → Follows (Held kind ∷ due) repeated os → (a : ℕ) × (rest : List Operand) × (os ≡ operands.Register kind a ∷ rest) × Follows due repeated rest
@@ -131,6 +137,10 @@ new_variable_first due repeated (o ∷ os) h = let r = at_due o NewVariable h.0 
 value_first : (due repeated : List Place) (os : List Operand) → Follows (Value ∷ due) repeated os → (w : ℤ) × (rest : List Operand) × (os ≡ operands.Value w ∷ rest) × Follows due repeated rest
 value_first due repeated [] h = absurd h
 value_first due repeated (o ∷ os) h = let r = at_due o Value h.0 in (r.0, os, ap (λ t. t ∷ os) r.1, h.1)
+
+element_first : (due repeated : List Place) (os : List Operand) → Follows (Element ∷ due) repeated os → (e : ℕ) × (rest : List Operand) × (os ≡ operands.Element e ∷ rest) × Follows due repeated rest
+element_first due repeated [] h = absurd h
+element_first due repeated (o ∷ os) h = let r = at_due o Element h.0 in (r.0, os, ap (λ t. t ∷ os) r.1, h.1)
 
 bit_first : (due repeated : List Place) (os : List Operand) → Follows (Bit ∷ due) repeated os → (b : Bool) × (rest : List Operand) × (os ≡ operands.Bit b ∷ rest) × Follows due repeated rest
 bit_first due repeated [] h = absurd h
@@ -174,6 +184,17 @@ one_value : (os : List Operand) → Follows (Value ∷ []) [] os → (w : ℤ) �
 one_value os h =
     let x = value_first [] [] os h in
     (x.0, x.2 ∙ ap (λ t. operands.Value x.0 ∷ t) (none_left x.1 x.3))
+
+one_element : (os : List Operand) → Follows (Element ∷ []) [] os → (e : ℕ) × (os ≡ operands.Element e ∷ [])
+one_element os h =
+    let x = element_first [] [] os h in
+    (x.0, x.2 ∙ ap (λ t. operands.Element x.0 ∷ t) (none_left x.1 x.3))
+
+register_and_element : (k : Kind) (os : List Operand) → Follows (Held k ∷ Element ∷ []) [] os → (a e : ℕ) × (os ≡ operands.Register k a ∷ operands.Element e ∷ [])
+register_and_element k os h =
+    let x = register_first k (Element ∷ []) [] os h in
+    let y = one_element x.1 x.3 in
+    (x.0, y.0, x.2 ∙ ap (λ t. operands.Register k x.0 ∷ t) y.1)
 
 register_and_variable : (k : Kind) (os : List Operand) → Follows (Held k ∷ Variable ∷ []) [] os → (a v : ℕ) × (os ≡ operands.Register k a ∷ operands.Variable v ∷ [])
 register_and_variable k os h =
@@ -249,7 +270,7 @@ register_and_pairs os h =
       x.0,
       (y.0, z.0),
       more.0,
-      x.2 ∙ ap (λ t. bdd x.0 ∷ t) (y.2 ∙ ap (λ t. operands.NewVariable y.0 ∷ t) (z.2 ∙ ap (λ t. bdd z.0 ∷ t) more.1)),
+      front (bdd x.0) os x.1 _ x.2 (front (operands.NewVariable y.0) x.1 y.1 _ y.2 (front (bdd z.0) y.1 z.1 (flat_map pair_operands more.0) z.2 more.1)),
     )
 
 -- Over some registers and numbers
@@ -332,6 +353,17 @@ module _ (n : Counts) (rs : List Register) where
   known (acts.SumOver a v) proper = record { own = _; found = refl; follows = (refl, (refl, tt)); new = (refl, (refl, tt)); made = refl }
   known (acts.AtLeast a w) proper = record { own = _; found = refl; follows = (refl, (refl, tt)); new = (refl, (refl, tt)); made = refl }
   known (acts.Pattern a) proper = record { own = _; found = refl; follows = (refl, tt); new = (refl, tt); made = refl }
+  known acts.Empty proper = record { own = _; found = refl; follows = tt; new = tt; made = refl }
+  known acts.Base proper = record { own = _; found = refl; follows = tt; new = tt; made = refl }
+  known (acts.Single e) proper = record { own = _; found = refl; follows = (refl, tt); new = (refl, tt); made = refl }
+  known (acts.Union a b) proper = record { own = _; found = refl; follows = (refl, (refl, tt)); new = (refl, (refl, tt)); made = refl }
+  known (acts.Meet a b) proper = record { own = _; found = refl; follows = (refl, (refl, tt)); new = (refl, (refl, tt)); made = refl }
+  known (acts.Diff a b) proper = record { own = _; found = refl; follows = (refl, (refl, tt)); new = (refl, (refl, tt)); made = refl }
+  known (acts.Subset1 a e) proper = record { own = _; found = refl; follows = (refl, (refl, tt)); new = (refl, (refl, tt)); made = refl }
+  known (acts.Subset0 a e) proper = record { own = _; found = refl; follows = (refl, (refl, tt)); new = (refl, (refl, tt)); made = refl }
+  known (acts.Change a e) proper = record { own = _; found = refl; follows = (refl, (refl, tt)); new = (refl, (refl, tt)); made = refl }
+  known (acts.Product a b) proper = record { own = _; found = refl; follows = (refl, (refl, tt)); new = (refl, (refl, tt)); made = refl }
+  known (acts.Quotient a b) proper = record { own = _; found = refl; follows = (refl, (refl, tt)); new = (refl, (refl, tt)); made = refl }
   known (acts.Drop a) proper = (record { own = _; found = refl; follows = (refl, tt); new = (refl, tt); made = refl }, refl)
   known (acts.Same a b) proper = (record { own = _; found = refl; follows = (refl, (refl, tt)); new = (refl, (alike (kind_at rs a) (kind_at rs b) proper, tt)); made = refl }, refl)
   known (acts.Leq a b) proper = (record { own = _; found = refl; follows = (refl, (refl, tt)); new = (refl, (refl, tt)); made = refl }, refl)
@@ -380,9 +412,16 @@ module _ (n : Counts) (rs : List Register) where
       let all : AllFit n rs no_operands given = subst (AllFit n rs no_operands) x.2 new in
       (along tells (codes "eval") does.Eval os given x.2 refl, proper_along does.Eval os given x.2 (as_many (length x.1) (bits_for n (kind_at rs x.0)) all.1.0))
 
+  -- the commands that make families
+  subsets_build : EachBuilds assigns (drop 34 assigning)
+  subsets_build = ((λ os h new. (along assigns (codes "on") does.Subset1 os _ (register_and_element Zdd os h).2 refl, tt)), ((λ os h new. (along assigns (codes "off") does.Subset0 os _ (register_and_element Zdd os h).2 refl, tt)), ((λ os h new. (along assigns (codes "flip") does.Change os _ (register_and_element Zdd os h).2 refl, tt)), ((λ os h new. (along assigns (codes "product") does.Product os _ (two_registers Zdd Zdd os h).2 refl, tt)), ((λ os h new. (along assigns (codes "quotient") does.Quotient os _ (two_registers Zdd Zdd os h).2 refl, tt)), tt)))))
+
+  families_build : EachBuilds assigns (drop 28 assigning)
+  families_build = ((λ os h new. (along assigns (codes "empty") does.Empty os [] (none_left os h) refl, tt)), ((λ os h new. (along assigns (codes "base") does.Base os [] (none_left os h) refl, tt)), ((λ os h new. (along assigns (codes "single") does.Single os _ (one_element os h).1 refl, tt)), ((λ os h new. (along assigns (codes "union") does.Union os _ (two_registers Zdd Zdd os h).2 refl, tt)), ((λ os h new. (along assigns (codes "meet") does.Meet os _ (two_registers Zdd Zdd os h).2 refl, tt)), ((λ os h new. (along assigns (codes "diff") does.Diff os _ (two_registers Zdd Zdd os h).2 refl, tt)), subsets_build))))))
+
   -- the commands that make ADDs, and BDDs of them
   arithmetic_builds : EachBuilds assigns (drop 24 assigning)
-  arithmetic_builds = ((λ os h new. (along assigns (codes "addite") does.AddIte os _ (three_registers Bdd Add Add os h).3 refl, tt)), ((λ os h new. (along assigns (codes "sum") does.SumOver os _ (register_and_variable Add os h).2 refl, tt)), ((λ os h new. (along assigns (codes "atleast") does.AtLeast os _ (register_and_value Add os h).2 refl, tt)), ((λ os h new. (along assigns (codes "pattern") does.Pattern os _ (one_register Add os h).1 refl, tt)), tt))))
+  arithmetic_builds = ((λ os h new. (along assigns (codes "addite") does.AddIte os _ (three_registers Bdd Add Add os h).3 refl, tt)), ((λ os h new. (along assigns (codes "sum") does.SumOver os _ (register_and_variable Add os h).2 refl, tt)), ((λ os h new. (along assigns (codes "atleast") does.AtLeast os _ (register_and_value Add os h).2 refl, tt)), ((λ os h new. (along assigns (codes "pattern") does.Pattern os _ (one_register Add os h).1 refl, tt)), families_build))))
 
   numbers_build : EachBuilds assigns (drop 16 assigning)
   numbers_build = ((λ os h new. (along assigns (codes "num") does.Constant os _ (one_value os h).1 refl, tt)), ((λ os h new. (along assigns (codes "ofbdd") does.FromBdd os _ (one_register Bdd os h).1 refl, tt)), ((λ os h new. (along assigns (codes "plus") does.Plus os _ (two_registers Add Add os h).2 refl, tt)), ((λ os h new. (along assigns (codes "minus") does.Minus os _ (two_registers Add Add os h).2 refl, tt)), ((λ os h new. (along assigns (codes "times") does.Times os _ (two_registers Add Add os h).2 refl, tt)), ((λ os h new. (along assigns (codes "min") does.Min os _ (two_registers Add Add os h).2 refl, tt)), ((λ os h new. (along assigns (codes "max") does.Max os _ (two_registers Add Add os h).2 refl, tt)), ((λ os h new. (along assigns (codes "threshold") does.Threshold os _ (two_registers Add Add os h).2 refl, tt)), arithmetic_builds))))))))

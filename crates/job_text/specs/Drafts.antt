@@ -40,6 +40,10 @@ abbrev pub AddsVars : Draft → List Word → Draft → Type 0
 AddsVars old words new = (number : Word) × (n : ℕ) × (words ≡ codes "vars" ∷ number ∷ []) × IsNumber number n × (n ≤ 1024)
     × (old ≡ Nothing) × (new ≡ Sized n None None)
 
+abbrev pub AddsElements : Draft → List Word → Draft → Type 0
+AddsElements old words new = (number : Word) × (n m : ℕ) × (words ≡ codes "elements" ∷ number ∷ []) × IsNumber number m × (m ≤ 1024)
+    × (old ≡ Sized n None None) × (new ≡ Sized n (Some m) None)
+
 abbrev pub AddsLimit : Draft → List Word → Draft → Type 0
 AddsLimit old words new = (number : Word) × (n limit : ℕ) × (elements : Option ℕ) × (words ≡ codes "limit" ∷ number ∷ []) × IsNumber number limit × (5 + n ≤ limit) × (limit ≤ 8388607)
     × (old ≡ Sized n elements None) × (new ≡ Sized n elements (Some limit))
@@ -63,6 +67,7 @@ AddsCommand old words new = (limit : ℕ) × (section : Section) × (act : Act) 
 pub data Adds (old : Draft) (words : List Word) (new : Draft) : Type 0 where
   adds_nothing : words ≡ [] → new ≡ old → Adds old words new
   adds_vars : AddsVars old words new → Adds old words new
+  adds_elements : AddsElements old words new → Adds old words new
   adds_limit : AddsLimit old words new → Adds old words new
   adds_session : AddsSession old words new → Adds old words new
   adds_command : AddsCommand old words new → Adds old words new
@@ -75,6 +80,7 @@ place_of (operands.Any a) = places.Any
 place_of (operands.Alike a) = places.Alike
 place_of (operands.Variable v) = places.Variable
 place_of (operands.NewVariable v) = places.NewVariable
+place_of (operands.Element e) = places.Element
 place_of (operands.Value w) = places.Value
 place_of (operands.Bit b) = places.Bit
 place_of (operands.Bits bits) = places.Bits
@@ -90,7 +96,7 @@ AreOperands n registers (slot ∷ slots) (operand ∷ operands) = IsOperand n re
 AreOperands n registers _ _ = ⊥
 
 abbrev pub no_operands : Operands
-no_operands = record { registers = []; kind = Bdd; variables = []; values = []; bits = [] }
+no_operands = record { registers = []; kind = Bdd; variables = []; elements = []; values = []; bits = [] }
 
 -- the operands with one more register
 abbrev pub with_register : List Register → Operands → ℕ → Operands
@@ -104,6 +110,7 @@ with_operand registers others (operands.Any a) = with_register registers others 
 with_operand registers others (operands.Alike a) = with_register registers others a
 with_operand registers others (operands.Variable v) = record others { variables = others.variables ++ v ∷ [] }
 with_operand registers others (operands.NewVariable v) = record others { variables = others.variables ++ v ∷ [] }
+with_operand registers others (operands.Element e) = record others { elements = others.elements ++ e ∷ [] }
 with_operand registers others (operands.Value w) = record others { values = others.values ++ w ∷ [] }
 with_operand registers others (operands.Bit b) = record others { bits = others.bits ++ b ∷ [] }
 with_operand registers others (operands.Bits bits) = record others { bits = bits }
@@ -124,6 +131,7 @@ misfit n registers others (operands.Any a) = None
 misfit n registers others (operands.Alike a) = kind_fault others.kind (kind_at registers a)
 misfit n registers others (operands.Variable v) = None
 misfit n registers others (operands.NewVariable v) = if list_any (λ other. other == v) others.variables then Some kinds.Range else None
+misfit n registers others (operands.Element e) = None
 misfit n registers others (operands.Value w) = None
 misfit n registers others (operands.Bit b) = None
 misfit n registers others (operands.Bits bits) = if length bits == bits_for n others.kind then None else Some kinds.Range
@@ -164,6 +172,17 @@ act_of does.AddIte given = acts.AddIte (slice_index given.registers 0) (slice_in
 act_of does.SumOver given = acts.SumOver (slice_index given.registers 0) (slice_index given.variables 0)
 act_of does.AtLeast given = acts.AtLeast (slice_index given.registers 0) (slice_index_or given.values 0 (pos 0))
 act_of does.Pattern given = acts.Pattern (slice_index given.registers 0)
+act_of does.Empty given = acts.Empty
+act_of does.Base given = acts.Base
+act_of does.Single given = acts.Single (slice_index given.elements 0)
+act_of does.Union given = acts.Union (slice_index given.registers 0) (slice_index given.registers 1)
+act_of does.Meet given = acts.Meet (slice_index given.registers 0) (slice_index given.registers 1)
+act_of does.Diff given = acts.Diff (slice_index given.registers 0) (slice_index given.registers 1)
+act_of does.Subset1 given = acts.Subset1 (slice_index given.registers 0) (slice_index given.elements 0)
+act_of does.Subset0 given = acts.Subset0 (slice_index given.registers 0) (slice_index given.elements 0)
+act_of does.Change given = acts.Change (slice_index given.registers 0) (slice_index given.elements 0)
+act_of does.Product given = acts.Product (slice_index given.registers 0) (slice_index given.registers 1)
+act_of does.Quotient given = acts.Quotient (slice_index given.registers 0) (slice_index given.registers 1)
 act_of does.Drop given = acts.Drop (slice_index given.registers 0)
 act_of does.Same given = acts.Same (slice_index given.registers 0) (slice_index given.registers 1)
 act_of does.Leq given = acts.Leq (slice_index given.registers 0) (slice_index given.registers 1)

@@ -1,5 +1,5 @@
 -- What is wrong with a text: its first faulty line, and on it the first fault.
-use Rattle.std.specs.Prelude.{◌≡◌, ℕ, ◌+◌, ◌==◌, nat_lt, nat_le, Bool, true, false, ◌&&◌, ◌||◌, not, List, [], ◌∷◌, ◌++◌, Option, Some, None, length, codes, if◌then◌else◌, ◌⊎◌, find, option_and_then, unwrap_or}
+use Rattle.std.specs.Prelude.{◌≡◌, ℕ, ◌+◌, ◌==◌, nat_lt, nat_le, Bool, true, false, ◌&&◌, ◌||◌, not, List, [], ◌∷◌, ◌++◌, Option, Some, None, length, codes, if◌then◌else◌, ◌⊎◌, find, option_and_then, unwrap_or, is_some}
 use Rattle.std.specs.List.{list_all, list_any}
 use Rattle.std.specs.Option.{option_map}
 use Rattle.std.specs.Str.{bytes_eq}
@@ -10,7 +10,7 @@ use Rattle.function_laws.specs.Numbers.{is_value}
 use Rattle.job_text.specs.declared.commands.Operation.{Operation}
 use Rattle.job_text.specs.declared.commands.Operation.TheVariants as does
 use Rattle.job_text.specs.declared.commands.Place.{Place}
-use Rattle.job_text.specs.declared.commands.Place.TheVariants.{Fresh, Held, Any, Alike, Variable, NewVariable, Value, Bit, Bits}
+use Rattle.job_text.specs.declared.commands.Place.TheVariants.{Fresh, Held, Any, Alike, Variable, NewVariable, Element, Value, Bit, Bits}
 use Rattle.job_text.specs.declared.faults.FaultKind.{FaultKind}
 use Rattle.job_text.specs.declared.faults.FaultKind.TheVariants as kinds
 use Rattle.job_text.specs.declared.faults.JobError.{JobError}
@@ -31,12 +31,15 @@ pub record Form : Type 0 where
 abbrev pub form : Word → Operation → List Place → List Place → Form
 form word operation places repeated = record { word = word; operation = operation; places = places; repeated = repeated }
 
--- a register that is a BDD, and one that is an ADD
+-- a register that is a BDD, one that is an ADD, and one that is a family
 abbrev pub bdd : Place
 bdd = Held Bdd
 
 abbrev pub add : Place
 add = Held Add
+
+abbrev pub zdd : Place
+zdd = Held Zdd
 
 -- the commands that assign, by the word behind `r =`
 abbrev pub assigning : List Form
@@ -69,6 +72,17 @@ assigning =
     ∷ form (codes "sum") does.SumOver (add ∷ Variable ∷ []) []
     ∷ form (codes "atleast") does.AtLeast (add ∷ Value ∷ []) []
     ∷ form (codes "pattern") does.Pattern (add ∷ []) []
+    ∷ form (codes "empty") does.Empty [] []
+    ∷ form (codes "base") does.Base [] []
+    ∷ form (codes "single") does.Single (Element ∷ []) []
+    ∷ form (codes "union") does.Union (zdd ∷ zdd ∷ []) []
+    ∷ form (codes "meet") does.Meet (zdd ∷ zdd ∷ []) []
+    ∷ form (codes "diff") does.Diff (zdd ∷ zdd ∷ []) []
+    ∷ form (codes "on") does.Subset1 (zdd ∷ Element ∷ []) []
+    ∷ form (codes "off") does.Subset0 (zdd ∷ Element ∷ []) []
+    ∷ form (codes "flip") does.Change (zdd ∷ Element ∷ []) []
+    ∷ form (codes "product") does.Product (zdd ∷ zdd ∷ []) []
+    ∷ form (codes "quotient") does.Quotient (zdd ∷ zdd ∷ []) []
     ∷ []
 
 -- the other commands, by their first word
@@ -133,6 +147,7 @@ has_form (Any, word) = is_name word
 has_form (Alike, word) = is_name word
 has_form (Variable, word) = is_number word
 has_form (NewVariable, word) = is_number word
+has_form (Element, word) = is_number word
 has_form (Value, word) = is_integer word
 has_form (Bit, word) = is_bit word
 has_form (Bits, word) = is_bits word
@@ -176,6 +191,7 @@ slot_fault n registers (Any, word) = name_fault (register_called registers word)
 slot_fault n registers (Alike, word) = name_fault (register_called registers word)
 slot_fault n registers (Variable, word) = below_fault n.vars word
 slot_fault n registers (NewVariable, word) = below_fault n.vars word
+slot_fault n registers (Element, word) = below_fault n.elements word
 slot_fault n registers (Value, word) = if is_value (integer_value word) then None else Some kinds.Range
 slot_fault n registers (Bit, word) = None
 slot_fault n registers (Bits, word) = None
@@ -197,6 +213,7 @@ beside_fault n registers left (Any, word) = None
 beside_fault n registers left (Alike, word) = kind_fault left.kind (kind_called registers word)
 beside_fault n registers left (Variable, word) = None
 beside_fault n registers left (NewVariable, word) = if list_any (λ v. v == digits_value 10 word) left.variables then Some kinds.Range else None
+beside_fault n registers left (Element, word) = None
 beside_fault n registers left (Value, word) = None
 beside_fault n registers left (Bit, word) = None
 beside_fault n registers left (Bits, word) = if bits_in word == bits_for n left.kind then None else Some kinds.Range
@@ -213,6 +230,7 @@ left_after registers left (Any, word) = record left { kind = kind_called registe
 left_after registers left (Alike, word) = record left { kind = kind_called registers word }
 left_after registers left (Variable, word) = record left { variables = left.variables ++ digits_value 10 word ∷ [] }
 left_after registers left (NewVariable, word) = record left { variables = left.variables ++ digits_value 10 word ∷ [] }
+left_after registers left (Element, word) = left
 left_after registers left (Value, word) = left
 left_after registers left (Bit, word) = left
 left_after registers left (Bits, word) = left
@@ -260,6 +278,7 @@ words_fault context [] = None
 words_fault at_start (word ∷ words) = number_fault (codes "vars") (λ n. nat_le n 1024) kinds.Range (word ∷ words)
 words_fault (sized n elements limited) (word ∷ words) =
     if is_session (word ∷ words) then None else if limited then Some kinds.Word else
+    if bytes_eq word (codes "elements") && not (is_some elements) then number_fault (codes "elements") (λ m. nat_le m 1024) kinds.Range (word ∷ words) else
     number_fault (codes "limit") (λ limit. nat_le (5 + n) limit && nat_le limit 8388607) kinds.Limit (word ∷ words)
 words_fault (within n registers) (word ∷ words) =
     if is_session (word ∷ words) then Some kinds.Limit else command_fault n registers (word ∷ words)
@@ -277,7 +296,9 @@ number_behind _ = 0
 abbrev pub context_after : Context → List Word → Context
 context_after context [] = context
 context_after at_start (word ∷ words) = sized (number_behind (word ∷ words)) None false
-context_after (sized n elements limited) (word ∷ words) = if is_session (word ∷ words) then within (counts_with n elements) [] else sized n elements true
+context_after (sized n elements limited) (word ∷ words) =
+    if is_session (word ∷ words) then within (counts_with n elements) [] else
+    if bytes_eq word (codes "elements") then sized n (Some (number_behind (word ∷ words))) limited else sized n elements true
 context_after (within n registers) (word ∷ words) = within n (registers_after registers (word ∷ words))
 
 abbrev pub has_begun : Context → Bool

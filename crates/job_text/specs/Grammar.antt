@@ -7,7 +7,7 @@ use Rattle.edge_bits.specs.declared.edges.Kind.TheVariants.{Bdd, Add, Zdd}
 use Rattle.function_laws.specs.Numbers.{is_value}
 use Rattle.function_laws.specs.Steps.{are_distinct}
 use Rattle.job_text.specs.declared.job.Act.{Act}
-use Rattle.job_text.specs.declared.job.Act.TheVariants.{One, Zero, Var, Not, And, Or, Xor, Ite, Cofactor, Exists, Forall, AndExists, Compose, VectorCompose, Restrict, Support, Constant, FromBdd, Plus, Minus, Times, Min, Max, Threshold, AddIte, SumOver, AtLeast, Pattern, Drop, Same, Leq, Eval}
+use Rattle.job_text.specs.declared.job.Act.TheVariants.{One, Zero, Var, Not, And, Or, Xor, Ite, Cofactor, Exists, Forall, AndExists, Compose, VectorCompose, Restrict, Support, Constant, FromBdd, Plus, Minus, Times, Min, Max, Threshold, AddIte, SumOver, AtLeast, Pattern, Empty, Base, Single, Union, Meet, Diff, Subset1, Subset0, Change, Product, Quotient, Drop, Same, Leq, Eval}
 use Rattle.job_text.specs.declared.job.Command.{Command}
 use Rattle.job_text.specs.declared.job.Counts.{Counts}
 use Rattle.job_text.specs.declared.job.Job.{Job}
@@ -38,6 +38,7 @@ StandsFor n registers word (operands.Any a) = (kind : Kind) × Refers registers 
 StandsFor n registers word (operands.Alike a) = (kind : Kind) × Refers registers word a kind
 StandsFor n registers word (operands.Variable v) = IsNumber word v × (v < n.vars)
 StandsFor n registers word (operands.NewVariable v) = IsNumber word v × (v < n.vars)
+StandsFor n registers word (operands.Element e) = IsNumber word e × (e < n.elements)
 StandsFor n registers word (operands.Value w) = IsInteger word w × (is_value w ≡ true)
 StandsFor n registers word (operands.Bit b) = word ≡ bit_word (b ∷ [])
 StandsFor n registers word (operands.Bits bits) = word ≡ bit_word bits
@@ -57,12 +58,15 @@ pub data Spelling : Type 0 where
 abbrev pub pair_operands : ℕ × ℕ → List Operand
 pair_operands pair = operands.NewVariable pair.0 ∷ operands.Register Bdd pair.1 ∷ []
 
--- a register that is a BDD, and one that is an ADD
+-- a register that is a BDD, one that is an ADD, and one that is a family
 abbrev pub bdd : ℕ → Operand
 bdd a = operands.Register Bdd a
 
 abbrev pub add : ℕ → Operand
 add a = operands.Register Add a
+
+abbrev pub zdd : ℕ → Operand
+zdd a = operands.Register Zdd a
 
 abbrev pub spelling : Act → Spelling
 spelling One = assigns (codes "true") []
@@ -93,6 +97,17 @@ spelling (AddIte a b c) = assigns (codes "addite") (bdd a ∷ add b ∷ add c �
 spelling (SumOver a v) = assigns (codes "sum") (add a ∷ operands.Variable v ∷ [])
 spelling (AtLeast a w) = assigns (codes "atleast") (add a ∷ operands.Value w ∷ [])
 spelling (Pattern a) = assigns (codes "pattern") (add a ∷ [])
+spelling Empty = assigns (codes "empty") []
+spelling Base = assigns (codes "base") []
+spelling (Single e) = assigns (codes "single") (operands.Element e ∷ [])
+spelling (Union a b) = assigns (codes "union") (zdd a ∷ zdd b ∷ [])
+spelling (Meet a b) = assigns (codes "meet") (zdd a ∷ zdd b ∷ [])
+spelling (Diff a b) = assigns (codes "diff") (zdd a ∷ zdd b ∷ [])
+spelling (Subset1 a e) = assigns (codes "on") (zdd a ∷ operands.Element e ∷ [])
+spelling (Subset0 a e) = assigns (codes "off") (zdd a ∷ operands.Element e ∷ [])
+spelling (Change a e) = assigns (codes "flip") (zdd a ∷ operands.Element e ∷ [])
+spelling (Product a b) = assigns (codes "product") (zdd a ∷ zdd b ∷ [])
+spelling (Quotient a b) = assigns (codes "quotient") (zdd a ∷ zdd b ∷ [])
 spelling (Drop a) = tells (codes "drop") (operands.Any a ∷ [])
 spelling (Same a b) = tells (codes "same") (operands.Any a ∷ operands.Alike b ∷ [])
 spelling (Leq a b) = tells (codes "leq") (bdd a ∷ bdd b ∷ [])
@@ -155,9 +170,17 @@ making_adds =
     codes "num" ∷ codes "ofbdd" ∷ codes "plus" ∷ codes "minus" ∷ codes "times" ∷ codes "min" ∷ codes "max" ∷ codes "threshold"
     ∷ codes "addite" ∷ codes "sum" ∷ []
 
+-- and of those that make families
+abbrev pub making_zdds : List Word
+making_zdds =
+    codes "empty" ∷ codes "base" ∷ codes "single" ∷ codes "union" ∷ codes "meet" ∷ codes "diff" ∷ codes "on" ∷ codes "off" ∷ codes "flip"
+    ∷ codes "product" ∷ codes "quotient" ∷ []
+
 -- the kind of what a command makes, by its word
 abbrev pub kind_made : Word → Kind
-kind_made command = if list_any (λ word. bytes_eq word command) making_adds then Add else Bdd
+kind_made command =
+    if list_any (λ word. bytes_eq word command) making_adds then Add else
+    if list_any (λ word. bytes_eq word command) making_zdds then Zdd else Bdd
 
 -- what an assignment to this name by a command of this word adds
 abbrev pub register_made : Word → Word → Register
@@ -196,18 +219,23 @@ pub record IsJob (job : Job) : Type 0 where
   pub one_section : length job.sections ≡ 1
   pub commands : All (CommandsSay (counts_of job) []) job.sections
 
+-- the line that gives the number of elements; there is none for no elements
+abbrev pub ElementLines : ℕ → List (List Word) → Type 0
+ElementLines m lines = ((lines ≡ []) × (m ≡ 0)) ⊎ ((number : Word) × (lines ≡ (codes "elements" ∷ number ∷ []) ∷ []) × IsNumber number m)
+
 -- the line that gives the limit; there is none for 262,144
 abbrev pub LimitLines : ℕ → List (List Word) → Type 0
 LimitLines limit lines = ((lines ≡ []) × (limit ≡ 262144)) ⊎ ((number : Word) × (lines ≡ (codes "limit" ∷ number ∷ []) ∷ []) × IsNumber number limit)
 
 -- The text is this job's: no byte of a line is out of range, and its lines that have words are `vars` with the number
--- of variables, then that of the limit, and then those of the sections.
+-- of variables, then that of the number of elements, that of the limit, and then those of the sections.
 pub record IsJobText (text : List ℕ) (job : Job) : Type 0 where
   pub clean : list_all (list_all is_allowed) (lines_of text) ≡ true
   pub number : Word
   pub vars : IsNumber number job.vars
-  pub no_elements : job.elements ≡ 0
+  pub element_lines : List (List Word)
+  pub elements : ElementLines job.elements element_lines
   pub limits : List (List Word)
   pub limit : LimitLines job.limit limits
-  pub lines : said_lines (lines_of text) ≡ (codes "vars" ∷ number ∷ []) ∷ limits ++ flat_map section_lines job.sections
+  pub lines : said_lines (lines_of text) ≡ (codes "vars" ∷ number ∷ []) ∷ element_lines ++ limits ++ flat_map section_lines job.sections
   pub is_job : IsJob job

@@ -13,7 +13,7 @@ use Rattle.function_laws.specs.Histories.{IsLegal}
 use Rattle.job_text.specs.declared.history_line.Reply.{Reply}
 use Rattle.job_text.specs.declared.history_line.Reply.TheVariants as reply
 use Rattle.job_text.specs.declared.job.Act.{Act}
-use Rattle.job_text.specs.declared.job.Act.TheVariants.{One, Zero, Var, Not, And, Or, Xor, Ite, Cofactor, Exists, Forall, AndExists, Compose, VectorCompose, Restrict, Support, Constant, FromBdd, Plus, Minus, Times, Min, Max, Threshold, AddIte, SumOver, AtLeast, Pattern, Drop, Same, Leq, Eval}
+use Rattle.job_text.specs.declared.job.Act.TheVariants.{One, Zero, Var, Not, And, Or, Xor, Ite, Cofactor, Exists, Forall, AndExists, Compose, VectorCompose, Restrict, Support, Constant, FromBdd, Plus, Minus, Times, Min, Max, Threshold, AddIte, SumOver, AtLeast, Pattern, Empty, Base, Single, Union, Meet, Diff, Subset1, Subset0, Change, Product, Quotient, Drop, Same, Leq, Eval}
 use Rattle.job_text.specs.declared.job.Command.{Command}
 use Rattle.job_text.specs.declared.job.Job.{Job}
 use Rattle.job_text.specs.Text.{Word}
@@ -134,6 +134,17 @@ Calls registers (AddIte a b c) call = (x y z : Name) × IsNamed registers a x ×
 Calls registers (SumOver a v) call = (x : Name) × IsNamed registers a x × (call ≡ calls.SumOver x v)
 Calls registers (AtLeast a w) call = (x : Name) × IsNamed registers a x × (call ≡ calls.AtLeast x w)
 Calls registers (Pattern a) call = (x : Name) × IsNamed registers a x × (call ≡ calls.Pattern x)
+Calls registers Empty call = call ≡ calls.Empty
+Calls registers Base call = call ≡ calls.Base
+Calls registers (Single e) call = call ≡ calls.Single e
+Calls registers (Union a b) call = (x y : Name) × IsNamed registers a x × IsNamed registers b y × (call ≡ calls.Union x y)
+Calls registers (Meet a b) call = (x y : Name) × IsNamed registers a x × IsNamed registers b y × (call ≡ calls.Meet x y)
+Calls registers (Diff a b) call = (x y : Name) × IsNamed registers a x × IsNamed registers b y × (call ≡ calls.Diff x y)
+Calls registers (Subset1 a e) call = (x : Name) × IsNamed registers a x × (call ≡ calls.Subset1 x e)
+Calls registers (Subset0 a e) call = (x : Name) × IsNamed registers a x × (call ≡ calls.Subset0 x e)
+Calls registers (Change a e) call = (x : Name) × IsNamed registers a x × (call ≡ calls.Change x e)
+Calls registers (Product a b) call = (x y : Name) × IsNamed registers a x × IsNamed registers b y × (call ≡ calls.Product x y)
+Calls registers (Quotient a b) call = (x y : Name) × IsNamed registers a x × IsNamed registers b y × (call ≡ calls.Quotient x y)
 Calls registers (Drop a) call = (x : Name) × IsNamed registers a x × (call ≡ calls.DropRow x)
 Calls registers (Same a b) call = (x y : Name) × IsNamed registers a x × IsNamed registers b y × (call ≡ calls.Same x y)
 Calls registers (Leq a b) call = (x y : Name) × IsNamed registers a x × IsNamed registers b y × (call ≡ calls.Leq x y)

@@ -1,5 +1,6 @@
 pub mod Text
 pub mod Grammar
+pub mod Names
 pub mod Faults
 pub mod Readings
 pub mod Drafts

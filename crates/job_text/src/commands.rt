@@ -40,6 +40,17 @@ pub enum Operation {
     SumOver,
     AtLeast,
     Pattern,
+    Empty,
+    Base,
+    Single,
+    Union,
+    Meet,
+    Diff,
+    Subset1,
+    Subset0,
+    Change,
+    Product,
+    Quotient,
     Drop,
     Same,
     Leq,
@@ -61,6 +72,8 @@ pub enum Place {
     Variable,
     /// The number of a variable that no word to its left names.
     NewVariable,
+    /// The number of an element.
+    Element,
     /// A whole number from -2^46 to 2^46 - 1.
     Value,
     /// `0` or `1`.
@@ -84,8 +97,11 @@ const BDD: Place = Place::Held(Kind::Bdd);
 /// A register that is an ADD.
 const ADD: Place = Place::Held(Kind::Add);
 
+/// A register that is a family.
+const ZDD: Place = Place::Held(Kind::Zdd);
+
 /// The commands that assign, by the word behind `r =`.
-const ASSIGNING: [Known; 28] = [
+const ASSIGNING: [Known; 39] = [
     Known {
         word: b"true",
         operation: Operation::One,
@@ -254,6 +270,72 @@ const ASSIGNING: [Known; 28] = [
         places: &[ADD],
         repeated: &[],
     },
+    Known {
+        word: b"empty",
+        operation: Operation::Empty,
+        places: &[],
+        repeated: &[],
+    },
+    Known {
+        word: b"base",
+        operation: Operation::Base,
+        places: &[],
+        repeated: &[],
+    },
+    Known {
+        word: b"single",
+        operation: Operation::Single,
+        places: &[Place::Element],
+        repeated: &[],
+    },
+    Known {
+        word: b"union",
+        operation: Operation::Union,
+        places: &[ZDD, ZDD],
+        repeated: &[],
+    },
+    Known {
+        word: b"meet",
+        operation: Operation::Meet,
+        places: &[ZDD, ZDD],
+        repeated: &[],
+    },
+    Known {
+        word: b"diff",
+        operation: Operation::Diff,
+        places: &[ZDD, ZDD],
+        repeated: &[],
+    },
+    Known {
+        word: b"on",
+        operation: Operation::Subset1,
+        places: &[ZDD, Place::Element],
+        repeated: &[],
+    },
+    Known {
+        word: b"off",
+        operation: Operation::Subset0,
+        places: &[ZDD, Place::Element],
+        repeated: &[],
+    },
+    Known {
+        word: b"flip",
+        operation: Operation::Change,
+        places: &[ZDD, Place::Element],
+        repeated: &[],
+    },
+    Known {
+        word: b"product",
+        operation: Operation::Product,
+        places: &[ZDD, ZDD],
+        repeated: &[],
+    },
+    Known {
+        word: b"quotient",
+        operation: Operation::Quotient,
+        places: &[ZDD, ZDD],
+        repeated: &[],
+    },
 ];
 
 /// The other commands, by their first word.
@@ -298,6 +380,21 @@ const MAKING_ADDS: [&'static [u8]; 10] = [
     b"sum",
 ];
 
+/// The words of the commands that make families.
+const MAKING_ZDDS: [&'static [u8]; 11] = [
+    b"empty",
+    b"base",
+    b"single",
+    b"union",
+    b"meet",
+    b"diff",
+    b"on",
+    b"off",
+    b"flip",
+    b"product",
+    b"quotient",
+];
+
 /// The command of this word.
 fn find_command(commands: &[Known], word: &[u8]) -> Option<Known>
     ensures { option_map form_of result ≡ form_in (map form_of commands.now) word.now }
@@ -337,6 +434,8 @@ pub fn kind_made(word: &[u8]) -> Kind
 {
     if is_one_of(&MAKING_ADDS, word) {
         Kind::Add
+    } else if is_one_of(&MAKING_ZDDS, word) {
+        Kind::Zdd
     } else {
         Kind::Bdd
     }

@@ -6,7 +6,7 @@ ghost use Rattle.job_text.specs.Drafts.{CommandStop, with_act};
 
 use crate::faults::Stop;
 use crate::job::{Act, Command, Counts};
-use crate::registers::registers_behind;
+use crate::registers::Registers;
 use crate::scope::Scope;
 use edge_bits::List;
 use std::alloc::Global;
@@ -43,7 +43,7 @@ impl Section {
     {
         let scope = Scope {
             counts,
-            registers: List::new(alloc),
+            registers: Registers::new(alloc),
         };
         Section {
             scope,
@@ -55,6 +55,7 @@ impl Section {
     pub fn with_command(self, alloc: Global, words: List<List<u8>>) -> Result<Section, Stop>
         requires some { 0 < length words }
         requires vars { self.scope.counts.vars ≤ 1024 }
+        requires elements { self.scope.counts.elements ≤ 1024 }
         requires registers { length self.scope.registers ≤ 67108864 }
         ensures ok { IfOk result (λ next. (act : Act) × Says self.scope.counts self.scope.registers words act × (next ≡ with_act self words act)) }
         ensures stop { IfErr result (λ stop. CommandStop self.scope.counts self.scope.registers words stop) }
@@ -65,7 +66,7 @@ impl Section {
         } = self;
         let act = scope.command(alloc, words.as_slice())?;
         let Scope { counts, registers } = scope;
-        let registers = registers_behind(alloc, registers, words.as_slice())?;
+        let registers = registers.after(alloc, words.as_slice())?;
         commands.push(Command { words, act })?;
         Ok(Section {
             scope: Scope { counts, registers },

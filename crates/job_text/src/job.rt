@@ -59,6 +59,28 @@ pub enum Act {
     AtLeast(u32, i64),
     /// `r = pattern A`: where the register is not 0.
     Pattern(u32),
+    /// `r = empty`: the family without combinations.
+    Empty,
+    /// `r = base`: the family of the empty combination alone.
+    Base,
+    /// `r = single E`: the family of one combination, of the element alone.
+    Single(u32),
+    /// `r = union A B`: the combinations of either family.
+    Union(u32, u32),
+    /// `r = meet A B`: the combinations of both families.
+    Meet(u32, u32),
+    /// `r = diff A B`: the combinations of the first family that are none of the second.
+    Diff(u32, u32),
+    /// `r = on A E`: the combinations with the element, which is taken out of them.
+    Subset1(u32, u32),
+    /// `r = off A E`: the combinations without the element.
+    Subset0(u32, u32),
+    /// `r = flip A E`: the combinations, the element taken out where it was, and put in where it was not.
+    Change(u32, u32),
+    /// `r = product A B`: all unions of a combination of the first family and one of the second.
+    Product(u32, u32),
+    /// `r = quotient A B`: the combinations that meet no combination of the second family and, joined with each of them, give one of the first; none where the second is empty.
+    Quotient(u32, u32),
     /// `drop A`: the register is let go.
     Drop(u32),
     /// `same A B`: whether two registers of one kind have the same function.

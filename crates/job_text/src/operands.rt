@@ -25,6 +25,8 @@ pub enum Operand {
     Variable(u32),
     /// A variable that no word to the left names, by its number.
     NewVariable(u32),
+    /// An element, by its number.
+    Element(u32),
     /// A whole number.
     Value(i64),
     /// The value of a variable.
@@ -40,6 +42,7 @@ pub struct Operands {
     /// The kind of the last register, or that of a BDD where there is none.
     pub kind: Kind,
     pub variables: List<u32>,
+    pub elements: List<u32>,
     pub values: List<i64>,
     pub bits: List<bool>,
 }
@@ -52,6 +55,7 @@ impl Operands {
             registers: List::new(alloc),
             kind: Kind::Bdd,
             variables: List::new(alloc),
+            elements: List::new(alloc),
             values: List::new(alloc),
             bits: List::new(alloc),
         }
@@ -78,6 +82,7 @@ impl Operands {
                 return more.with_register(known, a);
             }
             Operand::Variable(v) | Operand::NewVariable(v) => more.variables.push(v)?,
+            Operand::Element(e) => more.elements.push(e)?,
             Operand::Value(w) => more.values.push(w)?,
             Operand::Bit(bit) => more.bits.push(bit)?,
             Operand::Bits(all) => more.bits = all,
@@ -107,6 +112,7 @@ impl Operands {
         let b = self.register(1);
         let c = self.register(2);
         let v = number_at(self.variables.as_slice(), 0);
+        let e = number_at(self.elements.as_slice(), 0);
         let w = value_at(self.values.as_slice(), 0);
         let bit = bit_at(self.bits.as_slice(), 0);
         let Operands {
@@ -144,6 +150,17 @@ impl Operands {
             Operation::SumOver => Act::SumOver(a, v),
             Operation::AtLeast => Act::AtLeast(a, w),
             Operation::Pattern => Act::Pattern(a),
+            Operation::Empty => Act::Empty,
+            Operation::Base => Act::Base,
+            Operation::Single => Act::Single(e),
+            Operation::Union => Act::Union(a, b),
+            Operation::Meet => Act::Meet(a, b),
+            Operation::Diff => Act::Diff(a, b),
+            Operation::Subset1 => Act::Subset1(a, e),
+            Operation::Subset0 => Act::Subset0(a, e),
+            Operation::Change => Act::Change(a, e),
+            Operation::Product => Act::Product(a, b),
+            Operation::Quotient => Act::Quotient(a, b),
             Operation::Drop => Act::Drop(a),
             Operation::Same => Act::Same(a, b),
             Operation::Leq => Act::Leq(a, b),

@@ -1,9 +1,10 @@
 //! The reader of jobs, line by line.
 
-ghost use Rattle.std.specs.Prelude.{◌≡◌, ◌++◌, ◌∷◌, [], ◌<◌, ◌≤◌, ◌+◌, ◌^◌, length, IfOk, IfErr, IfSome, IfNone, min, Bool, true, codes, nat_le, ◌&&◌, List as ListOf, ℕ};
+ghost use Rattle.std.specs.Prelude.{◌≡◌, ◌++◌, ◌∷◌, [], ◌<◌, ◌≤◌, ◌+◌, ◌^◌, length, IfOk, IfErr, IfSome, IfNone, min, Bool, true, None, Some, codes, nat_le, ◌&&◌, List as ListOf, ℕ};
 ghost use Rattle.std.specs.Str.Parse.{digits_value};
 ghost use Rattle.job_text.specs.Text.{is_number, IsNumber};
-ghost use Rattle.job_text.specs.Grammar.{IsJobText};
+ghost use Rattle.std.specs.Str.{bytes_eq};
+ghost use Rattle.job_text.specs.Grammar.{IsJobText, target_of};
 ghost use Rattle.job_text.specs.Faults.{HasFault, number_fault, is_session};
 ghost use Rattle.job_text.specs.Readings.{EachHasOne, OneJob, OneFault, JobOrFault};
 ghost use Rattle.job_text.specs.Drafts.{Adds, LineStop, EndStop, IsSmall};
@@ -18,7 +19,8 @@ use crate::text::{cut_line, is_number, number_value, words};
 use edge_bits::List;
 use std::alloc::Global;
 
-const MAX_VARS: u32 = 1024;
+/// The greatest numbers of variables and of elements.
+const MAX_COUNT: u32 = 1024;
 
 const MAX_LIMIT: u32 = 8_388_607;
 
@@ -41,15 +43,15 @@ fn number_line(words: &[List<u8>], due: &[u8]) -> Option<u32>
     }
 }
 
-/// `vars N`
-fn vars_line(words: &[List<u8>]) -> Result<u32, FaultKind>
-    ensures ok { IfOk result (λ n. (w : ListOf ℕ) × (words.now ≡ codes "vars" ∷ w ∷ []) × IsNumber w n × (n ≤ 1024)) }
-    ensures fault { IfErr result (λ kind. number_fault (codes "vars") (λ n. nat_le n 1024) kinds.Range words.now ≡ Some kind) }
+/// `vars N` or `elements M`
+fn count_line(words: &[List<u8>], due: &[u8]) -> Result<u32, FaultKind>
+    ensures ok { IfOk result (λ n. (w : ListOf ℕ) × (words.now ≡ due.now ∷ w ∷ []) × IsNumber w n × (n ≤ 1024)) }
+    ensures fault { IfErr result (λ kind. number_fault due.now (λ n. nat_le n 1024) kinds.Range words.now ≡ Some kind) }
 {
-    let Some(n) = number_line(words, b"vars".as_slice()) else {
+    let Some(n) = number_line(words, due) else {
         return Err(FaultKind::Word);
     };
-    if n <= MAX_VARS {
+    if n <= MAX_COUNT {
         Ok(n)
     } else {
         Err(FaultKind::Range)
@@ -92,7 +94,7 @@ fn with_line(alloc: Global, draft: Draft, words: List<List<u8>>) -> Result<Draft
         return Ok(draft);
     }
     match draft {
-        Draft::Nothing => match vars_line(words.as_slice()) {
+        Draft::Nothing => match count_line(words.as_slice(), b"vars".as_slice()) {
             Ok(vars) => Ok(Draft::Sized {
                 vars,
                 elements: None,
@@ -136,11 +138,38 @@ fn sized_line(
     if limit.is_some() {
         return Err(Stop::Fault(FaultKind::Word));
     }
+    if elements.is_none() && begins(words, b"elements".as_slice()) {
+        return elements_line(vars, words);
+    }
     match limit_line(vars, words) {
         Ok(limit) => Ok(Draft::Sized {
             vars,
             elements,
             limit: Some(limit),
+        }),
+        Err(kind) => Err(Stop::Fault(kind)),
+    }
+}
+
+/// Whether this is the first word.
+fn begins(words: &[List<u8>], due: &[u8]) -> bool
+    requires { 0 < length words.now }
+    ensures { result ≡ bytes_eq (target_of words.now) due.now }
+{
+    words[0].as_slice() == due
+}
+
+/// A line that begins with `elements`, behind `vars`.
+fn elements_line(vars: u32, words: &[List<u8>]) -> Result<Draft, Stop>
+    requires first { bytes_eq (target_of words.now) (codes "elements") ≡ true }
+    ensures ok { IfOk result (λ next. Adds (Draft.Sized vars None None) words.now next) }
+    ensures stop { IfErr result (λ stop. LineStop (Draft.Sized vars None None) words.now stop) }
+{
+    match count_line(words, b"elements".as_slice()) {
+        Ok(elements) => Ok(Draft::Sized {
+            vars,
+            elements: Some(elements),
+            limit: None,
         }),
         Err(kind) => Err(Stop::Fault(kind)),
     }
@@ -155,6 +184,7 @@ fn begun_line(
 ) -> Result<Draft, Stop>
     requires some { 0 < length words }
     requires vars { section.scope.counts.vars ≤ 1024 }
+    requires elements { section.scope.counts.elements ≤ 1024 }
     requires registers { length section.scope.registers ≤ 67108864 }
     ensures ok { IfOk result (λ next. Adds (Draft.Begun limit section) words next) }
     ensures stop { IfErr result (λ stop. LineStop (Draft.Begun limit section) words stop) }

@@ -1,9 +1,9 @@
 //! The registers of a section.
 
-ghost use Rattle.std.specs.Prelude.{◌≡◌, ◌≢◌, All, ◌∷◌, [], ◌<◌, ◌≤◌, ◌^◌, length, map, position, codes, IfOk, IfErr, IfSome, MatchOption, true, false, None, Some};
+ghost use Rattle.std.specs.Prelude.{◌≡◌, ◌≢◌, All, ◌∷◌, ◌++◌, [], ◌<◌, ◌^◌, length, map, position, codes, IfOk, IfErr, IfSome, MatchOption, true, false, None, Some};
 ghost use Rattle.std.specs.List.{list_any, position_or_len};
 ghost use Rattle.job_text.specs.Text.{is_name};
-ghost use Rattle.job_text.specs.Grammar.{Refers, is_assignment, is_called, is_drop, kind_at, register_made, registers_after, without};
+ghost use Rattle.job_text.specs.Grammar.{IsFresh, Refers, is_assignment, is_called, is_drop, kind_at, register_made, registers_after, target_of, without};
 ghost use Rattle.job_text.specs.Faults.{kind_called, name_fault, register_called, same_kind};
 ghost use Rattle.job_text.specs.declared.faults.FaultKind.TheVariants as kinds;
 
@@ -11,7 +11,28 @@ use crate::commands::kind_made;
 use crate::faults::Stop;
 use crate::job::Register;
 use edge_bits::{Kind, List};
+use indexmap::IndexSet;
 use std::alloc::Global;
+use std::marker::Model;
+
+/// The registers in order of assignment, and their names in the same order with an index. Contracts see the registers.
+#[derive(Drop)]
+pub struct Registers {
+    items: Vec<Register>,
+    names: IndexSet<Vec<u8>>,
+}
+
+impl Model for Registers {
+    ghost use Rattle.std.specs.Prelude.{List as ListOf};
+    ghost use Rattle.job_text.specs.declared.job.Register.{Register as RegisterOf};
+    ghost use Rattle.job_text.specs.Names.{AreNames};
+
+    ghost Value = { ListOf RegisterOf };
+
+    ghost view = { λ registers. registers.items.items };
+
+    ghost invariant = { λ registers. AreNames registers.names.keys registers.items.items };
+}
 
 /// A register that was looked up: its number, and its kind.
 #[derive(Clone, Copy)]
@@ -20,45 +41,113 @@ pub struct Found {
     pub kind: Kind,
 }
 
-fn has_name(registers: &[Register], word: &[u8]) -> bool
-    ensures { result ≡ list_any (is_called word.now) registers.now }
-{
-    registers
-        .iter()
-        .any(|register| register.name.as_slice() == word)
+impl Registers {
+    /// No registers.
+    pub fn new(alloc: Global) -> Registers
+        ensures { result ≡ [] }
+    {
+        Registers {
+            items: Vec::new(alloc),
+            names: IndexSet::new(alloc),
+        }
+    }
+
+    /// The registers.
+    pub fn as_slice(&self) -> &[Register]
+        ensures { result.now ≡ self.now }
+    {
+        self.items.as_slice()
+    }
+
+    /// Whether a register has the name, dropped or not.
+    fn has_name(&self, word: &[u8]) -> bool
+        ensures { result ≡ list_any (is_called word.now) self.now }
+    {
+        self.names.contains(word)
+    }
+
+    /// Whether a register has the name, dropped or not.
+    pub fn is_assigned(&self, word: &[u8]) -> bool
+        ensures some { result ≡ list_any (is_called word.now) self.now }
+        ensures none { result ≡ false → All (λ register. register.name ≢ word.now) self.now }
+    {
+        self.has_name(word)
+    }
+
+    fn position_of(&self, word: &[u8]) -> Option<usize>
+        ensures { result ≡ position (is_called word.now) self.now }
+    {
+        self.names.get_index_of(word)
+    }
+
+    /// The place of the first register of this name, or their number.
+    fn place_of(&self, word: &[u8]) -> usize
+        ensures { result ≡ position_or_len (is_called word.now) self.now }
+    {
+        self.position_of(word).unwrap_or(self.as_slice().len())
+    }
+
+    /// The register of the name, where it was not dropped.
+    pub fn find(&self, word: &[u8]) -> Option<Found>
+        requires few { length self.now < 2 ^ 32 }
+        requires name { is_name word.now ≡ true }
+        ensures found { IfSome result (λ found. Refers self.now word.now found.number found.kind) }
+        ensures fault { MatchOption result (name_fault (register_called self.now word.now) ≡ Some kinds.Name) (λ found. (name_fault (register_called self.now word.now) ≡ None) × (kind_called self.now word.now ≡ found.kind)) }
+    {
+        find_at(self.as_slice(), self.place_of(word), word)
+    }
+
+    /// The registers with one more, of a name that none has.
+    fn with_made(self, alloc: Global, name: &[u8], command: &[u8]) -> Result<Registers, Stop>
+        requires { list_any (is_called name.now) self ≡ false }
+        ensures ok { IfOk result (λ after. after ≡ self ++ register_made name.now command.now ∷ []) }
+        ensures stop { IfErr result (λ stop. stop ≡ Stop.Memory) }
+    {
+        let Registers {
+            mut items,
+            mut names,
+        } = self;
+        names.insert(Vec::from_slice(alloc, name)?)?;
+        items.push(made(alloc, name, command)?)?;
+        Ok(Registers { items, names })
+    }
+
+    /// The registers, where that of this name is dropped.
+    fn without(self, word: &[u8]) -> Registers
+        ensures { result ≡ map (without word.now) self }
+    {
+        let place = self.place_of(word);
+        let Registers { mut items, names } = self;
+        if place < items.len() {
+            items[place].live = false;
+        }
+        Registers { items, names }
+    }
+
+    /// The registers after a command of these words, whose target no register has as its name.
+    pub fn after(self, alloc: Global, words: &[List<u8>]) -> Result<Registers, Stop>
+        requires { is_assignment words.now ≡ true → list_any (is_called (target_of words.now)) self ≡ false }
+        ensures ok { IfOk result (λ after. after ≡ registers_after self words.now) }
+        ensures stop { IfErr result (λ stop. stop ≡ Stop.Memory) }
+    {
+        if let Some((target, command, _)) = as_assignment(words) {
+            return self.with_made(alloc, target, command);
+        }
+        match as_drop(words) {
+            Some(word) => Ok(self.without(word)),
+            None => Ok(self),
+        }
+    }
 }
 
-/// Whether a register has the name, dropped or not.
-pub fn is_assigned(registers: &[Register], word: &[u8]) -> bool
-    ensures some { result ≡ list_any (is_called word.now) registers.now }
-    ensures none { result ≡ false → All (λ register. register.name ≢ word.now) registers.now }
-{
-    has_name(registers, word)
-}
-
-fn position_of(registers: &[Register], word: &[u8]) -> Option<usize>
-    ensures { result ≡ position (is_called word.now) registers.now }
-{
-    registers
-        .iter()
-        .position(|register| register.name.as_slice() == word)
-}
-
-/// The place of the first register of this name, or their number.
-fn place_of(registers: &[Register], word: &[u8]) -> usize
-    ensures { result ≡ position_or_len (is_called word.now) registers.now }
-{
-    position_of(registers, word).unwrap_or(registers.len())
-}
-
-/// The register of the name, where it was not dropped.
-pub fn find_register(registers: &[Register], word: &[u8]) -> Option<Found>
+/// The register at the place of the first of its name, where it was not dropped.
+fn find_at(registers: &[Register], place: usize, word: &[u8]) -> Option<Found>
     requires few { length registers.now < 2 ^ 32 }
     requires name { is_name word.now ≡ true }
+    requires place { place ≡ position_or_len (is_called word.now) registers.now }
     ensures found { IfSome result (λ found. Refers registers.now word.now found.number found.kind) }
     ensures fault { MatchOption result (name_fault (register_called registers.now word.now) ≡ Some kinds.Name) (λ found. (name_fault (register_called registers.now word.now) ≡ None) × (kind_called registers.now word.now ≡ found.kind)) }
 {
-    let place = place_of(registers, word);
     let Some(register) = registers.get(place) else {
         return None;
     };
@@ -107,26 +196,6 @@ pub fn as_assignment(words: &[List<u8>]) -> Option<(&[u8], &[u8], &[List<u8>])>
     }
 }
 
-/// The registers after a command of these words.
-pub fn registers_behind(
-    alloc: Global,
-    registers: List<Register>,
-    words: &[List<u8>],
-) -> Result<List<Register>, Stop>
-    ensures ok { IfOk result (λ after. after ≡ registers_after registers words.now) }
-    ensures stop { IfErr result (λ stop. stop ≡ Stop.Memory) }
-{
-    if let Some((target, command, _)) = as_assignment(words) {
-        let mut registers = registers;
-        registers.push(made(alloc, target, command)?)?;
-        return Ok(registers);
-    }
-    match as_drop(words) {
-        Some(word) => Ok(dropped(registers, word)),
-        None => Ok(registers),
-    }
-}
-
 /// The word behind `drop`.
 fn as_drop(words: &[List<u8>]) -> Option<&[u8]>
     ensures { MatchOption result (is_drop words.now ≡ false) (λ x. words.now ≡ codes "drop" ∷ x.now ∷ []) }
@@ -154,17 +223,4 @@ fn made(alloc: Global, name: &[u8], command: &[u8]) -> Result<Register, Stop>
         live: true,
         kind: kind_made(command),
     })
-}
-
-/// The registers, where those of this name are dropped.
-fn dropped(registers: List<Register>, word: &[u8]) -> List<Register>
-    ensures { result ≡ map (without word.now) registers }
-{
-    let mut rows = registers.into_vec();
-    for i in 0..rows.len() {
-        if rows[i].name.as_slice() == word {
-            rows[i].live = false;
-        }
-    }
-    List::from_vec(rows)
 }

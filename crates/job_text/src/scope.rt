@@ -12,9 +12,9 @@ ghost use Rattle.job_text.specs.declared.operands.Operand.{Operand as OperandOf}
 
 use crate::commands::Place;
 use crate::faults::{FaultKind, Stop};
-use crate::job::{Act, Counts, Register};
+use crate::job::{Act, Counts};
 use crate::operands::{Operand, Operands};
-use crate::registers::{Found, find_register, is_assigned, kind_at, same_kind};
+use crate::registers::{Found, Registers, kind_at, same_kind};
 use crate::slots::{Slot, all_have_form, command_line};
 use crate::text::{bits_of, integer_value, number_value};
 use edge_bits::{Kind, List};
@@ -26,7 +26,7 @@ pub struct Scope {
     /// The numbers of variables and elements.
     pub counts: Counts,
     /// The registers in order of assignment.
-    pub registers: List<Register>,
+    pub registers: Registers,
 }
 
 impl Counts {
@@ -55,7 +55,7 @@ impl Scope {
         ensures ok { IfOk result (λ operand. IsOperand self.now.counts self.now.registers (places.Fresh, word.now) operand) }
         ensures stop { IfErr result (λ stop. SlotStop self.now.counts self.now.registers (places.Fresh, word.now) stop) }
     {
-        if is_assigned(self.registers.as_slice(), word) {
+        if self.registers.is_assigned(word) {
             return Err(Stop::Fault(FaultKind::Again));
         }
         Ok(Operand::Target)
@@ -69,7 +69,7 @@ impl Scope {
         ensures called { IfOk result (λ found. (name_fault (register_called self.now.registers word.now) ≡ None) × (kind_called self.now.registers word.now ≡ found.kind)) }
         ensures stop { IfErr result (λ stop. (stop ≡ Stop.Fault kinds.Name) × (name_fault (register_called self.now.registers word.now) ≡ Some kinds.Name)) }
     {
-        match find_register(self.registers.as_slice(), word) {
+        match self.registers.find(word) {
             Some(found) => Ok(found),
             None => Err(Stop::Fault(FaultKind::Name)),
         }
@@ -119,6 +119,21 @@ impl Scope {
         }
     }
 
+    /// The number of an element.
+    fn element(&self, word: &[u8]) -> Result<Operand, Stop>
+        requires number { is_number word.now ≡ true }
+        requires few { self.now.counts.elements ≤ 1024 }
+        ensures ok { IfOk result (λ operand. IsOperand self.now.counts self.now.registers (places.Element, word.now) operand) }
+        ensures stop { IfErr result (λ stop. SlotStop self.now.counts self.now.registers (places.Element, word.now) stop) }
+    {
+        let e = number_value(word);
+        if e < self.counts.elements {
+            Ok(Operand::Element(e))
+        } else {
+            Err(Stop::Fault(FaultKind::Range))
+        }
+    }
+
     /// A whole number.
     fn value(&self, word: &[u8]) -> Result<Operand, Stop>
         requires number { is_integer word.now ≡ true }
@@ -144,6 +159,7 @@ impl Scope {
     fn operand(&self, alloc: Global, slot: &Slot<'_>) -> Result<Operand, Stop>
         requires form { has_form (slot_of slot.now) ≡ true }
         requires vars { self.now.counts.vars ≤ 1024 }
+        requires elements { self.now.counts.elements ≤ 1024 }
         requires registers { length self.now.registers < 2 ^ 32 }
         ensures ok { IfOk result (λ operand. IsOperand self.now.counts self.now.registers (slot_of slot.now) operand) }
         ensures stop { IfErr result (λ stop. SlotStop self.now.counts self.now.registers (slot_of slot.now) stop) }
@@ -155,6 +171,7 @@ impl Scope {
             Place::Alike => Ok(Operand::Alike(self.any(slot.word)?)),
             Place::Variable => Ok(Operand::Variable(self.variable(slot.word)?)),
             Place::NewVariable => Ok(Operand::NewVariable(self.variable(slot.word)?)),
+            Place::Element => self.element(slot.word),
             Place::Value => self.value(slot.word),
             Place::Bit => Ok(Operand::Bit(slot.word == b"1".as_slice())),
             Place::Bits => self.bits(alloc, slot.word),
@@ -183,6 +200,7 @@ impl Scope {
     fn operands(&self, alloc: Global, slots: &[Slot<'_>]) -> Result<Operands, Stop>
         requires forms { list_all has_form (map slot_of slots.now) ≡ true }
         requires vars { self.now.counts.vars ≤ 1024 }
+        requires elements { self.now.counts.elements ≤ 1024 }
         requires registers { length self.now.registers < 2 ^ 32 }
         ensures ok { IfOk result (λ operands. (each : ListOf OperandOf) × AreOperands self.now.counts self.now.registers (map slot_of slots.now) each × AllFit self.now.counts self.now.registers no_operands each × (operands ≡ with_operands self.now.registers no_operands each)) }
         ensures stop { IfErr result (λ stop. SlotsStop self.now.counts self.now.registers (map slot_of slots.now) stop) }
@@ -202,6 +220,7 @@ impl Scope {
     pub fn command(&self, alloc: Global, words: &[List<u8>]) -> Result<Act, Stop>
         requires some { 0 < length words.now }
         requires vars { self.now.counts.vars ≤ 1024 }
+        requires elements { self.now.counts.elements ≤ 1024 }
         requires registers { length self.now.registers < 2 ^ 32 }
         ensures ok { IfOk result (λ act. Says self.now.counts self.now.registers words.now act) }
         ensures stop { IfErr result (λ stop. CommandStop self.now.counts self.now.registers words.now stop) }

@@ -1,6 +1,0 @@
-use Rattle.std.proofs.Common.{sym, ◌∙◌}
-use Rattle.job_text.proofs.RegisterLists.{fresh_from}
-use Rattle.job_text.proofs.registers.is_assigned.Goals as goal
-
-pub returns-clause-none : goal.returns-clause-none
-returns-clause-none c = λ h. fresh_from c.args.registers.now c.args.word.now (sym c.has_name.ensures ∙ h)
