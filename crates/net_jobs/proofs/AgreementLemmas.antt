@@ -220,6 +220,9 @@ has_edge k rows row held = held.1 ∙ ap (λ o. Some (Some (row_of k (edge_or o)
 pub variables_of : (w : View) (rows : Rows) (t : Table) → Agrees w rows t → t.sizes.variables ≡ w.vars
 variables_of w rows t agrees = ap (λ (z : Sizes). z.variables) agrees.sizes_are
 
+pub elements_of : (w : View) (rows : Rows) (t : Table) → Agrees w rows t → t.sizes.elements ≡ w.elements
+elements_of w rows t agrees = ap (λ (z : Sizes). z.elements) agrees.sizes_are
+
 -- the variables are in the table's range
 pub variable_in_range : (w : View) (rows : Rows) (v : ℕ) (t : Table) → v < w.vars → Agrees w rows t → nat_lt v t.sizes.variables ≡ true
 variable_in_range w rows v t within agrees = lt-ltb v t.sizes.variables (omega (arith, within, variables_of w rows t agrees))

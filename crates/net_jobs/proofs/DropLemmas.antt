@@ -20,7 +20,7 @@ use Rattle.net_jobs.specs.declared.playing.Progress.{Progress}
 use Rattle.node_slots.specs.Stores.{Plain, plain_view}
 use Rattle.node_slots.specs.Views.{View}
 use Rattle.net_jobs.specs.Agreement.{AreStored, IsFilled, Rows, is_dropped, is_gone, name_of}
-use Rattle.net_jobs.specs.Playing.{CanCall, DropsOne, DropsTheRest, IsAnswered, IsHeld, RowsAfter, StandsAt, assigned_after, call_with, makes, register_at, rows_left, spoken, target_at}
+use Rattle.net_jobs.specs.Playing.{CanCall, counts_at, DropsOne, DropsTheRest, IsAnswered, IsHeld, RowsAfter, StandsAt, assigned_after, call_with, makes, register_at, rows_left, spoken, target_at}
 use Rattle.net_jobs.proofs.ListLemmas.{slice_get-set_other}
 use Rattle.net_jobs.proofs.StandsLemmas.{said_line, stands-after, stands-along}
 
@@ -54,7 +54,7 @@ others_kept old new row other is apart = ap (λ rows. is_dropped rows other) is 
 -- a row that was not dropped says its drop
 pub drops_one : (start : Plain) (commands : List Command) (old new : Progress) (said : List HistoryLine) (row : ℕ) (words : List Word) (act : Act) (answer : Answer)
     → StandsAt start commands old said → IsAnswered (plain_view old.session.store) old.session.rows.items (plain_view new.session.store) new.session.rows.items act answer
-    → CanCall (plain_view old.session.store).vars old.session.rows.items act → (answer.reply ≡ replies.Full → IsFilled new.session.store)
+    → CanCall (counts_at old.session.store) old.session.rows.items act → (answer.reply ≡ replies.Full → IsFilled new.session.store)
     → act ≡ Drop row → words ≡ codes "drop" ∷ target_at commands (slice_index old.assigned.items row) ∷ [] → is_dropped old.session.rows.items row ≡ false
     → new.assigned.items ≡ old.assigned.items → new.text.items ≡ old.text.items ++ line_text old.place 0 words answer.reply
     → new.place ≡ old.place + 1 → DropsOne start commands old new said row

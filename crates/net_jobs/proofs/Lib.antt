@@ -11,3 +11,4 @@ pub mod SessionLemmas
 pub mod SizeLemmas
 pub mod StandsLemmas
 pub mod WalkingLemmas
+pub mod FamilyLemmas

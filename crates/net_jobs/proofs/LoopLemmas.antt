@@ -14,7 +14,7 @@ use Rattle.std.proofs.lemmas.Slice.Eq.{bytes_eq-Decides}
 use Rattle.function_laws.specs.declared.history.Name.{Name}
 use Rattle.function_laws.specs.declared.history.Call.{Call}
 use Rattle.job_text.specs.declared.job.Act.{Act}
-use Rattle.job_text.specs.declared.job.Act.TheVariants.{One, Zero, Var, Not, And, Or, Xor, Ite, Cofactor, Exists, Forall, AndExists, Compose, VectorCompose, Restrict, Support, Constant, FromBdd, Plus, Minus, Times, Min, Max, Threshold, AddIte, SumOver, AtLeast, Pattern, Drop, Same, Leq, Eval}
+use Rattle.job_text.specs.declared.job.Act.TheVariants.{One, Zero, Var, Not, And, Or, Xor, Ite, Cofactor, Exists, Forall, AndExists, Compose, VectorCompose, Restrict, Support, Constant, FromBdd, Plus, Minus, Times, Min, Max, Threshold, AddIte, SumOver, AtLeast, Pattern, Empty, Base, Single, Union, Meet, Diff, Subset1, Subset0, Change, Product, Quotient, Drop, Same, Leq, Eval}
 use Rattle.job_text.specs.declared.job.Command.{Command}
 use Rattle.job_text.specs.declared.job.Counts.{Counts}
 use Rattle.job_text.specs.declared.job.Register.{Register}
@@ -30,7 +30,6 @@ use Rattle.edge_bits.specs.declared.edges.Kind.TheVariants as kinds
 use Rattle.node_slots.specs.Stores.{Plain, plain_view}
 use Rattle.net_jobs.specs.Agreement.{Rows, name_of, row_of}
 use Rattle.net_jobs.specs.Playing.{CanCall, Covers, GrowsOrLeft, IsHeldAs, RowsGoOn, SaysOne, SaysThrough, Stands, StandsAt, call_with, counts_at, counts_with, made_kind, makes, sizes_at, with_name}
-use Rattle.net_jobs.specs.Walking.{IsOnVariables}
 use Rattle.net_jobs.proofs.PlayLemmas.{grown_length}
 use Rattle.net_jobs.proofs.ListLemmas.{slice_get-push, slice_get-push_new, slice_get-push_old, slice_get-set_other}
 
@@ -62,21 +61,15 @@ alike n registers rows a b covers first second same =
     let one : second.1.0 ≡ k = sym (refers-kind registers second.0 b second.1.0 second.1.1) ∙ sym same ∙ refers-kind registers first.0 a k first.1.1 in
     (k, covers.held a first.0 k first.1.1.1, subst (λ (j : Kind). IsHeldAs j rows b) one (covers.held b second.0 second.1.0 second.1.1.1))
 
--- a register that is evaluated has a bit for each variable
-bits-long : (n : Counts) (k : Kind) → IsOnVariables k → bits_for n k ≡ n.vars
-bits-long n kinds.Bdd on = refl
-bits-long n kinds.Add on = refl
-bits-long n kinds.Zdd on = absurd on
-
+-- a register that is evaluated has as many bits as its kind asks for
 evaluated : (n : Counts) (registers : List Register) (rows : Rows) (a : ℕ) (bits : List Bool) → Covers registers rows → (word : Word) × StandsFor n registers word (operands.Any a)
-    → length bits ≡ bits_for n (kind_at registers a) → ((k : Kind) × IsOnVariables k × IsHeldAs k rows a) × (length bits ≡ n.vars)
+    → length bits ≡ bits_for n (kind_at registers a) → (k : Kind) × IsHeldAs k rows a × (length bits ≡ bits_for n k)
 evaluated n registers rows a bits covers stands long =
     let k = stands.1.0 in
-    let on : IsOnVariables k = covers.on_variables a (record { name = stands.0; live = true; kind = k }) stands.1.1.1 in
-    ((k, on, covers.held a stands.0 k stands.1.1.1), long ∙ ap (bits_for n) (refers-kind registers stands.0 a k stands.1.1) ∙ bits-long n k on)
+    (k, covers.held a stands.0 k stands.1.1.1, long ∙ ap (bits_for n) (refers-kind registers stands.0 a k stands.1.1))
 
 -- what a command says lets it be called
-can_each : (n : Counts) (registers : List Register) (rows : Rows) (act : Act) → Covers registers rows → EachStands n registers (operands_of (spelling act)) → IsProper n registers act → CanCall n.vars rows act
+can_each : (n : Counts) (registers : List Register) (rows : Rows) (act : Act) → Covers registers rows → EachStands n registers (operands_of (spelling act)) → IsProper n registers act → CanCall n rows act
 can_each n registers rows One covers each proper = tt
 can_each n registers rows Zero covers each proper = tt
 can_each n registers rows (Var v) covers each proper = each.0.1.1
@@ -108,21 +101,32 @@ can_each n registers rows (AddIte a b c) covers each proper =
 can_each n registers rows (SumOver a v) covers each proper = (held n registers rows kinds.Add a covers each.0, each.1.0.1.1)
 can_each n registers rows (AtLeast a z) covers each proper = (held n registers rows kinds.Add a covers each.0, each.1.0.1.1)
 can_each n registers rows (Pattern a) covers each proper = held n registers rows kinds.Add a covers each.0
+can_each n registers rows Empty covers each proper = tt
+can_each n registers rows Base covers each proper = tt
+can_each n registers rows (Single e) covers each proper = each.0.1.1
+can_each n registers rows (Union a b) covers each proper = (held n registers rows kinds.Zdd a covers each.0, held n registers rows kinds.Zdd b covers each.1.0)
+can_each n registers rows (Meet a b) covers each proper = (held n registers rows kinds.Zdd a covers each.0, held n registers rows kinds.Zdd b covers each.1.0)
+can_each n registers rows (Diff a b) covers each proper = (held n registers rows kinds.Zdd a covers each.0, held n registers rows kinds.Zdd b covers each.1.0)
+can_each n registers rows (Product a b) covers each proper = (held n registers rows kinds.Zdd a covers each.0, held n registers rows kinds.Zdd b covers each.1.0)
+can_each n registers rows (Quotient a b) covers each proper = (held n registers rows kinds.Zdd a covers each.0, held n registers rows kinds.Zdd b covers each.1.0)
+can_each n registers rows (Subset1 a e) covers each proper = (held n registers rows kinds.Zdd a covers each.0, each.1.0.1.1)
+can_each n registers rows (Subset0 a e) covers each proper = (held n registers rows kinds.Zdd a covers each.0, each.1.0.1.1)
+can_each n registers rows (Change a e) covers each proper = (held n registers rows kinds.Zdd a covers each.0, each.1.0.1.1)
 can_each n registers rows (Drop a) covers each proper = (each.0.1.0, covers.held a each.0.0 each.0.1.0 each.0.1.1.1)
 can_each n registers rows (Same a b) covers each proper = alike n registers rows a b covers each.0 each.1.0 proper
 can_each n registers rows (Leq a b) covers each proper = (held n registers rows kinds.Bdd a covers each.0, held n registers rows kinds.Bdd b covers each.1.0)
 can_each n registers rows (Eval a bits) covers each proper = evaluated n registers rows a bits covers each.0 proper
 
-pub can_call : (n : Counts) (registers : List Register) (rows : Rows) (words : List Word) (act : Act) → Says n registers words act → Covers registers rows → CanCall n.vars rows act
+pub can_call : (n : Counts) (registers : List Register) (rows : Rows) (words : List Word) (act : Act) → Says n registers words act → Covers registers rows → CanCall n rows act
 can_call n registers rows words act says covers = can_each n registers rows act covers (operands_stand n registers words (spelling act) says.0) says.1
 
 -- a row that was held is held among more rows
 held-push : (k j : Kind) (rows : Rows) (f : Edge) (a : ℕ) → IsHeldAs k rows a → IsHeldAs k (rows ++ Some (row_of j f) ∷ []) a
 held-push k j rows f a held = (held.0, slice_get-push_old rows (Some (row_of j f)) a (slice_get_within rows a (Some (row_of k held.0)) held.1) ∙ held.1)
 
-covers-push : (registers : List Register) (rows : Rows) (word : Word) (k : Kind) (f : Edge) → IsOnVariables k → Covers registers rows
+covers-push : (registers : List Register) (rows : Rows) (word : Word) (k : Kind) (f : Edge) → Covers registers rows
     → Covers (registers ++ record { name = word; live = true; kind = k } ∷ []) (rows ++ Some (row_of k f) ∷ [])
-covers-push registers rows word k f on covers =
+covers-push registers rows word k f covers =
     let register : Register = record { name = word; live = true; kind = k } in
     record {
       as_many = length_push registers register ∙ ap (λ i. i + 1) covers.as_many ∙ sym (length_push rows (Some (row_of k f)));
@@ -132,10 +136,6 @@ covers-push registers rows word k f on covers =
           subst (λ i. IsHeldAs j (rows ++ Some (row_of k f) ∷ []) i) (sym (new.0 ∙ covers.as_many))
           (f, slice_get-push_new rows (Some (row_of k f)) ∙ ap (λ (x : Kind). Some (Some (row_of x f))) same))
           (slice_get-push registers register (record { name = name; live = true; kind = j }) a is);
-      on_variables = λ a other is. ⊎_elim
-          (λ old. covers.on_variables a other old.1)
-          (λ new. subst (λ (r : Register). IsOnVariables r.kind) new.1 on)
-          (slice_get-push registers register other a is);
     }
 
 and_both : (a b : Bool) → (a && b) ≡ true → (a ≡ true) × (b ≡ true)
@@ -148,12 +148,6 @@ not_true false is = refl
 
 same_word : (w : Word) → bytes_eq w w ≡ true
 same_word w = (bytes_eq-Decides w w).1 refl
-
--- a register after a drop was there before, with its kind
-without-there : (dropped : Word) (o : Option Register) (register : Register) → option_map (without dropped) o ≡ Some register → (before : Register) × (o ≡ Some before) × (before.kind ≡ register.kind)
-without-there dropped None register is = cc
-without-there dropped (Some before) register is =
-    let same : without dropped before ≡ register = cc in (before, refl, ap (λ (r : Register). r.kind) same)
 
 -- a register that is live after a drop was live before, and has another name
 without-live : (dropped word : Word) (k : Kind) (o : Option Register) → option_map (without dropped) o ≡ Some (record { name = word; live = true; kind = k })
@@ -185,9 +179,6 @@ covers-drop registers rows word kind a is covers = record {
       false≢true (sym before.1 ∙ ap (λ w. bytes_eq w word) equal ∙ same_word word) in
       let held = covers.held i name k before.0 in
       (held.0, slice_get-set_other rows None a i apart ∙ held.1);
-  on_variables = λ i register at.
-      let before = without-there word (slice_get registers i) register (sym (slice_get-map (without word) registers i) ∙ at) in
-      subst (λ (k : Kind). IsOnVariables k) before.2 (covers.on_variables i before.0 before.1);
 }
 
 -- the spelling of a command that makes a row of a kind, and of one that makes none and drops none
@@ -200,12 +191,12 @@ keeps_all (assigns command os) = false
 keeps_all (tells command os) = not (bytes_eq command (codes "drop"))
 
 module _ (n : Counts) (registers : List Register) (old new : Rows) (words : List Word) (covers : Covers registers old) where
-  covers-assigned : (k : Kind) (spelt : Spelling) → IsOnVariables k → assigns_kind k spelt → Spells n registers words spelt → (e : Edge) × (new ≡ old ++ Some (row_of k e) ∷ []) → Covers (registers_after registers words) new
-  covers-assigned k (assigns command os) on is spells after =
+  covers-assigned : (k : Kind) (spelt : Spelling) → assigns_kind k spelt → Spells n registers words spelt → (e : Edge) × (new ≡ old ++ Some (row_of k e) ∷ []) → Covers (registers_after registers words) new
+  covers-assigned k (assigns command os) is spells after =
       let more = one_register_more n registers words command os spells in
       subst (λ rs. Covers rs new) (sym (more.1 ∙ ap (λ (j : Kind). registers ++ record { name = more.0; live = true; kind = j } ∷ []) is))
-      (subst (λ rows. Covers (registers ++ record { name = more.0; live = true; kind = k } ∷ []) rows) (sym after.1) (covers-push registers old more.0 k after.0 on covers))
-  covers-assigned k (tells command os) on is spells after = absurd is
+      (subst (λ rows. Covers (registers ++ record { name = more.0; live = true; kind = k } ∷ []) rows) (sym after.1) (covers-push registers old more.0 k after.0 covers))
+  covers-assigned k (tells command os) is spells after = absurd is
 
   covers-kept : (spelt : Spelling) → keeps_all spelt ≡ true → Spells n registers words spelt → new ≡ old → Covers (registers_after registers words) new
   covers-kept (assigns command os) is spells after = cc
@@ -222,7 +213,7 @@ module _ (n : Counts) (registers : List Register) (old new : Rows) (words : List
   covers-after (Same a b) says after = covers-kept (spelling (Same a b)) refl says.0 after
   covers-after (Leq a b) says after = covers-kept (spelling (Leq a b)) refl says.0 after
   covers-after (Eval a bits) says after = covers-kept (spelling (Eval a bits)) refl says.0 after
-  covers-after act says after = covers-assigned (made_kind act) (spelling act) tt refl says.0 after
+  covers-after act says after = covers-assigned (made_kind act) (spelling act) refl says.0 after
 
 -- what is named among some registers is named among more
 named-more : (registers more : List Held) (a : ℕ) (name : Name) → IsNamed registers a name → IsNamed (registers ++ more) a name
@@ -270,6 +261,17 @@ calls-more registers more (AddIte a b c) call is =
 calls-more registers more (SumOver a v) call is = (is.0, named-more registers more a is.0 is.1, is.2)
 calls-more registers more (AtLeast a z) call is = (is.0, named-more registers more a is.0 is.1, is.2)
 calls-more registers more (Pattern a) call is = (is.0, named-more registers more a is.0 is.1, is.2)
+calls-more registers more Empty call is = is
+calls-more registers more Base call is = is
+calls-more registers more (Single e) call is = is
+calls-more registers more (Union a b) call is = (is.0, is.1, named-more registers more a is.0 is.2, named-more registers more b is.1 is.3, is.4)
+calls-more registers more (Meet a b) call is = (is.0, is.1, named-more registers more a is.0 is.2, named-more registers more b is.1 is.3, is.4)
+calls-more registers more (Diff a b) call is = (is.0, is.1, named-more registers more a is.0 is.2, named-more registers more b is.1 is.3, is.4)
+calls-more registers more (Product a b) call is = (is.0, is.1, named-more registers more a is.0 is.2, named-more registers more b is.1 is.3, is.4)
+calls-more registers more (Quotient a b) call is = (is.0, is.1, named-more registers more a is.0 is.2, named-more registers more b is.1 is.3, is.4)
+calls-more registers more (Subset1 a e) call is = (is.0, named-more registers more a is.0 is.1, is.2)
+calls-more registers more (Subset0 a e) call is = (is.0, named-more registers more a is.0 is.1, is.2)
+calls-more registers more (Change a e) call is = (is.0, named-more registers more a is.0 is.1, is.2)
 calls-more registers more (Drop a) call is = (is.0, named-more registers more a is.0 is.1, is.2)
 calls-more registers more (Same a b) call is = (is.0, is.1, named-more registers more a is.0 is.2, named-more registers more b is.1 is.3, is.4)
 calls-more registers more (Leq a b) call is = (is.0, is.1, named-more registers more a is.0 is.2, named-more registers more b is.1 is.3, is.4)
@@ -322,7 +324,7 @@ module _ (start p : Plain) (commands : List Command) (rows : Rows) (assigned tex
     all_named pairs (All-tail (λ pair. (pair.0 < (plain_view p).vars) × IsHeldAs kinds.Bdd rows pair.1) pair pairs all),
   )
 
-  calls_of : (act : Act) → CanCall (plain_view p).vars rows act → Calls (registers_of said) act (call_with act)
+  calls_of : (act : Act) → CanCall (counts_at p) rows act → Calls (registers_of said) act (call_with act)
   calls_of One can = refl
   calls_of Zero can = refl
   calls_of (Var v) can = refl
@@ -351,14 +353,25 @@ module _ (start p : Plain) (commands : List Command) (rows : Rows) (assigned tex
   calls_of (SumOver a v) can = (name_of a, named kinds.Add a can.0, refl)
   calls_of (AtLeast a z) can = (name_of a, named kinds.Add a can.0, refl)
   calls_of (Pattern a) can = (name_of a, named kinds.Add a can, refl)
+  calls_of Empty can = refl
+  calls_of Base can = refl
+  calls_of (Single e) can = refl
+  calls_of (Union a b) can = (name_of a, name_of b, named kinds.Zdd a can.0, named kinds.Zdd b can.1, refl)
+  calls_of (Meet a b) can = (name_of a, name_of b, named kinds.Zdd a can.0, named kinds.Zdd b can.1, refl)
+  calls_of (Diff a b) can = (name_of a, name_of b, named kinds.Zdd a can.0, named kinds.Zdd b can.1, refl)
+  calls_of (Product a b) can = (name_of a, name_of b, named kinds.Zdd a can.0, named kinds.Zdd b can.1, refl)
+  calls_of (Quotient a b) can = (name_of a, name_of b, named kinds.Zdd a can.0, named kinds.Zdd b can.1, refl)
+  calls_of (Subset1 a e) can = (name_of a, named kinds.Zdd a can.0, refl)
+  calls_of (Subset0 a e) can = (name_of a, named kinds.Zdd a can.0, refl)
+  calls_of (Change a e) can = (name_of a, named kinds.Zdd a can.0, refl)
   calls_of (Drop a) can = (name_of a, named can.0 a can.1, refl)
   calls_of (Same a b) can = (name_of a, name_of b, named can.0 a can.1, named can.0 b can.2, refl)
   calls_of (Leq a b) can = (name_of a, name_of b, named kinds.Bdd a can.0, named kinds.Bdd b can.1, refl)
-  calls_of (Eval a bits) can = (name_of a, named can.0.0 a can.0.2, refl)
+  calls_of (Eval a bits) can = (name_of a, named can.0 a can.1, refl)
 
   -- the commands were said in order, with one more
   pub in_order-after : (line : HistoryLine) (command : Command) → SayInOrder (registers_of said) said commands → slice_get commands (length said) ≡ Some command
-      → line.words ≡ command.words → line.entry.call ≡ call_with command.act → CanCall (plain_view p).vars rows command.act
+      → line.words ≡ command.words → line.entry.call ≡ call_with command.act → CanCall (counts_at p) rows command.act
       → SayInOrder (registers_of (said ++ line ∷ [])) (said ++ line ∷ []) commands
   in_order-after line command says at words call can =
       subst (λ rs. SayInOrder rs (said ++ line ∷ []) commands) (sym (registers-grow said line))
@@ -391,7 +404,7 @@ rest_at n registers (first ∷ commands) (suc i) command is rest =
     (inner.0, subst (λ k. CommandsSay n (registers_after registers command.words) (drop k (first ∷ commands))) (sym next) inner.1)
 
 pub can_at : (start : Plain) (commands : List Command) (play : Progress) (i : ℕ) (command : Command) → SaysUpTo start commands play i → slice_get commands i ≡ Some command
-    → CanCall (plain_view play.session.store).vars play.session.rows.items command.act
+    → CanCall (counts_at play.session.store) play.session.rows.items command.act
 can_at start commands play i command up is =
     can_call (counts_at play.session.store) up.registers play.session.rows.items command.words command.act (rest_at (counts_at play.session.store) up.registers commands i command is up.rest).0 up.covers
 

@@ -22,14 +22,14 @@ use Rattle.net_jobs.specs.Agreement.{Agrees, Has, IsLiveOf, Rows}
 use Rattle.net_jobs.proofs.AgreementLemmas.{live_at, variable_in_range, variables_of}
 
 -- place by place, on whole lists of any values
-two_listed : {X Y Z : Type 0} (op : X → Y → Z) (d : X) (b : Y) (size : ℕ) (f : ℕ → X) (g : ℕ → Y)
+pub two_listed : {X Y Z : Type 0} (op : X → Y → Z) (d : X) (b : Y) (size : ℕ) (f : ℕ → X) (g : ℕ → Y)
     → list_of (length (list_of size f)) (λ k. op (get_or (list_of size f) k d) (get_or (list_of size g) k b)) ≡ list_of size (λ k. op (f k) (g k))
 two_listed op d b size f g =
     ap (λ n. list_of n (λ k. op (get_or (list_of size f) k d) (get_or (list_of size g) k b))) (length-list_of size f)
     ∙ list_of-same size (λ k. op (get_or (list_of size f) k d) (get_or (list_of size g) k b)) (λ k. op (f k) (g k))
     (λ k below. ap₂ op (get_or-list_of size k f d below) (get_or-list_of size k g b below))
 
-one_listed : {X Y : Type 0} (op : X → Y) (d : X) (size : ℕ) (f : ℕ → X) → list_of (length (list_of size f)) (λ k. op (get_or (list_of size f) k d)) ≡ list_of size (λ k. op (f k))
+pub one_listed : {X Y : Type 0} (op : X → Y) (d : X) (size : ℕ) (f : ℕ → X) → list_of (length (list_of size f)) (λ k. op (get_or (list_of size f) k d)) ≡ list_of size (λ k. op (f k))
 one_listed op d size f =
     ap (λ n. list_of n (λ k. op (get_or (list_of size f) k d))) (length-list_of size f)
     ∙ list_of-same size (λ k. op (get_or (list_of size f) k d)) (λ k. op (f k)) (λ k below. ap op (get_or-list_of size k f d below))

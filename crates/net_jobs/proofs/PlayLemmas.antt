@@ -29,7 +29,7 @@ use Rattle.net_jobs.specs.declared.session.Row.{Row}
 use Rattle.net_jobs.specs.declared.session.Session.{Session}
 use Rattle.node_slots.specs.Stores.{plain_view}
 use Rattle.net_jobs.specs.Agreement.{Adds, AreStored, Exceeds, GivesName, IsLiveOf, IsStepOf, Refuses, Rows, row_of}
-use Rattle.net_jobs.specs.Playing.{GrowsOrLeft, IsAnswered, IsHeldAs, RowsAfter, RowsGoOn, call_with, is_about_numbers, made_kind, makes, may_exceed, rows_left, with_name}
+use Rattle.net_jobs.specs.Playing.{GrowsOrLeft, IsAnswered, IsHeldAs, RowsAfter, RowsGoOn, call_with, is_about_families, is_about_numbers, made_kind, makes, may_exceed, rows_left, with_name}
 use Rattle.net_jobs.proofs.ListLemmas.{slice_get-push, slice_get-set}
 use Rattle.net_jobs.proofs.AgreementLemmas.{stored-grown}
 
@@ -115,6 +115,14 @@ numbers_make (Same a b) numbers = cc
 numbers_make (Leq a b) numbers = cc
 numbers_make (Eval a bits) numbers = cc
 numbers_make act numbers = refl
+
+-- and so does one about families
+pub families_make : (act : Act) → is_about_families act ≡ true → makes act ≡ true
+families_make (Drop a) families = cc
+families_make (Same a b) families = cc
+families_make (Leq a b) families = cc
+families_make (Eval a bits) families = cc
+families_make act families = refl
 
 -- the commands that are left
 pub makes_default : (act : Act) → ((a : ℕ) → act ≡ Drop a → ⊥) → ((a b : ℕ) → act ≡ Same a b → ⊥) → ((a b : ℕ) → act ≡ Leq a b → ⊥)

@@ -1,6 +1,7 @@
 -- The questions of a session are steps of each table with which it agrees.
-use Rattle.std.proofs.Common.{◌≡◌, ℕ, ◌+◌, ◌-◌, ◌<◌, ◌≤◌, ◌^◌, Bool, true, false, List, length, Some, option_and_then, ◌↔◌, refl, sym, ap, ap₂, ◌∙◌, arith, subst, pos, ℤ, take, take_all, IsTrue}
+use Rattle.std.proofs.Common.{◌≡◌, ℕ, ◌+◌, ◌-◌, ◌<◌, ◌≤◌, ◌^◌, Bool, true, false, List, length, Some, option_and_then, ◌↔◌, refl, sym, ap, ap₂, ◌∙◌, arith, subst, pos, ℤ, take_all, IsTrue}
 use Rattle.std.proofs.lemmas.Bool.{false≢true}
+use mir.Val.{bool_byte}
 use Rattle.edge_bits.specs.declared.edges.Edge.{Edge}
 use Rattle.edge_bits.specs.declared.edges.Kind.{Kind}
 use Rattle.edge_bits.specs.declared.edges.Kind.TheVariants as kinds
@@ -21,10 +22,10 @@ use Rattle.function_laws.proofs.StepLemmas.{outcome-eval, value_is_allowed}
 use Rattle.function_laws.proofs.ValueLemmas.{everywhere}
 use Rattle.function_laws.proofs.WidthLemmas.{same-from_lists}
 use Rattle.node_store.specs.Kinds.{Lacks, ValueOf}
-use Rattle.node_slots.specs.Views.{View, Grown, IsBeyond, values_at}
+use Rattle.node_slots.specs.Views.{View, Grown, IsBeyond, levels, values_at}
 use Rattle.net_jobs.specs.Agreement.{Agrees, AreStored, Has, IsLiveOf, IsStepOf, Rows, listed, listed_at}
 use Rattle.net_jobs.specs.Walking.{IsOnVariables, number_of}
-use Rattle.net_jobs.proofs.AgreementLemmas.{agrees-grown, live_at, variables_of}
+use Rattle.net_jobs.proofs.AgreementLemmas.{agrees-grown, elements_of, live_at, variables_of}
 use Rattle.net_jobs.proofs.WalkingLemmas.{assignment_of-below}
 
 -- the members of a family of m elements are below 2 ^ m
@@ -83,28 +84,43 @@ step-same k w rows a b e d told stored first second is_e is_d is_told t agrees =
     ((compares (listed_at k w e) (listed_at k w d), out, (λ yes. ap (listed k w) (is_told.0 yes), λ s. is_told.1 (back s))), agrees)
 
 -- the value of a list at the bits
-value-listed : (k : Kind) (w : View) (rows : Rows) (t : Table) (e : Edge) (bits : List Bool) → IsOnVariables k → Agrees w rows t → length bits ≡ w.vars
+value-listed : (k : Kind) (w : View) (rows : Rows) (t : Table) (e : Edge) (bits : List Bool) → Agrees w rows t → length bits ≡ levels k w
     → value_at t.sizes (listed_at k w e) bits ≡ number_of k (values_at k w e (assignment_of bits))
-value-listed k w rows t e bits on agrees long = by_kind k on
+value-listed k w rows t e bits agrees long = by_kind k long
   where
-    all : take t.sizes.variables bits ≡ bits
-    all = take_all t.sizes.variables bits (omega (arith, variables_of w rows t agrees, long))
+    below : (m : ℕ) → length bits ≡ m → assignment_of bits < 2 ^ m
+    below m long = subst (λ n. assignment_of bits < 2 ^ n) long (assignment_of-below bits)
 
-    below : assignment_of bits < 2 ^ w.vars
-    below = subst (λ n. assignment_of bits < 2 ^ n) long (assignment_of-below bits)
+    by_kind : (k : Kind) → length bits ≡ levels k w → value_at t.sizes (listed_at k w e) bits ≡ number_of k (values_at k w e (assignment_of bits))
+    by_kind kinds.Bdd long =
+        ap (λ bs. pos (digit (truth (list_of (2 ^ w.vars) (values_at kinds.Bdd w e)) (assignment_of bs)))) (take_all t.sizes.variables bits (omega (arith, variables_of w rows t agrees, long)))
+        ∙ ap (λ b. pos (digit b)) (truth-list_of (2 ^ w.vars) (assignment_of bits) (values_at kinds.Bdd w e) (below w.vars long))
+    by_kind kinds.Add long =
+        ap (λ bs. whole (list_of (2 ^ w.vars) (values_at kinds.Add w e)) (assignment_of bs)) (take_all t.sizes.variables bits (omega (arith, variables_of w rows t agrees, long)))
+        ∙ whole-list_of (2 ^ w.vars) (assignment_of bits) (values_at kinds.Add w e) (below w.vars long)
+    by_kind kinds.Zdd long =
+        ap (λ bs. pos (digit (truth (list_of (2 ^ w.elements) (values_at kinds.Zdd w e)) (assignment_of bs)))) (take_all t.sizes.elements bits (omega (arith, elements_of w rows t agrees, long)))
+        ∙ ap (λ b. pos (digit b)) (truth-list_of (2 ^ w.elements) (assignment_of bits) (values_at kinds.Zdd w e) (below w.elements long))
 
-    by_kind : (k : Kind) → IsOnVariables k → value_at t.sizes (listed_at k w e) bits ≡ number_of k (values_at k w e (assignment_of bits))
-    by_kind kinds.Bdd on =
-        ap (λ bs. pos (digit (truth (list_of (2 ^ w.vars) (values_at kinds.Bdd w e)) (assignment_of bs)))) all
-        ∙ ap (λ b. pos (digit b)) (truth-list_of (2 ^ w.vars) (assignment_of bits) (values_at kinds.Bdd w e) below)
-    by_kind kinds.Add on =
-        ap (λ bs. whole (list_of (2 ^ w.vars) (values_at kinds.Add w e)) (assignment_of bs)) all
-        ∙ whole-list_of (2 ^ w.vars) (assignment_of bits) (values_at kinds.Add w e) below
-    by_kind kinds.Zdd on = absurd on
-
-pub step-eval : (k : Kind) (w w' : View) (rows : Rows) (a : Name) (bits : List Bool) (e : Edge) (z : ℤ) → IsOnVariables k → Grown w w' → AreStored w rows → IsLiveOf k rows a → Has k rows a.row e
-    → length bits ≡ w.vars → z ≡ number_of k (values_at k w e (assignment_of bits)) → IsStepOf w rows w' rows (Eval a bits) (Value z)
-step-eval k w w' rows a bits e z on grown stored live has long is t agrees = (
-  value_is_allowed t 0 (Eval a bits) z (outcome-eval t 0 a bits (listed_at k w e) (live_at k w rows t a e agrees live has) ∙ ap (λ x. Some (shows x)) (value-listed k w rows t e bits on agrees long ∙ sym is)),
+pub step-eval : (k : Kind) (w w' : View) (rows : Rows) (a : Name) (bits : List Bool) (e : Edge) (z : ℤ) → Grown w w' → AreStored w rows → IsLiveOf k rows a → Has k rows a.row e
+    → length bits ≡ levels k w → z ≡ number_of k (values_at k w e (assignment_of bits)) → IsStepOf w rows w' rows (Eval a bits) (Value z)
+step-eval k w w' rows a bits e z grown stored live has long is t agrees = (
+  value_is_allowed t 0 (Eval a bits) z (outcome-eval t 0 a bits (listed_at k w e) (live_at k w rows t a e agrees live has) ∙ ap (λ x. Some (shows x)) (value-listed k w rows t e bits agrees long ∙ sym is)),
   agrees-grown w w' rows t grown stored agrees,
 )
+
+-- a kind other than families, on as many variables as the store has
+pub branches_on_variables : (k j : Kind) → j ≡ k → (j ≡ kinds.Zdd → ⊥) → IsOnVariables k
+branches_on_variables kinds.Bdd j same other = tt
+branches_on_variables kinds.Add j same other = tt
+branches_on_variables kinds.Zdd j same other = absurd (other same)
+
+pub as_many_variables : (k : Kind) (w : View) → IsOnVariables k → levels k w ≡ w.vars
+as_many_variables kinds.Bdd w on = refl
+as_many_variables kinds.Add w on = refl
+as_many_variables kinds.Zdd w on = absurd on
+
+-- a membership as a number
+pub digit_of : (b : Bool) → bool_byte b ≡ digit b
+digit_of true = refl
+digit_of false = refl

@@ -1,5 +1,5 @@
 -- A job has no more commands than its text has bytes, and one.
-use Rattle.std.proofs.Common.{ℕ, zero, suc, ◌+◌, ◌^◌, ◌<◌, ◌≤◌, List, [], ◌∷◌, length, map, get_or, arith, ap, length-append}
+use Rattle.std.proofs.Common.{ℕ, zero, suc, ◌+◌, ◌^◌, ◌<◌, ◌≤◌, List, [], ◌∷◌, ◌++◌, length, map, get_or, arith, ap, length-append}
 use Rattle.std.specs.Prelude.{◌==◌, not, All}
 use Rattle.std.specs.List.{flat_map, slice_split}
 use Rattle.std.proofs.lemmas.List.{length-map}
@@ -34,4 +34,5 @@ length-sections (section ∷ sections) (suc k) d below =
 
 pub few_commands : (text : List ℕ) (job : Job) → length text ≤ 67108864 → IsJobText text job → All (λ commands. length commands < 2 ^ 32) job.sections
 few_commands text job short is k d below =
-    omega (arith, length-sections job.sections k d below, ap (length {A = List Word}) is.lines, length-append is.limits (flat_map section_lines job.sections), length-said_lines (lines_of text), length-lines_of text)
+    omega (arith, length-sections job.sections k d below, ap (length {A = List Word}) is.lines, length-append (is.element_lines ++ is.limits) (flat_map section_lines job.sections),
+        length-append is.element_lines is.limits, length-said_lines (lines_of text), length-lines_of text)

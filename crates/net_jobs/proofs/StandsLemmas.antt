@@ -20,6 +20,7 @@ use Rattle.function_laws.proofs.HistoryLemmas.{IsLegalFrom-push, table_after-pus
 use Rattle.job_text.specs.declared.job.Act.{Act}
 use Rattle.job_text.specs.declared.job.Act.TheVariants.{Drop}
 use Rattle.job_text.specs.declared.job.Command.{Command}
+use Rattle.job_text.specs.declared.job.Counts.{Counts}
 use Rattle.job_text.specs.declared.history_line.Reply.TheVariants as replies
 use Rattle.job_text.specs.Text.{Word}
 use Rattle.job_text.specs.Grammar.{target_of}
@@ -29,7 +30,7 @@ use Rattle.net_jobs.specs.declared.session.Row.{Row}
 use Rattle.node_slots.specs.Stores.{Plain, plain_view}
 use Rattle.node_slots.specs.Views.{View}
 use Rattle.net_jobs.specs.Agreement.{Agrees, IsFilled, Rows, is_dropped, is_gone, name_of, row_of, sizes_for}
-use Rattle.net_jobs.specs.Playing.{CallOf, CallsLead, CanCall, IsAnswered, RowsAfter, Stands, assigned_after, call_with, made_kind, makes, sizes_at, target_at}
+use Rattle.net_jobs.specs.Playing.{CallOf, CallsLead, CanCall, counts_at, IsAnswered, RowsAfter, Stands, assigned_after, call_with, made_kind, makes, sizes_at, target_at}
 use Rattle.net_jobs.proofs.ListLemmas.{slice_get-set_other, slice_get-set_same}
 use Rattle.net_jobs.proofs.PlayLemmas.{left_length}
 
@@ -74,15 +75,15 @@ calls-push limit old [] p line new same call = (new, subst (λ (q : Plain). Call
 calls-push limit old (first ∷ lines) p line new lead call = (lead.0, lead.1, calls-push limit lead.0 lines p line new lead.2 call)
 
 -- what was dropped after one more call
-dropped-after : (w w' : View) (rows new : Rows) (act : Act) (answer : Answer) (answered : IsAnswered w rows w' new act answer) → CanCall w.vars rows act → (row : ℕ)
+dropped-after : (n : Counts) (w w' : View) (rows new : Rows) (act : Act) (answer : Answer) (answered : IsAnswered w rows w' new act answer) → CanCall n rows act → (row : ℕ)
     → (is_dropped rows row || drops (name_of row) (call_with act)) ≡ is_dropped new row
-dropped-after w w' rows new act answer answered can row = by_made answer.made answered.made_if answered.rows
+dropped-after n w w' rows new act answer answered can row = by_made answer.made answered.made_if answered.rows
   where
     by_made : (made : Bool) → made ≡ (makes act && not (stops answer.reply)) → RowsAfter made rows new act answered.reply
         → (is_dropped rows row || drops (name_of row) (call_with act)) ≡ is_dropped new row
     by_made made is after = by_act act can made is after
       where
-        by_act : (act : Act) → CanCall w.vars rows act → (made : Bool) → made ≡ (makes act && not (stops answer.reply)) → RowsAfter made rows new act answered.reply
+        by_act : (act : Act) → CanCall n rows act → (made : Bool) → made ≡ (makes act && not (stops answer.reply)) → RowsAfter made rows new act answered.reply
             → (is_dropped rows row || drops (name_of row) (call_with act)) ≡ is_dropped new row
         by_act (Drop a) can true is after = cc
         by_act (Drop a) can false is after =
@@ -92,7 +93,7 @@ dropped-after w w' rows new act answer answered can row = by_made answer.made an
 
 module _ (start p p' : Plain) (commands : List Command) (rows new : Rows) (assigned text : List ℕ) (place i : ℕ) (said : List HistoryLine)
     (words : List Word) (act : Act) (answer : Answer) (stands : Stands start p commands rows assigned text place said)
-    (answered : IsAnswered (plain_view p) rows (plain_view p') new act answer) (can : CanCall (plain_view p).vars rows act)
+    (answered : IsAnswered (plain_view p) rows (plain_view p') new act answer) (can : CanCall (counts_at p) rows act)
     (filled : answer.reply ≡ replies.Full → IsFilled p') where
   -- the line of the call
   abbrev pub said_line : HistoryLine
@@ -176,7 +177,7 @@ module _ (start p p' : Plain) (commands : List Command) (rows new : Rows) (assig
         names = registers.1;
         count = registers.2;
         dropped = λ row. list_any-append (λ line. drops (name_of row) line.entry.call) said (said_line ∷ [])
-            ∙ ap₂ (λ a b. a || b) (stands.dropped row) (or_false (drops (name_of row) (call_with act))) ∙ dropped-after (plain_view p) (plain_view p') rows new act answer answered can row;
+            ∙ ap₂ (λ a b. a || b) (stands.dropped row) (or_false (drops (name_of row) (call_with act))) ∙ dropped-after (counts_at p) (plain_view p) (plain_view p') rows new act answer answered can row;
         written = is_text ∙ ap (λ xs. xs ++ line_text place 0 words answer.reply) stands.written
             ∙ ap (λ xs. flat_map text_of said ++ xs) (sym (append-nil (line_text place 0 words answer.reply))) ∙ sym (flat_map-append text_of said (said_line ∷ []));
         number = is_next ∙ ap (λ k. k + 1) stands.number ∙ sym (length_push said said_line);

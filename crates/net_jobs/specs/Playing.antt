@@ -11,14 +11,14 @@ use Rattle.function_laws.specs.Steps.{are_distinct}
 use Rattle.function_laws.specs.Tables.{Sizes, opening}
 use Rattle.function_laws.specs.Histories.{IsLegal, table_after}
 use Rattle.job_text.specs.declared.job.Act.{Act}
-use Rattle.job_text.specs.declared.job.Act.TheVariants.{One, Zero, Var, Not, And, Or, Xor, Ite, Cofactor, Exists, Forall, AndExists, Compose, VectorCompose, Restrict, Support, Constant, FromBdd, Plus, Minus, Times, Min, Max, Threshold, AddIte, SumOver, AtLeast, Pattern, Drop, Same, Leq, Eval}
+use Rattle.job_text.specs.declared.job.Act.TheVariants.{One, Zero, Var, Not, And, Or, Xor, Ite, Cofactor, Exists, Forall, AndExists, Compose, VectorCompose, Restrict, Support, Constant, FromBdd, Plus, Minus, Times, Min, Max, Threshold, AddIte, SumOver, AtLeast, Pattern, Drop, Same, Leq, Eval, Empty, Base, Single, Union, Meet, Diff, Subset1, Subset0, Change, Product, Quotient}
 use Rattle.job_text.specs.declared.job.Command.{Command}
 use Rattle.job_text.specs.declared.job.Counts.{Counts}
 use Rattle.job_text.specs.declared.history_line.Reply.TheVariants as replies
 use Rattle.job_text.specs.declared.job.Job.{Job}
 use Rattle.job_text.specs.declared.job.Register.{Register}
 use Rattle.job_text.specs.Text.{Word}
-use Rattle.job_text.specs.Grammar.{target_of}
+use Rattle.job_text.specs.Grammar.{bits_for, target_of}
 use Rattle.job_text.specs.Histories.{Held, HistoryLine, IsHistory, SayInOrder, drop_of, drops, given_by, left_of, registers_of, stops, text_of, told_of}
 use Rattle.net_jobs.specs.declared.playing.Answer.{Answer}
 use Rattle.net_jobs.specs.declared.playing.Progress.{Progress}
@@ -28,7 +28,6 @@ use Rattle.edge_bits.specs.declared.edges.Kind.TheVariants as kinds
 use Rattle.node_slots.specs.Stores.{Plain, in_use, plain_view}
 use Rattle.node_slots.specs.Views.{View, Grown, Rose}
 use Rattle.net_jobs.specs.Agreement.{Agrees, AreStored, Has, IsStepOf, Rows, is_dropped, name_of, row_of, sizes_for}
-use Rattle.net_jobs.specs.Walking.{IsOnVariables}
 
 -- the row was not dropped and has this kind
 abbrev pub IsHeldAs : Kind → Rows → ℕ → Type 0
@@ -38,23 +37,23 @@ IsHeldAs k rows row = (e : Edge) × Has k rows row e
 abbrev pub IsHeld : Rows → ℕ → Type 0
 IsHeld rows row = (k : Kind) × IsHeldAs k rows row
 
--- the conditions of a command's call: its variables are some of n, its registers are rows of the kinds that are due and were
--- not dropped, it has n bits
-abbrev pub CanCall : ℕ → Rows → Act → Type 0
+-- the conditions of a command's call: its variables and elements are some of so many, its registers are rows of the kinds that
+-- are due and were not dropped, it has as many bits as the kind of its register asks for
+abbrev pub CanCall : Counts → Rows → Act → Type 0
 CanCall n rows One = Unit {0}
 CanCall n rows Zero = Unit {0}
-CanCall n rows (Var v) = v < n
+CanCall n rows (Var v) = v < n.vars
 CanCall n rows (Not a) = IsHeldAs kinds.Bdd rows a
 CanCall n rows (And a b) = IsHeldAs kinds.Bdd rows a × IsHeldAs kinds.Bdd rows b
 CanCall n rows (Or a b) = IsHeldAs kinds.Bdd rows a × IsHeldAs kinds.Bdd rows b
 CanCall n rows (Xor a b) = IsHeldAs kinds.Bdd rows a × IsHeldAs kinds.Bdd rows b
 CanCall n rows (Ite a b c) = IsHeldAs kinds.Bdd rows a × IsHeldAs kinds.Bdd rows b × IsHeldAs kinds.Bdd rows c
-CanCall n rows (Cofactor a v b) = IsHeldAs kinds.Bdd rows a × (v < n)
-CanCall n rows (Exists a vs) = IsHeldAs kinds.Bdd rows a × All (λ v. v < n) vs
-CanCall n rows (Forall a vs) = IsHeldAs kinds.Bdd rows a × All (λ v. v < n) vs
-CanCall n rows (AndExists a b vs) = IsHeldAs kinds.Bdd rows a × IsHeldAs kinds.Bdd rows b × All (λ v. v < n) vs
-CanCall n rows (Compose a v b) = IsHeldAs kinds.Bdd rows a × IsHeldAs kinds.Bdd rows b × (v < n)
-CanCall n rows (VectorCompose a pairs) = IsHeldAs kinds.Bdd rows a × All (λ pair. (pair.0 < n) × IsHeldAs kinds.Bdd rows pair.1) pairs × (are_distinct (map (λ pair. pair.0) pairs) ≡ true)
+CanCall n rows (Cofactor a v b) = IsHeldAs kinds.Bdd rows a × (v < n.vars)
+CanCall n rows (Exists a vs) = IsHeldAs kinds.Bdd rows a × All (λ v. v < n.vars) vs
+CanCall n rows (Forall a vs) = IsHeldAs kinds.Bdd rows a × All (λ v. v < n.vars) vs
+CanCall n rows (AndExists a b vs) = IsHeldAs kinds.Bdd rows a × IsHeldAs kinds.Bdd rows b × All (λ v. v < n.vars) vs
+CanCall n rows (Compose a v b) = IsHeldAs kinds.Bdd rows a × IsHeldAs kinds.Bdd rows b × (v < n.vars)
+CanCall n rows (VectorCompose a pairs) = IsHeldAs kinds.Bdd rows a × All (λ pair. (pair.0 < n.vars) × IsHeldAs kinds.Bdd rows pair.1) pairs × (are_distinct (map (λ pair. pair.0) pairs) ≡ true)
 CanCall n rows (Restrict a b) = IsHeldAs kinds.Bdd rows a × IsHeldAs kinds.Bdd rows b
 CanCall n rows (Support a) = IsHeldAs kinds.Bdd rows a
 CanCall n rows (Constant z) = is_value z ≡ true
@@ -66,13 +65,24 @@ CanCall n rows (Min a b) = IsHeldAs kinds.Add rows a × IsHeldAs kinds.Add rows 
 CanCall n rows (Max a b) = IsHeldAs kinds.Add rows a × IsHeldAs kinds.Add rows b
 CanCall n rows (Threshold a b) = IsHeldAs kinds.Add rows a × IsHeldAs kinds.Add rows b
 CanCall n rows (AddIte a b c) = IsHeldAs kinds.Bdd rows a × IsHeldAs kinds.Add rows b × IsHeldAs kinds.Add rows c
-CanCall n rows (SumOver a v) = IsHeldAs kinds.Add rows a × (v < n)
+CanCall n rows (SumOver a v) = IsHeldAs kinds.Add rows a × (v < n.vars)
 CanCall n rows (AtLeast a z) = IsHeldAs kinds.Add rows a × (is_value z ≡ true)
 CanCall n rows (Pattern a) = IsHeldAs kinds.Add rows a
+CanCall n rows Empty = Unit {0}
+CanCall n rows Base = Unit {0}
+CanCall n rows (Single e) = e < n.elements
+CanCall n rows (Union a b) = IsHeldAs kinds.Zdd rows a × IsHeldAs kinds.Zdd rows b
+CanCall n rows (Meet a b) = IsHeldAs kinds.Zdd rows a × IsHeldAs kinds.Zdd rows b
+CanCall n rows (Diff a b) = IsHeldAs kinds.Zdd rows a × IsHeldAs kinds.Zdd rows b
+CanCall n rows (Product a b) = IsHeldAs kinds.Zdd rows a × IsHeldAs kinds.Zdd rows b
+CanCall n rows (Quotient a b) = IsHeldAs kinds.Zdd rows a × IsHeldAs kinds.Zdd rows b
+CanCall n rows (Subset1 a e) = IsHeldAs kinds.Zdd rows a × (e < n.elements)
+CanCall n rows (Subset0 a e) = IsHeldAs kinds.Zdd rows a × (e < n.elements)
+CanCall n rows (Change a e) = IsHeldAs kinds.Zdd rows a × (e < n.elements)
 CanCall n rows (Drop a) = IsHeld rows a
 CanCall n rows (Same a b) = (k : Kind) × IsHeldAs k rows a × IsHeldAs k rows b
 CanCall n rows (Leq a b) = IsHeldAs kinds.Bdd rows a × IsHeldAs kinds.Bdd rows b
-CanCall n rows (Eval a bits) = ((k : Kind) × IsOnVariables k × IsHeldAs k rows a) × (length bits ≡ n)
+CanCall n rows (Eval a bits) = (k : Kind) × IsHeldAs k rows a × (length bits ≡ bits_for n k)
 
 -- a variable with a register, and with the name of that row
 abbrev pub with_name : ℕ × ℕ → ℕ × Name
@@ -108,6 +118,17 @@ call_with (AddIte a b c) = calls.AddIte (name_of a) (name_of b) (name_of c)
 call_with (SumOver a v) = calls.SumOver (name_of a) v
 call_with (AtLeast a z) = calls.AtLeast (name_of a) z
 call_with (Pattern a) = calls.Pattern (name_of a)
+call_with Empty = calls.Empty
+call_with Base = calls.Base
+call_with (Single e) = calls.Single e
+call_with (Union a b) = calls.Union (name_of a) (name_of b)
+call_with (Meet a b) = calls.Meet (name_of a) (name_of b)
+call_with (Diff a b) = calls.Diff (name_of a) (name_of b)
+call_with (Product a b) = calls.Product (name_of a) (name_of b)
+call_with (Quotient a b) = calls.Quotient (name_of a) (name_of b)
+call_with (Subset1 a e) = calls.Subset1 (name_of a) e
+call_with (Subset0 a e) = calls.Subset0 (name_of a) e
+call_with (Change a e) = calls.Change (name_of a) e
 call_with (Drop a) = calls.DropRow (name_of a)
 call_with (Same a b) = calls.Same (name_of a) (name_of b)
 call_with (Leq a b) = calls.Leq (name_of a) (name_of b)
@@ -141,6 +162,21 @@ is_about_numbers (AtLeast a z) = true
 is_about_numbers (Pattern a) = true
 is_about_numbers act = may_exceed act
 
+-- the command is about families
+abbrev pub is_about_families : Act → Bool
+is_about_families Empty = true
+is_about_families Base = true
+is_about_families (Single e) = true
+is_about_families (Union a b) = true
+is_about_families (Meet a b) = true
+is_about_families (Diff a b) = true
+is_about_families (Product a b) = true
+is_about_families (Quotient a b) = true
+is_about_families (Subset1 a e) = true
+is_about_families (Subset0 a e) = true
+is_about_families (Change a e) = true
+is_about_families _ = false
+
 -- the kind of the row that a command makes
 abbrev pub made_kind : Act → Kind
 made_kind (Constant z) = kinds.Add
@@ -153,6 +189,17 @@ made_kind (Max a b) = kinds.Add
 made_kind (Threshold a b) = kinds.Add
 made_kind (AddIte a b c) = kinds.Add
 made_kind (SumOver a v) = kinds.Add
+made_kind Empty = kinds.Zdd
+made_kind Base = kinds.Zdd
+made_kind (Single e) = kinds.Zdd
+made_kind (Union a b) = kinds.Zdd
+made_kind (Meet a b) = kinds.Zdd
+made_kind (Diff a b) = kinds.Zdd
+made_kind (Product a b) = kinds.Zdd
+made_kind (Quotient a b) = kinds.Zdd
+made_kind (Subset1 a e) = kinds.Zdd
+made_kind (Subset0 a e) = kinds.Zdd
+made_kind (Change a e) = kinds.Zdd
 made_kind _ = kinds.Bdd
 
 -- the rows after a command that made none
@@ -245,11 +292,10 @@ pub record Stands (start p : Plain) (commands : List Command) (rows : Rows) (ass
   pub written : text ≡ flat_map text_of said
   pub number : place ≡ length said
 
--- Each register of the grammar that was not dropped is a row of its kind that was not dropped, and no register is a family.
+-- Each register of the grammar that was not dropped is a row of its kind that was not dropped.
 pub record Covers (registers : List Register) (rows : Rows) : Type 0 where
   pub as_many : length registers ≡ length rows
   pub held : (a : ℕ) (word : Word) (k : Kind) → slice_get registers a ≡ Some (record { name = word; live = true; kind = k }) → IsHeldAs k rows a
-  pub on_variables : (a : ℕ) (register : Register) → slice_get registers a ≡ Some register → IsOnVariables register.kind
 
 -- the commands were said in order, up to the first that stopped or to their end
 pub record SaysThrough (commands : List Command) (said : List HistoryLine) : Type 0 where

@@ -1,6 +1,7 @@
 //! Jobs from bytes to bytes: what a program reads from and writes to, the sessions that play a job, and the top call.
 #![tactic(auto)]
 
+mod families;
 mod gate;
 mod memory;
 mod numbers;

@@ -9,7 +9,7 @@ ghost use Rattle.function_laws.specs.declared.history.Reply.TheVariants as laws;
 ghost use Rattle.node_slots.specs.Stores.{IsOpening, Plain, plain_view};
 ghost use Rattle.node_slots.specs.Views.{Grown};
 ghost use Rattle.net_jobs.specs.Agreement.{Adds, AreStored, Exceeds, IsFilled, Refuses, is_dropped, name_of};
-ghost use Rattle.net_jobs.specs.Playing.{CanCall, DropsOne, DropsTheRest, IsAnswered, PlaysOver, RowsGoOn, SaysOne, SaysThrough, StandsAt, assigned_after, call_with, counts_at, is_about_numbers, made_kind, makes, may_exceed, sizes_at, target_at, with_name};
+ghost use Rattle.net_jobs.specs.Playing.{CanCall, DropsOne, DropsTheRest, IsAnswered, PlaysOver, RowsGoOn, SaysOne, SaysThrough, StandsAt, assigned_after, call_with, counts_at, is_about_families, is_about_numbers, made_kind, makes, may_exceed, sizes_at, target_at, with_name};
 
 use crate::gate::Gate;
 use crate::session::Session;
@@ -94,7 +94,7 @@ fn named(alloc: Global, pairs: &[(u32, u32)]) -> Result<Vec<(u32, Name)>, Memory
 
 /// Makes the call of a `vcompose`.
 fn vector_compose(session: &mut Session, a: u32, pairs: &[(u32, u32)]) -> Result<Name, Stop>
-    requires can { CanCall (plain_view session.old.store).vars session.old.rows.items (acts.VectorCompose a pairs.now) }
+    requires can { CanCall (counts_at session.old.store) session.old.rows.items (acts.VectorCompose a pairs.now) }
     requires stored { AreStored (plain_view session.old.store) session.old.rows.items }
     requires room { vec_len session.old.rows < 2 ^ 32 }
     ensures ok { IfOk result (λ name. Adds kinds.Bdd (plain_view session.old.store) session.old.rows.items (plain_view session.new.store) session.new.rows.items (call_with (acts.VectorCompose a pairs.now)) name) }
@@ -110,7 +110,7 @@ fn vector_compose(session: &mut Session, a: u32, pairs: &[(u32, u32)]) -> Result
 
 /// Makes the call of a command that makes a function of numbers, or a BDD of one, and whose values are in range.
 fn operate_on_numbers(session: &mut Session, act: &Act) -> Result<Name, Stop>
-    requires can { CanCall (plain_view session.old.store).vars session.old.rows.items act.now }
+    requires can { CanCall (counts_at session.old.store) session.old.rows.items act.now }
     requires numbers { is_about_numbers act.now ≡ true }
     requires in_range { may_exceed act.now ≡ false }
     requires stored { AreStored (plain_view session.old.store) session.old.rows.items }
@@ -133,9 +133,36 @@ fn operate_on_numbers(session: &mut Session, act: &Act) -> Result<Name, Stop>
     }
 }
 
+/// Makes the call of a command that makes a family.
+fn operate_on_families(session: &mut Session, act: &Act) -> Result<Name, Stop>
+    requires can { CanCall (counts_at session.old.store) session.old.rows.items act.now }
+    requires families { is_about_families act.now ≡ true }
+    requires stored { AreStored (plain_view session.old.store) session.old.rows.items }
+    requires room { vec_len session.old.rows < 2 ^ 32 }
+    ensures ok { IfOk result (λ name. Adds (made_kind act.now) (plain_view session.old.store) session.old.rows.items (plain_view session.new.store) session.new.rows.items (call_with act.now) name) }
+    ensures full { IsErrOf result Stop.Full → Refuses (plain_view session.old.store) session.old.rows.items (plain_view session.new.store) session.new.rows.items (call_with act.now) }
+    ensures filled { IsErrOf result Stop.Full → IsFilled session.new.store }
+    ensures grown { Grown (plain_view session.old.store) (plain_view session.new.store) }
+{
+    match act {
+        Act::Empty => session.empty(),
+        Act::Base => session.base(),
+        Act::Single(e) => session.single(*e),
+        Act::Union(a, b) => session.union(register(*a), register(*b)),
+        Act::Meet(a, b) => session.meet(register(*a), register(*b)),
+        Act::Diff(a, b) => session.diff(register(*a), register(*b)),
+        Act::Subset1(a, e) => session.subset1(register(*a), *e),
+        Act::Subset0(a, e) => session.subset0(register(*a), *e),
+        Act::Change(a, e) => session.change(register(*a), *e),
+        Act::Product(a, b) => session.product(register(*a), register(*b)),
+        Act::Quotient(a, b) => session.quotient(register(*a), register(*b)),
+        _ => unreachable!(),
+    }
+}
+
 /// Makes the call of a command that makes a function of numbers whose values may be out of range.
 fn operate_exactly(session: &mut Session, act: &Act) -> Result<Result<Name, Overflow>, Stop>
-    requires can { CanCall (plain_view session.old.store).vars session.old.rows.items act.now }
+    requires can { CanCall (counts_at session.old.store) session.old.rows.items act.now }
     requires exact { may_exceed act.now ≡ true }
     requires stored { AreStored (plain_view session.old.store) session.old.rows.items }
     requires room { vec_len session.old.rows < 2 ^ 32 }
@@ -156,9 +183,10 @@ fn operate_exactly(session: &mut Session, act: &Act) -> Result<Result<Name, Over
 
 /// Makes the call of a command that makes a BDD of BDDs.
 fn operate(session: &mut Session, act: &Act) -> Result<Name, Stop>
-    requires can { CanCall (plain_view session.old.store).vars session.old.rows.items act.now }
+    requires can { CanCall (counts_at session.old.store) session.old.rows.items act.now }
     requires makes { makes act.now ≡ true }
     requires truths { is_about_numbers act.now ≡ false }
+    requires no_family { is_about_families act.now ≡ false }
     requires stored { AreStored (plain_view session.old.store) session.old.rows.items }
     requires room { vec_len session.old.rows < 2 ^ 32 }
     ensures ok { IfOk result (λ name. Adds (made_kind act.now) (plain_view session.old.store) session.old.rows.items (plain_view session.new.store) session.new.rows.items (call_with act.now) name) }
@@ -199,7 +227,7 @@ fn yes_or_no(told: bool) -> Reply
 
 /// Makes the call of a command.
 fn perform(session: &mut Session, act: &Act) -> Result<Answer, Memory>
-    requires can { CanCall (plain_view session.old.store).vars session.old.rows.items act.now }
+    requires can { CanCall (counts_at session.old.store) session.old.rows.items act.now }
     requires stored { AreStored (plain_view session.old.store) session.old.rows.items }
     requires room { vec_len session.old.rows < 2 ^ 32 }
     ensures ok { IfOk result (λ answer. IsAnswered (plain_view session.old.store) session.old.rows.items (plain_view session.new.store) session.new.rows.items act.now answer) }
@@ -224,6 +252,17 @@ fn perform(session: &mut Session, act: &Act) -> Result<Answer, Memory>
         | Act::AddIte(_, _, _)
         | Act::AtLeast(_, _)
         | Act::Pattern(_) => return answer_of(operate_on_numbers(session, act)),
+        Act::Empty
+        | Act::Base
+        | Act::Single(_)
+        | Act::Union(_, _)
+        | Act::Meet(_, _)
+        | Act::Diff(_, _)
+        | Act::Subset1(_, _)
+        | Act::Subset0(_, _)
+        | Act::Change(_, _)
+        | Act::Product(_, _)
+        | Act::Quotient(_, _) => return answer_of(operate_on_families(session, act)),
         _ => return answer_of(operate(session, act)),
     };
     Ok(Answer { reply, made: false })
@@ -231,7 +270,7 @@ fn perform(session: &mut Session, act: &Act) -> Result<Answer, Memory>
 
 /// Makes the call of a command and adds its line to the text.
 fn speak(alloc: Global, play: &mut Progress, command: &Command) -> Result<Answer, Memory>
-    requires can { CanCall (plain_view play.old.session.store).vars play.old.session.rows.items command.now.act }
+    requires can { CanCall (counts_at play.old.session.store) play.old.session.rows.items command.now.act }
     requires stored { AreStored (plain_view play.old.session.store) play.old.session.rows.items }
     requires room { vec_len play.old.session.rows < 2 ^ 32 }
     requires place { play.old.place < 2 ^ 63 }
@@ -269,7 +308,7 @@ fn note(assigned: &mut Vec<usize>, made: bool, i: usize) -> Result<(), Memory>
 /// Plays the command at this place: whether the session goes on.
 fn say(alloc: Global, play: &mut Progress, commands: &[Command], i: usize) -> Result<bool, Memory>
     requires within { i < length commands.now }
-    requires can { IfSome (slice_get commands.now i) (λ command. CanCall (plain_view play.old.session.store).vars play.old.session.rows.items command.act) }
+    requires can { IfSome (slice_get commands.now i) (λ command. CanCall (counts_at play.old.session.store) play.old.session.rows.items command.act) }
     requires stored { AreStored (plain_view play.old.session.store) play.old.session.rows.items }
     requires room { vec_len play.old.session.rows < 2 ^ 32 }
     requires place { play.old.place < 2 ^ 63 }

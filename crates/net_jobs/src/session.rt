@@ -7,9 +7,8 @@ ghost use Rattle.edge_bits.specs.declared.edges.Kind.TheVariants as kinds;
 ghost use Rattle.function_laws.specs.declared.history.Call.TheVariants as calls;
 ghost use Rattle.function_laws.specs.declared.history.Reply.TheVariants as replies;
 ghost use Rattle.node_slots.specs.Stores.{plain_view};
-ghost use Rattle.node_slots.specs.Views.{Grown, Is};
+ghost use Rattle.node_slots.specs.Views.{Grown, Is, levels as levels_of};
 ghost use Rattle.net_jobs.specs.Agreement.{Adds, AreAlike, AreStored, Has, IsDue, IsFilled, IsKept, IsLive, IsLiveOf, IsStepOf, is_dropped};
-ghost use Rattle.net_jobs.specs.Walking.{IsOnVariables};
 
 use crate::walking::value_at;
 use add_ops::Overflow;
@@ -138,6 +137,16 @@ impl Session {
         self.edge(name)
     }
 
+    /// The edge of a row that is a family.
+    pub fn edge_of_family(&self, name: Name) -> Edge
+        requires stored { AreStored (plain_view self.now.store) self.now.rows.items }
+        requires row { IsLiveOf kinds.Zdd self.now.rows.items name }
+        ensures has { Has kinds.Zdd self.now.rows.items name.row result }
+        ensures denotes { Is kinds.Zdd (plain_view self.now.store) result }
+    {
+        self.edge(name)
+    }
+
     /// Logic one, as a new row.
     pub fn one(&mut self) -> Result<Name, Stop>
         requires stored { AreStored (plain_view self.old.store) self.old.rows.items }
@@ -201,17 +210,30 @@ impl Session {
         ite_core::leq(&mut self.store, first, second)
     }
 
-    /// The value of a row where bit i is the value of variable i: of a BDD 0 or 1, of an ADD its number.
+    /// The kind of a row that was not dropped.
+    pub fn kind(&self, name: Name) -> Kind
+        requires { IsLive self.now.rows.items name }
+        ensures { (k : KindOf) → IsLiveOf k self.now.rows.items name → result ≡ k }
+    {
+        match self.rows[name.row as usize] {
+            Some(row) => row.kind,
+            None => unreachable!(),
+        }
+    }
+
+    /// The value of a row where bit i is the value of variable i: of a BDD 0 or 1, of an ADD its number; of a family, where bit i tells whether a combination has element i, 1 if that is a member and 0 if not.
     pub fn eval(&mut self, f: Name, bits: &[bool]) -> i64
         requires stored { AreStored (plain_view self.old.store) self.old.rows.items }
-        requires row { (k : KindOf) × IsOnVariables k × IsLiveOf k self.old.rows.items f }
-        requires bits { length bits.now ≡ (plain_view self.old.store).vars }
+        requires row { (k : KindOf) × IsLiveOf k self.old.rows.items f × (length bits.now ≡ levels_of k (plain_view self.old.store)) }
         ensures step { IsStepOf (plain_view self.old.store) self.old.rows.items (plain_view self.new.store) self.old.rows.items (calls.Eval f bits.now) (replies.Value result) }
         ensures rows { self.new.rows.items ≡ self.old.rows.items }
         ensures grown { Grown (plain_view self.old.store) (plain_view self.new.store) }
     {
         let edge = self.edge(f);
-        value_at(&mut self.store, edge, bits)
+        match self.kind(f) {
+            Kind::Zdd => i64::from(zdd_ops::contains(&mut self.store, edge, bits)),
+            _ => value_at(&mut self.store, edge, bits),
+        }
     }
 
     /// Lets a row go.

@@ -247,6 +247,14 @@ impl PlainStore {
         self.variable_levels.len() as u32
     }
 
+    /// The number of elements, at most 1,024.
+    pub fn elements(&self) -> u32
+        ensures elements { result ≡ (plain_view self.now).elements }
+        ensures few { result ≤ 1024 }
+    {
+        self.element_levels.len() as u32
+    }
+
     /// The number of slots.
     pub fn limit(&self) -> u32
         ensures { result ≡ length self.now.words }

@@ -2,10 +2,9 @@ use Rattle.std.proofs.Common.{◌∙◌, sym, ap, ap₂, refl, subst}
 use Rattle.function_laws.specs.declared.history.Call.TheVariants as calls
 use Rattle.function_laws.specs.declared.history.Name.{Name}
 use Rattle.net_jobs.specs.Agreement.{name_of}
-use Rattle.net_jobs.specs.Playing.{CanCall, call_with}
+use Rattle.net_jobs.specs.Playing.{CanCall, counts_at, call_with}
 use Rattle.job_text.specs.declared.job.Act.{Act}
 use Rattle.job_text.specs.declared.job.Act.TheVariants.{VectorCompose}
-use Rattle.node_slots.specs.Stores.{plain_view}
 use Rattle.net_jobs.proofs.PlayLemmas.{adds_as, refuses_as}
 use Rattle.net_jobs.proofs.playing.operate.Goals as goal
 
@@ -78,8 +77,8 @@ returns-in-Compose-clause-full c e = refuses_as c.args.session.now c.compose.new
 pub vector_compose-requires-clause-can : goal.vector_compose-requires-clause-can
 vector_compose-requires-clause-can c =
     let old = c.args.session.now in
-    let can = subst (λ (x : Act). CanCall (plain_view old.store).vars old.rows.items x) c.in-VectorCompose.is c.requires.can in
-    subst (λ ps. CanCall (plain_view old.store).vars old.rows.items (VectorCompose c.in-VectorCompose.a ps)) (sym c.as_slice-in-VectorCompose.ensures) can
+    let can = subst (λ (x : Act). CanCall (counts_at old.store) old.rows.items x) c.in-VectorCompose.is c.requires.can in
+    subst (λ ps. CanCall (counts_at old.store) old.rows.items (VectorCompose c.in-VectorCompose.a ps)) (sym c.as_slice-in-VectorCompose.ensures) can
 
 pub returns-in-VectorCompose-clause-ok : goal.returns-in-VectorCompose-clause-ok
 returns-in-VectorCompose-clause-ok c = adds_as c.args.session.now c.vector_compose.new.session _ c.vector_compose.result c.in-VectorCompose.is (ap (λ ps. call_with (VectorCompose c.in-VectorCompose.a ps)) c.as_slice-in-VectorCompose.ensures) c.vector_compose.ensures.ok

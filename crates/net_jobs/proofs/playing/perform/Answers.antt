@@ -7,8 +7,8 @@ use Rattle.job_text.specs.declared.history_line.Reply.TheVariants as reply
 use Rattle.node_slots.specs.Stores.{plain_view}
 use Rattle.node_store.specs.ViewLaws.{Grown-refl}
 use Rattle.net_jobs.specs.Agreement.{AreStored, IsFilled, Rows}
-use Rattle.net_jobs.specs.Playing.{IsAnswered, call_with, is_about_numbers, makes, may_exceed, rows_left}
-use Rattle.net_jobs.proofs.PlayLemmas.{answered-exact, answered-operated, answered-other, filled-exact, filled-operated, makes_default, numbers_make, stored-set}
+use Rattle.net_jobs.specs.Playing.{IsAnswered, call_with, is_about_families, is_about_numbers, makes, may_exceed, rows_left}
+use Rattle.net_jobs.proofs.PlayLemmas.{answered-exact, answered-operated, answered-other, families_make, filled-exact, filled-operated, makes_default, numbers_make, stored-set}
 use Rattle.net_jobs.proofs.AgreementLemmas.{stored-grown}
 use Rattle.net_jobs.proofs.playing.perform.Goals as goal
 
@@ -37,6 +37,16 @@ returns-in-Constant-clause-ok c =
 
 pub returns-in-Constant-clause-filled : goal.returns-in-Constant-clause-filled
 returns-in-Constant-clause-filled c = filled-operated (IsFilled c.operate_on_numbers.new.session.store) c.operate_on_numbers.result c.answer_of-in-Constant.result c.operate_on_numbers.ensures.filled c.answer_of-in-Constant.ensures.ok
+
+pub returns-in-Empty-clause-ok : goal.returns-in-Empty-clause-ok
+returns-in-Empty-clause-ok c =
+    let old = c.args.session.now in
+    let families : is_about_families c.args.act.now ≡ true = search rules in
+    answered-operated (plain_view old.store) (plain_view c.operate_on_families.new.session.store) old.rows.items c.operate_on_families.new.session.rows.items c.args.act.now c.operate_on_families.result c.answer_of-in-Empty.result
+    (families_make c.args.act.now families) c.operate_on_families.ensures.grown c.requires.stored c.operate_on_families.ensures.ok c.operate_on_families.ensures.full c.answer_of-in-Empty.ensures.ok
+
+pub returns-in-Empty-clause-filled : goal.returns-in-Empty-clause-filled
+returns-in-Empty-clause-filled c = filled-operated (IsFilled c.operate_on_families.new.session.store) c.operate_on_families.result c.answer_of-in-Empty.result c.operate_on_families.ensures.filled c.answer_of-in-Empty.ensures.ok
 
 pub returns-in-Drop-clause-ok : goal.returns-in-Drop-clause-ok
 returns-in-Drop-clause-ok c =

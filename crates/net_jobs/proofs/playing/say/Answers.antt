@@ -3,7 +3,7 @@ use Rattle.std.specs.Prelude.{slice_get}
 use Rattle.std.proofs.lemmas.Option.{slice_get_read}
 use Rattle.job_text.specs.declared.job.Command.{Command}
 use Rattle.node_slots.specs.Stores.{plain_view}
-use Rattle.net_jobs.specs.Playing.{CanCall, RowsGoOn, SaysOne, assigned_after, target_in}
+use Rattle.net_jobs.specs.Playing.{CanCall, counts_at, RowsGoOn, SaysOne, assigned_after, target_in}
 use Rattle.net_jobs.proofs.PlayLemmas.{answered-few, rows_go_on, stops_if}
 use Rattle.net_jobs.proofs.StandsLemmas.{said_line, stands-after, stands-along}
 use Rattle.net_jobs.proofs.playing.say.Goals as goal
@@ -18,7 +18,7 @@ returns-clause-said c =
     let answer = c.in_ok-answer.answer in
     let answered = c.in_ok-answer.ensures in
     let got : slice_get commands i ≡ Some command = slice_get_read commands (length commands) i command refl c.requires.within c.index-commands-i.is in
-    let can = subst (λ (o : Option Command). IfSome o (λ command. CanCall (plain_view old.session.store).vars old.session.rows.items command.act)) got c.requires.can in
+    let can = subst (λ (o : Option Command). IfSome o (λ command. CanCall (counts_at old.session.store) old.session.rows.items command.act)) got c.requires.can in
     λ start said stands. subst (λ (o : Option Command). IfSome o (λ command. SaysOne start commands command c.goes_on.result old new said)) (sym got) (record {
       line = said_line start old.session.store new.session.store commands old.session.rows.items new.session.rows.items old.assigned.items old.text.items old.place i said command.words command.act answer stands answered.answered can answered.filled;
       stands = stands-along start new.session.store commands new.session.rows.items (assigned_after answer.made old.assigned.items i) new.assigned.items new.text.items new.place _

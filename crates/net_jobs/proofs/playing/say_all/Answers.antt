@@ -1,7 +1,6 @@
 use Rattle.std.proofs.Common.{sym, subst, Bool, Option, IfSome, arith}
 use Rattle.job_text.specs.declared.job.Command.{Command}
-use Rattle.node_slots.specs.Stores.{plain_view}
-use Rattle.net_jobs.specs.Playing.{CanCall, RowsGoOn, SaysOne}
+use Rattle.net_jobs.specs.Playing.{CanCall, counts_at, RowsGoOn, SaysOne}
 use Rattle.net_jobs.proofs.ListLemmas.{some_at}
 use Rattle.net_jobs.proofs.LoopLemmas.{can_at, next_command, says_all, says_stop}
 use Rattle.net_jobs.proofs.playing.say_all.Goals as goal
@@ -11,7 +10,7 @@ say-requires-clause-can g c =
     let commands = c.args.commands.now in
     let play = c.loop-i.play in
     let at = some_at commands c.loop-i.i c.loop-i-test.true in
-    subst (λ (o : Option Command). IfSome o (λ command. CanCall (plain_view play.session.store).vars play.session.rows.items command.act)) (sym at.1)
+    subst (λ (o : Option Command). IfSome o (λ command. CanCall (counts_at play.session.store) play.session.rows.items command.act)) (sym at.1)
     (can_at c.args.play.now.session.store commands play c.loop-i.i at.0 c.loop-i.invariant.up at.1)
 
 pub returns-then-not-branch-clause-said : goal.returns-then-not-branch-clause-said
