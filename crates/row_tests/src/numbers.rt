@@ -1,6 +1,8 @@
-//! Functions of numbers over one variable: the operations over a store beside whole numbers without a range.
+//! Functions of numbers: the operations over a store beside whole numbers without a range, over one variable, and beside the plain calls, over two.
 
+mod lists;
 mod pairs;
+mod two_variables;
 
 use crate::numbers::pairs::{LEAST, Numbers};
 use std::test::Fail;

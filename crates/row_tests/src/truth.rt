@@ -1,7 +1,7 @@
 //! The plain calls over whole lists of values, compared with the operations over a store.
 
 mod lists;
-mod table;
+pub mod table;
 
 use crate::truth::lists::{
     ALWAYS, FUNCTIONS, NEVER, VARIABLE_LISTS, compose_number, exists_number, forall_number,

@@ -115,8 +115,8 @@ fn edge_of(store: &mut PlainStore, values: [i64; 2]) -> Result<Edge, Fail>
     Ok(store.make(0, hi, lo)?)
 }
 
-// The leaf of a value.
-fn leaf_of(store: &mut PlainStore, value: i64) -> Result<Edge, Fail>
+/// The leaf of a value.
+pub fn leaf_of(store: &mut PlainStore, value: i64) -> Result<Edge, Fail>
     ensures grown { Grown (plain_view store.old) (plain_view store.new) }
     ensures leaf { IfOk result (λ e. Denotes Add (plain_view store.new) e (constant value)) }
 {

@@ -159,8 +159,8 @@ impl Functions {
     }
 }
 
-// The edge of the list of values of a function of so many variables: if-then-else by the last of them, over the edges of both halves.
-fn edge_of(store: &mut PlainStore, values: &[bool], vars: u32) -> Result<Edge, Stop>
+/// The edge of the list of values of a function of so many variables: if-then-else by the last of them, over the edges of both halves.
+pub fn edge_of(store: &mut PlainStore, values: &[bool], vars: u32) -> Result<Edge, Stop>
     requires permanent { Permanent (plain_view store.old) }
     requires vars { vars ≤ (plain_view store.old).vars }
     requires few { (plain_view store.old).vars ≤ 1024 }
