@@ -127,9 +127,9 @@ one_drops w (name ∷ names) (r ∷ rs) (suc i) q h e lt at = by_cases (is_calle
         ap (λ t. t ∷ set rs i (record { name = q.name; live = false; kind = q.kind })) (sym (kept_is r w f)) ∙ ap (λ t. without w r ∷ t) (later (omega (arith, next)))
 
 -- the names and registers with one more
-pub names_made : (names names' : List (Vec ℕ)) (rs rs' : List Register) (name : Vec ℕ) (r : Register) → AreNames names rs → names' ≡ cond (list_any (is_word name.items) names) names (names ++ name ∷ [])
-    → rs' ≡ rs ++ r ∷ [] → name.items ≡ r.name → list_any (is_called r.name) rs ≡ false → AreNames names' rs'
-names_made names names' rs rs' name r h e f same new =
+pub names_made : (names names' : List (Vec ℕ)) (rs rs' : List Register) (name : Vec ℕ) (q r : Register) → AreNames names rs → names' ≡ cond (list_any (is_word name.items) names) names (names ++ name ∷ [])
+    → rs' ≡ rs ++ q ∷ [] → q ≡ r → name.items ≡ r.name → list_any (is_called r.name) rs ≡ false → AreNames names' rs'
+names_made names names' rs rs' name q r h e f g same new =
     let fresh : list_any (is_word name.items) names ≡ false = same_any name.items names rs h ∙ ap (λ w. list_any (is_called w) rs) same ∙ new in
     subst (λ (t : List (Vec ℕ)). AreNames t rs') (sym (e ∙ ap (λ b. cond b names (names ++ name ∷ [])) fresh))
-    (subst (λ (t : List Register). AreNames (names ++ name ∷ []) t) (sym f) (names_more names rs name r h same new))
+    (subst (λ (t : List Register). AreNames (names ++ name ∷ []) t) (sym (f ∙ ap (λ (t : Register). rs ++ t ∷ []) g)) (names_more names rs name r h same new))

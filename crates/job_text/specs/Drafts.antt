@@ -1,5 +1,5 @@
 -- What the reader keeps from line to line.
-use Rattle.std.specs.Prelude.{◌≡◌, ℕ, ◌+◌, ◌==◌, ◌≤◌, drop, List, [], ◌∷◌, ◌++◌, Some, None, length, codes, is_some, unwrap_or, IfSome, false, Option, map, slice_index, slice_index_or, pos, if◌then◌else◌}
+use Rattle.std.specs.Prelude.{◌≡◌, ℕ, ◌+◌, ◌==◌, ◌≤◌, drop, List, [], ◌∷◌, ◌++◌, Some, None, length, codes, is_some, unwrap_or, IfSome, Bool, true, false, Option, map, slice_index, slice_index_or, pos, if◌then◌else◌}
 use Rattle.std.specs.List.{list_any, zip}
 use Rattle.edge_bits.specs.declared.edges.Kind.TheVariants.{Bdd}
 use Rattle.job_text.specs.declared.job.Act.{Act}
@@ -187,6 +187,33 @@ act_of does.Drop given = acts.Drop (slice_index given.registers 0)
 act_of does.Same given = acts.Same (slice_index given.registers 0) (slice_index given.registers 1)
 act_of does.Leq given = acts.Leq (slice_index given.registers 0) (slice_index given.registers 1)
 act_of does.Eval given = acts.Eval (slice_index given.registers 0) given.bits
+
+-- the operation is one on BDDs alone, or makes nothing
+abbrev pub is_logical : Operation → Bool
+is_logical does.Constant = false
+is_logical does.FromBdd = false
+is_logical does.Plus = false
+is_logical does.Minus = false
+is_logical does.Times = false
+is_logical does.Min = false
+is_logical does.Max = false
+is_logical does.Threshold = false
+is_logical does.AddIte = false
+is_logical does.SumOver = false
+is_logical does.AtLeast = false
+is_logical does.Pattern = false
+is_logical does.Empty = false
+is_logical does.Base = false
+is_logical does.Single = false
+is_logical does.Union = false
+is_logical does.Meet = false
+is_logical does.Diff = false
+is_logical does.Subset1 = false
+is_logical does.Subset0 = false
+is_logical does.Change = false
+is_logical does.Product = false
+is_logical does.Quotient = false
+is_logical _ = true
 
 -- a command of the reader's tables
 abbrev pub form_of : Known → Form

@@ -5,7 +5,7 @@ ghost use Rattle.std.specs.List.{list_any};
 ghost use Rattle.std.specs.Str.{bytes_eq};
 ghost use Rattle.job_text.specs.Grammar.{kind_made};
 ghost use Rattle.job_text.specs.Faults.{assigning, telling, form_in};
-ghost use Rattle.job_text.specs.Drafts.{form_of};
+ghost use Rattle.job_text.specs.Drafts.{form_of, is_logical};
 
 use edge_bits::Kind;
 
@@ -55,6 +55,40 @@ pub enum Operation {
     Same,
     Leq,
     Eval,
+}
+
+impl Operation {
+    /// Whether it is one on BDDs alone, or makes nothing.
+    pub fn is_logical(self) -> bool
+        ensures { result ≡ is_logical self }
+    {
+        match self {
+            Operation::Constant
+            | Operation::FromBdd
+            | Operation::Plus
+            | Operation::Minus
+            | Operation::Times
+            | Operation::Min
+            | Operation::Max
+            | Operation::Threshold
+            | Operation::AddIte
+            | Operation::SumOver
+            | Operation::AtLeast
+            | Operation::Pattern
+            | Operation::Empty
+            | Operation::Base
+            | Operation::Single
+            | Operation::Union
+            | Operation::Meet
+            | Operation::Diff
+            | Operation::Subset1
+            | Operation::Subset0
+            | Operation::Change
+            | Operation::Product
+            | Operation::Quotient => false,
+            _ => true,
+        }
+    }
 }
 
 /// What is due at a place of a command.

@@ -1,8 +1,8 @@
 //! The operands of a command.
 
-ghost use Rattle.std.specs.Prelude.{◌≡◌, ◌==◌, IfOk, drop, false, pos, slice_index, slice_index_or};
+ghost use Rattle.std.specs.Prelude.{◌≡◌, ◌==◌, IfOk, drop, true, false, pos, slice_index, slice_index_or};
 ghost use Rattle.std.specs.List.{list_any, zip};
-ghost use Rattle.job_text.specs.Drafts.{no_operands, with_operand, with_register, act_of};
+ghost use Rattle.job_text.specs.Drafts.{no_operands, with_operand, with_register, act_of, is_logical};
 
 use crate::commands::Operation;
 use crate::job::{Act, Register};
@@ -108,19 +108,23 @@ impl Operands {
     pub fn act(self, alloc: Global, operation: Operation) -> Result<Act, AllocError>
         ensures { IfOk result (λ act. act ≡ act_of operation self) }
     {
+        if operation.is_logical() {
+            self.logical_act(alloc, operation)
+        } else {
+            Ok(self.other_act(operation))
+        }
+    }
+
+    /// What an operation on BDDs does with them, or one that makes nothing.
+    fn logical_act(self, alloc: Global, operation: Operation) -> Result<Act, AllocError>
+        requires { is_logical operation ≡ true }
+        ensures { IfOk result (λ act. act ≡ act_of operation self) }
+    {
         let a = self.register(0);
         let b = self.register(1);
         let c = self.register(2);
         let v = number_at(self.variables.as_slice(), 0);
-        let e = number_at(self.elements.as_slice(), 0);
-        let w = value_at(self.values.as_slice(), 0);
         let bit = bit_at(self.bits.as_slice(), 0);
-        let Operands {
-            registers,
-            variables,
-            bits,
-            ..
-        } = self;
         let act = match operation {
             Operation::One => Act::One,
             Operation::Zero => Act::Zero,
@@ -131,13 +135,34 @@ impl Operands {
             Operation::Xor => Act::Xor(a, b),
             Operation::Ite => Act::Ite(a, b, c),
             Operation::Cofactor => Act::Cofactor(a, v, bit),
-            Operation::Exists => Act::Exists(a, variables),
-            Operation::Forall => Act::Forall(a, variables),
-            Operation::AndExists => Act::AndExists(a, b, variables),
+            Operation::Exists => Act::Exists(a, self.variables),
+            Operation::Forall => Act::Forall(a, self.variables),
+            Operation::AndExists => Act::AndExists(a, b, self.variables),
             Operation::Compose => Act::Compose(a, v, b),
-            Operation::VectorCompose => vector_compose(alloc, &registers, &variables)?,
+            Operation::VectorCompose => vector_compose(alloc, &self.registers, &self.variables)?,
             Operation::Restrict => Act::Restrict(a, b),
             Operation::Support => Act::Support(a),
+            Operation::Drop => Act::Drop(a),
+            Operation::Same => Act::Same(a, b),
+            Operation::Leq => Act::Leq(a, b),
+            Operation::Eval => Act::Eval(a, self.bits),
+            _ => unreachable!(),
+        };
+        Ok(act)
+    }
+
+    /// What an operation on ADDs or families does with them.
+    fn other_act(self, operation: Operation) -> Act
+        requires { is_logical operation ≡ false }
+        ensures { result ≡ act_of operation self }
+    {
+        let a = self.register(0);
+        let b = self.register(1);
+        let c = self.register(2);
+        let v = number_at(self.variables.as_slice(), 0);
+        let e = number_at(self.elements.as_slice(), 0);
+        let w = value_at(self.values.as_slice(), 0);
+        match operation {
             Operation::Constant => Act::Constant(w),
             Operation::FromBdd => Act::FromBdd(a),
             Operation::Plus => Act::Plus(a, b),
@@ -161,12 +186,8 @@ impl Operands {
             Operation::Change => Act::Change(a, e),
             Operation::Product => Act::Product(a, b),
             Operation::Quotient => Act::Quotient(a, b),
-            Operation::Drop => Act::Drop(a),
-            Operation::Same => Act::Same(a, b),
-            Operation::Leq => Act::Leq(a, b),
-            Operation::Eval => Act::Eval(a, bits),
-        };
-        Ok(act)
+            _ => unreachable!(),
+        }
     }
 }
 

@@ -1,4 +1,4 @@
-use Rattle.std.proofs.Common.{◌≡◌, ◌++◌, ◌∷◌, [], List, false, ap, sym, ◌∙◌, subst}
+use Rattle.std.proofs.Common.{◌≡◌, List, false, sym, subst}
 use Rattle.std.specs.List.{list_any}
 use Rattle.job_text.specs.declared.job.Register.{Register}
 use Rattle.job_text.specs.Grammar.{is_called, register_made}
@@ -7,8 +7,7 @@ use Rattle.job_text.proofs.registers.Registers.with_made.Goals as goal
 
 pub invariant_of-result : goal.invariant_of-result
 invariant_of-result c =
-    let items = c.self.inside.items.items in
     let name = c.args.name.now in
-    names_made c.self.inside.names.keys c.insert.new.self.keys items c.push.new.self.items c.in_ok-from_slice.field-0 (register_made name c.args.command.now) c.self.invariant c.in_ok-insert.ensures.keys
-    (c.in_ok-push.ensures.items ∙ ap (λ (r : Register). items ++ r ∷ []) c.in_ok-made.ensures.ok) c.in_ok-from_slice.ensures.items
+    names_made c.self.inside.names.keys c.insert.new.self.keys c.self.inside.items.items c.push.new.self.items c.in_ok-from_slice.field-0 c.in_ok-made.field-0 (register_made name c.args.command.now) c.self.invariant
+    c.in_ok-insert.ensures.keys c.in_ok-push.ensures.items c.in_ok-made.ensures.ok c.in_ok-from_slice.ensures.items
     (subst (λ (rs : List Register). list_any (is_called name) rs ≡ false) (sym c.self.view_is) c.requires)
