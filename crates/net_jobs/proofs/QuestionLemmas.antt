@@ -17,6 +17,7 @@ use Rattle.function_laws.specs.Lists.{list_of, truth, whole}
 use Rattle.function_laws.specs.Values.{assignment_of}
 use Rattle.function_laws.specs.Tables.{Table}
 use Rattle.function_laws.specs.Steps.{compares, outcome, same_kind, shows, value_at, when}
+use Rattle.function_laws.proofs.BitLists.{assignment_of-below}
 use Rattle.function_laws.proofs.ListLemmas.{same-list_of, truth-list_of, whole-list_of}
 use Rattle.function_laws.proofs.StepLemmas.{outcome-eval, value_is_allowed}
 use Rattle.function_laws.proofs.ValueLemmas.{everywhere}
@@ -26,7 +27,6 @@ use Rattle.node_slots.specs.Views.{View, Grown, IsBeyond, levels, values_at}
 use Rattle.net_jobs.specs.Agreement.{Agrees, AreStored, Has, IsLiveOf, IsStepOf, Rows, listed, listed_at}
 use Rattle.net_jobs.specs.Walking.{IsOnVariables, number_of}
 use Rattle.net_jobs.proofs.AgreementLemmas.{agrees-grown, elements_of, live_at, variables_of}
-use Rattle.net_jobs.proofs.WalkingLemmas.{assignment_of-below}
 
 -- the members of a family of m elements are below 2 ^ m
 lacking : (p : ℕ → Bool) (e a : ℕ) → IsWithout p e → p a ≡ true → bit a e ≡ false
@@ -109,16 +109,11 @@ step-eval k w w' rows a bits e z grown stored live has long is t agrees = (
   agrees-grown w w' rows t grown stored agrees,
 )
 
--- a kind other than families, on as many variables as the store has
+-- a kind other than families
 pub branches_on_variables : (k j : Kind) → j ≡ k → (j ≡ kinds.Zdd → ⊥) → IsOnVariables k
 branches_on_variables kinds.Bdd j same other = tt
 branches_on_variables kinds.Add j same other = tt
 branches_on_variables kinds.Zdd j same other = absurd (other same)
-
-pub as_many_variables : (k : Kind) (w : View) → IsOnVariables k → levels k w ≡ w.vars
-as_many_variables kinds.Bdd w on = refl
-as_many_variables kinds.Add w on = refl
-as_many_variables kinds.Zdd w on = absurd on
 
 -- a membership as a number
 pub digit_of : (b : Bool) → bool_byte b ≡ digit b

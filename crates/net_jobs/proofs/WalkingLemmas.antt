@@ -1,49 +1,12 @@
 -- A walk down a diagram that branches on variables.
-use Rattle.std.proofs.Common.{◌≡◌, ℕ, zero, suc, ◌+◌, ◌*◌, ◌/◌, ◌%◌, ◌^◌, ◌<◌, Bool, true, false, cond, List, [], ◌∷◌, length, get_or, refl, sym, ap, ◌∙◌, arith, subst, ℤ}
-use Rattle.std.specs.Prelude.{◌==◌}
-use Rattle.std.specs.Int.{bit_at}
-use Rattle.std.proofs.lemmas.Nat.Bits.{bit_at_lowest, bit_at-suc}
-use Rattle.std.proofs.Math.Nat.{pow-suc}
+use Rattle.std.proofs.Common.{◌≡◌, ℕ, ◌<◌, Bool, true, false, cond, refl, sym, ap, ◌∙◌, subst, ℤ}
 use Rattle.edge_bits.specs.declared.edges.Edge.{Edge}
 use Rattle.edge_bits.specs.declared.edges.Kind.{Kind}
 use Rattle.edge_bits.specs.declared.edges.Kind.TheVariants.{Bdd, Add, Zdd}
-use Rattle.edge_bits.specs.Words.{digit}
 use Rattle.edge_bits.specs.Assignments.{bit}
-use Rattle.function_laws.specs.Values.{assignment_of}
 use Rattle.node_store.specs.Kinds.{ValueOf}
 use Rattle.node_slots.specs.Views.{View, Is, IsInner, IsLeaf, IsLeafOf, IsVariable, levels, logic_one, logic_zero, node_values, number, values_at}
 use Rattle.net_jobs.specs.Walking.{IsOnVariables, number_of}
-
--- the bits of an assignment are those that it was made of
-digit_low : (b : Bool) (m : ℕ) → (digit b + 2 * m) % 2 ≡ digit b
-digit_low true m = omega arith
-digit_low false m = omega arith
-
-digit_high : (b : Bool) (m : ℕ) → (digit b + 2 * m) / 2 ≡ m
-digit_high true m = omega arith
-digit_high false m = omega arith
-
-digit_test : (b : Bool) → (digit b == 1) ≡ b
-digit_test true = refl
-digit_test false = refl
-
-bit_of : (bits : List Bool) (v : ℕ) → bit_at (assignment_of bits) v ≡ digit (get_or bits v false)
-bit_of [] v = bit_at_zero v
-  where
-    bit_at_zero : (v : ℕ) → bit_at 0 v ≡ 0
-    bit_at_zero zero = bit_at_lowest 0
-    bit_at_zero (suc v) = bit_at-suc 0 v ∙ bit_at_zero v
-bit_of (b ∷ bits) zero = bit_at_lowest (digit b + 2 * assignment_of bits) ∙ digit_low b (assignment_of bits)
-bit_of (b ∷ bits) (suc v) =
-    bit_at-suc (digit b + 2 * assignment_of bits) v ∙ ap (λ m. bit_at m v) (digit_high b (assignment_of bits)) ∙ bit_of bits v
-
-pub bit-assignment_of : (bits : List Bool) (v : ℕ) → bit (assignment_of bits) v ≡ get_or bits v false
-bit-assignment_of bits v = ap (λ d. d == 1) (bit_of bits v) ∙ digit_test (get_or bits v false)
-
-pub assignment_of-below : (bits : List Bool) → assignment_of bits < 2 ^ length bits
-assignment_of-below [] = omega arith
-assignment_of-below (true ∷ bits) = omega (arith, assignment_of-below bits, pow-suc 2 (length bits))
-assignment_of-below (false ∷ bits) = omega (arith, assignment_of-below bits, pow-suc 2 (length bits))
 
 -- the arc that a bit chooses has the value of the node
 choice-taken : (k : Kind) (b : View) (hi lo : Edge) (v x : ℕ) → IsOnVariables k → bit x v ≡ true → node_values k b v hi lo x ≡ values_at k b hi x

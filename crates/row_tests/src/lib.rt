@@ -6,6 +6,8 @@ mod compositions;
 #[cfg(test)]
 mod families;
 #[cfg(test)]
+mod family_jobs;
+#[cfg(test)]
 mod faults;
 #[cfg(test)]
 mod number_jobs;

@@ -6,7 +6,8 @@ use Rattle.edge_bits.specs.Words.{digit}
 use Rattle.node_slots.specs.Stores.{plain_view}
 use Rattle.node_slots.specs.Views.{Is, levels}
 use Rattle.net_jobs.specs.Agreement.{IsLiveOf}
-use Rattle.net_jobs.proofs.QuestionLemmas.{as_many_variables, branches_on_variables, digit_of, step-eval}
+use Rattle.net_jobs.proofs.QuestionLemmas.{branches_on_variables, digit_of, step-eval}
+use Rattle.net_jobs.proofs.WalkingLemmas.{walk-levels}
 use Rattle.net_jobs.proofs.session.Session.eval.Goals as goal
 
 pub edge-edge-requires : goal.edge-edge-requires
@@ -24,7 +25,7 @@ value_at-requires-clause-edge c =
 pub value_at-requires-clause-bits : goal.value_at-requires-clause-bits
 value_at-requires-clause-bits c =
     let k = c.requires.row.0 in
-    c.requires.row.2 ∙ as_many_variables k (plain_view c.args.self.now.store) (branches_on_variables k c.kind.result (c.kind.ensures k c.requires.row.1) c.in_default.not-Zdd)
+    c.requires.row.2 ∙ walk-levels k (plain_view c.args.self.now.store) (branches_on_variables k c.kind.result (c.kind.ensures k c.requires.row.1) c.in_default.not-Zdd)
 
 pub contains-requires-clause-family : goal.contains-requires-clause-family
 contains-requires-clause-family c =
