@@ -1,6 +1,6 @@
 //! The plain calls over whole lists of values, compared with the operations over a store.
 
-mod lists;
+pub mod lists;
 pub mod table;
 
 use crate::truth::lists::{
