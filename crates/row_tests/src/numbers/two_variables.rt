@@ -15,12 +15,6 @@ const VALUES: [i64; 5] = [LEAST, -1, 0, 1, -(LEAST + 1)];
 /// How many functions of two variables have these values.
 const FUNCTIONS: usize = 625;
 
-/// The ends of the range, and the steps by which a sum leaves it.
-const ENDS: [i64; 4] = [LEAST, -1, 1, -(LEAST + 1)];
-
-/// How many functions of two variables have these values.
-const FUNCTIONS_OF_ENDS: usize = 256;
-
 /// Bounds, also beyond the values of any function.
 const BOUNDS: [i64; 6] = [i64::MIN, LEAST, 0, 1, -(LEAST + 1), i64::MAX];
 
@@ -36,18 +30,6 @@ fn values_of(number: usize) -> [i64; 4]
         VALUES[number / 5 % 5],
         VALUES[number / 25 % 5],
         VALUES[number / 125 % 5],
-    ]
-}
-
-/// The values of a function that has only those, by its number.
-fn ends_of(number: usize) -> [i64; 4]
-    ensures { length result ≡ 4 }
-{
-    [
-        ENDS[number % 4],
-        ENDS[number / 4 % 4],
-        ENDS[number / 16 % 4],
-        ENDS[number / 64 % 4],
     ]
 }
 
@@ -68,7 +50,7 @@ fn number_of(truth: bool) -> i64 {
 
 /// `plus_of` of two functions.
 fn sums(alloc: Global, f: usize, g: usize) -> Result<Option<Vec<i64>>, Memory> {
-    plus_of(alloc, &ends_of(f), &ends_of(g))
+    plus_of(alloc, &values_of(f), &values_of(g))
 }
 
 /// `sum_of` of a function.
@@ -104,10 +86,14 @@ fn each_function_has_the_values_of_its_list(rt: HostRuntime) -> Result<(), Fail>
 fn truth_lists_of_sums(rt: HostRuntime) -> Result<(), Fail> {
     let alloc = rt.alloc();
     let mut lists = Lists::new(alloc)?;
-    for pair in 0..FUNCTIONS_OF_ENDS * FUNCTIONS_OF_ENDS {
-        let (f, g) = (pair / FUNCTIONS_OF_ENDS, pair % FUNCTIONS_OF_ENDS);
+    for pair in 0..FUNCTIONS * FUNCTIONS {
+        let (f, g) = (pair / FUNCTIONS, pair % FUNCTIONS);
         let sum = edge(&mut lists, sums(alloc, f, g)?)?;
-        assert_eq!(rt; lists.plus(ends_of(f), ends_of(g))?, sum, "{f} plus {g}");
+        assert_eq!(rt;
+            lists.plus(values_of(f), values_of(g))?,
+            sum,
+            "{f} plus {g}"
+        );
     }
     Ok(())
 }

@@ -1,5 +1,4 @@
 use Rattle.std.proofs.Common.{◌≡◌, arith}
-use Rattle.std.proofs.lemmas.Result.{IfOk-weaker}
 use Rattle.edge_bits.specs.declared.edges.Kind.TheVariants.{Add}
 use Rattle.node_slots.specs.Stores.{plain_view}
 use Rattle.node_store.specs.ViewLaws.{Grown-trans, Is-from, Is-grown}
