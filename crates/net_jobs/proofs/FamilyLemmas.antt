@@ -49,19 +49,19 @@ module _ (m : ℕ) (p q : ℕ → Bool) where
       ap (λ n. list_of n (product n (truth (list_of (2 ^ m) p)) (truth (list_of (2 ^ m) q)))) (length-list_of (2 ^ m) p)
       ∙ list_of-same (2 ^ m) (product (2 ^ m) (truth (list_of (2 ^ m) p)) (truth (list_of (2 ^ m) q))) (product (2 ^ m) p q) (λ a below.
       any_below-same (2 ^ m) (λ b. truth (list_of (2 ^ m) p) b && any_below (2 ^ m) (λ c. truth (list_of (2 ^ m) q) c && (bit_or b c == a)))
-        (λ b. p b && any_below (2 ^ m) (λ c. q c && (bit_or b c == a))) (λ b hb.
-        ap₂ (λ x y. x && y) (truth-list_of (2 ^ m) b p hb)
-          (any_below-same (2 ^ m) (λ c. truth (list_of (2 ^ m) q) c && (bit_or b c == a)) (λ c. q c && (bit_or b c == a))
-          (λ c hc. ap (λ x. x && (bit_or b c == a)) (truth-list_of (2 ^ m) c q hc)))))
+      (λ b. p b && any_below (2 ^ m) (λ c. q c && (bit_or b c == a))) (λ b hb.
+      ap₂ (λ x y. x && y) (truth-list_of (2 ^ m) b p hb)
+      (any_below-same (2 ^ m) (λ c. truth (list_of (2 ^ m) q) c && (bit_or b c == a)) (λ c. q c && (bit_or b c == a))
+      (λ c hc. ap (λ x. x && (bit_or b c == a)) (truth-list_of (2 ^ m) c q hc)))))
 
   quotient-listed : quotient_of (list_of (2 ^ m) p) (list_of (2 ^ m) q) ≡ list_of (2 ^ m) (quotient (2 ^ m) p q)
   quotient-listed =
       ap (λ n. list_of n (quotient n (truth (list_of (2 ^ m) p)) (truth (list_of (2 ^ m) q)))) (length-list_of (2 ^ m) p)
       ∙ list_of-same (2 ^ m) (quotient (2 ^ m) (truth (list_of (2 ^ m) p)) (truth (list_of (2 ^ m) q))) (quotient (2 ^ m) p q) (λ a below.
       ap₂ (λ x y. x && y)
-        (any_below-same (2 ^ m) (truth (list_of (2 ^ m) q)) q (λ b hb. truth-list_of (2 ^ m) b q hb))
-        (all_below-same (2 ^ m) (λ b. not (truth (list_of (2 ^ m) q) b) || ((bit_and a b == 0) && truth (list_of (2 ^ m) p) (bit_or a b))) (λ b. not (q b) || ((bit_and a b == 0) && p (bit_or a b)))
-          (λ b hb. ap₂ (λ x y. not x || ((bit_and a b == 0) && y)) (truth-list_of (2 ^ m) b q hb) (truth-list_of (2 ^ m) (bit_or a b) p (or-below a b below hb)))))
+      (any_below-same (2 ^ m) (truth (list_of (2 ^ m) q)) q (λ b hb. truth-list_of (2 ^ m) b q hb))
+      (all_below-same (2 ^ m) (λ b. not (truth (list_of (2 ^ m) q) b) || ((bit_and a b == 0) && truth (list_of (2 ^ m) p) (bit_or a b))) (λ b. not (q b) || ((bit_and a b == 0) && p (bit_or a b)))
+      (λ b hb. ap₂ (λ x y. not x || ((bit_and a b == 0) && y)) (truth-list_of (2 ^ m) b q hb) (truth-list_of (2 ^ m) (bit_or a b) p (or-below a b below hb)))))
 
 module _ (w : View) (rows : Rows) where
   element_in_range : (e : ℕ) (t : Table) → e < w.elements → Agrees w rows t → nat_lt e t.sizes.elements ≡ true

@@ -34,5 +34,12 @@ length-sections (section ∷ sections) (suc k) d below =
 
 pub few_commands : (text : List ℕ) (job : Job) → length text ≤ 67108864 → IsJobText text job → All (λ commands. length commands < 2 ^ 32) job.sections
 few_commands text job short is k d below =
-    omega (arith, length-sections job.sections k d below, ap (length {A = List Word}) is.lines, length-append (is.element_lines ++ is.limits) (flat_map section_lines job.sections),
-        length-append is.element_lines is.limits, length-said_lines (lines_of text), length-lines_of text)
+    omega (
+      arith,
+      length-sections job.sections k d below,
+      ap (length {A = List Word}) is.lines,
+      length-append (is.element_lines ++ is.limits) (flat_map section_lines job.sections),
+      length-append is.element_lines is.limits,
+      length-said_lines (lines_of text),
+      length-lines_of text,
+    )

@@ -130,7 +130,9 @@ const FAULTY: &[(&str, &str)] = &[
 #[test]
 fn faulty_families(rt: HostRuntime) -> Result<(), Fail> {
     for (command, kind) in FAULTY {
-        let job = format!(in rt.alloc(); "vars 1\nelements 2\nsession\nv = var 0\nk = num 1\nf = single 0\n{command}")?;
+        let job = format!(in rt.alloc();
+            "vars 1\nelements 2\nsession\nv = var 0\nk = num 1\nf = single 0\n{command}"
+        )?;
         let told = play(&rt, rt.alloc(), &job)?;
         let want = format!(in rt.alloc(); "fault: job 7 {kind}\n")?;
         assert_eq!(rt; told.status.code(), 9, "at {command}");
@@ -141,15 +143,27 @@ fn faulty_families(rt: HostRuntime) -> Result<(), Fail> {
 
 /// Jobs with a fault in the lines before the session or for want of elements, and what is told of each.
 const REFUSED: &[(&str, &str)] = &[
-    ("vars 1\nsession\na = empty\nb = not a", "fault: job 4 kind\n"),
+    (
+        "vars 1\nsession\na = empty\nb = not a",
+        "fault: job 4 kind\n",
+    ),
     ("vars 0\nsession\ns = single 0", "fault: job 3 range\n"),
     ("vars 0\nelements 1025\nsession", "fault: job 2 range\n"),
     ("vars 0\nelements\nsession", "fault: job 2 word\n"),
     ("vars 0\nelements 01\nsession", "fault: job 2 word\n"),
     ("vars 0\nelements 1 1\nsession", "fault: job 2 word\n"),
-    ("vars 0\nelements 1\nelements 1\nsession", "fault: job 3 word\n"),
-    ("vars 0\nlimit 9\nelements 1\nsession", "fault: job 3 word\n"),
-    ("vars 0\nelements 1\nlimit 4\nsession", "fault: job 3 limit\n"),
+    (
+        "vars 0\nelements 1\nelements 1\nsession",
+        "fault: job 3 word\n",
+    ),
+    (
+        "vars 0\nlimit 9\nelements 1\nsession",
+        "fault: job 3 word\n",
+    ),
+    (
+        "vars 0\nelements 1\nlimit 4\nsession",
+        "fault: job 3 limit\n",
+    ),
 ];
 
 #[test]
