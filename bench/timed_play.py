@@ -17,4 +17,4 @@ with open(job, "rb") as source, tempfile.TemporaryFile() as sink:
     lines = sink.read().splitlines()
 size = resource.getrusage(resource.RUSAGE_CHILDREN).ru_maxrss // 1024
 done = sum(line.endswith(b"-> ok") for line in lines)
-print(f"status {status}, {done} of {len(lines) - 1} lines ok, {lines[-1].decode()}, {seconds:.1f} s, {size} MB")
+print(f"status {status}, {done} of {len(lines) - 1} lines ok, {lines[-1].decode()}, {seconds:.2f} s, {size} MB")
