@@ -38,7 +38,7 @@ fn main(rt: HostRuntime) -> ExitCode {
         Err(error) if error.kind() == io::ErrorKind::OutOfMemory => {
             return ExitCode::from(refuse_memory(&mut rt.stdout()).code());
         }
-        // A word that is no UTF-8 is no command.
+        // Words that are not all UTF-8 are no command.
         Err(_) => Vec::new(rt.alloc()),
     };
     let mut source = Reading::new(rt.stdin());

@@ -5,18 +5,18 @@ use Rattle.std.specs.Str.{bytes_eq}
 use Rattle.std.specs.Str.Parse.{digits_value}
 use Rattle.std.proofs.lemmas.Bool.{false≢true}
 use Rattle.job_text.specs.declared.job.Act.{Act}
-use Rattle.job_text.specs.declared.commands.Place.{Place}
-use Rattle.job_text.specs.declared.commands.Place.TheVariants as places
+use Rattle.job_words.specs.declared.commands.Place.{Place}
+use Rattle.job_words.specs.declared.commands.Place.TheVariants as places
 use Rattle.job_text.specs.declared.job.Command.{Command}
 use Rattle.job_text.specs.declared.job.Counts.{Counts}
 use Rattle.job_text.specs.declared.job.Register.{Register}
 use Rattle.job_text.specs.declared.operands.Operand.{Operand}
 use Rattle.job_text.specs.declared.operands.Operand.TheVariants as operands
-use Rattle.job_text.specs.Text.{Word, bit_word, integer_value}
-use Rattle.job_text.specs.Grammar.{Says, Spelling, assigns, tells, Spells, spelling, StandsFor, AllStandFor, CommandsSay, registers_after, is_assignment, is_called}
-use Rattle.job_text.specs.Faults.{Form, form_in}
+use Rattle.job_words.specs.Text.{Word, bit_word, integer_value, is_assignment}
+use Rattle.job_text.specs.Grammar.{Says, Spelling, assigns, tells, Spells, spelling, StandsFor, AllStandFor, CommandsSay, registers_after, is_called}
+use Rattle.job_words.specs.Commands.{Form, form_in}
 use Rattle.job_text.specs.Drafts.{place_of as due_at, no_operands, with_operands, act_of}
-use Rattle.job_text.proofs.Bits.{digits_of, no_none}
+use Rattle.job_words.proofs.Bits.{digits_of, no_none}
 use Rattle.job_text.proofs.Meanings.{no_assignment}
 use Rattle.job_text.proofs.Spellings.{Follows, IsIn, IsKnown, known}
 

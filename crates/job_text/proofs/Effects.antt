@@ -9,8 +9,8 @@ use Rattle.job_text.specs.declared.job.Act.TheVariants as acts
 use Rattle.job_text.specs.declared.job.Counts.{Counts}
 use Rattle.job_text.specs.declared.job.Register.{Register}
 use Rattle.job_text.specs.declared.operands.Operand.{Operand}
-use Rattle.job_text.specs.Text.{Word}
-use Rattle.job_text.specs.Grammar.{Says, Spelling, assigns, tells, Spells, spelling, is_called, StandsFor, AllStandFor, Refers, register_made, registers_after, is_assignment, is_drop, target_of, without}
+use Rattle.job_words.specs.Text.{Word, is_assignment}
+use Rattle.job_text.specs.Grammar.{Says, Spelling, assigns, tells, Spells, spelling, is_called, StandsFor, AllStandFor, Refers, register_made, registers_after, is_drop, target_of, without}
 use Rattle.job_text.proofs.Meanings.{any_none, no_assignment}
 
 abbrev pub operands_of : Spelling → List Operand

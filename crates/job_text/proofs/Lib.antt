@@ -1,7 +1,5 @@
 pub mod Acts
-pub mod Bits
 pub mod Completeness
-pub mod Digits
 pub mod Effects
 pub mod Filling
 pub mod Forms
@@ -13,4 +11,3 @@ pub mod Reading
 pub mod RegisterLists
 pub mod NameIndex
 pub mod Spellings
-pub mod Split

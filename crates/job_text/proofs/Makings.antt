@@ -2,17 +2,17 @@
 use Rattle.std.proofs.Common.{◌≡◌, Bool, true, false, cond, List, [], ◌∷◌, ◌++◌, Option, Some, None, option_map, option_and_then, refl, ap, sym, ◌∙◌, subst, codes}
 use Rattle.std.specs.Str.{bytes_eq}
 use Rattle.std.proofs.lemmas.Slice.Eq.{bytes_eq-Decides}
-use Rattle.job_text.specs.declared.commands.Operation.{Operation}
-use Rattle.job_text.specs.declared.commands.Place.{Place}
-use Rattle.job_text.specs.declared.commands.Place.TheVariants.{Fresh}
+use Rattle.job_words.specs.declared.commands.Operation.{Operation}
+use Rattle.job_words.specs.declared.commands.Place.{Place}
+use Rattle.job_words.specs.declared.commands.Place.TheVariants.{Fresh}
 use Rattle.job_text.specs.declared.job.Counts.{Counts}
 use Rattle.job_text.specs.declared.job.Register.{Register}
 use Rattle.job_text.specs.declared.operands.Operand.{Operand}
 use Rattle.job_text.specs.declared.operands.Operand.TheVariants as operands
 use Rattle.job_text.specs.declared.operands.Operands.{Operands}
-use Rattle.job_text.specs.Text.{Word}
+use Rattle.job_words.specs.Text.{Word}
 use Rattle.job_text.specs.Grammar.{Says, Spelling, assigns, tells, spelling, Spells, IsProper, IsFresh, AllStandFor}
-use Rattle.job_text.specs.Faults.{Form, form_in, filled, command_in, command_of, assignment_of, telling_of, assigning, telling}
+use Rattle.job_words.specs.Commands.{Form, form_in, filled, command_in, command_of, assignment_of, telling_of, assigning, telling}
 use Rattle.job_text.specs.Drafts.{IsOperand, AreOperands, no_operands, with_operand, with_operands, AllFit, act_of}
 use Rattle.job_text.proofs.Spellings.{Follows, each_assigns, each_tells, found_builds}
 

@@ -11,19 +11,20 @@ use Rattle.edge_bits.specs.declared.edges.Kind.{Kind}
 use Rattle.function_laws.specs.Numbers.{is_value}
 use Rattle.job_text.specs.declared.job.Act.{Act}
 use Rattle.job_text.specs.declared.job.Counts.{Counts}
-use Rattle.job_text.specs.declared.commands.Place.{Place}
-use Rattle.job_text.specs.declared.commands.Place.TheVariants as places
+use Rattle.job_words.specs.declared.commands.Place.{Place}
+use Rattle.job_words.specs.declared.commands.Place.TheVariants as places
 use Rattle.job_text.specs.declared.job.Register.{Register}
 use Rattle.job_text.specs.declared.operands.Operand.{Operand}
 use Rattle.job_text.specs.declared.operands.Operand.TheVariants as operands
 use Rattle.job_text.specs.declared.operands.Operands.{Operands}
 use Rattle.job_text.specs.declared.faults.FaultKind.TheVariants as kinds
-use Rattle.job_text.specs.Text.{Word, IsNumber, is_name, is_number, is_integer, bit_word}
-use Rattle.job_text.specs.Grammar.{Says, Spelling, assigns, tells, Spells, spelling, StandsFor, AllStandFor, IsFresh, Refers, is_assignment, is_called, kind_of}
-use Rattle.job_text.specs.Faults.{Form, form_in, assigning, telling, filled, command_in, has_form, slot_fault, beside_fault, word_fault, left_after, nothing_left, first_fault, fault_in, or_else, command_fault, command_of, is_bit, is_bits, is_session, name_fault, kind_fault, register_called}
+use Rattle.job_words.specs.Text.{Word, IsNumber, is_name, is_number, is_integer, bit_word, is_assignment, is_bit, is_bits}
+use Rattle.job_text.specs.Grammar.{Says, Spelling, assigns, tells, Spells, spelling, StandsFor, AllStandFor, IsFresh, Refers, is_called, kind_of}
+use Rattle.job_text.specs.Faults.{slot_fault, beside_fault, word_fault, left_after, nothing_left, first_fault, fault_in, or_else, command_fault, is_session, name_fault, kind_fault, register_called}
+use Rattle.job_words.specs.Commands.{Form, form_in, assigning, telling, filled, command_in, has_form, command_of}
 use Rattle.job_text.specs.Drafts.{place_of, IsOperand, AreOperands, no_operands, with_operand, misfit, left_by, AllFit}
-use Rattle.job_text.proofs.Bits.{form_of_bits}
-use Rattle.job_text.proofs.Forms.{telling_is}
+use Rattle.job_words.proofs.Bits.{form_of_bits}
+use Rattle.job_words.proofs.Forms.{telling_is}
 use Rattle.job_text.proofs.Naming.{left_is, beside_is}
 use Rattle.job_text.proofs.RegisterLists.{called_is, kind_itself}
 use Rattle.job_text.proofs.Spellings.{Follows, IsKnown, known}

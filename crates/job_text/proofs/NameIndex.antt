@@ -7,7 +7,7 @@ use Rattle.std.specs.Str.{bytes_eq}
 use Rattle.std.proofs.lemmas.Bool.{false≢true, or_parts, or_from}
 use Rattle.std.proofs.lemmas.Slice.Eq.{bytes_eq-Decides}
 use Rattle.job_text.specs.declared.job.Register.{Register}
-use Rattle.job_text.specs.Text.{Word}
+use Rattle.job_words.specs.Text.{Word}
 use Rattle.job_text.specs.Grammar.{is_called, without}
 use Rattle.job_text.specs.Names.{AreNames}
 use Rattle.job_text.proofs.RegisterLists.{dropped_is, kept_is}

@@ -7,18 +7,18 @@ use Rattle.std.proofs.lemmas.List.{append-nil}
 use Rattle.std.proofs.lemmas.List.Folds.{list_any-append}
 use Rattle.function_laws.specs.Steps.{are_distinct}
 use Rattle.edge_bits.specs.declared.edges.Kind.TheVariants.{Bdd}
-use Rattle.job_text.specs.declared.commands.Place.{Place}
+use Rattle.job_words.specs.declared.commands.Place.{Place}
 use Rattle.job_text.specs.declared.faults.FaultKind.TheVariants as kinds
 use Rattle.job_text.specs.declared.job.Counts.{Counts}
 use Rattle.job_text.specs.declared.job.Register.{Register}
 use Rattle.job_text.specs.declared.operands.Operand.{Operand}
 use Rattle.job_text.specs.declared.operands.Operand.TheVariants as operands
 use Rattle.job_text.specs.declared.operands.Operands.{Operands}
-use Rattle.job_text.specs.Text.{Word}
+use Rattle.job_words.specs.Text.{Word, bits_in}
 use Rattle.job_text.specs.Grammar.{bits_for, pair_operands}
-use Rattle.job_text.specs.Faults.{beside_fault, bits_in, kind_fault, left_after}
+use Rattle.job_text.specs.Faults.{beside_fault, kind_fault, left_after}
 use Rattle.job_text.specs.Drafts.{IsOperand, with_operand, misfit, left_by, AllFit}
-use Rattle.job_text.proofs.Bits.{length_bit_word}
+use Rattle.job_words.proofs.Bits.{length_bit_word}
 use Rattle.job_text.proofs.RegisterLists.{kind_is}
 
 -- a word names what its operand adds

@@ -11,7 +11,7 @@ use Rattle.job_text.specs.declared.job.Counts.{Counts}
 use Rattle.job_text.specs.declared.job.Register.{Register}
 use Rattle.job_text.specs.declared.faults.FaultKind.{FaultKind}
 use Rattle.job_text.specs.declared.faults.FaultKind.TheVariants as kinds
-use Rattle.job_text.specs.Text.{Word, is_allowed, lines_of, words_of}
+use Rattle.job_words.specs.Text.{Word, is_allowed, lines_of, words_of}
 use Rattle.job_text.specs.Grammar.{CommandsSay, counts_of, registers_after, section_lines, said_lines, ElementLines, LimitLines, IsJobText}
 use Rattle.job_text.specs.Faults.{Context, at_start, sized, within, counts_with, has_begun, words_fault, line_fault, context_after, context_behind, Faultless, FaultyLine}
 use Rattle.job_text.specs.Readings.{OneJob, OneFault, JobOrFault}

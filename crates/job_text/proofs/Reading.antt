@@ -19,8 +19,8 @@ use Rattle.job_text.specs.declared.faults.FaultKind.{FaultKind}
 use Rattle.job_text.specs.declared.faults.FaultKind.TheVariants as kinds
 use Rattle.job_text.specs.declared.faults.JobError.{JobError}
 use Rattle.job_text.specs.declared.faults.JobError.TheVariants as errors
-use Rattle.job_text.specs.Text.{Word, IsNumber, is_number, is_allowed, lines_of, words_of, line_words}
-use Rattle.job_text.specs.Grammar.{Says, CommandsSay, registers_after, is_assignment, is_drop, without, section_lines, said_lines, ElementLines, LimitLines, IsJobText}
+use Rattle.job_words.specs.Text.{Word, IsNumber, is_number, is_allowed, lines_of, words_of, line_words, is_assignment}
+use Rattle.job_text.specs.Grammar.{Says, CommandsSay, registers_after, is_drop, without, section_lines, said_lines, ElementLines, LimitLines, IsJobText}
 use Rattle.job_text.specs.Faults.{Context, at_start, sized, within, has_begun, words_fault, line_fault, context_after, context_behind, Faultless, FaultyLine, HasFault, command_fault, is_session}
 use Rattle.job_text.specs.Drafts.{context_in, Adds, adds_nothing, adds_vars, adds_elements, adds_limit, adds_session, adds_command, IsSmall, EndStop}
 use Rattle.job_text.proofs.Meanings.{says_well, says_words}

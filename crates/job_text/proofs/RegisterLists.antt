@@ -11,7 +11,7 @@ use Rattle.std.proofs.lemmas.List.{set-get_or}
 use Rattle.edge_bits.specs.declared.edges.Kind.{Kind}
 use Rattle.edge_bits.specs.declared.edges.Kind.TheVariants.{Bdd, Add, Zdd}
 use Rattle.job_text.specs.declared.faults.FaultKind.TheVariants as kinds
-use Rattle.job_text.specs.Text.{Word, is_name}
+use Rattle.job_words.specs.Text.{Word, is_name}
 use Rattle.job_text.specs.Grammar.{Refers, is_called, kind_at, kind_of, without}
 use Rattle.job_text.specs.Faults.{kind_called, kind_fault, name_fault, register_called}
 use Rattle.std.proofs.lemmas.Slice.Eq.{bytes_eq-Decides}

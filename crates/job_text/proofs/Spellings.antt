@@ -12,17 +12,17 @@ use Rattle.job_text.specs.declared.job.Act.{Act}
 use Rattle.job_text.specs.declared.job.Act.TheVariants as acts
 use Rattle.job_text.specs.declared.job.Counts.{Counts}
 use Rattle.job_text.specs.declared.job.Register.{Register}
-use Rattle.job_text.specs.declared.commands.Operation.{Operation}
-use Rattle.job_text.specs.declared.commands.Operation.TheVariants as does
-use Rattle.job_text.specs.declared.commands.Place.{Place}
-use Rattle.job_text.specs.declared.commands.Place.TheVariants.{Fresh, Held, Any, Alike, Variable, NewVariable, Element, Value, Bit, Bits}
+use Rattle.job_words.specs.declared.commands.Operation.{Operation}
+use Rattle.job_words.specs.declared.commands.Operation.TheVariants as does
+use Rattle.job_words.specs.declared.commands.Place.{Place}
+use Rattle.job_words.specs.declared.commands.Place.TheVariants.{Fresh, Held, Any, Alike, Variable, NewVariable, Element, Value, Bit, Bits}
 use Rattle.job_text.specs.declared.faults.FaultKind.TheVariants as kinds
 use Rattle.job_text.specs.declared.operands.Operand.{Operand}
 use Rattle.job_text.specs.declared.operands.Operand.TheVariants as operands
 use Rattle.job_text.specs.declared.operands.Operands.{Operands}
-use Rattle.job_text.specs.Text.{Word}
+use Rattle.job_words.specs.Text.{Word}
 use Rattle.job_text.specs.Grammar.{Spelling, assigns, tells, spelling, pair_operands, bdd, bits_for, kind_at, IsProper}
-use Rattle.job_text.specs.Faults.{Form, form, form_in, assigning, telling, bdd as bdd_place}
+use Rattle.job_words.specs.Commands.{Form, form, form_in, assigning, telling, bdd as bdd_place}
 use Rattle.job_text.specs.Drafts.{place_of, no_operands, with_operand, with_operands, AllFit, act_of}
 use Rattle.job_text.proofs.Naming.{pairs_new, pairs_distinct}
 use Rattle.job_text.proofs.RegisterLists.{alike, alike_are}

@@ -1,18 +1,15 @@
 -- What the reader keeps from line to line.
-use Rattle.std.specs.Prelude.{◌≡◌, ℕ, ◌+◌, ◌==◌, ◌≤◌, drop, List, [], ◌∷◌, ◌++◌, Some, None, length, codes, is_some, unwrap_or, IfSome, Bool, true, false, Option, map, slice_index, slice_index_or, pos, if◌then◌else◌}
+use Rattle.std.specs.Prelude.{◌≡◌, ℕ, ◌+◌, ◌==◌, ◌≤◌, drop, List, [], ◌∷◌, ◌++◌, Some, None, length, codes, is_some, unwrap_or, IfSome, false, Option, slice_index, slice_index_or, pos, if◌then◌else◌}
 use Rattle.std.specs.List.{list_any, zip}
 use Rattle.edge_bits.specs.declared.edges.Kind.TheVariants.{Bdd}
 use Rattle.job_text.specs.declared.job.Act.{Act}
 use Rattle.job_text.specs.declared.job.Counts.{Counts}
 use Rattle.job_text.specs.declared.job.Register.{Register}
 use Rattle.job_text.specs.declared.job.Act.TheVariants as acts
-use Rattle.job_text.specs.declared.commands.Known.{Known}
-use Rattle.job_text.specs.declared.slots.Line.{Line}
-use Rattle.job_text.specs.declared.commands.Operation.{Operation}
-use Rattle.job_text.specs.declared.commands.Operation.TheVariants as does
-use Rattle.job_text.specs.declared.commands.Place.{Place}
-use Rattle.job_text.specs.declared.commands.Place.TheVariants as places
-use Rattle.job_text.specs.declared.slots.Slot.{Slot}
+use Rattle.job_words.specs.declared.commands.Operation.{Operation}
+use Rattle.job_words.specs.declared.commands.Operation.TheVariants as does
+use Rattle.job_words.specs.declared.commands.Place.{Place}
+use Rattle.job_words.specs.declared.commands.Place.TheVariants as places
 use Rattle.job_text.specs.declared.operands.Operand.{Operand}
 use Rattle.job_text.specs.declared.operands.Operand.TheVariants as operands
 use Rattle.job_text.specs.declared.operands.Operands.{Operands}
@@ -25,9 +22,9 @@ use Rattle.job_text.specs.declared.faults.JobError.{JobError}
 use Rattle.job_text.specs.declared.faults.JobError.TheVariants as errors
 use Rattle.job_text.specs.declared.faults.Stop.{Stop}
 use Rattle.job_text.specs.declared.faults.Stop.TheVariants as stops
-use Rattle.job_text.specs.Text.{Word, IsNumber}
+use Rattle.job_words.specs.Text.{Word, IsNumber}
 use Rattle.job_text.specs.Grammar.{Says, StandsFor, kind_at, bits_for, registers_after}
-use Rattle.job_text.specs.Faults.{Context, at_start, sized, within, counts_with, has_begun, words_fault, Form, form, kind_fault, slot_fault, Left, nothing_left, first_fault, command_fault}
+use Rattle.job_text.specs.Faults.{Context, at_start, sized, within, counts_with, has_begun, words_fault, kind_fault, slot_fault, Left, nothing_left, first_fault, command_fault}
 
 -- what a draft leaves to the next line
 abbrev pub context_in : Draft → Context
@@ -187,50 +184,6 @@ act_of does.Drop given = acts.Drop (slice_index given.registers 0)
 act_of does.Same given = acts.Same (slice_index given.registers 0) (slice_index given.registers 1)
 act_of does.Leq given = acts.Leq (slice_index given.registers 0) (slice_index given.registers 1)
 act_of does.Eval given = acts.Eval (slice_index given.registers 0) given.bits
-
--- the operation is one on BDDs alone, or makes nothing
-abbrev pub is_logical : Operation → Bool
-is_logical does.Constant = false
-is_logical does.FromBdd = false
-is_logical does.Plus = false
-is_logical does.Minus = false
-is_logical does.Times = false
-is_logical does.Min = false
-is_logical does.Max = false
-is_logical does.Threshold = false
-is_logical does.AddIte = false
-is_logical does.SumOver = false
-is_logical does.AtLeast = false
-is_logical does.Pattern = false
-is_logical does.Empty = false
-is_logical does.Base = false
-is_logical does.Single = false
-is_logical does.Union = false
-is_logical does.Meet = false
-is_logical does.Diff = false
-is_logical does.Subset1 = false
-is_logical does.Subset0 = false
-is_logical does.Change = false
-is_logical does.Product = false
-is_logical does.Quotient = false
-is_logical _ = true
-
--- a command of the reader's tables
-abbrev pub form_of : Known → Form
-form_of known = form known.word.now known.operation known.places.now known.repeated.now
-
--- the places that are due, or those that repeat where none is left
-abbrev pub or_again : List Place → List Place → List Place
-or_again [] repeated = repeated
-or_again (place ∷ due) repeated = place ∷ due
-
--- a place and its word
-abbrev pub slot_of : Slot → Place × Word
-slot_of slot = (slot.place, slot.word.now)
-
--- what a line does, and its places with their words
-abbrev pub line_of : Line → Operation × List (Place × Word)
-line_of line = (line.operation, map slot_of line.slots.items)
 
 -- why a word was not taken at its place
 abbrev pub SlotStop : Counts → List Register → Place × Word → Stop → Type 0

@@ -1,6 +1,6 @@
 -- The texts of jobs: what each command is spelled, and which lines make a job.
 use Rattle.std.specs.Prelude.{◌≡◌, ◌≢◌, ℕ, ◌<◌, ◌≤◌, ◌==◌, Bool, true, false, not, List, [], ◌∷◌, ◌++◌, Option, Some, None, All, length, map, filter, drop, ◌&&◌, slice_get, codes, ◌+◌, ◌⊎◌, if◌then◌else◌}
-use Rattle.std.specs.List.{list_all, list_any, flat_map, position_or_len}
+use Rattle.std.specs.List.{list_all, flat_map, position_or_len}
 use Rattle.std.specs.Str.{bytes_eq}
 use Rattle.edge_bits.specs.declared.edges.Kind.{Kind}
 use Rattle.edge_bits.specs.declared.edges.Kind.TheVariants.{Bdd, Add, Zdd}
@@ -14,7 +14,8 @@ use Rattle.job_text.specs.declared.job.Job.{Job}
 use Rattle.job_text.specs.declared.job.Register.{Register}
 use Rattle.job_text.specs.declared.operands.Operand.{Operand}
 use Rattle.job_text.specs.declared.operands.Operand.TheVariants as operands
-use Rattle.job_text.specs.Text.{Word, IsNumber, IsInteger, is_name, is_allowed, bit_word, lines_of, words_of}
+use Rattle.job_words.specs.Text.{Word, IsNumber, IsInteger, is_name, is_allowed, bit_word, lines_of, words_of, is_assignment}
+use Rattle.job_words.specs.Commands.{kind_made}
 
 -- the word is a name that was not assigned in this section
 abbrev pub IsFresh : List Register → Word → Type 0
@@ -150,11 +151,6 @@ abbrev pub target_of : List Word → Word
 target_of [] = []
 target_of (word ∷ words) = word
 
--- a target, `=` and a command
-abbrev pub is_assignment : List Word → Bool
-is_assignment (first ∷ second ∷ third ∷ words) = bytes_eq second (codes "=")
-is_assignment _ = false
-
 -- the register, dropped where it has this name
 abbrev pub without : Word → Register → Register
 without word register = record { name = register.name; live = register.live && not (bytes_eq register.name word); kind = register.kind }
@@ -163,24 +159,6 @@ without word register = record { name = register.name; live = register.live && n
 abbrev pub is_drop : List Word → Bool
 is_drop (first ∷ second ∷ []) = bytes_eq first (codes "drop")
 is_drop _ = false
-
--- the words of the commands that make ADDs
-abbrev pub making_adds : List Word
-making_adds =
-    codes "num" ∷ codes "ofbdd" ∷ codes "plus" ∷ codes "minus" ∷ codes "times" ∷ codes "min" ∷ codes "max" ∷ codes "threshold"
-    ∷ codes "addite" ∷ codes "sum" ∷ []
-
--- and of those that make families
-abbrev pub making_zdds : List Word
-making_zdds =
-    codes "empty" ∷ codes "base" ∷ codes "single" ∷ codes "union" ∷ codes "meet" ∷ codes "diff" ∷ codes "on" ∷ codes "off" ∷ codes "flip"
-    ∷ codes "product" ∷ codes "quotient" ∷ []
-
--- the kind of what a command makes, by its word
-abbrev pub kind_made : Word → Kind
-kind_made command =
-    if list_any (λ word. bytes_eq word command) making_adds then Add else
-    if list_any (λ word. bytes_eq word command) making_zdds then Zdd else Bdd
 
 -- what an assignment to this name by a command of this word adds
 abbrev pub register_made : Word → Word → Register

@@ -1,4 +1,3 @@
-pub mod Text
 pub mod Grammar
 pub mod Names
 pub mod Faults

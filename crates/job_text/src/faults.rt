@@ -7,13 +7,13 @@ use std::alloc::{AllocError, AllocFailed};
 /// What is wrong with a line.
 #[derive(Debug, Clone, Copy, PartialEq, Eq)]
 pub enum FaultKind {
-    /// An unknown word, a wrong number of words, a word of another form than is due, a line out of its order, or a byte that may not stand in a text.
+    /// An unknown word, a wrong number of words, a word of another form than is due, a line out of its order, a byte that may not stand in a text, or an end before any session.
     Word,
     /// A register that was not assigned before in this section, or was dropped.
     Name,
     /// A register of another kind of diagram than is due.
     Kind,
-    /// A number out of its range, or bits of a wrong length.
+    /// A number out of its range, bits of a wrong length, or a variable that stands twice in `vcompose`.
     Range,
     /// A session too many, or a limit out of its range.
     Limit,
@@ -21,7 +21,7 @@ pub enum FaultKind {
     Again,
 }
 
-/// The first faulty line of a text, counted from 1, and its first fault.
+/// The first faulty line of a text, counted from 1, and its first fault. Where a text ends before any session, the line is the one behind its last.
 #[derive(Debug, Clone, Copy, PartialEq, Eq)]
 pub struct JobFault {
     pub line: u64,
@@ -42,6 +42,16 @@ pub enum JobError {
 pub enum Stop {
     Memory,
     Fault(FaultKind),
+}
+
+impl From<FaultKind> for Stop {
+    ghost use Rattle.job_text.specs.declared.faults.Stop.TheVariants.{Fault};
+
+    ghost from_gives = { λ kind stop. stop ≡ Fault kind };
+
+    fn from(kind: FaultKind) -> Stop {
+        Stop::Fault(kind)
+    }
 }
 
 impl From<AllocError> for Stop {

@@ -1,7 +1,6 @@
 //! Jobs: the scripts that are played, their grammar, and the text of their histories.
 #![tactic(auto)]
 
-mod commands;
 mod draft;
 mod faults;
 mod history_line;
@@ -10,8 +9,6 @@ mod operands;
 mod reader;
 mod registers;
 mod scope;
-mod slots;
-mod text;
 
 pub use faults::{FaultKind, JobError, JobFault};
 pub use history_line::{Reply, line};

@@ -2,12 +2,13 @@
 
 ghost use Rattle.std.specs.Prelude.{◌≡◌, ◌==◌, IfOk, drop, true, false, pos, slice_index, slice_index_or};
 ghost use Rattle.std.specs.List.{list_any, zip};
-ghost use Rattle.job_text.specs.Drafts.{no_operands, with_operand, with_register, act_of, is_logical};
+ghost use Rattle.job_text.specs.Drafts.{no_operands, with_operand, with_register, act_of};
+ghost use Rattle.job_words.specs.Slots.{is_logical};
 
-use crate::commands::Operation;
 use crate::job::{Act, Register};
 use crate::registers::kind_at;
 use edge_bits::{Kind, List};
+use job_words::Operation;
 use std::alloc::{AllocError, Global};
 
 /// What a word of a command stands for.

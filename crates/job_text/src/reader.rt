@@ -2,7 +2,7 @@
 
 ghost use Rattle.std.specs.Prelude.{◌≡◌, ◌++◌, ◌∷◌, [], ◌<◌, ◌≤◌, ◌+◌, ◌^◌, length, IfOk, IfErr, IfSome, IfNone, min, Bool, true, None, Some, codes, nat_le, ◌&&◌, List as ListOf, ℕ};
 ghost use Rattle.std.specs.Str.Parse.{digits_value};
-ghost use Rattle.job_text.specs.Text.{is_number, IsNumber};
+ghost use Rattle.job_words.specs.Text.{is_number, IsNumber};
 ghost use Rattle.std.specs.Str.{bytes_eq};
 ghost use Rattle.job_text.specs.Grammar.{IsJobText, target_of};
 ghost use Rattle.job_text.specs.Faults.{HasFault, number_fault, is_session};
@@ -15,8 +15,8 @@ ghost use Rattle.job_text.specs.declared.draft.Section.{Section as SectionOf};
 use crate::draft::{Draft, Section};
 use crate::faults::{FaultKind, JobError, JobFault, Stop};
 use crate::job::{Counts, Job};
-use crate::text::{cut_line, is_number, number_value, words};
 use edge_bits::List;
+use job_words::{cut_line, is_number, number_value, words};
 use std::alloc::Global;
 
 /// The greatest numbers of variables and of elements.
@@ -84,7 +84,7 @@ fn session_line(words: &[List<u8>]) -> bool
     }
 }
 
-/// The job with one more line of these words.
+/// What the lines give with one more of these words.
 fn with_line(alloc: Global, draft: Draft, words: List<List<u8>>) -> Result<Draft, Stop>
     requires { IsSmall draft 67108864 }
     ensures ok { IfOk result (λ next. Adds draft words next) }
@@ -94,14 +94,11 @@ fn with_line(alloc: Global, draft: Draft, words: List<List<u8>>) -> Result<Draft
         return Ok(draft);
     }
     match draft {
-        Draft::Nothing => match count_line(words.as_slice(), b"vars".as_slice()) {
-            Ok(vars) => Ok(Draft::Sized {
-                vars,
-                elements: None,
-                limit: None,
-            }),
-            Err(kind) => Err(Stop::Fault(kind)),
-        },
+        Draft::Nothing => Ok(Draft::Sized {
+            vars: count_line(words.as_slice(), b"vars".as_slice())?,
+            elements: None,
+            limit: None,
+        }),
         Draft::Sized {
             vars,
             elements,
@@ -141,14 +138,11 @@ fn sized_line(
     if elements.is_none() && begins(words, b"elements".as_slice()) {
         return elements_line(vars, words);
     }
-    match limit_line(vars, words) {
-        Ok(limit) => Ok(Draft::Sized {
-            vars,
-            elements,
-            limit: Some(limit),
-        }),
-        Err(kind) => Err(Stop::Fault(kind)),
-    }
+    Ok(Draft::Sized {
+        vars,
+        elements,
+        limit: Some(limit_line(vars, words)?),
+    })
 }
 
 /// Whether this is the first word.
@@ -165,14 +159,11 @@ fn elements_line(vars: u32, words: &[List<u8>]) -> Result<Draft, Stop>
     ensures ok { IfOk result (λ next. Adds (Draft.Sized vars None None) words.now next) }
     ensures stop { IfErr result (λ stop. LineStop (Draft.Sized vars None None) words.now stop) }
 {
-    match count_line(words, b"elements".as_slice()) {
-        Ok(elements) => Ok(Draft::Sized {
-            vars,
-            elements: Some(elements),
-            limit: None,
-        }),
-        Err(kind) => Err(Stop::Fault(kind)),
-    }
+    Ok(Draft::Sized {
+        vars,
+        elements: Some(count_line(words, b"elements".as_slice())?),
+        limit: None,
+    })
 }
 
 /// A line of a section.

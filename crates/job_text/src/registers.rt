@@ -2,16 +2,16 @@
 
 ghost use Rattle.std.specs.Prelude.{◌≡◌, ◌≢◌, All, ◌∷◌, ◌++◌, [], ◌<◌, ◌^◌, length, map, position, codes, IfOk, IfErr, IfSome, MatchOption, true, false, None, Some};
 ghost use Rattle.std.specs.List.{list_any, position_or_len};
-ghost use Rattle.job_text.specs.Text.{is_name};
-ghost use Rattle.job_text.specs.Grammar.{IsFresh, Refers, is_assignment, is_called, is_drop, kind_at, register_made, registers_after, target_of, without};
+ghost use Rattle.job_words.specs.Text.{is_name, is_assignment};
+ghost use Rattle.job_text.specs.Grammar.{IsFresh, Refers, is_called, is_drop, kind_at, register_made, registers_after, target_of, without};
 ghost use Rattle.job_text.specs.Faults.{kind_called, name_fault, register_called, same_kind};
 ghost use Rattle.job_text.specs.declared.faults.FaultKind.TheVariants as kinds;
 
-use crate::commands::kind_made;
 use crate::faults::Stop;
 use crate::job::Register;
 use edge_bits::{Kind, List};
 use indexmap::IndexSet;
+use job_words::{as_assignment, kind_made};
 use std::alloc::Global;
 use std::marker::Model;
 
@@ -60,18 +60,11 @@ impl Registers {
     }
 
     /// Whether a register has the name, dropped or not.
-    fn has_name(&self, word: &[u8]) -> bool
-        ensures { result ≡ list_any (is_called word.now) self.now }
-    {
-        self.names.contains(word)
-    }
-
-    /// Whether a register has the name, dropped or not.
     pub fn is_assigned(&self, word: &[u8]) -> bool
         ensures some { result ≡ list_any (is_called word.now) self.now }
         ensures none { result ≡ false → All (λ register. register.name ≢ word.now) self.now }
     {
-        self.has_name(word)
+        self.names.contains(word)
     }
 
     fn position_of(&self, word: &[u8]) -> Option<usize>
@@ -177,22 +170,6 @@ pub fn same_kind(one: Kind, other: Kind) -> bool
     match (one, other) {
         (Kind::Bdd, Kind::Bdd) | (Kind::Add, Kind::Add) | (Kind::Zdd, Kind::Zdd) => true,
         _ => false,
-    }
-}
-
-/// A target and, behind `=`, a command and its words.
-pub fn as_assignment(words: &[List<u8>]) -> Option<(&[u8], &[u8], &[List<u8>])>
-    ensures { MatchOption result (is_assignment words.now ≡ false) (λ p. words.now ≡ p.0.now ∷ codes "=" ∷ p.1.now ∷ p.2.now) }
-{
-    match words {
-        [r, equals, command, rest @ ..] => {
-            if equals.as_slice() == b"=".as_slice() {
-                Some((r.as_slice(), command.as_slice(), rest))
-            } else {
-                None
-            }
-        }
-        _ => None,
     }
 }
 

@@ -2,22 +2,22 @@
 
 ghost use Rattle.std.specs.Prelude.{◌≡◌, ◌<◌, ◌≤◌, ◌^◌, true, length, map, IfOk, IfErr, None, Some, if◌then◌else◌, List as ListOf};
 ghost use Rattle.std.specs.List.{list_all};
-ghost use Rattle.job_text.specs.Text.{is_integer, is_name, is_number};
+ghost use Rattle.job_words.specs.Text.{IsNumber, is_integer, is_name, is_number, is_bit, is_bits};
 ghost use Rattle.job_text.specs.Grammar.{Refers, Says, bits_for};
-ghost use Rattle.job_text.specs.Faults.{has_form, is_bit, is_bits, kind_called, name_fault, register_called};
+ghost use Rattle.job_text.specs.Faults.{below_fault, kind_called, name_fault, register_called};
+ghost use Rattle.job_words.specs.Commands.{has_form};
 ghost use Rattle.job_text.specs.declared.faults.FaultKind.TheVariants as kinds;
-ghost use Rattle.job_text.specs.Drafts.{IsOperand, AreOperands, AllFit, misfit, with_operands, no_operands, slot_of, SlotStop, SlotsStop, CommandStop};
-ghost use Rattle.job_text.specs.declared.commands.Place.TheVariants as places;
+ghost use Rattle.job_text.specs.Drafts.{IsOperand, AreOperands, AllFit, misfit, with_operands, no_operands, SlotStop, SlotsStop, CommandStop};
+ghost use Rattle.job_words.specs.Slots.{slot_of};
+ghost use Rattle.job_words.specs.declared.commands.Place.TheVariants as places;
 ghost use Rattle.job_text.specs.declared.operands.Operand.{Operand as OperandOf};
 
-use crate::commands::Place;
 use crate::faults::{FaultKind, Stop};
 use crate::job::{Act, Counts};
 use crate::operands::{Operand, Operands};
 use crate::registers::{Found, Registers, kind_at, same_kind};
-use crate::slots::{Slot, all_have_form, command_line};
-use crate::text::{bits_of, integer_value, number_value};
 use edge_bits::{Kind, List};
+use job_words::{Place, Slot, all_have_form, bits_of, command_line, integer_value, number_value};
 use std::alloc::Global;
 
 /// What the commands of a section may name.
@@ -46,6 +46,21 @@ fn unless(well: bool, fault: FaultKind) -> Option<FaultKind>
     ensures { result ≡ (if well then None else Some fault) }
 {
     if well { None } else { Some(fault) }
+}
+
+/// The number that a word is, where it is below another.
+fn number_below(bound: u32, word: &[u8]) -> Result<u32, Stop>
+    requires number { is_number word.now ≡ true }
+    requires few { bound ≤ 1024 }
+    ensures ok { IfOk result (λ number. IsNumber word.now number × (number < bound)) }
+    ensures stop { IfErr result (λ stop. (stop ≡ Stop.Fault kinds.Range) × (below_fault bound word.now ≡ Some kinds.Range)) }
+{
+    let number = number_value(word);
+    if number < bound {
+        Ok(number)
+    } else {
+        Err(Stop::Fault(FaultKind::Range))
+    }
 }
 
 impl Scope {
@@ -111,12 +126,7 @@ impl Scope {
         ensures stop { IfErr result (λ stop. SlotStop self.now.counts self.now.registers (places.Variable, word.now) stop) }
         ensures stop_new { IfErr result (λ stop. SlotStop self.now.counts self.now.registers (places.NewVariable, word.now) stop) }
     {
-        let v = number_value(word);
-        if v < self.counts.vars {
-            Ok(v)
-        } else {
-            Err(Stop::Fault(FaultKind::Range))
-        }
+        number_below(self.counts.vars, word)
     }
 
     /// The number of an element.
@@ -126,12 +136,7 @@ impl Scope {
         ensures ok { IfOk result (λ operand. IsOperand self.now.counts self.now.registers (places.Element, word.now) operand) }
         ensures stop { IfErr result (λ stop. SlotStop self.now.counts self.now.registers (places.Element, word.now) stop) }
     {
-        let e = number_value(word);
-        if e < self.counts.elements {
-            Ok(Operand::Element(e))
-        } else {
-            Err(Stop::Fault(FaultKind::Range))
-        }
+        Ok(Operand::Element(number_below(self.counts.elements, word)?))
     }
 
     /// A whole number.

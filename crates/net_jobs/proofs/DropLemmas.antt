@@ -13,7 +13,7 @@ use Rattle.job_text.specs.declared.job.Act.{Act}
 use Rattle.job_text.specs.declared.job.Act.TheVariants.{Drop}
 use Rattle.job_text.specs.declared.job.Command.{Command}
 use Rattle.job_text.specs.declared.history_line.Reply.TheVariants as replies
-use Rattle.job_text.specs.Text.{Word}
+use Rattle.job_words.specs.Text.{Word}
 use Rattle.job_text.specs.Histories.{Held, HistoryLine, drop_of, drops, line_text, registers_of, stops}
 use Rattle.net_jobs.specs.declared.playing.Answer.{Answer}
 use Rattle.net_jobs.specs.declared.playing.Progress.{Progress}

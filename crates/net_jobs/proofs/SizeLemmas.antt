@@ -7,7 +7,7 @@ use Rattle.std.proofs.lemmas.List.Splits.{length-slice_split}
 use Rattle.std.proofs.lemmas.List.Sums.{count_by-le-length, length-filter}
 use Rattle.job_text.specs.declared.job.Command.{Command}
 use Rattle.job_text.specs.declared.job.Job.{Job}
-use Rattle.job_text.specs.Text.{Word, lines_of, without_empty_end, words_of}
+use Rattle.job_words.specs.Text.{Word, lines_of, without_empty_end, words_of}
 use Rattle.job_text.specs.Grammar.{IsJobText, said_lines, section_lines}
 
 without_end : (lines : List (List ℕ)) → length (without_empty_end lines) ≤ length lines

@@ -22,7 +22,7 @@ use Rattle.job_text.specs.declared.job.Act.TheVariants.{Drop}
 use Rattle.job_text.specs.declared.job.Command.{Command}
 use Rattle.job_text.specs.declared.job.Counts.{Counts}
 use Rattle.job_text.specs.declared.history_line.Reply.TheVariants as replies
-use Rattle.job_text.specs.Text.{Word}
+use Rattle.job_words.specs.Text.{Word}
 use Rattle.job_text.specs.Grammar.{target_of}
 use Rattle.job_text.specs.Histories.{Held, HistoryLine, drops, given_by, held_as, held_by, line_text, registers_of, stops, text_of, told_of}
 use Rattle.net_jobs.specs.declared.playing.Answer.{Answer}

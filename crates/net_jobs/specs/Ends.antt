@@ -52,4 +52,4 @@ Due order left rest failed status.WriteFault text = ⊥
 Due order left rest failed status.Job text =
     (order ≡ Some play) × (bytes : List ℕ) × (fault : JobFault) × IsWhole left rest bytes × IsFaultText bytes fault.line fault.what × (text ≡ fault_line fault)
 Due order left rest failed status.TooLong text =
-    IsSome order × (bytes : List ℕ) × Consumes left rest bytes × (67108864 < length bytes) × (text ≡ codes "fault: too long\n")
+    IsSome order × (bytes : List ℕ) × Consumes left rest bytes × (length bytes ≡ 67108865) × (text ≡ codes "fault: too long\n")

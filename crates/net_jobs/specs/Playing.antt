@@ -17,7 +17,7 @@ use Rattle.job_text.specs.declared.job.Counts.{Counts}
 use Rattle.job_text.specs.declared.history_line.Reply.TheVariants as replies
 use Rattle.job_text.specs.declared.job.Job.{Job}
 use Rattle.job_text.specs.declared.job.Register.{Register}
-use Rattle.job_text.specs.Text.{Word}
+use Rattle.job_words.specs.Text.{Word}
 use Rattle.job_text.specs.Grammar.{bits_for, target_of}
 use Rattle.job_text.specs.Histories.{Held, HistoryLine, IsHistory, SayInOrder, drop_of, drops, given_by, left_of, registers_of, stops, text_of, told_of}
 use Rattle.net_jobs.specs.declared.playing.Answer.{Answer}

@@ -1,4 +1,4 @@
-//! The calls of a session on families.
+//! The calls of a session on families. A call bound to `_few` is there for what it tells: there are at most 1,024 elements.
 
 ghost use Rattle.std.specs.Prelude.{◌<◌, ◌^◌, vec_len, IfOk, IsErrOf};
 ghost use Rattle.edge_bits.specs.declared.edges.Kind.TheVariants as kinds;
@@ -120,7 +120,7 @@ impl Session {
         settle(&self.store, &mut self.rows, Kind::Zdd, made)
     }
 
-    /// What gives with each member of the second row, and disjoint from it, a member of the first, as a new row.
+    /// What gives with each member of the second row, and disjoint from it, a member of the first, as a new row. It is empty where the second row is.
     pub fn quotient(&mut self, p: Name, q: Name) -> Result<Name, Stop>
         requires stored { AreStored (plain_view self.old.store) self.old.rows.items }
         requires first { IsLiveOf kinds.Zdd self.old.rows.items p }

@@ -75,8 +75,8 @@ impl Source for Bytes {
     }
 }
 
-/// A sink that takes at most `step` bytes a call, and fails at the calls whose flag is set, counted from 0, and where
-/// memory is wanting. A contract sees what was written, and the count of faults.
+/// A sink that takes at most `step` bytes a call, and fails at the calls whose flag is set, counted from 0, where it
+/// could take none of some bytes, and where memory is wanting. A contract sees what was written, and the count of faults.
 #[derive(Drop)]
 pub struct Pieces {
     items: Vec<u8>,

@@ -1,4 +1,4 @@
-//! The calls of a session on functions of numbers.
+//! The calls of a session on functions of numbers. A call bound to `_few` is there for what it tells: there are at most 1,024 variables.
 
 ghost use Rattle.std.specs.Prelude.{◌<◌, ◌^◌, vec_len, IfErr, IfOk, IsErrOf};
 ghost use Rattle.edge_bits.specs.Words.{IsLeafValue};

@@ -1,4 +1,4 @@
-//! The calls of a session that make a BDD of others.
+//! The calls of a session that make a BDD of others. A call bound to `_few` is there for what it tells: there are at most 1,024 variables.
 
 ghost use Rattle.std.specs.Prelude.{◌≡◌, ◌<◌, ◌^◌, All, map, true, vec_len, IfOk, IsErrOf};
 ghost use Rattle.edge_bits.specs.declared.edges.Kind.TheVariants as kinds;

@@ -69,7 +69,7 @@ pub fn read_to_end<S: Source>(
     ensures text { IfOk result (λ text. Consumes (S.left source.old) (S.left source.new) text.items) }
     ensures end { OnOk result (IsAtEnd (S.left source.new)) }
     ensures within { IfOk result (λ text. vec_len text ≤ limit) }
-    ensures too_long { IsErrOf result ReadStop.TooLong → (bytes : List ℕ) × Consumes (S.left source.old) (S.left source.new) bytes × (limit < length bytes) }
+    ensures too_long { IsErrOf result ReadStop.TooLong → (bytes : List ℕ) × Consumes (S.left source.old) (S.left source.new) bytes × (length bytes ≡ limit + 1) }
     ensures failed { IsErrOf result ReadStop.Failed → Rose (S.faults source.old) (S.faults source.new) }
     ensures later { S.faults source.old ≤ S.faults source.new }
 {

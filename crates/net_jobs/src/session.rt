@@ -1,4 +1,5 @@
-//! A session whose rows are edges of a store: its rows, the calls that make a row of no other, and those that make none.
+//! A session whose rows are edges of a store: its rows, the calls that make a row of no other, and those that make none. A call bound to
+//! `_levels` or `_few` is there for what it tells: where the permanent slots are, and that there are at most 1,024 variables.
 
 ghost use Rattle.std.specs.Prelude.{◌≡◌, ◌<◌, ◌^◌, not, length, vec_len, IfErr, IfOk, IsErrOf, OnErr, None, slice_set};
 ghost use Rattle.edge_bits.specs.declared.edges.Edge.{Edge as EdgeOf};
@@ -67,6 +68,7 @@ pub fn settle(
     ensures err { OnErr result (rows.new.items ≡ rows.old.items) }
 {
     if made.is_err() {
+        // What is told here is that no slot is free.
         let _in_use = store.in_use();
     }
     keep(rows, kind, made)

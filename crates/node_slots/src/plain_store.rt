@@ -1,6 +1,6 @@
 //! A store of diagrams in one vector of words, with a unique table for each variable and element, and one for the leaves.
 
-ghost use Rattle.std.specs.Prelude.{◌≡◌, ℕ, ◌+◌, ◌<◌, ◌≤◌, ◌^◌, ◌↔◌, ◌⊎◌, IfOk, IfSome, IfNone, IsErrOf, IsOkAnd, IsTrue, count_by, length, Some, None, true};
+ghost use Rattle.std.specs.Prelude.{◌≡◌, ℕ, ◌+◌, ◌-◌, ◌<◌, ◌≤◌, ◌^◌, ◌↔◌, ◌⊎◌, min, IfOk, IfSome, IfNone, IsErrOf, IsOkAnd, IsTrue, OnOk, count_by, length, Some, None, true};
 ghost use Rattle.std.specs.List.{range_with_len};
 ghost use Rattle.edge_bits.specs.Reading.{slots_of};
 ghost use Rattle.node_slots.specs.Stores.{is_word};
@@ -75,6 +75,7 @@ fn opened(word: Word, complement: bool) -> Opened
 
 // One more, or the same at the end of its type.
 fn risen(fulls: u64) -> u64
+    ensures capped { result ≡ min (fulls + 1) (2 ^ 64 - 1) }
     ensures least { fulls ≤ result }
     ensures more { result + 1 < 2 ^ 64 → fulls < result }
 {
@@ -118,6 +119,8 @@ impl Grow for PlainStore {
         ensures full { IsErrOf result Stop.Full → Rose (plain_view self.old) (plain_view self.new) }
         ensures due { IsErrOf result Stop.Full → (k : Kind) → CanMake k (plain_view self.old) var hi lo → (plain_view self.new).due ≡ Some (function_of k (node_values k (plain_view self.old) var hi lo)) }
         ensures exactly { IsErrOf result Stop.Full ↔ (IsUnknownNode self.old var hi lo × HasNoFree self.old) }
+        ensures counted { IsErrOf result Stop.Full → (plain_view self.new).fulls ≡ min ((plain_view self.old).fulls + 1) (2 ^ 64 - 1) }
+        ensures uncounted { OnOk result ((plain_view self.new).fulls ≡ (plain_view self.old).fulls) }
     {
         let fulls = self.fulls;
         if let Some(child) = only_child(var, hi, lo) {
@@ -148,6 +151,8 @@ impl Grow for PlainStore {
         ensures full { IsErrOf result Stop.Full → Rose (plain_view self.old) (plain_view self.new) }
         ensures due { IsErrOf result Stop.Full → (plain_view self.new).due ≡ Some (function_of Add (constant value)) }
         ensures exactly { IsErrOf result Stop.Full ↔ (IsUnknown self.old (AddFunction (constant value)) × HasNoFree self.old) }
+        ensures counted { IsErrOf result Stop.Full → (plain_view self.new).fulls ≡ min ((plain_view self.old).fulls + 1) (2 ^ 64 - 1) }
+        ensures uncounted { OnOk result ((plain_view self.new).fulls ≡ (plain_view self.old).fulls) }
     {
         match self.nodes.place(Word::Leaf(value)) {
             Some(slot) => Ok(Edge::new(slot as u32, false)),

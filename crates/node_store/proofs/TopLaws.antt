@@ -57,3 +57,18 @@ pub upper-some : (v w : View) (f g : Edge) (a b : Option Top) → BothTops v w f
     → IfSome t (λ t. (k : Kind) → AreTwo k v f g → IsTop k w f g t.var)
 upper-some v w f g a b both None is = tt
 upper-some v w f g a b both (Some t) is = λ k two. some_is k w f g a b (both k two).0 (both k two).1 (Some t) is
+
+has_level : (k : Kind) (w : View) (f g : Edge) (a b : Option Top) → TopIs k w f (values_at k w f) a → TopIs k w g (values_at k w g) b
+    → (t : Option Top) → t ≡ upper_of a b → IfSome t (λ t. t.level ≡ w.level t.var)
+has_level k w f g None None p q t is = rw is tt
+has_level k w f g None (Some b) p q t is = rw is q.level
+has_level k w f g (Some a) None p q t is = rw is p.level
+has_level k w f g (Some a) (Some b) p q t is = rw is (by_test (nat_le a.level b.level))
+  where
+    by_test : (c : Bool) → (if c then a else b).level ≡ w.level (if c then a else b).var
+    by_test true = p.level
+    by_test false = q.level
+
+pub upper-level : (k : Kind) (v w : View) (f g : Edge) (a b : Option Top) → AreTwo k v f g → BothTops v w f g a b → (t : Option Top) → t ≡ upper_of a b
+    → IfSome t (λ t. t.level ≡ w.level t.var)
+upper-level k v w f g a b two both t is = has_level k w f g a b (both k two).0 (both k two).1 t is

@@ -80,6 +80,7 @@ pub fn top_of_two<G: Grow>(store: &mut G, f: Edge, g: Edge) -> Option<Top>
     ensures kept { Kept (G.view store.old) (G.view store.new) }
     ensures none { IfNone result ((k : Kind) → AreTwo k (G.view store.old) f g → NotBothLeaves k (G.view store.new) f g → ⊥) }
     ensures top { IfSome result (λ t. (k : Kind) → AreTwo k (G.view store.old) f g → IsTop k (G.view store.new) f g t.var) }
+    ensures level { IfSome result (λ t. t.level ≡ (G.view store.new).level t.var) }
 {
     let first = top_of(store, f);
     let second = top_of(store, g);

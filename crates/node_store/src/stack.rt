@@ -86,6 +86,7 @@ impl Stack {
     pub fn pop(&mut self) -> Option<Frame>
         ensures some { IfSome result (λ frame. self.old.frames ≡ self.new.frames ++ frame ∷ []) }
         ensures none { IfNone result (length self.old.frames ≡ 0) }
+        ensures left { IfNone result (self.new.frames ≡ []) }
         ensures room { room_of self.new ≡ room_of self.old }
         ensures answers { self.new.answers ≡ self.old.answers }
     {
@@ -129,15 +130,6 @@ impl Stack {
     {
         write(&mut self.answers, task, edge);
     }
-
-    /// Forgets all answers, at the start of a call.
-    pub fn forget(&mut self)
-        ensures none { (j : ℕ) → slice_index_or self.new.answers j None ≡ None }
-        ensures frames { self.new.frames ≡ self.old.frames }
-        ensures free { self.new.free ≡ self.old.free }
-    {
-        erase(&mut self.answers);
-    }
 }
 
 // Where the answer of a task stands in a table of this size.
@@ -176,14 +168,5 @@ fn write(answers: &mut [Option<Answer>], task: Task, edge: Edge)
     if !answers.is_empty() {
         let place = place_of(task, answers.len());
         answers[place] = Some(Answer { task, edge });
-    }
-}
-
-fn erase(answers: &mut [Option<Answer>])
-    ensures none { (j : ℕ) → slice_index_or answers.new j None ≡ None }
-    ensures length { length answers.new ≡ length answers.old }
-{
-    for place in 0..answers.len() {
-        answers[place] = None;
     }
 }

@@ -1,4 +1,4 @@
-//! The families of no operand.
+//! The families of no operand. A call bound to `_levels` is there for what it tells: where the permanent slots are.
 
 ghost use Rattle.std.specs.Prelude.{◌≡◌, ◌+◌, IfOk, IsErrOf, Ok};
 ghost use Rattle.edge_bits.specs.declared.edges.Kind.TheVariants.{Zdd};

@@ -1,4 +1,4 @@
-//! Operations on a family by one element, as the evaluator runs them.
+//! Operations on a family by one element, as the evaluator runs them. A call bound to `_levels` is there for what it tells: where the permanent slots are.
 
 ghost use Rattle.std.specs.Prelude.{◌≡◌, ℕ, Bool};
 ghost use Rattle.edge_bits.specs.declared.edges.Kind.TheVariants.{Zdd};

@@ -1,5 +1,5 @@
 use Rattle.std.proofs.Common.{◌≡◌, ◌≤◌, ◌+◌, ◌++◌, ℕ, List, length}
-use Rattle.job_text.specs.Text.{lines_of}
+use Rattle.job_words.specs.Text.{lines_of}
 use Rattle.job_text.proofs.Reading.{IsRead}
 use Rattle.job_text.proofs.reader.parse.Given as goal
 

@@ -1,5 +1,5 @@
 use Rattle.node_store.specs.ViewLaws.{Is-grown, values_at-grown}
-use Rattle.node_store.proofs.TopLaws.{TopIs-grown, BothTops, upper-none, upper-some}
+use Rattle.node_store.proofs.TopLaws.{TopIs-grown, BothTops, upper-level, upper-none, upper-some}
 use Rattle.node_store.proofs.parts.top_of_two.Goals as goal
 use Rattle.node_store.proofs.parts.top_of_two.Goals.{After-upper}
 use Rattle.node_store.proofs.parts.top_of_two.Given as given
@@ -20,3 +20,6 @@ returns-clause-none g c = upper-none _ _ c.args.f c.args.g _ _ (both g c) _ c.up
 
 pub returns-clause-top : goal.returns-clause-top
 returns-clause-top g c = upper-some _ _ c.args.f c.args.g _ _ (both g c) _ c.upper.ensures
+
+pub returns-clause-level : goal.returns-clause-level
+returns-clause-level g c = upper-level c.requires.0 _ _ c.args.f c.args.g _ _ c.requires.1 (both g c) _ c.upper.ensures

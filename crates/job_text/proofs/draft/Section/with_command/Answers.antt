@@ -1,7 +1,7 @@
 use Rattle.std.proofs.Common.{List, ◌≡◌, true, false, sym, ◌∙◌, subst}
 use Rattle.std.specs.List.{list_any}
-use Rattle.job_text.specs.Text.{Word}
-use Rattle.job_text.specs.Grammar.{is_assignment, is_called, target_of}
+use Rattle.job_words.specs.Text.{Word, is_assignment}
+use Rattle.job_text.specs.Grammar.{is_called, target_of}
 use Rattle.job_text.proofs.Effects.{assigns_fresh}
 use Rattle.job_text.proofs.draft.Section.with_command.Goals as goal
 

@@ -1,6 +1,17 @@
-use Rattle.std.proofs.Common.{sym, ◌∙◌}
+use Rattle.std.proofs.Common.{ap, sym, ◌∙◌}
+use Rattle.std.specs.List.{list_any}
+use Rattle.job_text.specs.Grammar.{is_called}
+use Rattle.job_text.proofs.NameIndex.{same_any}
 use Rattle.job_text.proofs.RegisterLists.{fresh_from}
 use Rattle.job_text.proofs.registers.Registers.is_assigned.Goals as goal
 
+pub returns-clause-some : goal.returns-clause-some
+returns-clause-some c =
+    let w = c.args.word.now in
+    c.contains.ensures ∙ same_any w c.self.inside.names.keys c.self.inside.items.items c.self.invariant ∙ ap (list_any (is_called w)) c.self.view_is
+
 pub returns-clause-none : goal.returns-clause-none
-returns-clause-none c = λ h. fresh_from c.args.self.now c.args.word.now (sym c.has_name.ensures ∙ h)
+returns-clause-none c =
+    let w = c.args.word.now in
+    let some = c.contains.ensures ∙ same_any w c.self.inside.names.keys c.self.inside.items.items c.self.invariant ∙ ap (list_any (is_called w)) c.self.view_is in
+    λ h. fresh_from c.args.self.now w (sym some ∙ h)

@@ -2,7 +2,8 @@ use Rattle.std.proofs.Common.{List, map, subst, ap, sym, ◌∙◌, option_map}
 use Rattle.std.proofs.lemmas.Result.{err_from_is_err_and}
 use Rattle.job_text.specs.declared.job.Act.{Act}
 use Rattle.job_text.specs.Grammar.{Says}
-use Rattle.job_text.specs.Drafts.{AreOperands, line_of, slot_of, act_of}
+use Rattle.job_text.specs.Drafts.{AreOperands, act_of}
+use Rattle.job_words.specs.Slots.{line_of, slot_of}
 use Rattle.job_text.proofs.Filling.{no_command, of_line, ill_formed, well_formed, command_stop}
 use Rattle.job_text.proofs.Makings.{says_from}
 use Rattle.job_text.proofs.scope.Scope.command.Goals as goal

@@ -1,7 +1,7 @@
 use Rattle.std.proofs.Common.{List, ◌++◌, ◌∷◌, [], subst, ap, sym, ◌∙◌}
 use Rattle.std.proofs.lemmas.Result.{err_from_is_err_and}
-use Rattle.job_text.specs.declared.commands.Place.{Place}
-use Rattle.job_text.specs.Text.{Word}
+use Rattle.job_words.specs.declared.commands.Place.{Place}
+use Rattle.job_words.specs.Text.{Word}
 use Rattle.job_text.specs.Drafts.{AreOperands, with_operand, no_operands, misfit}
 use Rattle.job_text.proofs.Filling.{form_at, slots_stop, misfit_stop, fit_more, slots_more, operands_more, with_more}
 use Rattle.job_text.proofs.scope.Scope.operands.Goals as goal

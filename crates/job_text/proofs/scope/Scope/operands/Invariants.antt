@@ -1,6 +1,7 @@
 use Rattle.std.proofs.Common.{◌≡◌, List, map, take}
 use Rattle.job_text.specs.declared.operands.Operand.{Operand}
-use Rattle.job_text.specs.Drafts.{AreOperands, slot_of, no_operands, with_operands, AllFit}
+use Rattle.job_text.specs.Drafts.{AreOperands, no_operands, with_operands, AllFit}
+use Rattle.job_words.specs.Slots.{slot_of}
 use Rattle.job_text.proofs.scope.Scope.operands.Given as goal
 
 abbrev pub invariant-loop-slot : goal.invariant-loop-slot

@@ -1,0 +1,235 @@
+//! Lines and words.
+
+ghost use Rattle.std.specs.Prelude.{◌≡◌, ◌∷◌, ◌<◌, ◌≤◌, ◌^◌, ◌-◌, min, length, IfOk, MatchOption, ◌||◌, IfSome, IfNone, Some, None, true, false, position, map, filter, not, is_some, ◌==◌};
+ghost use Rattle.std.specs.List.{list_all, before_first, position_or_len, slice_split};
+ghost use Rattle.std.specs.Str.Parse.{digits_value};
+ghost use Rattle.job_words.specs.Text.{is_bit, is_bits, bits_in, bit_word, lines_of, words_of, line_words, is_allowed, is_separator, is_number, is_negative, magnitude, is_integer, integer_value, IsInteger, is_name, is_letter, is_name_byte};
+ghost use Rattle.function_laws.specs.Numbers.{is_value};
+ghost use Rattle.std.specs.Char.{is_ascii_digit};
+
+use edge_bits::List;
+use std::alloc::{AllocError, Global};
+
+fn position_of(bytes: &[u8], byte: u8) -> Option<usize>
+    ensures { result ≡ position (λ b. b == byte) bytes.now }
+{
+    bytes.iter().position(|b| *b == byte)
+}
+
+/// Where the byte first stands, or the length.
+fn place_of(bytes: &[u8], byte: u8) -> usize
+    ensures place { result ≡ position_or_len (λ b. b == byte) bytes.now }
+    ensures within { result ≤ length bytes.now }
+{
+    position_of(bytes, byte).unwrap_or(bytes.len())
+}
+
+/// The first line, and what stands behind its line feed.
+pub fn cut_line(text: &[u8]) -> (&[u8], &[u8])
+    requires { 0 < length text.now }
+    ensures lines { lines_of text.now ≡ result.0.now ∷ lines_of result.1.now }
+    ensures shorter { length result.1.now < length text.now }
+{
+    let end = place_of(text, b'\n');
+    if end < text.len() {
+        (&text[..end], &text[end + 1..])
+    } else {
+        (text, &text[text.len()..])
+    }
+}
+
+fn allowed(b: u8) -> bool
+    ensures { result ≡ is_allowed b }
+{
+    b == b'\t' || b == b'\r' || (32 <= b && b <= 126)
+}
+
+fn separates(b: u8) -> bool
+    ensures { result ≡ is_separator b }
+{
+    b == b' ' || b == b'\t' || b == b'\r'
+}
+
+fn is_clean(line: &[u8]) -> bool
+    ensures { result ≡ list_all is_allowed line.now }
+{
+    line.iter().all(|b| allowed(*b))
+}
+
+/// What stands before a `#`.
+fn before_comment(line: &[u8]) -> &[u8]
+    ensures { result.now ≡ before_first (λ b. b == 35) line.now }
+{
+    &line[..place_of(line, b'#')]
+}
+
+fn letter(b: u8) -> bool
+    ensures { result ≡ is_letter b }
+{
+    (b'A' <= b && b <= b'Z') || (b'a' <= b && b <= b'z')
+}
+
+fn name_byte(b: u8) -> bool
+    ensures { result ≡ is_name_byte b }
+{
+    letter(b) || b.is_ascii_digit() || b == b'_'
+}
+
+fn all_name_bytes(word: &[u8]) -> bool
+    ensures { result ≡ list_all is_name_byte word.now }
+{
+    word.iter().all(|b| name_byte(*b))
+}
+
+#[tactic(auto, unfolding(crate::specs::Text::is_name))]
+pub fn is_name(word: &[u8]) -> bool
+    ensures { result ≡ is_name word.now }
+{
+    !word.is_empty() && letter(word[0]) && all_name_bytes(word) && word.len() <= 32
+}
+
+/// The pieces between separators, empty ones too.
+fn pieces<'a>(alloc: Global, line: &'a [u8]) -> Result<Vec<&'a [u8]>, AllocError>
+    ensures { IfOk result (λ v. map (λ x. x.now) v.items ≡ slice_split is_separator line.now) }
+{
+    line.split(|b| separates(*b)).collect(alloc)
+}
+
+/// A copy of each piece that is not empty.
+fn some_of(alloc: Global, pieces: &[&[u8]]) -> Result<List<List<u8>>, AllocError>
+    ensures { IfOk result (λ words. words ≡ filter (λ word. not (length word == 0)) (map (λ x. x.now) pieces.now)) }
+{
+    let mut words = List::new(alloc);
+    for piece in pieces {
+        if piece.len() != 0 {
+            words.push(List::from_vec(Vec::from_slice(alloc, piece)?))?;
+        }
+    }
+    Ok(words)
+}
+
+/// The words of a line; none where a byte may not stand in it.
+#[tactic(auto, unfolding(crate::specs::Text::words_of))]
+pub fn words(alloc: Global, line: &[u8]) -> Result<Option<List<List<u8>>>, AllocError>
+    ensures { IfOk result (λ words. words ≡ line_words line.now) }
+{
+    if !is_clean(line) {
+        return Ok(None);
+    }
+    let pieces = pieces(alloc, before_comment(line))?;
+    let words = some_of(alloc, &pieces)?;
+    Ok(Some(words))
+}
+
+const MOST: u64 = 100_000_000_000_000_000;
+
+const MOST_COUNTED: u64 = 4_000_000_000;
+
+fn all_digits(word: &[u8]) -> bool
+    ensures { result ≡ list_all is_ascii_digit word.now }
+{
+    word.iter().all(|b| b.is_ascii_digit())
+}
+
+/// Whether the word is a number.
+#[tactic(auto, unfolding(crate::specs::Text::is_number))]
+pub fn is_number(word: &[u8]) -> bool
+    ensures { result ≡ is_number word.now }
+{
+    !word.is_empty() && all_digits(word) && (word[0] != b'0' || word.len() == 1)
+}
+
+/// The value of digits; 10^17 stands for all from there on.
+fn digits_value(word: &[u8]) -> u64
+    requires { list_all is_ascii_digit word.now ≡ true }
+    ensures { result ≡ min (digits_value 10 word.now) 100000000000000000 }
+{
+    let mut value = 0u64;
+    for b in word {
+        value = (value * 10 + u64::from(b.saturating_sub(b'0'))).min(MOST);
+    }
+    value
+}
+
+/// The value of a number; four billion stands for all from there on.
+pub fn number_value(word: &[u8]) -> u32
+    requires { is_number word.now ≡ true }
+    ensures { result ≡ min (digits_value 10 word.now) 4000000000 }
+{
+    digits_value(word).min(MOST_COUNTED) as u32
+}
+
+/// Whether the word begins with `-`.
+fn is_negative(word: &[u8]) -> bool
+    ensures { result ≡ is_negative word.now }
+{
+    !word.is_empty() && word[0] == b'-'
+}
+
+/// What stands behind a `-`, or the whole word.
+fn magnitude(word: &[u8]) -> &[u8]
+    ensures { result.now ≡ magnitude word.now }
+{
+    if is_negative(word) { &word[1..] } else { word }
+}
+
+/// Whether the word is a whole number.
+#[tactic(auto, unfolding(crate::specs::Text::is_integer))]
+pub fn is_integer(word: &[u8]) -> bool
+    ensures { result ≡ is_integer word.now }
+{
+    let digits = magnitude(word);
+    is_number(digits) && !(is_negative(word) && digits_value(digits) == 0)
+}
+
+const VALUES: i64 = 1 << 46;
+
+/// The value of a whole number from -2^46 to 2^46 - 1; none for others.
+pub fn integer_value(word: &[u8]) -> Option<i64>
+    requires { is_integer word.now ≡ true }
+    ensures some { IfSome result (λ w. IsInteger word.now w × (is_value w ≡ true)) }
+    ensures none { IfNone result (is_value (integer_value word.now) ≡ false) }
+{
+    let size = digits_value(magnitude(word)) as i64;
+    let value = if is_negative(word) { -size } else { size };
+    if -VALUES <= value && value < VALUES {
+        Some(value)
+    } else {
+        None
+    }
+}
+
+/// Whether the word is `0` or `1`.
+pub fn is_bit(word: &[u8]) -> bool
+    ensures { result ≡ is_bit word.now }
+{
+    word == b"0".as_slice() || word == b"1".as_slice()
+}
+
+/// Whether the word is a 0-1 word.
+pub fn is_bits(word: &[u8]) -> bool
+    ensures { result ≡ is_bits word.now }
+{
+    word == b"none".as_slice() || (!word.is_empty() && all_bits(word))
+}
+
+/// The bits of a 0-1 word.
+pub fn bits_of(alloc: Global, word: &[u8]) -> Result<List<bool>, AllocError>
+    requires { is_bits word.now ≡ true }
+    ensures { IfOk result (λ bits. (word.now ≡ bit_word bits) × (length bits ≡ bits_in word.now)) }
+{
+    let mut bits = List::new(alloc);
+    if word == b"none".as_slice() {
+        return Ok(bits);
+    }
+    for b in word {
+        bits.push(*b == b'1')?;
+    }
+    Ok(bits)
+}
+
+fn all_bits(word: &[u8]) -> bool
+    ensures { result ≡ list_all (λ b. b == 48 || b == 49) word.now }
+{
+    word.iter().all(|b| *b == b'0' || *b == b'1')
+}
