@@ -1,0 +1,4 @@
+pub mod EightLemmas
+pub mod StoreLemmas
+pub mod TableLemmas
+pub mod FourLemmas
