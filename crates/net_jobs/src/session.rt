@@ -8,7 +8,7 @@ ghost use Rattle.edge_bits.specs.declared.edges.Kind.TheVariants as kinds;
 ghost use Rattle.function_laws.specs.declared.history.Call.TheVariants as calls;
 ghost use Rattle.function_laws.specs.declared.history.Reply.TheVariants as replies;
 ghost use Rattle.node_slots.specs.Stores.{plain_view};
-ghost use Rattle.node_slots.specs.Views.{Grown, Is, levels as levels_of};
+ghost use Rattle.node_slots.specs.Views.{Grown, Is, Kept, levels as levels_of};
 ghost use Rattle.net_jobs.specs.Agreement.{Adds, AreAlike, AreStored, Has, IsDue, IsFilled, IsKept, IsLive, IsLiveOf, IsStepOf, is_dropped};
 
 use crate::walking::value_at;
@@ -205,6 +205,7 @@ impl Session {
         requires second { IsLiveOf kinds.Bdd self.old.rows.items g }
         ensures step { IfOk result (λ told. IsStepOf (plain_view self.old.store) self.old.rows.items (plain_view self.new.store) self.old.rows.items (calls.Leq f g) (replies.Truth told)) }
         ensures rows { self.new.rows.items ≡ self.old.rows.items }
+        ensures kept { Kept (plain_view self.old.store) (plain_view self.new.store) }
         ensures grown { Grown (plain_view self.old.store) (plain_view self.new.store) }
     {
         let first = self.edge_of_bdd(f);
@@ -229,6 +230,7 @@ impl Session {
         requires row { (k : KindOf) × IsLiveOf k self.old.rows.items f × (length bits.now ≡ levels_of k (plain_view self.old.store)) }
         ensures step { IsStepOf (plain_view self.old.store) self.old.rows.items (plain_view self.new.store) self.old.rows.items (calls.Eval f bits.now) (replies.Value result) }
         ensures rows { self.new.rows.items ≡ self.old.rows.items }
+        ensures kept { Kept (plain_view self.old.store) (plain_view self.new.store) }
         ensures grown { Grown (plain_view self.old.store) (plain_view self.new.store) }
     {
         let edge = self.edge(f);
