@@ -13,25 +13,28 @@ import subprocess
 import sys
 import tempfile
 
+
+def chained(command, operands):
+    """The command on the first two operands, then on that and the third, and so on: registers c1, c2, .."""
+    last = operands[0]
+    for place, operand in enumerate(operands[1:], 1):
+        yield f"c{place} = {command} {last} {operand}"
+        last = f"c{place}"
+
+
 def products(n):
     yield f"vars {n}"
     yield "session"
     yield from (f"x{v} = var {v}" for v in range(n))
-    last = "x0"
-    for v in range(1, n):
-        yield f"p{v} = and {last} x{v}"
-        last = f"p{v}"
+    yield from chained("and", [f"x{v}" for v in range(n)])
 
 
 def quantifiers(n):
     yield f"vars {n}"
     yield "session"
     yield from (f"x{v} = var {v}" for v in range(n))
-    last = f"x{n - 1}"
-    for v in range(n - 2, -1, -1):
-        yield f"p{v} = and x{v} {last}"
-        last = f"p{v}"
-    yield from (f"e{v} = exists {last} {v}" for v in range(n))
+    yield from chained("and", [f"x{v}" for v in reversed(range(n))])
+    yield from (f"e{v} = exists c{n - 1} {v}" for v in range(n))
 
 
 def sums(n):
@@ -42,10 +45,7 @@ def sums(n):
         yield f"a{v} = ofbdd x{v}"
         yield f"k{v} = num {2 ** (n - 1 - v)}"
         yield f"t{v} = times a{v} k{v}"
-    last = f"t{n - 1}"
-    for v in range(n - 2, -1, -1):
-        yield f"s{v} = plus t{v} {last}"
-        last = f"s{v}"
+    yield from chained("plus", [f"t{v}" for v in reversed(range(n))])
 
 
 def unions(n):
@@ -53,10 +53,7 @@ def unions(n):
     yield f"elements {n}"
     yield "session"
     yield from (f"e{e} = single {e}" for e in range(n))
-    last = "e0"
-    for e in range(1, n):
-        yield f"u{e} = union {last} e{e}"
-        last = f"u{e}"
+    yield from chained("union", [f"e{e}" for e in range(n)])
 
 
 # Each script with its two sizes, and about how many nodes it makes of each.
