@@ -20,7 +20,8 @@ use Rattle.job_text.specs.declared.job.Counts.{Counts}
 use Rattle.job_text.specs.declared.job.Register.{Register}
 use Rattle.job_text.specs.declared.operands.Operand.TheVariants as operands
 use Rattle.job_words.specs.Text.{Word}
-use Rattle.job_text.specs.Grammar.{CommandsSay, IsProper, Refers, Says, Spelling, Spells, StandsFor, assigns, bits_for, kind_at, kind_made, kind_of, pair_operands, registers_after, spelling, tells, without}
+use Rattle.job_text.specs.Grammar.{CommandsSay, IsProper, Refers, Says, Spelling, Spells, StandsFor, assigns, bits_for, kind_at, kind_of, pair_operands, registers_after, spelling, tells, without}
+use Rattle.job_words.specs.Commands.{kind_made}
 use Rattle.job_text.specs.Histories.{AreNamed, Calls, Held, HistoryLine, IsNamed, SayInOrder, held_by, registers_of, stops}
 use Rattle.job_text.proofs.Effects.{EachStands, one_register_less, one_register_more, operands_of, operands_stand, same_registers}
 use Rattle.net_jobs.specs.declared.playing.Progress.{Progress}
