@@ -27,39 +27,79 @@ fn each_edge_has_the_members_of_its_list(rt: HostRuntime) -> Result<(), Fail> {
 }
 
 #[test]
-fn truth_lists_of_sets(rt: HostRuntime) -> Result<(), Fail> {
+fn truth_lists_of_unions(rt: HostRuntime) -> Result<(), Fail> {
     let alloc = rt.alloc();
     let mut table = Families::new(alloc)?;
     for pair in 0..PAIRS {
         let (p, q) = (pair / FAMILIES, pair % FAMILIES);
         let union = union_number(alloc, p, q)?;
-        let meet = meet_number(alloc, p, q)?;
-        let diff = diff_number(alloc, p, q)?;
         assert_eq!(rt;
             table.union(p, q)?,
             table.edge(union)?,
             "union of {p} and {q}"
         );
+    }
+    Ok(())
+}
+
+#[test]
+fn truth_lists_of_meets(rt: HostRuntime) -> Result<(), Fail> {
+    let alloc = rt.alloc();
+    let mut table = Families::new(alloc)?;
+    for pair in 0..PAIRS {
+        let (p, q) = (pair / FAMILIES, pair % FAMILIES);
+        let meet = meet_number(alloc, p, q)?;
         assert_eq!(rt; table.meet(p, q)?, table.edge(meet)?, "meet of {p} and {q}");
+    }
+    Ok(())
+}
+
+#[test]
+fn truth_lists_of_differences(rt: HostRuntime) -> Result<(), Fail> {
+    let alloc = rt.alloc();
+    let mut table = Families::new(alloc)?;
+    for pair in 0..PAIRS {
+        let (p, q) = (pair / FAMILIES, pair % FAMILIES);
+        let diff = diff_number(alloc, p, q)?;
         assert_eq!(rt; table.diff(p, q)?, table.edge(diff)?, "{p} without {q}");
     }
     Ok(())
 }
 
 #[test]
-fn truth_lists_of_elements(rt: HostRuntime) -> Result<(), Fail> {
+fn truth_lists_of_members_on(rt: HostRuntime) -> Result<(), Fail> {
     let alloc = rt.alloc();
     let mut table = Families::new(alloc)?;
     for case in 0..3 * FAMILIES {
         let (p, e) = (case / 3, (case % 3) as u32);
-        let on = subset1_number(alloc, p, e)?;
-        let off = subset0_number(alloc, p, e)?;
-        let flip = change_number(alloc, p, e)?;
-        assert_eq!(rt; table.subset1(p, e)?, table.edge(on)?, "{p} on {e}");
-        assert_eq!(rt; table.subset0(p, e)?, table.edge(off)?, "{p} off {e}");
+        let part = subset1_number(alloc, p, e)?;
+        assert_eq!(rt; table.subset1(p, e)?, table.edge(part)?, "{p} on {e}");
+    }
+    Ok(())
+}
+
+#[test]
+fn truth_lists_of_members_off(rt: HostRuntime) -> Result<(), Fail> {
+    let alloc = rt.alloc();
+    let mut table = Families::new(alloc)?;
+    for case in 0..3 * FAMILIES {
+        let (p, e) = (case / 3, (case % 3) as u32);
+        let part = subset0_number(alloc, p, e)?;
+        assert_eq!(rt; table.subset0(p, e)?, table.edge(part)?, "{p} off {e}");
+    }
+    Ok(())
+}
+
+#[test]
+fn truth_lists_of_toggled_members(rt: HostRuntime) -> Result<(), Fail> {
+    let alloc = rt.alloc();
+    let mut table = Families::new(alloc)?;
+    for case in 0..3 * FAMILIES {
+        let (p, e) = (case / 3, (case % 3) as u32);
+        let part = change_number(alloc, p, e)?;
         assert_eq!(rt;
             table.change(p, e)?,
-            table.edge(flip)?,
+            table.edge(part)?,
             "{p} with {e} toggled"
         );
     }

@@ -24,13 +24,23 @@ fn difference(a: i64, b: i64) -> i128 {
 }
 
 #[test]
-fn sums_and_differences(rt: HostRuntime) -> Result<(), Fail> {
+fn sums(rt: HostRuntime) -> Result<(), Fail> {
     let mut numbers = Numbers::new(rt.alloc())?;
     for pair in 0..FUNCTIONS * FUNCTIONS {
         let (f, g) = (values_of(pair / FUNCTIONS), values_of(pair % FUNCTIONS));
         let ([a, b], [c, d]) = (f, g);
         let sums = numbers.exactly(a as i128 + c as i128, b as i128 + d as i128)?;
         assert_eq!(rt; numbers.plus(f, g)?, sums, "{a} {b} plus {c} {d}");
+    }
+    Ok(())
+}
+
+#[test]
+fn differences(rt: HostRuntime) -> Result<(), Fail> {
+    let mut numbers = Numbers::new(rt.alloc())?;
+    for pair in 0..FUNCTIONS * FUNCTIONS {
+        let (f, g) = (values_of(pair / FUNCTIONS), values_of(pair % FUNCTIONS));
+        let ([a, b], [c, d]) = (f, g);
         let differences = numbers.exactly(difference(a, c), difference(b, d))?;
         assert_eq!(rt; numbers.minus(f, g)?, differences, "{a} {b} minus {c} {d}");
     }
@@ -50,23 +60,48 @@ fn products(rt: HostRuntime) -> Result<(), Fail> {
 }
 
 #[test]
-fn choices(rt: HostRuntime) -> Result<(), Fail> {
+fn lesser_values(rt: HostRuntime) -> Result<(), Fail> {
     let mut numbers = Numbers::new(rt.alloc())?;
     for pair in 0..FUNCTIONS * FUNCTIONS {
         let (f, g) = (values_of(pair / FUNCTIONS), values_of(pair % FUNCTIONS));
         let ([a, b], [c, d]) = (f, g);
-        let lesser = numbers.edge([a.min(c), b.min(d)])?;
-        assert_eq!(rt; numbers.min(f, g)?, lesser, "lesser of {a} {b} and {c} {d}");
-        let greater = numbers.edge([a.max(c), b.max(d)])?;
+        let chosen = numbers.edge([a.min(c), b.min(d)])?;
+        assert_eq!(rt; numbers.min(f, g)?, chosen, "lesser of {a} {b} and {c} {d}");
+    }
+    Ok(())
+}
+
+#[test]
+fn greater_values(rt: HostRuntime) -> Result<(), Fail> {
+    let mut numbers = Numbers::new(rt.alloc())?;
+    for pair in 0..FUNCTIONS * FUNCTIONS {
+        let (f, g) = (values_of(pair / FUNCTIONS), values_of(pair % FUNCTIONS));
+        let ([a, b], [c, d]) = (f, g);
+        let chosen = numbers.edge([a.max(c), b.max(d)])?;
         assert_eq!(rt;
             numbers.max(f, g)?,
-            greater,
+            chosen,
             "greater of {a} {b} and {c} {d}"
         );
-        let reaching = numbers.edge([if a >= c { a } else { 0 }, if b >= d { b } else { 0 }])?;
+    }
+    Ok(())
+}
+
+/// The first number where it is at least the second, and 0 elsewhere.
+fn reaching(a: i64, b: i64) -> i64 {
+    if a >= b { a } else { 0 }
+}
+
+#[test]
+fn values_that_reach(rt: HostRuntime) -> Result<(), Fail> {
+    let mut numbers = Numbers::new(rt.alloc())?;
+    for pair in 0..FUNCTIONS * FUNCTIONS {
+        let (f, g) = (values_of(pair / FUNCTIONS), values_of(pair % FUNCTIONS));
+        let ([a, b], [c, d]) = (f, g);
+        let chosen = numbers.edge([reaching(a, c), reaching(b, d)])?;
         assert_eq!(rt;
             numbers.threshold(f, g)?,
-            reaching,
+            chosen,
             "{a} {b} where it reaches {c} {d}"
         );
     }

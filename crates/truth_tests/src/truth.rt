@@ -34,17 +34,37 @@ fn each_edge_has_the_values_of_its_list(rt: HostRuntime) -> Result<(), Fail> {
 }
 
 #[test]
-fn truth_lists_of_pairs(rt: HostRuntime) -> Result<(), Fail> {
+fn truth_lists_of_conjunctions(rt: HostRuntime) -> Result<(), Fail> {
     let alloc = rt.alloc();
     let mut table = Functions::new(alloc)?;
     for pair in 0..PAIRS {
         let (f, g) = (pair / FUNCTIONS, pair % FUNCTIONS);
         let and = ite_number(alloc, f, g, NEVER)?;
+        assert_eq!(rt; table.and(f, g)?, table.edge(and)?, "and of {f} and {g}");
+    }
+    Ok(())
+}
+
+#[test]
+fn truth_lists_of_disjunctions(rt: HostRuntime) -> Result<(), Fail> {
+    let alloc = rt.alloc();
+    let mut table = Functions::new(alloc)?;
+    for pair in 0..PAIRS {
+        let (f, g) = (pair / FUNCTIONS, pair % FUNCTIONS);
         let or = ite_number(alloc, f, ALWAYS, g)?;
+        assert_eq!(rt; table.or(f, g)?, table.edge(or)?, "or of {f} and {g}");
+    }
+    Ok(())
+}
+
+#[test]
+fn truth_lists_of_exclusive_disjunctions(rt: HostRuntime) -> Result<(), Fail> {
+    let alloc = rt.alloc();
+    let mut table = Functions::new(alloc)?;
+    for pair in 0..PAIRS {
+        let (f, g) = (pair / FUNCTIONS, pair % FUNCTIONS);
         let not_g = ite_number(alloc, g, NEVER, ALWAYS)?;
         let xor = ite_number(alloc, f, not_g, g)?;
-        assert_eq!(rt; table.and(f, g)?, table.edge(and)?, "and of {f} and {g}");
-        assert_eq!(rt; table.or(f, g)?, table.edge(or)?, "or of {f} and {g}");
         assert_eq!(rt; table.xor(f, g)?, table.edge(xor)?, "xor of {f} and {g}");
     }
     Ok(())
@@ -74,17 +94,27 @@ fn truth_lists_of_complements(rt: HostRuntime) -> Result<(), Fail> {
 }
 
 #[test]
-fn truth_lists_of_cofactors(rt: HostRuntime) -> Result<(), Fail> {
+fn truth_lists_of_cofactors_by_true(rt: HostRuntime) -> Result<(), Fail> {
     let alloc = rt.alloc();
     let mut table = Functions::new(alloc)?;
     for case in 0..3 * FUNCTIONS {
         let (f, var) = (case / 3, (case % 3) as u32);
-        let with = table.edge(compose_number(alloc, f, var, ALWAYS)?)?;
-        let without = table.edge(compose_number(alloc, f, var, NEVER)?)?;
-        assert_eq!(rt; table.cofactor(f, var, true)?, with, "{f} with {var}");
+        let cofactor = table.edge(compose_number(alloc, f, var, ALWAYS)?)?;
+        assert_eq!(rt; table.cofactor(f, var, true)?, cofactor, "{f} with {var}");
+    }
+    Ok(())
+}
+
+#[test]
+fn truth_lists_of_cofactors_by_false(rt: HostRuntime) -> Result<(), Fail> {
+    let alloc = rt.alloc();
+    let mut table = Functions::new(alloc)?;
+    for case in 0..3 * FUNCTIONS {
+        let (f, var) = (case / 3, (case % 3) as u32);
+        let cofactor = table.edge(compose_number(alloc, f, var, NEVER)?)?;
         assert_eq!(rt;
             table.cofactor(f, var, false)?,
-            without,
+            cofactor,
             "{f} without {var}"
         );
     }
@@ -92,14 +122,24 @@ fn truth_lists_of_cofactors(rt: HostRuntime) -> Result<(), Fail> {
 }
 
 #[test]
-fn truth_lists_of_quantifiers(rt: HostRuntime) -> Result<(), Fail> {
+fn truth_lists_of_existentials(rt: HostRuntime) -> Result<(), Fail> {
     let alloc = rt.alloc();
     let mut table = Functions::new(alloc)?;
     for case in 0..16 * FUNCTIONS {
         let (f, vars) = (case / 16, VARIABLE_LISTS[case % 16]);
         let exists = table.edge(exists_number(alloc, f, vars)?)?;
-        let forall = table.edge(forall_number(alloc, f, vars)?)?;
         assert_eq!(rt; table.exists(f, vars)?, exists, "exists of {f}");
+    }
+    Ok(())
+}
+
+#[test]
+fn truth_lists_of_universals(rt: HostRuntime) -> Result<(), Fail> {
+    let alloc = rt.alloc();
+    let mut table = Functions::new(alloc)?;
+    for case in 0..16 * FUNCTIONS {
+        let (f, vars) = (case / 16, VARIABLE_LISTS[case % 16]);
+        let forall = table.edge(forall_number(alloc, f, vars)?)?;
         assert_eq!(rt; table.forall(f, vars)?, forall, "forall of {f}");
     }
     Ok(())
