@@ -8,7 +8,7 @@ ghost use Rattle.add_ops.specs.Conversions.{converted_at, value_of_one};
 use edge_bits::{Edge, Kind};
 use node_store::binary::{Apply, Binary, Branch, Expansion};
 use node_store::evaluate::evaluate;
-use node_store::operator::{Halt, Task};
+use node_store::operator::{Halt, Task, without_overflow};
 use node_store::{Grow, Key, Opened, Stack, Stop};
 
 /// An operation on the values of one function. Both kinds depend on variables.
@@ -154,12 +154,7 @@ fn convert<G: Grow, C: Conversion + Drop>(
     ensures frames { stack.new.frames ≡ stack.old.frames }
 {
     let op = OneOperand { op, f };
-    match evaluate(store, stack, &Binary(op), Task::two(f, f)) {
-        Ok(edge) => Ok(edge),
-        Err(Halt::Memory) => Err(Stop::Memory),
-        Err(Halt::Full) => Err(Stop::Full),
-        Err(Halt::Overflow) => unreachable!(),
-    }
+    without_overflow(evaluate(store, stack, &Binary(op), Task::two(f, f)))
 }
 
 // Makes room for as many frames as there are levels, and runs.

@@ -23,7 +23,7 @@ use crate::summation::call_sum;
 use crate::truths::{Indicator, LowerBound, NonZero};
 use edge_bits::{Edge, Kind};
 use node_store::conditional::{ThreeOperands, call_if_then_else};
-use node_store::operator::Halt;
+use node_store::operator::{Halt, without_overflow};
 use node_store::pointwise::call_place_by_place;
 use node_store::{Grow, Stop};
 
@@ -102,12 +102,7 @@ pub fn min<G: Grow>(store: &mut G, f: Edge, g: Edge) -> Result<Edge, Stop>
     ensures full { IsErrOf result Stop.Full → Rose (G.view store.old) (G.view store.new) }
     ensures due { IsErrOf result Stop.Full → IsWork (G.view store.new) (value_of_two Add (λ a b. if int_le a b then a else b) f g (G.view store.old)) (G.view store.new).due }
 {
-    match call_place_by_place(store, Kind::Add, Minimum, f, g) {
-        Ok(edge) => Ok(edge),
-        Err(Halt::Memory) => Err(Stop::Memory),
-        Err(Halt::Full) => Err(Stop::Full),
-        Err(Halt::Overflow) => unreachable!(),
-    }
+    without_overflow(call_place_by_place(store, Kind::Add, Minimum, f, g))
 }
 
 /// The greater value of two functions at each assignment. What it stores are parts of that function by the first variables of the order.
@@ -119,12 +114,7 @@ pub fn max<G: Grow>(store: &mut G, f: Edge, g: Edge) -> Result<Edge, Stop>
     ensures full { IsErrOf result Stop.Full → Rose (G.view store.old) (G.view store.new) }
     ensures due { IsErrOf result Stop.Full → IsWork (G.view store.new) (value_of_two Add (λ a b. if int_le b a then a else b) f g (G.view store.old)) (G.view store.new).due }
 {
-    match call_place_by_place(store, Kind::Add, Maximum, f, g) {
-        Ok(edge) => Ok(edge),
-        Err(Halt::Memory) => Err(Stop::Memory),
-        Err(Halt::Full) => Err(Stop::Full),
-        Err(Halt::Overflow) => unreachable!(),
-    }
+    without_overflow(call_place_by_place(store, Kind::Add, Maximum, f, g))
 }
 
 /// The value of the first function where it is at least that of the second, and 0 elsewhere. What it stores are parts of that function by the first variables of the order.
@@ -136,12 +126,7 @@ pub fn threshold<G: Grow>(store: &mut G, f: Edge, g: Edge) -> Result<Edge, Stop>
     ensures full { IsErrOf result Stop.Full → Rose (G.view store.old) (G.view store.new) }
     ensures due { IsErrOf result Stop.Full → IsWork (G.view store.new) (value_of_two Add (λ a b. if int_le b a then a else pos 0) f g (G.view store.old)) (G.view store.new).due }
 {
-    match call_place_by_place(store, Kind::Add, Reaching, f, g) {
-        Ok(edge) => Ok(edge),
-        Err(Halt::Memory) => Err(Stop::Memory),
-        Err(Halt::Full) => Err(Stop::Full),
-        Err(Halt::Overflow) => unreachable!(),
-    }
+    without_overflow(call_place_by_place(store, Kind::Add, Reaching, f, g))
 }
 
 /// The function that is 1 where a truth function holds, and 0 elsewhere. What it stores are parts of that function by the first variables of the order.

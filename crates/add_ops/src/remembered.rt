@@ -8,7 +8,7 @@ ghost use Rattle.add_ops.specs.Conversions.{converted_at, value_of_one};
 use crate::conversion::{Conversion, OneOperand};
 use edge_bits::{Edge, Kind};
 use node_store::evaluate::evaluate;
-use node_store::operator::{Halt, Task};
+use node_store::operator::{Task, without_overflow};
 use node_store::remembering::Remembering;
 use node_store::{Grow, Stack, Stop};
 
@@ -34,12 +34,7 @@ fn remember<G: Grow, C: Conversion + Drop>(
     ensures frames { stack.new.frames ≡ stack.old.frames }
 {
     let op = OneOperand { op, f };
-    match evaluate(store, stack, &Remembering(op), Task::two(f, f)) {
-        Ok(edge) => Ok(edge),
-        Err(Halt::Memory) => Err(Stop::Memory),
-        Err(Halt::Full) => Err(Stop::Full),
-        Err(Halt::Overflow) => unreachable!(),
-    }
+    without_overflow(evaluate(store, stack, &Remembering(op), Task::two(f, f)))
 }
 
 // Makes room for as many frames as there are levels and for the answers of the call, and runs.

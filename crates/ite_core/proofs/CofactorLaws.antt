@@ -1,10 +1,10 @@
 -- Cofactors by a variable, step by step.
-use Rattle.std.proofs.Common.{◌≡◌, ◌≢◌, ℕ, ◌+◌, ◌<◌, Bool, true, false, not, eqb, cond, ℤ, Option, Some, ◌⊎◌, inl, inr, refl, ap, sym, ◌∙◌, subst, arith}
+use Rattle.std.proofs.Common.{◌≡◌, ◌≢◌, ℕ, ◌+◌, ◌<◌, Bool, true, false, not, cond, ℤ, Option, Some, ◌⊎◌, inl, inr, refl, ap, sym, ◌∙◌, subst, arith}
 use Rattle.edge_bits.specs.declared.edges.Edge.{Edge}
 use Rattle.edge_bits.specs.declared.edges.Kind.TheVariants.{Bdd}
 use Rattle.edge_bits.proofs.AssignmentLemmas.{bit-set_other}
 use Rattle.function_laws.specs.Values.{cofactor, choice, projection, negation, IsFree}
-use Rattle.function_laws.proofs.ValueLemmas.{cofactor-free, cofactor-choice_other, IsFree-cofactor, IsFree-cofactor_other}
+use Rattle.function_laws.proofs.ValueLemmas.{cofactor-free, cofactor-choice_other}
 use Rattle.function_laws.proofs.ComposeLemmas.{IsFree-cofactor_any}
 use Rattle.node_store.specs.Edges.{flip_if}
 use Rattle.node_store.specs.Kinds.{Function, BddFunction}

@@ -17,7 +17,7 @@ use edge_bits::{Edge, Memory};
 use node_store::binary::{Binary, flip_if};
 use node_store::conditional::{IfThenElse, Reduced};
 use node_store::evaluate::evaluate;
-use node_store::operator::{Halt, Task};
+use node_store::operator::{Halt, Task, without_overflow};
 use node_store::pointwise::{Pointwise, place_by_place};
 use node_store::{Grow, Stack, Stop, conditional, numbers};
 
@@ -82,12 +82,7 @@ pub fn and<G: Grow>(store: &mut G, stack: &mut Stack, f: Edge, g: Edge) -> Resul
     ensures free { stack.new.free ≡ stack.old.free }
     ensures known { stack.new.answers ≡ stack.old.answers }
 {
-    match place_by_place(store, stack, Conjunction, f, g) {
-        Ok(edge) => Ok(edge),
-        Err(Halt::Memory) => Err(Stop::Memory),
-        Err(Halt::Full) => Err(Stop::Full),
-        Err(Halt::Overflow) => unreachable!(),
-    }
+    without_overflow(place_by_place(store, stack, Conjunction, f, g))
 }
 
 /// The disjunction of two functions.
@@ -207,12 +202,7 @@ pub fn cofactor<G: Grow>(
         bit,
         literal,
     };
-    match evaluate(store, stack, &Binary(op), Task::two(f, f)) {
-        Ok(edge) => Ok(edge),
-        Err(Halt::Memory) => Err(Stop::Memory),
-        Err(Halt::Full) => Err(Stop::Full),
-        Err(Halt::Overflow) => unreachable!(),
-    }
+    without_overflow(evaluate(store, stack, &Binary(op), Task::two(f, f)))
 }
 
 /// Whether the second function is true wherever the first is. It makes no node.

@@ -14,7 +14,7 @@ use crate::nested::{Conjunction, Selection};
 use edge_bits::{Edge, Kind, Memory};
 use node_store::binary::flip_if;
 use node_store::conditional::{ThreeOperands, call_if_then_else};
-use node_store::operator::Halt;
+use node_store::operator::without_overflow;
 use node_store::pointwise::call_place_by_place;
 use node_store::{Grow, Stack, Stop};
 
@@ -37,12 +37,7 @@ pub fn and<G: Grow>(store: &mut G, f: Edge, g: Edge) -> Result<Edge, Stop>
     ensures full { IsErrOf result Stop.Full → Rose (G.view store.old) (G.view store.new) }
     ensures due { IsErrOf result Stop.Full → IsWork (G.view store.new) (value_of_two Bdd (λ a b. a && b) f g (G.view store.old)) (G.view store.new).due }
 {
-    match call_place_by_place(store, Kind::Bdd, Conjunction, f, g) {
-        Ok(edge) => Ok(edge),
-        Err(Halt::Memory) => Err(Stop::Memory),
-        Err(Halt::Full) => Err(Stop::Full),
-        Err(Halt::Overflow) => unreachable!(),
-    }
+    without_overflow(call_place_by_place(store, Kind::Bdd, Conjunction, f, g))
 }
 
 /// The disjunction of two functions. What it stores are parts of the disjunction by the first variables of the order, up to complement.

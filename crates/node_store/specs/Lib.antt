@@ -22,3 +22,4 @@ pub mod Three
 pub mod ThreeLaws
 pub mod Steps
 pub mod Halt
+pub mod HaltLaws

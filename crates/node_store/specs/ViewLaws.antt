@@ -28,10 +28,10 @@ Grown-trans p q = record {
 }
 
 pub Kept-refl : (a : View) → Kept a a
-Kept-refl a = record { grown = Grown-refl a; made = refl; due = refl }
+Kept-refl a = record { grown = Grown-refl a; made = refl; fulls = refl; due = refl }
 
 pub Kept-trans : {a b c : View} → Kept a b → Kept b c → Kept a c
-Kept-trans p q = record { grown = Grown-trans p.grown q.grown; made = q.made ∙ p.made; due = q.due ∙ p.due }
+Kept-trans p q = record { grown = Grown-trans p.grown q.grown; made = q.made ∙ p.made; fulls = q.fulls ∙ p.fulls; due = q.due ∙ p.due }
 
 -- the store's sizes and levels stay
 pub IsBeyond-grown : (k : Kind) {a b : View} → Grown a b → (v : ℕ) → IsBeyond k b v → IsBeyond k a v

@@ -97,6 +97,7 @@ pub record Grown (old new : View) : Type 0 where
 pub record Kept (old new : View) : Type 0 where
   pub grown : Grown old new
   pub made : new.made ≡ old.made
+  pub fulls : new.fulls ≡ old.fulls
   pub due : new.due ≡ old.due
 
 -- The count of answers Full rose, or stands at the end of its type.

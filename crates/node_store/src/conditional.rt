@@ -9,7 +9,7 @@ ghost use Rattle.node_store.specs.Three.{AreThree, CanSplit, IsBranch, ite_at, v
 use crate::binary::{Apply, Binary, Branch, Expansion, flip_if};
 use crate::evaluate::evaluate;
 use crate::grow::{Edge, Grow, Key, Kind, Stop};
-use crate::operator::{Halt, Task};
+use crate::operator::{Halt, Task, without_overflow};
 use crate::parts::{parts, top_of_three};
 use crate::pointwise::key_of;
 use crate::stack::Stack;
@@ -178,12 +178,7 @@ pub fn if_then_else<G: Grow, O: IfThenElse + Drop>(
     ensures known { stack.new.answers ≡ stack.old.answers }
 {
     let op = ThreeOperands { op, f, g, h };
-    match evaluate(store, stack, &Binary(op), Task { f, g, h }) {
-        Ok(edge) => Ok(edge),
-        Err(Halt::Memory) => Err(Stop::Memory),
-        Err(Halt::Full) => Err(Stop::Full),
-        Err(Halt::Overflow) => unreachable!(),
-    }
+    without_overflow(evaluate(store, stack, &Binary(op), Task { f, g, h }))
 }
 
 // Makes room for as many frames as there are levels, and runs.

@@ -1,5 +1,7 @@
 //! What an operator tells the evaluator.
 
+ghost use Rattle.std.specs.Prelude.{◌≡◌, IfOk, IsErrOf, Ok};
+
 use crate::grow::{Edge, Grow, Stop};
 use crate::stack::Stack;
 
@@ -22,6 +24,21 @@ impl From<Stop> for Halt {
             Stop::Memory => Halt::Memory,
             Stop::Full => Halt::Full,
         }
+    }
+}
+
+/// The answer of a call that is never out of range.
+pub fn without_overflow(answer: Result<Edge, Halt>) -> Result<Edge, Stop>
+    requires { IsErrOf answer Halt.Overflow → ⊥ }
+    ensures ok { IfOk result (λ e. answer ≡ Ok e) }
+    ensures memory { IsErrOf result Stop.Memory → IsErrOf answer Halt.Memory }
+    ensures full { IsErrOf result Stop.Full → IsErrOf answer Halt.Full }
+{
+    match answer {
+        Ok(edge) => Ok(edge),
+        Err(Halt::Memory) => Err(Stop::Memory),
+        Err(Halt::Full) => Err(Stop::Full),
+        Err(Halt::Overflow) => unreachable!(),
     }
 }
 

@@ -17,7 +17,7 @@ use crate::restriction::{Restriction, is_false};
 use edge_bits::Edge;
 use node_store::binary::{Binary, flip_if};
 use node_store::evaluate::evaluate;
-use node_store::operator::{Halt, Task};
+use node_store::operator::{Task, without_overflow};
 use node_store::{Grow, Stack, Stop};
 
 /// The function that holds where the conjunction of two functions can be made to hold by the variables of a product.
@@ -44,12 +44,7 @@ pub fn and_exists<G: Grow>(
 {
     let op = Quantification { f, g, cube };
     let task = Task { f, g, h: cube };
-    match evaluate(store, stack, &op, task) {
-        Ok(edge) => Ok(edge),
-        Err(Halt::Memory) => Err(Stop::Memory),
-        Err(Halt::Full) => Err(Stop::Full),
-        Err(Halt::Overflow) => unreachable!(),
-    }
+    without_overflow(evaluate(store, stack, &op, task))
 }
 
 /// The function that holds where a function can be made to hold by the variables of a product.
@@ -110,12 +105,7 @@ pub fn support<G: Grow>(store: &mut G, stack: &mut Stack, f: Edge) -> Result<Edg
     ensures free { stack.new.free ≡ stack.old.free }
     ensures known { stack.new.answers ≡ stack.old.answers }
 {
-    match evaluate(store, stack, &Binary(Dependence { f }), Task::two(f, f)) {
-        Ok(edge) => Ok(edge),
-        Err(Halt::Memory) => Err(Stop::Memory),
-        Err(Halt::Full) => Err(Stop::Full),
-        Err(Halt::Overflow) => unreachable!(),
-    }
+    without_overflow(evaluate(store, stack, &Binary(Dependence { f }), Task::two(f, f)))
 }
 
 /// A function with another put for a variable.
@@ -148,12 +138,7 @@ pub fn compose<G: Grow>(
         g,
         projection,
     };
-    match evaluate(store, stack, &Binary(op), Task::two(f, g)) {
-        Ok(edge) => Ok(edge),
-        Err(Halt::Memory) => Err(Stop::Memory),
-        Err(Halt::Full) => Err(Stop::Full),
-        Err(Halt::Overflow) => unreachable!(),
-    }
+    without_overflow(evaluate(store, stack, &Binary(op), Task::two(f, g)))
 }
 
 /// A function that is the same where a condition holds and simpler beyond it.
@@ -174,10 +159,5 @@ pub fn restrict<G: Grow>(store: &mut G, stack: &mut Stack, f: Edge, c: Edge) -> 
     if is_false(store, c) {
         return Ok(Edge::new(0, true));
     }
-    match evaluate(store, stack, &Restriction { f, c }, Task::two(f, c)) {
-        Ok(edge) => Ok(edge),
-        Err(Halt::Memory) => Err(Stop::Memory),
-        Err(Halt::Full) => Err(Stop::Full),
-        Err(Halt::Overflow) => unreachable!(),
-    }
+    without_overflow(evaluate(store, stack, &Restriction { f, c }, Task::two(f, c)))
 }

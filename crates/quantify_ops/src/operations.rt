@@ -15,7 +15,7 @@ use crate::substitution::{Substitution, lowest_level};
 use edge_bits::{Edge, Kind};
 use node_store::binary::flip_if;
 use node_store::evaluate::evaluate;
-use node_store::operator::{Halt, Task};
+use node_store::operator::{Task, without_overflow};
 use node_store::remembering::Remembering;
 use node_store::{Grow, Stack, Stop};
 
@@ -272,12 +272,7 @@ fn substitute<G: Grow>(
     ensures frames { stack.new.frames ≡ stack.old.frames }
 {
     let op = Substitution { f, pairs, lowest };
-    match evaluate(store, stack, &Remembering(op), Task::two(f, f)) {
-        Ok(edge) => Ok(edge),
-        Err(Halt::Memory) => Err(Stop::Memory),
-        Err(Halt::Full) => Err(Stop::Full),
-        Err(Halt::Overflow) => unreachable!(),
-    }
+    without_overflow(evaluate(store, stack, &Remembering(op), Task::two(f, f)))
 }
 
 /// A function that is the same where a condition holds and simpler beyond it: it depends on no variable on which the first doesn't, is constant where that has one value on the condition, is the cofactor by a product of literals, and is false where the condition is (Coudert and Madre 1990). Another order of the variables may give another such function. What it stores are parts, by the first variables of the order and up to complement, of such functions for parts of the function, up to complement, and parts of the condition over which some variables were quantified, and of the condition with some variables quantified.

@@ -15,7 +15,7 @@ use crate::sets::{Meeting, Removing, Uniting};
 use edge_bits::Edge;
 use node_store::binary::Binary;
 use node_store::evaluate::evaluate;
-use node_store::operator::{Halt, Task};
+use node_store::operator::{Task, without_overflow};
 use node_store::pointwise::place_by_place;
 use node_store::{Grow, Stack, Stop};
 
@@ -34,12 +34,7 @@ pub fn union<G: Grow>(store: &mut G, stack: &mut Stack, p: Edge, q: Edge) -> Res
     ensures free { stack.new.free ≡ stack.old.free }
     ensures known { stack.new.answers ≡ stack.old.answers }
 {
-    match place_by_place(store, stack, Uniting, p, q) {
-        Ok(edge) => Ok(edge),
-        Err(Halt::Memory) => Err(Stop::Memory),
-        Err(Halt::Full) => Err(Stop::Full),
-        Err(Halt::Overflow) => unreachable!(),
-    }
+    without_overflow(place_by_place(store, stack, Uniting, p, q))
 }
 
 /// What two families have in common. It asks for as many free frames as there are elements.
@@ -57,12 +52,7 @@ pub fn meet<G: Grow>(store: &mut G, stack: &mut Stack, p: Edge, q: Edge) -> Resu
     ensures free { stack.new.free ≡ stack.old.free }
     ensures known { stack.new.answers ≡ stack.old.answers }
 {
-    match place_by_place(store, stack, Meeting, p, q) {
-        Ok(edge) => Ok(edge),
-        Err(Halt::Memory) => Err(Stop::Memory),
-        Err(Halt::Full) => Err(Stop::Full),
-        Err(Halt::Overflow) => unreachable!(),
-    }
+    without_overflow(place_by_place(store, stack, Meeting, p, q))
 }
 
 /// The members of the first family that the second lacks. It asks for as many free frames as there are elements.
@@ -80,12 +70,7 @@ pub fn diff<G: Grow>(store: &mut G, stack: &mut Stack, p: Edge, q: Edge) -> Resu
     ensures free { stack.new.free ≡ stack.old.free }
     ensures known { stack.new.answers ≡ stack.old.answers }
 {
-    match place_by_place(store, stack, Removing, p, q) {
-        Ok(edge) => Ok(edge),
-        Err(Halt::Memory) => Err(Stop::Memory),
-        Err(Halt::Full) => Err(Stop::Full),
-        Err(Halt::Overflow) => unreachable!(),
-    }
+    without_overflow(place_by_place(store, stack, Removing, p, q))
 }
 
 /// The unions of a member of the one family and one of the other. It asks for four times as many free frames as there are elements: three for the parts of a product at an element, and one for a union within.
@@ -103,17 +88,12 @@ pub fn product<G: Grow>(store: &mut G, stack: &mut Stack, p: Edge, q: Edge) -> R
     ensures free { stack.new.free ≡ stack.old.free }
     ensures known { stack.new.answers ≡ stack.old.answers }
 {
-    match evaluate(
+    without_overflow(evaluate(
         store,
         stack,
         &Binary(Multiplication { p, q }),
         portion_task(p, q, Portion::Whole),
-    ) {
-        Ok(edge) => Ok(edge),
-        Err(Halt::Memory) => Err(Stop::Memory),
-        Err(Halt::Full) => Err(Stop::Full),
-        Err(Halt::Overflow) => unreachable!(),
-    }
+    ))
 }
 
 /// The combinations that are disjoint from each member of the second family and give with it a member of the first; none where the second is empty. It asks for twice as many free frames as there are elements.
@@ -131,10 +111,5 @@ pub fn quotient<G: Grow>(store: &mut G, stack: &mut Stack, p: Edge, q: Edge) -> 
     ensures free { stack.new.free ≡ stack.old.free }
     ensures known { stack.new.answers ≡ stack.old.answers }
 {
-    match evaluate(store, stack, &Binary(Division { p, q }), Task::two(p, q)) {
-        Ok(edge) => Ok(edge),
-        Err(Halt::Memory) => Err(Stop::Memory),
-        Err(Halt::Full) => Err(Stop::Full),
-        Err(Halt::Overflow) => unreachable!(),
-    }
+    without_overflow(evaluate(store, stack, &Binary(Division { p, q }), Task::two(p, q)))
 }

@@ -17,7 +17,7 @@ use crate::sets::{Meeting, Removing, Uniting};
 use crate::subsets::{ByElement, OneElement, Toggled, With, Without};
 use edge_bits::{Edge, Kind};
 use node_store::evaluate::evaluate;
-use node_store::operator::{Halt, Task};
+use node_store::operator::{Task, without_overflow};
 use node_store::pointwise::call_place_by_place;
 use node_store::remembering::Remembering;
 use node_store::{Grow, Stack, Stop};
@@ -31,12 +31,7 @@ pub fn union<G: Grow>(store: &mut G, p: Edge, q: Edge) -> Result<Edge, Stop>
     ensures full { IsErrOf result Stop.Full → Rose (G.view store.old) (G.view store.new) }
     ensures due { IsErrOf result Stop.Full → IsWork (G.view store.new) (value_of_two Zdd (λ a b. a || b) p q (G.view store.old)) (G.view store.new).due }
 {
-    match call_place_by_place(store, Kind::Zdd, Uniting, p, q) {
-        Ok(edge) => Ok(edge),
-        Err(Halt::Memory) => Err(Stop::Memory),
-        Err(Halt::Full) => Err(Stop::Full),
-        Err(Halt::Overflow) => unreachable!(),
-    }
+    without_overflow(call_place_by_place(store, Kind::Zdd, Uniting, p, q))
 }
 
 /// The members of both families. What it stores are parts of that family by the first elements of the order.
@@ -48,12 +43,7 @@ pub fn meet<G: Grow>(store: &mut G, p: Edge, q: Edge) -> Result<Edge, Stop>
     ensures full { IsErrOf result Stop.Full → Rose (G.view store.old) (G.view store.new) }
     ensures due { IsErrOf result Stop.Full → IsWork (G.view store.new) (value_of_two Zdd (λ a b. a && b) p q (G.view store.old)) (G.view store.new).due }
 {
-    match call_place_by_place(store, Kind::Zdd, Meeting, p, q) {
-        Ok(edge) => Ok(edge),
-        Err(Halt::Memory) => Err(Stop::Memory),
-        Err(Halt::Full) => Err(Stop::Full),
-        Err(Halt::Overflow) => unreachable!(),
-    }
+    without_overflow(call_place_by_place(store, Kind::Zdd, Meeting, p, q))
 }
 
 /// The members of the first family that the second lacks. What it stores are parts of that family by the first elements of the order.
@@ -65,12 +55,7 @@ pub fn diff<G: Grow>(store: &mut G, p: Edge, q: Edge) -> Result<Edge, Stop>
     ensures full { IsErrOf result Stop.Full → Rose (G.view store.old) (G.view store.new) }
     ensures due { IsErrOf result Stop.Full → IsWork (G.view store.new) (value_of_two Zdd (λ a b. a && not b) p q (G.view store.old)) (G.view store.new).due }
 {
-    match call_place_by_place(store, Kind::Zdd, Removing, p, q) {
-        Ok(edge) => Ok(edge),
-        Err(Halt::Memory) => Err(Stop::Memory),
-        Err(Halt::Full) => Err(Stop::Full),
-        Err(Halt::Overflow) => unreachable!(),
-    }
+    without_overflow(call_place_by_place(store, Kind::Zdd, Removing, p, q))
 }
 
 /// The members of a family that have the element, without it (Minato 1993). What it stores are parts of that family by the first elements of the order.
@@ -251,10 +236,5 @@ fn with_room<G: Grow, O: ByElement<G> + Drop>(
     }
     let family = op.family;
     let task = Task::two(family, family);
-    match evaluate(store, stack, &Remembering(op), task) {
-        Ok(edge) => Ok(edge),
-        Err(Halt::Memory) => Err(Stop::Memory),
-        Err(Halt::Full) => Err(Stop::Full),
-        Err(Halt::Overflow) => unreachable!(),
-    }
+    without_overflow(evaluate(store, stack, &Remembering(op), task))
 }

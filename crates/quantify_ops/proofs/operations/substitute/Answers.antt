@@ -1,6 +1,7 @@
 use Rattle.std.proofs.Common.{refl}
 use Rattle.node_store.specs.Work.{whole}
 use Rattle.node_store.specs.RememberingLaws.{Knows-nothing}
+use Rattle.node_store.specs.HaltLaws.{without_overflow_gives}
 use Rattle.quantify_ops.specs.Substituted.{SubstituteAnswers, SubstituteDue}
 use Rattle.quantify_ops.proofs.SubstitutionLaws.{Substitute-adds_start, Substitute-due_start, root_answer}
 use Rattle.quantify_ops.proofs.operations.substitute.Goals as goal
@@ -18,20 +19,15 @@ evaluate-requires-clause-due g c =
       Knows-nothing (SubstituteDue c.args.f c.args.pairs.now c.args.lowest) (SubstituteAnswers c.args.pairs.now) (g.G.Grow.view c.args.store.now) c.args.stack.now.answers c.args.stack.now.answers refl c.requires.empty,
     )
 
-pub returns-in-Ok-clause-vector_compose : goal.returns-in-Ok-clause-vector_compose
-returns-in-Ok-clause-vector_compose g c =
-    let e = c.in-Ok.ensures in root_answer _ _ c.args.f c.args.pairs.now c.two.result c.in-Ok.edge e.moved.moves.grown c.requires.operands c.two.ensures.f e.answer
+pub returns-clause-vector_compose : goal.returns-clause-vector_compose
+returns-clause-vector_compose g c =
+    let e = c.evaluate.ensures in
+    without_overflow_gives _ _ _ _ (λ x a. root_answer _ _ c.args.f c.args.pairs.now c.two.result x e.moved.moves.grown c.requires.operands c.two.ensures.f a) c.without_overflow.ensures.ok e.answer
 
-pub returns-in-Ok-clause-work : goal.returns-in-Ok-clause-work
-returns-in-Ok-clause-work g c = Substitute-adds_start c.args.f c.args.pairs.now _ _ c.requires.operands c.in-Ok.ensures.moved.moves
+pub returns-clause-work : goal.returns-clause-work
+returns-clause-work g c = Substitute-adds_start c.args.f c.args.pairs.now _ _ c.requires.operands c.evaluate.ensures.moved.moves
 
-pub returns-in-Err-Memory-clause-work : goal.returns-in-Err-Memory-clause-work
-returns-in-Err-Memory-clause-work g c = Substitute-adds_start c.args.f c.args.pairs.now _ _ c.requires.operands c.in-Err-Memory.ensures.moved.moves
-
-pub returns-in-Err-Full-clause-work : goal.returns-in-Err-Full-clause-work
-returns-in-Err-Full-clause-work g c = Substitute-adds_start c.args.f c.args.pairs.now _ _ c.requires.operands c.in-Err-Full.ensures.moved.moves
-
-pub returns-in-Err-Full-clause-due : goal.returns-in-Err-Full-clause-due
-returns-in-Err-Full-clause-due g c =
-    let e = c.in-Err-Full.ensures in let due = rw c.in-Err-Full.field-0-is at e.due in
-    λ is. Substitute-due_start c.args.f c.args.pairs.now _ _ e.moved.moves.grown c.requires.operands _ (due refl)
+pub returns-clause-due : goal.returns-clause-due
+returns-clause-due g c =
+    let e = c.evaluate.ensures in
+    λ is. Substitute-due_start c.args.f c.args.pairs.now _ _ e.moved.moves.grown c.requires.operands _ (e.due (c.without_overflow.ensures.full is))

@@ -20,22 +20,12 @@ evaluate-requires-clause-due g c =
       Knows-nothing (SubsetDue g.O.ByElement.part c.args.op.element c.args.op.family) (SubsetAnswers g.O.ByElement.part c.args.op.element) (g.G.Grow.view c.args.store.now) c.make_table.new.self.answers c.make_table.new.self.answers refl none,
     )
 
-pub returns-in-Ok-clause-work : goal.returns-in-Ok-clause-work
-returns-in-Ok-clause-work g c =
+pub returns-clause-work : goal.returns-clause-work
+returns-clause-work g c =
     let o = g.O.ByElement in let l = g.met.O.ByElement in
-    Subset-adds o.part l.other l.lacks c.args.op.element c.args.op.family _ _ c.requires.family c.in-Ok.ensures.moved.moves
+    Subset-adds o.part l.other l.lacks c.args.op.element c.args.op.family _ _ c.requires.family c.evaluate.ensures.moved.moves
 
-pub returns-in-Err-Memory-clause-work : goal.returns-in-Err-Memory-clause-work
-returns-in-Err-Memory-clause-work g c =
-    let o = g.O.ByElement in let l = g.met.O.ByElement in
-    Subset-adds o.part l.other l.lacks c.args.op.element c.args.op.family _ _ c.requires.family c.in-Err-Memory.ensures.moved.moves
-
-pub returns-in-Err-Full-clause-work : goal.returns-in-Err-Full-clause-work
-returns-in-Err-Full-clause-work g c =
-    let o = g.O.ByElement in let l = g.met.O.ByElement in
-    Subset-adds o.part l.other l.lacks c.args.op.element c.args.op.family _ _ c.requires.family c.in-Err-Full.ensures.moved.moves
-
-pub returns-in-Err-Full-clause-due : goal.returns-in-Err-Full-clause-due
-returns-in-Err-Full-clause-due g c =
-    let o = g.O.ByElement in let l = g.met.O.ByElement in let e = c.in-Err-Full.ensures in let due = rw c.in-Err-Full.field-0-is at e.due in
-    λ is. Subset-start o.part l.other l.lacks c.args.op.element c.args.op.family _ _ e.moved.moves.grown c.requires.family _ (due refl)
+pub returns-clause-due : goal.returns-clause-due
+returns-clause-due g c =
+    let o = g.O.ByElement in let l = g.met.O.ByElement in let e = c.evaluate.ensures in
+    λ is. Subset-start o.part l.other l.lacks c.args.op.element c.args.op.family _ _ e.moved.moves.grown c.requires.family _ (e.due (c.without_overflow.ensures.full is))
