@@ -103,10 +103,8 @@ pub fn or<G: Grow>(store: &mut G, stack: &mut Stack, f: Edge, g: Edge) -> Result
     // By complements, so that a conjunction and a disjunction meet under one key.
     let not_f = flip_if(f, true);
     let not_g = flip_if(g, true);
-    match and(store, stack, not_f, not_g) {
-        Ok(edge) => Ok(flip_if(edge, true)),
-        Err(stop) => Err(stop),
-    }
+    let both = and(store, stack, not_f, not_g)?;
+    Ok(flip_if(both, true))
 }
 
 /// If-then-else, as the evaluator runs it.

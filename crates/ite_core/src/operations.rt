@@ -52,10 +52,8 @@ pub fn or<G: Grow>(store: &mut G, f: Edge, g: Edge) -> Result<Edge, Stop>
     // By complements, so that a conjunction and a disjunction meet under one key.
     let not_f = flip_if(f, true);
     let not_g = flip_if(g, true);
-    match and(store, not_f, not_g) {
-        Ok(edge) => Ok(flip_if(edge, true)),
-        Err(stop) => Err(stop),
-    }
+    let both = and(store, not_f, not_g)?;
+    Ok(flip_if(both, true))
 }
 
 /// The second function where the first holds, and the third elsewhere. What it stores are parts of that function by the first variables of the order, up to complement.

@@ -49,6 +49,7 @@ pub struct Operands {
 }
 
 impl Operands {
+    /// No operand yet.
     pub fn new(alloc: Global) -> Operands
         ensures { result ≡ no_operands }
     {

@@ -81,6 +81,7 @@ fn all_name_bytes(word: &[u8]) -> bool
     word.iter().all(|b| name_byte(*b))
 }
 
+/// Whether a word may name a register: 1 to 32 letters, digits and underscores, of which the first is a letter.
 #[tactic(auto, unfolding(crate::specs::Text::is_name))]
 pub fn is_name(word: &[u8]) -> bool
     ensures { result ≡ is_name word.now }

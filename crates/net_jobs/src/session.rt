@@ -39,10 +39,7 @@ pub fn keep(rows: &mut Vec<Option<Row>>, kind: Kind, made: Result<Edge, Stop>) -
     ensures full { IsErrOf result Stop.Full → IsErrOf made Stop.Full }
     ensures err { OnErr result (rows.new.items ≡ rows.old.items) }
 {
-    let edge = match made {
-        Ok(edge) => edge,
-        Err(stop) => return Err(stop),
-    };
+    let edge = made?;
     let row = rows.len() as u32;
     match rows.push(Some(Row { kind, edge })) {
         Ok(()) => Ok(Name {
@@ -93,10 +90,8 @@ pub fn settle_exact(
         Ok(Ok(edge)) => Ok(edge),
         Err(stop) => Err(stop),
     };
-    match settle(store, rows, Kind::Add, reached) {
-        Ok(name) => Ok(Ok(name)),
-        Err(stop) => Err(stop),
-    }
+    let name = settle(store, rows, Kind::Add, reached)?;
+    Ok(Ok(name))
 }
 
 impl Session {

@@ -84,10 +84,8 @@ pub fn forall<G: Grow>(store: &mut G, stack: &mut Stack, f: Edge, cube: Edge) ->
     ensures known { stack.new.answers ≡ stack.old.answers }
 {
     let not_f = flip_if(f, true);
-    match exists(store, stack, not_f, cube) {
-        Ok(edge) => Ok(flip_if(edge, true)),
-        Err(stop) => Err(stop),
-    }
+    let some = exists(store, stack, not_f, cube)?;
+    Ok(flip_if(some, true))
 }
 
 /// The product of the variables on which a function depends.

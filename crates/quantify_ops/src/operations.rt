@@ -48,10 +48,8 @@ pub fn forall<G: Grow>(store: &mut G, f: Edge, vars: &[u32]) -> Result<Edge, Sto
     ensures due { IsErrOf result Stop.Full → IsWork (G.view store.new) (work_of_forall f vars.now (G.view store.old)) (G.view store.new).due }
 {
     let not_f = flip_if(f, true);
-    match exists(store, not_f, vars) {
-        Ok(edge) => Ok(flip_if(edge, true)),
-        Err(stop) => Err(stop),
-    }
+    let some = exists(store, not_f, vars)?;
+    Ok(flip_if(some, true))
 }
 
 /// `exists` of the conjunction of two functions, which is not made: their relational product (Burch, Clarke, McMillan, Dill and Hwang 1990). What it stores are parts, by the first variables of the order and up to complement, of the variables' product and of that value for any such parts of the two functions.
@@ -116,10 +114,8 @@ fn over_product<G: Grow>(
     ensures due { IsErrOf result Stop.Full → IsWork (G.view store.new) (work_of_and_exists f g vars.now (G.view store.old)) (G.view store.new).due }
     ensures frames { stack.new.frames ≡ stack.old.frames }
 {
-    match product(store, stack, vars) {
-        Ok(cube) => nested::and_exists(store, stack, f, g, cube),
-        Err(stop) => Err(stop),
-    }
+    let cube = product(store, stack, vars)?;
+    nested::and_exists(store, stack, f, g, cube)
 }
 
 /// The product of the variables on which a function depends. What it stores are parts, by the first variables of the order and up to complement, of the support and of those of any such parts of the function.
