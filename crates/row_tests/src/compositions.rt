@@ -1,6 +1,6 @@
 //! Jobs that compose and restrict functions: their histories, and their faults.
 
-use crate::told::play;
+use crate::told::{each_is_faulty, each_tells};
 use std::test::Fail;
 
 /// Jobs, and the whole history of each.
@@ -35,12 +35,7 @@ const REPLIES: &[(&str, &str)] = &[
 
 #[test]
 fn histories_of_compositions(rt: HostRuntime) -> Result<(), Fail> {
-    for (job, history) in REPLIES {
-        let told = play(&rt, rt.alloc(), job)?;
-        assert_eq!(rt; told.text.as_slice(), history.as_bytes(), "of {job}");
-        assert_eq!(rt; told.status.code(), 0, "of {job}");
-    }
-    Ok(())
+    each_tells(&rt, rt.alloc(), REPLIES)
 }
 
 /// Commands of a session of three variables in which only a is assigned, and the kind of the fault of each.
@@ -70,12 +65,5 @@ const FAULTS: &[(&str, &str)] = &[
 
 #[test]
 fn faulty_compositions(rt: HostRuntime) -> Result<(), Fail> {
-    for (command, kind) in FAULTS {
-        let job = format!(in rt.alloc(); "vars 3\nsession\na = var 0\n{command}")?;
-        let told = play(&rt, rt.alloc(), &job)?;
-        let want = format!(in rt.alloc(); "fault: job 4 {kind}\n")?;
-        assert_eq!(rt; told.status.code(), 9, "at {command}");
-        assert_eq!(rt; told.text.as_slice(), want.as_bytes(), "at {command}");
-    }
-    Ok(())
+    each_is_faulty(&rt, rt.alloc(), "vars 3\nsession\na = var 0\n", 4, FAULTS)
 }

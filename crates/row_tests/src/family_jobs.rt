@@ -1,6 +1,6 @@
 //! Jobs of families of combinations, and their histories.
 
-use crate::told::play;
+use crate::told::{each_is_faulty, each_tells, play};
 use std::test::Fail;
 
 /// Jobs, and the whole history of each.
@@ -69,22 +69,12 @@ const FILLED: &[(&str, &str)] = &[
 
 #[test]
 fn histories_of_families(rt: HostRuntime) -> Result<(), Fail> {
-    for (job, history) in HISTORIES {
-        let told = play(&rt, rt.alloc(), job)?;
-        assert_eq!(rt; told.text.as_slice(), history.as_bytes(), "of {job}");
-        assert_eq!(rt; told.status.code(), 0, "of {job}");
-    }
-    Ok(())
+    each_tells(&rt, rt.alloc(), HISTORIES)
 }
 
 #[test]
 fn filled_stores(rt: HostRuntime) -> Result<(), Fail> {
-    for (job, history) in FILLED {
-        let told = play(&rt, rt.alloc(), job)?;
-        assert_eq!(rt; told.text.as_slice(), history.as_bytes(), "of {job}");
-        assert_eq!(rt; told.status.code(), 0, "of {job}");
-    }
-    Ok(())
+    each_tells(&rt, rt.alloc(), FILLED)
 }
 
 /// Commands of a session of one variable and two elements in which v is a BDD, k a number and f a family, and the kind of
@@ -129,16 +119,13 @@ const FAULTY: &[(&str, &str)] = &[
 
 #[test]
 fn faulty_families(rt: HostRuntime) -> Result<(), Fail> {
-    for (command, kind) in FAULTY {
-        let job = format!(in rt.alloc();
-            "vars 1\nelements 2\nsession\nv = var 0\nk = num 1\nf = single 0\n{command}"
-        )?;
-        let told = play(&rt, rt.alloc(), &job)?;
-        let want = format!(in rt.alloc(); "fault: job 7 {kind}\n")?;
-        assert_eq!(rt; told.status.code(), 9, "at {command}");
-        assert_eq!(rt; told.text.as_slice(), want.as_bytes(), "at {command}");
-    }
-    Ok(())
+    each_is_faulty(
+        &rt,
+        rt.alloc(),
+        "vars 1\nelements 2\nsession\nv = var 0\nk = num 1\nf = single 0\n",
+        7,
+        FAULTY,
+    )
 }
 
 /// Jobs with a fault in the lines before the session or for want of elements, and what is told of each.

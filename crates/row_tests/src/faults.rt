@@ -1,6 +1,6 @@
 //! Texts that are no jobs, and the first fault of each.
 
-use crate::told::play;
+use crate::told::{each_is_faulty, play};
 use std::test::Fail;
 
 /// Jobs with a fault, and what is told of each: the line and the kind.
@@ -108,14 +108,13 @@ const OPERATIONS: &[(&str, &str)] = &[
 
 #[test]
 fn faulty_operations(rt: HostRuntime) -> Result<(), Fail> {
-    for (command, kind) in OPERATIONS {
-        let job = format!(in rt.alloc(); "vars 3\nsession\na = var 0\n{command}")?;
-        let told = play(&rt, rt.alloc(), &job)?;
-        let want = format!(in rt.alloc(); "fault: job 4 {kind}\n")?;
-        assert_eq!(rt; told.status.code(), 9, "at {command}");
-        assert_eq!(rt; told.text.as_slice(), want.as_bytes(), "at {command}");
-    }
-    Ok(())
+    each_is_faulty(
+        &rt,
+        rt.alloc(),
+        "vars 3\nsession\na = var 0\n",
+        4,
+        OPERATIONS,
+    )
 }
 
 #[test]

@@ -1,6 +1,6 @@
 //! Jobs of functions of numbers, and their histories.
 
-use crate::told::play;
+use crate::told::{each_is_faulty, each_tells};
 use std::test::Fail;
 
 /// Jobs, and the whole history of each.
@@ -101,22 +101,12 @@ const FILLED: &[(&str, &str)] = &[
 
 #[test]
 fn histories_of_numbers(rt: HostRuntime) -> Result<(), Fail> {
-    for (job, history) in HISTORIES {
-        let told = play(&rt, rt.alloc(), job)?;
-        assert_eq!(rt; told.text.as_slice(), history.as_bytes(), "of {job}");
-        assert_eq!(rt; told.status.code(), 0, "of {job}");
-    }
-    Ok(())
+    each_tells(&rt, rt.alloc(), HISTORIES)
 }
 
 #[test]
 fn filled_stores(rt: HostRuntime) -> Result<(), Fail> {
-    for (job, history) in FILLED {
-        let told = play(&rt, rt.alloc(), job)?;
-        assert_eq!(rt; told.text.as_slice(), history.as_bytes(), "of {job}");
-        assert_eq!(rt; told.status.code(), 0, "of {job}");
-    }
-    Ok(())
+    each_tells(&rt, rt.alloc(), FILLED)
 }
 
 /// Commands of a session of two variables in which v is a BDD and k a number, and the kind of the fault of each.
@@ -155,12 +145,11 @@ const FAULTY: &[(&str, &str)] = &[
 
 #[test]
 fn faulty_numbers(rt: HostRuntime) -> Result<(), Fail> {
-    for (command, kind) in FAULTY {
-        let job = format!(in rt.alloc(); "vars 2\nsession\nv = var 0\nk = num 1\n{command}")?;
-        let told = play(&rt, rt.alloc(), &job)?;
-        let want = format!(in rt.alloc(); "fault: job 5 {kind}\n")?;
-        assert_eq!(rt; told.status.code(), 9, "at {command}");
-        assert_eq!(rt; told.text.as_slice(), want.as_bytes(), "at {command}");
-    }
-    Ok(())
+    each_is_faulty(
+        &rt,
+        rt.alloc(),
+        "vars 2\nsession\nv = var 0\nk = num 1\n",
+        5,
+        FAULTY,
+    )
 }

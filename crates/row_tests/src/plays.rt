@@ -1,6 +1,6 @@
 //! Jobs that are played, and their histories.
 
-use crate::told::play;
+use crate::told::{each_tells, play};
 use std::test::Fail;
 
 /// The conjunction of two variables, and its value at two assignments.
@@ -95,12 +95,7 @@ const REPLIES: &[(&str, &str)] = &[
 
 #[test]
 fn histories_of_operations(rt: HostRuntime) -> Result<(), Fail> {
-    for (job, history) in REPLIES {
-        let told = play(&rt, rt.alloc(), job)?;
-        assert_eq!(rt; told.text.as_slice(), history.as_bytes(), "of {job}");
-        assert_eq!(rt; told.status.code(), 0, "of {job}");
-    }
-    Ok(())
+    each_tells(&rt, rt.alloc(), REPLIES)
 }
 
 /// As many variables as there may be.

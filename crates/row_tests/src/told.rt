@@ -4,7 +4,9 @@ ghost use Rattle.std.specs.Prelude.{◌<◌};
 
 use net_jobs::{Bytes, Open, Pieces, Source, Status, SureBytes, run};
 use std::alloc::{AllocError, Global};
+use std::process::Abort;
 use std::sync::Wait;
+use std::test::Fail;
 use std::thread::Threads;
 
 /// How a run ended, and what it wrote.
@@ -49,4 +51,37 @@ pub fn pieces(alloc: Global, text: &str, step: usize, fails: &[bool]) -> Result<
 {
     let items = Vec::from_slice(alloc, text.as_bytes())?;
     Ok(Bytes::new(items, step, Vec::from_slice(alloc, fails)?))
+}
+
+/// Plays each of these jobs to its end. It tells the text beside it.
+pub fn each_tells<R: Threads + Wait + Abort>(
+    rt: &R,
+    alloc: Global,
+    jobs: &[(&str, &str)],
+) -> Result<(), Fail> {
+    for (job, text) in jobs {
+        let told = play(rt, alloc, job)?;
+        assert_eq!(rt; told.text.as_slice(), text.as_bytes(), "of {job}");
+        assert_eq!(rt; told.status.code(), 0, "of {job}");
+    }
+    Ok(())
+}
+
+/// Plays jobs of these lines and one command more, on the line of this number. Each has the kind of fault beside its command
+/// there.
+pub fn each_is_faulty<R: Threads + Wait + Abort>(
+    rt: &R,
+    alloc: Global,
+    lines: &str,
+    number: u32,
+    commands: &[(&str, &str)],
+) -> Result<(), Fail> {
+    for (command, kind) in commands {
+        let job = format!(in alloc; "{lines}{command}")?;
+        let told = play(rt, alloc, &job)?;
+        let want = format!(in alloc; "fault: job {number} {kind}\n")?;
+        assert_eq!(rt; told.status.code(), 9, "at {command}");
+        assert_eq!(rt; told.text.as_slice(), want.as_bytes(), "at {command}");
+    }
+    Ok(())
 }
