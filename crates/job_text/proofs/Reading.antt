@@ -60,7 +60,7 @@ pub record IsRead (lines : List (List ℕ)) (draft : Draft) : Type 0 where
   pub context : context_behind at_start lines ≡ context_in draft
   pub clean : list_all (list_all is_allowed) lines ≡ true
   pub spelled : Spelled draft (said_lines lines)
-  pub small : IsSmall draft (length lines)
+  pub small : IsSmall draft
 
 pub nothing_read : IsRead [] Nothing
 nothing_read = record { faultless = tt; context = refl; clean = refl; spelled = refl; small = tt }
@@ -248,24 +248,6 @@ adds_spelled old new words said (adds_command g) h =
       ap (λ t. registers_after t words) k.8 ∙ sym (behind_more [] commands words g.2),
     )
 
--- and of the number of registers
-length_without : (w : Word) (rs : List Register) → length (map (without w) rs) ≡ length rs
-length_without w [] = refl
-length_without w (r ∷ rs) = ap suc (length_without w rs)
-
-grows : (assigns drops : Bool) (rs : List Register) (one : Register) (w : Word) → length (cond assigns (rs ++ one ∷ []) (cond drops (map (without w) rs) rs)) ≤ length rs + 1
-grows true drops rs one w = omega (arith, length-append rs (one ∷ []))
-grows false true rs one w = omega (arith, length_without w rs)
-grows false false rs one w = omega arith
-
-registers_grow : (rs : List Register) (words : List Word) → length (registers_after rs words) ≤ length rs + 1
-registers_grow rs words = grows (is_assignment words) (is_drop words) rs _ _
-
-pub small_up : (draft : Draft) (a b : ℕ) → a ≤ b → IsSmall draft a → IsSmall draft b
-small_up Nothing a b le h = tt
-small_up (Sized n elements given) a b le h = h
-small_up (Begun limit section) a b le h = (h.0, h.1, h.2, h.3, omega (arith, h.4))
-
 default_limit : (n : ℕ) (given : Option ℕ) → n ≤ 1024 → IfSome given (λ limit. (5 + n ≤ limit) × (limit ≤ 8388607)) → (5 + n ≤ unwrap_or given 262144) × (unwrap_or given 262144 ≤ 8388607)
 default_limit n None le h = (omega arith, omega arith)
 default_limit n (Some limit) le h = h
@@ -274,22 +256,22 @@ few_elements : (elements : Option ℕ) → IfSome elements (λ m. m ≤ 1024) �
 few_elements None h = omega arith
 few_elements (Some m) h = h
 
-pub adds_small : (old new : Draft) (words : List Word) (count : ℕ) → Adds old words new → IsSmall old count → IsSmall new (count + 1)
-adds_small old new words count (adds_nothing e f) h = subst (λ (t : Draft). IsSmall t (count + 1)) (sym f) (small_up old count (count + 1) (omega arith) h)
-adds_small old new words count (adds_vars g) h = subst (λ (t : Draft). IsSmall t (count + 1)) (sym g.6) (g.4, tt, tt)
-adds_small old new words count (adds_elements g) h =
-    let k : IsSmall (Sized g.1 None None) count = subst (λ (t : Draft). IsSmall t count) g.6 h in
-    subst (λ (t : Draft). IsSmall t (count + 1)) (sym g.7) (k.0, g.5, tt)
-adds_small old new words count (adds_limit g) h =
-    let k : IsSmall (Sized g.1 g.3 None) count = subst (λ (t : Draft). IsSmall t count) g.8 h in
-    subst (λ (t : Draft). IsSmall t (count + 1)) (sym g.9) (k.0, k.1, (g.6, g.7))
-adds_small old new words count (adds_session g) h =
-    let k : IsSmall (Sized g.0 g.1 g.2) count = subst (λ (t : Draft). IsSmall t count) g.4 h in
+pub adds_small : (old new : Draft) (words : List Word) → Adds old words new → IsSmall old → IsSmall new
+adds_small old new words (adds_nothing e f) h = subst IsSmall (sym f) h
+adds_small old new words (adds_vars g) h = subst IsSmall (sym g.6) (g.4, tt, tt)
+adds_small old new words (adds_elements g) h =
+    let k : IsSmall (Sized g.1 None None) = subst IsSmall g.6 h in
+    subst IsSmall (sym g.7) (k.0, g.5, tt)
+adds_small old new words (adds_limit g) h =
+    let k : IsSmall (Sized g.1 g.3 None) = subst IsSmall g.8 h in
+    subst IsSmall (sym g.9) (k.0, k.1, (g.6, g.7))
+adds_small old new words (adds_session g) h =
+    let k : IsSmall (Sized g.0 g.1 g.2) = subst IsSmall g.4 h in
     let limit = default_limit g.0 g.2 k.0 k.2 in
-    subst (λ (t : Draft). IsSmall t (count + 1)) (sym g.5) (k.0, few_elements g.1 k.1, limit.0, limit.1, omega arith)
-adds_small old new words count (adds_command g) h =
-    let k : IsSmall (Begun g.0 g.1) count = subst (λ (t : Draft). IsSmall t count) g.3 h in
-    subst (λ (t : Draft). IsSmall t (count + 1)) (sym g.5) (k.0, k.1, k.2, k.3, omega (arith, registers_grow (g.1).scope.registers words, k.4))
+    subst IsSmall (sym g.5) (k.0, few_elements g.1 k.1, limit.0, limit.1)
+adds_small old new words (adds_command g) h =
+    let k : IsSmall (Begun g.0 g.1) = subst IsSmall g.3 h in
+    subst IsSmall (sym g.5) (k.0, k.1, k.2, k.3)
 
 pub read_more : (lines : List (List ℕ)) (line : List ℕ) (old new : Draft) (words : List Word) → IsRead lines old → line_words line ≡ Some words → Adds old words new → IsRead (lines ++ line ∷ []) new
 read_more lines line old new words read e adds =
@@ -303,7 +285,7 @@ read_more lines line old new words read e adds =
       clean = list_all-append (list_all is_allowed) lines (line ∷ []) ∙ ap (λ b. b && (list_all is_allowed line && true)) read.clean ∙ ap (λ b. b && true) own.0;
       spelled = subst (λ (t : List (List Word)). Spelled new t) (sym (said_more lines line ∙ ap (λ ws. said_lines lines ++ filter has_words (ws ∷ [])) own.1))
           (adds_spelled old new words (said_lines lines) adds read.spelled);
-      small = subst (λ (k : ℕ). IsSmall new k) (sym (length-append lines (line ∷ []))) (adds_small old new words (length lines) adds read.small);
+      small = adds_small old new words adds read.small;
     }
 
 pub lines_more : (all lines : List (List ℕ)) (text rest front : List ℕ) → all ≡ lines ++ lines_of rest → lines_of rest ≡ front ∷ lines_of text → all ≡ (lines ++ front ∷ []) ++ lines_of text
@@ -356,7 +338,7 @@ job_from text draft (Err e) read h = h
 job_from text draft (Ok job) read h =
     let section = h.1 in
     let spelled : Spelled (Begun h.0 section) (said_lines (lines_of text)) = subst (λ (t : Draft). Spelled t (said_lines (lines_of text))) h.2 read.spelled in
-    let small : IsSmall (Begun h.0 section) (length (lines_of text)) = subst (λ (t : Draft). IsSmall t (length (lines_of text))) h.2 read.small in
+    let small : IsSmall (Begun h.0 section) = subst IsSmall h.2 read.small in
     subst (λ (t : Job). IsJobText text t) (sym h.3)
     (record {
       clean = read.clean;

@@ -210,10 +210,9 @@ abbrev pub EndStop : Draft → ℕ → JobError → Type 0
 EndStop draft lines errors.Memory = Unit {0}
 EndStop draft lines (errors.Fault fault) = (has_begun (context_in draft) ≡ false) × (fault.line ≡ lines + 1) × (fault.what ≡ kinds.Word)
 
--- the numbers of a draft are in range, and it has so many registers at most
-abbrev pub IsSmall : Draft → ℕ → Type 0
-IsSmall Nothing count = Unit {0}
-IsSmall (Sized n elements given) count = (n ≤ 1024) × IfSome elements (λ m. m ≤ 1024) × IfSome given (λ limit. (5 + n ≤ limit) × (limit ≤ 8388607))
-IsSmall (Begun limit section) count =
+-- the numbers of a draft are in range
+abbrev pub IsSmall : Draft → Type 0
+IsSmall Nothing = Unit {0}
+IsSmall (Sized n elements given) = (n ≤ 1024) × IfSome elements (λ m. m ≤ 1024) × IfSome given (λ limit. (5 + n ≤ limit) × (limit ≤ 8388607))
+IsSmall (Begun limit section) =
     (section.scope.counts.vars ≤ 1024) × (section.scope.counts.elements ≤ 1024) × (5 + section.scope.counts.vars ≤ limit) × (limit ≤ 8388607)
-    × (length section.scope.registers ≤ count)

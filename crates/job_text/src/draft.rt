@@ -56,7 +56,6 @@ impl Section {
         requires some { 0 < length words }
         requires vars { self.scope.counts.vars ≤ 1024 }
         requires elements { self.scope.counts.elements ≤ 1024 }
-        requires registers { length self.scope.registers ≤ 67108864 }
         ensures ok { IfOk result (λ next. (act : Act) × Says self.scope.counts self.scope.registers words act × (next ≡ with_act self words act)) }
         ensures stop { IfErr result (λ stop. CommandStop self.scope.counts self.scope.registers words stop) }
     {

@@ -86,7 +86,7 @@ fn session_line(words: &[List<u8>]) -> bool
 
 /// What the lines give with one more of these words.
 fn with_line(alloc: Global, draft: Draft, words: List<List<u8>>) -> Result<Draft, Stop>
-    requires { IsSmall draft 67108864 }
+    requires { IsSmall draft }
     ensures ok { IfOk result (λ next. Adds draft words next) }
     ensures stop { IfErr result (λ stop. LineStop draft words stop) }
 {
@@ -176,7 +176,6 @@ fn begun_line(
     requires some { 0 < length words }
     requires vars { section.scope.counts.vars ≤ 1024 }
     requires elements { section.scope.counts.elements ≤ 1024 }
-    requires registers { length section.scope.registers ≤ 67108864 }
     ensures ok { IfOk result (λ next. Adds (Draft.Begun limit section) words next) }
     ensures stop { IfErr result (λ stop. LineStop (Draft.Begun limit section) words stop) }
 {
@@ -187,10 +186,9 @@ fn begun_line(
     Ok(Draft::Begun { limit, section })
 }
 
-/// The job of a text of at most 67,108,864 bytes, or its first faulty line and the first fault on it.
+/// The job of a text of any length, or its first faulty line and the first fault on it.
 /// Want of memory may be the answer to any text.
 pub fn parse(alloc: Global, text: &[u8]) -> Result<Job, JobError>
-    requires { length text.now ≤ 67108864 }
     ensures job { IfOk result (λ job. IsJobText text.now job) }
     ensures fault { IfErr result (λ error. HasFault text.now error) }
 {
@@ -221,7 +219,7 @@ pub fn parse(alloc: Global, text: &[u8]) -> Result<Job, JobError>
 
 /// The job, where a section has begun.
 fn finish(alloc: Global, draft: Draft, lines: u64) -> Result<Job, JobError>
-    requires { lines < 2 ^ 32 }
+    requires { lines < 2 ^ 63 }
     ensures job { IfOk result (λ job. (limit : ℕ) × (section : SectionOf) × (draft ≡ Draft.Begun limit section)
         × (job ≡ record { vars = section.scope.counts.vars; elements = section.scope.counts.elements; limit = limit; sections = section.commands ∷ [] })) }
     ensures fault { IfErr result (λ error. EndStop draft lines error) }

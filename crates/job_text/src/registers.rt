@@ -15,6 +15,9 @@ use job_words::{as_assignment, kind_made};
 use std::alloc::Global;
 use std::marker::Model;
 
+/// The most registers of a section, whose numbers are 32 bits.
+const MOST_REGISTERS: usize = 4_294_967_295;
+
 /// The registers in order of assignment, and their names in the same order with an index. Contracts see the registers.
 #[derive(Drop)]
 pub struct Registers {
@@ -23,7 +26,7 @@ pub struct Registers {
 }
 
 impl Model for Registers {
-    ghost use Rattle.std.specs.Prelude.{List as ListOf};
+    ghost use Rattle.std.specs.Prelude.{◌<◌, ◌^◌, vec_len, List as ListOf};
     ghost use Rattle.job_text.specs.declared.job.Register.{Register as RegisterOf};
     ghost use Rattle.job_text.specs.Names.{AreNames};
 
@@ -31,7 +34,7 @@ impl Model for Registers {
 
     ghost view = { λ registers. registers.items.items };
 
-    ghost invariant = { λ registers. AreNames registers.names.keys registers.items.items };
+    ghost invariant = { λ registers. AreNames registers.names.keys registers.items.items × (vec_len registers.items < 2 ^ 32) };
 }
 
 /// A register that was looked up: its number, and its kind.
@@ -52,9 +55,10 @@ impl Registers {
         }
     }
 
-    /// The registers.
+    /// The registers, fewer than 2^32.
     pub fn as_slice(&self) -> &[Register]
-        ensures { result.now ≡ self.now }
+        ensures items { result.now ≡ self.now }
+        ensures few { length result.now < 2 ^ 32 }
     {
         self.items.as_slice()
     }
@@ -82,7 +86,6 @@ impl Registers {
 
     /// The register of the name, where it was not dropped.
     pub fn find(&self, word: &[u8]) -> Option<Found>
-        requires few { length self.now < 2 ^ 32 }
         requires name { is_name word.now ≡ true }
         ensures found { IfSome result (λ found. Refers self.now word.now found.number found.kind) }
         ensures fault { MatchOption result (name_fault (register_called self.now word.now) ≡ Some kinds.Name) (λ found. (name_fault (register_called self.now word.now) ≡ None) × (kind_called self.now word.now ≡ found.kind)) }
@@ -90,7 +93,7 @@ impl Registers {
         find_at(self.as_slice(), self.place_of(word), word)
     }
 
-    /// The registers with one more, of a name that none has.
+    /// The registers with one more, of a name that none has. There are fewer than 2^32: for more there is no memory.
     fn with_made(self, alloc: Global, name: &[u8], command: &[u8]) -> Result<Registers, Stop>
         requires { list_any (is_called name.now) self ≡ false }
         ensures ok { IfOk result (λ after. after ≡ self ++ register_made name.now command.now ∷ []) }
@@ -100,6 +103,9 @@ impl Registers {
             mut items,
             mut names,
         } = self;
+        if items.len() >= MOST_REGISTERS {
+            return Err(Stop::Memory);
+        }
         names.insert(Vec::from_slice(alloc, name)?)?;
         items.push(made(alloc, name, command)?)?;
         Ok(Registers { items, names })

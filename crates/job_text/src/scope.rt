@@ -79,7 +79,6 @@ impl Scope {
     /// The register of this name.
     fn find(&self, word: &[u8]) -> Result<Found, Stop>
         requires name { is_name word.now ≡ true }
-        requires few { length self.now.registers < 2 ^ 32 }
         ensures found { IfOk result (λ found. Refers self.now.registers word.now found.number found.kind) }
         ensures called { IfOk result (λ found. (name_fault (register_called self.now.registers word.now) ≡ None) × (kind_called self.now.registers word.now ≡ found.kind)) }
         ensures stop { IfErr result (λ stop. (stop ≡ Stop.Fault kinds.Name) × (name_fault (register_called self.now.registers word.now) ≡ Some kinds.Name)) }
@@ -93,7 +92,6 @@ impl Scope {
     /// A register of this kind.
     fn register(&self, kind: Kind, word: &[u8]) -> Result<Operand, Stop>
         requires name { is_name word.now ≡ true }
-        requires few { length self.now.registers < 2 ^ 32 }
         ensures ok { IfOk result (λ operand. IsOperand self.now.counts self.now.registers (places.Held kind, word.now) operand) }
         ensures stop { IfErr result (λ stop. SlotStop self.now.counts self.now.registers (places.Held kind, word.now) stop) }
     {
@@ -108,7 +106,6 @@ impl Scope {
     /// A register of any kind.
     fn any(&self, word: &[u8]) -> Result<u32, Stop>
         requires name { is_name word.now ≡ true }
-        requires few { length self.now.registers < 2 ^ 32 }
         ensures ok { IfOk result (λ a. IsOperand self.now.counts self.now.registers (places.Any, word.now) (Operand.Any a)) }
         ensures ok_alike { IfOk result (λ a. IsOperand self.now.counts self.now.registers (places.Alike, word.now) (Operand.Alike a)) }
         ensures stop { IfErr result (λ stop. SlotStop self.now.counts self.now.registers (places.Any, word.now) stop) }
@@ -165,7 +162,6 @@ impl Scope {
         requires form { has_form (slot_of slot.now) ≡ true }
         requires vars { self.now.counts.vars ≤ 1024 }
         requires elements { self.now.counts.elements ≤ 1024 }
-        requires registers { length self.now.registers < 2 ^ 32 }
         ensures ok { IfOk result (λ operand. IsOperand self.now.counts self.now.registers (slot_of slot.now) operand) }
         ensures stop { IfErr result (λ stop. SlotStop self.now.counts self.now.registers (slot_of slot.now) stop) }
     {
@@ -206,7 +202,6 @@ impl Scope {
         requires forms { list_all has_form (map slot_of slots.now) ≡ true }
         requires vars { self.now.counts.vars ≤ 1024 }
         requires elements { self.now.counts.elements ≤ 1024 }
-        requires registers { length self.now.registers < 2 ^ 32 }
         ensures ok { IfOk result (λ operands. (each : ListOf OperandOf) × AreOperands self.now.counts self.now.registers (map slot_of slots.now) each × AllFit self.now.counts self.now.registers no_operands each × (operands ≡ with_operands self.now.registers no_operands each)) }
         ensures stop { IfErr result (λ stop. SlotsStop self.now.counts self.now.registers (map slot_of slots.now) stop) }
     {
@@ -226,7 +221,6 @@ impl Scope {
         requires some { 0 < length words.now }
         requires vars { self.now.counts.vars ≤ 1024 }
         requires elements { self.now.counts.elements ≤ 1024 }
-        requires registers { length self.now.registers < 2 ^ 32 }
         ensures ok { IfOk result (λ act. Says self.now.counts self.now.registers words.now act) }
         ensures stop { IfErr result (λ stop. CommandStop self.now.counts self.now.registers words.now stop) }
     {

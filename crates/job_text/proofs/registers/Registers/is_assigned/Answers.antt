@@ -8,10 +8,10 @@ use Rattle.job_text.proofs.registers.Registers.is_assigned.Goals as goal
 pub returns-clause-some : goal.returns-clause-some
 returns-clause-some c =
     let w = c.args.word.now in
-    c.contains.ensures ∙ same_any w c.self.inside.names.keys c.self.inside.items.items c.self.invariant ∙ ap (list_any (is_called w)) c.self.view_is
+    c.contains.ensures ∙ same_any w c.self.inside.names.keys c.self.inside.items.items c.self.invariant.0 ∙ ap (list_any (is_called w)) c.self.view_is
 
 pub returns-clause-none : goal.returns-clause-none
 returns-clause-none c =
     let w = c.args.word.now in
-    let some = c.contains.ensures ∙ same_any w c.self.inside.names.keys c.self.inside.items.items c.self.invariant ∙ ap (list_any (is_called w)) c.self.view_is in
+    let some = c.contains.ensures ∙ same_any w c.self.inside.names.keys c.self.inside.items.items c.self.invariant.0 ∙ ap (list_any (is_called w)) c.self.view_is in
     λ h. fresh_from c.args.self.now w (sym some ∙ h)

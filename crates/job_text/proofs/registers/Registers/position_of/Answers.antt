@@ -6,4 +6,4 @@ use Rattle.job_text.proofs.registers.Registers.position_of.Goals as goal
 pub returns : goal.returns
 returns c =
     let w = c.args.word.now in
-    c.get_index_of.ensures.index ∙ same_position w c.self.inside.names.keys c.self.inside.items.items c.self.invariant ∙ ap (position (is_called w)) c.self.view_is
+    c.get_index_of.ensures.index ∙ same_position w c.self.inside.names.keys c.self.inside.items.items c.self.invariant.0 ∙ ap (position (is_called w)) c.self.view_is

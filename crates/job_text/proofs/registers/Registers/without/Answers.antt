@@ -1,4 +1,5 @@
-use Rattle.std.proofs.Common.{◌≡◌, List, map, ap, sym, ◌∙◌, subst, arith, Vec, Global}
+use Rattle.std.proofs.Common.{◌≡◌, List, map, ap, sym, ◌∙◌, subst, arith, length, Vec, Global}
+use Rattle.std.proofs.lemmas.List.{length-map}
 use Rattle.std.specs.List.{position_or_len}
 use Rattle.job_text.specs.declared.job.Register.{Register}
 use Rattle.job_text.specs.Grammar.{is_called, without}
@@ -15,14 +16,17 @@ dropped c =
     let i = c.place_of-place.result in
     let place = c.place_of-place.ensures ∙ ap (position_or_len (is_called w)) (sym c.self.view_is) in
     elim c.if-place-len.branch [
-      | then-place-len v ↦ ap (λ (t : Vec Register Global). t.items) v.items-is ∙ one_drops w names rs i v.index_mut.result.now c.self.invariant place (omega (arith, v.if-place-len.true, c.len.ensures)) v.index_mut.ensures.value
+      | then-place-len v ↦ ap (λ (t : Vec Register Global). t.items) v.items-is ∙ one_drops w names rs i v.index_mut.result.now c.self.invariant.0 place (omega (arith, v.if-place-len.true, c.len.ensures)) v.index_mut.ensures.value
       | else-place-len v ↦ ap (λ (t : Vec Register Global). t.items) v.items-is ∙ sym (none_drops w rs i place (omega (arith, v.if-place-len.false, c.len.ensures)))
     ]
 
 pub invariant_of-result : goal.invariant_of-result
 invariant_of-result c =
     let w = c.args.word.now in
-    subst (λ (rs : List Register). AreNames c.self.inside.names.keys rs) (sym (dropped c)) (names_after w c.self.inside.names.keys c.self.inside.items.items c.self.invariant)
+    (
+      subst (λ (rs : List Register). AreNames c.self.inside.names.keys rs) (sym (dropped c)) (names_after w c.self.inside.names.keys c.self.inside.items.items c.self.invariant.0),
+      omega (arith, ap length (dropped c), length-map c.self.inside.items.items (without w), c.self.invariant.1),
+    )
 
 pub returns : goal.returns
 returns c = dropped c ∙ ap (map (without c.args.word.now)) c.self.view_is

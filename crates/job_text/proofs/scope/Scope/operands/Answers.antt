@@ -30,5 +30,5 @@ loop-slot-preserved c =
       subst (λ (t : List (Place × Word)). AreOperands n rs t (each ++ own ∷ [])) (sym (slots_more c.args.slots.now c.loop-slot.slot-index _ c.loop-slot-test.true))
           (operands_more n rs _ _ each own c.loop-slot.invariant.1 c.in_ok-operand.ensures.ok),
       fit_more n rs no_operands each own c.loop-slot.invariant.2 (sym (ap (λ t. misfit n rs t own) c.loop-slot.invariant.3) ∙ sym c.misfit.ensures ∙ c.in_default.is),
-      c.in_ok-operands.ensures ∙ ap (λ t. with_operand t c.loop-slot.operands own) c.as_slice.ensures ∙ ap (λ t. with_operand rs t own) c.loop-slot.invariant.3 ∙ sym (with_more rs no_operands each own),
+      c.in_ok-operands.ensures ∙ ap (λ t. with_operand t c.loop-slot.operands own) c.as_slice.ensures.items ∙ ap (λ t. with_operand rs t own) c.loop-slot.invariant.3 ∙ sym (with_more rs no_operands each own),
     )
