@@ -1,4 +1,5 @@
 pub mod AgreementLemmas
+pub mod CompleteLemmas
 pub mod DropLemmas
 pub mod EndLemmas
 pub mod Known

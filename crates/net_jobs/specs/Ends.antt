@@ -1,5 +1,5 @@
 -- How a run may end: each status with its cause, and the text that is told.
-use Rattle.std.specs.Prelude.{◌≡◌, ℕ, ◌≤◌, List, [], ◌∷◌, ◌++◌, Option, Some, None, IsSome, length, codes, if◌then◌else◌}
+use Rattle.std.specs.Prelude.{◌≡◌, ℕ, ◌≤◌, ◌⊎◌, List, [], ◌∷◌, ◌++◌, Option, Some, None, IsSome, length, codes, if◌then◌else◌}
 use Rattle.std.specs.Io.KnownBytes.{Consumes, IsAtEnd}
 use Rattle.std.specs.Fmt.{decimal}
 use Rattle.std.specs.Str.{bytes_eq}
@@ -10,6 +10,7 @@ use Rattle.job_text.specs.declared.faults.FaultKind.TheVariants as kinds
 use Rattle.job_text.specs.Grammar.{IsJobText}
 use Rattle.job_text.specs.Faults.{IsFaultText}
 use Rattle.job_text.specs.Histories.{IsPlayed}
+use Rattle.net_jobs.specs.Causes.{Rose}
 use Rattle.net_jobs.specs.declared.status.Status.{Status}
 use Rattle.net_jobs.specs.declared.status.Status.TheVariants as status
 
@@ -53,3 +54,10 @@ Due order left rest failed status.Job text =
     (order ≡ Some play) × (bytes : List ℕ) × (fault : JobFault) × IsWhole left rest bytes × IsFaultText bytes fault.line fault.what × (text ≡ fault_line fault)
 Due order left rest failed status.TooLong text =
     IsSome order × (bytes : List ℕ) × Consumes left rest bytes × (length bytes ≡ 67108865) × (text ≡ codes "fault: too long\n")
+
+-- Where the words are `play`, the source tells what it has left, which is the text of a job and not too long, and its count of
+-- faults did not rise, there is the history to tell, or want of memory.
+abbrev pub IsComplete : Type 0
+IsComplete = (bytes : List ℕ) (job : Job) (rest : Option (List ℕ)) (before now : ℕ) (ended : Status) (text : List ℕ)
+    → IsJobText bytes job → length bytes ≤ 67108864 → (Rose before now → ⊥)
+    → Due (Some play) (Some bytes) rest (Rose before now) ended text → (ended ≡ status.Ok) ⊎ (ended ≡ status.Memory)

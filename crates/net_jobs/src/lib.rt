@@ -22,4 +22,4 @@ pub use playing::{Played, play};
 pub use sink::Sink;
 pub use source::{Failed, Source};
 pub use status::Status;
-pub use top::run;
+pub use top::{plays_are_complete, refuse_memory, run};

@@ -6,10 +6,10 @@ ghost use Rattle.std.specs.Io.KnownBytes.{Appends};
 ghost use Rattle.job_text.specs.Grammar.{IsJob};
 ghost use Rattle.job_text.specs.Histories.{IsPlayed, left_text};
 ghost use Rattle.net_jobs.specs.Causes.{Rose, AppendsFront};
-ghost use Rattle.net_jobs.specs.Ends.{Due, fault_line, kind_word, order_of};
+ghost use Rattle.net_jobs.specs.Ends.{Due, IsComplete, fault_line, kind_word, order_of};
 ghost use Rattle.net_jobs.specs.Refusals.{refusal_line, status_of};
 ghost use Rattle.net_jobs.specs.declared.status.Status.{Status};
-ghost use Rattle.net_jobs.specs.declared.status.Status.TheVariants.{WriteFault};
+ghost use Rattle.net_jobs.specs.declared.status.Status.TheVariants.{Memory as WantOfMemory, WriteFault};
 
 use crate::gate::Gate;
 use crate::playing::{Played, play};
@@ -167,6 +167,14 @@ fn tell<K: Sink>(sink: &mut K, text: &[u8], status: Status) -> Status
     }
 }
 
+/// Writes the one line of a run for which memory is wanting, as of one that cannot have its words.
+pub fn refuse_memory<K: Sink>(sink: &mut K) -> Status
+    ensures told { result ≢ WriteFault → (result ≡ WantOfMemory) × Appends (K.written sink.old) (K.written sink.new) (codes "fault: memory\n") }
+    ensures cut_off { result ≡ WriteFault → Rose (K.faults sink.old) (K.faults sink.new) × AppendsFront (K.written sink.old) (K.written sink.new) (codes "fault: memory\n") }
+{
+    tell(sink, b"fault: memory\n", Status::Memory)
+}
+
 /// Runs the command that the words ask for, from the source to the sink. The words are those after the program's name.
 ///
 /// `play` reads the text of a job and writes the text of its history. The checks come in this order: words, reading,
@@ -197,7 +205,12 @@ pub fn run<R: Threads + Wait, S: Source, K: Sink, G: Gate>(
         Ok(text) => tell(sink, &text, Status::Ok),
         Err(refusal) => match refusal.line(alloc) {
             Ok(line) => tell(sink, line.as_bytes(), refusal.status()),
-            Err(_) => tell(sink, b"fault: memory\n", Status::Memory),
+            Err(_) => refuse_memory(sink),
         },
     }
 }
+
+/// Where the text is that of a job and nothing failed, a run of `play` tells the history, or want of memory.
+pub fn plays_are_complete()
+    ensures { IsComplete }
+{}

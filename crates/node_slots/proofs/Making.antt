@@ -101,6 +101,7 @@ pub record Stored (k : Kind) (p q : Plain) (e : Edge) (f : ℕ → ValueOf k) : 
   pub grown : Grown (plain_view p) (plain_view q)
   pub denotes : Denotes k (plain_view q) e f
   pub made : (s : ℕ) → (plain_view q).made s ≡ true → ((plain_view p).made s ≡ true) ⊎ (e.index ≡ s)
+  pub due : (plain_view q).due ≡ (plain_view p).due
   -- the edge denoted the function, or a slot was free
   pub refused_not : IsUnknown p (function_of k f) → HasNoFree p → ⊥
 
@@ -121,7 +122,7 @@ module _ (p : Plain) (st : IsStore p) where
 
   was_stored : (k : Kind) (e : Edge) (f : ℕ → ValueOf k) → Denotes k (plain_view p) e f → (ws : List ℕ) → ws ≡ p.words → Stored k p (with_words p ws) e f
   was_stored k e f d ws same = subst (λ x. Stored k p (with_words p x) e f) (sym same)
-      (record { store = st; grown = Grown-same (plain_view p); denotes = d; made = λ s h. inl h; refused_not = λ unknown full. unknown e d.is })
+      (record { store = st; grown = Grown-same (plain_view p); denotes = d; made = λ s h. inl h; due = refl; refused_not = λ unknown full. unknown e d.is })
 
   new_made : (i bits : ℕ) → (c : Bool) (s : ℕ) → (plain_view (written p i bits)).made s ≡ true → ((plain_view p).made s ≡ true) ⊎ (i ≡ s)
   new_made i bits c s h = elim (cases_eq s i) [
@@ -131,6 +132,11 @@ module _ (p : Plain) (st : IsStore p) where
     where
       other : (s : ℕ) → s ≢ i → slots (written p i bits) s ≡ slots p s
       other s ne = ap unpack_of (get_or-set_other p.words i s bits 0 ne)
+
+  -- nothing is due where a slot is free
+  due_kept : (d : Option Refused) → p.due ≡ d → (s bits : ℕ) → s < length p.words → slots p s ≡ None → (plain_view (written p s bits)).due ≡ (plain_view p).due
+  due_kept None is s bits within free = rw is refl
+  due_kept (Some r) is s bits within free = absurd (st.refused r is s within free)
 
   -- a node came to stand in a slot
   node_stored : (k : Kind) (v : ℕ) (hi lo : Edge) → CanMake k (plain_view p) v hi lo → IsNode k p (node_with v hi lo)
@@ -152,6 +158,7 @@ module _ (p : Plain) (st : IsStore p) where
         grown = grown;
         denotes = Denotes-node k m (plain_view q) _ ((normal k (plain_view p) v hi lo m).gives (content_of q s) here) grown;
         made = new_made s bits hi.complement;
+        due = due_kept p.due refl s bits within free;
         refused_not = λ unknown full. full s within free;
       }
 
@@ -235,6 +242,7 @@ module _ (p : Plain) (st : IsStore p) where
         grown = grown;
         denotes = leaf_denotes q s x fits here;
         made = new_made s bits false;
+        due = due_kept p.due refl s bits within free;
         refused_not = λ unknown full. full s within free;
       }
 

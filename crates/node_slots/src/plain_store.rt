@@ -118,6 +118,7 @@ impl Grow for PlainStore {
         ensures memory { IsErrOf result Stop.Memory → (plain_view self.old).may_want_memory ≡ true }
         ensures full { IsErrOf result Stop.Full → Rose (plain_view self.old) (plain_view self.new) }
         ensures due { IsErrOf result Stop.Full → (k : Kind) → CanMake k (plain_view self.old) var hi lo → (plain_view self.new).due ≡ Some (function_of k (node_values k (plain_view self.old) var hi lo)) }
+        ensures still_due { OnOk result ((plain_view self.new).due ≡ (plain_view self.old).due) }
         ensures exactly { IsErrOf result Stop.Full ↔ (IsUnknownNode self.old var hi lo × HasNoFree self.old) }
         ensures counted { IsErrOf result Stop.Full → (plain_view self.new).fulls ≡ min ((plain_view self.old).fulls + 1) (2 ^ 64 - 1) }
         ensures uncounted { OnOk result ((plain_view self.new).fulls ≡ (plain_view self.old).fulls) }
@@ -150,6 +151,7 @@ impl Grow for PlainStore {
         ensures memory { IsErrOf result Stop.Memory → (plain_view self.old).may_want_memory ≡ true }
         ensures full { IsErrOf result Stop.Full → Rose (plain_view self.old) (plain_view self.new) }
         ensures due { IsErrOf result Stop.Full → (plain_view self.new).due ≡ Some (function_of Add (constant value)) }
+        ensures still_due { OnOk result ((plain_view self.new).due ≡ (plain_view self.old).due) }
         ensures exactly { IsErrOf result Stop.Full ↔ (IsUnknown self.old (AddFunction (constant value)) × HasNoFree self.old) }
         ensures counted { IsErrOf result Stop.Full → (plain_view self.new).fulls ≡ min ((plain_view self.old).fulls + 1) (2 ^ 64 - 1) }
         ensures uncounted { OnOk result ((plain_view self.new).fulls ≡ (plain_view self.old).fulls) }

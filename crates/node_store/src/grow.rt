@@ -20,7 +20,7 @@ pub enum Stop {
 
 /// A store of decision diagrams, as an operator sees it. Others may make nodes in it between two calls. A variable is named by its number, element e by 16,384 + e.
 pub trait Grow {
-    ghost use Rattle.std.specs.Prelude.{◌≡◌, ℕ, ◌<◌, IfOk, IfSome, IsErrOf, IsOkAnd, ◌⊎◌, true, Some, []};
+    ghost use Rattle.std.specs.Prelude.{◌≡◌, ℕ, ◌<◌, IfOk, IfSome, IsErrOf, IsOkAnd, OnOk, ◌⊎◌, true, Some, []};
     ghost use Rattle.edge_bits.specs.declared.edges.Kind.{Kind};
     ghost use Rattle.edge_bits.specs.declared.edges.Kind.TheVariants.{Add};
     ghost use Rattle.edge_bits.specs.Words.{IsLeafValue};
@@ -53,7 +53,8 @@ pub trait Grow {
         ensures made { (s : ℕ) → (view self.new).made s ≡ true → ((view self.old).made s ≡ true) ⊎ IsOkAnd result (λ e. e.index ≡ s) }
         ensures memory { IsErrOf result Stop.Memory → (view self.old).may_want_memory ≡ true }
         ensures full { IsErrOf result Stop.Full → Rose (view self.old) (view self.new) }
-        ensures due { IsErrOf result Stop.Full → (k : Kind) → CanMake k (view self.old) var hi lo → (view self.new).due ≡ Some (function_of k (node_values k (view self.old) var hi lo)) };
+        ensures due { IsErrOf result Stop.Full → (k : Kind) → CanMake k (view self.old) var hi lo → (view self.new).due ≡ Some (function_of k (node_values k (view self.old) var hi lo)) }
+        ensures still_due { OnOk result ((view self.new).due ≡ (view self.old).due) };
 
     /// The edge of a number's leaf, which is stored if it is not there.
     fn leaf(&mut self, value: i64) -> Result<Edge, Stop>
@@ -63,7 +64,8 @@ pub trait Grow {
         ensures made { (s : ℕ) → (view self.new).made s ≡ true → ((view self.old).made s ≡ true) ⊎ IsOkAnd result (λ e. e.index ≡ s) }
         ensures memory { IsErrOf result Stop.Memory → (view self.old).may_want_memory ≡ true }
         ensures full { IsErrOf result Stop.Full → Rose (view self.old) (view self.new) }
-        ensures due { IsErrOf result Stop.Full → (view self.new).due ≡ Some (function_of Add (constant value)) };
+        ensures due { IsErrOf result Stop.Full → (view self.new).due ≡ Some (function_of Add (constant value)) }
+        ensures still_due { OnOk result ((view self.new).due ≡ (view self.old).due) };
 
     /// The level of a variable or an element in its order.
     fn level(&mut self, var: u32) -> u32

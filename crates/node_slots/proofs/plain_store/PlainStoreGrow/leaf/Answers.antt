@@ -34,6 +34,9 @@ returns-in-Some-clause-ok c = (stored c).denotes
 pub returns-in-Some-clause-made : goal.returns-in-Some-clause-made
 returns-in-Some-clause-made c = (stored c).made
 
+pub returns-in-Some-clause-still_due : goal.returns-in-Some-clause-still_due
+returns-in-Some-clause-still_due c = (stored c).due
+
 pub returns-in-Some-clause-exactly : goal.returns-in-Some-clause-exactly
 returns-in-Some-clause-exactly c = not_refused Add _ _ _ _ (stored c)
 

@@ -65,6 +65,9 @@ returns-in-Some-place-clause-ok c = λ k m. (stored c k m).denotes
 pub returns-in-Some-place-clause-made : goal.returns-in-Some-place-clause-made
 returns-in-Some-place-clause-made c = (stored c c.requires.0 c.requires.1).made
 
+pub returns-in-Some-place-clause-still_due : goal.returns-in-Some-place-clause-still_due
+returns-in-Some-place-clause-still_due c = (stored c c.requires.0 c.requires.1).due
+
 pub returns-in-Some-place-clause-exactly : goal.returns-in-Some-place-clause-exactly
 returns-in-Some-place-clause-exactly c = node_known c.requires.0 _ _ _ _ _ _ c.requires.1 (stored c c.requires.0 c.requires.1)
 

@@ -1,0 +1,25 @@
+-- Of a text of a job there is nothing to tell but its history.
+use Rattle.std.proofs.Common.{◌≡◌, ℕ, ◌≤◌, List, [], ◌++◌, length, Option, Some, None, inl, inr, refl, sym, ap, ◌∙◌, subst, arith, append-nil, length-append}
+use Rattle.std.specs.Io.KnownBytes.{Consumes}
+use Rattle.job_text.specs.Faults.{IsFaultText}
+use Rattle.job_text.proofs.OneReading.{job_or_fault}
+use Rattle.net_jobs.specs.declared.status.Status.TheVariants as status
+use Rattle.net_jobs.specs.Ends.{IsComplete, IsWhole}
+
+whole_is : (bytes other : List ℕ) (rest : Option (List ℕ)) → IsWhole (Some bytes) rest other → other ≡ bytes
+whole_is bytes other None w = absurd w.taken
+whole_is bytes other (Some ys) w = sym (append-nil other) ∙ ap (λ xs. other ++ xs) (sym w.end) ∙ sym w.taken
+
+not_too_long : (bytes other : List ℕ) (rest : Option (List ℕ)) → Consumes (Some bytes) rest other → length bytes ≤ 67108864 → length other ≡ 67108865 → ⊥
+not_too_long bytes other None taken short long = taken
+not_too_long bytes other (Some ys) taken short long = omega (arith, short, long, ap length taken, length-append other ys)
+
+pub is_complete : IsComplete
+is_complete bytes job rest before now status.Ok text is short none due = inl refl
+is_complete bytes job rest before now status.Usage text is short none due = cc
+is_complete bytes job rest before now status.Memory text is short none due = inr refl
+is_complete bytes job rest before now status.ReadFault text is short none due = absurd (none due.1)
+is_complete bytes job rest before now status.WriteFault text is short none due = absurd due
+is_complete bytes job rest before now status.Job text is short none due =
+    absurd (job_or_fault bytes job due.2.line due.2.what is (subst (λ xs. IsFaultText xs due.2.line due.2.what) (whole_is bytes due.1 rest due.3) due.4))
+is_complete bytes job rest before now status.TooLong text is short none due = absurd (not_too_long bytes due.1 rest due.2 short due.3)
