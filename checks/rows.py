@@ -1,7 +1,7 @@
 """The worked rows as files have them: only what a run of the program from standard input to standard output can show."""
 import re
 
-ESCAPES = {"t": "\t", "r": "\r", "\\": "\\"}
+ESCAPES = {"t": "\t", "r": "\r"}
 
 
 class Row:
@@ -15,9 +15,9 @@ class Row:
 
 def plain(line):
     """The text that a line stands for."""
-    ended = re.fullmatch(r"(.*?)(\\?)", re.sub(r"\\\\", "\0", line), re.S)
-    text = re.sub(r"\\(x..|.)", lambda it: chr(int(it[1][1:], 16)) if it[1][0] == "x" else ESCAPES[it[1]], ended[1])
-    return text.replace("\0", "\\") + ("" if ended[2] else "\n")
+    end = "" if line.endswith("\\") else "\n"
+    byte = lambda it: ESCAPES.get(it[1]) or chr(int(it[1][1:], 16))
+    return re.sub(r"\\(x..|t|r)", byte, line.removesuffix("\\")) + end
 
 
 def rows_of(text):
