@@ -25,8 +25,8 @@
 //!   `FAULT: LINE`.
 //!
 //! In a LINE `\t`, `\r` and `\xHH` stand for one byte, and a `\` at the end of `> LINE`, `< LINE` or `| LINE` drops its line
-//! feed. Empty lines and those that begin with `#` say nothing. Any other line is malformed, and the row where it stands is not
-//! played, and not as due.
+//! feed. Empty lines and those that begin with `#` say nothing. Any other line is malformed: the row where it stands is not
+//! played, and not as due. Where it stands in no row, as at the head of a file, it is told as one.
 
 use crate::line::{LineError, add_bytes, add_line, parse_pace};
 use crate::row::{Judge, Row};
@@ -85,6 +85,9 @@ impl Reading {
 
     /// Takes what a line says of the last row.
     fn say(&mut self, word: &str, rest: &str) -> Result<(), LineError> {
+        if self.is_head_open {
+            return Err(LineError::Malformed);
+        }
         let Some(row) = self.rows.last_mut() else {
             return Err(LineError::Malformed);
         };
@@ -118,9 +121,9 @@ impl Reading {
         }
     }
 
-    /// Keeps a malformed line with the row where it stands.
+    /// Keeps a malformed line with the row where it stands. Where that is no row, it is one of its own.
     fn keep_malformed(&mut self, line: &str) -> Result<(), AllocError> {
-        if self.rows.is_empty() {
+        if self.is_head_open {
             self.rows.push(Row::new(self.alloc, line)?)?;
         }
         if let Some(row) = self.rows.last_mut() {
