@@ -1,23 +1,71 @@
-//! A run in memory, and what it told.
+//! What a row's run answers, and what is told of it.
 
-ghost use Rattle.std.specs.Prelude.{◌<◌};
-
-use net_jobs::{Bytes, Open, Pieces, Source, Status, SureBytes, run};
+use crate::row::{Due, Judge, Row};
+use net_jobs::{Bytes, Gate, Pieces, run};
 use std::alloc::{AllocError, Global};
-use std::process::Abort;
+use std::fmt;
 use std::sync::Wait;
-use std::test::Fail;
+use std::sync::atomic::{AtomicU32, Ordering};
 use std::thread::Threads;
 
-/// How a run ended, and what it wrote.
+/// A gate that counts the calls of worker 0 in the order of their items, and the others.
+#[derive(Drop)]
+struct Counting {
+    passed: AtomicU32,
+    others: AtomicU32,
+}
+
+impl Gate for Counting {
+    fn pass(&self, worker: u32, item: u32) {
+        if worker == 0 && item == self.passed.load(Ordering::SeqCst) {
+            self.passed.fetch_add(1, Ordering::SeqCst);
+        } else {
+            self.others.fetch_add(1, Ordering::SeqCst);
+        }
+    }
+}
+
+/// What came of a run.
+#[derive(Drop)]
+struct Answer {
+    status: u8,
+    /// How often the gate was passed in order.
+    passed: u32,
+    /// The other calls of the gate.
+    others: u32,
+    text: Vec<u8>,
+}
+
+/// How a row went.
+#[derive(Drop)]
+enum Outcome {
+    /// As it says.
+    AsDue,
+    /// Not as it says: what came, with its text for a person.
+    NotAsDue { answer: Answer, text: String },
+    /// It was not played, for this line.
+    Malformed { line: String },
+}
+
+/// What is told of a row.
 #[derive(Drop)]
 pub struct Told {
-    pub status: Status,
-    pub text: Vec<u8>,
+    name: String,
+    outcome: Outcome,
+}
+
+impl Due {
+    /// Whether the answer is as it has to be.
+    fn is_met_by(&self, answer: &Answer) -> bool {
+        self.status == answer.status
+            && self.passed == answer.passed
+            && answer.others == 0
+            && (self.judge == Judge::Elsewhere || self.text.as_slice() == answer.text.as_slice())
+    }
 }
 
 /// The words of a command line.
-pub fn words(alloc: Global, line: &str) -> Result<Vec<String>, AllocError> {
+fn words_of(alloc: Global, line: &str) -> Result<Vec<String>, AllocError> {
     let mut words = Vec::new(alloc);
     for word in line.split_whitespace() {
         words.push(word.to_string(alloc)?)?;
@@ -25,63 +73,77 @@ pub fn words(alloc: Global, line: &str) -> Result<Vec<String>, AllocError> {
     Ok(words)
 }
 
-/// A run of this command line on a source.
-pub fn run_on<R: Threads + Wait, S: Source>(
+/// Runs a command line from the source to the sink.
+fn answer_of<R: Threads + Wait>(
     rt: &R,
     alloc: Global,
     line: &str,
-    source: &mut S,
-) -> Result<Told, AllocError> {
-    let words = words(alloc, line)?;
-    let mut sink = Pieces::new(Vec::new(alloc), 4096, Vec::new(alloc));
-    let status = run(rt, alloc, &words, source, &mut sink, &Open);
-    let text = Vec::from_slice(alloc, sink.written())?;
-    Ok(Told { status, text })
+    mut source: Bytes,
+    mut sink: Pieces,
+) -> Result<Answer, AllocError> {
+    let words = words_of(alloc, line)?;
+    let gate = Counting {
+        passed: AtomicU32::new(0),
+        others: AtomicU32::new(0),
+    };
+    let status = run(rt, alloc, &words, &mut source, &mut sink, &gate);
+    Ok(Answer {
+        status: status.code(),
+        passed: gate.passed.load(Ordering::SeqCst),
+        others: gate.others.load(Ordering::SeqCst),
+        text: Vec::from_slice(alloc, sink.written())?,
+    })
 }
 
-/// `play` on this text.
-pub fn play<R: Threads + Wait>(rt: &R, alloc: Global, text: &str) -> Result<Told, AllocError> {
-    let items = Vec::from_slice(alloc, text.as_bytes())?;
-    run_on(rt, alloc, "play", &mut SureBytes::new(items))
-}
-
-/// A source of these bytes, some at a time, of which the calls whose flag is set fail.
-pub fn pieces(alloc: Global, text: &str, step: usize, fails: &[bool]) -> Result<Bytes, AllocError>
-    requires { 0 < step }
-{
-    let items = Vec::from_slice(alloc, text.as_bytes())?;
-    Ok(Bytes::new(items, step, Vec::from_slice(alloc, fails)?))
-}
-
-/// Plays each of these jobs to its end. It tells the text beside it.
-pub fn each_tells<R: Threads + Wait + Abort>(
-    rt: &R,
-    alloc: Global,
-    jobs: &[(&str, &str)],
-) -> Result<(), Fail> {
-    for (job, text) in jobs {
-        let told = play(rt, alloc, job)?;
-        assert_eq!(rt; told.text.as_slice(), text.as_bytes(), "of {job}");
-        assert_eq!(rt; told.status.code(), 0, "of {job}");
+/// How a row goes that is played, where no line of it is malformed.
+fn outcome_of<R: Threads + Wait>(rt: &R, alloc: Global, row: Row) -> Result<Outcome, AllocError> {
+    let Row {
+        words,
+        source,
+        sink,
+        input,
+        due,
+        malformed,
+        ..
+    } = row;
+    if let Some(line) = malformed {
+        return Ok(Outcome::Malformed { line });
     }
-    Ok(())
+    let source = Bytes::new(input, source.step.get(), source.fails);
+    let sink = Pieces::new(Vec::new(alloc), sink.step.get(), sink.fails);
+    let answer = answer_of(rt, alloc, words.as_str(), source, sink)?;
+    if due.is_met_by(&answer) {
+        return Ok(Outcome::AsDue);
+    }
+    let text = String::from_utf8_lossy(alloc, answer.text.as_slice())?;
+    Ok(Outcome::NotAsDue { answer, text })
 }
 
-/// Plays jobs of these lines and one command more, on the line of this number. Each has the kind of fault beside its command
-/// there.
-pub fn each_is_faulty<R: Threads + Wait + Abort>(
-    rt: &R,
-    alloc: Global,
-    lines: &str,
-    number: u32,
-    commands: &[(&str, &str)],
-) -> Result<(), Fail> {
-    for (command, kind) in commands {
-        let job = format!(in alloc; "{lines}{command}")?;
-        let told = play(rt, alloc, &job)?;
-        let want = format!(in alloc; "fault: job {number} {kind}\n")?;
-        assert_eq!(rt; told.status.code(), 9, "at {command}");
-        assert_eq!(rt; told.text.as_slice(), want.as_bytes(), "at {command}");
+/// Plays a row.
+pub fn play<R: Threads + Wait>(rt: &R, alloc: Global, row: Row) -> Result<Told, AllocError> {
+    let name = row.name.clone()?;
+    let outcome = outcome_of(rt, alloc, row)?;
+    Ok(Told { name, outcome })
+}
+
+impl fmt::Display for Told {
+    fn fmt<W: fmt::Write>(&self, f: &mut fmt::Formatter<W>) -> fmt::Result {
+        let name = self.name.as_str();
+        match &self.outcome {
+            Outcome::AsDue => write!(f, "ok {name}"),
+            Outcome::NotAsDue { answer, text } => {
+                let Answer {
+                    status,
+                    passed,
+                    others,
+                    ..
+                } = answer;
+                write!(
+                    f,
+                    "NOT AS DUE {name}\nstatus {status}, passed {passed}, other calls of the gate {others}, and this text:\n{text}"
+                )
+            }
+            Outcome::Malformed { line } => write!(f, "NOT AS DUE {name}\na malformed line: {line}"),
+        }
     }
-    Ok(())
 }
