@@ -5,7 +5,7 @@ use Rattle.edge_bits.specs.declared.edges.Edge.{Edge}
 use Rattle.edge_bits.specs.declared.edges.Kind.{Kind}
 use Rattle.edge_bits.specs.declared.edges.Kind.TheVariants.{Bdd, Add, Zdd}
 use Rattle.function_laws.proofs.ValueLemmas.{place_one}
-use Rattle.node_store.specs.Kinds.{Function, ValueOf, function_of, joined_at, Lacks}
+use Rattle.function_laws.specs.Kinds.{Denoted, ValueOf, function_of, joined_at, Lacks}
 use Rattle.node_store.specs.Splits.{Branches}
 use Rattle.node_store.specs.Three.{IsOnVariables}
 use Rattle.node_store.specs.Views.{View, CanMake, Denotes, Grown, Is, IsBelow, IsInner, IsLeaf, IsLeafOf, IsVariable, node_values, values_at}
@@ -125,10 +125,10 @@ module _ (j k : Kind) (op : ValueOf j → ValueOf k) (f : Edge) where
       (ap (function_of k) (sym (converted_at-grown j k op m d.root))) (IsPart-grown k m (converted_at j k op v f) (converted_at j k op v t.f) d.part) is
 
   -- from the view at the end to that at the start
-  pub one_back : (v w : View) → Grown v w → Is j v f → (F : Function) → value_of_one j k op f w F → value_of_one j k op f v F
+  pub one_back : (v w : View) → Grown v w → Is j v f → (F : Denoted) → value_of_one j k op f w F → value_of_one j k op f v F
   one_back v w m d F is = is ∙ ap (function_of k) (converted_at-grown j k op m d)
 
-  pub One-due_start : (v w : View) → Grown v w → Is j v f → (o : Option Function) → IsWork w (value_of_one j k op f w) o → IsWork w (value_of_one j k op f v) o
+  pub One-due_start : (v w : View) → Grown v w → Is j v f → (o : Option Denoted) → IsWork w (value_of_one j k op f w) o → IsWork w (value_of_one j k op f v) o
   One-due_start v w m d o i = IsWork-grown (Grown-refl w) (value_of_one j k op f w) (value_of_one j k op f v) (one_back v w m d) o i
 
   pub One-adds_start : (v w : View) → Is j v f → Moves (λ w. Is j w f) (value_of_one j k op f) v w → Adds (value_of_one j k op f v) v w

@@ -8,7 +8,7 @@ use Rattle.edge_bits.specs.declared.edges.Kind.{Kind}
 use Rattle.edge_bits.specs.declared.edges.Kind.TheVariants.{Add}
 use Rattle.function_laws.specs.Values.{constant}
 use Rattle.function_laws.specs.Numbers.{is_value}
-use Rattle.node_store.specs.Kinds.{Function, AddFunction, ValueOf}
+use Rattle.function_laws.specs.Kinds.{Denoted, AddFunction, ValueOf}
 use Rattle.node_store.specs.Views.{View, AreTwo, Denotes, Grown, Kept, add_at, values_at, IsInner, IsLeaf, IsLeafOf as IsLeafWith, number, NotBothLeaves, Permanent}
 use Rattle.node_store.specs.ViewLaws.{Denotes-grown, Grown-trans, values_at-grown}
 use Rattle.node_store.specs.Work.{Adds, whole}
@@ -73,7 +73,7 @@ pub leaf_overflow : (op : ℤ → ℤ → ℤ) (w : View) (f g : Edge) (x y z : 
 leaf_overflow op w f g x y z l is out = (0, ap (λ (h : ℕ → ℤ). is_value (h 0)) (place_leaves op w f g x y z l is) ∙ out)
 
 -- its value was due
-pub leaf_due : (op : ℤ → ℤ → ℤ) (w : View) (f g : Edge) (x y z : ℤ) (o : Option Function) → AreLeaves w f g x y → z ≡ op x y → o ≡ Some (AddFunction (constant z)) → o ≡ Some (AddFunction (place_at Add op w f g))
+pub leaf_due : (op : ℤ → ℤ → ℤ) (w : View) (f g : Edge) (x y z : ℤ) (o : Option Denoted) → AreLeaves w f g x y → z ≡ op x y → o ≡ Some (AddFunction (constant z)) → o ≡ Some (AddFunction (place_at Add op w f g))
 leaf_due op w f g x y z o l is due = due ∙ ap (λ (h : ℕ → ℤ). Some (AddFunction h)) (sym (place_leaves op w f g x y z l is))
 
 -- the edge of the value that is chosen

@@ -8,7 +8,7 @@ use Rattle.edge_bits.proofs.AssignmentLemmas.{bit-set_other}
 use Rattle.function_laws.specs.Numbers.{plus, sum_over}
 use Rattle.function_laws.specs.Values.{IsFree, choice, cofactor, projection}
 use Rattle.function_laws.proofs.ValueLemmas.{everywhere, cofactor-choice_true, cofactor-choice_false}
-use Rattle.node_store.specs.Kinds.{Function, AddFunction, ValueOf, function_of, opposite, values_of}
+use Rattle.function_laws.specs.Kinds.{Denoted, AddFunction, ValueOf, function_of, opposite, values_of}
 use Rattle.node_store.specs.Memo.{NumberHolds, MemoHolds, SumHolds, literal_edge}
 use Rattle.node_store.specs.Numbers.{sum_over_number}
 use Rattle.node_store.specs.Two.{Overflows, place_at, value_of_two}
@@ -158,7 +158,7 @@ pub Sum-joined : (v : ℕ) {w y : View} {t hi lo : Task} {x : ℕ} {e0 e1 e : Ed
 Sum-joined v d s a0 a1 m is = rw (summed_at-grown v m d, sym (Sum-node v s a0 a1)) is
 
 -- what is part of a part's work is part of the whole's
-pub IsWork-part : (w : View) (f g : ℕ → ℤ) (o : Option Function) → IsPart Add w f g → IsWork w (λ F. F ≡ AddFunction g) o → IsWork w (λ F. F ≡ AddFunction f) o
+pub IsWork-part : (w : View) (f g : ℕ → ℤ) (o : Option Denoted) → IsPart Add w f g → IsWork w (λ F. F ≡ AddFunction g) o → IsWork w (λ F. F ≡ AddFunction f) o
 IsWork-part w f g o part i = by_kind i.kind i.root i.part i.asked i.is_part i.is
   where
     by_kind : (k : Kind) (root p : ℕ → ValueOf k) → function_of k root ≡ AddFunction g → IsPart k w root p
@@ -193,7 +193,7 @@ module _ (f : Edge) (v : ℕ) (p : Edge) where
     whole_part : IsPart Add w (summed_at w f v) (place_at Add (λ a b. a +ℤ b) u hi lo)
     whole_part = rw (summed_at-grown v m d.root.edge) (subst (λ g. IsPart Add w (summed_at u f v) g) (sym h.sum) (IsPart-grown Add m (summed_at u f v) (summed_at u t.f v) d.part))
 
-    pub halves_due : (o : Option Function) → IsWork w (value_of_two Add (λ a b. a +ℤ b) hi lo u) o → IsWork w (value_of_sum f v w) o
+    pub halves_due : (o : Option Denoted) → IsWork w (value_of_two Add (λ a b. a +ℤ b) hi lo u) o → IsWork w (value_of_sum f v w) o
     halves_due o i = IsWork-part w (summed_at w f v) (place_at Add (λ a b. a +ℤ b) u hi lo) o whole_part i
 
     pub halves_moved : Adds (value_of_two Add (λ a b. a +ℤ b) hi lo u) u w → Moves (λ w. HasSum w f v) (value_of_sum f v) u w
@@ -207,10 +207,10 @@ module _ (f : Edge) (v : ℕ) (p : Edge) where
 
 -- from the view at the end to that at the start
 module _ (f : Edge) (v : ℕ) where
-  pub sum_back : (u w : View) → Grown u w → HasSum u f v → (F : Function) → value_of_sum f v w F → value_of_sum f v u F
+  pub sum_back : (u w : View) → Grown u w → HasSum u f v → (F : Denoted) → value_of_sum f v w F → value_of_sum f v u F
   sum_back u w m d F is = is ∙ ap AddFunction (summed_at-grown v m d.edge)
 
-  pub Sum-due_start : (u w : View) → Grown u w → HasSum u f v → (o : Option Function) → IsWork w (value_of_sum f v w) o → IsWork w (value_of_sum f v u) o
+  pub Sum-due_start : (u w : View) → Grown u w → HasSum u f v → (o : Option Denoted) → IsWork w (value_of_sum f v w) o → IsWork w (value_of_sum f v u) o
   Sum-due_start u w m d o i = IsWork-grown (Grown-refl w) (value_of_sum f v w) (value_of_sum f v u) (sum_back u w m d) o i
 
   pub Sum-adds_start : (u w : View) → HasSum u f v → Moves (λ w. HasSum w f v) (value_of_sum f v) u w → Adds (value_of_sum f v u) u w

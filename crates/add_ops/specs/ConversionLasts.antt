@@ -2,7 +2,7 @@
 use Rattle.std.proofs.Common.{◌≡◌, ℕ, refl, ap, sym, ◌∙◌}
 use Rattle.edge_bits.specs.declared.edges.Edge.{Edge}
 use Rattle.edge_bits.specs.declared.edges.Kind.{Kind}
-use Rattle.node_store.specs.Kinds.{Function, ValueOf, function_of}
+use Rattle.function_laws.specs.Kinds.{Denoted, ValueOf, function_of}
 use Rattle.node_store.specs.Views.{View, Grown, Is}
 use Rattle.node_store.specs.ViewLaws.{Denotes-grown, Is-grown, IsVariable-grown, Permanent-grown, Splits-grown, levels-grown, top-grown, values_at-grown}
 use Rattle.node_store.specs.WorkLaws.{IsPart-grown}
@@ -12,7 +12,7 @@ use Rattle.add_ops.specs.Conversions.{converted, converted_at, value_of_one, One
 pub converted_at-grown : (j k : Kind) (op : ValueOf j → ValueOf k) {v w : View} {f : Edge} → Grown v w → Is j v f → converted_at j k op w f ≡ converted_at j k op v f
 converted_at-grown j k op m d = ap (converted op) (values_at-grown j m d)
 
-pub value_of_one-stays : (j k : Kind) (op : ValueOf j → ValueOf k) (f : Edge) (v w : View) (F : Function) → Grown v w → Is j v f → value_of_one j k op f v F → value_of_one j k op f w F
+pub value_of_one-stays : (j k : Kind) (op : ValueOf j → ValueOf k) (f : Edge) (v w : View) (F : Denoted) → Grown v w → Is j v f → value_of_one j k op f v F → value_of_one j k op f w F
 value_of_one-stays j k op f v w F m d is = is ∙ ap (function_of k) (sym (converted_at-grown j k op m d))
 
 pub OneDue-stays : (j k : Kind) (op : ValueOf j → ValueOf k) (f : Edge) (v w : View) (t : Task) → Grown v w → OneDue j k op f v t → OneDue j k op f w t

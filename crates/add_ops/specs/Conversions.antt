@@ -3,7 +3,7 @@ use Rattle.std.specs.Prelude.{◌≡◌, ℕ, ◌-◌}
 use Rattle.edge_bits.specs.declared.edges.Edge.{Edge}
 use Rattle.edge_bits.specs.declared.edges.Kind.{Kind}
 use Rattle.computed_cache.specs.declared.Key.{Key}
-use Rattle.node_store.specs.Kinds.{Function, ValueOf, function_of}
+use Rattle.function_laws.specs.Kinds.{Denoted, ValueOf, function_of}
 use Rattle.node_store.specs.Memo.{MemoHolds}
 use Rattle.node_store.specs.Views.{View, Denotes, Is, IsKey, IsVariable, Permanent, Splits, levels, values_at}
 use Rattle.node_store.specs.Work.{IsPart}
@@ -17,7 +17,7 @@ abbrev pub converted_at : (j k : Kind) → (ValueOf j → ValueOf k) → View �
 converted_at j k op w f = converted op (values_at j w f)
 
 -- the work of a call is its value
-abbrev pub value_of_one : (j k : Kind) → (ValueOf j → ValueOf k) → Edge → View → Function → Type 0
+abbrev pub value_of_one : (j k : Kind) → (ValueOf j → ValueOf k) → Edge → View → Denoted → Type 0
 value_of_one j k op f w F = F ≡ function_of k (converted_at j k op w f)
 
 -- a task of the call with this function

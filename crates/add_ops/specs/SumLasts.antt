@@ -6,7 +6,7 @@ use Rattle.edge_bits.specs.declared.edges.Kind.TheVariants.{Add}
 use Rattle.function_laws.specs.Numbers.{sum_over}
 use Rattle.function_laws.specs.Values.{IsFree, choice, cofactor}
 use Rattle.function_laws.proofs.ValueLemmas.{IsFree-cofactor, IsFree-cofactor_other, IsFree-place, cofactor-choice_other, place_two}
-use Rattle.node_store.specs.Kinds.{Function, AddFunction}
+use Rattle.function_laws.specs.Kinds.{Denoted, AddFunction}
 use Rattle.node_store.specs.TwoLaws.{Overflows-joined}
 use Rattle.node_store.specs.Views.{View, Grown, Is, IsBelow, add_at}
 use Rattle.node_store.specs.ViewLaws.{Denotes-grown, Is-grown, IsVariable-grown, Permanent-grown, Splits-grown, values_at-grown}
@@ -24,7 +24,7 @@ summed_at-grown x m d = ap (λ g. sum_over g x) (values_at-grown Add m d)
 pub HasSum-grown : {v w : View} {f : Edge} {x : ℕ} → Grown v w → HasSum v f x → HasSum w f x
 HasSum-grown {v} {w} {f} {x} m d = record { edge = Is-grown Add m d.edge; in_range = IsVariable-grown Add m x d.in_range }
 
-pub value_of_sum-stays : (f : Edge) (x : ℕ) (v w : View) (F : Function) → Grown v w → HasSum v f x → value_of_sum f x v F → value_of_sum f x w F
+pub value_of_sum-stays : (f : Edge) (x : ℕ) (v w : View) (F : Denoted) → Grown v w → HasSum v f x → value_of_sum f x v F → value_of_sum f x w F
 value_of_sum-stays f x v w F m d is = is ∙ ap AddFunction (sym (summed_at-grown x m d.edge))
 
 pub SumDue-stays : (f : Edge) (x : ℕ) (p : Edge) (v w : View) (t : Task) → Grown v w → SumDue f x p v t → SumDue f x p w t

@@ -3,7 +3,7 @@ use Rattle.std.specs.Prelude.{◌≡◌, ◌≢◌, ℕ, ◌<◌, true, ℤ}
 use Rattle.edge_bits.specs.declared.edges.Edge.{Edge}
 use Rattle.edge_bits.specs.declared.edges.Kind.TheVariants.{Add}
 use Rattle.function_laws.specs.Numbers.{plus, sum_over}
-use Rattle.node_store.specs.Kinds.{Function, AddFunction}
+use Rattle.function_laws.specs.Kinds.{Denoted, AddFunction}
 use Rattle.node_store.specs.Memo.{literal_edge}
 use Rattle.node_store.specs.Splits.{Waiting}
 use Rattle.node_store.specs.Two.{Overflows}
@@ -24,7 +24,7 @@ pub record HasSum (w : View) (f : Edge) (v : ℕ) : Type 0 where
   pub in_range : IsVariable Add w v
 
 -- the work of a call is its value
-abbrev pub value_of_sum : Edge → ℕ → View → Function → Type 0
+abbrev pub value_of_sum : Edge → ℕ → View → Denoted → Type 0
 value_of_sum f v w F = F ≡ AddFunction (summed_at w f v)
 
 -- a task of the call with this function and this variable, whose projection is p

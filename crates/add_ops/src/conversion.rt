@@ -16,7 +16,7 @@ pub(crate) trait Conversion {
     ghost use Rattle.std.specs.Prelude.{ℕ, IfSome};
     ghost use Rattle.edge_bits.specs.declared.edges.Edge.{Edge};
     ghost use Rattle.edge_bits.specs.declared.edges.Kind.{Kind};
-    ghost use Rattle.node_store.specs.Kinds.{ValueOf};
+    ghost use Rattle.function_laws.specs.Kinds.{ValueOf};
     ghost use Rattle.node_store.specs.Three.{IsOnVariables};
     ghost use Rattle.node_store.specs.Views.{View, Denotes, IsLeafOf, Permanent};
     ghost use Rattle.add_ops.specs.Conversions.{IsKeyOf, converted};

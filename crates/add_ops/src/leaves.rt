@@ -4,7 +4,7 @@ ghost use Rattle.std.specs.Prelude.{◌≡◌, ℕ, ◌⊎◌, IfOk, IfSome, IfN
 ghost use Rattle.edge_bits.specs.declared.edges.Kind.TheVariants.{Add};
 ghost use Rattle.function_laws.specs.Numbers.{is_value};
 ghost use Rattle.function_laws.specs.Values.{constant};
-ghost use Rattle.node_store.specs.Kinds.{function_of};
+ghost use Rattle.function_laws.specs.Kinds.{function_of};
 ghost use Rattle.node_store.specs.Two.{IsMade};
 ghost use Rattle.node_store.specs.Views.{AreTwo, Grown, Kept, NotBothLeaves, Rose};
 ghost use Rattle.add_ops.specs.Leaves.{AreLeaves, IsLeafOf};

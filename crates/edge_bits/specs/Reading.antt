@@ -1,6 +1,7 @@
 -- The value of an edge at an assignment, in a list of node words.
 use Rattle.std.specs.Prelude.{◌≡◌, ℕ, suc, zero, ◌+◌, ◌-◌, ◌==◌, Bool, true, false, not, ◌&&◌, if◌then◌else◌, ℤ, pos, List, Option, Some, None, slice_index, option_map}
 use Rattle.edge_bits.specs.declared.edges.Edge.{Edge}
+use Rattle.edge_bits.specs.declared.words.Node.{Node}
 use Rattle.edge_bits.specs.declared.words.Word.{Word}
 use Rattle.edge_bits.specs.declared.words.Word.TheVariants.{Inner, Leaf}
 use Rattle.edge_bits.specs.Words.{unpack_of}
@@ -68,3 +69,9 @@ DenotesAdd n slots edge f = (k : ℕ) → read_add (n + 1) slots edge k ≡ Some
 
 abbrev pub DenotesZdd : ℕ → (ℕ → Option Word) → Edge → (ℕ → Bool) → Type 0
 DenotesZdd m slots edge p = (a : ℕ) → read_zdd (m + 1) slots edge a ≡ Some (p a)
+
+-- a slot is reached from another: arcs lead from that one to it
+pub data IsReached (slots : ℕ → Option Word) (from : ℕ) : ℕ → Type 0 where
+  itself : IsReached slots from from
+  then_child : (s : ℕ) (node : Node) → IsReached slots from s → slots s ≡ Some (Inner node) → IsReached slots from node.hi
+  else_child : (s : ℕ) (node : Node) → IsReached slots from s → slots s ≡ Some (Inner node) → IsReached slots from node.lo.index

@@ -6,13 +6,15 @@ use Rattle.function_laws.specs.declared.history.Function.{Function}
 use Rattle.function_laws.specs.declared.history.Function.TheVariants.{Bdd, Add, Zdd}
 use Rattle.function_laws.specs.declared.history.Sifting.{Sifting}
 use Rattle.function_laws.specs.declared.history.Call.{Call}
-use Rattle.function_laws.specs.declared.history.Call.TheVariants.{One, Zero, Var, And, Or, Cofactor, Exists, Forall, AndExists, Compose, VectorCompose, Support, Constant, FromBdd, Plus, Minus, Empty, Base, Single, Union, Meet, Diff, Subset1, Subset0, Change, Product, Quotient, Same, Leq, Eval, Sweep, Swap, Sift, AddVar, AddElement}
+use Rattle.function_laws.specs.declared.history.Call.TheVariants.{One, Zero, Var, And, Or, Cofactor, Exists, Forall, AndExists, Compose, VectorCompose, Support, Constant, FromBdd, Plus, Minus, Empty, Base, Single, Union, Meet, Diff, Subset1, Subset0, Change, Product, Quotient, Same, Leq, Eval, Sweep, Swap, SwapElements, Sift, AddVar, AddElement}
+use Rattle.function_laws.specs.declared.history.Entry.{Entry}
 use Rattle.function_laws.specs.declared.history.Reply.{Reply}
 use Rattle.function_laws.specs.declared.history.Reply.TheVariants.{Made, Chose, Fetched, Numbered, Done, Truth, Value, Overflow, Most, Full}
 use Rattle.function_laws.specs.Lists.{any_below, all_below, list_of}
 use Rattle.function_laws.specs.Values.{constant, exists_all, forall_all, set_each, differs}
 use Rattle.function_laws.specs.Tables.{Table, Sizes, opening}
 use Rattle.function_laws.specs.Steps.{Outcome, makes, restricts, fetches, counts, overflows, is_most, compares, tells, shows, is_done, outcome, after}
+use Rattle.function_laws.specs.EntryOrders.{opening_orders, orders_from}
 
 -- the name of call i
 abbrev n : ℕ → Name
@@ -72,7 +74,7 @@ abbrev run : ℕ → ℕ → List Call → List Reply
 run v e calls = play 0 (opening (sizes v e)) calls
 
 abbrev sifting : Sifting
-sifting = record { variables = []; elements = []; functions = [] }
+sifting = record { variables = []; elements = []; functions = []; order = [] }
 
 abbrev same : Reply
 same = Truth true
@@ -130,3 +132,17 @@ most = refl
 wide : outcome (opening (record { variables = 16384; elements = 16384; most_variables = 16384; most_elements = 16384 })) 0 One
     ≡ Some (makes (Bdd (list_of (2 ^ 16384) (constant true))))
 wide = refl
+
+-- an order is that of the opening with each swap's two levels exchanged, and what a sift left; what was refused changes nothing
+an_entry : Call → Reply → Entry
+an_entry call reply = record { place = 0; session = 0; call = call; reply = reply }
+
+orders_left : orders_from (opening_orders (sizes 3 2)) (an_entry (Swap 0) Done ∷ an_entry (Swap 1) (Full 8 3) ∷ an_entry (SwapElements 0) Done ∷ an_entry (Swap 1) Done ∷ [])
+    ≡ record { variables = 1 ∷ 2 ∷ 0 ∷ []; elements = 1 ∷ 0 ∷ [] }
+unfolding an_entry
+orders_left = refl
+
+order_of_sift : orders_from (opening_orders (sizes 3 0)) (an_entry (Sift (record sifting { order = 2 ∷ 0 ∷ 1 ∷ [] })) Done ∷ an_entry (Swap 0) Done ∷ [])
+    ≡ record { variables = 0 ∷ 2 ∷ 1 ∷ []; elements = [] }
+unfolding an_entry
+order_of_sift = refl

@@ -1,8 +1,8 @@
-// The entries of a history. Contracts speak of them and views carry them; no program makes one.
+// The entries of a history. Contracts speak of them and views carry them; of all this a program makes names alone.
 use std::collections::LinkedList;
 
 /// A row of one session.
-#[derive(Clone, Copy, PartialEq, Eq, Drop)]
+#[derive(Debug, Clone, Copy, PartialEq, Eq, Drop)]
 pub struct Name {
     /// The place of the row.
     pub row: u32,
@@ -21,7 +21,7 @@ pub enum Function {
     Zdd(LinkedList<bool>),
 }
 
-/// What a sift found at its start.
+/// What a sift found at its start, and the order that it left.
 #[derive(Drop)]
 pub struct Sifting {
     /// The variables by position.
@@ -30,6 +30,8 @@ pub struct Sifting {
     pub elements: LinkedList<u32>,
     /// The functions that it pinned.
     pub functions: LinkedList<Function>,
+    /// What it sifted, the variables or the elements, by position at its end.
+    pub order: LinkedList<u32>,
 }
 
 /// A call with a place. Operands are names of the session; variables, elements, levels and cells are numbers from 0 on.

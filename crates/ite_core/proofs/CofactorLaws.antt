@@ -7,7 +7,7 @@ use Rattle.function_laws.specs.Values.{cofactor, choice, projection, negation, I
 use Rattle.function_laws.proofs.ValueLemmas.{cofactor-free, cofactor-choice_other}
 use Rattle.function_laws.proofs.ComposeLemmas.{IsFree-cofactor_any}
 use Rattle.node_store.specs.Edges.{flip_if}
-use Rattle.node_store.specs.Kinds.{Function, BddFunction}
+use Rattle.function_laws.specs.Kinds.{Denoted, BddFunction}
 use Rattle.node_store.specs.KindLaws.{part-joined}
 use Rattle.node_store.specs.Views.{View, Denotes, Is, IsBelow, IsVariable, Grown, Permanent, Splits, CanMake, IsInner, IsLeaf, IsKey, bdd_at, node_values}
 use Rattle.node_store.specs.ViewLaws.{Grown-refl, Grown-trans, Denotes-flip, Is-grown, Is-from, IsBelow-inner, IsVariable-grown, Splits-grown, level-grown, top-grown, values_at-grown, values_at-is}
@@ -227,10 +227,10 @@ module _ (f : Edge) (v : ℕ) (b : Bool) (l : Edge) where
 
 -- from the view at the end to that at the start
 module _ (f : Edge) (v : ℕ) (b : Bool) where
-  pub cofactor_back : (u w : View) → Grown u w → HasCofactor u f v → (F : Function) → value_of_cofactor f v b w F → value_of_cofactor f v b u F
+  pub cofactor_back : (u w : View) → Grown u w → HasCofactor u f v → (F : Denoted) → value_of_cofactor f v b w F → value_of_cofactor f v b u F
   cofactor_back u w m d F is = is ∙ ap BddFunction (cofactor_at-grown v b m d.edge)
 
-  pub Cofactor-due_start : (u w : View) → Grown u w → HasCofactor u f v → (o : Option Function) → IsWork w (value_of_cofactor f v b w) o → IsWork w (value_of_cofactor f v b u) o
+  pub Cofactor-due_start : (u w : View) → Grown u w → HasCofactor u f v → (o : Option Denoted) → IsWork w (value_of_cofactor f v b w) o → IsWork w (value_of_cofactor f v b u) o
   Cofactor-due_start u w m d o i = IsWork-grown (Grown-refl w) (value_of_cofactor f v b w) (value_of_cofactor f v b u) (cofactor_back u w m d) o i
 
   pub Cofactor-adds_start : (u w : View) → HasCofactor u f v → Moves (λ w. HasCofactor w f v) (value_of_cofactor f v b) u w → Adds (value_of_cofactor f v b u) u w

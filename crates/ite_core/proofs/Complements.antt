@@ -4,7 +4,7 @@ use Rattle.edge_bits.specs.declared.edges.Edge.{Edge}
 use Rattle.edge_bits.specs.declared.edges.Kind.TheVariants.{Bdd}
 use Rattle.function_laws.specs.Values.{negation, conjunction, disjunction}
 use Rattle.function_laws.proofs.ValueLemmas.{everywhere}
-use Rattle.node_store.specs.Kinds.{Function, BddFunction}
+use Rattle.function_laws.specs.Kinds.{Denoted, BddFunction}
 use Rattle.node_store.specs.Edges.{flip_if}
 use Rattle.node_store.specs.Views.{View, AreTwo, Is, Denotes, bdd_at}
 use Rattle.node_store.specs.ViewLaws.{Denotes-flip, Is-from, values_at-is}
@@ -46,7 +46,7 @@ pub or-adds : (v w : View) (f g f2 g2 : Edge) → f2 ≡ flip_if true f → g2 �
 or-adds v w f g f2 g2 sf sg d adds =
     subst (λ x. Adds (λ F. F ≡ BddFunction x) v w) (conjunction-flip v f g f2 g2 sf sg d) (Adds-negation v w (conjunction (bdd_at v f2) (bdd_at v g2)) adds)
 
-pub or-due : (v w : View) (f g f2 g2 : Edge) (o : Option Function) → f2 ≡ flip_if true f → g2 ≡ flip_if true g → AreTwo Bdd v f g
+pub or-due : (v w : View) (f g f2 g2 : Edge) (o : Option Denoted) → f2 ≡ flip_if true f → g2 ≡ flip_if true g → AreTwo Bdd v f g
     → IsWork w (value_of_two Bdd (λ a b. a && b) f2 g2 v) o → IsWork w (value_of_two Bdd (λ a b. a || b) f g v) o
 or-due v w f g f2 g2 o sf sg d i =
     subst (λ x. IsWork w (λ F. F ≡ BddFunction x) o) (conjunction-flip v f g f2 g2 sf sg d) (IsWork-negation w (conjunction (bdd_at v f2) (bdd_at v g2)) o i)

@@ -4,7 +4,7 @@ use Rattle.edge_bits.specs.declared.edges.Edge.{Edge}
 use Rattle.edge_bits.specs.declared.edges.Kind.TheVariants.{Bdd}
 use Rattle.function_laws.specs.Values.{constant, conjunction}
 use Rattle.function_laws.proofs.ValueLemmas.{everywhere}
-use Rattle.node_store.specs.Kinds.{BddFunction, place, flipped, values_of}
+use Rattle.function_laws.specs.Kinds.{BddFunction, place, flipped, values_of}
 use Rattle.node_store.specs.Views.{View, AreTwo, Denotes, Permanent, bdd_at, NotBothLeaves, IsLeafOf, logic_one, logic_zero}
 
 -- slot 0

@@ -7,7 +7,7 @@ use Rattle.edge_bits.specs.declared.edges.Kind.TheVariants.{Bdd}
 use Rattle.function_laws.specs.Values.{constant, negation, if_then_else}
 use Rattle.function_laws.proofs.ValueLemmas.{everywhere}
 use Rattle.node_store.specs.Edges.{flip_if, xor}
-use Rattle.node_store.specs.Kinds.{Function, BddFunction, values_of, flipped}
+use Rattle.function_laws.specs.Kinds.{Denoted, BddFunction, values_of, flipped}
 use Rattle.node_store.specs.Views.{View, Is, Denotes, Permanent, bdd_at}
 use Rattle.node_store.specs.ViewLaws.{Denotes-flip, flipped-not, Denotes-truth, Is-from, values_at-is}
 use Rattle.node_store.specs.Three.{AreThree, ite_at, IsFlipped, IsNormal, IsReduced}
@@ -173,7 +173,7 @@ two_constants w p f g h e gz hz ne is d =
         (Denotes-flip d.condition)
 
 -- two edges to one slot denote the same, or complements
-same_slot : (b c : Bool) (o : Option Function) (f g : ℕ → Bool) → flipped b o ≡ Some (BddFunction f) → flipped c o ≡ Some (BddFunction g) → g ≡ cond (xor b c) (negation f) f
+same_slot : (b c : Bool) (o : Option Denoted) (f g : ℕ → Bool) → flipped b o ≡ Some (BddFunction f) → flipped c o ≡ Some (BddFunction g) → g ≡ cond (xor b c) (negation f) f
 same_slot true true o f g p q = ap (values_of Bdd) (sym q ∙ p)
 same_slot true false o f g p q = ap (values_of Bdd) (sym q ∙ flipped-not true o f p)
 same_slot false true o f g p q = ap (values_of Bdd) (sym q ∙ flipped-not false o f p)

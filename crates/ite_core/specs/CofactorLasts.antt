@@ -3,7 +3,7 @@ use Rattle.std.proofs.Common.{◌≡◌, ℕ, Bool, refl, ap, sym, ◌∙◌}
 use Rattle.edge_bits.specs.declared.edges.Edge.{Edge}
 use Rattle.edge_bits.specs.declared.edges.Kind.TheVariants.{Bdd}
 use Rattle.function_laws.specs.Values.{cofactor}
-use Rattle.node_store.specs.Kinds.{Function, BddFunction}
+use Rattle.function_laws.specs.Kinds.{Denoted, BddFunction}
 use Rattle.node_store.specs.Views.{View, Is, Grown}
 use Rattle.node_store.specs.ViewLaws.{Permanent-grown, Denotes-grown, Is-grown, values_at-grown, Splits-grown, top-grown, IsVariable-grown}
 use Rattle.node_store.specs.ThreeLaws.{IsPartOrComplement-grown}
@@ -38,5 +38,5 @@ CofactorSplits-stay y v w t x a b m d s = record {
 pub one_depth-stays : (v w : View) (t : Task) → Grown v w → Is Bdd v t.f → one_depth w t ≡ one_depth v t
 one_depth-stays v w t m d = rw (m.vars, top-grown Bdd m d) refl
 
-pub value_of_cofactor-stays : (f : Edge) (x : ℕ) (b : Bool) (v w : View) (F : Function) → Grown v w → HasCofactor v f x → value_of_cofactor f x b v F → value_of_cofactor f x b w F
+pub value_of_cofactor-stays : (f : Edge) (x : ℕ) (b : Bool) (v w : View) (F : Denoted) → Grown v w → HasCofactor v f x → value_of_cofactor f x b v F → value_of_cofactor f x b w F
 value_of_cofactor-stays f x b v w F m d is = is ∙ ap BddFunction (sym (cofactor_at-grown x b m d.edge))

@@ -3,7 +3,7 @@ use Rattle.std.specs.Prelude.{◌≡◌, ◌≢◌, ℕ, ◌-◌, ◌<◌, Bool}
 use Rattle.edge_bits.specs.declared.edges.Edge.{Edge}
 use Rattle.edge_bits.specs.declared.edges.Kind.TheVariants.{Bdd}
 use Rattle.function_laws.specs.Values.{cofactor}
-use Rattle.node_store.specs.Kinds.{Function, BddFunction}
+use Rattle.function_laws.specs.Kinds.{Denoted, BddFunction}
 use Rattle.node_store.specs.Views.{View, Denotes, Is, IsVariable, Permanent, Splits, bdd_at}
 use Rattle.node_store.specs.Memo.{literal_edge}
 use Rattle.node_store.specs.Three.{IsPartOrComplement}
@@ -20,7 +20,7 @@ pub record HasCofactor (w : View) (f : Edge) (v : ℕ) : Type 0 where
   pub in_range : IsVariable Bdd w v
 
 -- the work of a call is its value
-abbrev pub value_of_cofactor : Edge → ℕ → Bool → View → Function → Type 0
+abbrev pub value_of_cofactor : Edge → ℕ → Bool → View → Denoted → Type 0
 value_of_cofactor f v b w F = F ≡ BddFunction (cofactor_at w f v b)
 
 -- a task of the call with this function, variable and bit, and with their literal

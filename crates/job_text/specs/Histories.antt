@@ -170,17 +170,22 @@ left_of lines = filter (λ register. not (list_any (λ line. drops register.name
 abbrev pub drop_of : Held → List Word × Call
 drop_of register = (codes "drop" ∷ register.word ∷ [], calls.DropRow register.name)
 
--- The lines of one session: its commands in order, up to the first that stops it or to their end, and then the drops of
--- the registers that are left, in order of assignment. The register of number k has a name of generation k.
-pub record IsSession (commands : List Command) (lines : List HistoryLine) : Type 0 where
+-- The lines of a script of one session: its commands in order, up to the first that stops it or to their end, and then the
+-- drops of the registers that are left, in order of assignment. The session has given `first` names before, so the register
+-- of number k has a name of generation first + k.
+pub record IsScript (first : ℕ) (commands : List Command) (lines : List HistoryLine) : Type 0 where
   pub said : List HistoryLine
   pub dropped : List HistoryLine
   pub parts : lines ≡ said ++ dropped
   pub in_order : SayInOrder (registers_of said) said commands
   pub goes_on : list_all (λ line. not (stops line.reply)) (take (length said - 1) said) ≡ true
   pub to_the_end : list_any (λ line. stops line.reply) said ≡ false → length said ≡ length commands
-  pub generations : map (λ register. register.name.generation) (registers_of said) ≡ range_with_len 0 (length (registers_of said))
+  pub generations : map (λ register. register.name.generation) (registers_of said) ≡ range_with_len first (length (registers_of said))
   pub drops_the_rest : map (λ line. (line.words, line.entry.call)) dropped ≡ map drop_of (left_of said)
+
+-- the lines of a session that has given no name before
+abbrev pub IsSession : List Command → List HistoryLine → Type 0
+IsSession commands lines = IsScript 0 commands lines
 
 -- the numbers of a job, which no command of it changes
 abbrev pub sizes_of : Job → Sizes

@@ -28,7 +28,7 @@ use Rattle.function_laws.proofs.WidthLemmas.{same-from_lists}
 use Rattle.add_ops.specs.declared.arithmetic.Overflow.{Overflow}
 use Rattle.node_store.specs.declared.grow.Stop.{Stop}
 use Rattle.node_store.specs.declared.grow.Stop.TheVariants as stop
-use Rattle.node_store.specs.Kinds.{Fits, Function as StoreFunction, ValueOf}
+use Rattle.function_laws.specs.Kinds.{Fits, Denoted, ValueOf}
 use Rattle.node_store.specs.Two.{Overflows}
 use Rattle.node_store.specs.Work.{IsWork}
 use Rattle.node_store.specs.ViewLaws.{Is-from, Is-grown, values_at-grown, values_at-is}
@@ -246,7 +246,7 @@ pub are_variables : (w : View) (vs : List ℕ) → w.vars ≤ 1024 → All (λ v
 are_variables w vs few vars = All-weaker (λ v. v < w.vars) (IsVariable kinds.Bdd w) (λ v below. (omega arith, below)) vs vars
 
 -- where a part of the work is due, a function is
-pub due_of_work : (w : View) (Work : StoreFunction → Type 0) → IsWork w Work w.due → IsDue w
+pub due_of_work : (w : View) (Work : Denoted → Type 0) → IsWork w Work w.due → IsDue w
 due_of_work w Work is = elim is.is [
   | inl plain ↦ (_, plain)
   | inr opposite ↦ (_, opposite)

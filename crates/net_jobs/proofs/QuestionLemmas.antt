@@ -22,7 +22,7 @@ use Rattle.function_laws.proofs.ListLemmas.{same-list_of, truth-list_of, whole-l
 use Rattle.function_laws.proofs.StepLemmas.{outcome-eval, value_is_allowed}
 use Rattle.function_laws.proofs.ValueLemmas.{everywhere}
 use Rattle.function_laws.proofs.WidthLemmas.{same-from_lists}
-use Rattle.node_store.specs.Kinds.{Lacks, ValueOf}
+use Rattle.function_laws.specs.Kinds.{Lacks, ValueOf}
 use Rattle.node_slots.specs.Views.{View, Grown, IsBeyond, levels, values_at}
 use Rattle.net_jobs.specs.Agreement.{Agrees, AreStored, Has, IsLiveOf, IsStepOf, Rows, listed, listed_at}
 use Rattle.net_jobs.specs.Walking.{IsOnVariables, number_of}

@@ -26,7 +26,7 @@ use Rattle.function_laws.proofs.ExistsLemmas.{and_exists_of-list_of, exists_of-l
 use Rattle.function_laws.proofs.StepLemmas.{outcome-and, outcome-var}
 use Rattle.node_store.specs.declared.grow.Stop.{Stop}
 use Rattle.node_store.specs.declared.grow.Stop.TheVariants as stop
-use Rattle.node_store.specs.Kinds.{flipped}
+use Rattle.function_laws.specs.Kinds.{flipped}
 use Rattle.edge_bits.specs.declared.lists.Memory.{Memory}
 use Rattle.node_slots.specs.Memo.{Implies}
 use Rattle.node_slots.specs.Views.{View, Denotes, Grown, Permanent, Rose, bdd_at}

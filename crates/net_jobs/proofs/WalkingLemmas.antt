@@ -4,7 +4,7 @@ use Rattle.edge_bits.specs.declared.edges.Edge.{Edge}
 use Rattle.edge_bits.specs.declared.edges.Kind.{Kind}
 use Rattle.edge_bits.specs.declared.edges.Kind.TheVariants.{Bdd, Add, Zdd}
 use Rattle.edge_bits.specs.Assignments.{bit}
-use Rattle.node_store.specs.Kinds.{ValueOf}
+use Rattle.function_laws.specs.Kinds.{ValueOf}
 use Rattle.node_slots.specs.Views.{View, Is, IsInner, IsLeaf, IsLeafOf, IsVariable, levels, logic_one, logic_zero, node_values, number, values_at}
 use Rattle.net_jobs.specs.Walking.{IsOnVariables, number_of}
 

@@ -12,7 +12,7 @@ use Rattle.function_laws.specs.declared.history.Function.TheVariants.{Bdd, Add, 
 use Rattle.function_laws.specs.Lists.{list_of}
 use Rattle.function_laws.specs.Tables.{Table, Sizes}
 use Rattle.function_laws.specs.Steps.{IsAllowed, after}
-use Rattle.node_store.specs.Kinds.{Function as StoreFunction, ValueOf}
+use Rattle.function_laws.specs.Kinds.{Denoted, ValueOf}
 use Rattle.node_slots.specs.Stores.{Plain, in_use}
 use Rattle.node_slots.specs.Views.{View, Is, Rose, values_at}
 use Rattle.net_jobs.specs.declared.session.Row.{Row}
@@ -122,7 +122,7 @@ IsKept k e rows rows' name = (name ≡ name_of (length rows)) × (rows' ≡ rows
 
 -- a function was refused
 abbrev pub IsDue : View → Type 0
-IsDue w = (f : StoreFunction) × (w.due ≡ Some f)
+IsDue w = (f : Denoted) × (w.due ≡ Some f)
 
 -- as many slots are in use as there are
 abbrev pub IsFilled : Plain → Type 0

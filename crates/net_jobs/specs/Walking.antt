@@ -4,7 +4,7 @@ use Rattle.edge_bits.specs.declared.edges.Edge.{Edge}
 use Rattle.edge_bits.specs.declared.edges.Kind.{Kind}
 use Rattle.edge_bits.specs.declared.edges.Kind.TheVariants.{Bdd, Add, Zdd}
 use Rattle.edge_bits.specs.Words.{digit}
-use Rattle.node_store.specs.Kinds.{ValueOf}
+use Rattle.function_laws.specs.Kinds.{ValueOf}
 use Rattle.node_store.specs.Views.{View, Is}
 
 -- the kinds whose diagrams branch on variables

@@ -12,7 +12,7 @@ use Rattle.edge_bits.specs.Words.{unpack_of}
 use Rattle.edge_bits.specs.Reading.{plain}
 use Rattle.function_laws.specs.Values.{constant}
 use Rattle.function_laws.specs.Numbers.{is_value}
-use Rattle.node_store.specs.Kinds.{Function, AddFunction, function_of, joined_at, Lacks, flipped}
+use Rattle.function_laws.specs.Kinds.{Denoted, AddFunction, function_of, joined_at, Lacks, flipped}
 use Rattle.node_store.specs.Views.{View, levels, IsBelow, CanMake, Grown, values_at, node_values, IsLeafOf, number}
 use Rattle.node_store.specs.ViewLaws.{Is-grown, values_at-grown, IsBelow-grown, IsVariable-grown, IsVariable-back, levels-grown}
 use Rattle.node_store.proofs.TwoParts.{Lacks-leaf}
@@ -51,10 +51,10 @@ module _ (p : Plain) (i bits : ℕ) (word : Word) (within : i < length p.words) 
     | inr ne ↦ slot-other t ne ∙ is
   ]
 
-  content-grown : (s : ℕ) (f : Function) → content_of p s ≡ Some f → content_of (written p i bits) s ≡ Some f
+  content-grown : (s : ℕ) (f : Denoted) → content_of p s ≡ Some f → content_of (written p i bits) s ≡ Some f
   content-grown s f h = function-more (slots p) (slots (written p i bits)) extends (suc (longest p)) (suc (longest p)) (omega arith) s f h
 
-  top-grown : (s : ℕ) (f : Function) → content_of p s ≡ Some f → top_in (written p i bits) s ≡ top_in p s
+  top-grown : (s : ℕ) (f : Denoted) → content_of p s ≡ Some f → top_in (written p i bits) s ≡ top_in p s
   top-grown zero f h = refl
   top-grown (suc zero) f h = refl
   top-grown (suc (suc zero)) f h = refl
@@ -99,24 +99,24 @@ module _ (p : Plain) (i bits : ℕ) (word : Word) (within : i < length p.words) 
         lo_short = (let x = some_content node.lo.complement (content_of p node.lo.index) (function_of k (values_at k w node.lo)) c.lo_is.is in rw (levels-grown k g) (short m node.lo.index x.0 n.lo_short x.1));
       }
     where
-      short : (m s : ℕ) (f : Function) → function_at_most (slots p) m s ≡ content_of p s → content_of p s ≡ Some f → function_at_most (slots (written p i bits)) m s ≡ content_of (written p i bits) s
+      short : (m s : ℕ) (f : Denoted) → function_at_most (slots p) m s ≡ content_of p s → content_of p s ≡ Some f → function_at_most (slots (written p i bits)) m s ≡ content_of (written p i bits) s
       short m s f e h = function-more (slots p) (slots (written p i bits)) extends m m (omega arith) s f (e ∙ h) ∙ sym (content-grown s f h)
 
-      some_content : (b : Bool) (o : Option Function) (f : Function) → flipped b o ≡ Some f → (g : Function) × (o ≡ Some g)
+      some_content : (b : Bool) (o : Option Denoted) (f : Denoted) → flipped b o ≡ Some f → (g : Denoted) × (o ≡ Some g)
       some_content true None f h = cc
       some_content false None f h = cc
       some_content b (Some g) f h = (g, refl)
 
   -- what is asked of the word
-  module _ (st : IsStore p) (f : Function) (here : content_of (written p i bits) i ≡ Some f) (fresh : (t : ℕ) → content_of p t ≡ Some f → ⊥)
+  module _ (st : IsStore p) (f : Denoted) (here : content_of (written p i bits) i ≡ Some f) (fresh : (t : ℕ) → content_of p t ≡ Some f → ⊥)
       (node_is : (node : Node) → word ≡ Inner node → (k : Kind) × IsNode k p node) (leaf_is : (x : ℤ) → word ≡ Leaf x → is_value x ≡ true) where
-    back-some : (t : ℕ) (g : Function) → 3 ≤ t → (x : Word) → slots p t ≡ Some x → (h : Function) × (content_of p t ≡ Some h)
+    back-some : (t : ℕ) (g : Denoted) → 3 ≤ t → (x : Word) → slots p t ≡ Some x → (h : Denoted) × (content_of p t ≡ Some h)
     back-some t g le (Leaf x) is = (AddFunction (constant x), at_word (slots p) (longest p) t le ∙ ap (word_function (function_at_most (slots p) (longest p))) is)
     back-some t g le (Inner node) is =
         let n = st.canonical.nodes t node is in
         (function_of n.0 (node_values n.0 (plain_view p) node.var (plain node.hi) node.lo), content_node p n.0 t node is le n.1)
 
-    back-other : (t : ℕ) (g : Function) → t ≢ i → 3 ≤ t → content_of (written p i bits) t ≡ Some g → content_of p t ≡ Some g
+    back-other : (t : ℕ) (g : Denoted) → t ≢ i → 3 ≤ t → content_of (written p i bits) t ≡ Some g → content_of p t ≡ Some g
     back-other t g ne le h =
         let u = used (slots (written p i bits)) (longest p) t g le h in
         let x = back-some t g le u.0 (sym (slot-other t ne) ∙ u.1) in
@@ -124,14 +124,14 @@ module _ (p : Plain) (i bits : ℕ) (word : Word) (within : i < length p.words) 
         x.1 ∙ e
 
     -- what another slot denotes it denoted before
-    back : (t : ℕ) (g : Function) → t ≢ i → content_of (written p i bits) t ≡ Some g → content_of p t ≡ Some g
+    back : (t : ℕ) (g : Denoted) → t ≢ i → content_of (written p i bits) t ≡ Some g → content_of p t ≡ Some g
     unfolding function_at_most
     back zero g ne h = h
     back (suc zero) g ne h = h
     back (suc (suc zero)) g ne h = h
     back (suc (suc (suc t))) g ne h = back-other (suc (suc (suc t))) g ne (omega arith) h
 
-    clash : (t : ℕ) (g : Function) → t ≢ i → content_of (written p i bits) i ≡ Some g → content_of (written p i bits) t ≡ Some g → ⊥
+    clash : (t : ℕ) (g : Denoted) → t ≢ i → content_of (written p i bits) i ≡ Some g → content_of (written p i bits) t ≡ Some g → ⊥
     clash t g ne hi ht = fresh t (back t g ne ht ∙ sym hi ∙ here)
 
     nodes-more : (s : ℕ) (node : Node) → slots (written p i bits) s ≡ Some (Inner node) → (k : Kind) × IsNode k (written p i bits) node
@@ -150,7 +150,7 @@ module _ (p : Plain) (i bits : ℕ) (word : Word) (within : i < length p.words) 
       | inr ne ↦ st.canonical.leaves s x (sym (slot-other s ne) ∙ is)
     ]
 
-    apart-more : (s t : ℕ) (g : Function) → content_of (written p i bits) s ≡ Some g → content_of (written p i bits) t ≡ Some g → s ≡ t
+    apart-more : (s t : ℕ) (g : Denoted) → content_of (written p i bits) s ≡ Some g → content_of (written p i bits) t ≡ Some g → s ≡ t
     apart-more s t g hs ht = elim (cases_eq s i) [
       | inl es ↦ elim (cases_eq t i) [
         | inl et ↦ es ∙ sym et

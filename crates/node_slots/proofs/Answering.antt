@@ -16,7 +16,7 @@ use Rattle.edge_bits.specs.Reading.{plain}
 use Rattle.function_laws.specs.Values.{constant}
 use Rattle.function_laws.specs.Numbers.{is_value}
 use Rattle.function_laws.proofs.NumberLemmas.{is_value-true}
-use Rattle.node_store.specs.Kinds.{AddFunction, ValueOf, function_of}
+use Rattle.function_laws.specs.Kinds.{AddFunction, ValueOf, function_of}
 use Rattle.node_store.specs.Views.{AreTwo, IsVariable, CanMake, Denotes, Grown, Is, values_at, node_values}
 use Rattle.node_store.specs.declared.grow.Stop.{Stop}
 use Rattle.node_store.specs.declared.grow.Stop.TheVariants as stop

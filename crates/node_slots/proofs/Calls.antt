@@ -11,7 +11,7 @@ use Rattle.edge_bits.specs.Assignments.{bit}
 use Rattle.edge_bits.specs.Reading.{plain}
 use Rattle.function_laws.specs.Values.{constant, negation, choice, projection}
 use Rattle.function_laws.proofs.ValueLemmas.{everywhere, place_one}
-use Rattle.node_store.specs.Kinds.{Function, BddFunction, AddFunction, ZddFamily, ValueOf, function_of, Lacks, flipped}
+use Rattle.function_laws.specs.Kinds.{Denoted, BddFunction, AddFunction, ZddFamily, ValueOf, function_of, Lacks, flipped}
 use Rattle.node_store.specs.Edges.{flip_if}
 use Rattle.node_store.specs.Views.{levels, IsVariable, IsBelow, IsProper, IsInner, IsLeaf, IsLeafOf, logic_one, logic_zero, Opens, Splits, CanMake, Is, Permanent, function_at, values_at, node_values}
 use Rattle.node_store.specs.ViewLaws.{values_at-is, Is-from, Denotes-flip}
@@ -23,12 +23,12 @@ use Rattle.node_slots.proofs.Parting.{same_values}
 use Rattle.node_slots.proofs.Canonical.{inner_high, top_word, LeafSlot, leaf_or_node, regular_slot, lower_slot, short_slot, not-injective}
 
 -- what a slot denotes, by what an edge to it denotes
-pub record Unflipped (k : Kind) (o : Option Function) (f : ℕ → ValueOf k) : Type 0 where
+pub record Unflipped (k : Kind) (o : Option Denoted) (f : ℕ → ValueOf k) : Type 0 where
   pub inner : ℕ → ValueOf k
   pub is : o ≡ Some (function_of k inner)
   pub lacks : (v : ℕ) → Lacks k f v → Lacks k inner v
 
-pub unflip : (k : Kind) (c : Bool) (o : Option Function) (f : ℕ → ValueOf k) → flipped c o ≡ Some (function_of k f) → Unflipped k o f
+pub unflip : (k : Kind) (c : Bool) (o : Option Denoted) (f : ℕ → ValueOf k) → flipped c o ≡ Some (function_of k f) → Unflipped k o f
 unflip k false o f h = record { inner = f; is = h; lacks = λ v p. p }
 unflip k true None f h = cc
 unflip k true (Some (AddFunction g)) f h = cc

@@ -11,7 +11,7 @@ use Rattle.edge_bits.specs.Reading.{plain}
 use Rattle.function_laws.specs.Values.{constant, negation}
 use Rattle.function_laws.specs.Families.{empty, base}
 use Rattle.function_laws.proofs.ValueLemmas.{everywhere}
-use Rattle.node_store.specs.Kinds.{Function, BddFunction, AddFunction, ZddFamily, ValueOf, function_of, joined_at, flipped}
+use Rattle.function_laws.specs.Kinds.{Denoted, BddFunction, AddFunction, ZddFamily, ValueOf, function_of, joined_at, flipped}
 use Rattle.node_store.specs.KindLaws.{flipped-some}
 use Rattle.node_store.specs.Views.{levels, IsVariable, IsBelow, function_at, values_at, node_values, IsLeafOf, logic_one, number, no_member, only_base}
 use Rattle.node_slots.specs.Slots.{word_function, function_at_most}
@@ -74,14 +74,14 @@ pub SlotOf : (k : Kind) → Plain → ℕ → (ℕ → ValueOf k) → Type 0
 SlotOf k p s f = LeafSlot k p s f ⊎ NodeSlot k p s f
 
 -- a slot of some kind
-record SomeSlot (p : Plain) (s : ℕ) (f : Function) : Type 0 where
+record SomeSlot (p : Plain) (s : ℕ) (f : Denoted) : Type 0 where
   kind : Kind
   values : ℕ → ValueOf kind
   is : f ≡ function_of kind values
   slot : SlotOf kind p s values
 
 module _ (p : Plain) (first : HasPermanent p) (sound : IsCanonical p) where
-  by_word : (s : ℕ) → 3 ≤ s → (word : Word) → slots p s ≡ Some word → (f : Function) → content_of p s ≡ Some f → SomeSlot p s f
+  by_word : (s : ℕ) → 3 ≤ s → (word : Word) → slots p s ≡ Some word → (f : Denoted) → content_of p s ≡ Some f → SomeSlot p s f
   unfolding SlotOf
   by_word s le (Leaf x) is f h =
       let at = at_word (slots p) (longest p) s le ∙ ap (word_function (function_at_most (slots p) (longest p))) is in
@@ -109,7 +109,7 @@ module _ (p : Plain) (first : HasPermanent p) (sound : IsCanonical p) where
         slot = inr (record { node = node; word = is; is_node = n.1; is = refl });
       }
 
-  some_slot : (s : ℕ) (f : Function) → content_of p s ≡ Some f → SomeSlot p s f
+  some_slot : (s : ℕ) (f : Denoted) → content_of p s ≡ Some f → SomeSlot p s f
   unfolding SlotOf function_at_most
   some_slot zero f h = record {
     kind = Bdd;
@@ -210,7 +210,7 @@ not_both n g h i = let e : not true ≡ true = ap not (sym h) ∙ i in never e
     never e = cc
 
 -- of two regular functions, which complements make equal
-same_complement : (n : ℕ) (a b : Bool) (o q : Option Function) (f : Function)
+same_complement : (n : ℕ) (a b : Bool) (o q : Option Denoted) (f : Denoted)
     → ((g : ℕ → Bool) → o ≡ Some (BddFunction g) → g (ones n) ≡ true) → ((g : ℕ → Bool) → q ≡ Some (BddFunction g) → g (ones n) ≡ true)
     → flipped a o ≡ Some f → flipped b q ≡ Some f → (a ≡ b) × (o ≡ q)
 same_complement n false false o q f ro rq h i = (refl, h ∙ sym i)
@@ -234,7 +234,7 @@ same_complement n false true o (Some (ZddFamily g)) f ro rq h i = cc
 same_complement n false true o (Some (BddFunction g)) f ro rq h i = absurd (not_both n g (rq g refl) (ro (negation g) (h ∙ sym i)))
 
 -- no two edges denote one function
-pub same_edge : (p : Plain) → HasPermanent p → IsCanonical p → (a b : Edge) (f : Function) → function_at (plain_view p) a ≡ Some f → function_at (plain_view p) b ≡ Some f → a ≡ b
+pub same_edge : (p : Plain) → HasPermanent p → IsCanonical p → (a b : Edge) (f : Denoted) → function_at (plain_view p) a ≡ Some f → function_at (plain_view p) b ≡ Some f → a ≡ b
 same_edge p first sound a b f h i =
     let n = length p.variable_levels in
     let s = same_complement n a.complement b.complement (content_of p a.index) (content_of p b.index) f

@@ -6,7 +6,7 @@ use Rattle.std.proofs.lemmas.Bool.{cases_lt}
 use Rattle.std.proofs.lemmas.List.Sums.{count_by_more_yes, count_by_more_no}
 use Rattle.edge_bits.specs.Reading.{slots_of}
 use Rattle.edge_bits.specs.declared.words.Word.{Word}
-use Rattle.node_store.specs.Kinds.{Function}
+use Rattle.function_laws.specs.Kinds.{Denoted}
 use Rattle.node_slots.specs.declared.plain_store.Refused.{Refused}
 use Rattle.node_slots.specs.Stores.{Plain, slots, is_used, is_word, plain_view, refused_function, HasPermanent, IsStore}
 
@@ -49,12 +49,12 @@ used_if : (o : Option Word) → (o ≡ None → ⊥) → is_used o ≡ true
 used_if None some = absurd (some refl)
 used_if (Some word) some = refl
 
-was_refused : (content : ℕ → Option Function) (d : Option Refused) (f : Function) → refused_function content d ≡ Some f → (r : Refused) × (d ≡ Some r)
+was_refused : (content : ℕ → Option Denoted) (d : Option Refused) (f : Denoted) → refused_function content d ≡ Some f → (r : Refused) × (d ≡ Some r)
 was_refused content None f e = cc
 was_refused content (Some r) f e = (r, refl)
 
 -- where a function is due, each slot is in use
-pub count_full : (q p : Plain) → q ≡ p → IsStore q → (f : Function) → (plain_view p).due ≡ Some f → count_by is_word p.words ≡ length p.words
+pub count_full : (q p : Plain) → q ≡ p → IsStore q → (f : Denoted) → (plain_view p).due ≡ Some f → count_by is_word p.words ≡ length p.words
 count_full q p same st f = subst (λ (x : Plain). (plain_view x).due ≡ Some f → count_by is_word x.words ≡ length x.words) same
     (λ due. let r = was_refused _ q.due f due in
     ap (count_by is_word) (sym (take-length q.words)) ∙ count_first is_word q.words (length q.words) (omega arith) (λ t lt. used_if (slots q t) (st.refused r.0 r.1 t lt)))

@@ -11,7 +11,7 @@ use Rattle.edge_bits.specs.Reading.{plain, read_bdd, read_add, read_zdd, add_ste
 use Rattle.edge_bits.proofs.ReadingLemmas.{read_bdd-inner, read_bdd-leaf, read_zdd-inner}
 use Rattle.function_laws.specs.Values.{constant, negation, choice}
 use Rattle.function_laws.specs.Families.{empty, base}
-use Rattle.node_store.specs.Kinds.{Function, BddFunction, AddFunction, ZddFamily, ValueOf, function_of, joined_at, flipped}
+use Rattle.function_laws.specs.Kinds.{Denoted, BddFunction, AddFunction, ZddFamily, ValueOf, function_of, joined_at, flipped}
 use Rattle.node_store.specs.Views.{levels, Denotes}
 use Rattle.node_slots.specs.Slots.{node_of, word_function, function_at_most}
 use Rattle.node_slots.specs.Stores.{Plain, slots, content_of, plain_view, HasPermanent, IsStore}
@@ -20,14 +20,14 @@ use Rattle.node_slots.proofs.Parting.{same_kind, same_values}
 use Rattle.node_slots.proofs.Canonical.{inner_high, node_at, leaf_or_node}
 
 -- the children of a node of the kind
-record Parts (k : Kind) (v : ℕ) (a b : Option Function) (f : ℕ → ValueOf k) : Type 0 where
+record Parts (k : Kind) (v : ℕ) (a b : Option Denoted) (f : ℕ → ValueOf k) : Type 0 where
   high : ℕ → ValueOf k
   low : ℕ → ValueOf k
   high_is : a ≡ Some (function_of k high)
   low_is : b ≡ Some (function_of k low)
   is : f ≡ joined_at k v high low
 
-node_parts : (k : Kind) (v : ℕ) (a b : Option Function) (f : ℕ → ValueOf k) → node_of v a b ≡ Some (function_of k f) → Parts k v a b f
+node_parts : (k : Kind) (v : ℕ) (a b : Option Denoted) (f : ℕ → ValueOf k) → node_of v a b ≡ Some (function_of k f) → Parts k v a b f
 node_parts k v a b f h =
     let n = node_of-some v a b (function_of k f) h in
     subst (λ j. (g : ℕ → ValueOf j) → function_of j g ≡ function_of n.kind (joined_at n.kind v n.high n.low) → Parts j v a b g)
@@ -36,21 +36,21 @@ node_parts k v a b f h =
     f n.is
 
 -- an edge's function, by its slot's
-turned-bdd : (c : Bool) (o : Option Function) (f : ℕ → Bool) → flipped c o ≡ Some (BddFunction f) → (g : ℕ → Bool) × ((o ≡ Some (BddFunction g)) × ((k : ℕ) → f k ≡ turned c (g k)))
+turned-bdd : (c : Bool) (o : Option Denoted) (f : ℕ → Bool) → flipped c o ≡ Some (BddFunction f) → (g : ℕ → Bool) × ((o ≡ Some (BddFunction g)) × ((k : ℕ) → f k ≡ turned c (g k)))
 turned-bdd false o f h = (f, (h, λ k. refl))
 turned-bdd true None f h = cc
 turned-bdd true (Some (AddFunction g)) f h = cc
 turned-bdd true (Some (ZddFamily g)) f h = cc
 turned-bdd true (Some (BddFunction g)) f h = (g, (refl, λ k. let e : negation g ≡ f = cc in ap (λ (x : ℕ → Bool). x k) (sym e)))
 
-plain-add : (c : Bool) (o : Option Function) (f : ℕ → ℤ) → flipped c o ≡ Some (AddFunction f) → o ≡ Some (AddFunction f)
+plain-add : (c : Bool) (o : Option Denoted) (f : ℕ → ℤ) → flipped c o ≡ Some (AddFunction f) → o ≡ Some (AddFunction f)
 plain-add false o f h = h
 plain-add true None f h = cc
 plain-add true (Some (BddFunction g)) f h = cc
 plain-add true (Some (AddFunction g)) f h = cc
 plain-add true (Some (ZddFamily g)) f h = cc
 
-plain-zdd : (c : Bool) (o : Option Function) (f : ℕ → Bool) → flipped c o ≡ Some (ZddFamily f) → o ≡ Some (ZddFamily f)
+plain-zdd : (c : Bool) (o : Option Denoted) (f : ℕ → Bool) → flipped c o ≡ Some (ZddFamily f) → o ≡ Some (ZddFamily f)
 plain-zdd false o f h = h
 plain-zdd true None f h = cc
 plain-zdd true (Some (BddFunction g)) f h = cc

@@ -13,7 +13,7 @@ use Rattle.function_laws.specs.Values.{constant, negation, choice}
 use Rattle.function_laws.specs.Numbers.{is_value}
 use Rattle.function_laws.specs.Families.{empty, joined}
 use Rattle.function_laws.proofs.ValueLemmas.{everywhere, place_one, choice-same}
-use Rattle.node_store.specs.Kinds.{Function, BddFunction, AddFunction, ZddFamily, ValueOf, function_of, flipped}
+use Rattle.function_laws.specs.Kinds.{Denoted, BddFunction, AddFunction, ZddFamily, ValueOf, function_of, flipped}
 use Rattle.node_store.specs.KindLaws.{joined-absent}
 use Rattle.node_store.specs.Edges.{flip_if}
 use Rattle.node_store.specs.Views.{View, IsBelow, IsProper, CanMake, Grown, Denotes, empty_edge, function_at, values_at, node_values}
@@ -41,17 +41,17 @@ twice f = everywhere (negation (negation f)) f (λ k. at (f k))
 -- a node whose then edge is not complemented, in place of another
 pub record Normal (k : Kind) (w : View) (v : ℕ) (hi lo : Edge) : Type 0 where
   pub can : CanMake k w v (plain hi.index) (flip_if hi.complement lo)
-  pub gives : (o : Option Function) → o ≡ Some (function_of k (node_values k w v (plain hi.index) (flip_if hi.complement lo))) → flipped hi.complement o ≡ Some (function_of k (node_values k w v hi lo))
+  pub gives : (o : Option Denoted) → o ≡ Some (function_of k (node_values k w v (plain hi.index) (flip_if hi.complement lo))) → flipped hi.complement o ≡ Some (function_of k (node_values k w v hi lo))
   pub back : (e : Edge) → function_at w e ≡ Some (function_of k (node_values k w v hi lo)) → function_at w (flip_if hi.complement e) ≡ Some (function_of k (node_values k w v (plain hi.index) (flip_if hi.complement lo)))
   pub proper : IsProper k (values_at k w hi) (values_at k w lo) → IsProper k (values_at k w (plain hi.index)) (values_at k w (flip_if hi.complement lo))
 
-no-add : (o : Option Function) (f : ℕ → ℤ) → flipped true o ≡ Some (AddFunction f) → ⊥
+no-add : (o : Option Denoted) (f : ℕ → ℤ) → flipped true o ≡ Some (AddFunction f) → ⊥
 no-add None f h = cc
 no-add (Some (BddFunction g)) f h = cc
 no-add (Some (AddFunction g)) f h = cc
 no-add (Some (ZddFamily g)) f h = cc
 
-no-family : (o : Option Function) (f : ℕ → Bool) → flipped true o ≡ Some (ZddFamily f) → ⊥
+no-family : (o : Option Denoted) (f : ℕ → Bool) → flipped true o ≡ Some (ZddFamily f) → ⊥
 no-family None f h = cc
 no-family (Some (BddFunction g)) f h = cc
 no-family (Some (AddFunction g)) f h = cc

@@ -16,7 +16,7 @@ use Rattle.edge_bits.proofs.AssignmentLemmas.{bit-set_same, bit-set_other}
 use Rattle.function_laws.specs.Values.{constant, projection}
 use Rattle.function_laws.specs.Numbers.{is_value, is_zero}
 use Rattle.function_laws.specs.Families.{empty, base}
-use Rattle.node_store.specs.Kinds.{Function, BddFunction, AddFunction, ZddFamily}
+use Rattle.function_laws.specs.Kinds.{Denoted, BddFunction, AddFunction, ZddFamily}
 use Rattle.node_store.specs.Views.{levels, IsVariable}
 use Rattle.node_slots.specs.Slots.{function_at_most}
 use Rattle.node_slots.specs.Stores.{Plain, slots, level_in, longest, content_of, plain_view, projection_node, constant_value, permanent_word, IsNode, IsOrdered, HasPermanent, IsStore, IsOpening}
@@ -97,17 +97,17 @@ one-apart : (v : ℕ) → constant true ≡ projection v → ⊥
 one-apart v e = never (ap (λ (f : ℕ → Bool). f 0) e ∙ bit-zero v)
 
 -- the constant's slot is told by its function
-leaf_slot : Function → ℕ
+leaf_slot : Denoted → ℕ
 leaf_slot (BddFunction f) = 0
 leaf_slot (AddFunction f) = if is_zero (f 0) then 3 else 4
 leaf_slot (ZddFamily p) = if p 0 then 2 else 1
 
 -- what a slot denotes where only the permanent slots have words
-record Constant (s : ℕ) (f : Function) : Type 0 where
+record Constant (s : ℕ) (f : Denoted) : Type 0 where
   here : s ≡ leaf_slot f
   apart : (v : ℕ) → f ≡ BddFunction (projection v) → ⊥
 
-record Projection (s : ℕ) (f : Function) : Type 0 where
+record Projection (s : ℕ) (f : Denoted) : Type 0 where
   variable : ℕ
   here : s ≡ 5 + variable
   is : f ≡ BddFunction (projection variable)
@@ -123,19 +123,19 @@ module _ (p : Plain) (first : HasPermanent p) (free : (s : ℕ) → 5 + length p
     | inr over ↦ (let e : None ≡ Some word = sym (free s over) ∙ is in cc)
   ]
 
-  leaf_case : (s : ℕ) (x : ℤ) → 3 ≤ s → slots p s ≡ Some (Leaf x) → s ≡ leaf_slot (AddFunction (constant x)) → (f : Function) → content_of p s ≡ Some f → Constant s f
+  leaf_case : (s : ℕ) (x : ℤ) → 3 ≤ s → slots p s ≡ Some (Leaf x) → s ≡ leaf_slot (AddFunction (constant x)) → (f : Denoted) → content_of p s ≡ Some f → Constant s f
   leaf_case s x le is here f h =
       let e : Some (AddFunction (constant x)) ≡ Some f = sym (leaf_content p s x le is) ∙ h in
       subst (Constant s) (let same : AddFunction (constant x) ≡ f = cc in same) (record { here = here; apart = λ v same. cc })
 
-  high_case : (s : ℕ) → 5 ≤ s → (f : Function) → content_of p s ≡ Some f → Projection s f
+  high_case : (s : ℕ) → 5 ≤ s → (f : Denoted) → content_of p s ≡ Some f → Projection s f
   high_case s le f h =
       let u = used (slots p) (longest p) s f (omega arith) h in
       let w = high_slot s le u.0 u.1 in
       let e : Some (BddFunction (projection (s - 5))) ≡ Some f = sym (projection_content p first (s - 5) w.0) ∙ ap (content_of p) (sym w.1) ∙ h in
       record { variable = s - 5; here = w.1; is = cc }
 
-  classify : (s : ℕ) (f : Function) → content_of p s ≡ Some f → Constant s f ⊎ Projection s f
+  classify : (s : ℕ) (f : Denoted) → content_of p s ≡ Some f → Constant s f ⊎ Projection s f
   unfolding function_at_most leaf_slot
   classify zero f h = inl (subst (Constant 0) (let same : BddFunction (constant true) ≡ f = cc in same) (record { here = refl; apart = λ v e. one-apart v (let same : constant true ≡ projection v = cc in same) }))
   classify (suc zero) f h = inl (subst (Constant 1) (let same : ZddFamily empty ≡ f = cc in same) (record { here = refl; apart = λ v e. cc }))
@@ -144,7 +144,7 @@ module _ (p : Plain) (first : HasPermanent p) (free : (s : ℕ) → 5 + length p
   classify (suc (suc (suc (suc zero)))) f h = inl (leaf_case 4 (pos 1) (omega arith) (first.constants 4 (omega arith)) refl f h)
   classify (suc (suc (suc (suc (suc s))))) f h = inr (high_case (suc (suc (suc (suc (suc s))))) (omega arith) f h)
 
-  apart : (s t : ℕ) (f : Function) → content_of p s ≡ Some f → content_of p t ≡ Some f → s ≡ t
+  apart : (s t : ℕ) (f : Denoted) → content_of p s ≡ Some f → content_of p t ≡ Some f → s ≡ t
   apart s t f hs ht = elim (classify s f hs) [
     | inl a ↦ elim (classify t f ht) [
       | inl b ↦ a.here ∙ sym b.here

@@ -9,7 +9,7 @@ use Rattle.edge_bits.proofs.AssignmentLemmas.{bit-set_same, bit-set_other}
 use Rattle.function_laws.specs.Families.{empty, subset1, subset0, IsWithout}
 use Rattle.function_laws.proofs.ValueLemmas.{everywhere, cofactor-free}
 use Rattle.node_slots.specs.Stores.{ones}
-use Rattle.node_store.specs.Kinds.{ValueOf, function_of, values_of, joined_at, Lacks, part_at, absent_part}
+use Rattle.function_laws.specs.Kinds.{ValueOf, function_of, values_of, joined_at, Lacks, part_at, absent_part}
 use Rattle.node_store.specs.KindLaws.{values_of-function, part-joined, Lacks-joined}
 use Rattle.node_store.specs.Views.{View, IsVariable, IsBelow, IsProper}
 use Rattle.node_store.specs.ViewLaws.{Apart-variables}

@@ -8,7 +8,7 @@ use Rattle.edge_bits.specs.declared.edges.Kind.{Kind}
 use Rattle.edge_bits.specs.declared.edges.Kind.TheVariants.{Bdd, Add, Zdd}
 use Rattle.edge_bits.specs.declared.words.Word.{Word}
 use Rattle.edge_bits.specs.declared.words.Word.TheVariants.{Inner, Leaf}
-use Rattle.node_store.specs.Kinds.{Function, BddFunction, AddFunction, ZddFamily, ValueOf, function_of, joined_at, flipped}
+use Rattle.function_laws.specs.Kinds.{Denoted, BddFunction, AddFunction, ZddFamily, ValueOf, function_of, joined_at, flipped}
 use Rattle.node_slots.specs.Slots.{node_of, word_function, function_at_most}
 
 -- a slot that is not told by its number
@@ -25,7 +25,7 @@ node_of-functions Add v f g = refl
 node_of-functions Zdd v f g = refl
 
 -- a node that stands for something has children of one kind
-pub record IsNodeOf (v : ℕ) (a b : Option Function) (f : Function) : Type 0 where
+pub record IsNodeOf (v : ℕ) (a b : Option Denoted) (f : Denoted) : Type 0 where
   pub kind : Kind
   pub high : ℕ → ValueOf kind
   pub low : ℕ → ValueOf kind
@@ -33,7 +33,7 @@ pub record IsNodeOf (v : ℕ) (a b : Option Function) (f : Function) : Type 0 wh
   pub low_is : b ≡ Some (function_of kind low)
   pub is : f ≡ function_of kind (joined_at kind v high low)
 
-pub node_of-some : (v : ℕ) (a b : Option Function) (f : Function) → node_of v a b ≡ Some f → IsNodeOf v a b f
+pub node_of-some : (v : ℕ) (a b : Option Denoted) (f : Denoted) → node_of v a b ≡ Some f → IsNodeOf v a b f
 node_of-some v (Some (BddFunction g)) (Some (BddFunction h)) f e = record { kind = Bdd; high = g; low = h; high_is = refl; low_is = refl; is = cc }
 node_of-some v (Some (BddFunction g)) (Some (AddFunction h)) f e = cc
 node_of-some v (Some (BddFunction g)) (Some (ZddFamily h)) f e = cc
@@ -48,7 +48,7 @@ node_of-some v (Some (ZddFamily g)) (Some (ZddFamily h)) f e = record { kind = Z
 node_of-some v (Some (ZddFamily g)) None f e = cc
 node_of-some v None b f e = cc
 
-pub flipped-more : (c : Bool) (o p : Option Function) (f : Function) → flipped c o ≡ Some f → ((g : Function) → o ≡ Some g → p ≡ Some g) → flipped c p ≡ Some f
+pub flipped-more : (c : Bool) (o p : Option Denoted) (f : Denoted) → flipped c o ≡ Some f → ((g : Denoted) → o ≡ Some g → p ≡ Some g) → flipped c p ≡ Some f
 flipped-more true None p f h more = cc
 flipped-more false None p f h more = cc
 flipped-more c (Some g) p f h more = rw (more g refl) h
@@ -56,8 +56,8 @@ flipped-more c (Some g) p f h more = rw (more g refl) h
 abbrev pub Extends : (ℕ → Option Word) → (ℕ → Option Word) → Type 0
 Extends old new = (s : ℕ) (word : Word) → old s ≡ Some word → new s ≡ Some word
 
-word_function-more : (old new : ℕ → Option Function) → ((s : ℕ) (f : Function) → old s ≡ Some f → new s ≡ Some f)
-    → (word : Word) (f : Function) → word_function old (Some word) ≡ Some f → word_function new (Some word) ≡ Some f
+word_function-more : (old new : ℕ → Option Denoted) → ((s : ℕ) (f : Denoted) → old s ≡ Some f → new s ≡ Some f)
+    → (word : Word) (f : Denoted) → word_function old (Some word) ≡ Some f → word_function new (Some word) ≡ Some f
 word_function-more old new more (Leaf x) f h = h
 word_function-more old new more (Inner node) f h =
     let n = node_of-some node.var (old node.hi) (flipped node.lo.complement (old node.lo.index)) f h in
@@ -66,8 +66,8 @@ word_function-more old new more (Inner node) f h =
     flipped-more node.lo.complement (old node.lo.index) (new node.lo.index) (function_of n.kind n.low) n.low_is (λ g. more node.lo.index g) in
     rw (hi, lo) (node_of-functions n.kind node.var n.high n.low ∙ ap Some (sym n.is))
 
-slot-more : (old new : ℕ → Option Word) (m n : ℕ) → ((s : ℕ) (f : Function) → function_at_most old m s ≡ Some f → function_at_most new n s ≡ Some f)
-    → Extends old new → (s : ℕ) (o : Option Word) → 3 ≤ s → old s ≡ o → (f : Function) → function_at_most old (suc m) s ≡ Some f → function_at_most new (suc n) s ≡ Some f
+slot-more : (old new : ℕ → Option Word) (m n : ℕ) → ((s : ℕ) (f : Denoted) → function_at_most old m s ≡ Some f → function_at_most new n s ≡ Some f)
+    → Extends old new → (s : ℕ) (o : Option Word) → 3 ≤ s → old s ≡ o → (f : Denoted) → function_at_most old (suc m) s ≡ Some f → function_at_most new (suc n) s ≡ Some f
 slot-more old new m n more extends s None le is f h =
     let e : function_at_most old (suc m) s ≡ None = at_word old m s le ∙ ap (word_function (function_at_most old m)) is in cc
 slot-more old new m n more extends s (Some word) le is f h =
@@ -75,7 +75,7 @@ slot-more old new m n more extends s (Some word) le is f h =
     ∙ word_function-more (function_at_most old m) (function_at_most new n) more word f (ap (word_function (function_at_most old m)) (sym is) ∙ sym (at_word old m s le) ∙ h)
 
 -- neither longer paths nor more words change what a slot denotes
-pub function-more : (old new : ℕ → Option Word) → Extends old new → (m n : ℕ) → m ≤ n → (s : ℕ) (f : Function) → function_at_most old m s ≡ Some f → function_at_most new n s ≡ Some f
+pub function-more : (old new : ℕ → Option Word) → Extends old new → (m n : ℕ) → m ≤ n → (s : ℕ) (f : Denoted) → function_at_most old m s ≡ Some f → function_at_most new n s ≡ Some f
 unfolding function_at_most
 function-more old new extends zero n le s f h = cc
 function-more old new extends (suc m) zero le s f h = absurd (omega arith)
@@ -86,7 +86,7 @@ function-more old new extends (suc m) (suc n) le (suc (suc (suc s))) f h =
     slot-more old new m n (λ t g. function-more old new extends m n (omega arith) t g) extends (suc (suc (suc s))) (old (suc (suc (suc s)))) (omega arith) refl f h
 
 -- a slot that denotes something is one of the first three, or has a word
-pub used : (slots : ℕ → Option Word) (m s : ℕ) (f : Function) → 3 ≤ s → function_at_most slots (suc m) s ≡ Some f → (word : Word) × (slots s ≡ Some word)
+pub used : (slots : ℕ → Option Word) (m s : ℕ) (f : Denoted) → 3 ≤ s → function_at_most slots (suc m) s ≡ Some f → (word : Word) × (slots s ≡ Some word)
 used slots m s f le h = by_word (slots s) refl
   where
     by_word : (o : Option Word) → slots s ≡ o → (word : Word) × (slots s ≡ Some word)

@@ -2,7 +2,6 @@ pub mod Slots
 pub mod Stores
 pub mod Placing
 pub mod Indexing
-pub use Rattle.node_store.specs.Kinds
 pub use Rattle.node_store.specs.Views
 pub use Rattle.node_store.specs.Memo
 pub use Rattle.node_store.specs.Work

@@ -6,7 +6,7 @@ use Rattle.edge_bits.specs.declared.words.Word.{Word}
 use Rattle.edge_bits.specs.declared.words.Word.TheVariants.{Inner, Leaf}
 use Rattle.edge_bits.specs.Words.{unpack_of}
 use Rattle.edge_bits.specs.Reading.{slots_of, plain}
-use Rattle.node_store.specs.Kinds.{Function, function_of}
+use Rattle.function_laws.specs.Kinds.{Denoted, function_of}
 use Rattle.node_store.specs.Edges.{flip_if}
 use Rattle.node_store.specs.Views.{CanMake, function_at, node_values}
 use Rattle.node_store.specs.declared.grow.Opened.{Opened}
@@ -42,7 +42,7 @@ abbrev pub HasNoFree : Plain → Type 0
 HasNoFree p = (t : ℕ) → t < length p.words → slots p t ≡ None → ⊥
 
 -- no edge denotes the function
-abbrev pub IsUnknown : Plain → Function → Type 0
+abbrev pub IsUnknown : Plain → Denoted → Type 0
 IsUnknown p f = (e : Edge) → function_at (plain_view p) e ≡ Some f → ⊥
 
 abbrev pub IsUnknownNode : Plain → ℕ → Edge → Edge → Type 0

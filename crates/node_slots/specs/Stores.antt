@@ -11,7 +11,7 @@ use Rattle.edge_bits.specs.Assignments.{set_bit}
 use Rattle.edge_bits.specs.Reading.{slots_of, element_of, plain}
 use Rattle.function_laws.specs.Values.{constant}
 use Rattle.function_laws.specs.Numbers.{is_value}
-use Rattle.node_store.specs.Kinds.{Function, AddFunction, ValueOf, flipped}
+use Rattle.function_laws.specs.Kinds.{Denoted, AddFunction, ValueOf, flipped}
 use Rattle.node_store.specs.Views.{View, IsVariable, IsProper, CanMake, levels, values_at}
 use Rattle.node_slots.specs.Slots.{node_of, function_at_most}
 use Rattle.node_slots.specs.declared.plain_store.Refused.{Refused}
@@ -38,7 +38,7 @@ level_in p v = if nat_lt v 16384 then slice_index p.variable_levels v else slice
 abbrev pub longest : Plain → ℕ
 longest p = max (length p.variable_levels) (length p.element_levels)
 
-abbrev pub content_of : Plain → ℕ → Option Function
+abbrev pub content_of : Plain → ℕ → Option Denoted
 content_of p = function_at_most (slots p) (suc (longest p))
 
 -- the level of a slot's node; of a leaf the number of variables, or of elements
@@ -58,7 +58,7 @@ is_used None = false
 is_used (Some word) = true
 
 -- the function that a refused call would have stored
-abbrev pub refused_function : (ℕ → Option Function) → Option Refused → Option Function
+abbrev pub refused_function : (ℕ → Option Denoted) → Option Refused → Option Denoted
 refused_function content None = None
 refused_function content (Some (refused.Node v hi lo)) = node_of v (flipped hi.complement (content hi.index)) (flipped lo.complement (content lo.index))
 refused_function content (Some (refused.Leaf x)) = Some (AddFunction (constant x))
@@ -125,7 +125,7 @@ pub record HasPermanent (p : Plain) : Type 0 where
 pub record IsCanonical (p : Plain) : Type 0 where
   pub nodes : (s : ℕ) (node : Node) → slots p s ≡ Some (Inner node) → (k : Kind) × IsNode k p node
   pub leaves : (s : ℕ) (x : ℤ) → slots p s ≡ Some (Leaf x) → is_value x ≡ true
-  pub apart : (s t : ℕ) (f : Function) → content_of p s ≡ Some f → content_of p t ≡ Some f → s ≡ t
+  pub apart : (s t : ℕ) (f : Denoted) → content_of p s ≡ Some f → content_of p t ≡ Some f → s ≡ t
 
 pub record IsStore (p : Plain) : Type 0 where
   pub ordered : IsOrdered p

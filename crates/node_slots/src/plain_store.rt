@@ -87,7 +87,7 @@ impl Grow for PlainStore {
     ghost use Rattle.edge_bits.specs.declared.edges.Kind.TheVariants.{Add};
     ghost use Rattle.edge_bits.specs.Words.{IsLeafValue};
     ghost use Rattle.function_laws.specs.Values.{constant};
-    ghost use Rattle.node_store.specs.Kinds.{function_of, AddFunction};
+    ghost use Rattle.function_laws.specs.Kinds.{function_of, AddFunction};
     ghost use Rattle.node_store.specs.Views.{Denotes, Grown, Rose, CanMake, node_values};
     ghost use Rattle.node_slots.specs.Stores.{plain_view};
     ghost use Rattle.node_slots.specs.Placing.{HasNoFree, IsUnknown, IsUnknownNode};
@@ -221,7 +221,7 @@ impl PlainStore {
     ghost use Rattle.edge_bits.specs.declared.edges.Kind.TheVariants.{Bdd, Add, Zdd};
     ghost use Rattle.edge_bits.specs.Reading.{DenotesBdd, DenotesAdd, DenotesZdd};
     ghost use Rattle.node_store.specs.Views.{AreTwo, Denotes, values_at};
-    ghost use Rattle.node_store.specs.Kinds.{Function};
+    ghost use Rattle.function_laws.specs.Kinds.{Denoted};
     ghost use Rattle.node_slots.specs.Stores.{plain_view, in_use, IsOpening, IsCleared};
 
     /// A store of so many variables and elements, at most 1,024 each, with so many slots: 5 and one for each variable at least, 8,388,607 at most. Both orders are 0, 1, 2, ..
@@ -291,7 +291,7 @@ impl PlainStore {
     /// The number of slots that have a word: all, where a function was refused and nothing was freed since.
     pub fn in_use(&self) -> u32
         ensures count { result ≡ in_use self.now }
-        ensures full { (f : Function) → (plain_view self.now).due ≡ Some f → result ≡ length self.now.words }
+        ensures full { (f : Denoted) → (plain_view self.now).due ≡ Some f → result ≡ length self.now.words }
     {
         count_words(self.nodes.words()) as u32
     }

@@ -4,7 +4,7 @@ use Rattle.edge_bits.specs.declared.edges.Kind.{Kind}
 use Rattle.edge_bits.specs.declared.edges.Kind.TheVariants.{Bdd, Add, Zdd}
 use Rattle.function_laws.specs.Values.{negation}
 use Rattle.function_laws.proofs.ValueLemmas.{everywhere}
-use Rattle.node_store.specs.Kinds.{Function, BddFunction, ValueOf, function_of, values_of, opposite}
+use Rattle.function_laws.specs.Kinds.{Denoted, BddFunction, ValueOf, function_of, values_of, opposite}
 use Rattle.node_store.specs.Views.{View}
 use Rattle.node_store.specs.Work.{IsPart, IsWork, Adds}
 use Rattle.node_store.specs.WorkLaws.{IsPart-not}
@@ -16,7 +16,7 @@ not_not false = refl
 pub negation-negation : (f : ℕ → Bool) → f ≡ negation (negation f)
 negation-negation f = everywhere f (negation (negation f)) (λ k. not_not (f k))
 
-pub IsWork-negation : (w : View) (f : ℕ → Bool) (o : Option Function) → IsWork w (λ F. F ≡ BddFunction f) o → IsWork w (λ F. F ≡ BddFunction (negation f)) o
+pub IsWork-negation : (w : View) (f : ℕ → Bool) (o : Option Denoted) → IsWork w (λ F. F ≡ BddFunction f) o → IsWork w (λ F. F ≡ BddFunction (negation f)) o
 IsWork-negation w f o i = by_kind i.kind i.root i.part i.asked i.is_part i.is
   where
     by_kind : (k : Kind) (root part : ℕ → ValueOf k) → function_of k root ≡ BddFunction f → IsPart k w root part

@@ -7,7 +7,7 @@ use Rattle.edge_bits.specs.declared.edges.Kind.TheVariants.{Bdd, Add, Zdd}
 use Rattle.edge_bits.specs.Assignments.{set_bit}
 use Rattle.function_laws.specs.Values.{if_then_else, negation, choice, IsFree}
 use Rattle.function_laws.proofs.ValueLemmas.{ite-choice}
-use Rattle.node_store.specs.Kinds.{ValueOf, Lacks, joined_at}
+use Rattle.function_laws.specs.Kinds.{ValueOf, Lacks, joined_at}
 use Rattle.node_store.specs.Edges.{flip_if}
 use Rattle.node_store.specs.Views.{View, levels, IsVariable, Denotes, values_at, IsBelow, Grown, CanMake, CanPart, PartsAt, node_values, IsLeafOf, logic_one, logic_zero}
 use Rattle.node_store.specs.ViewLaws.{Grown-trans, Is-grown, Is-from, values_at-is, values_at-grown, Denotes-flip, top-grown, level-grown, levels-grown, IsVariable-grown}

@@ -6,7 +6,7 @@ use Rattle.edge_bits.specs.declared.edges.Kind.{Kind}
 use Rattle.edge_bits.specs.declared.edges.Kind.TheVariants.{Bdd, Add, Zdd}
 use Rattle.function_laws.specs.Values.{negation}
 use Rattle.node_store.specs.Edges.{flip_if}
-use Rattle.node_store.specs.Kinds.{Function, BddFunction, ValueOf, function_of, opposite}
+use Rattle.function_laws.specs.Kinds.{Denoted, BddFunction, ValueOf, function_of, opposite}
 use Rattle.node_store.specs.Views.{View, Grown, Kept, Denotes, IsKey}
 use Rattle.node_store.specs.ViewLaws.{Grown-refl}
 use Rattle.node_store.specs.Work.{IsPart, IsWork, Adds, Moves}
@@ -19,7 +19,7 @@ use Rattle.node_store.proofs.ComplementWork.{negation-negation, IsWork-negation}
 use Rattle.node_store.proofs.ThreeParts.{IsFlipped-answer}
 
 -- what is part of the work because it is a part of the function or of its complement
-pub part_of_either : (k : Kind) (w : View) (f g : ℕ → ValueOf k) (o : Option Function)
+pub part_of_either : (k : Kind) (w : View) (f g : ℕ → ValueOf k) (o : Option Denoted)
     → ((h : ℕ → ValueOf k) → IsPart k w h g → IsWork w (λ F. F ≡ function_of k h) o) → IsPartOrComplement k w f g → IsWork w (λ F. F ≡ function_of k f) o
 part_of_either k w f g o build (inl p) = build f p
 part_of_either Bdd w f g o build (inr p) = subst (λ x. IsWork w (λ F. F ≡ BddFunction x) o) (sym (negation-negation f)) (IsWork-negation w (negation f) o (build (negation f) p))
@@ -49,17 +49,17 @@ module _ (k : Kind) (f g h : Edge) where
       (λ r p. IsWork-due k w (λ F. F ≡ function_of k r) r (ite_at k v t.f t.g t.h) refl p is) (later v w t d m)
 
   -- from the view at the end to that at the start
-  pub value_back : (v w : View) → Grown v w → AreThree k v f g h → (F : Function) → value_of_three k f g h w F → value_of_three k f g h v F
+  pub value_back : (v w : View) → Grown v w → AreThree k v f g h → (F : Denoted) → value_of_three k f g h w F → value_of_three k f g h v F
   value_back v w m d F is = is ∙ ap (function_of k) (ite_at-grown k m d)
 
-  pub Three-due_start : (v w : View) → Grown v w → AreThree k v f g h → (o : Option Function) → IsWork w (value_of_three k f g h w) o → IsWork w (value_of_three k f g h v) o
+  pub Three-due_start : (v w : View) → Grown v w → AreThree k v f g h → (o : Option Denoted) → IsWork w (value_of_three k f g h w) o → IsWork w (value_of_three k f g h v) o
   Three-due_start v w m d o i = IsWork-grown (Grown-refl w) (value_of_three k f g h w) (value_of_three k f g h v) (value_back v w m d) o i
 
   pub Three-adds_start : (v w : View) → AreThree k v f g h → Moves (λ w. AreThree k w f g h) (value_of_three k f g h) v w → Adds (value_of_three k f g h v) v w
   Three-adds_start v w d m s here = elim (m.work d s here) [ inl old ↦ inl old | inr i ↦ inr (Three-due_start v w m.grown d (w.content s) i) ]
 
 -- calls that make nothing, before and after a run
-pub Adds-between : (P Q : Function → Type 0) → ((F : Function) → P F → Q F) → (a b c d : View) → Kept a b → Kept c d → Adds P b c → Adds Q a d
+pub Adds-between : (P Q : Denoted → Type 0) → ((F : Denoted) → P F → Q F) → (a b c d : View) → Kept a b → Kept c d → Adds P b c → Adds Q a d
 Adds-between P Q more a b c d before after adds s here =
     elim (adds s (ap (λ (x : ℕ → Bool). x s) (sym after.made) ∙ here)) [
       | inl old ↦ inl (ap (λ (x : ℕ → Bool). x s) (sym before.made) ∙ old)
@@ -73,7 +73,7 @@ Adds-between P Q more a b c d before after adds s here =
       })
     ]
 
-pub IsWork-between : (P Q : Function → Type 0) → ((F : Function) → P F → Q F) → (c d : View) → Kept c d → IsWork c P c.due → IsWork d Q d.due
+pub IsWork-between : (P Q : Denoted → Type 0) → ((F : Denoted) → P F → Q F) → (c d : View) → Kept c d → IsWork c P c.due → IsWork d Q d.due
 IsWork-between P Q more c d after i = subst (IsWork d Q) (sym after.due) (IsWork-grown after.grown P Q more c.due i)
 
 -- an answer under the key of the normal form

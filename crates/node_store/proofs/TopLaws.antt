@@ -3,7 +3,7 @@ use Rattle.std.proofs.Common.{◌≡◌, ℕ, ◌<◌, ◌≤◌, Bool, true, fa
 use Rattle.std.specs.Prelude.{nat_le, if◌then◌else◌}
 use Rattle.edge_bits.specs.declared.edges.Edge.{Edge}
 use Rattle.edge_bits.specs.declared.edges.Kind.{Kind}
-use Rattle.node_store.specs.Kinds.{ValueOf}
+use Rattle.function_laws.specs.Kinds.{ValueOf}
 use Rattle.node_store.specs.Views.{View, IsTop, NotBothLeaves, AreTwo, Grown, Is, values_at}
 use Rattle.node_store.specs.ViewLaws.{IsVariable-grown, level-grown, levels-grown, top-grown}
 use Rattle.node_store.specs.Tops.{TopIs, upper_of}

@@ -9,7 +9,7 @@ use Rattle.edge_bits.specs.Assignments.{bit}
 use Rattle.edge_bits.specs.Reading.{element_of}
 use Rattle.function_laws.specs.Families.{base, IsWithout}
 use Rattle.function_laws.proofs.ValueLemmas.{everywhere}
-use Rattle.node_store.specs.Kinds.{ValueOf, Lacks, absent_part, Keeps}
+use Rattle.function_laws.specs.Kinds.{ValueOf, Lacks, absent_part, Keeps}
 use Rattle.node_store.specs.Views.{View, levels, IsVariable, Denotes, Is, values_at, IsBelow, Grown, Splits, CanMake, node_values, IsInner, IsLeaf, IsLeafOf, logic_one, logic_zero, number, no_member, only_base, Permanent, PartsAt, IsTop, AreTwo}
 use Rattle.node_store.specs.ViewLaws.{Grown-trans, Is-from, values_at-is, values_at-grown, Splits-grown, Splits-absent, top-grown, level-grown, levels-grown, IsVariable-grown, IsBelow-inner, Denotes-empty}
 use Rattle.node_store.specs.Two.{place_at, IsOrderFor, TwoAnswers, TwoSplits, two_depth, TwoDue, Overflows}

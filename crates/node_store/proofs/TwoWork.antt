@@ -3,7 +3,7 @@ use Rattle.std.proofs.Common.{◌≡◌, ℕ, ◌≤◌, Bool, true, Option, Som
 use Rattle.edge_bits.specs.declared.edges.Edge.{Edge}
 use Rattle.computed_cache.specs.declared.Key.{Key}
 use Rattle.edge_bits.specs.declared.edges.Kind.{Kind}
-use Rattle.node_store.specs.Kinds.{Function, ValueOf, function_of, opposite}
+use Rattle.function_laws.specs.Kinds.{Denoted, ValueOf, function_of, opposite}
 use Rattle.node_store.specs.Views.{View, Grown, Kept, Denotes, Is, AreTwo, CanPart, IsTop, IsKey, values_at, IsLeaf, IsLeafOf, NotBothLeaves}
 use Rattle.node_store.specs.ViewLaws.{Grown-refl, values_at-grown, top-grown, levels-grown}
 use Rattle.node_store.specs.Work.{IsWork, Adds, Moves}
@@ -15,7 +15,7 @@ use Rattle.node_store.specs.Memo.{PlaceHolds}
 use Rattle.node_store.specs.declared.operator.Task.{Task}
 
 -- the value of a call before a call that makes nothing
-value_back : (k : Kind) (op : ValueOf k → ValueOf k → ValueOf k) (f g : Edge) (a b : View) → Kept a b → AreTwo k a f g → (F : Function) → value_of_two k op f g b F → value_of_two k op f g a F
+value_back : (k : Kind) (op : ValueOf k → ValueOf k → ValueOf k) (f g : Edge) (a b : View) → Kept a b → AreTwo k a f g → (F : Denoted) → value_of_two k op f g b F → value_of_two k op f g a F
 value_back k op f g a b m two F is = is ∙ ap (function_of k) (place_at-grown k op m.grown two)
 
 module _ (k : Kind) (op : ValueOf k → ValueOf k → ValueOf k) (f g : Edge) where
@@ -35,7 +35,7 @@ module _ (k : Kind) (op : ValueOf k → ValueOf k → ValueOf k) (f g : Edge) wh
       (ap (function_of k) (sym (place_at-grown k op m d.roots))) (IsPart-grown k m (place_at k op v f g) (place_at k op v t.f t.g) d.part) is
 
   -- from the view at the end to that at the start
-  pub IsWork-start : (v w : View) → Grown v w → AreTwo k v f g → (o : Option Function) → IsWork w (value_of_two k op f g w) o → IsWork w (value_of_two k op f g v) o
+  pub IsWork-start : (v w : View) → Grown v w → AreTwo k v f g → (o : Option Denoted) → IsWork w (value_of_two k op f g w) o → IsWork w (value_of_two k op f g v) o
   IsWork-start v w m d o i = IsWork-grown (Grown-refl w) (value_of_two k op f g w) (value_of_two k op f g v) (λ F is. is ∙ ap (function_of k) (place_at-grown k op m d)) o i
 
   pub Adds-start : (v w : View) → AreTwo k v f g → Moves (λ w. AreTwo k w f g) (value_of_two k op f g) v w → Adds (value_of_two k op f g v) v w
@@ -50,7 +50,7 @@ Adds-around k op f g a b c d before run after two adds s h =
       | inr i ↦ inr (later (value_back k op f g a b before two) after.grown s i)
     ]
   where
-    later : {P Q : Function → Type 0} → ((x : Function) → P x → Q x) → Grown c d → (s : ℕ) → IsWork c P (c.content s) → IsWork d Q (d.content s)
+    later : {P Q : Denoted → Type 0} → ((x : Denoted) → P x → Q x) → Grown c d → (s : ℕ) → IsWork c P (c.content s) → IsWork d Q (d.content s)
     later {P} {Q} more m s i = record {
       kind = i.kind;
       root = i.root;

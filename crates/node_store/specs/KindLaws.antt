@@ -10,7 +10,7 @@ use Rattle.function_laws.specs.Numbers.{is_value}
 use Rattle.function_laws.specs.Families.{empty, joined, IsWithout}
 use Rattle.function_laws.proofs.ValueLemmas.{everywhere, cofactor-choice_true, cofactor-choice_false, cofactor-free, IsFree-choice_other, IsFree-place, choice-same, place_two}
 use Rattle.function_laws.proofs.FamilyLemmas.{subset1-joined, subset0-joined, place_joined}
-use Rattle.node_store.specs.Kinds.{Function, ValueOf, function_of, values_of, joined_at, Lacks, part_at, absent_part, Fits, Keeps, place, flipped}
+use Rattle.function_laws.specs.Kinds.{Denoted, ValueOf, function_of, values_of, joined_at, Lacks, part_at, absent_part, Fits, Keeps, place, flipped}
 
 pub values_of-function : (k : Kind) (f : ℕ → ValueOf k) → values_of k (Some (function_of k f)) ≡ f
 values_of-function Bdd f = refl
@@ -73,14 +73,14 @@ Fits-joined Bdd v f g p q = tt
 Fits-joined Add v f g p q = λ x. cond_both (bit x v) (f x) (g x) (λ y. is_value y ≡ true) (λ _. p x) (λ _. q x)
 Fits-joined Zdd v f g p q = tt
 
-pub flipped-function : (k : Kind) (b : Bool) (o p : Option Function) (f : ℕ → ValueOf k) → flipped b o ≡ Some (function_of k f)
-    → ((g : Function) → o ≡ Some g → p ≡ Some g) → flipped b p ≡ Some (function_of k f)
+pub flipped-function : (k : Kind) (b : Bool) (o p : Option Denoted) (f : ℕ → ValueOf k) → flipped b o ≡ Some (function_of k f)
+    → ((g : Denoted) → o ≡ Some g → p ≡ Some g) → flipped b p ≡ Some (function_of k f)
 flipped-function k true None p f h keeps = cc
 flipped-function k false None p f h keeps = cc
 flipped-function k b (Some g) p f h keeps = rw (keeps g refl) h
 
 -- what denotes something through an edge denotes something
-pub flipped-some : (b : Bool) (o : Option Function) (f : Function) → flipped b o ≡ Some f → (g : Function) × (o ≡ Some g)
+pub flipped-some : (b : Bool) (o : Option Denoted) (f : Denoted) → flipped b o ≡ Some f → (g : Denoted) × (o ≡ Some g)
 flipped-some true None f h = cc
 flipped-some false None f h = cc
 flipped-some b (Some g) f h = (g, refl)

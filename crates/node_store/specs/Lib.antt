@@ -1,4 +1,3 @@
-pub mod Kinds
 pub mod KindLaws
 pub mod Views
 pub mod Edges

@@ -9,7 +9,7 @@ use Rattle.function_laws.specs.Families.{product, quotient}
 use Rattle.function_laws.specs.Numbers.{from_truth, pattern, sum_over}
 use Rattle.function_laws.specs.Restrictions.{IsRestriction}
 use Rattle.function_laws.specs.Values.{cofactor, composed, conjunction, if_then_else}
-use Rattle.node_store.specs.Kinds.{ValueOf, place}
+use Rattle.function_laws.specs.Kinds.{ValueOf, place}
 use Rattle.node_store.specs.Numbers.{and_number, ite_number, cofactor_number, leq_number, exists_number, and_exists_number, support_number, compose_number, restrict_number, plus_number, minus_number, times_number, min_number, max_number, threshold_number, add_ite_number, from_bdd_number, pattern_number, sum_over_number, union_number, meet_number, diff_number, product_number, quotient_number}
 use Rattle.node_store.specs.Views.{View, Denotes, Is, IsVariable, values_at, truth_edge}
 

@@ -1,7 +1,7 @@
 -- The table of a call's own answers.
 use Rattle.std.specs.Prelude.{◌≡◌, ℕ, ◌⊎◌, List, Option, Some, None, slice_index_or}
 use Rattle.edge_bits.specs.declared.edges.Edge.{Edge}
-use Rattle.node_store.specs.Kinds.{Function}
+use Rattle.function_laws.specs.Kinds.{Denoted}
 use Rattle.node_store.specs.Views.{View}
 use Rattle.node_store.specs.States.{State}
 use Rattle.node_store.specs.Work.{Moves}
@@ -21,6 +21,6 @@ abbrev pub Knows : (View → Task → Type 0) → (View → Task → Edge → Ty
 Knows due answers s = (j : ℕ) (a : Answer) → slice_index_or s.answers j None ≡ Some a → due s.view a.task × answers s.view a.task a.edge
 
 -- what an operator with such a table does to a state
-pub record RememberingMoves (Roots : View → Type 0) (Work : View → Function → Type 0) (Due : View → Task → Type 0) (Answers : View → Task → Edge → Type 0) (old new : State) : Type 0 where
+pub record RememberingMoves (Roots : View → Type 0) (Work : View → Denoted → Type 0) (Due : View → Task → Type 0) (Answers : View → Task → Edge → Type 0) (old new : State) : Type 0 where
   pub moves : Moves Roots Work old.view new.view
   pub known : Knows Due Answers old → Knows Due Answers new

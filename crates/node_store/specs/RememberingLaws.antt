@@ -2,7 +2,7 @@
 use Rattle.std.proofs.Common.{◌≡◌, ℕ, inl, inr, List, Option, Some, None, ap, sym, ◌∙◌, subst}
 use Rattle.std.specs.Prelude.{slice_index_or}
 use Rattle.edge_bits.specs.declared.edges.Edge.{Edge}
-use Rattle.node_store.specs.Kinds.{Function}
+use Rattle.function_laws.specs.Kinds.{Denoted}
 use Rattle.node_store.specs.Views.{View, Grown}
 use Rattle.node_store.specs.States.{State}
 use Rattle.node_store.specs.Work.{Moves}
@@ -24,18 +24,18 @@ module _ (Due : View → Task → Type 0) (Answers : View → Task → Edge → 
     | inr same ↦ (rw same d, rw same is)
   ]
 
-pub RememberingMoves-none : (Roots : View → Type 0) (Work : View → Function → Type 0) (Due : View → Task → Type 0) (Answers : View → Task → Edge → Type 0) (v : State) → RememberingMoves Roots Work Due Answers v v
+pub RememberingMoves-none : (Roots : View → Type 0) (Work : View → Denoted → Type 0) (Due : View → Task → Type 0) (Answers : View → Task → Edge → Type 0) (v : State) → RememberingMoves Roots Work Due Answers v v
 RememberingMoves-none Roots Work Due Answers v = record { moves = Moves-none Roots Work v.view; known = λ k. k }
 
-pub RememberingMoves-both : (Roots : View → Type 0) (Work : View → Function → Type 0) (Due : View → Task → Type 0) (Answers : View → Task → Edge → Type 0)
-    → ((v w : View) → Grown v w → Roots v → Roots w) → ((v w : View) (f : Function) → Grown v w → Roots v → Work v f → Work w f)
+pub RememberingMoves-both : (Roots : View → Type 0) (Work : View → Denoted → Type 0) (Due : View → Task → Type 0) (Answers : View → Task → Edge → Type 0)
+    → ((v w : View) → Grown v w → Roots v → Roots w) → ((v w : View) (f : Denoted) → Grown v w → Roots v → Work v f → Work w f)
     → (u v w : State) → RememberingMoves Roots Work Due Answers u v → RememberingMoves Roots Work Due Answers v w → RememberingMoves Roots Work Due Answers u w
 RememberingMoves-both Roots Work Due Answers roots work u v w p q = record {
   moves = Moves-both Roots Work roots work u.view v.view w.view p.moves q.moves;
   known = λ k. q.known (p.known k);
 }
 
-module _ (Roots : View → Type 0) (Work : View → Function → Type 0) (Due : View → Task → Type 0) (Answers : View → Task → Edge → Type 0)
+module _ (Roots : View → Type 0) (Work : View → Denoted → Type 0) (Due : View → Task → Type 0) (Answers : View → Task → Edge → Type 0)
     (due_stays : (v w : View) (t : Task) → Grown v w → Due v t → Due w t)
     (answers_stay : (v w : View) (t : Task) (e : Edge) → Grown v w → Due v t → Answers v t e → Answers w t e) where
   -- the table stayed as it was

@@ -4,7 +4,7 @@ use Rattle.edge_bits.specs.declared.edges.Edge.{Edge}
 use Rattle.edge_bits.specs.declared.edges.Kind.{Kind}
 use Rattle.edge_bits.specs.declared.edges.Kind.TheVariants.{Bdd, Add, Zdd}
 use Rattle.function_laws.specs.Values.{if_then_else, negation}
-use Rattle.node_store.specs.Kinds.{Function, ValueOf, function_of}
+use Rattle.function_laws.specs.Kinds.{Denoted, ValueOf, function_of}
 use Rattle.node_store.specs.Views.{View, Denotes, Is, Permanent, IsVariable, values_at, levels, Splits}
 use Rattle.node_store.specs.Work.{IsPart}
 use Rattle.node_store.specs.declared.binary.Branch.{Branch}
@@ -45,7 +45,7 @@ abbrev pub three_depth : Kind → View → Task → ℕ
 three_depth k w t = levels k w - least_top w t
 
 -- the work of a call is its value
-abbrev pub value_of_three : Kind → Edge → Edge → Edge → View → Function → Type 0
+abbrev pub value_of_three : Kind → Edge → Edge → Edge → View → Denoted → Type 0
 value_of_three k f g h w F = F ≡ function_of k (ite_at k w f g h)
 
 -- a BDD's complement; the others have none

@@ -3,7 +3,7 @@ use Rattle.std.proofs.Common.{◌≡◌, ℕ, inl, inr, refl, ap, sym, ◌∙◌
 use Rattle.edge_bits.specs.declared.edges.Edge.{Edge}
 use Rattle.edge_bits.specs.declared.edges.Kind.{Kind}
 use Rattle.edge_bits.specs.declared.edges.Kind.TheVariants.{Bdd}
-use Rattle.node_store.specs.Kinds.{Function, ValueOf, function_of}
+use Rattle.function_laws.specs.Kinds.{Denoted, ValueOf, function_of}
 use Rattle.node_store.specs.Views.{View, Grown}
 use Rattle.node_store.specs.ViewLaws.{Permanent-grown, Denotes-grown, Is-grown, values_at-grown, Splits-grown, top-grown, levels-grown, IsVariable-grown}
 use Rattle.node_store.specs.WorkLaws.{IsPart-grown}
@@ -41,5 +41,5 @@ ThreeSplits-stay k v w t x a b m d s = record {
 pub three_depth-stays : (k : Kind) (v w : View) (t : Task) → Grown v w → AreThree k v t.f t.g t.h → three_depth k w t ≡ three_depth k v t
 three_depth-stays k v w t m d = rw (levels-grown k m, top-grown Bdd m d.condition, top-grown k m d.first, top-grown k m d.second) refl
 
-pub value_of_three-stays : (k : Kind) (f g h : Edge) (v w : View) (F : Function) → Grown v w → AreThree k v f g h → value_of_three k f g h v F → value_of_three k f g h w F
+pub value_of_three-stays : (k : Kind) (f g h : Edge) (v w : View) (F : Denoted) → Grown v w → AreThree k v f g h → value_of_three k f g h v F → value_of_three k f g h w F
 value_of_three-stays k f g h v w F m d is = is ∙ ap (function_of k) (sym (ite_at-grown k m d))

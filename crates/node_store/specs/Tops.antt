@@ -2,7 +2,7 @@
 use Rattle.std.specs.Prelude.{◌≡◌, ℕ, ◌<◌, nat_le, if◌then◌else◌, Option, Some, None, ℤ}
 use Rattle.edge_bits.specs.declared.edges.Edge.{Edge}
 use Rattle.edge_bits.specs.declared.edges.Kind.{Kind}
-use Rattle.node_store.specs.Kinds.{ValueOf}
+use Rattle.function_laws.specs.Kinds.{ValueOf}
 use Rattle.node_store.specs.Views.{View, IsVariable, levels, IsLeaf}
 use Rattle.node_store.specs.declared.parts.Top.{Top}
 

@@ -4,7 +4,7 @@ use Rattle.edge_bits.specs.declared.edges.Edge.{Edge}
 use Rattle.edge_bits.specs.declared.edges.Kind.{Kind}
 use Rattle.function_laws.specs.Numbers.{is_value}
 use Rattle.edge_bits.specs.declared.edges.Kind.TheVariants.{Bdd, Add, Zdd}
-use Rattle.node_store.specs.Kinds.{Function, ValueOf, function_of, place}
+use Rattle.function_laws.specs.Kinds.{Denoted, ValueOf, function_of, place}
 use Rattle.node_store.specs.Views.{View, Denotes, Permanent, AreTwo, IsVariable, values_at, levels, Splits, NotBothLeaves}
 use Rattle.node_store.specs.Work.{IsPart}
 use Rattle.node_store.specs.declared.operator.Task.{Task}
@@ -36,7 +36,7 @@ abbrev pub two_depth : Kind → View → Task → ℕ
 two_depth k w t = levels k w - min (w.top t.f.index) (w.top t.g.index)
 
 -- the work of a call is its value
-abbrev pub value_of_two : (k : Kind) → (ValueOf k → ValueOf k → ValueOf k) → Edge → Edge → View → Function → Type 0
+abbrev pub value_of_two : (k : Kind) → (ValueOf k → ValueOf k → ValueOf k) → Edge → Edge → View → Denoted → Type 0
 value_of_two k op f g w F = F ≡ function_of k (place_at k op w f g)
 
 -- a task of the call with these operands

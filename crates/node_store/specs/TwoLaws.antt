@@ -7,7 +7,7 @@ use Rattle.edge_bits.specs.Assignments.{set_bit}
 use Rattle.edge_bits.proofs.AssignmentLemmas.{bit-set_same}
 use Rattle.function_laws.specs.Numbers.{is_value}
 use Rattle.function_laws.specs.Values.{IsFree, choice}
-use Rattle.node_store.specs.Kinds.{Function, ValueOf, function_of, joined_at, Lacks, Keeps}
+use Rattle.function_laws.specs.Kinds.{Denoted, ValueOf, function_of, joined_at, Lacks, Keeps}
 use Rattle.node_store.specs.KindLaws.{joined-place}
 use Rattle.node_store.specs.Views.{View, values_at, IsBelow, Grown, AreTwo}
 use Rattle.node_store.specs.ViewLaws.{Permanent-grown, Denotes-grown, Is-grown, values_at-grown, Splits-grown, top-grown, levels-grown, IsVariable-grown, IsBelow-place}
@@ -43,7 +43,7 @@ TwoSplits-stay k v w t x a b m d s = record {
 pub two_depth-stays : (k : Kind) (v w : View) (t : Task) → Grown v w → AreTwo k v t.f t.g → two_depth k w t ≡ two_depth k v t
 two_depth-stays k v w t m d = rw (levels-grown k m, top-grown k m d.first, top-grown k m d.second) refl
 
-pub value-stays : (k : Kind) (op : ValueOf k → ValueOf k → ValueOf k) (f g : Edge) (v w : View) (F : Function) → Grown v w → AreTwo k v f g → value_of_two k op f g v F → value_of_two k op f g w F
+pub value-stays : (k : Kind) (op : ValueOf k → ValueOf k → ValueOf k) (f g : Edge) (v w : View) (F : Denoted) → Grown v w → AreTwo k v f g → value_of_two k op f g v F → value_of_two k op f g w F
 value-stays k op f g v w F m d is = is ∙ ap (function_of k) (sym (place_at-grown k op m d))
 
 -- the two parts of a task

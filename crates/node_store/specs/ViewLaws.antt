@@ -6,7 +6,7 @@ use Rattle.edge_bits.specs.declared.edges.Kind.TheVariants.{Bdd, Add, Zdd}
 use Rattle.function_laws.specs.Values.{constant, projection, negation}
 use Rattle.function_laws.specs.Families.{empty, base}
 use Rattle.function_laws.proofs.ValueLemmas.{everywhere}
-use Rattle.node_store.specs.Kinds.{Function, BddFunction, AddFunction, ZddFamily, ValueOf, function_of, values_of, absent_part, Keeps, place, flipped}
+use Rattle.function_laws.specs.Kinds.{Denoted, BddFunction, AddFunction, ZddFamily, ValueOf, function_of, values_of, absent_part, Keeps, place, flipped}
 use Rattle.node_store.specs.KindLaws.{values_of-function, Apart, Lacks-joined, Lacks-place, Lacks-absent, joined-absent, Fits-joined, flipped-function, flipped-some}
 use Rattle.node_store.specs.Views.{View, levels, IsVariable, IsBeyond, function_at, values_at, Denotes, Is, IsBelow, Grown, Kept, Splits, CanMake, IsInner, node_values, Permanent, truth_edge, empty_edge}
 use Rattle.node_store.specs.Edges.{flip_if}
@@ -137,7 +137,7 @@ Denotes-node k {a} {v} {hi} {lo} c b e is g = record {
 }
 
 -- a complement denotes the complement
-pub flipped-not : (c : Bool) (o : Option Function) (f : ℕ → Bool) → flipped c o ≡ Some (BddFunction f) → flipped (not c) o ≡ Some (BddFunction (negation f))
+pub flipped-not : (c : Bool) (o : Option Denoted) (f : ℕ → Bool) → flipped c o ≡ Some (BddFunction f) → flipped (not c) o ≡ Some (BddFunction (negation f))
 flipped-not false o f h = ap (flipped true) h
 flipped-not true (Some (BddFunction g)) f h =
     let is : negation g ≡ f = ap (values_of Bdd) h in

@@ -6,7 +6,7 @@ use Rattle.edge_bits.specs.declared.edges.Kind.{Kind}
 use Rattle.edge_bits.specs.declared.edges.Kind.TheVariants.{Bdd, Add, Zdd}
 use Rattle.function_laws.specs.Values.{constant, projection}
 use Rattle.function_laws.specs.Families.{empty, base}
-use Rattle.node_store.specs.Kinds.{Function, BddFunction, AddFunction, ZddFamily, ValueOf, function_of, values_of, joined_at, Lacks, Fits, flipped}
+use Rattle.function_laws.specs.Kinds.{Denoted, BddFunction, AddFunction, ZddFamily, ValueOf, function_of, values_of, joined_at, Lacks, Fits, flipped}
 use Rattle.node_store.specs.declared.grow.Opened.{Opened}
 use Rattle.node_store.specs.declared.grow.Opened.TheVariants.{Inner, Leaf}
 
@@ -17,7 +17,7 @@ pub record View : Type 0 where
   -- how many slots there are, free or not
   pub slots : ℕ
   -- what each slot denotes
-  pub content : ℕ → Option Function
+  pub content : ℕ → Option Denoted
   -- the level of a node's variable number: of a variable in the one order, of an element in the other
   pub level : ℕ → ℕ
   -- the level of a slot's node; of a leaf the number of variables, or of elements
@@ -26,7 +26,7 @@ pub record View : Type 0 where
   pub made : ℕ → Bool
   -- how often the answer was Full, and the function that was due at the last of them
   pub fulls : ℕ
-  pub due : Option Function
+  pub due : Option Denoted
   -- whether it may want memory
   pub may_want_memory : Bool
 
@@ -49,7 +49,7 @@ IsBeyond Add w v = w.vars ≤ v
 IsBeyond Zdd w v = 16384 + w.elements ≤ v
 
 -- what an edge denotes
-abbrev pub function_at : View → Edge → Option Function
+abbrev pub function_at : View → Edge → Option Denoted
 function_at w e = flipped e.complement (w.content e.index)
 
 abbrev pub values_at : (k : Kind) → View → Edge → ℕ → ValueOf k
@@ -87,8 +87,8 @@ pub record Grown (old new : View) : Type 0 where
   pub elements : new.elements ≡ old.elements
   pub slots : new.slots ≡ old.slots
   pub level : new.level ≡ old.level
-  pub content : (s : ℕ) (f : Function) → old.content s ≡ Some f → new.content s ≡ Some f
-  pub top : (s : ℕ) (f : Function) → old.content s ≡ Some f → new.top s ≡ old.top s
+  pub content : (s : ℕ) (f : Denoted) → old.content s ≡ Some f → new.content s ≡ Some f
+  pub top : (s : ℕ) (f : Denoted) → old.content s ≡ Some f → new.top s ≡ old.top s
   pub made : (s : ℕ) → old.made s ≡ true → new.made s ≡ true
   pub fulls : old.fulls ≤ new.fulls
   pub wants : new.may_want_memory ≡ true → old.may_want_memory ≡ true

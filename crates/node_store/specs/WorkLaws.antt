@@ -4,7 +4,7 @@ use Rattle.edge_bits.specs.declared.edges.Edge.{Edge}
 use Rattle.edge_bits.specs.declared.edges.Kind.{Kind}
 use Rattle.edge_bits.specs.declared.edges.Kind.TheVariants.{Bdd, Add, Zdd}
 use Rattle.function_laws.specs.Values.{negation}
-use Rattle.node_store.specs.Kinds.{Function, BddFunction, AddFunction, ZddFamily, ValueOf, function_of, joined_at, flipped, opposite}
+use Rattle.function_laws.specs.Kinds.{Denoted, BddFunction, AddFunction, ZddFamily, ValueOf, function_of, joined_at, flipped, opposite}
 use Rattle.node_store.specs.KindLaws.{part-joined, Lacks-joined}
 use Rattle.node_store.specs.Views.{View, IsVariable, IsBelow, Grown, Kept, Denotes}
 use Rattle.node_store.specs.ViewLaws.{Grown-refl, Grown-trans, IsVariable-grown, IsVariable-back, level-grown, flipped-not, Apart-variables}
@@ -20,7 +20,7 @@ IsPart-back k g f _ whole = whole
 IsPart-back k g f _ (cut h v b vn above p) =
     cut h v b (IsVariable-back k g v vn) (λ u un lt. above u (IsVariable-grown k g u un) (rw (level-grown g u, level-grown g v) lt)) (IsPart-back k g f h p)
 
-pub IsWork-grown : {a b : View} → Grown a b → (P Q : Function → Type 0) → ((f : Function) → P f → Q f) → (o : Option Function) → IsWork a P o → IsWork b Q o
+pub IsWork-grown : {a b : View} → Grown a b → (P Q : Denoted → Type 0) → ((f : Denoted) → P f → Q f) → (o : Option Denoted) → IsWork a P o → IsWork b Q o
 IsWork-grown g P Q more o i = record {
   kind = i.kind;
   root = i.root;
@@ -31,10 +31,10 @@ IsWork-grown g P Q more o i = record {
 }
 
 -- the slot of an edge that denotes a part
-pub IsWork-edge : (k : Kind) (w : View) (Work : Function → Type 0) (e : Edge) (f g : ℕ → ValueOf k) → Work (function_of k f) → IsPart k w f g → Denotes k w e g → IsWork w Work (w.content e.index)
+pub IsWork-edge : (k : Kind) (w : View) (Work : Denoted → Type 0) (e : Edge) (f g : ℕ → ValueOf k) → Work (function_of k f) → IsPart k w f g → Denotes k w e g → IsWork w Work (w.content e.index)
 IsWork-edge k w Work e f g asked p d = record { kind = k; root = f; part = g; asked = asked; is_part = p; is = by_complement k e.complement (w.content e.index) g d.is }
   where
-    by_complement : (k : Kind) (c : Bool) (o : Option Function) (g : ℕ → ValueOf k) → flipped c o ≡ Some (function_of k g)
+    by_complement : (k : Kind) (c : Bool) (o : Option Denoted) (g : ℕ → ValueOf k) → flipped c o ≡ Some (function_of k g)
         → (o ≡ Some (function_of k g)) ⊎ (o ≡ Some (opposite (function_of k g)))
     by_complement k false o g h = inl h
     by_complement Bdd true o g h = inr (flipped-not true o g h)
@@ -47,7 +47,7 @@ IsWork-edge k w Work e f g asked p d = record { kind = k; root = f; part = g; as
     by_complement Zdd true (Some (AddFunction f)) g h = cc
     by_complement Zdd true (Some (ZddFamily f)) g h = cc
 
-pub IsWork-due : (k : Kind) (w : View) (Work : Function → Type 0) (f g : ℕ → ValueOf k) → Work (function_of k f) → IsPart k w f g → w.due ≡ Some (function_of k g) → IsWork w Work w.due
+pub IsWork-due : (k : Kind) (w : View) (Work : Denoted → Type 0) (f g : ℕ → ValueOf k) → Work (function_of k f) → IsPart k w f g → w.due ≡ Some (function_of k g) → IsWork w Work w.due
 IsWork-due k w Work f g asked p d = record { kind = k; root = f; part = g; asked = asked; is_part = p; is = inl d }
 
 -- the halves of a part are parts
@@ -58,9 +58,9 @@ IsPart-half k w v f g h l b vn is hb lb p =
     (cut (joined_at k v h l) v b vn (λ u un lt. Lacks-joined k u v h l (Apart-variables k w u v un vn (λ e. let s = ap w.level e in omega arith)) (hb u un (omega arith)) (lb u un (omega arith)))
     (subst (λ x. IsPart k w f x) is p))
 
-module _ (Roots : View → Type 0) (Work : View → Function → Type 0)
+module _ (Roots : View → Type 0) (Work : View → Denoted → Type 0)
     (roots_stay : (v w : View) → Grown v w → Roots v → Roots w)
-    (work_stays : (v w : View) (f : Function) → Grown v w → Roots v → Work v f → Work w f) where
+    (work_stays : (v w : View) (f : Denoted) → Grown v w → Roots v → Work v f → Work w f) where
   pub Moves-both : (u v w : View) → Moves Roots Work u v → Moves Roots Work v w → Moves Roots Work u w
   Moves-both u v w p q = record {
     grown = Grown-trans p.grown q.grown;
@@ -84,14 +84,14 @@ module _ (Roots : View → Type 0) (Work : View → Function → Type 0)
         is = elim i.is [ inl e ↦ inl (g.content s (function_of i.kind i.part) e) | inr e ↦ inr (g.content s (opposite (function_of i.kind i.part)) e) ];
       }
 
-pub Moves-kept : (Roots : View → Type 0) (Work : View → Function → Type 0) (v w : View) → Kept v w → Moves Roots Work v w
+pub Moves-kept : (Roots : View → Type 0) (Work : View → Denoted → Type 0) (v w : View) → Kept v w → Moves Roots Work v w
 Moves-kept Roots Work v w m = record { grown = m.grown; work = λ roots s h. let e = ap (λ (x : ℕ → Bool). x s) m.made in inl (sym e ∙ h) }
 
-pub Moves-none : (Roots : View → Type 0) (Work : View → Function → Type 0) (v : View) → Moves Roots Work v v
+pub Moves-none : (Roots : View → Type 0) (Work : View → Denoted → Type 0) (v : View) → Moves Roots Work v v
 Moves-none Roots Work v = record { grown = Grown-refl v; work = λ roots s h. inl h }
 
 -- an edge was stored that denotes a part of the work
-pub Moves-made : (k : Kind) (Roots : View → Type 0) (Work : View → Function → Type 0) (v w : View) (e : Edge) (f g : ℕ → ValueOf k)
+pub Moves-made : (k : Kind) (Roots : View → Type 0) (Work : View → Denoted → Type 0) (v w : View) (e : Edge) (f g : ℕ → ValueOf k)
     → Grown v w → ((s : ℕ) → w.made s ≡ true → (v.made s ≡ true) ⊎ (e.index ≡ s))
     → (Roots v → Work w (function_of k f)) → IsPart k w f g → Denotes k w e g → Moves Roots Work v w
 Moves-made k Roots Work v w e f g m made asked p d = record {

@@ -25,7 +25,7 @@ pub enum Expansion {
 pub trait Apply<G: Grow> {
     ghost use Rattle.std.specs.Prelude.{◌≡◌, ℕ, ◌+◌, ◌<◌, ◌≤◌, IfOk, IfSome, IsErrOf, true};
     ghost use Rattle.edge_bits.specs.declared.edges.Edge.{Edge};
-    ghost use Rattle.node_store.specs.Kinds.{Function};
+    ghost use Rattle.function_laws.specs.Kinds.{Denoted};
     ghost use Rattle.node_store.specs.Views.{View, Grown, Rose, IsKey};
     ghost use Rattle.node_store.specs.Work.{Moves, IsWork};
     ghost use Rattle.node_store.specs.Memo.{MemoHolds};
@@ -36,7 +36,7 @@ pub trait Apply<G: Grow> {
     ghost roots: { Self → View → Type 0 };
 
     /// The work of the call: what it stores are parts of these functions.
-    ghost work: { Self → View → Function → Type 0 };
+    ghost work: { Self → View → Denoted → Type 0 };
 
     /// The tasks that may be asked, which are parts of the call.
     ghost due: { Self → View → Task → Type 0 };
@@ -102,7 +102,7 @@ pub trait Apply<G: Grow> {
 
     ghost roots_stay: { (o : Self) (v w : View) → Grown v w → roots o v → roots o w };
 
-    ghost work_stays: { (o : Self) (v w : View) (f : Function) → Grown v w → roots o v → work o v f → work o w f };
+    ghost work_stays: { (o : Self) (v w : View) (f : Denoted) → Grown v w → roots o v → work o v f → work o w f };
 
     ghost due_stays: { (o : Self) (v w : View) (t : Task) → Grown v w → due o v t → due o w t };
 

@@ -25,7 +25,7 @@ pub trait Grow {
     ghost use Rattle.edge_bits.specs.declared.edges.Kind.TheVariants.{Add};
     ghost use Rattle.edge_bits.specs.Words.{IsLeafValue};
     ghost use Rattle.function_laws.specs.Values.{constant};
-    ghost use Rattle.node_store.specs.Kinds.{function_of};
+    ghost use Rattle.function_laws.specs.Kinds.{function_of};
     ghost use Rattle.node_store.specs.Views.{View, Is, IsFunction, IsVariable, Denotes, Grown, Kept, Rose, Opens, CanMake, Permanent, IsKey, levels as levels_of, values_at, node_values};
     ghost use Rattle.node_store.specs.Memo.{MemoHolds};
 

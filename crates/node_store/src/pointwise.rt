@@ -19,7 +19,7 @@ pub trait Pointwise<G: Grow> {
     ghost use Rattle.edge_bits.specs.declared.edges.Edge.{Edge};
     ghost use Rattle.computed_cache.specs.declared.Key.{Key};
     ghost use Rattle.edge_bits.specs.declared.edges.Kind.{Kind};
-    ghost use Rattle.node_store.specs.Kinds.{ValueOf, Keeps, function_of};
+    ghost use Rattle.function_laws.specs.Kinds.{ValueOf, Keeps, function_of};
     ghost use Rattle.node_store.specs.Views.{View, AreTwo, Denotes, Grown, Kept, Rose, Permanent, NotBothLeaves};
     ghost use Rattle.node_store.specs.Memo.{MemoHolds, PlaceHolds};
     ghost use Rattle.node_store.specs.Two.{place_at, IsOrderFor, Overflows, Terminal, IsMade};

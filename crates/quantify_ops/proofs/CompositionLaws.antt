@@ -6,7 +6,7 @@ use Rattle.function_laws.specs.Values.{IsFree, choice, cofactor, composed, if_th
 use Rattle.function_laws.proofs.ComposeLemmas.{composed-choice, composed-free, composed-own, IsFree-composed}
 use Rattle.function_laws.proofs.ValueLemmas.{cofactor-choice_false, cofactor-choice_true, cofactor-free, IsFree-choice_other}
 use Rattle.node_store.specs.Edges.{flip_if}
-use Rattle.node_store.specs.Kinds.{Function, BddFunction}
+use Rattle.function_laws.specs.Kinds.{Denoted, BddFunction}
 use Rattle.node_store.specs.Memo.{ComposeHolds, literal_edge}
 use Rattle.node_store.specs.Numbers.{compose_number}
 use Rattle.node_store.specs.Splits.{Branches}
@@ -270,7 +270,7 @@ answer_now v u w t e h m d is den = rw (composed_at-grown v m d, sym is) den
 
 -- what stores the value of a task
 module _ (f : Edge) (v : ℕ) (g : Edge) (u w : View) (root : AreComposed u f v g) (m : Grown u w) (h : ℕ → Bool) (part : IsPartOrComplement Bdd u (composed_at u f v g) h) where
-  pub Compose-refused : (o : Option Function) → IsWork w (λ F. F ≡ BddFunction h) o → IsWork w (value_of_compose f v g w) o
+  pub Compose-refused : (o : Option Denoted) → IsWork w (λ F. F ≡ BddFunction h) o → IsWork w (value_of_compose f v g w) o
   Compose-refused o i = part_of_either Bdd w (composed_at w f v g) h o (λ r q. IsWork-part w r h o q i)
       (rw (composed_at-grown v m root.two) (IsPartOrComplement-grown Bdd (composed_at u f v g) h m part))
 
@@ -298,7 +298,7 @@ module _ (f : Edge) (v : ℕ) (g p : Edge) (u w : View) (t hi lo : Task) (x : �
     pub own_moved : Adds (value_of_three Bdd t.g e0 e1 u) u w → Moves (λ w. AreComposed w f v g) (value_of_compose f v g) u w
     own_moved adds = Compose-moved f v g u w d.root m (if_then_else (bdd_at u t.g) (bdd_at u e0) (bdd_at u e1)) chosen_part adds
 
-    pub own_refused : (o : Option Function) → IsWork w (value_of_three Bdd t.g e0 e1 u) o → IsWork w (value_of_compose f v g w) o
+    pub own_refused : (o : Option Denoted) → IsWork w (value_of_three Bdd t.g e0 e1 u) o → IsWork w (value_of_compose f v g w) o
     own_refused o i = Compose-refused f v g u w d.root m (if_then_else (bdd_at u t.g) (bdd_at u e0) (bdd_at u e1)) chosen_part o i
 
     pub own_answer : (e : Edge) → Denotes Bdd w e (if_then_else (bdd_at u t.g) (bdd_at u e0) (bdd_at u e1)) → ComposeAnswers v w t e
@@ -326,10 +326,10 @@ module _ (f : Edge) (v : ℕ) (g p : Edge) (u w : View) (t hi lo : Task) (x : �
 
 -- from the view at the end to that at the start
 module _ (f : Edge) (v : ℕ) (g : Edge) where
-  pub compose_back : (u w : View) → Grown u w → AreComposed u f v g → (F : Function) → value_of_compose f v g w F → value_of_compose f v g u F
+  pub compose_back : (u w : View) → Grown u w → AreComposed u f v g → (F : Denoted) → value_of_compose f v g w F → value_of_compose f v g u F
   compose_back u w m d F is = is ∙ ap BddFunction (composed_at-grown v m d.two)
 
-  pub Compose-due_start : (u w : View) → Grown u w → AreComposed u f v g → (o : Option Function) → IsWork w (value_of_compose f v g w) o → IsWork w (value_of_compose f v g u) o
+  pub Compose-due_start : (u w : View) → Grown u w → AreComposed u f v g → (o : Option Denoted) → IsWork w (value_of_compose f v g w) o → IsWork w (value_of_compose f v g u) o
   Compose-due_start u w m d o i = IsWork-grown (Grown-refl w) (value_of_compose f v g w) (value_of_compose f v g u) (compose_back u w m d) o i
 
   pub Compose-adds_start : (u w : View) → AreComposed u f v g → Moves (λ w. AreComposed w f v g) (value_of_compose f v g) u w → Adds (value_of_compose f v g u) u w

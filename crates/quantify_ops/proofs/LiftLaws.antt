@@ -9,7 +9,7 @@ use Rattle.function_laws.proofs.CubeLemmas.{choice-same_part}
 use Rattle.function_laws.proofs.ExistsLemmas.{exists_all-push}
 use Rattle.function_laws.proofs.RestrictionLaws.{IsFree-exists_other, IsFree-exists_own, IsRestriction-lifted, nowhere-exists}
 use Rattle.function_laws.proofs.ValueLemmas.{everywhere, cofactor_comm, exists-choice_same, IsFree-cofactor, IsFree-cofactor_other, IsFree-place}
-use Rattle.node_store.specs.Kinds.{Function, BddFunction}
+use Rattle.function_laws.specs.Kinds.{Denoted, BddFunction}
 use Rattle.node_store.specs.Views.{View, AreTwo, Denotes, Grown, Is, IsInner, Kept, Opens, bdd_at}
 use Rattle.node_store.specs.ViewLaws.{Grown-refl, Grown-trans, Is-from, Splits-grown, IsVariable-back, IsVariable-grown, level-grown, top-grown, values_at-is, values_at-grown}
 use Rattle.node_store.specs.TwoLaws.{AreTwo-grown}
@@ -93,7 +93,7 @@ module _ (f c : Edge) (v w : View) (d hi lo : Edge) (x : ℕ) (roots : AreTwo Bd
       subst (λ r. IsPart Bdd v r step) (sym (exists_all-push (bdd_at v c) i.vars x))
       (subst (λ h. IsPart Bdd v (exists_one (exists_all (bdd_at v c) i.vars) x) h) step_is (IsPart-exists v x (exists_all (bdd_at v c) i.vars) (bdd_at v d) depends i.part))
 
-  pub step_due : (a : Option Function) → IsWork w (λ F. F ≡ BddFunction step) a → IsWork w (work_of_restrict f c w) a
+  pub step_due : (a : Option Denoted) → IsWork w (λ F. F ≡ BddFunction step) a → IsWork w (work_of_restrict f c w) a
   step_due a j = IsWork-grown (Grown-refl w) (λ F. F ≡ BddFunction (exists_all (bdd_at v c) more)) (work_of_restrict f c w)
       (λ F same. inr (more, same ∙ ap (λ g. BddFunction (exists_all g more)) (sym (values_at-grown Bdd m roots.second)))) a
       (IsWork-part w (exists_all (bdd_at v c) more) step a (IsPart-grown Bdd m (exists_all (bdd_at v c) more) step step_part) j)

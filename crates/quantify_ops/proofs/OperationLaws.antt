@@ -9,7 +9,7 @@ use Rattle.function_laws.specs.Values.{cofactor, conjunction, constant, exists_a
 use Rattle.function_laws.proofs.CubeLemmas.{IsCube-of, IsExists-all, IsExists-same}
 use Rattle.function_laws.proofs.ExistsLemmas.{forall_all-negation}
 use Rattle.node_store.specs.Edges.{flip_if}
-use Rattle.node_store.specs.Kinds.{Function, BddFunction, ValueOf, function_of, values_of, opposite}
+use Rattle.function_laws.specs.Kinds.{Denoted, BddFunction, ValueOf, function_of, values_of, opposite}
 use Rattle.node_store.specs.Views.{View, AreTwo, Denotes, Grown, Is, IsVariable, Permanent, bdd_at, truth_edge}
 use Rattle.node_store.specs.ViewLaws.{Grown-refl, Denotes-flip, Denotes-grown, Denotes-truth, Is-from, IsVariable-grown, values_at-is, values_at-grown}
 use Rattle.node_store.specs.Work.{whole, cut, IsPart, IsWork, Adds, Moves}
@@ -49,7 +49,7 @@ root_answer v w f g c vars e m two d a =
     subst (λ h. Denotes Bdd w e h) (IsExists-same (cube_of vars) (both_at v f g) (bdd_at w e) (exists_all (both_at v f g) vars) is (IsExists-all (both_at v f g) vars)) a.answer
 
 -- what it stores
-value_back : (v w : View) (f g c : Edge) (vars : List ℕ) → Grown v w → AreTwo Bdd v f g → IsProduct v c vars → (F : Function) → IsQuantifiedValue f g c w F → value_of_and_exists f g vars v F
+value_back : (v w : View) (f g c : Edge) (vars : List ℕ) → Grown v w → AreTwo Bdd v f g → IsProduct v c vars → (F : Denoted) → IsQuantifiedValue f g c w F → value_of_and_exists f g vars v F
 value_back v w f g c vars m two d F i =
     let part_f = rw (values_at-grown Bdd m two.first) at i.part_f in
     let part_g = rw (values_at-grown Bdd m two.second) at i.part_g in
@@ -63,7 +63,7 @@ value_back v w f g c vars m two d F i =
       ),
     )
 
-pub root_due_start : (v w : View) (f g c : Edge) (vars : List ℕ) → Grown v w → AreTwo Bdd v f g → IsProduct v c vars → (o : Option Function)
+pub root_due_start : (v w : View) (f g c : Edge) (vars : List ℕ) → Grown v w → AreTwo Bdd v f g → IsProduct v c vars → (o : Option Denoted)
     → IsWork w (IsQuantifiedValue f g c w) o → IsWork w (value_of_and_exists f g vars v) o
 root_due_start v w f g c vars m two d o i = IsWork-grown (Grown-refl w) (IsQuantifiedValue f g c w) (value_of_and_exists f g vars v) (value_back v w f g c vars m two d) o i
 
@@ -72,7 +72,7 @@ pub root_adds : (v w : View) (f g c : Edge) (vars : List ℕ) → AreTwo Bdd v f
 root_adds v w f g c vars two d m s here =
     elim (m.work (root_quantified v f g c vars two d) s here) [ inl old ↦ inl old | inr i ↦ inr (root_due_start v w f g c vars m.grown two d (w.content s) i) ]
 
-pub Adds-more : (P Q : Function → Type 0) → ((F : Function) → P F → Q F) → (v w : View) → Adds P v w → Adds Q v w
+pub Adds-more : (P Q : Denoted → Type 0) → ((F : Denoted) → P F → Q F) → (v w : View) → Adds P v w → Adds Q v w
 Adds-more P Q more v w adds s here = elim (adds s here) [ inl old ↦ inl old | inr i ↦ inr (IsWork-grown (Grown-refl w) P Q more (w.content s) i) ]
 
 -- a conjunction with true
@@ -89,12 +89,12 @@ with_true w p one f same d = record { first = rw same (Is-from Bdd (Denotes-trut
 pub true_and : (w : View) → Permanent w → (one f : Edge) → one ≡ truth_edge true → (vars : List ℕ) → exists_all (both_at w one f) vars ≡ exists_all (bdd_at w f) vars
 true_and w p one f same vars = ap (λ h. exists_all (conjunction h (bdd_at w f)) vars) (true_is w p one same)
 
-pub true_value : (w : View) → Permanent w → (one f : Edge) → one ≡ truth_edge true → (vars : List ℕ) (F : Function) → value_of_and_exists one f vars w F → value_of_exists f vars w F
+pub true_value : (w : View) → Permanent w → (one f : Edge) → one ≡ truth_edge true → (vars : List ℕ) (F : Denoted) → value_of_and_exists one f vars w F → value_of_exists f vars w F
 true_value w p one f same vars F (a, b, (part_one, part_f, is)) =
     let part = subst (λ h. IsPart Bdd w h a) (true_is w p one same) part_one in
     (b, (part_f, is ∙ ap (λ h. BddFunction (exists_all (conjunction h b) vars)) (constant_part w a part)))
 
-pub true_work : (w : View) → Permanent w → (one f : Edge) → one ≡ truth_edge true → (vars : List ℕ) (F : Function) → work_of_and_exists one f vars w F → work_of_exists f vars w F
+pub true_work : (w : View) → Permanent w → (one f : Edge) → one ≡ truth_edge true → (vars : List ℕ) (F : Denoted) → work_of_and_exists one f vars w F → work_of_exists f vars w F
 true_work w p one f same vars F (inl v) = inl (true_value w p one f same vars F v)
 true_work w p one f same vars F (inr is) = inr is
 
@@ -112,7 +112,7 @@ not_part v f n a same d part =
     subst (λ h. IsPart Bdd v h (negation a)) (ap negation (flipped-is v f n same d) ∙ sym (negation-negation (bdd_at v f))) (IsPart-not v (bdd_at v n) a part)
 
 module _ (v w : View) (f n : Edge) (vars : List ℕ) (same : n ≡ flip_if true f) (d : Is Bdd v f) where
-  not_value : (root : ℕ → Bool) → value_of_exists n vars v (BddFunction root) → (F : Function) → F ≡ BddFunction (negation root) → value_of_forall f vars v F
+  not_value : (root : ℕ → Bool) → value_of_exists n vars v (BddFunction root) → (F : Denoted) → F ≡ BddFunction (negation root) → value_of_forall f vars v F
   not_value root (a, (part, is)) F is_not = (
     negation a,
     (
@@ -121,7 +121,7 @@ module _ (v w : View) (f n : Edge) (vars : List ℕ) (same : n ≡ flip_if true 
     ),
   )
 
-  pub not_due : (o : Option Function) → IsWork w (value_of_exists n vars v) o → IsWork w (value_of_forall f vars v) o
+  pub not_due : (o : Option Denoted) → IsWork w (value_of_exists n vars v) o → IsWork w (value_of_forall f vars v) o
   not_due o i = by_kind i.kind i.root i.part i.asked i.is_part i.is
     where
       by_kind : (k : Kind) (root p : ℕ → ValueOf k) → value_of_exists n vars v (function_of k root) → IsPart k w root p
@@ -136,7 +136,7 @@ module _ (v w : View) (f n : Edge) (vars : List ℕ) (same : n ≡ flip_if true 
   not_adds adds s here = elim (adds s here) [ inl old ↦ inl old | inr i ↦ inr (not_due (w.content s) i) ]
 
   -- with the product
-  pub not_work : (o : Option Function) → IsWork w (work_of_exists n vars v) o → IsWork w (work_of_forall f vars v) o
+  pub not_work : (o : Option Denoted) → IsWork w (work_of_exists n vars v) o → IsWork w (work_of_forall f vars v) o
   not_work o i = by_work i.asked
     where
       by_work : work_of_exists n vars v (function_of i.kind i.root) → IsWork w (work_of_forall f vars v) o
@@ -148,7 +148,7 @@ module _ (v w : View) (f n : Edge) (vars : List ℕ) (same : n ≡ flip_if true 
   not_work_adds adds s here = elim (adds s here) [ inl old ↦ inl old | inr i ↦ inr (not_work (w.content s) i) ]
 
 -- from a later view
-pub work_back : (v w : View) (f g : Edge) (vars : List ℕ) → Grown v w → AreTwo Bdd v f g → (F : Function) → value_of_and_exists f g vars w F → value_of_and_exists f g vars v F
+pub work_back : (v w : View) (f g : Edge) (vars : List ℕ) → Grown v w → AreTwo Bdd v f g → (F : Denoted) → value_of_and_exists f g vars w F → value_of_and_exists f g vars v F
 work_back v w f g vars m two F (a, b, (part_f, part_g, is)) = (
   a,
   b,
@@ -159,11 +159,11 @@ work_back v w f g vars m two F (a, b, (part_f, part_g, is)) = (
   ),
 )
 
-pub work_of_and_exists-back : (v w : View) (f g : Edge) (vars : List ℕ) → Grown v w → AreTwo Bdd v f g → (F : Function) → work_of_and_exists f g vars w F → work_of_and_exists f g vars v F
+pub work_of_and_exists-back : (v w : View) (f g : Edge) (vars : List ℕ) → Grown v w → AreTwo Bdd v f g → (F : Denoted) → work_of_and_exists f g vars w F → work_of_and_exists f g vars v F
 work_of_and_exists-back v w f g vars m two F (inl value) = inl (work_back v w f g vars m two F value)
 work_of_and_exists-back v w f g vars m two F (inr is) = inr is
 
-pub work_of_exists-back : (v w : View) (f : Edge) (vars : List ℕ) → Grown v w → Is Bdd v f → (F : Function) → work_of_exists f vars w F → work_of_exists f vars v F
+pub work_of_exists-back : (v w : View) (f : Edge) (vars : List ℕ) → Grown v w → Is Bdd v f → (F : Denoted) → work_of_exists f vars w F → work_of_exists f vars v F
 work_of_exists-back v w f vars m d F (inl (a, (part, is))) =
     inl (a, (IsPart-back Bdd m (bdd_at v f) a (subst (λ h. IsPart Bdd w h a) (values_at-grown Bdd m d) part), is))
 work_of_exists-back v w f vars m d F (inr is) = inr is

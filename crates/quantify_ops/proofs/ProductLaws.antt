@@ -9,7 +9,7 @@ use Rattle.edge_bits.specs.declared.edges.Kind.TheVariants.{Bdd, Add, Zdd}
 use Rattle.function_laws.specs.Cubes.{cube_of}
 use Rattle.function_laws.specs.Values.{IsFree, conjunction, projection}
 use Rattle.function_laws.proofs.CubeLemmas.{IsCube-of, IsFree-cube, cube_of-permutation, times-part}
-use Rattle.node_store.specs.Kinds.{Function, BddFunction, ValueOf, function_of, values_of, opposite}
+use Rattle.function_laws.specs.Kinds.{Denoted, BddFunction, ValueOf, function_of, values_of, opposite}
 use Rattle.node_store.specs.Views.{View, Grown, IsVariable}
 use Rattle.node_store.specs.ViewLaws.{IsVariable-grown, level-grown}
 use Rattle.node_store.specs.Work.{whole, cut, IsPart, IsWork, Adds}
@@ -83,7 +83,7 @@ left_is_part w (t ∷ rest) done r =
     (left_is_part w rest done r.1.1)
 
 -- what is part of a part's work is part of the whole's
-pub IsWork-part : (w : View) (f g : ℕ → Bool) (o : Option Function) → IsPart Bdd w f g → IsWork w (λ F. F ≡ BddFunction g) o → IsWork w (λ F. F ≡ BddFunction f) o
+pub IsWork-part : (w : View) (f g : ℕ → Bool) (o : Option Denoted) → IsPart Bdd w f g → IsWork w (λ F. F ≡ BddFunction g) o → IsWork w (λ F. F ≡ BddFunction f) o
 IsWork-part w f g o part i = by_kind i.kind i.root i.part i.asked i.is_part i.is
   where
     by_kind : (k : Kind) (root p : ℕ → ValueOf k) → function_of k root ≡ BddFunction g → IsPart k w root p
@@ -100,11 +100,11 @@ IsWork-part w f g o part i = by_kind i.kind i.root i.part i.asked i.is_part i.is
     by_kind Zdd root p asked q is = cc
 
 -- two steps that add parts of one function
-pub Adds-both : (P : Function → Type 0) (u v w : View) → Grown u v → Grown v w → Adds P u v → Adds P v w → Adds P u w
+pub Adds-both : (P : Denoted → Type 0) (u v w : View) → Grown u v → Grown v w → Adds P u v → Adds P v w → Adds P u w
 Adds-both P u v w m n p q =
     (Moves-both (λ x. Unit {0}) (λ x. P) (λ x y k r. r) (λ x y f k r is. is) u v w (record { grown = m; work = λ r. p }) (record { grown = n; work = λ r. q })).work tt
 
 -- one more variable
 pub times_due : (w : View) (rest done : List Top) (t : Top) → IsRanked w (rest ++ t ∷ done)
-    → (o : Option Function) → IsWork w (λ F. F ≡ BddFunction (cube_of (variables_of (t ∷ done)))) o → IsWork w (λ F. F ≡ BddFunction (cube_of (variables_of (rest ++ t ∷ done)))) o
+    → (o : Option Denoted) → IsWork w (λ F. F ≡ BddFunction (cube_of (variables_of (t ∷ done)))) o → IsWork w (λ F. F ≡ BddFunction (cube_of (variables_of (rest ++ t ∷ done)))) o
 times_due w rest done t r o i = IsWork-part w (cube_of (variables_of (rest ++ t ∷ done))) (cube_of (variables_of (t ∷ done))) o (left_is_part w rest (t ∷ done) r) i

@@ -9,7 +9,7 @@ use Rattle.function_laws.specs.Values.{IsFree, choice, conjunction, constant, di
 use Rattle.function_laws.proofs.CubeLemmas.{part-lacks, times-depends, IsExists-absent, IsExists-choice, IsExists-constant, IsExists-none, IsExists-quantified, IsExists-settled, IsFree-exists}
 use Rattle.function_laws.proofs.ValueLemmas.{everywhere, IsFree-place}
 use Rattle.node_store.specs.Edges.{flip_if}
-use Rattle.node_store.specs.Kinds.{Function, BddFunction}
+use Rattle.function_laws.specs.Kinds.{Denoted, BddFunction}
 use Rattle.node_store.specs.KindLaws.{Lacks-joined}
 use Rattle.node_store.specs.Numbers.{exists_number, and_exists_number}
 use Rattle.node_store.specs.Splits.{BothAnswered, Leads}
@@ -351,7 +351,7 @@ module _ (f g c : Edge) where
     later : IsQuantifiedValue f g c w (BddFunction h)
     later = IsQuantifiedValue-stays f g c v w (BddFunction h) m d.roots (value v t h d is)
 
-    all_of : (F : Function) → F ≡ BddFunction h → IsQuantifiedValue f g c w F
+    all_of : (F : Denoted) → F ≡ BddFunction h → IsQuantifiedValue f g c w F
     all_of F same = subst (λ x. IsQuantifiedValue f g c w x) (sym same) later
 
     Quantified-answer : (e : Edge) → Denotes Bdd w e h → QuantifiedAnswers w t e

@@ -11,7 +11,7 @@ use Rattle.function_laws.proofs.RestrictionLaws.{IsRestriction-branch, IsRestric
 use Rattle.function_laws.proofs.SupportLemmas.{not_not}
 use Rattle.function_laws.proofs.ValueLemmas.{everywhere}
 use Rattle.node_store.specs.Edges.{flip_if}
-use Rattle.node_store.specs.Kinds.{Function, BddFunction}
+use Rattle.function_laws.specs.Kinds.{Denoted, BddFunction}
 use Rattle.node_store.specs.Memo.{MemoHolds}
 use Rattle.node_store.specs.Splits.{AtSecond, Leads, WaitIs, Waiting}
 use Rattle.node_store.specs.Three.{IsFlipped}
@@ -404,7 +404,7 @@ pub root_answer : (v w : View) (f c e : Edge) (t : Task) → Grown v w → AreTw
 root_answer v w f c e t m d sf sg a = root_restricted v w f c e m d a.answer (rw (sf, sg, values_at-grown Bdd m d.first, values_at-grown Bdd m d.second) at a.restriction)
 
 -- what it stores, told from an earlier view
-pub work_of_restrict-back : (v w : View) (f c : Edge) → Grown v w → AreTwo Bdd v f c → (F : Function) → work_of_restrict f c w F → work_of_restrict f c v F
+pub work_of_restrict-back : (v w : View) (f c : Edge) → Grown v w → AreTwo Bdd v f c → (F : Denoted) → work_of_restrict f c w F → work_of_restrict f c v F
 work_of_restrict-back v w f c m d F (inl i) = inl (record {
   a = i.a;
   b = i.b;
@@ -420,7 +420,7 @@ work_of_restrict-back v w f c m d F (inl i) = inl (record {
 })
 work_of_restrict-back v w f c m d F (inr (vars, is)) = inr (vars, is ∙ ap (λ g. BddFunction (exists_all g vars)) (values_at-grown Bdd m d.second))
 
-pub restrict_due_start : (v w : View) (f c : Edge) → Grown v w → AreTwo Bdd v f c → (o : Option Function) → IsWork w (work_of_restrict f c w) o → IsWork w (work_of_restrict f c v) o
+pub restrict_due_start : (v w : View) (f c : Edge) → Grown v w → AreTwo Bdd v f c → (o : Option Denoted) → IsWork w (work_of_restrict f c w) o → IsWork w (work_of_restrict f c v) o
 restrict_due_start v w f c m d o i = IsWork-grown (Grown-refl w) (work_of_restrict f c w) (work_of_restrict f c v) (work_of_restrict-back v w f c m d) o i
 
 pub restrict_adds : (v w : View) (f c : Edge) → AreTwo Bdd v f c → Moves (λ w. AreTwo Bdd w f c) (work_of_restrict f c) v w → Adds (work_of_restrict f c v) v w

@@ -8,7 +8,7 @@ use Rattle.edge_bits.specs.declared.edges.Kind.TheVariants.{Bdd}
 use Rattle.function_laws.specs.Steps.{are_distinct}
 use Rattle.function_laws.specs.Values.{IsFree, composed_at_once, if_then_else, projection}
 use Rattle.function_laws.proofs.ComposeLemmas.{composed_at_once-choice, composed_at_once-free, image, value_or}
-use Rattle.node_store.specs.Kinds.{Function, BddFunction}
+use Rattle.function_laws.specs.Kinds.{Denoted, BddFunction}
 use Rattle.node_store.specs.Splits.{Branches}
 use Rattle.node_store.specs.Three.{AreThree}
 use Rattle.node_store.specs.Views.{View, Denotes, Grown, Is, IsInner, IsLeaf, IsVariable, Permanent, bdd_at}
@@ -114,10 +114,10 @@ module _ (f : Edge) (pairs : List (ℕ × Edge)) (lowest : Option ℕ) (w : View
       (sym (ap (λ h. composed_at_once h (functions_of w pairs)) s.splits.is ∙ composed_at_once-choice (bdd_at w hi.f) (bdd_at w lo.f) (functions_of w pairs) x (names_distinct w pairs d.root.distinct)))
 
   module _ (y : View) (m : Grown w y) where
-    value_later : (F : Function) → F ≡ BddFunction (substituted_at w t.f pairs) → value_of_vector_compose f pairs y F
+    value_later : (F : Denoted) → F ≡ BddFunction (substituted_at w t.f pairs) → value_of_vector_compose f pairs y F
     value_later F is = value_of_vector_compose-stays f pairs w y F m d.root (bdd_at w t.f, (d.part, is))
 
-    pub substitute_due : (o : Option Function) → IsWork y (λ F. F ≡ BddFunction (if_then_else (bdd_at w image_at) (bdd_at w e0) (bdd_at w e1))) o → IsWork y (value_of_vector_compose f pairs y) o
+    pub substitute_due : (o : Option Denoted) → IsWork y (λ F. F ≡ BddFunction (if_then_else (bdd_at w image_at) (bdd_at w e0) (bdd_at w e1))) o → IsWork y (value_of_vector_compose f pairs y) o
     substitute_due o i = IsWork-grown (Grown-refl y) _ (value_of_vector_compose f pairs y) (λ F is. value_later F (is ∙ ap BddFunction substitute_value)) o i
 
     pub substitute_moved : Adds (λ F. F ≡ BddFunction (if_then_else (bdd_at w image_at) (bdd_at w e0) (bdd_at w e1))) w y → Moves (λ w. AreSubstituted w f pairs) (value_of_vector_compose f pairs) w y
@@ -137,7 +137,7 @@ reach_own w None level pair same = omega arith
 
 -- from the view at the end to that at the start
 module _ (f : Edge) (pairs : List (ℕ × Edge)) where
-  pub substitute_back : (u w : View) → Grown u w → AreSubstituted u f pairs → (F : Function) → value_of_vector_compose f pairs w F → value_of_vector_compose f pairs u F
+  pub substitute_back : (u w : View) → Grown u w → AreSubstituted u f pairs → (F : Denoted) → value_of_vector_compose f pairs w F → value_of_vector_compose f pairs u F
   substitute_back u w m d F (a, (part, is)) = (
     a,
     (
@@ -146,7 +146,7 @@ module _ (f : Edge) (pairs : List (ℕ × Edge)) where
     ),
   )
 
-  pub Substitute-due_start : (u w : View) → Grown u w → AreSubstituted u f pairs → (o : Option Function) → IsWork w (value_of_vector_compose f pairs w) o → IsWork w (value_of_vector_compose f pairs u) o
+  pub Substitute-due_start : (u w : View) → Grown u w → AreSubstituted u f pairs → (o : Option Denoted) → IsWork w (value_of_vector_compose f pairs w) o → IsWork w (value_of_vector_compose f pairs u) o
   Substitute-due_start u w m d o i = IsWork-grown (Grown-refl w) (value_of_vector_compose f pairs w) (value_of_vector_compose f pairs u) (substitute_back u w m d) o i
 
   pub Substitute-adds_start : (u w : View) → AreSubstituted u f pairs → Moves (λ w. AreSubstituted w f pairs) (value_of_vector_compose f pairs) u w → Adds (value_of_vector_compose f pairs u) u w

@@ -8,7 +8,7 @@ use Rattle.function_laws.specs.Values.{IsFree, IsOf, cofactor, conjunction, cons
 use Rattle.function_laws.proofs.CubeLemmas.{times-choice, times-cofactor, times-free}
 use Rattle.function_laws.proofs.SupportLemmas.{IsFree-support, IsSupport-choice, IsSupport-from_not, IsSupport-none, IsSupport-not, IsSupport-same, IsSupport-support}
 use Rattle.function_laws.proofs.ValueLemmas.{IsFree-cofactor, IsFree-cofactor_other, IsFree-place}
-use Rattle.node_store.specs.Kinds.{Function, BddFunction}
+use Rattle.function_laws.specs.Kinds.{Denoted, BddFunction}
 use Rattle.node_store.specs.Memo.{MemoHolds}
 use Rattle.node_store.specs.Splits.{Branches}
 use Rattle.node_store.specs.Views.{View, CanMake, Denotes, Grown, Is, IsInner, IsKey, IsLeaf, IsVariable, Permanent, bdd_at, node_values, truth_edge}
@@ -120,11 +120,11 @@ module _ (f : Edge) (v : View) (t hi lo : Task) (x : ℕ) (a b : Edge) (d : Supp
       (cut value x true s.in_range (λ u un lt. times-free x u below (λ e. let same = ap v.level e in omega arith) (below_free u un (omega arith))) whole)
 
   module _ (w : View) (m : Grown v w) where
-    all_of : (F : Function) → F ≡ BddFunction value → IsSupportValue f w F
+    all_of : (F : Denoted) → F ≡ BddFunction value → IsSupportValue f w F
     all_of F same = subst (λ G. IsSupportValue f w G) (sym same) (IsSupportValue-stays f v w (BddFunction value) m d.root own)
 
     -- the conjunction of both answers
-    pub below_due : (o : Option Function) → IsWork w (λ F. F ≡ BddFunction below) o → IsWork w (IsSupportValue f w) o
+    pub below_due : (o : Option Denoted) → IsWork w (λ F. F ≡ BddFunction below) o → IsWork w (IsSupportValue f w) o
     below_due o i = IsWork-grown (Grown-refl w) (λ F. F ≡ BddFunction value) (IsSupportValue f w) all_of o (IsWork-part w value below o (IsPart-grown Bdd m value below below_part) i)
 
     pub below_moved : Adds (λ F. F ≡ BddFunction below) v w → Moves (λ w. Is Bdd w f) (IsSupportValue f) v w
@@ -181,7 +181,7 @@ part_of n w f _ of (cut g x b xn above p) = λ u from. by_order u from (part_of 
       | inr apart ↦ IsFree-cofactor_other g u x b apart (here u from)
     ]
 
-pub support_back : (v w : View) (f : Edge) → Grown v w → Is Bdd v f → (F : Function) → IsSupportValue f w F → value_of_support f v F
+pub support_back : (v w : View) (f : Edge) → Grown v w → Is Bdd v f → (F : Denoted) → IsSupportValue f w F → value_of_support f v F
 support_back v w f m d F i =
     let part = IsPart-back Bdd m (bdd_at v f) i.a (subst (λ g. IsPart Bdd w g i.a) (values_at-grown Bdd m d) i.part) in
     (i.a, (part, i.is ∙ ap BddFunction (IsSupport-same i.a i.h (support v.vars i.a) i.support (IsSupport-support v.vars i.a (part_of v.vars v (bdd_at v f) i.a d.beyond part)))))
@@ -191,14 +191,14 @@ root_support v w t e m d a =
     let is = rw (values_at-grown Bdd m d) at a.support in
     subst (λ g. Denotes Bdd w e g) (IsSupport-same (bdd_at v t.f) (bdd_at w e) (support v.vars (bdd_at v t.f)) is (IsSupport-support v.vars (bdd_at v t.f) d.beyond)) a.answer
 
-pub support_due_start : (v w : View) (f : Edge) → Grown v w → Is Bdd v f → (o : Option Function) → IsWork w (IsSupportValue f w) o → IsWork w (value_of_support f v) o
+pub support_due_start : (v w : View) (f : Edge) → Grown v w → Is Bdd v f → (o : Option Denoted) → IsWork w (IsSupportValue f w) o → IsWork w (value_of_support f v) o
 support_due_start v w f m d o i = IsWork-grown (Grown-refl w) (IsSupportValue f w) (value_of_support f v) (support_back v w f m d) o i
 
 pub support_adds : (v w : View) (f : Edge) → Is Bdd v f → Moves (λ w. Is Bdd w f) (IsSupportValue f) v w → Adds (value_of_support f v) v w
 support_adds v w f d m s here = elim (m.work d s here) [ inl old ↦ inl old | inr i ↦ inr (support_due_start v w f m.grown d (w.content s) i) ]
 
 -- from a later view, where no variable is added
-pub value_of_support-back : (v w : View) (f : Edge) → Grown v w → Is Bdd v f → (F : Function) → value_of_support f w F → value_of_support f v F
+pub value_of_support-back : (v w : View) (f : Edge) → Grown v w → Is Bdd v f → (F : Denoted) → value_of_support f w F → value_of_support f v F
 value_of_support-back v w f m d F (a, (part, is)) =
     (a, (IsPart-back Bdd m (bdd_at v f) a (subst (λ g. IsPart Bdd w g a) (values_at-grown Bdd m d) part), is ∙ ap (λ n. BddFunction (support n a)) m.vars))
 

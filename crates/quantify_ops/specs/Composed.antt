@@ -3,7 +3,7 @@ use Rattle.std.specs.Prelude.{◌≡◌, ◌≢◌, ℕ, ◌<◌, Bool, true, �
 use Rattle.edge_bits.specs.declared.edges.Edge.{Edge}
 use Rattle.edge_bits.specs.declared.edges.Kind.TheVariants.{Bdd}
 use Rattle.function_laws.specs.Values.{IsFree, composed}
-use Rattle.node_store.specs.Kinds.{Function, BddFunction}
+use Rattle.function_laws.specs.Kinds.{Denoted, BddFunction}
 use Rattle.node_store.specs.Memo.{literal_edge}
 use Rattle.node_store.specs.Three.{IsPartOrComplement}
 use Rattle.node_store.specs.Two.{TwoSplits}
@@ -21,7 +21,7 @@ pub record AreComposed (w : View) (f : Edge) (v : ℕ) (g : Edge) : Type 0 where
   pub in_range : IsVariable Bdd w v
 
 -- what a call stores: its value
-abbrev pub value_of_compose : Edge → ℕ → Edge → View → Function → Type 0
+abbrev pub value_of_compose : Edge → ℕ → Edge → View → Denoted → Type 0
 value_of_compose f v g w F = F ≡ BddFunction (composed_at w f v g)
 
 -- a part of the call's value, or a function that is below the variable

@@ -2,7 +2,7 @@
 use Rattle.std.proofs.Common.{◌≡◌, ℕ, inl, inr, refl, ap, sym, ◌∙◌}
 use Rattle.edge_bits.specs.declared.edges.Edge.{Edge}
 use Rattle.edge_bits.specs.declared.edges.Kind.TheVariants.{Bdd}
-use Rattle.node_store.specs.Kinds.{Function, BddFunction}
+use Rattle.function_laws.specs.Kinds.{Denoted, BddFunction}
 use Rattle.node_store.specs.Three.{IsPartOrComplement}
 use Rattle.node_store.specs.ThreeLaws.{IsPartOrComplement-grown}
 use Rattle.node_store.specs.TwoLaws.{AreTwo-grown, TwoSplits-stay}
@@ -17,7 +17,7 @@ composed_at-grown {v} {w} {f} {g} x m d = rw (values_at-grown Bdd m d.first, val
 pub AreComposed-grown : {v w : View} {f g : Edge} {x : ℕ} → Grown v w → AreComposed v f x g → AreComposed w f x g
 AreComposed-grown {v} {w} {f} {g} {x} m d = record { two = AreTwo-grown Bdd m d.two; in_range = IsVariable-grown Bdd m x d.in_range }
 
-pub value_of_compose-stays : (f : Edge) (x : ℕ) (g : Edge) (v w : View) (F : Function) → Grown v w → AreComposed v f x g → value_of_compose f x g v F → value_of_compose f x g w F
+pub value_of_compose-stays : (f : Edge) (x : ℕ) (g : Edge) (v w : View) (F : Denoted) → Grown v w → AreComposed v f x g → value_of_compose f x g v F → value_of_compose f x g w F
 value_of_compose-stays f x g v w F m d is = is ∙ ap BddFunction (sym (composed_at-grown x m d.two))
 
 pub part-stays : (f : Edge) (x : ℕ) (g : Edge) (v w : View) (t : Task) → Grown v w → AreComposed v f x g → AreTwo Bdd v t.f t.g

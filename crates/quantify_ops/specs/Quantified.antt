@@ -5,7 +5,7 @@ use Rattle.computed_cache.specs.declared.Key.{Key}
 use Rattle.edge_bits.specs.declared.edges.Kind.TheVariants.{Bdd}
 use Rattle.function_laws.specs.Cubes.{IsCube, IsExists}
 use Rattle.function_laws.specs.Values.{IsFree, conjunction, constant, projection}
-use Rattle.node_store.specs.Kinds.{Function, BddFunction}
+use Rattle.function_laws.specs.Kinds.{Denoted, BddFunction}
 use Rattle.node_store.specs.Views.{View, AreTwo, Is, IsKey, IsVariable, NotBothLeaves, Permanent, bdd_at}
 use Rattle.node_store.specs.Memo.{MemoHolds}
 use Rattle.node_store.specs.Splits.{Branches, Waiting}
@@ -37,7 +37,7 @@ abbrev pub StandsAbove : View → ℕ → (ℕ → Bool) → (ℕ → Bool) → 
 StandsAbove w level d c = (a h : ℕ → Bool) → IsFreeAbove w level a → IsExists d a h → IsExists c a h
 
 -- the value of a call, also with any parts of the two functions in their places
-pub record IsQuantifiedValue (f g c : Edge) (w : View) (F : Function) : Type 0 where
+pub record IsQuantifiedValue (f g c : Edge) (w : View) (F : Denoted) : Type 0 where
   pub a : ℕ → Bool
   pub b : ℕ → Bool
   pub h : ℕ → Bool

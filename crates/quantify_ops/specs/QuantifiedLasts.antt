@@ -2,7 +2,7 @@
 use Rattle.std.proofs.Common.{ℕ, Bool, sym}
 use Rattle.edge_bits.specs.declared.edges.Edge.{Edge}
 use Rattle.edge_bits.specs.declared.edges.Kind.TheVariants.{Bdd}
-use Rattle.node_store.specs.Kinds.{Function}
+use Rattle.function_laws.specs.Kinds.{Denoted}
 use Rattle.node_store.specs.Views.{View, Grown, bdd_at}
 use Rattle.node_store.specs.ViewLaws.{Is-grown, IsVariable-back, IsVariable-grown, Permanent-grown, level-grown, values_at-grown}
 use Rattle.node_store.specs.TwoLaws.{AreTwo-grown, TwoSplits-stay, two_depth-stays}
@@ -28,7 +28,7 @@ IsFreeAbove-back level f m free u un lt = free u (IsVariable-grown Bdd m u un) (
 pub StandsAbove-grown : {v w : View} (level : ℕ) (d c : ℕ → Bool) → Grown v w → StandsAbove v level d c → StandsAbove w level d c
 StandsAbove-grown level d c m stands a h free e = stands a h (IsFreeAbove-back level a m free) e
 
-pub IsQuantifiedValue-stays : (f g c : Edge) (v w : View) (F : Function) → Grown v w → AreQuantified v f g c → IsQuantifiedValue f g c v F → IsQuantifiedValue f g c w F
+pub IsQuantifiedValue-stays : (f g c : Edge) (v w : View) (F : Denoted) → Grown v w → AreQuantified v f g c → IsQuantifiedValue f g c v F → IsQuantifiedValue f g c w F
 IsQuantifiedValue-stays f g c v w F m d i = record {
   a = i.a;
   b = i.b;

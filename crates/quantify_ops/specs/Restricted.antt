@@ -7,7 +7,7 @@ use Rattle.function_laws.specs.Restricting.{Restricts}
 use Rattle.function_laws.specs.Restrictions.{IsNowhere, IsRestriction}
 use Rattle.function_laws.specs.Values.{exists_all}
 use Rattle.ite_core.specs.Cofactors.{one_depth}
-use Rattle.node_store.specs.Kinds.{Function, BddFunction}
+use Rattle.function_laws.specs.Kinds.{Denoted, BddFunction}
 use Rattle.node_store.specs.Numbers.{restrict_number}
 use Rattle.node_store.specs.Splits.{Leads, Waiting}
 use Rattle.node_store.specs.Three.{IsPartOrComplement}
@@ -30,7 +30,7 @@ pub record Restricted (v w : View) (f c e : Edge) : Type 0 where
   pub restriction : IsRestriction (bdd_at v f) (bdd_at v c) (bdd_at w e)
 
 -- one of the functions that restrict may answer for a part of the function, up to complement, and a part of the condition with some variables quantified
-pub record IsPartRestricted (f c : Edge) (w : View) (F : Function) : Type 0 where
+pub record IsPartRestricted (f c : Edge) (w : View) (F : Denoted) : Type 0 where
   pub a : ℕ → Bool
   pub b : ℕ → Bool
   pub r : ℕ → Bool
@@ -41,7 +41,7 @@ pub record IsPartRestricted (f c : Edge) (w : View) (F : Function) : Type 0 wher
   pub is : F ≡ BddFunction r
 
 -- such a function, or the condition with some variables quantified
-abbrev pub work_of_restrict : Edge → Edge → View → Function → Type 0
+abbrev pub work_of_restrict : Edge → Edge → View → Denoted → Type 0
 work_of_restrict f c w F = IsPartRestricted f c w F ⊎ ((vars : List ℕ) × (F ≡ BddFunction (exists_all (bdd_at w c) vars)))
 
 -- a condition of the call with this condition: a part of it with some variables quantified, which holds somewhere

@@ -5,7 +5,7 @@ use Rattle.edge_bits.specs.declared.edges.Kind.TheVariants.{Bdd}
 use Rattle.function_laws.specs.Values.{exists_all}
 use Rattle.ite_core.specs.Cofactors.{one_depth}
 use Rattle.ite_core.specs.CofactorLasts.{one_depth-stays}
-use Rattle.node_store.specs.Kinds.{Function, BddFunction}
+use Rattle.function_laws.specs.Kinds.{Denoted, BddFunction}
 use Rattle.node_store.specs.ThreeLaws.{IsPartOrComplement-grown}
 use Rattle.node_store.specs.TwoLaws.{AreTwo-grown, TwoSplits-stay}
 use Rattle.node_store.specs.Views.{View, AreTwo, Grown, Is, bdd_at}
@@ -16,7 +16,7 @@ use Rattle.node_store.specs.declared.operator.Frame.{Frame}
 use Rattle.node_store.specs.declared.operator.Task.{Task}
 use Rattle.quantify_ops.specs.Restricted.{IsPartRestricted, work_of_restrict, IsCondition, RestrictDue, RestrictAnswers, RestrictParts, RestrictSplits, OnlyWaits, RestrictWaits}
 
-pub IsPartRestricted-stays : (f c : Edge) (v w : View) (F : Function) → Grown v w → AreTwo Bdd v f c → IsPartRestricted f c v F → IsPartRestricted f c w F
+pub IsPartRestricted-stays : (f c : Edge) (v w : View) (F : Denoted) → Grown v w → AreTwo Bdd v f c → IsPartRestricted f c v F → IsPartRestricted f c w F
 IsPartRestricted-stays f c v w F m d i = record {
   a = i.a;
   b = i.b;
@@ -28,7 +28,7 @@ IsPartRestricted-stays f c v w F m d i = record {
   is = i.is;
 }
 
-pub work_of_restrict-stays : (f c : Edge) (v w : View) (F : Function) → Grown v w → AreTwo Bdd v f c → work_of_restrict f c v F → work_of_restrict f c w F
+pub work_of_restrict-stays : (f c : Edge) (v w : View) (F : Denoted) → Grown v w → AreTwo Bdd v f c → work_of_restrict f c v F → work_of_restrict f c w F
 work_of_restrict-stays f c v w F m d (inl i) = inl (IsPartRestricted-stays f c v w F m d i)
 work_of_restrict-stays f c v w F m d (inr (vars, is)) = inr (vars, is ∙ ap (λ g. BddFunction (exists_all g vars)) (sym (values_at-grown Bdd m d.second)))
 

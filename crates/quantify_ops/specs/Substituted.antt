@@ -5,7 +5,7 @@ use Rattle.edge_bits.specs.declared.edges.Edge.{Edge}
 use Rattle.edge_bits.specs.declared.edges.Kind.TheVariants.{Bdd}
 use Rattle.function_laws.specs.Steps.{are_distinct}
 use Rattle.function_laws.specs.Values.{composed_at_once}
-use Rattle.node_store.specs.Kinds.{Function, BddFunction}
+use Rattle.function_laws.specs.Kinds.{Denoted, BddFunction}
 use Rattle.node_store.specs.Memo.{literal_edge}
 use Rattle.node_store.specs.Views.{View, Denotes, Is, IsVariable, Permanent, Splits, bdd_at}
 use Rattle.node_store.specs.Work.{IsPart}
@@ -31,7 +31,7 @@ abbrev pub substituted_at : View → Edge → List (ℕ × Edge) → ℕ → Boo
 substituted_at w f pairs = composed_at_once (bdd_at w f) (functions_of w pairs)
 
 -- what a call stores: its value, also with any part of the function in its place
-abbrev pub value_of_vector_compose : Edge → List (ℕ × Edge) → View → Function → Type 0
+abbrev pub value_of_vector_compose : Edge → List (ℕ × Edge) → View → Denoted → Type 0
 value_of_vector_compose f pairs w F = (a : ℕ → Bool) × (IsPart Bdd w (bdd_at w f) a × (F ≡ BddFunction (composed_at_once a (functions_of w pairs))))
 
 -- the variable is not below the level; there is a level

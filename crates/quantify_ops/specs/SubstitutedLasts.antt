@@ -5,7 +5,7 @@ use Rattle.std.proofs.lemmas.List.Elements.{All-head, All-tail}
 use Rattle.edge_bits.specs.declared.edges.Edge.{Edge}
 use Rattle.edge_bits.specs.declared.edges.Kind.TheVariants.{Bdd}
 use Rattle.function_laws.specs.Values.{composed_at_once}
-use Rattle.node_store.specs.Kinds.{Function, BddFunction}
+use Rattle.function_laws.specs.Kinds.{Denoted, BddFunction}
 use Rattle.node_store.specs.Views.{View, Grown, Is, bdd_at}
 use Rattle.node_store.specs.ViewLaws.{Denotes-grown, Is-grown, IsVariable-grown, Permanent-grown, Splits-grown, level-grown, values_at-grown}
 use Rattle.node_store.specs.WorkLaws.{IsPart-grown}
@@ -27,7 +27,7 @@ AreSubstituted-grown {v} {w} {f} {pairs} m d = record {
 pub substituted_at-grown : {v w : View} {f : Edge} (pairs : List (ℕ × Edge)) → Grown v w → All (IsPair v) pairs → Is Bdd v f → substituted_at w f pairs ≡ substituted_at v f pairs
 substituted_at-grown pairs m all d = ap₂ (λ h fs. composed_at_once h fs) (values_at-grown Bdd m d) (functions_of-grown pairs m all)
 
-pub value_of_vector_compose-stays : (f : Edge) (pairs : List (ℕ × Edge)) (v w : View) (F : Function) → Grown v w → AreSubstituted v f pairs → value_of_vector_compose f pairs v F → value_of_vector_compose f pairs w F
+pub value_of_vector_compose-stays : (f : Edge) (pairs : List (ℕ × Edge)) (v w : View) (F : Denoted) → Grown v w → AreSubstituted v f pairs → value_of_vector_compose f pairs v F → value_of_vector_compose f pairs w F
 value_of_vector_compose-stays f pairs v w F m d (a, (part, is)) = (
   a,
   (

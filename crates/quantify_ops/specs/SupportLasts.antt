@@ -2,14 +2,14 @@
 use Rattle.std.proofs.Common.{ℕ}
 use Rattle.edge_bits.specs.declared.edges.Edge.{Edge}
 use Rattle.edge_bits.specs.declared.edges.Kind.TheVariants.{Bdd}
-use Rattle.node_store.specs.Kinds.{Function}
+use Rattle.function_laws.specs.Kinds.{Denoted}
 use Rattle.node_store.specs.Views.{View, Grown, Is, bdd_at}
 use Rattle.node_store.specs.ViewLaws.{Is-grown, IsVariable-grown, Permanent-grown, Splits-grown, values_at-grown}
 use Rattle.node_store.specs.WorkLaws.{IsPart-grown}
 use Rattle.node_store.specs.declared.operator.Task.{Task}
 use Rattle.quantify_ops.specs.Supports.{IsSupportValue, SupportDue, SupportAnswers, SupportSplits}
 
-pub IsSupportValue-stays : (f : Edge) (v w : View) (F : Function) → Grown v w → Is Bdd v f → IsSupportValue f v F → IsSupportValue f w F
+pub IsSupportValue-stays : (f : Edge) (v w : View) (F : Denoted) → Grown v w → Is Bdd v f → IsSupportValue f v F → IsSupportValue f w F
 IsSupportValue-stays f v w F m d i = record {
   a = i.a;
   h = i.h;

@@ -4,7 +4,7 @@ use Rattle.computed_cache.specs.declared.Key.{Key}
 use Rattle.edge_bits.specs.declared.edges.Edge.{Edge}
 use Rattle.edge_bits.specs.declared.edges.Kind.TheVariants.{Bdd}
 use Rattle.function_laws.specs.Cubes.{IsSupport}
-use Rattle.node_store.specs.Kinds.{Function, BddFunction}
+use Rattle.function_laws.specs.Kinds.{Denoted, BddFunction}
 use Rattle.node_store.specs.Numbers.{support_number}
 use Rattle.node_store.specs.Views.{View, Is, IsVariable, Permanent, Splits, bdd_at}
 use Rattle.node_store.specs.Work.{IsPart}
@@ -18,7 +18,7 @@ abbrev pub support_key : Edge → Key
 support_key e = record { op = support_number; f = regular_edge e; g = regular_edge e; h = regular_edge e }
 
 -- the support of a part of the function
-pub record IsSupportValue (f : Edge) (w : View) (F : Function) : Type 0 where
+pub record IsSupportValue (f : Edge) (w : View) (F : Denoted) : Type 0 where
   pub a : ℕ → Bool
   pub h : ℕ → Bool
   pub part : IsPart Bdd w (bdd_at w f) a

@@ -4,7 +4,7 @@ ghost use Rattle.std.specs.Prelude.{◌≡◌, ◌≤◌, IfOk, IsErrOf, map};
 ghost use Rattle.std.specs.List.{All};
 ghost use Rattle.edge_bits.specs.declared.edges.Kind.TheVariants.{Bdd};
 ghost use Rattle.function_laws.specs.Cubes.{cube_of};
-ghost use Rattle.node_store.specs.Kinds.{BddFunction};
+ghost use Rattle.function_laws.specs.Kinds.{BddFunction};
 ghost use Rattle.node_store.specs.Views.{Denotes, Grown, IsVariable, Kept, Permanent, Rose};
 ghost use Rattle.node_store.specs.Work.{Adds, IsWork};
 ghost use Rattle.quantify_ops.specs.Products.{IsRanked, variables_of, with_level};

@@ -3,7 +3,7 @@ use Rattle.std.proofs.Common.{◌≡◌, ℕ, ◌+◌, ◌*◌, ◌^◌, ◌≤�
 use Rattle.edge_bits.specs.declared.edges.Edge.{Edge}
 use Rattle.edge_bits.specs.declared.edges.Kind.TheVariants.{Zdd}
 use Rattle.function_laws.specs.Products.{IsProduct, IsQuotient}
-use Rattle.node_store.specs.Kinds.{Function}
+use Rattle.function_laws.specs.Kinds.{Denoted}
 use Rattle.node_store.specs.Views.{View, AreTwo, Denotes, Grown, Permanent, family_at}
 use Rattle.node_store.specs.ViewLaws.{Grown-refl, values_at-grown, values_at-is}
 use Rattle.node_store.specs.Work.{Adds, IsPart, IsWork, Moves, whole}
@@ -47,7 +47,7 @@ module _ (a w : View) (p q : Edge) (m : Grown a w) (d : AreTwo Zdd a p q) where
     is = i.is ∙ portion-grown a w m Whole i.first i.second;
   }
 
-  pub product_back : (F : Function) → product_work p q w F → product_work p q a F
+  pub product_back : (F : Denoted) → product_work p q w F → product_work p q a F
   product_back F (r, is, inl one) = (r, is, inl (parts_back r one))
   product_back F (r, is, inr two) = (
     r,
@@ -61,13 +61,13 @@ module _ (a w : View) (p q : Edge) (m : Grown a w) (d : AreTwo Zdd a p q) where
     }),
   )
 
-  pub product_start : (o : Option Function) → IsWork w (product_work p q w) o → IsWork w (product_work p q a) o
+  pub product_start : (o : Option Denoted) → IsWork w (product_work p q w) o → IsWork w (product_work p q a) o
   product_start o i = IsWork-grown (Grown-refl w) (product_work p q w) (product_work p q a) product_back o i
 
   pub product_adds : Moves (λ u. AreTwo Zdd u p q) (product_work p q) a w → Adds (product_work p q a) a w
   product_adds moves s h = elim (moves.work d s h) [ inl old ↦ inl old | inr i ↦ inr (product_start (w.content s) i) ]
 
-  pub quotient_back : (F : Function) → quotient_work p q w F → quotient_work p q a F
+  pub quotient_back : (F : Denoted) → quotient_work p q w F → quotient_work p q a F
   quotient_back F (r, is, i) = (
     r,
     is,
@@ -80,7 +80,7 @@ module _ (a w : View) (p q : Edge) (m : Grown a w) (d : AreTwo Zdd a p q) where
     },
   )
 
-  pub quotient_start : (o : Option Function) → IsWork w (quotient_work p q w) o → IsWork w (quotient_work p q a) o
+  pub quotient_start : (o : Option Denoted) → IsWork w (quotient_work p q w) o → IsWork w (quotient_work p q a) o
   quotient_start o i = IsWork-grown (Grown-refl w) (quotient_work p q w) (quotient_work p q a) quotient_back o i
 
   pub quotient_adds : Moves (λ u. AreTwo Zdd u p q) (quotient_work p q) a w → Adds (quotient_work p q a) a w

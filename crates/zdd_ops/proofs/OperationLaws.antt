@@ -2,7 +2,7 @@
 use Rattle.std.proofs.Common.{◌≡◌, ℕ, ◌+◌, Bool, Result, Ok, Err, IfOk, ap, ap₂, ◌∙◌, subst}
 use Rattle.edge_bits.specs.declared.edges.Edge.{Edge}
 use Rattle.edge_bits.specs.declared.edges.Kind.TheVariants.{Zdd}
-use Rattle.node_store.specs.Kinds.{Function, ZddFamily}
+use Rattle.function_laws.specs.Kinds.{Denoted, ZddFamily}
 use Rattle.node_store.specs.Views.{View, AreTwo, Denotes, Grown, Is, IsVariable, family_at}
 use Rattle.node_store.specs.ViewLaws.{Denotes-grown, IsVariable-grown, values_at-grown}
 use Rattle.zdd_ops.specs.Products.{product_at}
@@ -27,7 +27,7 @@ pub element_value : (part : Operation) (w : View) (p : Edge) (e : ℕ) → subse
 element_value part w p e = ap (part (family_at w p)) (element_of-number e)
 
 -- the work of a call, told from the start
-pub work_back : (part : Operation) (v : ℕ) (p : Edge) (a w : View) → Grown a w → Is Zdd a p → (F : Function) → subset_work part v p w F → subset_work part v p a F
+pub work_back : (part : Operation) (v : ℕ) (p : Edge) (a w : View) → Grown a w → Is Zdd a p → (F : Denoted) → subset_work part v p w F → subset_work part v p a F
 work_back part v p a w m d F is = is ∙ ap ZddFamily (subset_at-grown part v p a w m d)
 
 -- products and quotients of the operands at the start

@@ -11,7 +11,7 @@ use Rattle.edge_bits.specs.declared.edges.Edge.{Edge}
 use Rattle.edge_bits.specs.declared.edges.Kind.TheVariants.{Zdd}
 use Rattle.function_laws.specs.Families.{IsWithout, base, empty, joined, subset0, subset1, union}
 use Rattle.function_laws.proofs.FamilyLemmas.{subset0-joined, subset1-joined}
-use Rattle.node_store.specs.Kinds.{ZddFamily, flipped, values_of}
+use Rattle.function_laws.specs.Kinds.{ZddFamily, flipped, values_of}
 use Rattle.node_store.specs.Views.{View, AreTwo, CanPart, Denotes, Grown, Is, IsBelow, IsLeafOf, IsVariable, NotBothLeaves, PartsAt, Permanent, Splits, family_at, no_member, only_base}
 use Rattle.node_store.specs.ViewLaws.{Apart-variables, Grown-trans, IsVariable-grown, Is-grown, level-grown, top-grown, values_at-grown}
 use Rattle.node_store.proofs.TwoParts.{PartsAt-grown}

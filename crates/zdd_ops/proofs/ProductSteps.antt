@@ -6,7 +6,7 @@ use Rattle.edge_bits.specs.declared.edges.Kind.{Kind}
 use Rattle.edge_bits.specs.declared.edges.Kind.TheVariants.{Bdd, Add, Zdd}
 use Rattle.computed_cache.specs.declared.Key.{Key}
 use Rattle.function_laws.specs.Families.{union}
-use Rattle.node_store.specs.Kinds.{Function, ZddFamily, ValueOf, function_of, opposite, values_of}
+use Rattle.function_laws.specs.Kinds.{Denoted, ZddFamily, ValueOf, function_of, opposite, values_of}
 use Rattle.node_store.specs.Memo.{FamilyHolds, MemoHolds}
 use Rattle.node_store.specs.Numbers.{product_number}
 use Rattle.node_store.specs.Splits.{Branches, Keeps}
@@ -127,7 +127,7 @@ module _ (p q : Edge) (a : View) (t hi_task lo_task : Task) (v : ℕ) (hi lo : E
   Made-due w m is = IsWork-due Zdd w (product_work p q w) root.0 (asked_by a t) (product_work-stays p q a w (ZddFamily root.0) m due.roots root.1) (IsPart-grown Zdd m root.0 (asked_by a t) root.2) is
 
   -- what a union within stores or wants
-  pub Through : (w : View) (o : Option Function) → Grown a w → (portion_in t.h ≡ Whole → ⊥) → IsWork w (value_of_two Zdd (λ x y. x || y) hi lo a) o → IsWork w (product_work p q w) o
+  pub Through : (w : View) (o : Option Denoted) → Grown a w → (portion_in t.h ≡ Whole → ⊥) → IsWork w (value_of_two Zdd (λ x y. x || y) hi lo a) o → IsWork w (product_work p q w) o
   Through w o m never i = by_kind i.kind i.root i.part i.asked i.is_part i.is
     where
       by_kind : (k : Kind) (r part : ℕ → ValueOf k) → function_of k r ≡ ZddFamily (union (family_at a hi) (family_at a lo)) → IsPart k w r part

@@ -11,7 +11,7 @@ use Rattle.function_laws.specs.Families.{IsWithout, empty, joined, meet, subset0
 use Rattle.function_laws.proofs.FamilyLemmas.{subset0-joined}
 use Rattle.function_laws.proofs.ListLemmas.{any_below-true, true-any_below}
 use Rattle.function_laws.proofs.ValueLemmas.{everywhere}
-use Rattle.node_store.specs.Kinds.{Function, ZddFamily}
+use Rattle.function_laws.specs.Kinds.{Denoted, ZddFamily}
 use Rattle.node_store.specs.Memo.{FamilyHolds, MemoHolds}
 use Rattle.node_store.specs.Splits.{Branches, Keeps}
 use Rattle.node_store.specs.Two.{two_depth, value_of_two}
@@ -305,7 +305,7 @@ module _ (p q : Edge) (a : View) (t hi_task lo_task : Task) (v : ℕ) (hi lo : E
       (quotient_work-stays p q a w (ZddFamily (quotient_at a (family_at a t.f) (family_at a t.g))) m due.roots own_work) whole is
 
   -- what a meet within stores or wants
-  pub Through : (u w : View) (o : Option Function) → Grown a u → Grown u w → meet (family_at a hi) (family_at a lo) ≡ quotient_at a (family_at a t.f) (family_at a t.g)
+  pub Through : (u w : View) (o : Option Denoted) → Grown a u → Grown u w → meet (family_at a hi) (family_at a lo) ≡ quotient_at a (family_at a t.f) (family_at a t.g)
       → IsWork w (value_of_two Zdd (λ x y. x && y) hi lo u) o → IsWork w (quotient_work p q w) o
   Through u w o m n same i = record {
     kind = i.kind;

@@ -5,7 +5,7 @@ use Rattle.edge_bits.specs.declared.edges.Kind.TheVariants.{Zdd}
 use Rattle.edge_bits.specs.Reading.{element_of}
 use Rattle.function_laws.specs.Families.{IsWithout, change, joined, subset0, subset1}
 use Rattle.function_laws.proofs.FamilyLemmas.{subset0-joined, subset1-joined}
-use Rattle.node_store.specs.Kinds.{Function, ZddFamily}
+use Rattle.function_laws.specs.Kinds.{Denoted, ZddFamily}
 use Rattle.node_store.specs.Views.{View, CanMake, Denotes, Grown, Is, IsBelow, IsInner, IsLeaf, IsLeafOf, IsVariable, Kept, Permanent, Splits, empty_edge, family_at, no_member, node_values, only_base}
 use Rattle.node_store.specs.ViewLaws.{Apart-variables, Denotes-empty, Denotes-grown, Grown-refl, Grown-trans, IsBelow-inner, Is-from, Splits-absent, values_at-grown, values_at-is}
 use Rattle.node_store.specs.Splits.{Branches}
@@ -153,7 +153,7 @@ module _ (part : Operation)
   Subset-refused a w t d m is = IsWork-due Zdd w (subset_work part v root w) (subset_at part v a root) (subset_at part v a t.f)
       (ap ZddFamily (sym (subset_at-grown part v root a w m d.of_root))) (IsPart-grown Zdd m (subset_at part v a root) (subset_at part v a t.f) d.is_part) is
 
-  pub Subset-start : (a w : View) → Grown a w → Is Zdd a root → (o : Option Function) → IsWork w (subset_work part v root w) o → IsWork w (subset_work part v root a) o
+  pub Subset-start : (a w : View) → Grown a w → Is Zdd a root → (o : Option Denoted) → IsWork w (subset_work part v root w) o → IsWork w (subset_work part v root a) o
   Subset-start a w m d o i = IsWork-grown (Grown-refl w) (subset_work part v root w) (subset_work part v root a) (λ F is. is ∙ ap ZddFamily (subset_at-grown part v root a w m d)) o i
 
   pub Subset-adds : (a w : View) → Is Zdd a root → Moves (λ u. Is Zdd u root) (subset_work part v root) a w → Adds (subset_work part v root a) a w

@@ -2,7 +2,7 @@
 use Rattle.std.proofs.Common.{◌≡◌, ℕ, Bool, inl, inr, refl, sym, ◌∙◌, arith}
 use Rattle.edge_bits.specs.declared.edges.Edge.{Edge}
 use Rattle.edge_bits.specs.declared.edges.Kind.TheVariants.{Zdd}
-use Rattle.node_store.specs.Kinds.{Function}
+use Rattle.function_laws.specs.Kinds.{Denoted}
 use Rattle.node_store.specs.Views.{View, AreTwo, Grown, Is, family_at}
 use Rattle.node_store.specs.ViewLaws.{Denotes-grown, IsVariable-grown, Permanent-grown, Splits-grown, level-grown, top-grown, values_at-grown}
 use Rattle.node_store.specs.TwoLaws.{AreTwo-grown}
@@ -78,7 +78,7 @@ ProductSplits-stay a b t v hi lo m d s = record {
 pub product_depth-stays : (a b : View) (t : Task) → Grown a b → AreTwo Zdd a t.f t.g → ReachesFor (portion_in t.h) a t → product_depth b t ≡ product_depth a t
 product_depth-stays a b t m d r = depth-grown a b m (portion_in t.h) t d
 
-pub product_work-stays : (p q : Edge) (a b : View) (F : Function) → Grown a b → AreTwo Zdd a p q → product_work p q a F → product_work p q b F
+pub product_work-stays : (p q : Edge) (a b : View) (F : Denoted) → Grown a b → AreTwo Zdd a p q → product_work p q a F → product_work p q b F
 product_work-stays p q a b F m d (r, is, inl one) = (r, is, inl (product_of_parts-grown a b m p q r d one))
 product_work-stays p q a b F m d (r, is, inr two) = (
   r,

@@ -5,7 +5,7 @@ use Rattle.edge_bits.specs.declared.edges.Kind.TheVariants.{Zdd}
 use Rattle.edge_bits.specs.Reading.{element_of}
 use Rattle.computed_cache.specs.declared.Key.{Key}
 use Rattle.function_laws.specs.Families.{product, subset0, subset1, union}
-use Rattle.node_store.specs.Kinds.{Function, ZddFamily}
+use Rattle.function_laws.specs.Kinds.{Denoted, ZddFamily}
 use Rattle.node_store.specs.Numbers.{product_number}
 use Rattle.node_store.specs.Views.{View, AreTwo, CanPart, Denotes, IsVariable, NotBothLeaves, Permanent, Splits, family_at}
 use Rattle.node_store.specs.Work.{IsPart}
@@ -123,7 +123,7 @@ pub record IsUnionOf (P : (ℕ → Bool) → Type 0) (r : ℕ → Bool) : Type 0
   pub is : r ≡ union one other
 
 -- the work of a call: products of parts of its operands, and unions of two of these
-abbrev pub product_work : Edge → Edge → View → Function → Type 0
+abbrev pub product_work : Edge → Edge → View → Denoted → Type 0
 product_work p q w F = (r : ℕ → Bool) × (F ≡ ZddFamily r) × (IsProductOfParts p q w r ⊎ IsUnionOf (IsProductOfParts p q w) r)
 
 -- the answer of a terminal case; else the operands are not both leaves

@@ -2,7 +2,7 @@
 use Rattle.std.proofs.Common.{◌≡◌, ℕ, Bool, inl, inr, refl, sym, ◌∙◌, arith}
 use Rattle.edge_bits.specs.declared.edges.Edge.{Edge}
 use Rattle.edge_bits.specs.declared.edges.Kind.TheVariants.{Zdd}
-use Rattle.node_store.specs.Kinds.{Function}
+use Rattle.function_laws.specs.Kinds.{Denoted}
 use Rattle.node_store.specs.Views.{View, AreTwo, Grown, Is, IsInner, family_at}
 use Rattle.node_store.specs.ViewLaws.{Denotes-grown, IsBelow-grown, IsVariable-back, IsVariable-grown, Permanent-grown, Splits-grown, level-grown, top-grown, values_at-grown}
 use Rattle.node_store.specs.TwoLaws.{AreTwo-grown}
@@ -66,7 +66,7 @@ QuotientSplits-stay a b t v hi lo m d s = record {
   ];
 }
 
-pub quotient_work-stays : (p q : Edge) (a b : View) (F : Function) → Grown a b → AreTwo Zdd a p q → quotient_work p q a F → quotient_work p q b F
+pub quotient_work-stays : (p q : Edge) (a b : View) (F : Denoted) → Grown a b → AreTwo Zdd a p q → quotient_work p q a F → quotient_work p q b F
 quotient_work-stays p q a b F m d (r, is, i) = (
   r,
   is,

@@ -4,7 +4,7 @@ use Rattle.computed_cache.specs.declared.Key.{Key}
 use Rattle.edge_bits.specs.declared.edges.Edge.{Edge}
 use Rattle.edge_bits.specs.declared.edges.Kind.TheVariants.{Zdd}
 use Rattle.function_laws.specs.Families.{quotient}
-use Rattle.node_store.specs.Kinds.{Function, ZddFamily}
+use Rattle.function_laws.specs.Kinds.{Denoted, ZddFamily}
 use Rattle.node_store.specs.Numbers.{quotient_number}
 use Rattle.node_store.specs.Views.{View, AreTwo, Denotes, IsBelow, IsInner, IsVariable, NotBothLeaves, Permanent, Splits, family_at}
 use Rattle.node_store.specs.Work.{IsPart}
@@ -58,7 +58,7 @@ pub record IsQuotientOfParts (p q : Edge) (w : View) (r : ℕ → Bool) : Type 0
   pub is : r ≡ quotient_at w first second
 
 -- the work of a call: quotients of parts of its operands
-abbrev pub quotient_work : Edge → Edge → View → Function → Type 0
+abbrev pub quotient_work : Edge → Edge → View → Denoted → Type 0
 quotient_work p q w F = (r : ℕ → Bool) × (F ≡ ZddFamily r) × IsQuotientOfParts p q w r
 
 -- the answer of a terminal case; else the operands are not both leaves

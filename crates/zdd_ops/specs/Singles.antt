@@ -5,7 +5,7 @@ use Rattle.edge_bits.specs.declared.edges.Edge.{Edge}
 use Rattle.edge_bits.specs.declared.edges.Kind.TheVariants.{Zdd}
 use Rattle.edge_bits.specs.Reading.{element_of}
 use Rattle.function_laws.specs.Families.{base, empty, joined, single}
-use Rattle.node_store.specs.Kinds.{ZddFamily}
+use Rattle.function_laws.specs.Kinds.{ZddFamily}
 use Rattle.node_store.specs.Views.{View, CanMake, Denotes, Grown, IsVariable, Kept, Permanent, base_edge, empty_edge, node_values}
 use Rattle.node_store.specs.ViewLaws.{Denotes-empty, Grown-trans, Is-from, values_at-is}
 use Rattle.node_store.specs.Work.{Adds, IsWork, whole}

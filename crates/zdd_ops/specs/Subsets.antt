@@ -3,7 +3,7 @@ use Rattle.std.proofs.Common.{◌≡◌, ℕ, ◌-◌, ◌<◌, Bool, refl, ap, 
 use Rattle.edge_bits.specs.declared.edges.Edge.{Edge}
 use Rattle.edge_bits.specs.declared.edges.Kind.TheVariants.{Zdd}
 use Rattle.edge_bits.specs.Reading.{element_of}
-use Rattle.node_store.specs.Kinds.{Function, ZddFamily}
+use Rattle.function_laws.specs.Kinds.{Denoted, ZddFamily}
 use Rattle.node_store.specs.Views.{View, Denotes, Grown, Is, IsInner, IsVariable, Permanent, Splits, family_at}
 use Rattle.node_store.specs.ViewLaws.{Denotes-grown, Is-grown, IsVariable-grown, Permanent-grown, Splits-grown, level-grown, top-grown, values_at-grown}
 use Rattle.node_store.specs.Work.{IsPart}
@@ -41,7 +41,7 @@ abbrev pub subset_depth : View → Task → ℕ
 subset_depth w t = w.elements - w.top t.f.index
 
 -- the work of a call is its value
-abbrev pub subset_work : Operation → ℕ → Edge → View → Function → Type 0
+abbrev pub subset_work : Operation → ℕ → Edge → View → Denoted → Type 0
 subset_work part v p w F = F ≡ ZddFamily (subset_at part v w p)
 
 -- where an element stands to a family
@@ -74,5 +74,5 @@ module _ (part : Operation) (v : ℕ) (p : Edge) (a b : View) where
   pub subset_depth-stays : (t : Task) → Grown a b → SubsetDue part v p a t → subset_depth b t ≡ subset_depth a t
   subset_depth-stays t m d = rw (m.elements, top-grown Zdd m d.family) refl
 
-  pub subset_work-stays : (F : Function) → Grown a b → Is Zdd a p → subset_work part v p a F → subset_work part v p b F
+  pub subset_work-stays : (F : Denoted) → Grown a b → Is Zdd a p → subset_work part v p a F → subset_work part v p b F
   subset_work-stays F m d is = is ∙ ap ZddFamily (sym (subset_at-grown m d))

@@ -16,7 +16,7 @@ pub(crate) trait ByElement<G: Grow> {
     ghost use Rattle.edge_bits.specs.Reading.{element_of};
     ghost use Rattle.edge_bits.specs.declared.edges.Kind.TheVariants.{Zdd};
     ghost use Rattle.function_laws.specs.Families.{IsWithout, joined};
-    ghost use Rattle.node_store.specs.Kinds.{ZddFamily};
+    ghost use Rattle.function_laws.specs.Kinds.{ZddFamily};
     ghost use Rattle.node_store.specs.Views.{CanMake, Denotes, Grown, Rose, node_values};
 
     /// What it makes of a family and an element.

@@ -1,7 +1,7 @@
 use Rattle.std.proofs.Common.{◌≡◌, ℕ, Ok, Err, Result, IfOk, subst}
 use Rattle.edge_bits.specs.declared.edges.Edge.{Edge}
 use Rattle.edge_bits.specs.declared.edges.Kind.{Kind}
-use Rattle.node_store.specs.Kinds.{ValueOf}
+use Rattle.function_laws.specs.Kinds.{ValueOf}
 use Rattle.node_store.specs.Views.{View, Grown, Denotes}
 use Rattle.node_store.specs.ViewLaws.{Grown-trans, Kept-trans, Denotes-grown}
 use Rattle.node_store.specs.TwoLaws.{AreTwo-grown, place_at-grown}

@@ -4,7 +4,7 @@ use Rattle.edge_bits.specs.declared.edges.Edge.{Edge}
 use Rattle.edge_bits.specs.declared.edges.Kind.TheVariants.{Bdd}
 use Rattle.function_laws.specs.Cubes.{cube_of}
 use Rattle.function_laws.specs.Values.{conjunction, projection}
-use Rattle.node_store.specs.Kinds.{Function, BddFunction}
+use Rattle.function_laws.specs.Kinds.{Denoted, BddFunction}
 use Rattle.node_store.specs.Views.{View, AreTwo, Denotes, Grown, bdd_at}
 use Rattle.node_store.specs.Work.{Adds, IsWork}
 use Rattle.node_store.specs.ViewLaws.{Denotes-truth, Grown-refl, Grown-trans, Is-from, Permanent-grown, values_at-is}
@@ -55,7 +55,7 @@ module _ (g : given.Over) (c : In-Some g) (literal : Edge) (is : literal ≡ rec
   product_is = rw (values_at-is Bdd literal_is, values_at-is Bdd c.loop-top.invariant.cube) refl
 
   module _ (w : View) (m : Grown (g.G.Grow.view c.loop-top.store) w) where
-    due : (o : Option Function) → IsWork w (λ F. F ≡ BddFunction (conjunction (bdd_at (g.G.Grow.view c.loop-top.store) literal) (bdd_at (g.G.Grow.view c.loop-top.store) c.loop-top.cube))) o
+    due : (o : Option Denoted) → IsWork w (λ F. F ≡ BddFunction (conjunction (bdd_at (g.G.Grow.view c.loop-top.store) literal) (bdd_at (g.G.Grow.view c.loop-top.store) c.loop-top.cube))) o
         → IsWork w (λ F. F ≡ BddFunction (cube_of (variables_of c.args.tops.items))) o
     due o i = rw (all_is g c) (times_due w c.pop.new.self.items c.loop-top.invariant.done c.in-Some.top
         (IsRanked-grown _ w (c.pop.new.self.items ++ c.in-Some.top ∷ c.loop-top.invariant.done) m (here g c)) o (subst (λ f. IsWork w (λ F. F ≡ BddFunction f) o) product_is i))

@@ -1,7 +1,7 @@
 use Rattle.std.proofs.Common.{◌≡◌, List, ◌++◌, vec_len}
 use Rattle.edge_bits.specs.declared.edges.Kind.TheVariants.{Bdd}
 use Rattle.function_laws.specs.Cubes.{cube_of}
-use Rattle.node_store.specs.Kinds.{BddFunction}
+use Rattle.function_laws.specs.Kinds.{BddFunction}
 use Rattle.node_store.specs.Views.{Denotes, Grown}
 use Rattle.node_store.specs.Work.{Adds}
 use Rattle.node_store.specs.declared.parts.Top.{Top}

@@ -1,5 +1,5 @@
 use Rattle.std.proofs.Common.{ap, ◌∙◌}
-use Rattle.node_store.specs.Kinds.{BddFunction}
+use Rattle.function_laws.specs.Kinds.{BddFunction}
 use Rattle.node_store.specs.ViewLaws.{Grown-refl, Kept-refl, Permanent-grown}
 use Rattle.node_store.specs.WorkLaws.{IsWork-grown}
 use Rattle.node_store.proofs.ThreeWork.{Adds-between}

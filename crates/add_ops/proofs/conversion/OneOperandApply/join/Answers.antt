@@ -1,6 +1,6 @@
 use Rattle.std.proofs.Common.{Some, ap, ◌∙◌, subst}
 use Rattle.std.proofs.lemmas.Result.{err_from_is_err_and}
-use Rattle.node_store.specs.Kinds.{function_of}
+use Rattle.function_laws.specs.Kinds.{function_of}
 use Rattle.node_store.specs.Views.{Denotes}
 use Rattle.node_store.proofs.Stops.{full_stop}
 use Rattle.add_ops.proofs.ConversionLaws.{One-can_make, One-node, One-joined, One-moved, One-refused}

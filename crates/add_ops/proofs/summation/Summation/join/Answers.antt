@@ -1,7 +1,7 @@
 use Rattle.std.proofs.Common.{Some, ap, ◌∙◌, subst}
 use Rattle.std.proofs.lemmas.Result.{err_from_is_err_and}
 use Rattle.edge_bits.specs.declared.edges.Kind.TheVariants.{Add}
-use Rattle.node_store.specs.Kinds.{AddFunction}
+use Rattle.function_laws.specs.Kinds.{AddFunction}
 use Rattle.node_store.specs.Views.{Denotes}
 use Rattle.node_store.specs.WorkLaws.{Moves-kept}
 use Rattle.node_store.proofs.Frames.{other_err}

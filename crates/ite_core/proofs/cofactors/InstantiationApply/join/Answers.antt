@@ -1,7 +1,7 @@
 use Rattle.std.proofs.Common.{Some, ap, ◌∙◌, subst}
 use Rattle.std.proofs.lemmas.Result.{err_from_is_err_and}
 use Rattle.edge_bits.specs.declared.edges.Kind.TheVariants.{Bdd}
-use Rattle.node_store.specs.Kinds.{BddFunction}
+use Rattle.function_laws.specs.Kinds.{BddFunction}
 use Rattle.node_store.specs.Views.{Denotes}
 use Rattle.node_store.proofs.Stops.{full_stop}
 use Rattle.ite_core.proofs.CofactorLaws.{Cofactor-can_make, Cofactor-node, Cofactor-joined, Cofactor-moved, Cofactor-refused}

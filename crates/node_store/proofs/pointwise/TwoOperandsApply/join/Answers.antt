@@ -1,6 +1,6 @@
 use Rattle.std.proofs.Common.{Some, ap, ◌∙◌, subst}
 use Rattle.std.proofs.lemmas.Result.{err_from_is_err_and}
-use Rattle.node_store.specs.Kinds.{function_of}
+use Rattle.function_laws.specs.Kinds.{function_of}
 use Rattle.node_store.specs.Views.{Denotes}
 use Rattle.node_store.proofs.TwoParts.{Two-can_make, Two-node, Two-joined}
 use Rattle.node_store.proofs.TwoWork.{Part-moved, Part-refused}

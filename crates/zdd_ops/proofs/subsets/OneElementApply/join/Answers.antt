@@ -1,7 +1,7 @@
 use Rattle.std.proofs.Common.{◌≡◌, Some, ap, sym, ◌∙◌, subst}
 use Rattle.std.proofs.lemmas.Result.{err_from_is_err_and}
 use Rattle.edge_bits.specs.declared.edges.Kind.TheVariants.{Zdd}
-use Rattle.node_store.specs.Kinds.{ZddFamily}
+use Rattle.function_laws.specs.Kinds.{ZddFamily}
 use Rattle.node_store.specs.Views.{CanMake, Denotes, node_values}
 use Rattle.node_store.proofs.Stops.{full_stop}
 use Rattle.zdd_ops.specs.Subsets.{subset_at, subset_at-grown}

@@ -1,6 +1,6 @@
 use Rattle.std.proofs.Common.{Some, IfOk, ap, ◌∙◌, subst}
 use Rattle.edge_bits.specs.declared.edges.Kind.TheVariants.{Zdd}
-use Rattle.node_store.specs.Kinds.{ZddFamily}
+use Rattle.function_laws.specs.Kinds.{ZddFamily}
 use Rattle.node_store.specs.Views.{Denotes}
 use Rattle.zdd_ops.proofs.SubsetLaws.{Toggled-can, Toggled-is}
 use Rattle.zdd_ops.proofs.subsets.ToggledByElement.answer.Goals as goal

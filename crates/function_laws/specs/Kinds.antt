@@ -8,10 +8,10 @@ use Rattle.function_laws.specs.Numbers.{is_value}
 use Rattle.function_laws.specs.Families.{empty, subset1, subset0, joined, IsWithout}
 
 -- what a slot denotes
-pub data Function : Type 0 where
-  BddFunction : (ℕ → Bool) → Function
-  AddFunction : (ℕ → ℤ) → Function
-  ZddFamily : (ℕ → Bool) → Function
+pub data Denoted : Type 0 where
+  BddFunction : (ℕ → Bool) → Denoted
+  AddFunction : (ℕ → ℤ) → Denoted
+  ZddFamily : (ℕ → Bool) → Denoted
 
 -- the values of a kind's functions
 abbrev pub ValueOf : Kind → Type 0
@@ -19,13 +19,13 @@ ValueOf Bdd = Bool
 ValueOf Add = ℤ
 ValueOf Zdd = Bool
 
-abbrev pub function_of : (k : Kind) → (ℕ → ValueOf k) → Function
+abbrev pub function_of : (k : Kind) → (ℕ → ValueOf k) → Denoted
 function_of Bdd f = BddFunction f
 function_of Add f = AddFunction f
 function_of Zdd p = ZddFamily p
 
 -- the values of a function of the kind; of any other, no value but 0
-abbrev pub values_of : (k : Kind) → Option Function → ℕ → ValueOf k
+abbrev pub values_of : (k : Kind) → Option Denoted → ℕ → ValueOf k
 values_of Bdd (Some (BddFunction f)) = f
 values_of Bdd (Some (AddFunction f)) = λ _. false
 values_of Bdd (Some (ZddFamily p)) = λ _. false
@@ -80,14 +80,14 @@ abbrev pub place : {X Y Z : Type 0} → (X → Y → Z) → (ℕ → X) → (ℕ
 place op f g x = op (f x) (g x)
 
 -- a BDD's complement
-abbrev pub flipped : Bool → Option Function → Option Function
+abbrev pub flipped : Bool → Option Denoted → Option Denoted
 flipped false o = o
 flipped true (Some (BddFunction f)) = Some (BddFunction (negation f))
 flipped true (Some (AddFunction f)) = None
 flipped true (Some (ZddFamily p)) = None
 flipped true None = None
 
-abbrev pub opposite : Function → Function
+abbrev pub opposite : Denoted → Denoted
 opposite (BddFunction f) = BddFunction (negation f)
 opposite (AddFunction f) = AddFunction f
 opposite (ZddFamily p) = ZddFamily p

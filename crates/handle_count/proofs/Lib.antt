@@ -1,0 +1,3 @@
+pub mod RowLemmas
+pub mod FreePlaces
+pub mod Keeping
