@@ -57,11 +57,11 @@ module _ {X : Type 0} (same : X → X → Bool) (back : (x y : X) → same x y �
       let rest = without m.0 ys m.1 in
       let shorter = length-without m.0 ys m.1 in
       let others : Matched same xs rest = λ z i.
-          let n = matched z (inr i) in
-          elim (In-without m.0 n.0 ys m.1 n.1) [
-            | inl e ↦ absurd (apart.0 z i (on x m.0 z m.2 (back z m.0 (subst (λ t. same z t ≡ true) e n.2))))
-            | inr j ↦ (n.0, j, n.2)
-          ]
+      let n = matched z (inr i) in
+      elim (In-without m.0 n.0 ys m.1 n.1) [
+        | inl e ↦ absurd (apart.0 z i (on x m.0 z m.2 (back z m.0 (subst (λ t. same z t ≡ true) e n.2))))
+        | inr j ↦ (n.0, j, n.2)
+      ]
       in
       let le = no_longer xs rest apart.1 others in omega (arith, shorter, le)
 

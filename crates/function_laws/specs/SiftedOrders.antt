@@ -41,7 +41,7 @@ reach line next (suc steps) place least =
     let to = next place in
     let lower = min least (line.size_at to) in
     if line.has_room place to then
-      met_at line to ∷ (if is_too_large (line.size_at to) lower then [] else reach line next steps to lower)
+    met_at line to ∷ (if is_too_large (line.size_at to) lower then [] else reach line next steps to lower)
     else []
 
 -- the least of this size and those that were met

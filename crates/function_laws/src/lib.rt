@@ -15,6 +15,3 @@ pub use plain::{compose_of, exists_of, forall_of, ite_of};
 pub use plain_numbers::{plus_of, sum_of};
 pub use plain_sets::{diff_of, flip_of, meet_of, off_of, on_of, product_of, quotient_of, union_of};
 pub use restricting::restrict_holds;
-
-#[cfg(test)]
-mod tests;

@@ -1,5 +1,5 @@
 -- A job is read line by line.
-use Rattle.std.proofs.Common.{◌≡◌, ℕ, suc, ◌+◌, ◌≤◌, ◌==◌, ◌&&◌, Bool, true, false, not, cond, List, [], ◌∷◌, ◌++◌, length, map, filter, Option, Some, None, Result, Ok, Err, IfOk, IfErr, IfSome, unwrap_or, inl, inr, refl, ap, sym, ◌∙◌, subst, arith, codes, append_assoc, length-append}
+use Rattle.std.proofs.Common.{◌≡◌, ℕ, suc, ◌+◌, ◌≤◌, ◌==◌, ◌&&◌, Bool, true, false, not, cond, List, [], ◌∷◌, ◌++◌, length, map, filter, Option, Some, None, Result, Ok, Err, IfOk, IfErr, IfSome, unwrap_or, inl, inr, refl, ap, sym, ◌∙◌, subst, arith, codes, append_assoc}
 use Rattle.std.specs.Prelude.{nat_le}
 use Rattle.std.specs.List.{list_all, All}
 use Rattle.std.specs.Str.Parse.{digits_value}
@@ -19,8 +19,8 @@ use Rattle.job_text.specs.declared.faults.FaultKind.{FaultKind}
 use Rattle.job_text.specs.declared.faults.FaultKind.TheVariants as kinds
 use Rattle.job_text.specs.declared.faults.JobError.{JobError}
 use Rattle.job_text.specs.declared.faults.JobError.TheVariants as errors
-use Rattle.job_words.specs.Text.{Word, IsNumber, is_number, is_allowed, lines_of, words_of, line_words, is_assignment}
-use Rattle.job_text.specs.Grammar.{Says, CommandsSay, registers_after, is_drop, without, section_lines, said_lines, ElementLines, LimitLines, IsJobText}
+use Rattle.job_words.specs.Text.{Word, IsNumber, is_number, is_allowed, lines_of, words_of, line_words}
+use Rattle.job_text.specs.Grammar.{Says, CommandsSay, registers_after, section_lines, said_lines, ElementLines, LimitLines, IsJobText}
 use Rattle.job_text.specs.Faults.{Context, at_start, sized, within, has_begun, words_fault, line_fault, context_after, context_behind, Faultless, FaultyLine, HasFault, command_fault, is_session}
 use Rattle.job_text.specs.Drafts.{context_in, Adds, adds_nothing, adds_vars, adds_elements, adds_limit, adds_session, adds_command, IsSmall, EndStop}
 use Rattle.job_text.proofs.Meanings.{says_well, says_words}

@@ -7,6 +7,3 @@ mod table;
 
 pub use leaves::{LeafEntry, LeafTable};
 pub use table::{Entry, LevelTable};
-
-#[cfg(test)]
-mod tests;

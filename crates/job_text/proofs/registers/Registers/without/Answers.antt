@@ -22,8 +22,7 @@ dropped c =
 
 pub invariant_of-result : goal.invariant_of-result
 invariant_of-result c =
-    let w = c.args.word.now in
-    (
+    let w = c.args.word.now in (
       subst (λ (rs : List Register). AreNames c.self.inside.names.keys rs) (sym (dropped c)) (names_after w c.self.inside.names.keys c.self.inside.items.items c.self.invariant.0),
       omega (arith, ap length (dropped c), length-map c.self.inside.items.items (without w), c.self.invariant.1),
     )

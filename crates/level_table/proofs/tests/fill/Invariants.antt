@@ -1,8 +1,0 @@
-use Rattle.std.proofs.Common.{◌≡◌, ◌+◌, ◌≤◌, length}
-use Rattle.level_table.proofs.tests.fill.Given as goal
-
-abbrev pub invariant-loop-i : goal.invariant-loop-i
-invariant-loop-i g l = record {
-  room : l.count ≤ l.table.spare + l.i;
-  few : length l.table.entries ≡ l.i;
-}
