@@ -12,9 +12,6 @@ use node_store::operator::{Task, without_overflow};
 use node_store::remembering::Remembering;
 use node_store::{Grow, Stack, Stop};
 
-/// How many answers of its own such a call keeps.
-const ANSWERS: usize = 16_384;
-
 // Runs on this stack, where the table of the call is empty.
 fn remember<G: Grow, C: Conversion + Drop>(
     store: &mut G,
@@ -58,7 +55,7 @@ fn remember_with_room<G: Grow, C: Conversion + Drop>(
     if stack.reserve(levels as usize).is_err() {
         return Err(Stop::Memory);
     }
-    if stack.make_table(ANSWERS).is_err() {
+    if stack.make_table().is_err() {
         return Err(Stop::Memory);
     }
     remember(store, stack, op, f)

@@ -6,15 +6,23 @@ use Rattle.node_store.specs.Views.{View}
 use Rattle.node_store.specs.States.{State}
 use Rattle.node_store.specs.Work.{Moves}
 use Rattle.node_store.specs.declared.operator.Task.{Task}
-use Rattle.node_store.specs.declared.stack.Answer.{Answer}
+use Rattle.node_store.specs.declared.answers.Answer.{Answer}
 
 -- the answer stands in the table
 abbrev pub IsRecalled : List (Option Answer) → Task → Edge → Type 0
 IsRecalled items task e = (j : ℕ) × (slice_index_or items j None ≡ Some (record { task = task; edge = e }))
 
--- a table with that answer, in place of another
+-- the answer stands somewhere in the table
+abbrev pub Stands : List (Option Answer) → Answer → Type 0
+Stands items a = (j : ℕ) × (slice_index_or items j None ≡ Some a)
+
+-- the answers of the second table are some of the first
+abbrev pub IsOf : List (Option Answer) → List (Option Answer) → Type 0
+IsOf old new = (j : ℕ) (a : Answer) → slice_index_or new j None ≡ Some a → Stands old a
+
+-- the answers of the second table are some of the first, and that of a task
 abbrev pub Remembers : List (Option Answer) → List (Option Answer) → Task → Edge → Type 0
-Remembers old new task e = (j : ℕ) (a : Answer) → slice_index_or new j None ≡ Some a → (slice_index_or old j None ≡ Some a) ⊎ (a ≡ record { task = task; edge = e })
+Remembers old new task e = (j : ℕ) (a : Answer) → slice_index_or new j None ≡ Some a → Stands old a ⊎ (a ≡ record { task = task; edge = e })
 
 -- what the table holds are answers of tasks of this call
 abbrev pub Knows : (View → Task → Type 0) → (View → Task → Edge → Type 0) → State → Type 0

@@ -7,9 +7,16 @@ use Rattle.node_store.specs.Views.{View, Grown}
 use Rattle.node_store.specs.States.{State}
 use Rattle.node_store.specs.Work.{Moves}
 use Rattle.node_store.specs.WorkLaws.{Moves-none, Moves-both}
-use Rattle.node_store.specs.Remembering.{Remembers, Knows, RememberingMoves}
+use Rattle.node_store.specs.Remembering.{IsOf, Remembers, Knows, RememberingMoves}
 use Rattle.node_store.specs.declared.operator.Task.{Task}
-use Rattle.node_store.specs.declared.stack.Answer.{Answer}
+use Rattle.node_store.specs.declared.answers.Answer.{Answer}
+
+-- the answers were some of an earlier table
+pub Remembers-of : (first old new : List (Option Answer)) (t : Task) (e : Edge) → IsOf first old → Remembers old new t e → Remembers first new t e
+Remembers-of first old new t e of more j a here = elim (more j a here) [
+  | inl was ↦ inl (of was.0 a was.1)
+  | inr same ↦ inr same
+]
 
 module _ (Due : View → Task → Type 0) (Answers : View → Task → Edge → Type 0)
     (due_stays : (v w : View) (t : Task) → Grown v w → Due v t → Due w t)
@@ -20,7 +27,7 @@ module _ (Due : View → Task → Type 0) (Answers : View → Task → Edge → 
   pub Knows-more : (v : View) (old new : List (Option Answer)) (t : Task) (e : Edge) → Remembers old new t e → Due v t → Answers v t e
       → Knows Due Answers (record { view = v; answers = old }) → Knows Due Answers (record { view = v; answers = new })
   Knows-more v old new t e more d is known j a here = elim (more j a here) [
-    | inl was ↦ known j a was
+    | inl was ↦ known was.0 a was.1
     | inr same ↦ (rw same d, rw same is)
   ]
 

@@ -2,7 +2,7 @@
 use Rattle.std.specs.Prelude.{List, Option}
 use Rattle.node_store.specs.Views.{View}
 use Rattle.node_store.specs.Stacks.{Scratch}
-use Rattle.node_store.specs.declared.stack.Answer.{Answer}
+use Rattle.node_store.specs.declared.answers.Answer.{Answer}
 
 pub record State : Type 0 where
   pub view : View

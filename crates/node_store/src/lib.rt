@@ -1,6 +1,7 @@
 //! What operators see of a store of decision diagrams that only grows, and the evaluator of recursive operators over it.
 #![tactic(auto)]
 
+pub mod answers;
 pub mod binary;
 pub mod conditional;
 pub mod evaluate;

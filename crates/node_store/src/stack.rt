@@ -1,26 +1,25 @@
 //! What a run of the evaluator works in.
 
 ghost use Rattle.std.specs.Prelude.{◌≡◌, ◌+◌, ◌<◌, ◌≤◌, ◌++◌, ◌∷◌, [], IfSome, IfNone, IsOk, OnOk, OnErr, length, take, ℕ, slice_index_or, None};
-ghost use Rattle.node_store.specs.Remembering.{IsRecalled, Remembers};
+ghost use Rattle.node_store.specs.Remembering.{IsOf, IsRecalled, Remembers};
 
+use crate::answers::{Answer, doubled, look_up, write};
 use crate::operator::{Frame, Task};
 use edge_bits::{Edge, Memory};
 use smallvec::SmallVec;
 use std::alloc::Global;
 use std::marker::Model;
 
-/// An answer of the present call.
-#[derive(Clone, Copy, PartialEq, Eq, Drop)]
-pub struct Answer {
-    pub task: Task,
-    pub edge: Edge,
-}
+/// The places of a table at its start.
+const FIRST_PLACES: usize = 64;
 
-/// The frames of the tasks that wait, and a lossy table of the present call's answers.
+/// The frames of the tasks that wait, and a lossy table of the present call's answers, which grows with them.
 #[derive(Drop)]
 pub struct Stack {
     frames: SmallVec<Frame, 16>,
     answers: Vec<Option<Answer>>,
+    /// How many places of the table were taken.
+    taken: usize,
 }
 
 impl Model for Stack {
@@ -45,6 +44,7 @@ impl Stack {
         Stack {
             frames: SmallVec::new(alloc),
             answers: Vec::new(alloc),
+            taken: 0,
         }
     }
 
@@ -102,16 +102,17 @@ impl Stack {
         self.frames.truncate(len);
     }
 
-    /// Makes an empty table of so many places in place of the table. Want of memory changes nothing.
-    pub fn make_table(&mut self, places: usize) -> Result<(), Memory>
-        ensures ok { OnOk result (length self.new.answers ≡ places) }
+    /// Makes an empty table in place of the table. Want of memory changes nothing.
+    pub fn make_table(&mut self) -> Result<(), Memory>
         ensures none { OnOk result ((j : ℕ) → slice_index_or self.new.answers j None ≡ None) }
+        ensures some { OnOk result (0 < length self.new.answers) }
         ensures frames { self.new.frames ≡ self.old.frames }
         ensures free { self.new.free ≡ self.old.free }
         ensures err { OnErr result (self.new ≡ self.old) }
     {
         let alloc = self.allocator();
-        self.answers = vec![in alloc; None; places]?;
+        self.answers = vec![in alloc; None; FIRST_PLACES]?;
+        self.taken = 0;
         Ok(())
     }
 
@@ -122,51 +123,30 @@ impl Stack {
         look_up(&self.answers, task)
     }
 
-    /// Keeps the answer of a task, in place of another.
+    // Doubles the table where half of its places were taken, if there is memory.
+    fn make_place(&mut self)
+        ensures is_of { IsOf self.old.answers self.new.answers }
+        ensures frames { self.new.frames ≡ self.old.frames }
+        ensures free { self.new.free ≡ self.old.free }
+    {
+        if self.taken < self.answers.len() / 2 {
+            return;
+        }
+        let alloc = self.allocator();
+        if let Ok(answers) = doubled(alloc, &self.answers) {
+            self.answers = answers;
+        }
+    }
+
+    /// Keeps the answer of a task, in place of another. The table grows with the answers, as far as there is memory.
     pub fn remember(&mut self, task: Task, edge: Edge)
         ensures remembers { Remembers self.old.answers self.new.answers task edge }
         ensures frames { self.new.frames ≡ self.old.frames }
         ensures free { self.new.free ≡ self.old.free }
     {
-        write(&mut self.answers, task, edge);
-    }
-}
-
-// Where the answer of a task stands in a table of this size.
-fn place_of(task: Task, size: usize) -> usize
-    requires { 0 < size }
-    ensures { result < size }
-{
-    let mixed = task.f.index as u64 * 12582917
-        + task.g.index as u64 * 4256249
-        + task.h.index as u64;
-    (mixed % size as u64) as usize
-}
-
-fn look_up(answers: &[Option<Answer>], task: Task) -> Option<Edge>
-    ensures { IfSome result (λ e. IsRecalled answers.now task e) }
-{
-    if answers.is_empty() {
-        return None;
-    }
-    match answers[place_of(task, answers.len())] {
-        Some(answer) => {
-            if answer.task == task {
-                Some(answer.edge)
-            } else {
-                None
-            }
+        self.make_place();
+        if write(&mut self.answers, Answer { task, edge }) {
+            self.taken = self.taken.saturating_add(1);
         }
-        None => None,
-    }
-}
-
-fn write(answers: &mut [Option<Answer>], task: Task, edge: Edge)
-    ensures remembers { Remembers answers.old answers.new task edge }
-    ensures length { length answers.new ≡ length answers.old }
-{
-    if !answers.is_empty() {
-        let place = place_of(task, answers.len());
-        answers[place] = Some(Answer { task, edge });
     }
 }

@@ -200,9 +200,6 @@ fn compose_with_room<G: Grow>(
     }
 }
 
-/// How many answers of its own a call of `vector_compose` keeps.
-const ANSWERS: usize = 16_384;
-
 /// A function with others put for some of its variables, all at once; no variable stands twice. What it stores are parts, by the first variables of the order and up to complement, of that value for any such parts of the function.
 pub fn vector_compose<G: Grow>(store: &mut G, f: Edge, pairs: &[(u32, Edge)]) -> Result<Edge, Stop>
     requires { AreSubstituted (G.view store.old) f pairs.now }
@@ -240,7 +237,7 @@ fn substitute_with_room<G: Grow>(
     if stack.reserve(2 * levels as usize).is_err() {
         return Err(Stop::Memory);
     }
-    if stack.make_table(ANSWERS).is_err() {
+    if stack.make_table().is_err() {
         return Err(Stop::Memory);
     }
     let lowest = lowest_level(store, pairs);

@@ -207,9 +207,6 @@ fn call_by_element<G: Grow, O: ByElement<G> + Drop>(
     outcome
 }
 
-/// How many answers of its own a call by one element keeps.
-const ANSWERS: usize = 16_384;
-
 // Makes room for as many frames as there are levels and for the answers of the call, and runs.
 fn with_room<G: Grow, O: ByElement<G> + Drop>(
     store: &mut G,
@@ -231,7 +228,7 @@ fn with_room<G: Grow, O: ByElement<G> + Drop>(
     if stack.reserve(levels as usize).is_err() {
         return Err(Stop::Memory);
     }
-    if stack.make_table(ANSWERS).is_err() {
+    if stack.make_table().is_err() {
         return Err(Stop::Memory);
     }
     let family = op.family;
