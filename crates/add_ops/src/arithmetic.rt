@@ -65,6 +65,9 @@ impl<G: Grow> Pointwise<G> for Subtraction {
         if g.index == 3 {
             return Ok(Some(f));
         }
+        if f == g {
+            return Ok(Some(Edge::new(3, false)));
+        }
         match leaves(store, f, g) {
             Some((x, y)) => leaf_of(store, x as i128 - y as i128),
             None => Ok(None),

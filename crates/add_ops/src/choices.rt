@@ -87,10 +87,10 @@ impl<G: Grow> Pointwise<G> for Reaching {
     ghost op = { λ a b. if int_le b a then a else pos 0 };
 
     fn terminal(&self, store: &mut G, f: Edge, g: Edge) -> Result<Option<Edge>, Halt> {
-        if f == g {
+        // Slot 3 is the number 0.
+        if f == g || f.index == 3 {
             return Ok(Some(f));
         }
-        // Slot 3 is the number 0.
         match leaves(store, f, g) {
             Some((x, y)) => Ok(Some(chosen(y <= x, f, Edge::new(3, false)))),
             None => Ok(None),
