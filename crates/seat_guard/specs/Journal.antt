@@ -1,0 +1,55 @@
+-- The part of the journal: one legal history, of which each seat knows its session's entries.
+use Rattle.std.specs.Prelude.{◌≡◌, ◌≢◌, ℕ, suc, ◌+◌, ◌==◌, ◌^◌, ◌<◌, ◌≤◌, List, [], ◌∷◌, map, length, slice_index, Bool, true, false, All}
+use Rattle.std.specs.Prelude as std
+use mathlib.Core.Option.{Option, none, some}
+use lib.ListN.{get_elem?}
+use Rattle.atomic_table.specs.Table.{State, Me, Step}
+use Rattle.function_laws.specs.declared.history.Name.{Name}
+use Rattle.function_laws.specs.declared.history.Entry.{Entry}
+use Rattle.function_laws.specs.Tables.{Table, Sizes, opening}
+use Rattle.function_laws.specs.Histories.{IsLegal, table_after}
+use Rattle.function_laws.specs.SessionEntries.{Each, entries_of}
+use Rattle.seat_guard.specs.declared.view.Held.{Held}
+use Rattle.seat_guard.specs.declared.view.Row.{Row}
+use Rattle.seat_guard.specs.declared.view.Telling.{Telling}
+use Rattle.seat_guard.specs.declared.view.Gone.{Gone}
+use Rattle.seat_guard.specs.declared.view.Draws.{Draws}
+use Rattle.seat_guard.specs.declared.view.View.{View}
+use Rattle.seat_guard.specs.Views.{Agrees, sizes_for, cell_in, stands_for, told_of, holding, letting_go}
+
+-- what the rule says of a live seat, and of the closing one
+pub record LiveFits (turn : ℕ) (log : List Entry) (t : Table) (seat : ℕ → Option ℕ) (id : ℕ) (d : Draws) : Type 0 where
+  pub seated : seat d.session ≡ some id
+  pub below : d.session < 64
+  pub mine : entries_of d.session log ≡ d.entries
+  pub agrees : Agrees d t
+  pub held : d.holds ≡ true → turn ≡ suc d.session
+
+pub record IsUnused (log : List Entry) (t : Table) (seat : ℕ → Option ℕ) (p : ℕ) : Type 0 where
+  pub no_seat : seat p ≡ none
+  pub no_entry : entries_of p log ≡ []
+  pub no_row : t.live p ≡ (λ (name : Name). std.None)
+  pub no_name : t.given p ≡ (λ (name : Name). false)
+
+pub record ClosingFits (start : Sizes) (log : List Entry) (t : Table) (seat : ℕ → Option ℕ) (d : Draws) : Type 0 where
+  pub few : d.given ≤ 64
+  pub start_is : start ≡ sizes_for d.vars d.elements
+  pub later : (p : ℕ) → d.given ≤ p → IsUnused log t seat p
+  pub back : (k : ℕ) (g : Gone) → get_elem? d.gone k ≡ some g → (g.session < d.given) × (seat g.session ≡ none) × (entries_of g.session log ≡ g.entries) × (t.live g.session ≡ stands_for g.rows)
+
+pub record Fits (turn : ℕ) (start : Sizes) (log : List Entry) (t : Table) (seat : ℕ → Option ℕ) (id : ℕ) (d : Draws) : Type 0 where
+  pub live : d.live ≡ true → LiveFits turn log t seat id d
+  pub closing : d.closing ≡ true → (d.live ≡ false) × (id ≡ 0) × ClosingFits start log t seat d
+  pub holder : d.holds ≡ true → d.live ≡ true
+  pub rowless : d.live ≡ false → d.closing ≡ false → d.rows ≡ []
+
+-- The part of the journal: there is one legal history, whose length is the journal word, and each seat knows its session's entries of it.
+pub record Journal (place turn : ℕ) (ds : List Draws) (start : Sizes) (log : List Entry) (table : Table) : Type 0 where
+  pub seat : ℕ → Option ℕ
+  pub legal : IsLegal start log
+  pub leaves : table_after (opening start) log ≡ table
+  pub fixed : table.sizes ≡ start
+  pub drawn : place ≡ length log
+  pub bounded : (p : ℕ) → length (entries_of p log) ≤ 2 ^ 48
+  pub beyond : (p : ℕ) → 64 ≤ p → entries_of p log ≡ []
+  pub each : (id : ℕ) (d : Draws) → get_elem? ds id ≡ some d → Fits turn start log table seat id d

@@ -1,0 +1,5 @@
+pub mod Views
+pub mod Journal
+pub mod Turn
+pub mod Rule
+pub mod Passes

@@ -1,0 +1,18 @@
+//! What lies in the slot.
+
+/// What all sessions share, as the rule sees it.
+pub trait Content {
+    ghost use Rattle.std.specs.Prelude.{List, Option, ℕ};
+    ghost use Rattle.seat_guard.specs.declared.view.Held.{Held};
+
+    // The edge denotes the function, and will as long as it is held.
+    ghost keeps: { Self → Held → Type 0 };
+
+    ghost board: { Self → List (Option Held) };
+
+    // How many variables, and how many elements.
+    ghost counts: { Self → ℕ × ℕ };
+
+    // How often a slot is counted.
+    ghost count: { Self → ℕ → ℕ };
+}

@@ -1,0 +1,140 @@
+//! The table under the rule.
+ghost use Rattle.std.specs.Prelude.{◌≡◌, ◌+◌, ◌<◌, ◌≤◌, ◌^◌, ℕ, List, [], ◌∷◌, ◌++◌, length, true, false, IfOk, Option, None, Some, All};
+ghost use Rattle.function_laws.specs.declared.history.Entry.{Entry};
+ghost use Rattle.seat_guard.specs.declared.view.Held.{Held};
+ghost use Rattle.seat_guard.specs.Views.{sizes_for, session_of, holding, letting_go, one_more, with_gone, told_of, MayTell};
+ghost use Rattle.seat_guard.specs.Rule.{AllBack, Ends, Whole};
+ghost use Rattle.seat_guard.specs.Turn.{Serves};
+ghost use Rattle.seat_guard.specs.Passes.{known, in_hand, IsPassOf, IsIdle};
+
+use crate::content::Content;
+use crate::plays::{Back, Draw, End, Give, Last, Next, Take};
+use crate::seat::{Guard, Pass};
+use crate::told::Told;
+use crossbeam_utils::Backoff;
+use std::sync::Wait;
+
+const JOURNAL: usize = 0;
+
+const TURN: usize = 1;
+
+impl<S: Content> Guard<S> {
+    /// Gives the closing seat's next session a seat.
+    pub fn split(&self, pass: &mut Pass<S>) -> Pass<S>
+        requires own { IsPassOf self.now pass.old }
+        requires closing { (known pass.old).closing ≡ true }
+        requires room { (known pass.old).given < 64 }
+        ensures closing { IsPassOf self.now pass.new × (known pass.new ≡ one_more (known pass.old)) × (in_hand pass.new ≡ in_hand pass.old) }
+        ensures session { IsPassOf self.now result × (known result ≡ session_of (known pass.old)) × (in_hand result ≡ []) }
+    {
+        let seat = self.table.shared.split_seat::<Next>(&mut pass.seat);
+        let number = pass.given;
+        pass.given += 1;
+        Pass {
+            seat,
+            number,
+            given: 0,
+        }
+    }
+
+    /// Takes a session's seat in.
+    pub fn join(&self, pass: &mut Pass<S>, other: Pass<S>)
+        requires own { IsPassOf self.now pass.old × ((known pass.old).closing ≡ true) }
+        requires other { IsIdle self.now other }
+        ensures { IsPassOf self.now pass.new × (known pass.new ≡ with_gone (known pass.old) (known other)) × (in_hand pass.new ≡ in_hand pass.old) }
+    {
+        let Pass {
+            seat,
+            number: _,
+            given: _,
+        } = other;
+        self.table.shared.join_seat::<Back>(&mut pass.seat, seat);
+    }
+
+    /// Waits for the turn, and takes what all share.
+    pub fn take<R: Wait>(&self, rt: &R, pass: &mut Pass<S>) -> S
+        requires { IsIdle self.now pass.old }
+        ensures own { IsPassOf self.now pass.new }
+        ensures took { (others : List Held) × (known pass.new ≡ holding (known pass.old) (S.board result) others) × Serves S.keeps S.board S.counts S.count result (known pass.new) }
+        ensures board { length (S.board result) ≡ 256 }
+        ensures hand { in_hand pass.new ≡ (0, None) ∷ [] }
+    {
+        let backoff = Backoff::new();
+        let turn = u64::from(pass.number) + 1;
+        for _ in rt.forever() {
+            let found = self
+                .table
+                .shared
+                .compare_exchange::<Take>(&mut pass.seat, TURN, 0, turn);
+            if found == 0 {
+                return self.table.shared.exchange(&mut pass.seat, 0, None).unwrap();
+            }
+            backoff.snooze();
+        }
+        unreachable!()
+    }
+
+    /// Draws the place of a call.
+    pub fn place<E: Told>(&self, pass: &mut Pass<S>) -> u64
+        requires own { IsPassOf self.now pass.old × ((known pass.old).holds ≡ true) }
+        requires room { length (known pass.old).entries < 2 ^ 48 }
+        requires step { MayTell (known pass.old) E.told }
+        ensures own { IsPassOf self.now pass.new × (in_hand pass.new ≡ in_hand pass.old) }
+        ensures drew { known pass.new ≡ told_of (known pass.old) result E.told }
+        ensures later { All (λ (e : Entry). e.place < result) (known pass.old).entries }
+    {
+        self.table
+            .shared
+            .fetch_add::<Draw<E>>(&mut pass.seat, JOURNAL, 1)
+    }
+
+    /// Puts what all share and the turn back.
+    pub fn put_back(&self, pass: &mut Pass<S>, content: S)
+        requires own { IsPassOf self.now pass.old × ((known pass.old).holds ≡ true) }
+        requires hand { in_hand pass.old ≡ (0, None) ∷ [] }
+        requires serves { Serves S.keeps S.board S.counts S.count content (known pass.old) }
+        ensures own { IsPassOf self.now pass.new }
+        ensures gave { known pass.new ≡ letting_go (known pass.old) }
+        ensures hand { in_hand pass.new ≡ [] }
+    {
+        match self
+            .table
+            .shared
+            .exchange(&mut pass.seat, 0, Some(content))
+        {
+            None => {}
+            Some(_) => unreachable!(),
+        }
+        self.table.shared.store::<Give>(&mut pass.seat, TURN, 0);
+    }
+
+    /// The number of calls so far, which are a legal history.
+    pub fn calls(&self, pass: &mut Pass<S>) -> u64
+        requires { IsPassOf self.now pass.old × ((known pass.old).closing ≡ true) }
+        ensures own { IsPassOf self.now pass.new × (known pass.new ≡ known pass.old) × (in_hand pass.new ≡ in_hand pass.old) }
+        ensures whole { Whole result (sizes_for (known pass.old).vars (known pass.old).elements) (known pass.old).given (known pass.old).gone }
+    {
+        self.table.shared.load::<Last>(&mut pass.seat, JOURNAL)
+    }
+
+    /// Waits for the turn, and takes what all shared, once all sessions have come back. It is not put back.
+    pub fn take_last<R: Wait>(&self, rt: &R, pass: &mut Pass<S>) -> S
+        requires own { IsPassOf self.now pass.old × ((known pass.old).closing ≡ true) × (in_hand pass.old ≡ []) }
+        requires back { AllBack (known pass.old) }
+        ensures own { IsPassOf self.now pass.new × (known pass.new ≡ known pass.old) }
+        ensures ends { Ends S.keeps S.board S.counts S.count result (known pass.old) }
+    {
+        let backoff = Backoff::new();
+        for _ in rt.forever() {
+            let found = self
+                .table
+                .shared
+                .compare_exchange::<End>(&mut pass.seat, TURN, 0, 65);
+            if found == 0 {
+                return self.table.shared.exchange(&mut pass.seat, 0, None).unwrap();
+            }
+            backoff.snooze();
+        }
+        unreachable!()
+    }
+}

@@ -1,0 +1,40 @@
+//! A new table.
+ghost use Rattle.std.specs.Prelude.{◌≡◌, ℕ, [], length, IfOk, Option, None};
+ghost use Rattle.seat_guard.specs.Views.{cell_in, closing_of};
+ghost use Rattle.function_laws.specs.SessionEntries.{Each};
+ghost use Rattle.seat_guard.specs.Turn.{IsKeptCell};
+ghost use Rattle.seat_guard.specs.Passes.{known, in_hand, IsPassOf};
+
+use crate::content::Content;
+use crate::seat::{Guard, Pass};
+use crate::view::Opening;
+use atomic_table::Table;
+use std::alloc::{AllocError, Global};
+
+/// A new table over a content with an empty board, and the closing seat.
+pub fn open<S: Content + Drop>(
+    alloc: Global,
+    content: S,
+    key: &Opening,
+) -> Result<(Guard<S>, Pass<S>), AllocError>
+    requires counts { S.counts content ≡ (key.now.vars, key.now.elements) }
+    requires counted { (k : ℕ) → S.count content k ≡ 0 }
+    requires cells { length (S.board content) ≡ 256 }
+    requires empty { cell_in (S.board content) ≡ (λ (i : ℕ). None) }
+    requires kept { Each (IsKeptCell S.keeps S.board S.counts S.count content) (S.board content) }
+    ensures { IfOk result (λ r. IsPassOf r.0 r.1 × (known r.1 ≡ closing_of key.now) × (in_hand r.1 ≡ [])) }
+{
+    let mut slots = Vec::new(alloc);
+    slots.push(Some(content))?;
+    let Ok((table, seat)) = Table::new(alloc, &[0, 0], slots, key) else {
+        return Err(AllocError);
+    };
+    Ok((
+        Guard { table },
+        Pass {
+            seat,
+            number: 0,
+            given: 0,
+        },
+    ))
+}

@@ -1,0 +1,68 @@
+//! What each step on the table tells.
+use crate::content::Content;
+use crate::told::Told;
+use crate::view::View;
+use atomic_table::{Join, Play, Split};
+use std::marker::PhantomData;
+
+pub struct Take;
+
+impl<S: Content> Play<Option<S>, View> for Take {
+    ghost use Rattle.seat_guard.specs.Rule.{took};
+
+    ghost then = { took S.keeps S.board S.counts S.count };
+}
+
+pub struct End;
+
+impl<S: Content> Play<Option<S>, View> for End {
+    ghost use Rattle.seat_guard.specs.Rule.{ended};
+
+    ghost then = { ended S.keeps S.board S.counts S.count };
+}
+
+pub struct Give;
+
+impl<S> Play<Option<S>, View> for Give {
+    ghost use Rattle.seat_guard.specs.Rule.{gave};
+
+    ghost then = { gave };
+}
+
+pub struct Draw<E> {
+    told: PhantomData<E>,
+}
+
+impl<S, E: Told> Play<Option<S>, View> for Draw<E> {
+    ghost use Rattle.seat_guard.specs.Rule.{drew};
+
+    ghost then = { drew E.told };
+}
+
+pub struct Last;
+
+impl<S> Play<Option<S>, View> for Last {
+    ghost use Rattle.seat_guard.specs.Rule.{closed};
+
+    ghost then = { closed };
+}
+
+pub struct Next;
+
+impl Split<View> for Next {
+    ghost use Rattle.seat_guard.specs.Views.{viewed, one_more, session_of};
+
+    ghost left = { λ v. viewed (one_more v.draws) };
+
+    ghost right = { λ v. viewed (session_of v.draws) };
+}
+
+pub struct Back;
+
+impl Join<View> for Back {
+    ghost use Rattle.seat_guard.specs.Views.{viewed, blank, with_gone};
+
+    ghost both = { λ v w. viewed (with_gone v.draws w.draws) };
+
+    ghost spent = { viewed blank };
+}
