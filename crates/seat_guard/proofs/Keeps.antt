@@ -24,8 +24,11 @@ use Rattle.seat_guard.specs.declared.view.Telling.{Telling}
 use Rattle.seat_guard.specs.declared.view.Gone.{Gone}
 use Rattle.seat_guard.specs.declared.view.Draws.{Draws}
 use Rattle.seat_guard.specs.declared.view.View.{View}
-use Rattle.seat_guard.specs.Views.{told_of, MayTell, Agrees, stands_for, cell_in, sizes_for, viewed, blank, session_of, holding, letting_go, gone_of, with_gone, one_more}
+use Rattle.seat_guard.specs.Views.{told_of, MayTell, Agrees, stands_for, cell_in, sizes_for, viewed, blank, session_of, holding, letting_go, gone_of, with_gone, one_more, orders_of}
 use Rattle.function_laws.specs.SessionEntries.{Each, entries_of, entry}
+use Rattle.function_laws.specs.Sizes.{Orders}
+use Rattle.function_laws.specs.EntryOrders.{opening_orders, orders_after, orders_from}
+use Rattle.function_laws.proofs.OrderLemmas.{orders_from-append}
 use Rattle.seat_guard.specs.Journal.{LiveFits, IsUnused, ClosingFits, Fits, Journal}
 use Rattle.seat_guard.specs.Turn.{Has, IsKeptCell, KeepsRows, Serves, IsHome, Turn, one_if, row_count, held_count, cells_count, all_count}
 use Rattle.seat_guard.specs.Rule.{Rule, AllBack, Ends, ended, took, gave, drew, Whole, closed}
@@ -154,9 +157,9 @@ module _ (place turn : ℕ) (ds : List Draws) (start : Sizes) (log : List Entry)
   held_turn i d at h = (mine i d at ((r.each i d at).holder h)).held h
 
   -- the free turn is taken
-  pub takes_it : (id : ℕ) (d : Draws) (cells : List (std.Option Held)) (others : List Held) → get_elem? ds id ≡ some d → d.live ≡ true → turn ≡ 0 → table.cells ≡ cell_in cells → length cells ≡ 256
-      → Journal place (suc d.session) (set ds id (holding d cells others)) start log table
-  takes_it id d cells others at live free board len =
+  pub takes_it : (id : ℕ) (d : Draws) (cells : List (std.Option Held)) (others : List Held) (now : Orders) → get_elem? ds id ≡ some d → d.live ≡ true → turn ≡ 0 → table.cells ≡ cell_in cells → length cells ≡ 256
+      → Journal place (suc d.session) (set ds id (holding d cells others now)) start log table
+  takes_it id d cells others now at live free board len =
       let me = mine id d at live in record {
         seat = r.seat;
         legal = r.legal;
@@ -165,7 +168,7 @@ module _ (place turn : ℕ) (ds : List Draws) (start : Sizes) (log : List Entry)
         drawn = r.drawn;
         bounded = r.bounded;
         beyond = r.beyond;
-        each = each_set (Fits (suc d.session) start log table r.seat) ds id (holding d cells others)
+        each = each_set (Fits (suc d.session) start log table r.seat) ds id (holding d cells others now)
             (λ j e apart here. let f = r.each j e here in record {
               live = λ l. let g = f.live l in record { seated = g.seated; below = g.below; mine = g.mine; agrees = g.agrees; held = λ h. absurd (let z = g.held h in omega (arith, z, free)) };
               closing = f.closing;
@@ -418,6 +421,19 @@ module _ (place turn : ℕ) (ds : List Draws) (start : Sizes) (log : List Entry)
     };
   }
 
+  -- what the closing seat is told of the history
+  pub whole_of : (id : ℕ) (d : Draws) → get_elem? ds id ≡ some d → d.closing ≡ true → Whole place (sizes_for d.vars d.elements) d.given d.gone
+  whole_of id d at is =
+      let k = ((r.each id d at).closing is).2 in
+      let start_is : sizes_for d.vars d.elements ≡ start = sym k.start_is in record {
+        log = log;
+        legal = subst (λ (z : Sizes). IsLegal z log) k.start_is r.legal;
+        count = sym r.drawn;
+        each = λ i g there. (k.back i g there).2;
+        rows = λ i g there. ap (λ (z : Sizes). (table_after (opening z) log).live g.session) start_is ∙ ap (λ (t : Table). t.live g.session) r.leaves ∙ (k.back i g there).3;
+        beyond = λ p le. (k.later p le).no_entry;
+      }
+
   -- once all have come back, the other seats have no row
   pub others_empty : (id : ℕ) (d : Draws) → get_elem? ds id ≡ some d → d.closing ≡ true → AllBack d → (j : ℕ) (e : Draws) → j ≢ id → get_elem? ds j ≡ some e → e.rows ≡ []
   others_empty id d at is back j e apart here =
@@ -448,16 +464,16 @@ all_count-only k (x ∷ l) (suc i) d at empty =
 abbrev no_rows : Draws → Draws
 no_rows d = record d { rows = [] }
 
-module _ {S : Type 0} (keeps_it : S → Held → Type 0) (board : S → List (std.Option Held)) (counts : S → ℕ × ℕ) (count : S → ℕ → ℕ) where
-  abbrev TurnOf : ℕ → Option (Option (std.Option S)) → List Draws → Table → Type 0
-  TurnOf = Turn keeps_it board counts count
+module _ {S : Type 0} (keeps_it : S → Held → Type 0) (board : S → List (std.Option Held)) (counts : S → ℕ × ℕ) (count : S → ℕ → ℕ) (orders : S → Orders) where
+  abbrev TurnOf : ℕ → Option (Option (std.Option S)) → List Draws → Table → Orders → Type 0
+  TurnOf = Turn keeps_it board counts count orders
 
   -- what the taker is told of the content
-  pub finds_it : (home : Option (Option (std.Option S))) (ds : List Draws) (t : Table) (id : ℕ) (d : Draws) → TurnOf 0 home ds t → get_elem? ds id ≡ some d → t.sizes ≡ sizes_for d.vars d.elements
-      → (x : S) × (others : List Held) × (home ≡ some (some (std.Some x))) × IsHome keeps_it board counts count x ds t × Serves keeps_it board counts count x (holding d (board x) others)
+  pub finds_it : (home : Option (Option (std.Option S))) (ds : List Draws) (t : Table) (now : Orders) (id : ℕ) (d : Draws) → TurnOf 0 home ds t now → get_elem? ds id ≡ some d → t.sizes ≡ sizes_for d.vars d.elements
+      → (x : S) × (others : List Held) × (home ≡ some (some (std.Some x))) × IsHome keeps_it board counts count orders x ds t now × Serves keeps_it board counts count orders x (holding d (board x) others (orders x))
       × ((j : ℕ) (e : Draws) → j ≢ id → get_elem? ds j ≡ some e → Each (λ (row : Row). Has others row.held) e.rows)
       × ((k : ℕ) → row_count k d.rows + held_count k others ≡ all_count k ds)
-  finds_it home ds t id d part at sizes =
+  finds_it home ds t now id d part at sizes =
       let h = part.home_is refl in
       let x : S = h.0 in
       let others : List Held = all_held (set ds id (no_rows d)) in
@@ -475,62 +491,66 @@ module _ {S : Type 0} (keeps_it : S → Held → Type 0) (board : S → List (st
           board_is = refl;
           counts_are = home_of.counts_are ∙ ap (λ (z : Sizes). (z.variables, z.elements)) sizes;
           counted = λ k. let a = home_of.counted k in let b = all k in omega (arith, a, b);
+          orders_are = refl;
         },
         (λ j e apart here. all_held_has (set ds id (no_rows d)) j e (set_else ds id j (no_rows d) apart ∙ here)),
         all,
       )
 
   -- the turn is away with this seat
-  pub away_with : (turn id : ℕ) (home : Option (Option (std.Option S))) (ds : List Draws) (t : Table) (d : Draws) (cells : List (std.Option Held)) (others : List Held) → turn ≢ 0
+  pub away_with : (turn id : ℕ) (home : Option (Option (std.Option S))) (ds : List Draws) (t : Table) (now : Orders) (d : Draws) (cells : List (std.Option Held)) (others : List Held) (own : Orders) → own ≡ now → turn ≢ 0
       → ((j : ℕ) (e : Draws) → get_elem? ds j ≡ some e → e.holds ≡ true → ⊥)
       → ((j : ℕ) (e : Draws) → j ≢ id → get_elem? ds j ≡ some e → Each (λ (row : Row). Has others row.held) e.rows)
       → get_elem? ds id ≡ some d → ((k : ℕ) → row_count k d.rows + held_count k others ≡ all_count k ds)
-      → TurnOf turn home (set ds id (holding d cells others)) t
-  away_with turn id home ds t d cells others away none_holds within at all = record {
+      → TurnOf turn home (set ds id (holding d cells others own)) t now
+  away_with turn id home ds t now d cells others own same away none_holds within at all = record {
     home_is = λ z. absurd (away z);
-    away = λ i f here holds. each_set (λ i (f : Draws). f.holds ≡ true → (j : ℕ) (e : Draws) → j ≢ i → get_elem? (set ds id (holding d cells others)) j ≡ some e → Each (λ (row : Row). Has f.others row.held) e.rows) ds id (holding d cells others)
+    away = λ i f here holds. each_set (λ i (f : Draws). f.holds ≡ true → (j : ℕ) (e : Draws) → j ≢ i → get_elem? (set ds id (holding d cells others own)) j ≡ some e → Each (λ (row : Row). Has f.others row.held) e.rows) ds id (holding d cells others own)
         (λ i f apart at h. absurd (none_holds i f at h))
-        (λ h j e apart there. within j e apart (sym (set_else ds id j (holding d cells others) apart) ∙ there))
+        (λ h j e apart there. within j e apart (sym (set_else ds id j (holding d cells others own) apart) ∙ there))
         i f here holds;
-    others_counted = each_set (λ i (f : Draws). f.holds ≡ true → (k : ℕ) → row_count k f.rows + held_count k f.others ≡ all_count k (set ds id (holding d cells others))) ds id (holding d cells others)
+    others_counted = each_set (λ i (f : Draws). f.holds ≡ true → (k : ℕ) → row_count k f.rows + held_count k f.others ≡ all_count k (set ds id (holding d cells others own))) ds id (holding d cells others own)
         (λ i f apart there h. absurd (none_holds i f there h))
-        (λ h k. all k ∙ sym (all_count-same k ds id d (holding d cells others) at refl));
+        (λ h k. all k ∙ sym (all_count-same k ds id d (holding d cells others own) at refl));
+    ordered = each_set (λ i (f : Draws). f.holds ≡ true → orders_of f ≡ now) ds id (holding d cells others own) (λ i f apart there h. absurd (none_holds i f there h)) (λ h. same);
   }
 
   -- the turn comes home
-  pub comes_home : (turn id : ℕ) (home : Option (Option (std.Option S))) (ds : List Draws) (t : Table) (d : Draws) (x : S) → TurnOf turn home ds t → get_elem? ds id ≡ some d → d.holds ≡ true
+  pub comes_home : (turn id : ℕ) (home : Option (Option (std.Option S))) (ds : List Draws) (t : Table) (now : Orders) (d : Draws) (x : S) → TurnOf turn home ds t now → get_elem? ds id ≡ some d → d.holds ≡ true
       → ((j : ℕ) (e : Draws) → get_elem? ds j ≡ some e → e.holds ≡ true → j ≡ id)
-      → t.cells ≡ cell_in d.cells → length d.cells ≡ 256 → t.sizes ≡ sizes_for d.vars d.elements → Serves keeps_it board counts count x d
-      → TurnOf 0 (some (some (std.Some x))) (set ds id (letting_go d)) t
-  comes_home turn id home ds t d x part at holds alone cells len sizes serves = record {
+      → t.cells ≡ cell_in d.cells → length d.cells ≡ 256 → t.sizes ≡ sizes_for d.vars d.elements → Serves keeps_it board counts count orders x d
+      → TurnOf 0 (some (some (std.Some x))) (set ds id (letting_go d)) t now
+  comes_home turn id home ds t now d x part at holds alone cells len sizes serves = record {
     home_is = λ z. (
       x,
       refl,
       record {
         cells_are = cells ∙ ap cell_in (sym serves.board_is);
         as_many = ap (λ (l : List (std.Option Held)). length l) serves.board_is ∙ len;
-        cells_kept = subst (λ (l : List (std.Option Held)). Each (IsKeptCell keeps_it board counts count x) l) (sym serves.board_is) serves.cells_kept;
+        cells_kept = subst (λ (l : List (std.Option Held)). Each (IsKeptCell keeps_it board counts count orders x) l) (sym serves.board_is) serves.cells_kept;
         counts_are = serves.counts_are ∙ ap (λ (z : Sizes). (z.variables, z.elements)) (sym sizes);
         counted = λ k.
             let a = serves.counted k in
             let b = part.others_counted id d at holds k in
             let c = all_count-same k ds id d (letting_go d) at refl in
             let e : cells_count k (board x) ≡ cells_count k d.cells = ap (cells_count k) serves.board_is in omega (arith, a, b, c, e);
-        rows_kept = each_set (λ j (e : Draws). KeepsRows keeps_it board counts count x e.rows) ds id (letting_go d)
+        rows_kept = each_set (λ j (e : Draws). KeepsRows keeps_it board counts count orders x e.rows) ds id (letting_go d)
             (λ j e apart here. rows_by_others (keeps_it x) d.others e.rows serves.others_kept (part.away id d at holds j e apart here)) serves.rows_kept;
+        orders_are = serves.orders_are ∙ part.ordered id d at holds;
       },
     );
     away = each_set (λ i (f : Draws). f.holds ≡ true → (j : ℕ) (e : Draws) → j ≢ i → get_elem? (set ds id (letting_go d)) j ≡ some e → Each (λ (row : Row). Has f.others row.held) e.rows) ds id (letting_go d)
         (λ i f apart here h. absurd (apart (alone i f here h))) (λ h. absurd (off h));
     others_counted = each_set (λ i (f : Draws). f.holds ≡ true → (k : ℕ) → row_count k f.rows + held_count k f.others ≡ all_count k (set ds id (letting_go d))) ds id (letting_go d)
         (λ i f apart here h. absurd (apart (alone i f here h))) (λ h. absurd (off h));
+    ordered = each_set (λ i (f : Draws). f.holds ≡ true → orders_of f ≡ now) ds id (letting_go d) (λ i f apart here h. absurd (apart (alone i f here h))) (λ h. absurd (off h));
   }
 
   -- the holder draws a place
-  pub draws_away : (turn id : ℕ) (home : Option (Option (std.Option S))) (ds : List Draws) (t u : Table) (d : Draws) (n : ℕ) (x : Telling) → TurnOf turn home ds t → get_elem? ds id ≡ some d → d.holds ≡ true → turn ≢ 0
+  pub draws_away : (turn id : ℕ) (home : Option (Option (std.Option S))) (ds : List Draws) (t u : Table) (now : Orders) (d : Draws) (n : ℕ) (x : Telling) → TurnOf turn home ds t now → get_elem? ds id ≡ some d → d.holds ≡ true → turn ≢ 0
       → ((j : ℕ) (e : Draws) → get_elem? ds j ≡ some e → e.holds ≡ true → j ≡ id)
-      → TurnOf turn home (set ds id (told_of d n x)) u
-  draws_away turn id home ds t u d n x part at holds away_now alone = record {
+      → TurnOf turn home (set ds id (told_of d n x)) u (orders_after now x.call x.reply)
+  draws_away turn id home ds t u now d n x part at holds away_now alone = record {
     home_is = λ z. absurd (away_now z);
     away = each_set (λ i (f : Draws). f.holds ≡ true → (j : ℕ) (e : Draws) → j ≢ i → get_elem? (set ds id (told_of d n x)) j ≡ some e → Each (λ (row : Row). Has f.others row.held) e.rows) ds id (told_of d n x)
         (λ i f apart here h. absurd (apart (alone i f here h)))
@@ -538,10 +558,13 @@ module _ {S : Type 0} (keeps_it : S → Held → Type 0) (board : S → List (st
     others_counted = each_set (λ i (f : Draws). f.holds ≡ true → (k : ℕ) → row_count k f.rows + held_count k f.others ≡ all_count k (set ds id (told_of d n x))) ds id (told_of d n x)
         (λ i f apart here h. absurd (apart (alone i f here h)))
         (λ h k. let a = all_count-set k ds id d (told_of d n x) at in let b = part.others_counted id d at holds k in omega (arith, a, b));
+    ordered = each_set (λ i (f : Draws). f.holds ≡ true → orders_of f ≡ orders_after now x.call x.reply) ds id (told_of d n x)
+        (λ i f apart here h. absurd (apart (alone i f here h)))
+        (λ h. ap (λ o. orders_after o x.call x.reply) (part.ordered id d at holds));
   }
 
   abbrev IsSame : List Draws → ℕ → Draws → Type 0
-  IsSame ds j e = (f : Draws) × (get_elem? ds j ≡ some f) × (e.rows ≡ f.rows) × (e.holds ≡ f.holds) × (e.others ≡ f.others)
+  IsSame ds j e = (f : Draws) × (get_elem? ds j ≡ some f) × (e.rows ≡ f.rows) × (e.holds ≡ f.holds) × (e.others ≡ f.others) × (orders_of e ≡ orders_of f)
 
   abbrev IsEmpty : Draws → Type 0
   IsEmpty e = (e.rows ≡ []) × (e.holds ≡ false)
@@ -554,9 +577,9 @@ module _ {S : Type 0} (keeps_it : S → Held → Type 0) (board : S → List (st
   abbrev IsAsBefore : List Draws → ℕ → Draws → Type 0
   IsAsBefore ds j e = IsSame ds j e ⊎ (IsEmpty e ⊎ HasTaken ds j e)
 
-  pub stays_so : (turn : ℕ) (home : Option (Option (std.Option S))) (ds es : List Draws) (t : Table) → TurnOf turn home ds t → ((j : ℕ) (e : Draws) → get_elem? es j ≡ some e → IsAsBefore ds j e)
-      → ((k : ℕ) → all_count k es ≡ all_count k ds) → TurnOf turn home es t
-  stays_so turn home ds es t part before same = record {
+  pub stays_so : (turn : ℕ) (home : Option (Option (std.Option S))) (ds es : List Draws) (t : Table) (now : Orders) → TurnOf turn home ds t now → ((j : ℕ) (e : Draws) → get_elem? es j ≡ some e → IsAsBefore ds j e)
+      → ((k : ℕ) → all_count k es ≡ all_count k ds) → TurnOf turn home es t now
+  stays_so turn home ds es t now part before same = record {
     home_is = λ z. let h = part.home_is z in let o = h.2 in (
       h.0,
       h.1,
@@ -566,14 +589,18 @@ module _ {S : Type 0} (keeps_it : S → Held → Type 0) (board : S → List (st
         cells_kept = o.cells_kept;
         counts_are = o.counts_are;
         counted = λ k. let a = o.counted k in let b = same k in omega (arith, a, b);
-        rows_kept = λ j e here. ⊎_elim (λ (b : IsSame ds j e). subst (KeepsRows keeps_it board counts count h.0) (sym b.2) (o.rows_kept j b.0 b.1))
-            (λ (c : IsEmpty e ⊎ HasTaken ds j e). ⊎_elim (λ (b : IsEmpty e). subst (KeepsRows keeps_it board counts count h.0) (sym b.0) tt)
-            (λ (b : HasTaken ds j e). subst (KeepsRows keeps_it board counts count h.0) (sym b.5) (each_append (λ (row : Row). keeps_it h.0 row.held) b.0.rows b.2.rows (o.rows_kept j b.0 b.3) (o.rows_kept b.1 b.2 b.4))) c) (before j e here);
+        rows_kept = λ j e here. ⊎_elim (λ (b : IsSame ds j e). subst (KeepsRows keeps_it board counts count orders h.0) (sym b.2) (o.rows_kept j b.0 b.1))
+            (λ (c : IsEmpty e ⊎ HasTaken ds j e). ⊎_elim (λ (b : IsEmpty e). subst (KeepsRows keeps_it board counts count orders h.0) (sym b.0) tt)
+            (λ (b : HasTaken ds j e). subst (KeepsRows keeps_it board counts count orders h.0) (sym b.5) (each_append (λ (row : Row). keeps_it h.0 row.held) b.0.rows b.2.rows (o.rows_kept j b.0 b.3) (o.rows_kept b.1 b.2 b.4))) c) (before j e here);
+        orders_are = o.orders_are;
       },
     );
     away = λ i f here holds j e apart there. by_holder i f holds (before i f here) j e apart (before j e there);
     others_counted = λ i f here holds k. ⊎_elim
         (λ (o : IsSame ds i f). ap₂ (λ a b. row_count k a + held_count k b) o.2 o.4 ∙ part.others_counted i o.0 o.1 (sym o.3 ∙ holds) k ∙ sym (same k))
+        (λ (c : IsEmpty f ⊎ HasTaken ds i f). absurd (⊎_elim (λ (o : IsEmpty f). true≢false (sym holds ∙ o.1)) (λ (o : HasTaken ds i f). true≢false (sym holds ∙ o.6)) c)) (before i f here);
+    ordered = λ i f here holds. ⊎_elim
+        (λ (o : IsSame ds i f). o.5 ∙ part.ordered i o.0 o.1 (sym o.3 ∙ holds))
         (λ (c : IsEmpty f ⊎ HasTaken ds i f). absurd (⊎_elim (λ (o : IsEmpty f). true≢false (sym holds ∙ o.1)) (λ (o : HasTaken ds i f). true≢false (sym holds ∙ o.6)) c)) (before i f here);
   }
     where
@@ -597,9 +624,9 @@ Sat S = Me (std.Option S) View
 abbrev ds_of : List View → List Draws
 ds_of views = map (λ (v : View). v.draws) views
 
-module _ {S : Type 0} (keeps_it : S → Held → Type 0) (board : S → List (std.Option Held)) (counts : S → ℕ × ℕ) (count : S → ℕ → ℕ) where
+module _ {S : Type 0} (keeps_it : S → Held → Type 0) (board : S → List (std.Option Held)) (counts : S → ℕ × ℕ) (count : S → ℕ → ℕ) (orders : S → Orders) where
   abbrev TheRule : St S → Type 0
-  TheRule = Rule keeps_it board counts count
+  TheRule = Rule keeps_it board counts count orders
 
   seat_of : (s : St S) (id : ℕ) (v : View) → get_elem? s.views id ≡ some v → get_elem? (ds_of s.views) id ≡ some v.draws
   seat_of s id v at = at_map (λ (v : View). v.draws) s.views id v at
@@ -609,26 +636,27 @@ module _ {S : Type 0} (keeps_it : S → Held → Type 0) (board : S → List (st
   stays s i id me r at = subst (λ (x : List ℕ × List View). TheRule (record { words = x.0; homes = s.homes; views = x.1 })) (λ k. (sym (set-get_or s.words i 0) k, sym (set_again s.views id me.0 at) k)) r
 
   pub takes_turn : (slots id : ℕ) (me : Sat S) (new : ℕ) → me.0.draws.live ≡ true → me.1 ≡ [] → new ≡ suc me.0.draws.session
-      → Allows TheRule slots id me 1 (λ n. either (n == 0) new n) (took keeps_it board counts count (step slots 1 0 new none) me)
+      → Allows TheRule slots id me 1 (λ n. either (n == 0) new n) (took keeps_it board counts count orders (step slots 1 0 new none) me)
   takes_turn slots id me new live free is s r long at small = dite (ℕ_discrete (get_or s.words 1 0) 0)
       (λ hit.
       let d = me.0.draws in
       let here = seat_of s id me.0 at in
       let home = get_elem? s.homes 0 in
       let j : Journal (get_or s.words 0 0) (get_or s.words 1 0) (ds_of s.views) r.start r.log r.table = r.journal in
-      let part : Turn keeps_it board counts count 0 home (ds_of s.views) r.table = subst (λ (n : ℕ). Turn keeps_it board counts count n home (ds_of s.views) r.table) hit r.turn in
+      let now_left : Orders = orders_from (opening_orders r.start) r.log in
+      let part : Turn keeps_it board counts count orders 0 home (ds_of s.views) r.table now_left = subst (λ (n : ℕ). Turn keeps_it board counts count orders n home (ds_of s.views) r.table now_left) hit r.turn in
       let sizes : r.table.sizes ≡ sizes_for d.vars d.elements = ((j.each id d here).live live).agrees.sizes_are in
-      let t = finds_it keeps_it board counts count home (ds_of s.views) r.table id d part here sizes in
+      let t = finds_it keeps_it board counts count orders home (ds_of s.views) r.table now_left id d part here sizes in
       let home_of = t.3 in
       let x : S = t.0 in
       let others : List Held = t.1 in
-      let w = viewed (holding d (board x) others) in
+      let w = viewed (holding d (board x) others (orders x)) in
       let hs = set s.homes 0 none in
       let now : get_or (set s.words 1 (suc d.session)) 1 0 ≡ suc d.session = get_or-set_same s.words 1 (suc d.session) 0 (let l = r.wide in omega (arith, l)) in
       let place : get_or (set s.words 1 (suc d.session)) 0 0 ≡ get_or s.words 0 0 = get_or-set_other s.words 1 0 (suc d.session) 0 (λ e. omega (arith, e)) in
       let views : ds_of (set s.views id w) ≡ set (ds_of s.views) id w.draws = map-set (λ (v : View). v.draws) s.views id w in
-      let journal = takes_it (get_or s.words 0 0) (get_or s.words 1 0) (ds_of s.views) r.start r.log r.table j id d (board x) others here live hit home_of.cells_are home_of.as_many in
-      let turned = away_with keeps_it board counts count (suc d.session) id (get_elem? hs 0) (ds_of s.views) r.table d (board x) others (λ e. omega (arith, e))
+      let journal = takes_it (get_or s.words 0 0) (get_or s.words 1 0) (ds_of s.views) r.start r.log r.table j id d (board x) others (orders x) here live hit home_of.cells_are home_of.as_many in
+      let turned = away_with keeps_it board counts count orders (suc d.session) id (get_elem? hs 0) (ds_of s.views) r.table now_left d (board x) others (orders x) home_of.orders_are (λ e. omega (arith, e))
       (λ i f there h. let a = held_turn (get_or s.words 0 0) (get_or s.words 1 0) (ds_of s.views) r.start r.log r.table j i f there h in omega (arith, a, hit)) t.5 here t.6 in
       let rule : TheRule (record { words = set s.words 1 new; homes = hs; views = set s.views id w }) =
       subst (λ (n : ℕ). TheRule (record { words = set s.words 1 n; homes = hs; views = set s.views id w })) (sym is) (record {
@@ -638,7 +666,7 @@ module _ {S : Type 0} (keeps_it : S → Held → Type 0) (board : S → List (st
         log = r.log;
         table = r.table;
         journal = subst (λ (y : ℕ × ℕ × List Draws). Journal y.0 y.1 y.2 r.start r.log r.table) (λ k. (sym place k, sym now k, sym views k)) journal;
-        turn = subst (λ (y : ℕ × List Draws). Turn keeps_it board counts count y.0 (get_elem? hs 0) y.1 r.table) (λ k. (sym now k, sym views k)) turned;
+        turn = subst (λ (y : ℕ × List Draws). Turn keeps_it board counts count orders y.0 (get_elem? hs 0) y.1 r.table now_left) (λ k. (sym now k, sym views k)) turned;
       }) in (
         w,
         takes 0 (std.Some x),
@@ -655,13 +683,15 @@ module _ {S : Type 0} (keeps_it : S → Held → Type 0) (board : S → List (st
       ))
 
   pub takes_last : (slots id : ℕ) (me : Sat S) → me.0.draws.closing ≡ true → me.1 ≡ [] → AllBack me.0.draws
-      → Allows TheRule slots id me 1 (λ n. either (n == 0) 65 n) (ended keeps_it board counts count (step slots 1 0 65 none) me)
+      → Allows TheRule slots id me 1 (λ n. either (n == 0) 65 n) (ended keeps_it board counts count orders (step slots 1 0 65 none) me)
+  unfolding whole_of
   takes_last slots id me is free back s r long at small = dite (ℕ_discrete (get_or s.words 1 0) 0)
       (λ hit.
       let d = me.0.draws in
       let here = seat_of s id me.0 at in
       let j : Journal (get_or s.words 0 0) (get_or s.words 1 0) (ds_of s.views) r.start r.log r.table = r.journal in
-      let part : Turn keeps_it board counts count 0 (get_elem? s.homes 0) (ds_of s.views) r.table = subst (λ (n : ℕ). Turn keeps_it board counts count n (get_elem? s.homes 0) (ds_of s.views) r.table) hit r.turn in
+      let now_left : Orders = orders_from (opening_orders r.start) r.log in
+      let part : Turn keeps_it board counts count orders 0 (get_elem? s.homes 0) (ds_of s.views) r.table now_left = subst (λ (n : ℕ). Turn keeps_it board counts count orders n (get_elem? s.homes 0) (ds_of s.views) r.table now_left) hit r.turn in
       let h = part.home_is refl in
       let x : S = h.0 in
       let home_of = h.2 in
@@ -673,6 +703,7 @@ module _ {S : Type 0} (keeps_it : S → Held → Type 0) (board : S → List (st
       λ i f there held. let a = held_turn (get_or s.words 0 0) (get_or s.words 1 0) (ds_of s.views) r.start r.log r.table j i f there held in omega (arith, a, hit) in
       let empty = others_empty (get_or s.words 0 0) (get_or s.words 1 0) (ds_of s.views) r.start r.log r.table j id d here is back in
       let sizes = ((j.each id d here).closing is).2.start_is in
+      let whole_now = whole_of (get_or s.words 0 0) (get_or s.words 1 0) (ds_of s.views) r.start r.log r.table j id d here is in
       let rule : TheRule (record { words = ws; homes = hs; views = s.views }) = record {
         wide = length-set s.words 1 65 ∙ r.wide;
         long = length-set s.homes 0 none ∙ r.long;
@@ -684,6 +715,7 @@ module _ {S : Type 0} (keeps_it : S → Held → Type 0) (board : S → List (st
           home_is = λ z. absurd (omega (arith, z, now));
           away = λ i f there held. absurd (none_holds i f there held);
           others_counted = λ i f there held. absurd (none_holds i f there held);
+          ordered = λ i f there held. absurd (none_holds i f there held);
         };
       } in (
         me.0,
@@ -701,6 +733,9 @@ module _ {S : Type 0} (keeps_it : S → Held → Type 0) (board : S → List (st
               cells_kept = home_of.cells_kept;
               counts_are = home_of.counts_are ∙ ap (λ (z : Sizes). (z.variables, z.elements)) (j.fixed ∙ sizes);
               counted = λ k. let a = home_of.counted k in let b = all_count-only k (ds_of s.views) id d here empty in omega (arith, a, b);
+              calls = get_or s.words 0 0;
+              whole = whole_now;
+              orders_are = home_of.orders_are ∙ ap (λ (z : Sizes). orders_from (opening_orders z) r.log) sizes;
             },
           )),
           (λ miss. absurd (miss hit)),
@@ -714,7 +749,7 @@ module _ {S : Type 0} (keeps_it : S → Held → Type 0) (board : S → List (st
         ((λ hit. absurd (miss hit)), (λ _. refl)),
       ))
 
-  pub gives_turn : (slots id : ℕ) (me : Sat S) (x : S) → me.0.draws.holds ≡ true → me.1 ≡ (0, std.Some x) ∷ [] → Serves keeps_it board counts count x me.0.draws
+  pub gives_turn : (slots id : ℕ) (me : Sat S) (x : S) → me.0.draws.holds ≡ true → me.1 ≡ (0, std.Some x) ∷ [] → Serves keeps_it board counts count orders x me.0.draws
       → Allows TheRule slots id me 1 (λ _. 0) (λ _. gave (step slots 1 0 0 none) me 0)
   gives_turn slots id me x holds has serves s r long at small =
       let d = me.0.draws in
@@ -730,7 +765,8 @@ module _ {S : Type 0} (keeps_it : S → Held → Type 0) (board : S → List (st
       let place : get_or (set s.words 1 0) 0 0 ≡ get_or s.words 0 0 = get_or-set_other s.words 1 0 0 0 (λ e. omega (arith, e)) in
       let views : ds_of (set s.views id w) ≡ set (ds_of s.views) id w.draws = map-set (λ (v : View). v.draws) s.views id w in
       let back : get_elem? hs 0 ≡ home = set_here s.homes 0 (some (std.Some x)) (let l = r.long in omega (arith, l)) in
-      let turned = comes_home keeps_it board counts count (get_or s.words 1 0) id (get_elem? s.homes 0) (ds_of s.views) r.table d x r.turn here holds
+      let now_left : Orders = orders_from (opening_orders r.start) r.log in
+      let turned = comes_home keeps_it board counts count orders (get_or s.words 1 0) id (get_elem? s.homes 0) (ds_of s.views) r.table now_left d x r.turn here holds
       (λ i f there h. one_holder (get_or s.words 0 0) (get_or s.words 1 0) (ds_of s.views) r.start r.log r.table j i id f d there here h holds) board_now.0 board_now.1 agrees.sizes_are serves in (
         w,
         gives,
@@ -743,7 +779,7 @@ module _ {S : Type 0} (keeps_it : S → Held → Type 0) (board : S → List (st
           table = r.table;
           journal = subst (λ (y : ℕ × ℕ × List Draws). Journal y.0 y.1 y.2 r.start r.log r.table) (λ k. (sym place k, sym now k, sym views k))
               (gives_it (get_or s.words 0 0) (get_or s.words 1 0) (ds_of s.views) r.start r.log r.table j id d here live holds);
-          turn = subst (λ (y : ℕ × Option (Option (std.Option S)) × List Draws). Turn keeps_it board counts count y.0 y.1 y.2 r.table) (λ k. (sym now k, sym back k, sym views k)) turned;
+          turn = subst (λ (y : ℕ × Option (Option (std.Option S)) × List Draws). Turn keeps_it board counts count orders y.0 y.1 y.2 r.table now_left) (λ k. (sym now k, sym back k, sym views k)) turned;
         }),
         (refl, ap (Rattle.atomic_table.specs.Table.rest) has),
       )
@@ -774,7 +810,9 @@ module _ {S : Type 0} (keeps_it : S → Held → Type 0) (board : S → List (st
       let u : Table = after r.table d.session x.call x.reply in
       let log : List Entry = r.log ++ entry (length r.log) d.session x.call x.reply ∷ [] in
       let away : get_or s.words 1 0 ≢ 0 = λ z. let a = mine_now.held holds in omega (arith, a, z) in
-      let turned = draws_away keeps_it board counts count (get_or s.words 1 0) id (get_elem? s.homes 0) (ds_of s.views) r.table u d (length r.log) x r.turn here holds away
+      let now_left : Orders = orders_from (opening_orders r.start) r.log in
+      let then_left : orders_from (opening_orders r.start) log ≡ orders_after now_left x.call x.reply = orders_from-append (opening_orders r.start) r.log (entry (length r.log) d.session x.call x.reply ∷ []) in
+      let turned = draws_away keeps_it board counts count orders (get_or s.words 1 0) id (get_elem? s.homes 0) (ds_of s.views) r.table u now_left d (length r.log) x r.turn here holds away
       (λ i f there h. one_holder (get_or s.words 0 0) (get_or s.words 1 0) (ds_of s.views) r.start r.log r.table j i id f d there here h holds) in (
         w,
         keeps,
@@ -787,7 +825,7 @@ module _ {S : Type 0} (keeps_it : S → Held → Type 0) (board : S → List (st
           table = u;
           journal = subst (λ (y : ℕ × ℕ × List Draws). Journal y.0 y.1 y.2 r.start log u) (λ k. (sym place k, sym turn k, sym views k))
               (draws_it (get_or s.words 0 0) (get_or s.words 1 0) (ds_of s.views) r.start r.log r.table j id d x here holds room may);
-          turn = subst (λ (y : ℕ × List Draws). Turn keeps_it board counts count y.0 (get_elem? s.homes 0) y.1 u) (λ k. (sym turn k, sym views k)) turned;
+          turn = subst (λ (y : ℕ × List Draws × Orders). Turn keeps_it board counts count orders y.0 (get_elem? s.homes 0) y.1 u y.2) (λ k. (sym turn k, sym views k, sym then_left k)) turned;
         },
         (refl, refl, λ k e l. subst (λ (z : List Entry × ℕ). std.All (λ (e : Entry). e.place < z.1) z.0) (λ i. (mine_now.mine i, from_zero (length r.log) (get_or s.words 0 0) is i)) (places_low r.log 0 (opening r.start) d.session j.legal) k e l),
       )
@@ -800,9 +838,7 @@ module _ {S : Type 0} (keeps_it : S → Held → Type 0) (board : S → List (st
         keeps,
         tt,
         stays s 0 id me r at,
-        (refl, λ c. let k = ((j.each id d (seat_of s id me.0 at)).closing c).2 in
-            subst (λ (z : Sizes). Whole (get_or s.words 0 0) z d.given d.gone) k.start_is
-            (record { log = r.log; legal = j.legal; count = sym j.drawn; each = λ i g there. (k.back i g there).2; rows = λ i g there. ap (λ (t : Table). t.live g.session) j.leaves ∙ (k.back i g there).3; beyond = λ p le. (k.later p le).no_entry })),
+        (refl, λ c. whole_of (get_or s.words 0 0) (get_or s.words 1 0) (ds_of s.views) r.start r.log r.table j id d (seat_of s id me.0 at) c),
       )
 
   pub splits : (id : ℕ) (v : View) → v.draws.closing ≡ true → v.draws.given < 64 → Splits TheRule id v (viewed (one_more v.draws)) (viewed (session_of v.draws))
@@ -821,11 +857,11 @@ module _ {S : Type 0} (keeps_it : S → Held → Type 0) (board : S → List (st
         table = r.table;
         journal = subst (λ (l : List Draws). Journal (get_or s.words 0 0) (get_or s.words 1 0) l r.start r.log r.table) (sym views)
             (splits_it (get_or s.words 0 0) (get_or s.words 1 0) (ds_of s.views) r.start r.log r.table j id d here is room);
-        turn = subst (λ (l : List Draws). Turn keeps_it board counts count (get_or s.words 1 0) (get_elem? s.homes 0) l r.table) (sym views)
-            (stays_so keeps_it board counts count (get_or s.words 1 0) (get_elem? s.homes 0) (ds_of s.views) (set (ds_of s.views) id (one_more d) ++ session_of d ∷ []) r.table r.turn
+        turn = subst (λ (l : List Draws). Turn keeps_it board counts count orders (get_or s.words 1 0) (get_elem? s.homes 0) l r.table (orders_from (opening_orders r.start) r.log)) (sym views)
+            (stays_so keeps_it board counts count orders (get_or s.words 1 0) (get_elem? s.homes 0) (ds_of s.views) (set (ds_of s.views) id (one_more d) ++ session_of d ∷ []) r.table (orders_from (opening_orders r.start) r.log) r.turn
             (λ k e there. ⊎_elim
-            (each_set (IsAsBefore keeps_it board counts count (ds_of s.views)) (ds_of s.views) id (one_more d) (λ i f apart lies. inl (f, lies, refl, refl, refl)) (inl (d, here, refl, refl, refl)) k e)
-            (λ (t : (k ≡ length (set (ds_of s.views) id (one_more d))) × (session_of d ≡ e)). subst (IsAsBefore keeps_it board counts count (ds_of s.views) k) t.1 (inr (inl (refl, refl))))
+            (each_set (IsAsBefore keeps_it board counts count orders (ds_of s.views)) (ds_of s.views) id (one_more d) (λ i f apart lies. inl (f, lies, refl, refl, refl, refl)) (inl (d, here, refl, refl, refl, refl)) k e)
+            (λ (t : (k ≡ length (set (ds_of s.views) id (one_more d))) × (session_of d ≡ e)). subst (IsAsBefore keeps_it board counts count orders (ds_of s.views) k) t.1 (inr (inl (refl, refl))))
             (at_end (set (ds_of s.views) id (one_more d)) (session_of d) e k there))
             (λ k. let a = all_count-append k (set (ds_of s.views) id (one_more d)) (session_of d) in let b = all_count-same k (ds_of s.views) id d (one_more d) here refl in omega (arith, a, b)));
       }
@@ -850,10 +886,10 @@ module _ {S : Type 0} (keeps_it : S → Held → Type 0) (board : S → List (st
         table = r.table;
         journal = subst (λ (l : List Draws). Journal (get_or s.words 0 0) (get_or s.words 1 0) l r.start r.log r.table) (sym views)
             (joins_it (get_or s.words 0 0) (get_or s.words 1 0) (ds_of s.views) r.start r.log r.table j id d other e here apart lies is live free);
-        turn = subst (λ (l : List Draws). Turn keeps_it board counts count (get_or s.words 1 0) (get_elem? s.homes 0) l r.table) (sym views)
-            (stays_so keeps_it board counts count (get_or s.words 1 0) (get_elem? s.homes 0) (ds_of s.views) (set (set (ds_of s.views) id (with_gone d e)) other blank) r.table r.turn
-            (each_set (IsAsBefore keeps_it board counts count (ds_of s.views)) (set (ds_of s.views) id (with_gone d e)) other blank
-            (λ k f off_other at_k. each_set (IsAsBefore keeps_it board counts count (ds_of s.views)) (ds_of s.views) id (with_gone d e) (λ i g off_id at_i. inl (g, at_i, refl, refl, refl)) (inr (inr (d, other, e, here, at_other, refl, not_held, free))) k f at_k)
+        turn = subst (λ (l : List Draws). Turn keeps_it board counts count orders (get_or s.words 1 0) (get_elem? s.homes 0) l r.table (orders_from (opening_orders r.start) r.log)) (sym views)
+            (stays_so keeps_it board counts count orders (get_or s.words 1 0) (get_elem? s.homes 0) (ds_of s.views) (set (set (ds_of s.views) id (with_gone d e)) other blank) r.table (orders_from (opening_orders r.start) r.log) r.turn
+            (each_set (IsAsBefore keeps_it board counts count orders (ds_of s.views)) (set (ds_of s.views) id (with_gone d e)) other blank
+            (λ k f off_other at_k. each_set (IsAsBefore keeps_it board counts count orders (ds_of s.views)) (ds_of s.views) id (with_gone d e) (λ i g off_id at_i. inl (g, at_i, refl, refl, refl, refl)) (inr (inr (d, other, e, here, at_other, refl, not_held, free))) k f at_k)
             (inr (inl (refl, refl))))
             (λ k.
             let a = all_count-set k (ds_of s.views) id d (with_gone d e) here in
@@ -868,9 +904,9 @@ module _ {S : Type 0} (keeps_it : S → Held → Type 0) (board : S → List (st
   none_counted k (std.Some held ∷ cells) none_there = absurd (let a : std.Some held.function ≡ std.None = none_there zero in cc)
 
   -- the table as it is made
-  pub starts : (x : S) (d : Draws) → counts x ≡ (d.vars, d.elements) → ((k : ℕ) → count x k ≡ 0) → d.closing ≡ true → d.live ≡ false → d.holds ≡ false → d.rows ≡ [] → d.given ≡ 0 → d.gone ≡ [] → length (board x) ≡ 256 → cell_in (board x) ≡ (λ (i : ℕ). std.None) → Each (IsKeptCell keeps_it board counts count x) (board x)
+  pub starts : (x : S) (d : Draws) → orders x ≡ opening_orders (sizes_for d.vars d.elements) → counts x ≡ (d.vars, d.elements) → ((k : ℕ) → count x k ≡ 0) → d.closing ≡ true → d.live ≡ false → d.holds ≡ false → d.rows ≡ [] → d.given ≡ 0 → d.gone ≡ [] → length (board x) ≡ 256 → cell_in (board x) ≡ (λ (i : ℕ). std.None) → Each (IsKeptCell keeps_it board counts count orders x) (board x)
       → TheRule (record { words = 0 ∷ 0 ∷ []; homes = some (std.Some x) ∷ []; views = viewed d ∷ [] })
-  starts x d sizes zeros is dead free rows given gone len empty kept = record {
+  starts x d ordered sizes zeros is dead free rows given gone len empty kept = record {
     wide = refl;
     long = refl;
     start = sizes_for d.vars d.elements;
@@ -887,9 +923,10 @@ module _ {S : Type 0} (keeps_it : S → Held → Type 0) (board : S → List (st
       each = one;
     };
     turn = record {
-      home_is = λ _. (x, refl, record { cells_are = sym empty; as_many = len; cells_kept = kept; counts_are = sizes; counted = λ k. let a = zeros k in let b = none_counted k (board x) (λ i. ap (λ (f : ℕ → std.Option Function). f i) empty) in let c : row_count k d.rows ≡ 0 = ap (row_count k) rows in omega (arith, a, b, c); rows_kept = λ j e at. subst (KeepsRows keeps_it board counts count x) (sym (only j e at (λ f. f.rows ≡ []) rows)) tt });
+      home_is = λ _. (x, refl, record { cells_are = sym empty; as_many = len; cells_kept = kept; counts_are = sizes; counted = λ k. let a = zeros k in let b = none_counted k (board x) (λ i. ap (λ (f : ℕ → std.Option Function). f i) empty) in let c : row_count k d.rows ≡ 0 = ap (row_count k) rows in omega (arith, a, b, c); rows_kept = λ j e at. subst (KeepsRows keeps_it board counts count orders x) (sym (only j e at (λ f. f.rows ≡ []) rows)) tt; orders_are = ordered });
       away = λ i f at h. absurd (true≢false (sym h ∙ only i f at (λ f. f.holds ≡ false) free));
       others_counted = λ i f at h. absurd (true≢false (sym h ∙ only i f at (λ f. f.holds ≡ false) free));
+      ordered = λ i f at h. absurd (true≢false (sym h ∙ only i f at (λ f. f.holds ≡ false) free));
     };
   }
     where

@@ -9,18 +9,29 @@ use Rattle.function_laws.specs.declared.history.Entry.{Entry}
 use Rattle.function_laws.specs.Tables.{Table, Sizes, opening}
 use Rattle.function_laws.specs.Histories.{IsLegal, table_after}
 use Rattle.function_laws.specs.SessionEntries.{Each, entries_of}
+use Rattle.function_laws.specs.Sizes.{Orders}
+use Rattle.function_laws.specs.EntryOrders.{opening_orders, orders_from}
 use Rattle.seat_guard.specs.declared.view.Held.{Held}
 use Rattle.seat_guard.specs.declared.view.Row.{Row}
 use Rattle.seat_guard.specs.declared.view.Telling.{Telling}
 use Rattle.seat_guard.specs.declared.view.Gone.{Gone}
 use Rattle.seat_guard.specs.declared.view.Draws.{Draws}
 use Rattle.seat_guard.specs.declared.view.View.{View}
-use Rattle.seat_guard.specs.Views.{Agrees, sizes_for, cell_in, stands_for, told_of, holding, letting_go}
+use Rattle.seat_guard.specs.Views.{Agrees, sizes_for, cell_in, stands_for, told_of, holding, letting_go, orders_of}
 
 use Rattle.seat_guard.specs.Journal.{Journal}
 use Rattle.seat_guard.specs.Turn.{IsKeptCell, KeepsRows, Serves, Turn, row_count, cells_count}
 
-module _ {S : Type 0} (keeps : S → Held → Type 0) (board : S → List (std.Option Held)) (counts : S → ℕ × ℕ) (count : S → ℕ → ℕ) where
+-- A legal history of n calls, in which each session that came back has the entries that it had, which leaves each its rows, and which has none of sessions that there never were.
+pub record Whole (n : ℕ) (start : Sizes) (given : ℕ) (gone : List Gone) : Type 0 where
+  pub log : List Entry
+  pub legal : IsLegal start log
+  pub count : length log ≡ n
+  pub each : (k : ℕ) (g : Gone) → get_elem? gone k ≡ some g → entries_of g.session log ≡ g.entries
+  pub rows : (k : ℕ) (g : Gone) → get_elem? gone k ≡ some g → (table_after (opening start) log).live g.session ≡ stands_for g.rows
+  pub beyond : (p : ℕ) → given ≤ p → entries_of p log ≡ []
+
+module _ {S : Type 0} (keeps : S → Held → Type 0) (board : S → List (std.Option Held)) (counts : S → ℕ × ℕ) (count : S → ℕ → ℕ) (orders : S → Orders) where
   pub record Rule (s : State (std.Option S) View) : Type 0 where
     pub wide : length s.words ≡ 2
     pub long : length s.homes ≡ 1
@@ -28,14 +39,18 @@ module _ {S : Type 0} (keeps : S → Held → Type 0) (board : S → List (std.O
     pub log : List Entry
     pub table : Table
     pub journal : Journal (slice_index s.words 0) (slice_index s.words 1) (map (λ (v : View). v.draws) s.views) start log table
-    pub turn : Turn keeps board counts count (slice_index s.words 1) (get_elem? s.homes 0) (map (λ (v : View). v.draws) s.views) table
+    pub turn : Turn keeps board counts count orders (slice_index s.words 1) (get_elem? s.homes 0) (map (λ (v : View). v.draws) s.views) table (orders_from (opening_orders start) log)
 
   -- the content after all sessions came back: only the rows of the closing seat and the cells are left
   pub record Ends (x : S) (d : Draws) : Type 0 where
-    pub rows_kept : KeepsRows keeps board counts count x d.rows
-    pub cells_kept : Each (IsKeptCell keeps board counts count x) (board x)
+    pub rows_kept : KeepsRows keeps board counts count orders x d.rows
+    pub cells_kept : Each (IsKeptCell keeps board counts count orders x) (board x)
     pub counts_are : counts x ≡ (d.vars, d.elements)
     pub counted : (k : ℕ) → count x k ≡ row_count k d.rows + cells_count k (board x)
+    -- it has the orders that a whole legal history of all sessions leaves
+    pub calls : ℕ
+    pub whole : Whole calls (sizes_for d.vars d.elements) d.given d.gone
+    pub orders_are : orders x ≡ orders_from (opening_orders (sizes_for d.vars d.elements)) whole.log
 
   -- what each step tells
 
@@ -46,7 +61,7 @@ module _ {S : Type 0} (keeps : S → Held → Type 0) (board : S → List (std.O
 
   abbrev pub took : Step (std.Option S) → Me (std.Option S) View → ℕ → Me (std.Option S) View → Type 0
   took st m r m' =
-      (r ≡ 0 → (x : S) × (others : List Held) × (m'.0.draws ≡ holding m.0.draws (board x) others) × (m'.1 ≡ (0, std.Some x) ∷ []) × (length (board x) ≡ 256) × Serves keeps board counts count x (holding m.0.draws (board x) others))
+      (r ≡ 0 → (x : S) × (others : List Held) × (m'.0.draws ≡ holding m.0.draws (board x) others (orders x)) × (m'.1 ≡ (0, std.Some x) ∷ []) × (length (board x) ≡ 256) × Serves keeps board counts count orders x (holding m.0.draws (board x) others (orders x)))
       × (r ≢ 0 → m' ≡ m)
 
 -- each session that was given a seat has come back
@@ -59,15 +74,6 @@ module _ {S : Type 0} where
 
   abbrev pub drew : Telling → Step S → Me S View → ℕ → Me S View → Type 0
   drew x st m r m' = (m'.0.draws ≡ told_of m.0.draws r x) × (m'.1 ≡ m.1) × All (λ (e : Entry). e.place < r) m.0.draws.entries
-
--- A legal history of n calls, in which each session that came back has the entries that it had, which leaves each its rows, and which has none of sessions that there never were.
-pub record Whole (n : ℕ) (start : Sizes) (given : ℕ) (gone : List Gone) : Type 0 where
-  pub log : List Entry
-  pub legal : IsLegal start log
-  pub count : length log ≡ n
-  pub each : (k : ℕ) (g : Gone) → get_elem? gone k ≡ some g → entries_of g.session log ≡ g.entries
-  pub rows : (k : ℕ) (g : Gone) → get_elem? gone k ≡ some g → (table_after (opening start) log).live g.session ≡ stands_for g.rows
-  pub beyond : (p : ℕ) → given ≤ p → entries_of p log ≡ []
 
 abbrev pub closed : {S : Type 0} → Step S → Me S View → ℕ → Me S View → Type 0
 closed st m r m' = (m' ≡ m) × (m.0.draws.closing ≡ true → Whole r (sizes_for m.0.draws.vars m.0.draws.elements) m.0.draws.given m.0.draws.gone)

@@ -10,6 +10,8 @@ use Rattle.function_laws.specs.declared.history.Entry.{Entry}
 use Rattle.function_laws.specs.Tables.{Table, Sizes, same_name}
 use Rattle.function_laws.specs.Steps.{IsAllowed, after}
 use Rattle.function_laws.specs.SessionEntries.{entry}
+use Rattle.function_laws.specs.Sizes.{Orders}
+use Rattle.function_laws.specs.EntryOrders.{orders_after}
 use Rattle.function_laws.specs.Handovers.{is_numbered}
 use Rattle.seat_guard.specs.declared.view.Held.{Held}
 use Rattle.seat_guard.specs.declared.view.Row.{Row}
@@ -63,6 +65,15 @@ abbrev pub cells_after : Change → List (Option Held) → List (Option Held)
 cells_after (Posts i held) cells = slice_set cells i (Some held)
 cells_after _ cells = cells
 
+-- both orders, as who has the turn knows them
+abbrev pub orders_of : Draws → Orders
+orders_of d = record { variables = d.variable_order; elements = d.element_order }
+
+-- what was due at the last Full
+abbrev pub due_after : Reply → Option Function → Option Function → Option Function
+due_after (replies.Full in_use need) told old = told
+due_after reply told old = old
+
 -- what a seat knows after a call at the place n
 abbrev pub told_of : Draws → ℕ → Telling → Draws
 told_of d n x = record d {
@@ -70,6 +81,10 @@ told_of d n x = record d {
   adds = adds_after x.change d.adds;
   cells = cells_after x.change d.cells;
   entries = d.entries ++ entry n d.session x.call x.reply ∷ [];
+  variable_order = (orders_after (orders_of d) x.call x.reply).variables;
+  element_order = (orders_after (orders_of d) x.call x.reply).elements;
+  stored = x.stored;
+  due = due_after x.reply x.due d.due;
 }
 
 -- the entry is a step from every table that agrees with the seat, and agrees with what the seat knows then
@@ -78,7 +93,7 @@ pub record MayTell (d : Draws) (x : Telling) : Type 0 where
   pub step : (t : Table) → Agrees d t → IsAllowed t d.session x.call x.reply × Agrees (told_of d 0 x) (after t d.session x.call x.reply)
 
 abbrev pub nothing_told : Telling
-nothing_told = record { call = calls.Sweep; reply = replies.Done; change = Nothing }
+nothing_told = record { call = calls.Sweep; reply = replies.Done; change = Nothing; stored = []; due = None }
 
 abbrev pub viewed : Draws → View
 viewed d = record { draws = d }
@@ -95,6 +110,10 @@ blank = record {
   holds = false;
   cells = [];
   others = [];
+  variable_order = [];
+  element_order = [];
+  stored = [];
+  due = None;
   entries = [];
   closing = false;
   sessions = 0;
@@ -112,11 +131,11 @@ session_of d = record blank { live = true; session = d.given; vars = d.vars; ele
 abbrev pub one_more : Draws → Draws
 one_more d = record d { given = suc d.given }
 
-abbrev pub holding : Draws → List (Option Held) → List Held → Draws
-holding d cells others = record d { holds = true; cells = cells; others = others }
+abbrev pub holding : Draws → List (Option Held) → List Held → Orders → Draws
+holding d cells others orders = record d { holds = true; cells = cells; others = others; variable_order = orders.variables; element_order = orders.elements }
 
 abbrev pub letting_go : Draws → Draws
-letting_go d = record d { holds = false; cells = []; others = [] }
+letting_go d = record d { holds = false; cells = []; others = []; variable_order = []; element_order = [] }
 
 abbrev pub gone_of : Draws → Gone
 gone_of d = record { session = d.session; rows = d.rows; entries = d.entries }

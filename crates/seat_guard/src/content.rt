@@ -3,6 +3,7 @@
 /// What all sessions share, as the rule sees it.
 pub trait Content {
     ghost use Rattle.std.specs.Prelude.{List, Option, ℕ};
+    ghost use Rattle.function_laws.specs.Sizes.{Orders};
     ghost use Rattle.seat_guard.specs.declared.view.Held.{Held};
 
     // The edge denotes the function, and will as long as it is held.
@@ -15,4 +16,7 @@ pub trait Content {
 
     // How often a slot is counted.
     ghost count: { Self → ℕ → ℕ };
+
+    // The orders of the variables and of the elements.
+    ghost orders: { Self → Orders };
 }

@@ -55,7 +55,7 @@ impl<S: Content> Guard<S> {
     pub fn take<R: Wait>(&self, rt: &R, pass: &mut Pass<S>) -> S
         requires { IsIdle self.now pass.old }
         ensures own { IsPassOf self.now pass.new }
-        ensures took { (others : List Held) × (known pass.new ≡ holding (known pass.old) (S.board result) others) × Serves S.keeps S.board S.counts S.count result (known pass.new) }
+        ensures took { (others : List Held) × (known pass.new ≡ holding (known pass.old) (S.board result) others (S.orders result)) × Serves S.keeps S.board S.counts S.count S.orders result (known pass.new) }
         ensures board { length (S.board result) ≡ 256 }
         ensures hand { in_hand pass.new ≡ (0, None) ∷ [] }
     {
@@ -92,7 +92,7 @@ impl<S: Content> Guard<S> {
     pub fn put_back(&self, pass: &mut Pass<S>, content: S)
         requires own { IsPassOf self.now pass.old × ((known pass.old).holds ≡ true) }
         requires hand { in_hand pass.old ≡ (0, None) ∷ [] }
-        requires serves { Serves S.keeps S.board S.counts S.count content (known pass.old) }
+        requires serves { Serves S.keeps S.board S.counts S.count S.orders content (known pass.old) }
         ensures own { IsPassOf self.now pass.new }
         ensures gave { known pass.new ≡ letting_go (known pass.old) }
         ensures hand { in_hand pass.new ≡ [] }
@@ -122,7 +122,7 @@ impl<S: Content> Guard<S> {
         requires own { IsPassOf self.now pass.old × ((known pass.old).closing ≡ true) × (in_hand pass.old ≡ []) }
         requires back { AllBack (known pass.old) }
         ensures own { IsPassOf self.now pass.new × (known pass.new ≡ known pass.old) }
-        ensures ends { Ends S.keeps S.board S.counts S.count result (known pass.old) }
+        ensures ends { Ends S.keeps S.board S.counts S.count S.orders result (known pass.old) }
     {
         let backoff = Backoff::new();
         for _ in rt.forever() {

@@ -1,6 +1,7 @@
 //! A new table.
 ghost use Rattle.std.specs.Prelude.{◌≡◌, ℕ, [], length, IfOk, Option, None};
-ghost use Rattle.seat_guard.specs.Views.{cell_in, closing_of};
+ghost use Rattle.function_laws.specs.EntryOrders.{opening_orders};
+ghost use Rattle.seat_guard.specs.Views.{cell_in, closing_of, sizes_for};
 ghost use Rattle.function_laws.specs.SessionEntries.{Each};
 ghost use Rattle.seat_guard.specs.Turn.{IsKeptCell};
 ghost use Rattle.seat_guard.specs.Passes.{known, in_hand, IsPassOf};
@@ -18,10 +19,11 @@ pub fn open<S: Content + Drop>(
     key: &Opening,
 ) -> Result<(Guard<S>, Pass<S>), AllocError>
     requires counts { S.counts content ≡ (key.now.vars, key.now.elements) }
+    requires orders { S.orders content ≡ opening_orders (sizes_for key.now.vars key.now.elements) }
     requires counted { (k : ℕ) → S.count content k ≡ 0 }
     requires cells { length (S.board content) ≡ 256 }
     requires empty { cell_in (S.board content) ≡ (λ (i : ℕ). None) }
-    requires kept { Each (IsKeptCell S.keeps S.board S.counts S.count content) (S.board content) }
+    requires kept { Each (IsKeptCell S.keeps S.board S.counts S.count S.orders content) (S.board content) }
     ensures { IfOk result (λ r. IsPassOf r.0 r.1 × (known r.1 ≡ closing_of key.now) × (in_hand r.1 ≡ [])) }
 {
     let mut slots = Vec::new(alloc);

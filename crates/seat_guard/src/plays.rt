@@ -10,7 +10,7 @@ pub struct Take;
 impl<S: Content> Play<Option<S>, View> for Take {
     ghost use Rattle.seat_guard.specs.Rule.{took};
 
-    ghost then = { took S.keeps S.board S.counts S.count };
+    ghost then = { took S.keeps S.board S.counts S.count S.orders };
 }
 
 pub struct End;
@@ -18,7 +18,7 @@ pub struct End;
 impl<S: Content> Play<Option<S>, View> for End {
     ghost use Rattle.seat_guard.specs.Rule.{ended};
 
-    ghost then = { ended S.keeps S.board S.counts S.count };
+    ghost then = { ended S.keeps S.board S.counts S.count S.orders };
 }
 
 pub struct Give;

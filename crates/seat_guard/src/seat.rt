@@ -15,7 +15,7 @@ impl<S: Content> TableRule<Option<S>, View, Opening> for Turns<S> {
     ghost use Rattle.seat_guard.specs.Rule.{Rule};
     ghost use Rattle.seat_guard.specs.Views.{viewed, closing_of};
 
-    ghost holds = { λ _. Rule S.keeps S.board S.counts S.count };
+    ghost holds = { λ _. Rule S.keeps S.board S.counts S.count S.orders };
 
     ghost first = { λ key. viewed (closing_of key) };
 }
