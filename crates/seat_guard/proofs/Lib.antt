@@ -1,1 +1,4 @@
+pub mod RowCounts
+pub mod Journals
+pub mod Turns
 pub mod Keeps

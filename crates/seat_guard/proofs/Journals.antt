@@ -1,0 +1,345 @@
+-- Each change of a seat keeps the part of the journal.
+use Rattle.std.proofs.Common.{◌≡◌, ◌≢◌, ◌⊎◌, ℕ, zero, suc, ◌+◌, ◌*◌, ◌%◌, ◌^◌, ◌<◌, ◌≤◌, ◌==◌, Bool, true, false, List, [], ◌∷◌, ◌++◌, map, length, get_or, set, refl, ap, sym, subst, ap₂, ◌∙◌, ⊎_elim, inl, inr, arith, length-append, length-set, get_or-set_other, get_or-set_same, eq-eqb, ne_eqb, true≢false}
+use Rattle.std.specs.Prelude as std
+use mathlib.Core.Logic.{dite}
+use mathlib.Core.Option.{Option, none, some, some-injective, some-ne-none}
+use mathlib.Core.List.{map-append}
+use Rattle.std.proofs.Math.Nat.{mod-eq_of_lt}
+use native.Mathlib.Decide.{ℕ_discrete, dec_lt}
+use lib.ListN.{get_elem?}
+use lib.Seq.{set-get_or, map-set}
+use prog.Atomic.{either}
+use Rattle.atomic_table.specs.Table.{State, Me, step, keeps, takes, gives, stepped, Allows, Splits, Joins}
+use Rattle.atomic_table.proofs.Lists.{at_set, set_again, at_map, at_snoc, set_here, set_else}
+use Rattle.function_laws.specs.declared.history.Name.{Name}
+use Rattle.function_laws.specs.declared.history.Function.{Function}
+use Rattle.function_laws.specs.declared.history.Entry.{Entry}
+use Rattle.function_laws.specs.Tables.{Table, Sizes, opening}
+use Rattle.function_laws.specs.Steps.{IsAllowed, after}
+use Rattle.function_laws.specs.Histories.{IsLegal, table_after}
+use Rattle.function_laws.proofs.HistoryLemmas.{table_after-push, IsLegal-push}
+use Rattle.seat_guard.specs.declared.view.Held.{Held}
+use Rattle.seat_guard.specs.declared.view.Row.{Row}
+use Rattle.seat_guard.specs.declared.view.Telling.{Telling}
+use Rattle.seat_guard.specs.declared.view.Gone.{Gone}
+use Rattle.seat_guard.specs.declared.view.Draws.{Draws}
+use Rattle.seat_guard.specs.declared.view.View.{View}
+use Rattle.seat_guard.specs.Views.{told_of, MayTell, Agrees, stands_for, cell_in, sizes_for, viewed, blank, session_of, holding, letting_go, gone_of, with_gone, one_more, orders_of}
+use Rattle.function_laws.specs.SessionEntries.{Each, entries_of, entry}
+use Rattle.function_laws.specs.Sizes.{Orders}
+use Rattle.function_laws.specs.EntryOrders.{opening_orders, orders_after, orders_from}
+use Rattle.function_laws.proofs.OrderLemmas.{orders_from-append}
+use Rattle.seat_guard.specs.Journal.{LiveFits, IsUnused, ClosingFits, Fits, Journal}
+use Rattle.seat_guard.specs.Turn.{Has, IsKeptCell, KeepsRows, Serves, IsHome, Turn, one_if, row_count, held_count, cells_count, all_count}
+use Rattle.seat_guard.specs.Rule.{Rule, AllBack, Ends, ended, took, gave, drew, Whole, closed}
+use Rattle.function_laws.proofs.SessionEntryLemmas.{put_at, put_here, put_else, entries_same, entries_other, places_low, short}
+use Rattle.function_laws.proofs.ApartLemmas.{after_apart}
+use Rattle.seat_guard.proofs.RowCounts.{at_end, each_set, off, not_true}
+
+module _ (place turn : ℕ) (ds : List Draws) (start : Sizes) (log : List Entry) (table : Table) (r : Journal place turn ds start log table) where
+  abbrev pub mine : (id : ℕ) (d : Draws) → get_elem? ds id ≡ some d → d.live ≡ true → LiveFits turn log table r.seat id d
+  mine id d at live = (r.each id d at).live live
+
+  -- two live seats with one session are one seat
+  one_seat : (i j : ℕ) (d e : Draws) → LiveFits turn log table r.seat i d → LiveFits turn log table r.seat j e → d.session ≡ e.session → i ≡ j
+  one_seat i j d e a b is = some-injective i j (sym a.seated ∙ (ap r.seat is ∙ b.seated))
+
+  -- one seat alone has the turn
+  pub one_holder : (i j : ℕ) (d e : Draws) → get_elem? ds i ≡ some d → get_elem? ds j ≡ some e → d.holds ≡ true → e.holds ≡ true → i ≡ j
+  one_holder i j d e at there h k =
+      let a = mine i d at ((r.each i d at).holder h) in
+      let b = mine j e there ((r.each j e there).holder k) in
+      let x = a.held h in let y = b.held k in one_seat i j d e a b (omega (arith, x, y))
+
+  pub held_turn : (i : ℕ) (d : Draws) → get_elem? ds i ≡ some d → d.holds ≡ true → turn ≡ suc d.session
+  held_turn i d at h = (mine i d at ((r.each i d at).holder h)).held h
+
+  -- the free turn is taken
+  pub takes_it : (id : ℕ) (d : Draws) (cells : List (std.Option Held)) (others : List Held) (now : Orders) → get_elem? ds id ≡ some d → d.live ≡ true → turn ≡ 0 → table.cells ≡ cell_in cells → length cells ≡ 256
+      → Journal place (suc d.session) (set ds id (holding d cells others now)) start log table
+  takes_it id d cells others now at live free board len =
+      let me = mine id d at live in record {
+        seat = r.seat;
+        legal = r.legal;
+        leaves = r.leaves;
+        fixed = r.fixed;
+        drawn = r.drawn;
+        bounded = r.bounded;
+        beyond = r.beyond;
+        each = each_set (Fits (suc d.session) start log table r.seat) ds id (holding d cells others now)
+            (λ j e apart here. let f = r.each j e here in record {
+              live = λ l. let g = f.live l in record { seated = g.seated; below = g.below; mine = g.mine; agrees = g.agrees; held = λ h. absurd (let z = g.held h in omega (arith, z, free)) };
+              closing = f.closing;
+              holder = f.holder;
+              rowless = f.rowless;
+            }) (record {
+              live = λ l. record {
+                seated = me.seated;
+                below = me.below;
+                mine = me.mine;
+                agrees = record { sizes_are = me.agrees.sizes_are; live = me.agrees.live; fresh = me.agrees.fresh; cells = λ h. (board, len) };
+                held = λ h. refl;
+              };
+              closing = λ c. absurd (true≢false (sym live ∙ ((r.each id d at).closing c).0));
+              holder = λ h. live;
+              rowless = λ l c. absurd (true≢false (sym live ∙ l));
+            });
+      }
+
+  -- the turn is given back
+  pub gives_it : (id : ℕ) (d : Draws) → get_elem? ds id ≡ some d → d.live ≡ true → d.holds ≡ true → Journal place 0 (set ds id (letting_go d)) start log table
+  gives_it id d at live holds =
+      let me = mine id d at live in record {
+        seat = r.seat;
+        legal = r.legal;
+        leaves = r.leaves;
+        fixed = r.fixed;
+        drawn = r.drawn;
+        bounded = r.bounded;
+        beyond = r.beyond;
+        each = each_set (Fits 0 start log table r.seat) ds id (letting_go d)
+            (λ j e apart here. let f = r.each j e here in record {
+              live = λ l. let g = f.live l in record {
+                seated = g.seated;
+                below = g.below;
+                mine = g.mine;
+                agrees = g.agrees;
+                held = λ h. absurd (apart (one_holder j id e d here at h holds));
+              };
+              closing = f.closing;
+              holder = f.holder;
+              rowless = f.rowless;
+            }) (record {
+              live = λ l. record {
+                seated = me.seated;
+                below = me.below;
+                mine = me.mine;
+                agrees = record { sizes_are = me.agrees.sizes_are; live = me.agrees.live; fresh = me.agrees.fresh; cells = λ h. absurd (off h) };
+                held = λ h. absurd (off h);
+              };
+              closing = λ c. absurd (true≢false (sym live ∙ ((r.each id d at).closing c).0));
+              holder = λ h. absurd (off h);
+              rowless = λ l c. absurd (true≢false (sym live ∙ l));
+            });
+      }
+
+  -- a call draws its place
+  pub draws_it : (id : ℕ) (d : Draws) (x : Telling) → get_elem? ds id ≡ some d → d.holds ≡ true → length d.entries < 2 ^ 48 → MayTell d x
+      → Journal (suc (length log)) turn (set ds id (told_of d (length log) x)) start (log ++ entry (length log) d.session x.call x.reply ∷ []) (after table d.session x.call x.reply)
+  draws_it id d x at holds room may =
+      let live = (r.each id d at).holder holds in
+      let me = mine id d at live in
+      let n : ℕ = length log in
+      let e : Entry = entry n d.session x.call x.reply in
+      let longer : List Entry = log ++ e ∷ [] in
+      let u : Table = after table d.session x.call x.reply in
+      let told : Draws = told_of d n x in
+      let says = may.step table me.agrees in
+      let len : length longer ≡ suc n = length-append log (e ∷ []) ∙ omega arith in
+      let same : entries_of d.session longer ≡ d.entries ++ e ∷ [] = entries_same log d.session e refl ∙ ap (λ l. l ++ e ∷ []) me.mine in
+      let other : (p : ℕ) → p ≢ d.session → entries_of p longer ≡ entries_of p log = λ p apart. entries_other log p e (λ is. apart (sym is)) in
+      let aside : (p : ℕ) → p ≢ d.session → (u.live p ≡ table.live p) × (u.given p ≡ table.given p) = λ p apart. after_apart table d.session p x.call x.reply may.plain apart in
+      let sizes : u.sizes ≡ table.sizes = says.1.sizes_are ∙ sym me.agrees.sizes_are in
+      record {
+        seat = r.seat;
+        legal = IsLegal-push start log e r.legal refl (subst (λ (t : Table). IsAllowed t d.session x.call x.reply) (sym r.leaves) says.0);
+        leaves = table_after-push (opening start) log e ∙ ap (λ (t : Table). after t d.session x.call x.reply) r.leaves;
+        fixed = sizes ∙ r.fixed;
+        drawn = sym len;
+        bounded = λ p. dite (ℕ_discrete p d.session)
+            (λ is. let l : length (entries_of p longer) ≡ length d.entries + 1 = ap (λ (q : ℕ). length (entries_of q longer)) is ∙ (ap length same ∙ length-append d.entries (e ∷ [])) in omega (arith, l, room))
+            (λ apart. subst (λ (l : List Entry). length l ≤ 2 ^ 48) (sym (other p apart)) (r.bounded p));
+        beyond = λ p le. other p (λ is. let b = me.below in omega (arith, b, is, le)) ∙ r.beyond p le;
+        each = each_set (Fits turn start longer u r.seat) ds id told
+            (λ j f apart here. let fits = r.each j f here in record {
+              live = λ l. let g = fits.live l in let away : f.session ≢ d.session = λ is. apart (one_seat j id f d g me is) in record {
+                seated = g.seated;
+                below = g.below;
+                mine = other f.session away ∙ g.mine;
+                agrees = record {
+                  sizes_are = sizes ∙ g.agrees.sizes_are;
+                  live = (aside f.session away).0 ∙ g.agrees.live;
+                  fresh = λ name le. ap (λ (h : Name → Bool). h name) (aside f.session away).1 ∙ g.agrees.fresh name le;
+                  cells = λ h. absurd (apart (one_holder j id f d here at h holds));
+                };
+                held = g.held;
+              };
+              closing = λ c. let g = fits.closing c in let k = g.2 in (
+                g.0,
+                g.1,
+                record {
+                  few = k.few;
+                  start_is = k.start_is;
+                  later = λ p le. let a = k.later p le in let away : p ≢ d.session = λ is. some-ne-none id (sym me.seated ∙ (ap r.seat (sym is) ∙ a.no_seat)) in record {
+                    no_seat = a.no_seat;
+                    no_entry = other p away ∙ a.no_entry;
+                    no_row = (aside p away).0 ∙ a.no_row;
+                    no_name = (aside p away).1 ∙ a.no_name;
+                  };
+                  back = λ i y there. let a = k.back i y there in let away : y.session ≢ d.session = λ is. some-ne-none id (sym me.seated ∙ (ap r.seat (sym is) ∙ a.1)) in (a.0, a.1, other y.session away ∙ a.2, (aside y.session away).0 ∙ a.3);
+                },
+              );
+              holder = fits.holder;
+              rowless = fits.rowless;
+            }) (record {
+              live = λ l. record {
+                seated = me.seated;
+                below = me.below;
+                mine = same;
+                agrees = record { sizes_are = says.1.sizes_are; live = says.1.live; fresh = says.1.fresh; cells = says.1.cells };
+                held = me.held;
+              };
+              closing = λ c. absurd (true≢false (sym live ∙ ((r.each id d at).closing c).0));
+              holder = λ h. live;
+              rowless = λ l c. absurd (true≢false (sym live ∙ l));
+            });
+      }
+
+  -- the closing seat gives a seat to the next session
+  pub splits_it : (id : ℕ) (d : Draws) → get_elem? ds id ≡ some d → d.closing ≡ true → d.given < 64
+      → Journal place turn (set ds id (one_more d) ++ session_of d ∷ []) start log table
+  splits_it id d at is room =
+      let fits = (r.each id d at).closing is in
+      let k = fits.2 in
+      let n : ℕ = length ds in
+      let fresh = k.later d.given (let a = d.given in omega arith) in
+      let seat : ℕ → Option ℕ = put_at r.seat d.given (some n) in
+      let aside : (p : ℕ) (j : ℕ) → r.seat p ≡ some j → p ≢ d.given = λ p j seated same. some-ne-none j (sym seated ∙ (ap r.seat same ∙ fresh.no_seat)) in
+      let old : (j : ℕ) (f : Draws) → get_elem? (set ds id (one_more d)) j ≡ some f → Fits turn start log table seat j f =
+      each_set (Fits turn start log table seat) ds id (one_more d)
+      (λ j f apart here. let g = r.each j f here in record {
+        live = λ l. let h = g.live l in record { seated = put_else r.seat d.given f.session (some n) (aside f.session j h.seated) ∙ h.seated; below = h.below; mine = h.mine; agrees = h.agrees; held = h.held };
+        closing = λ c. absurd (apart ((g.closing c).1 ∙ sym fits.1));
+        holder = g.holder;
+        rowless = g.rowless;
+      }) (record {
+        live = λ l. absurd (true≢false (sym l ∙ fits.0));
+        closing = λ c. (
+          fits.0,
+          fits.1,
+          record {
+            few = omega (arith, room);
+            start_is = k.start_is;
+            later = λ p le. let a = k.later p (omega (arith, le)) in record {
+              no_seat = put_else r.seat d.given p (some n) (λ e. omega (arith, e, le)) ∙ a.no_seat;
+              no_entry = a.no_entry;
+              no_row = a.no_row;
+              no_name = a.no_name;
+            };
+            back = λ i y there. let a = k.back i y there in let below = a.0 in (omega (arith, below), put_else r.seat d.given y.session (some n) (λ e. omega (arith, e, below)) ∙ a.1, a.2, a.3);
+          },
+        );
+        holder = λ h. absurd (true≢false (sym ((r.each id d at).holder h) ∙ fits.0));
+        rowless = (r.each id d at).rowless;
+      }) in
+      record {
+        seat = seat;
+        legal = r.legal;
+        leaves = r.leaves;
+        fixed = r.fixed;
+        drawn = r.drawn;
+        bounded = r.bounded;
+        beyond = r.beyond;
+        each = λ j f here. ⊎_elim (old j f) (λ (t : (j ≡ length (set ds id (one_more d))) × (session_of d ≡ f)).
+            subst (λ (y : ℕ × Draws). Fits turn start log table seat y.0 y.1) (λ i. (sym (t.0 ∙ length-set ds id (one_more d)) i, t.1 i)) (record {
+              live = λ l. record {
+                seated = put_here r.seat d.given (some n);
+                below = room;
+                mine = fresh.no_entry;
+                agrees = record { sizes_are = r.fixed ∙ k.start_is; live = fresh.no_row; fresh = λ name le. ap (λ (h : Name → Bool). h name) fresh.no_name; cells = λ h. absurd (off h) };
+                held = λ h. absurd (off h);
+              };
+              closing = λ c. absurd (off c);
+              holder = λ h. absurd (off h);
+              rowless = λ l c. refl;
+            })) (at_end (set ds id (one_more d)) (session_of d) f j here);
+      }
+
+  -- the closing seat takes a session's seat in
+  pub joins_it : (id : ℕ) (d : Draws) (other : ℕ) (e : Draws) → get_elem? ds id ≡ some d → ¬ (other ≡ id) → get_elem? (set ds id (with_gone d e)) other ≡ some e → d.closing ≡ true → e.live ≡ true → e.holds ≡ false
+      → Journal place turn (set (set ds id (with_gone d e)) other blank) start log table
+  joins_it id d other e at apart there is live free =
+      let fits = (r.each id d at).closing is in
+      let k = fits.2 in
+      let at_other : get_elem? ds other ≡ some e = sym (set_else ds id other (with_gone d e) apart) ∙ there in
+      let them = mine other e at_other live in
+      let seat : ℕ → Option ℕ = put_at r.seat e.session none in
+      let given : e.session < d.given = dite (dec_lt e.session d.given) (λ l. l) (λ le. absurd (some-ne-none other (sym them.seated ∙ (k.later e.session (omega (arith, le))).no_seat))) in
+      let none_kept : (p : ℕ) → r.seat p ≡ none → seat p ≡ none = λ p a. dite (ℕ_discrete p e.session) (λ same. ap seat same ∙ put_here r.seat e.session none) (λ no-same. put_else r.seat e.session p none no-same ∙ a) in
+      let still : (j : ℕ) (f : Draws) → j ≢ other → (f.live ≡ true → LiveFits turn log table r.seat j f) → f.live ≡ true → LiveFits turn log table seat j f =
+      λ j f off_other g l. let h = g l in record { seated = put_else r.seat e.session f.session none (λ same. off_other (one_seat j other f e h them same)) ∙ h.seated; below = h.below; mine = h.mine; agrees = h.agrees; held = h.held } in
+      record {
+        seat = seat;
+        legal = r.legal;
+        leaves = r.leaves;
+        fixed = r.fixed;
+        drawn = r.drawn;
+        bounded = r.bounded;
+        beyond = r.beyond;
+        each = each_set (Fits turn start log table seat) (set ds id (with_gone d e)) other blank
+            (λ j f off_other here. each_set (λ i y. i ≢ other → Fits turn start log table seat i y) ds id (with_gone d e)
+            (λ i y off_id here' off_other'. let g = r.each i y here' in record { live = still i y off_other' g.live; closing = λ c. absurd (off_id ((g.closing c).1 ∙ sym fits.1)); holder = g.holder; rowless = g.rowless })
+            (λ off_other'. record {
+              live = λ l. absurd (true≢false (sym l ∙ fits.0));
+              closing = λ c. (
+                fits.0,
+                fits.1,
+                record {
+                  few = k.few;
+                  start_is = k.start_is;
+                  later = λ p le. let a = k.later p le in record { no_seat = none_kept p a.no_seat; no_entry = a.no_entry; no_row = a.no_row; no_name = a.no_name };
+                  back = λ i y lies. ⊎_elim
+                      (λ (was : get_elem? d.gone i ≡ some y). let a = k.back i y was in (a.0, none_kept y.session a.1, a.2, a.3))
+                      (λ (new : gone_of e ≡ y). subst (λ (z : Gone). (z.session < d.given) × (seat z.session ≡ none) × (entries_of z.session log ≡ z.entries) × (table.live z.session ≡ stands_for z.rows)) new (given, put_here r.seat e.session none, them.mine, them.agrees.live))
+                      (at_snoc d.gone (gone_of e) y i lies);
+                },
+              );
+              holder = (r.each id d at).holder;
+              rowless = λ l c. absurd (true≢false (sym is ∙ c));
+            })
+            j f here off_other)
+            (record { live = λ l. absurd (off l); closing = λ c. absurd (off c); holder = λ h. absurd (off h); rowless = λ l c. refl });
+      }
+
+  -- the turn word becomes another, where it was 0
+  pub turns : (m : ℕ) → turn ≡ 0 → Journal place m ds start log table
+  turns m free = record {
+    seat = r.seat;
+    legal = r.legal;
+    leaves = r.leaves;
+    fixed = r.fixed;
+    drawn = r.drawn;
+    bounded = r.bounded;
+    beyond = r.beyond;
+    each = λ j e here. let f = r.each j e here in record {
+      live = λ l. let g = f.live l in record { seated = g.seated; below = g.below; mine = g.mine; agrees = g.agrees; held = λ h. absurd (let z = g.held h in omega (arith, z, free)) };
+      closing = f.closing;
+      holder = f.holder;
+      rowless = f.rowless;
+    };
+  }
+
+  -- what the closing seat is told of the history
+  unfoldable pub whole_of : (id : ℕ) (d : Draws) → get_elem? ds id ≡ some d → d.closing ≡ true → Whole place (sizes_for d.vars d.elements) d.given d.gone
+  whole_of id d at is =
+      let k = ((r.each id d at).closing is).2 in
+      let start_is : sizes_for d.vars d.elements ≡ start = sym k.start_is in record {
+        log = log;
+        legal = subst (λ (z : Sizes). IsLegal z log) k.start_is r.legal;
+        count = sym r.drawn;
+        each = λ i g there. (k.back i g there).2;
+        rows = λ i g there. ap (λ (z : Sizes). (table_after (opening z) log).live g.session) start_is ∙ ap (λ (t : Table). t.live g.session) r.leaves ∙ (k.back i g there).3;
+        beyond = λ p le. (k.later p le).no_entry;
+      }
+
+  -- once all have come back, the other seats have no row
+  pub others_empty : (id : ℕ) (d : Draws) → get_elem? ds id ≡ some d → d.closing ≡ true → AllBack d → (j : ℕ) (e : Draws) → j ≢ id → get_elem? ds j ≡ some e → e.rows ≡ []
+  others_empty id d at is back j e apart here =
+      let fits = (r.each id d at).closing is in
+      let k = fits.2 in
+      let no_seat : (p : ℕ) → r.seat p ≡ none = λ p. dite (dec_lt p d.given)
+      (λ below. let b = back p below in ap r.seat (sym b.3) ∙ (k.back b.0 b.1 b.2).1)
+      (λ above. (k.later p (omega (arith, above))).no_seat) in
+      let dead : e.live ≡ false = not_true e.live (λ l. some-ne-none j (sym (mine j e here l).seated ∙ no_seat e.session)) in
+      let other : e.closing ≡ false = not_true e.closing (λ c. apart (((r.each j e here).closing c).1 ∙ sym fits.1)) in
+      (r.each j e here).rowless dead other
