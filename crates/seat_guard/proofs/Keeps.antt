@@ -1,41 +1,36 @@
 -- Each step keeps the rule.
-use Rattle.std.proofs.Common.{◌≡◌, ◌≢◌, ◌⊎◌, ℕ, zero, suc, ◌+◌, ◌*◌, ◌%◌, ◌^◌, ◌<◌, ◌≤◌, ◌==◌, Bool, true, false, List, [], ◌∷◌, ◌++◌, map, length, get_or, set, refl, ap, sym, subst, ap₂, ◌∙◌, ⊎_elim, inl, inr, arith, length-append, length-set, get_or-set_other, get_or-set_same, eq-eqb, ne_eqb, true≢false}
+use Rattle.std.proofs.Common.{◌≡◌, ◌≢◌, ℕ, zero, suc, ◌+◌, ◌*◌, ◌%◌, ◌^◌, ◌<◌, ◌≤◌, ◌==◌, true, false, List, [], ◌∷◌, ◌++◌, map, length, get_or, set, refl, ap, sym, subst, ◌∙◌, ⊎_elim, inl, inr, arith, length-set, get_or-set_other, get_or-set_same, eq-eqb, ne_eqb, true≢false}
 use Rattle.std.specs.Prelude as std
 use mathlib.Core.Logic.{dite}
 use mathlib.Core.Option.{Option, none, some, some-injective, some-ne-none}
 use mathlib.Core.List.{map-append}
 use Rattle.std.proofs.Math.Nat.{mod-eq_of_lt}
-use native.Mathlib.Decide.{ℕ_discrete, dec_lt}
+use native.Mathlib.Decide.{ℕ_discrete}
 use lib.ListN.{get_elem?}
 use lib.Seq.{set-get_or, map-set}
 use prog.Atomic.{either}
 use Rattle.atomic_table.specs.Table.{State, Me, step, keeps, takes, gives, stepped, Allows, Splits, Joins}
-use Rattle.atomic_table.proofs.Lists.{at_set, set_again, at_map, at_snoc, set_here, set_else}
-use Rattle.function_laws.specs.declared.history.Name.{Name}
+use Rattle.atomic_table.proofs.Lists.{set_again, at_map, set_here, set_else}
 use Rattle.function_laws.specs.declared.history.Function.{Function}
 use Rattle.function_laws.specs.declared.history.Entry.{Entry}
 use Rattle.function_laws.specs.Tables.{Table, Sizes, opening}
-use Rattle.function_laws.specs.Steps.{IsAllowed, after}
-use Rattle.function_laws.specs.Histories.{IsLegal, table_after}
-use Rattle.function_laws.proofs.HistoryLemmas.{table_after-push, IsLegal-push}
+use Rattle.function_laws.specs.Steps.{after}
 use Rattle.seat_guard.specs.declared.view.Held.{Held}
-use Rattle.seat_guard.specs.declared.view.Row.{Row}
 use Rattle.seat_guard.specs.declared.view.Telling.{Telling}
 use Rattle.seat_guard.specs.declared.view.Gone.{Gone}
 use Rattle.seat_guard.specs.declared.view.Draws.{Draws}
 use Rattle.seat_guard.specs.declared.view.View.{View}
-use Rattle.seat_guard.specs.Views.{told_of, MayTell, Agrees, stands_for, cell_in, sizes_for, viewed, blank, session_of, holding, letting_go, gone_of, with_gone, one_more, orders_of}
-use Rattle.function_laws.specs.SessionEntries.{Each, entries_of, entry}
+use Rattle.seat_guard.specs.Views.{told_of, MayTell, cell_in, sizes_for, viewed, blank, session_of, holding, letting_go, with_gone, one_more}
+use Rattle.function_laws.specs.SessionEntries.{Each, entry}
 use Rattle.function_laws.specs.Sizes.{Orders}
 use Rattle.function_laws.specs.EntryOrders.{opening_orders, orders_after, orders_from}
 use Rattle.function_laws.proofs.OrderLemmas.{orders_from-append}
-use Rattle.seat_guard.specs.Journal.{LiveFits, IsUnused, ClosingFits, Fits, Journal}
-use Rattle.seat_guard.specs.Turn.{Has, IsKeptCell, KeepsRows, Serves, IsHome, Turn, one_if, row_count, held_count, cells_count, all_count}
-use Rattle.seat_guard.specs.Rule.{Rule, AllBack, Ends, ended, took, gave, drew, Whole, closed}
-use Rattle.function_laws.proofs.SessionEntryLemmas.{put_at, put_here, put_else, entries_same, entries_other, places_low, short}
-use Rattle.function_laws.proofs.ApartLemmas.{after_apart}
+use Rattle.seat_guard.specs.Journal.{Fits, Journal}
+use Rattle.seat_guard.specs.Turn.{IsKeptCell, KeepsRows, Serves, Turn, row_count, cells_count}
+use Rattle.seat_guard.specs.Rule.{Rule, AllBack, ended, took, gave, drew, closed}
+use Rattle.function_laws.proofs.SessionEntryLemmas.{places_low, short}
 use Rattle.seat_guard.proofs.RowCounts.{at_end, each_set, not_true, row_count-append, all_count-set, all_count-same, all_count-append, all_count-only}
-use Rattle.seat_guard.proofs.Journals.{mine, one_holder, held_turn, takes_it, gives_it, draws_it, splits_it, joins_it, turns, whole_of, others_empty}
+use Rattle.seat_guard.proofs.Journals.{one_holder, held_turn, takes_it, gives_it, draws_it, splits_it, joins_it, turns, whole_of, others_empty}
 use Rattle.seat_guard.proofs.Turns.{finds_it, away_with, comes_home, draws_away, IsAsBefore, stays_so}
 
 abbrev St : Type 0 → Type 0

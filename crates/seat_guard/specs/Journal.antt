@@ -3,21 +3,14 @@ use Rattle.std.specs.Prelude.{◌≡◌, ◌≢◌, ℕ, suc, ◌+◌, ◌==◌,
 use Rattle.std.specs.Prelude as std
 use mathlib.Core.Option.{Option, none, some}
 use lib.ListN.{get_elem?}
-use Rattle.atomic_table.specs.Table.{State, Me, Step}
 use Rattle.function_laws.specs.declared.history.Name.{Name}
 use Rattle.function_laws.specs.declared.history.Entry.{Entry}
 use Rattle.function_laws.specs.Tables.{Table, Sizes, opening}
 use Rattle.function_laws.specs.Histories.{IsLegal, table_after}
-use Rattle.function_laws.specs.SessionEntries.{Each, entries_of}
-use Rattle.function_laws.specs.Sizes.{Orders}
-use Rattle.function_laws.specs.EntryOrders.{opening_orders, orders_from}
-use Rattle.seat_guard.specs.declared.view.Held.{Held}
-use Rattle.seat_guard.specs.declared.view.Row.{Row}
-use Rattle.seat_guard.specs.declared.view.Telling.{Telling}
+use Rattle.function_laws.specs.SessionEntries.{entries_of}
 use Rattle.seat_guard.specs.declared.view.Gone.{Gone}
 use Rattle.seat_guard.specs.declared.view.Draws.{Draws}
-use Rattle.seat_guard.specs.declared.view.View.{View}
-use Rattle.seat_guard.specs.Views.{Agrees, sizes_for, cell_in, stands_for, told_of, holding, letting_go, orders_of}
+use Rattle.seat_guard.specs.Views.{Agrees, sizes_for, stands_for}
 
 -- what the rule says of a live seat, and of the closing one
 pub record LiveFits (turn : ℕ) (log : List Entry) (t : Table) (seat : ℕ → Option ℕ) (id : ℕ) (d : Draws) : Type 0 where

@@ -1,23 +1,15 @@
 -- The part of the turn: what all share is in its slot, or who has it knows the rows of all others.
 use Rattle.std.specs.Prelude.{◌≡◌, ◌≢◌, ℕ, suc, ◌+◌, ◌==◌, ◌^◌, ◌<◌, ◌≤◌, List, [], ◌∷◌, map, length, slice_index, Bool, true, false, All}
 use Rattle.std.specs.Prelude as std
-use mathlib.Core.Option.{Option, none, some}
+use mathlib.Core.Option.{Option, some}
 use lib.ListN.{get_elem?}
-use Rattle.atomic_table.specs.Table.{State, Me, Step}
-use Rattle.function_laws.specs.declared.history.Name.{Name}
-use Rattle.function_laws.specs.declared.history.Entry.{Entry}
-use Rattle.function_laws.specs.Tables.{Table, Sizes, opening}
-use Rattle.function_laws.specs.Histories.{IsLegal, table_after}
-use Rattle.function_laws.specs.SessionEntries.{Each, entries_of}
+use Rattle.function_laws.specs.Tables.{Table}
+use Rattle.function_laws.specs.SessionEntries.{Each}
 use Rattle.function_laws.specs.Sizes.{Orders}
-use Rattle.function_laws.specs.EntryOrders.{opening_orders, orders_from}
 use Rattle.seat_guard.specs.declared.view.Held.{Held}
 use Rattle.seat_guard.specs.declared.view.Row.{Row}
-use Rattle.seat_guard.specs.declared.view.Telling.{Telling}
-use Rattle.seat_guard.specs.declared.view.Gone.{Gone}
 use Rattle.seat_guard.specs.declared.view.Draws.{Draws}
-use Rattle.seat_guard.specs.declared.view.View.{View}
-use Rattle.seat_guard.specs.Views.{Agrees, sizes_for, cell_in, stands_for, told_of, holding, letting_go, orders_of}
+use Rattle.seat_guard.specs.Views.{cell_in, orders_of}
 
 -- the list has this edge with this function
 abbrev pub Has : List Held → Held → Type 0

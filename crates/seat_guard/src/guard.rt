@@ -97,11 +97,7 @@ impl<S: Content> Guard<S> {
         ensures gave { known pass.new ≡ letting_go (known pass.old) }
         ensures hand { in_hand pass.new ≡ [] }
     {
-        match self
-            .table
-            .shared
-            .exchange(&mut pass.seat, 0, Some(content))
-        {
+        match self.table.shared.exchange(&mut pass.seat, 0, Some(content)) {
             None => {}
             Some(_) => unreachable!(),
         }

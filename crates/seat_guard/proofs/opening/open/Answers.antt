@@ -1,5 +1,4 @@
-use Rattle.std.proofs.Common.{subst, sym, ◌∷◌, [], map, Some, ap, ◌∙◌, ◌++◌, refl, List}
-use Rattle.std.specs.Prelude as std
+use Rattle.std.proofs.Common.{subst, sym, ◌∷◌, [], map, Some, ap, ◌∙◌, ◌++◌, refl}
 use mathlib.Core.Option.{some}
 use Rattle.seat_guard.specs.Rule.{Rule}
 use Rattle.seat_guard.specs.Views.{viewed, closing_of}
