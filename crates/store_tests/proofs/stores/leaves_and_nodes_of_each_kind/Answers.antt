@@ -3,8 +3,8 @@ use Rattle.std.proofs.lemmas.List.FromFn.{length-range_with_len}
 use Rattle.edge_bits.specs.declared.edges.Kind.TheVariants.{Add, Zdd}
 use Rattle.node_slots.specs.Stores.{plain_view}
 use Rattle.node_store.specs.ViewLaws.{Denotes-grown, Grown-trans, Is-from, Is-grown, Permanent-grown}
-use Rattle.truth_tests.proofs.StoreLemmas.{can_make_numbers, can_make_single, denotes_zero}
-use Rattle.truth_tests.proofs.stores.leaves_and_nodes_of_each_kind.Goals as goal
+use Rattle.store_tests.proofs.StoreLemmas.{can_make_numbers, can_make_single, denotes_zero}
+use Rattle.store_tests.proofs.stores.leaves_and_nodes_of_each_kind.Goals as goal
 
 pub make-requires : goal.make-requires
 make-requires g c =

@@ -1,6 +1,6 @@
 use Rattle.edge_bits.specs.declared.edges.Kind.TheVariants.{Add}
 use Rattle.node_store.specs.ViewLaws.{Grown-trans, Is-from, Is-grown}
-use Rattle.truth_tests.proofs.numbers.lists.half_of.Goals as goal
+use Rattle.store_tests.proofs.bounds.half_of.Goals as goal
 
 pub returns-in_err-hi-clause-grown : goal.returns-in_err-hi-clause-grown
 returns-in_err-hi-clause-grown c = Grown-trans c.leaf_of.ensures.grown c.leaf_of-2.ensures.grown

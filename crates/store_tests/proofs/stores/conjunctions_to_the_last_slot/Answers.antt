@@ -3,8 +3,8 @@ use Rattle.std.proofs.lemmas.List.FromFn.{length-range_with_len}
 use Rattle.edge_bits.specs.declared.edges.Kind.TheVariants.{Bdd}
 use Rattle.node_slots.specs.Stores.{plain_view}
 use Rattle.node_store.specs.ViewLaws.{Is-from}
-use Rattle.truth_tests.proofs.StoreLemmas.{grown_on, is_projection}
-use Rattle.truth_tests.proofs.stores.conjunctions_to_the_last_slot.Goals as goal
+use Rattle.store_tests.proofs.StoreLemmas.{grown_on, is_projection}
+use Rattle.store_tests.proofs.stores.conjunctions_to_the_last_slot.Goals as goal
 
 pub and-requires : goal.and-requires
 and-requires g c =

@@ -2,8 +2,8 @@ use Rattle.std.proofs.Common.{◌≡◌, arith}
 use Rattle.edge_bits.specs.declared.edges.Kind.TheVariants.{Add}
 use Rattle.node_slots.specs.Stores.{plain_view}
 use Rattle.node_store.specs.ViewLaws.{Grown-trans, Is-from, Is-grown}
-use Rattle.truth_tests.proofs.StoreLemmas.{is_projection}
-use Rattle.truth_tests.proofs.numbers.lists.choice_of.Goals as goal
+use Rattle.store_tests.proofs.StoreLemmas.{is_projection}
+use Rattle.store_tests.proofs.bounds.choice_of.Goals as goal
 
 pub add_ite-requires : goal.add_ite-requires
 add_ite-requires c =

@@ -1,6 +1,6 @@
 use Rattle.edge_bits.specs.declared.edges.Kind.TheVariants.{Add}
 use Rattle.node_store.specs.ViewLaws.{Grown-trans, Is-grown}
-use Rattle.truth_tests.proofs.numbers.lists.edge_of.Goals as goal
+use Rattle.store_tests.proofs.bounds.edge_of.Goals as goal
 
 pub returns-in_err-high-clause-grown : goal.returns-in_err-high-clause-grown
 returns-in_err-high-clause-grown c = Grown-trans c.half_of.ensures.grown c.half_of-2.ensures.grown

@@ -1,0 +1,400 @@
+//! Cases of functions of numbers of two variables. Those of one variable do not depend on the second.
+
+ghost use Rattle.std.specs.Prelude.{◌<◌};
+
+use crate::cases::show;
+use crate::digits::Digit;
+use crate::jobs::{Due, Job, Reply};
+use crate::oracles::{Oracles, Tally};
+use crate::registers::{Register, choices};
+use crate::{lists, words};
+use edge_bits::Memory;
+use std::alloc::{AllocError, Global};
+use std::collections::BTreeMap;
+use std::io;
+use std::sync::Wait;
+use std::thread::Threads;
+
+/// The values of a function at the four assignments.
+type Values = [i64; 4];
+
+/// The least value of a function.
+const LEAST: i64 = -70_368_744_177_664;
+
+/// The greatest.
+const GREATEST: i64 = 70_368_744_177_663;
+
+/// The values of the functions of one variable: the ends of the range, and what is near zero.
+const OF_ONE: [i64; 5] = [LEAST, -3, 0, 2, GREATEST];
+
+/// The values of the functions of two variables.
+const OF_TWO: [i64; 5] = [LEAST, -1, 0, 1, GREATEST];
+
+/// How many functions of one variable have five values, and how many of two.
+const FUNCTIONS_OF_ONE: usize = 25;
+
+const FUNCTIONS_OF_TWO: usize = 625;
+
+/// What values are compared with.
+const BOUNDS: [i64; 4] = [LEAST, 0, 1, GREATEST];
+
+/// How far the second function stands from the first in a choice; no divisor of the number of functions.
+const STEP: usize = 277;
+
+/// A function of one variable, by its number.
+fn of_one(number: usize) -> Values {
+    let (without, with) = (OF_ONE[number % 5], OF_ONE[number / 5 % 5]);
+    [without, with, without, with]
+}
+
+/// A function of two variables, by its number.
+fn of_two(number: usize) -> Values {
+    [
+        OF_TWO[number % 5],
+        OF_TWO[number / 5 % 5],
+        OF_TWO[number / 25 % 5],
+        OF_TWO[number / 125 % 5],
+    ]
+}
+
+/// An operation on the values of two functions at one place.
+#[derive(Clone, Copy)]
+enum Operation {
+    Plus,
+    Minus,
+    Times,
+    Min,
+    Max,
+    Threshold,
+}
+
+impl Operation {
+    /// Its word.
+    fn word(self) -> &'static str {
+        match self {
+            Operation::Plus => "plus",
+            Operation::Minus => "minus",
+            Operation::Times => "times",
+            Operation::Min => "min",
+            Operation::Max => "max",
+            Operation::Threshold => "threshold",
+        }
+    }
+
+    /// The value that it gives, whatever its range.
+    fn of(self, a: i64, b: i64) -> i128 {
+        match self {
+            Operation::Plus => i128::from(a) + i128::from(b),
+            Operation::Minus => i128::from(a) - i128::from(b),
+            Operation::Times => i128::from(a) * i128::from(b),
+            Operation::Min => i128::from(a.min(b)),
+            Operation::Max => i128::from(a.max(b)),
+            Operation::Threshold => i128::from(if a >= b { a } else { 0 }),
+        }
+    }
+
+    /// The values that it gives of two functions.
+    fn at_each_place(self, [a, b, c, d]: Values, [e, f, g, h]: Values) -> [i128; 4] {
+        [self.of(a, e), self.of(b, f), self.of(c, g), self.of(d, h)]
+    }
+}
+
+/// A command on functions of numbers. Truth functions go by number.
+#[derive(Clone, Copy)]
+enum Command {
+    Pointwise(Operation, Values, Values),
+    Sum(Values, u32),
+    OfTruth(u8),
+    AddIte(u8, Values, Values),
+    AtLeast(Values, i64),
+    Pattern(Values),
+}
+
+/// What a command is to make.
+#[derive(Clone, Copy)]
+enum Made {
+    Numbers(Values),
+    Truth(u8),
+    /// Nothing, since some value is out of range.
+    Overflow,
+    /// There is no plain call on lists for it.
+    Unsaid,
+}
+
+impl Made {
+    /// What has these exact values.
+    fn of(values: [i128; 4]) -> Made {
+        match values.map(words::in_range) {
+            [Some(a), Some(b), Some(c), Some(d)] => Made::Numbers([a, b, c, d]),
+            _ => Made::Overflow,
+        }
+    }
+}
+
+impl Command {
+    /// What is due by the plain calls on lists.
+    fn by_lists(self, alloc: Global) -> Result<Made, Memory> {
+        let values = match self {
+            Command::Pointwise(Operation::Plus, f, g) => lists::plus(alloc, f, g)?,
+            Command::Sum(f, variable) if variable < 2 => lists::sum(alloc, f, variable)?,
+            _ => return Ok(Made::Unsaid),
+        };
+        match values.as_deref() {
+            Some([a, b, c, d]) => Ok(Made::Numbers([*a, *b, *c, *d])),
+            Some(_) => Ok(Made::Unsaid),
+            None => Ok(Made::Overflow),
+        }
+    }
+
+    /// What is due by arithmetic on words.
+    fn by_words(self) -> Made {
+        match self {
+            Command::Pointwise(operation, f, g) => Made::of(operation.at_each_place(f, g)),
+            Command::Sum(f, variable) => Made::of(words::sum(f, variable)),
+            Command::OfTruth(c) => Made::Numbers(words::choice(c, [1; 4], [0; 4])),
+            Command::AddIte(c, f, g) => Made::Numbers(words::choice(c, f, g)),
+            Command::AtLeast(f, bound) => Made::Truth(words::truth(f.map(|value| value >= bound))),
+            Command::Pattern(f) => Made::Truth(words::truth(f.map(|value| value != 0))),
+        }
+    }
+
+    /// What is due by both.
+    fn made(self, alloc: Global) -> Result<Oracles<Made>, AllocError> {
+        let Ok(lists) = self.by_lists(alloc) else {
+            return Err(AllocError);
+        };
+        Ok(Oracles {
+            lists,
+            words: self.by_words(),
+        })
+    }
+}
+
+/// A job, and the functions of numbers that have registers in it.
+#[derive(Drop)]
+struct Functions {
+    job: Job,
+    registers: BTreeMap<Values, Register>,
+}
+
+impl Functions {
+    /// A job of two variables without functions of numbers.
+    fn new(alloc: Global) -> Result<Functions, AllocError> {
+        let mut job = Job::new(alloc, "vars 2", 10_000)?;
+        job.tell(&"v0 = var 0")?;
+        job.tell(&"v1 = var 1")?;
+        Ok(Functions {
+            job,
+            registers: BTreeMap::new(alloc),
+        })
+    }
+
+    /// A job in which registers c0 to c15 have all truth functions.
+    fn with_truths(alloc: Global) -> Result<Functions, AllocError> {
+        let mut functions = Functions::new(alloc)?;
+        functions.job.tell(&"a0 = false")?;
+        functions.job.tell(&"a1 = true")?;
+        choices(&mut functions.job, Digit::First, 'a', 2, 'b')?;
+        choices(&mut functions.job, Digit::Second, 'b', 4, 'c')?;
+        Ok(functions)
+    }
+
+    /// The register of a function. It is added to the job if it has none yet.
+    fn register(&mut self, values: Values) -> Result<Register, AllocError> {
+        if let Some(register) = self.registers.get(&values) {
+            return Ok(*register);
+        }
+        let register = Register::new('n', self.registers.len());
+        let [a, b, c, d] = values;
+        let job = &mut self.job;
+        job.tell(&format_args!("{register}a = num {a}"))?;
+        job.tell(&format_args!("{register}b = num {b}"))?;
+        job.tell(&format_args!("{register}c = num {c}"))?;
+        job.tell(&format_args!("{register}d = num {d}"))?;
+        job.tell(&format_args!("{register}low = addite v0 {register}b {register}a"))?;
+        job.tell(&format_args!("{register}high = addite v0 {register}d {register}c"))?;
+        job.tell(&format_args!("{register} = addite v1 {register}high {register}low"))?;
+        self.registers.insert(values, register)?;
+        Ok(register)
+    }
+
+    /// What is due, in registers.
+    fn due(&mut self, made: Made) -> Result<Due, AllocError> {
+        Ok(match made {
+            Made::Numbers(values) => Due::Function(self.register(values)?),
+            Made::Truth(number) => Due::Function(Register::new('c', usize::from(number))),
+            Made::Overflow => Due::Overflow,
+            Made::Unsaid => Due::Unsaid,
+        })
+    }
+
+    /// Adds a command, and asks for what it is to make.
+    fn add(&mut self, command: Command, made: Oracles<Made>) -> Result<(), AllocError> {
+        let due = Oracles {
+            lists: self.due(made.lists)?,
+            words: self.due(made.words)?,
+        };
+        let alloc = self.job.alloc();
+        let line = match command {
+            Command::Pointwise(operation, f, g) => {
+                let (f, g) = (self.register(f)?, self.register(g)?);
+                format!(in alloc; "{} {f} {g}", operation.word())?
+            }
+            Command::Sum(f, variable) => {
+                let f = self.register(f)?;
+                format!(in alloc; "sum {f} {variable}")?
+            }
+            Command::OfTruth(c) => format!(in alloc; "ofbdd c{c}")?,
+            Command::AddIte(c, f, g) => {
+                let (f, g) = (self.register(f)?, self.register(g)?);
+                format!(in alloc; "addite c{c} {f} {g}")?
+            }
+            Command::AtLeast(f, bound) => {
+                let f = self.register(f)?;
+                format!(in alloc; "atleast {f} {bound}")?
+            }
+            Command::Pattern(f) => {
+                let f = self.register(f)?;
+                format!(in alloc; "pattern {f}")?
+            }
+        };
+        self.job.make(&line, due)?;
+        Ok(())
+    }
+
+    /// Asks for the value of a function at an assignment.
+    fn ask(&mut self, values: Values, place: usize) -> Result<(), AllocError>
+        requires { place < 4 }
+    {
+        let register = self.register(values)?;
+        let due = Oracles {
+            lists: None,
+            words: Some(Reply::Value(values[place])),
+        };
+        let (first, second) = (place % 2, place / 2);
+        self.job
+            .ask(&format_args!("eval {register} {first}{second}"), due)
+    }
+}
+
+/// Prints how many cases of functions of numbers are as due.
+pub fn print<R: Print + Threads + Wait>(rt: &R, alloc: Global) -> io::Result<()> {
+    values(rt, alloc)?;
+    of_one_variable(rt, alloc)?;
+    of_two_variables(rt, alloc)
+}
+
+/// Asks for each value of each function of two variables.
+fn values<R: Print + Threads + Wait>(rt: &R, alloc: Global) -> io::Result<()> {
+    let mut functions = Functions::new(alloc)?;
+    for case in 0..4 * FUNCTIONS_OF_TWO {
+        functions.ask(of_two(case / 4), case % 4)?;
+    }
+    show(
+        rt,
+        "numbers",
+        4 * FUNCTIONS_OF_TWO,
+        functions.job.tally(rt)?,
+    )
+}
+
+/// Each operation on all pairs of functions of one variable.
+fn of_one_variable<R: Print + Threads + Wait>(rt: &R, alloc: Global) -> io::Result<()> {
+    for operation in [
+        Operation::Plus,
+        Operation::Minus,
+        Operation::Times,
+        Operation::Min,
+        Operation::Max,
+        Operation::Threshold,
+    ] {
+        let name = format!(in alloc; "{} of one variable", operation.word())?;
+        tried(
+            rt,
+            alloc,
+            &name,
+            FUNCTIONS_OF_ONE * FUNCTIONS_OF_ONE,
+            |case| {
+                let (f, g) = (of_one(case / FUNCTIONS_OF_ONE), of_one(case));
+                Command::Pointwise(operation, f, g)
+            },
+        )?;
+    }
+    Ok(())
+}
+
+/// Commands on functions of two variables.
+fn of_two_variables<R: Print + Threads + Wait>(rt: &R, alloc: Global) -> io::Result<()> {
+    tried(
+        rt,
+        alloc,
+        "plus",
+        FUNCTIONS_OF_TWO * FUNCTIONS_OF_TWO,
+        |case| {
+            let (f, g) = (of_two(case / FUNCTIONS_OF_TWO), of_two(case));
+            Command::Pointwise(Operation::Plus, f, g)
+        },
+    )?;
+    tried(rt, alloc, "sum", 2 * FUNCTIONS_OF_TWO, |case| {
+        Command::Sum(of_two(case / 2), (case % 2) as u32)
+    })?;
+    tried(
+        rt,
+        alloc,
+        "ofbdd",
+        16,
+        |case| Command::OfTruth((case % 16) as u8),
+    )?;
+    tried(
+        rt,
+        alloc,
+        "pattern",
+        FUNCTIONS_OF_TWO,
+        |case| Command::Pattern(of_two(case)),
+    )?;
+    tried(rt, alloc, "atleast", 4 * FUNCTIONS_OF_TWO, |case| {
+        Command::AtLeast(of_two(case / 4), BOUNDS[case % 4])
+    })?;
+    tried(rt, alloc, "addite", 16 * FUNCTIONS_OF_TWO, |case| {
+        let (f, g) = (of_two(case), of_two(case % FUNCTIONS_OF_TWO + STEP));
+        Command::AddIte((case / FUNCTIONS_OF_TWO % 16) as u8, f, g)
+    })
+}
+
+/// Adds the commands that end well to one job, and plays each of the others, at which a session stops, in a job of its own.
+/// Prints how many are as due.
+fn tried<R: Print + Threads + Wait, F: Fn(usize) -> Command>(
+    rt: &R,
+    alloc: Global,
+    name: &str,
+    cases: usize,
+    command_of: F,
+) -> io::Result<()>
+    requires { F.IsAlwaysCallable command_of }
+{
+    let mut shared = Functions::with_truths(alloc)?;
+    let mut tally = Tally::NONE;
+    for case in 0..cases {
+        let command = command_of(case);
+        let made = command.made(alloc)?;
+        if let (Made::Overflow, _) | (_, Made::Overflow) = (made.lists, made.words) {
+            tally.add(alone(rt, alloc, command, made)?);
+        } else {
+            shared.add(command, made)?;
+        }
+    }
+    tally.add(shared.job.tally(rt)?);
+    show(rt, name, cases, tally)
+}
+
+/// Plays a command in a job of its own.
+fn alone<R: Threads + Wait>(
+    rt: &R,
+    alloc: Global,
+    command: Command,
+    made: Oracles<Made>,
+) -> Result<Tally, AllocError> {
+    let mut functions = Functions::new(alloc)?;
+    functions.add(command, made)?;
+    functions.job.tally(rt)
+}
