@@ -178,9 +178,9 @@ struct Functions {
 }
 
 impl Functions {
-    /// A job of two variables without functions of numbers.
-    fn new(alloc: Global) -> Result<Functions, AllocError> {
-        let mut job = Job::new(alloc, "vars 2", 10_000)?;
+    /// A job of two variables and so many slots, without functions of numbers.
+    fn new(alloc: Global, limit: u32) -> Result<Functions, AllocError> {
+        let mut job = Job::new(alloc, "vars 2", limit)?;
         job.tell(&"v0 = var 0")?;
         job.tell(&"v1 = var 1")?;
         Ok(Functions {
@@ -191,7 +191,7 @@ impl Functions {
 
     /// A job in which registers c0 to c15 have all truth functions.
     fn with_truths(alloc: Global) -> Result<Functions, AllocError> {
-        let mut functions = Functions::new(alloc)?;
+        let mut functions = Functions::new(alloc, 10_000)?;
         functions.job.tell(&"a0 = false")?;
         functions.job.tell(&"a1 = true")?;
         choices(&mut functions.job, Digit::First, 'a', 2, 'b')?;
@@ -286,7 +286,7 @@ pub fn print<R: Print + Threads + Wait>(rt: &R, alloc: Global) -> io::Result<()>
 
 /// Asks for each value of each function of two variables.
 fn values<R: Print + Threads + Wait>(rt: &R, alloc: Global) -> io::Result<()> {
-    let mut functions = Functions::new(alloc)?;
+    let mut functions = Functions::new(alloc, 10_000)?;
     for case in 0..4 * FUNCTIONS_OF_TWO {
         functions.ask(of_two(case / 4), case % 4)?;
     }
@@ -394,7 +394,7 @@ fn alone<R: Threads + Wait>(
     command: Command,
     made: Oracles<Made>,
 ) -> Result<Tally, AllocError> {
-    let mut functions = Functions::new(alloc)?;
+    let mut functions = Functions::new(alloc, 64)?;
     functions.add(command, made)?;
     functions.job.tally(rt)
 }
