@@ -108,10 +108,7 @@ pub fn for_values<R: Print + Threads + Wait>(
 ) -> io::Result<()> {
     tell(rt, job, name, 8 * FUNCTIONS, |job, case| {
         let ([number, ..], place) = ((case / 8).to_le_bytes(), (case % 8) as u8);
-        let due = Oracles {
-            lists: None,
-            words: Some(Reply::Value(i64::from(number >> place & 1))),
-        };
+        let due = Oracles::by_words(Reply::Value(i64::from(number >> place & 1)));
         job.ask(&format_args!("eval {table}{number} {}", Bits(place)), due)
     })
 }
@@ -134,5 +131,9 @@ pub fn tell<R: Print + Threads + Wait, F: Fn(&mut Job, usize) -> Result<(), Allo
 
 /// Prints how many cases are as due.
 pub fn show<R: Print>(rt: &R, name: &str, cases: usize, tally: Tally) -> io::Result<()> {
-    println!(rt; "{name}: {}", tally.of(cases))
+    let words = tally.words;
+    match tally.lists {
+        Some(lists) => println!(rt; "{name}: {lists} of {cases} by lists, {words} by words"),
+        None => println!(rt; "{name}: {words} of {cases} by words"),
+    }
 }

@@ -32,6 +32,17 @@ impl Digit {
             Digit::Third => 2,
         }
     }
+
+    /// What it is worth in a place.
+    pub fn weight(self) -> u32
+        ensures { result < 8 }
+    {
+        match self {
+            Digit::First => 1,
+            Digit::Second => 2,
+            Digit::Third => 4,
+        }
+    }
 }
 
 impl Display for Digit {

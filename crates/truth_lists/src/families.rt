@@ -45,16 +45,7 @@ impl cases::Command for Command {
     const TABLE: char = 's';
 
     fn by_lists(&self, alloc: Global) -> Result<u8, Memory> {
-        match *self {
-            Command::Union(p, q) => lists::union(alloc, p, q),
-            Command::Meet(p, q) => lists::meet(alloc, p, q),
-            Command::Diff(p, q) => lists::diff(alloc, p, q),
-            Command::On(p, e) => lists::on(alloc, p, e),
-            Command::Off(p, e) => lists::off(alloc, p, e),
-            Command::Flip(p, e) => lists::flip(alloc, p, e),
-            Command::Product(p, q) => lists::product(alloc, p, q),
-            Command::Quotient(p, q) => lists::quotient(alloc, p, q),
-        }
+        lists::family(alloc, *self)
     }
 
     fn by_words(&self) -> u8 {
@@ -62,9 +53,9 @@ impl cases::Command for Command {
             Command::Union(p, q) => p | q,
             Command::Meet(p, q) => p & q,
             Command::Diff(p, q) => p & !q,
-            Command::On(p, e) => words::on(p, e),
-            Command::Off(p, e) => words::off(p, e),
-            Command::Flip(p, e) => words::flip(p, e),
+            Command::On(p, e) => words::down(p, e),
+            Command::Off(p, e) => p & !words::with(e),
+            Command::Flip(p, e) => words::down(p, e) | words::up(p, e),
             Command::Product(p, q) => words::product(p, q),
             Command::Quotient(p, q) => words::quotient(p, q),
         }

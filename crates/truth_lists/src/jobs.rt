@@ -112,17 +112,11 @@ impl Job {
         };
         self.ask(&format_args!("{made} = {command}"), replies)?;
         if let Due::Function(register) = due.lists {
-            let due = Oracles {
-                lists: Some(Reply::Yes),
-                words: None,
-            };
+            let due = Oracles::by_lists(Reply::Yes);
             self.ask(&format_args!("same {made} {register}"), due)?;
         }
         if let Due::Function(register) = due.words {
-            let due = Oracles {
-                lists: None,
-                words: Some(Reply::Yes),
-            };
+            let due = Oracles::by_words(Reply::Yes);
             self.ask(&format_args!("same {made} {register}"), due)?;
         }
         Ok(made)

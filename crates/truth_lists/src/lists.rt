@@ -5,7 +5,12 @@ ghost use Rattle.std.specs.Prelude.{◌≡◌, ◌<◌, All, length, IfOk, IsTru
 ghost use Rattle.function_laws.specs.Lists.{is_size};
 
 use crate::digits::{DIGITS, Digit};
+use crate::families::Command;
 use edge_bits::Memory;
+use function_laws::{
+    compose_of, diff_of, exists_of, flip_of, forall_of, ite_of, meet_of, off_of, on_of, plus_of,
+    product_of, quotient_of, restrict_holds, sum_of, union_of,
+};
 use std::alloc::Global;
 
 /// The function that is false everywhere.
@@ -55,7 +60,7 @@ fn projection(variable: Digit) -> u8 {
 
 /// `ite_of` of three functions.
 pub fn ite(alloc: Global, f: u8, g: u8, h: u8) -> Result<u8, Memory> {
-    let values = function_laws::ite_of(alloc, &values_of(f), &values_of(g), &values_of(h))?;
+    let values = ite_of(alloc, &values_of(f), &values_of(g), &values_of(h))?;
     Ok(number_of(&values))
 }
 
@@ -78,7 +83,7 @@ pub fn leq(alloc: Global, f: u8, g: u8) -> Result<bool, Memory> {
 /// `compose_of`.
 #[tactic(auto, using(crate::proofs::EightLemmas::variable_of_eight))]
 pub fn compose(alloc: Global, f: u8, variable: Digit, g: u8) -> Result<u8, Memory> {
-    let values = function_laws::compose_of(alloc, &values_of(f), variable.number(), &values_of(g))?;
+    let values = compose_of(alloc, &values_of(f), variable.number(), &values_of(g))?;
     Ok(number_of(&values))
 }
 
@@ -94,7 +99,7 @@ pub fn compose_both(alloc: Global, f: u8, g: u8, h: u8) -> Result<u8, Memory> {
 #[tactic(auto, using(crate::proofs::EightLemmas::variables_of_eight))]
 pub fn exists(alloc: Global, f: u8, variables: &[Digit]) -> Result<u8, Memory> {
     let variables = numbers_of(alloc, variables)?;
-    let values = function_laws::exists_of(alloc, &values_of(f), &variables)?;
+    let values = exists_of(alloc, &values_of(f), &variables)?;
     Ok(number_of(&values))
 }
 
@@ -102,7 +107,7 @@ pub fn exists(alloc: Global, f: u8, variables: &[Digit]) -> Result<u8, Memory> {
 #[tactic(auto, using(crate::proofs::EightLemmas::variables_of_eight))]
 pub fn forall(alloc: Global, f: u8, variables: &[Digit]) -> Result<u8, Memory> {
     let variables = numbers_of(alloc, variables)?;
-    let values = function_laws::forall_of(alloc, &values_of(f), &variables)?;
+    let values = forall_of(alloc, &values_of(f), &variables)?;
     Ok(number_of(&values))
 }
 
@@ -121,63 +126,28 @@ pub fn support(alloc: Global, f: u8) -> Result<u8, Memory> {
 
 /// `restrict_holds`.
 pub fn restricts(f: u8, c: u8, r: u8) -> bool {
-    function_laws::restrict_holds(&values_of(f), &values_of(c), &values_of(r))
+    restrict_holds(&values_of(f), &values_of(c), &values_of(r))
 }
 
-/// `union_of` of two families.
-pub fn union(alloc: Global, p: u8, q: u8) -> Result<u8, Memory> {
-    let members = function_laws::union_of(alloc, &values_of(p), &values_of(q))?;
-    Ok(number_of(&members))
-}
-
-/// `meet_of` of two families.
-pub fn meet(alloc: Global, p: u8, q: u8) -> Result<u8, Memory> {
-    let members = function_laws::meet_of(alloc, &values_of(p), &values_of(q))?;
-    Ok(number_of(&members))
-}
-
-/// `diff_of` of two families.
-pub fn diff(alloc: Global, p: u8, q: u8) -> Result<u8, Memory> {
-    let members = function_laws::diff_of(alloc, &values_of(p), &values_of(q))?;
-    Ok(number_of(&members))
-}
-
-/// `on_of` of a family and an element.
+/// The family that a command is to make.
 #[tactic(auto, using(crate::proofs::EightLemmas::variable_of_eight))]
-pub fn on(alloc: Global, p: u8, element: Digit) -> Result<u8, Memory> {
-    let members = function_laws::on_of(alloc, &values_of(p), element.number())?;
-    Ok(number_of(&members))
-}
-
-/// `off_of` of a family and an element.
-#[tactic(auto, using(crate::proofs::EightLemmas::variable_of_eight))]
-pub fn off(alloc: Global, p: u8, element: Digit) -> Result<u8, Memory> {
-    let members = function_laws::off_of(alloc, &values_of(p), element.number())?;
-    Ok(number_of(&members))
-}
-
-/// `flip_of` of a family and an element.
-#[tactic(auto, using(crate::proofs::EightLemmas::variable_of_eight))]
-pub fn flip(alloc: Global, p: u8, element: Digit) -> Result<u8, Memory> {
-    let members = function_laws::flip_of(alloc, &values_of(p), element.number())?;
-    Ok(number_of(&members))
-}
-
-/// `product_of` of two families.
-pub fn product(alloc: Global, p: u8, q: u8) -> Result<u8, Memory> {
-    let members = function_laws::product_of(alloc, &values_of(p), &values_of(q))?;
-    Ok(number_of(&members))
-}
-
-/// `quotient_of` of two families.
-pub fn quotient(alloc: Global, p: u8, q: u8) -> Result<u8, Memory> {
-    let members = function_laws::quotient_of(alloc, &values_of(p), &values_of(q))?;
+pub fn family(alloc: Global, command: Command) -> Result<u8, Memory> {
+    let members = match command {
+        Command::Union(p, q) => union_of(alloc, &values_of(p), &values_of(q))?,
+        Command::Meet(p, q) => meet_of(alloc, &values_of(p), &values_of(q))?,
+        Command::Diff(p, q) => diff_of(alloc, &values_of(p), &values_of(q))?,
+        Command::On(p, e) => on_of(alloc, &values_of(p), e.number())?,
+        Command::Off(p, e) => off_of(alloc, &values_of(p), e.number())?,
+        Command::Flip(p, e) => flip_of(alloc, &values_of(p), e.number())?,
+        Command::Product(p, q) => product_of(alloc, &values_of(p), &values_of(q))?,
+        Command::Quotient(p, q) => quotient_of(alloc, &values_of(p), &values_of(q))?,
+    };
     Ok(number_of(&members))
 }
 
 /// `plus_of` of the values of two functions of two variables.
 pub fn plus(alloc: Global, f: [i64; 4], g: [i64; 4]) -> Result<Option<Vec<i64>>, Memory> {
-    function_laws::plus_of(alloc, &f, &g)
+    plus_of(alloc, &f, &g)
 }
 
 /// `sum_of` of the values of a function of two variables.
@@ -185,5 +155,5 @@ pub fn plus(alloc: Global, f: [i64; 4], g: [i64; 4]) -> Result<Option<Vec<i64>>,
 pub fn sum(alloc: Global, f: [i64; 4], variable: u32) -> Result<Option<Vec<i64>>, Memory>
     requires { variable < 2 }
 {
-    function_laws::sum_of(alloc, &f, variable)
+    sum_of(alloc, &f, variable)
 }

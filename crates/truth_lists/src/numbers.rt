@@ -30,10 +30,11 @@ const OF_ONE: [i64; 5] = [LEAST, -3, 0, 2, GREATEST];
 /// The values of the functions of two variables.
 const OF_TWO: [i64; 5] = [LEAST, -1, 0, 1, GREATEST];
 
-/// How many functions of one variable have five values, and how many of two.
-const FUNCTIONS_OF_ONE: usize = 25;
+/// How many functions of one variable have the five values.
+const ONES: usize = 25;
 
-const FUNCTIONS_OF_TWO: usize = 625;
+/// How many functions of two variables.
+const TWOS: usize = 625;
 
 /// What values are compared with.
 const BOUNDS: [i64; 4] = [LEAST, 0, 1, GREATEST];
@@ -267,10 +268,7 @@ impl Functions {
         requires { place < 4 }
     {
         let register = self.register(values)?;
-        let due = Oracles {
-            lists: None,
-            words: Some(Reply::Value(values[place])),
-        };
+        let due = Oracles::by_words(Reply::Value(values[place]));
         let (first, second) = (place % 2, place / 2);
         self.job
             .ask(&format_args!("eval {register} {first}{second}"), due)
@@ -287,15 +285,10 @@ pub fn print<R: Print + Threads + Wait>(rt: &R, alloc: Global) -> io::Result<()>
 /// Asks for each value of each function of two variables.
 fn values<R: Print + Threads + Wait>(rt: &R, alloc: Global) -> io::Result<()> {
     let mut functions = Functions::new(alloc, 10_000)?;
-    for case in 0..4 * FUNCTIONS_OF_TWO {
+    for case in 0..4 * TWOS {
         functions.ask(of_two(case / 4), case % 4)?;
     }
-    show(
-        rt,
-        "numbers",
-        4 * FUNCTIONS_OF_TWO,
-        functions.job.tally(rt)?,
-    )
+    show(rt, "numbers", 4 * TWOS, functions.job.tally(rt)?)
 }
 
 /// Each operation on all pairs of functions of one variable.
@@ -309,55 +302,35 @@ fn of_one_variable<R: Print + Threads + Wait>(rt: &R, alloc: Global) -> io::Resu
         Operation::Threshold,
     ] {
         let name = format!(in alloc; "{} of one variable", operation.word())?;
-        tried(
-            rt,
-            alloc,
-            &name,
-            FUNCTIONS_OF_ONE * FUNCTIONS_OF_ONE,
-            |case| {
-                let (f, g) = (of_one(case / FUNCTIONS_OF_ONE), of_one(case));
-                Command::Pointwise(operation, f, g)
-            },
-        )?;
+        tried(rt, alloc, &name, ONES * ONES, |case| {
+            let (f, g) = (of_one(case / ONES), of_one(case));
+            Command::Pointwise(operation, f, g)
+        })?;
     }
     Ok(())
 }
 
 /// Commands on functions of two variables.
 fn of_two_variables<R: Print + Threads + Wait>(rt: &R, alloc: Global) -> io::Result<()> {
-    tried(
-        rt,
-        alloc,
-        "plus",
-        FUNCTIONS_OF_TWO * FUNCTIONS_OF_TWO,
-        |case| {
-            let (f, g) = (of_two(case / FUNCTIONS_OF_TWO), of_two(case));
-            Command::Pointwise(Operation::Plus, f, g)
-        },
-    )?;
-    tried(rt, alloc, "sum", 2 * FUNCTIONS_OF_TWO, |case| {
+    tried(rt, alloc, "plus", TWOS * TWOS, |case| {
+        let (f, g) = (of_two(case / TWOS), of_two(case));
+        Command::Pointwise(Operation::Plus, f, g)
+    })?;
+    tried(rt, alloc, "sum", 2 * TWOS, |case| {
         Command::Sum(of_two(case / 2), (case % 2) as u32)
     })?;
-    tried(
-        rt,
-        alloc,
-        "ofbdd",
-        16,
-        |case| Command::OfTruth((case % 16) as u8),
-    )?;
-    tried(
-        rt,
-        alloc,
-        "pattern",
-        FUNCTIONS_OF_TWO,
-        |case| Command::Pattern(of_two(case)),
-    )?;
-    tried(rt, alloc, "atleast", 4 * FUNCTIONS_OF_TWO, |case| {
+    tried(rt, alloc, "ofbdd", 16, |case| {
+        Command::OfTruth((case % 16) as u8)
+    })?;
+    tried(rt, alloc, "pattern", TWOS, |case| {
+        Command::Pattern(of_two(case))
+    })?;
+    tried(rt, alloc, "atleast", 4 * TWOS, |case| {
         Command::AtLeast(of_two(case / 4), BOUNDS[case % 4])
     })?;
-    tried(rt, alloc, "addite", 16 * FUNCTIONS_OF_TWO, |case| {
-        let (f, g) = (of_two(case), of_two(case % FUNCTIONS_OF_TWO + STEP));
-        Command::AddIte((case / FUNCTIONS_OF_TWO % 16) as u8, f, g)
+    tried(rt, alloc, "addite", 16 * TWOS, |case| {
+        let (f, g) = (of_two(case), of_two(case % TWOS + STEP));
+        Command::AddIte((case / TWOS % 16) as u8, f, g)
     })
 }
 

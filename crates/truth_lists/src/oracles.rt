@@ -1,8 +1,5 @@
 //! The two oracles, plain calls on lists of values and arithmetic on machine words, and how often each was met.
 
-use std::fmt;
-use std::fmt::Display;
-
 /// What each of the two says.
 #[derive(Clone, Copy)]
 pub struct Oracles<T> {
@@ -10,12 +7,30 @@ pub struct Oracles<T> {
     pub words: T,
 }
 
+impl<T> Oracles<Option<T>> {
+    /// What the lists alone say.
+    pub fn by_lists(said: T) -> Oracles<Option<T>> {
+        Oracles {
+            lists: Some(said),
+            words: None,
+        }
+    }
+
+    /// What the words alone say.
+    pub fn by_words(said: T) -> Oracles<Option<T>> {
+        Oracles {
+            lists: None,
+            words: Some(said),
+        }
+    }
+}
+
 /// How many replies were as each of the two says.
 #[derive(Clone, Copy)]
 pub struct Tally {
     /// By the lists, if they were asked.
-    lists: Option<usize>,
-    words: usize,
+    pub lists: Option<usize>,
+    pub words: usize,
 }
 
 impl Tally {
@@ -39,27 +54,5 @@ impl Tally {
             self.lists = Some(self.lists.unwrap_or(0).saturating_add(lists));
         }
         self.words = self.words.saturating_add(other.words);
-    }
-
-    /// The tally beside the number of cases.
-    pub fn of(self, cases: usize) -> Counted {
-        Counted { cases, tally: self }
-    }
-}
-
-/// A tally of so many cases.
-#[derive(Clone, Copy)]
-pub struct Counted {
-    cases: usize,
-    tally: Tally,
-}
-
-impl Display for Counted {
-    fn fmt<W: fmt::Write>(&self, f: &mut fmt::Formatter<W>) -> fmt::Result {
-        let (cases, words) = (self.cases, self.tally.words);
-        match self.tally.lists {
-            Some(lists) => write!(f, "{lists} of {cases} by lists, {words} by words"),
-            None => write!(f, "{words} of {cases} by words"),
-        }
     }
 }

@@ -16,21 +16,13 @@ pub fn with(digit: Digit) -> u8 {
 }
 
 /// Each value where the place has the digit, put where it has not.
-fn down(word: u8, digit: Digit) -> u8 {
-    match digit {
-        Digit::First => (word & with(digit)) >> 1,
-        Digit::Second => (word & with(digit)) >> 2,
-        Digit::Third => (word & with(digit)) >> 4,
-    }
+pub fn down(word: u8, digit: Digit) -> u8 {
+    (word & with(digit)) >> digit.weight()
 }
 
 /// Each value where the place has not the digit, put where it has.
-fn up(word: u8, digit: Digit) -> u8 {
-    match digit {
-        Digit::First => (word & !with(digit)) << 1,
-        Digit::Second => (word & !with(digit)) << 2,
-        Digit::Third => (word & !with(digit)) << 4,
-    }
+pub fn up(word: u8, digit: Digit) -> u8 {
+    (word & !with(digit)) << digit.weight()
 }
 
 /// g where f holds, else h.
@@ -127,23 +119,8 @@ fn takes_cofactors(f: u8, c: u8, r: u8) -> bool {
     c == 0 || c != product || r == cofactor_of_f
 }
 
-/// The combinations with an element, without it.
-pub fn on(p: u8, element: Digit) -> u8 {
-    down(p, element)
-}
-
-/// The combinations without an element.
-pub fn off(p: u8, element: Digit) -> u8 {
-    p & !with(element)
-}
-
-/// The combinations with an element toggled.
-pub fn flip(p: u8, element: Digit) -> u8 {
-    down(p, element) | up(p, element)
-}
-
 /// Whether a word has a value at a place.
-pub fn has(word: u8, place: u32) -> bool {
+fn has(word: u8, place: u32) -> bool {
     match word.checked_shr(place) {
         Some(rest) => rest & 1 == 1,
         None => false,
