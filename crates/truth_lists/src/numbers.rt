@@ -1,4 +1,4 @@
-//! Cases of functions of numbers of two variables. Those of one variable do not depend on the second.
+//! Cases of functions of numbers. Those of one variable have the values of a function of two that does not depend on the second.
 
 ghost use Rattle.std.specs.Prelude.{◌<◌};
 
@@ -11,6 +11,7 @@ use crate::{lists, words};
 use edge_bits::Memory;
 use std::alloc::{AllocError, Global};
 use std::collections::BTreeMap;
+use std::fmt::Display;
 use std::io;
 use std::sync::Wait;
 use std::thread::Threads;
@@ -179,42 +180,64 @@ struct Functions {
 }
 
 impl Functions {
-    /// A job of two variables and so many slots, without functions of numbers.
-    fn new(alloc: Global, limit: u32) -> Result<Functions, AllocError> {
-        let mut job = Job::new(alloc, "vars 2", limit)?;
-        job.tell(&"v0 = var 0")?;
-        job.tell(&"v1 = var 1")?;
+    /// A job of so many variables and slots, without functions.
+    fn new(alloc: Global, variables: u32, limit: u32) -> Result<Functions, AllocError> {
+        let head = format!(in alloc; "vars {variables}")?;
+        let mut job = Job::new(alloc, &head, limit)?;
+        for variable in 0..variables {
+            job.tell(&format_args!("v{variable} = var {variable}"))?;
+        }
         Ok(Functions {
             job,
             registers: BTreeMap::new(alloc),
         })
     }
 
-    /// A job in which registers c0 to c15 have all truth functions.
-    fn with_truths(alloc: Global) -> Result<Functions, AllocError> {
-        let mut functions = Functions::new(alloc, 10_000)?;
-        functions.job.tell(&"a0 = false")?;
-        functions.job.tell(&"a1 = true")?;
-        choices(&mut functions.job, Digit::First, 'a', 2, 'b')?;
-        choices(&mut functions.job, Digit::Second, 'b', 4, 'c')?;
-        Ok(functions)
+    /// Adds all truth functions of two variables, in registers c0 to c15.
+    fn add_truths(&mut self) -> Result<(), AllocError> {
+        self.job.tell(&"a0 = false")?;
+        self.job.tell(&"a1 = true")?;
+        choices(&mut self.job, Digit::First, 'a', 2, 'b')?;
+        choices(&mut self.job, Digit::Second, 'b', 4, 'c')
     }
 
     /// The register of a function. It is added to the job if it has none yet.
     fn register(&mut self, values: Values) -> Result<Register, AllocError> {
+        let [a, b, c, d] = values;
+        if a == c && b == d {
+            return self.of_first(a, b);
+        }
         if let Some(register) = self.registers.get(&values) {
             return Ok(*register);
         }
+        let (with, without) = (self.of_first(c, d)?, self.of_first(a, b)?);
+        self.put(values, &format_args!("addite v1 {with} {without}"))
+    }
+
+    /// The register of a function of the first variable, by its values without it and with it.
+    fn of_first(&mut self, a: i64, b: i64) -> Result<Register, AllocError> {
+        if a == b {
+            return self.constant(a);
+        }
+        if let Some(register) = self.registers.get(&[a, b, a, b]) {
+            return Ok(*register);
+        }
+        let (with, without) = (self.constant(b)?, self.constant(a)?);
+        self.put([a, b, a, b], &format_args!("addite v0 {with} {without}"))
+    }
+
+    /// The register of a constant.
+    fn constant(&mut self, value: i64) -> Result<Register, AllocError> {
+        if let Some(register) = self.registers.get(&[value; 4]) {
+            return Ok(*register);
+        }
+        self.put([value; 4], &format_args!("num {value}"))
+    }
+
+    /// Adds the function that a command makes.
+    fn put<C: Display>(&mut self, values: Values, command: &C) -> Result<Register, AllocError> {
         let register = Register::new('n', self.registers.len());
-        let [a, b, c, d] = values;
-        let job = &mut self.job;
-        job.tell(&format_args!("{register}a = num {a}"))?;
-        job.tell(&format_args!("{register}b = num {b}"))?;
-        job.tell(&format_args!("{register}c = num {c}"))?;
-        job.tell(&format_args!("{register}d = num {d}"))?;
-        job.tell(&format_args!("{register}low = addite v0 {register}b {register}a"))?;
-        job.tell(&format_args!("{register}high = addite v0 {register}d {register}c"))?;
-        job.tell(&format_args!("{register} = addite v1 {register}high {register}low"))?;
+        self.job.tell(&format_args!("{register} = {command}"))?;
         self.registers.insert(values, register)?;
         Ok(register)
     }
@@ -284,7 +307,7 @@ pub fn print<R: Print + Threads + Wait>(rt: &R, alloc: Global) -> io::Result<()>
 
 /// Asks for each value of each function of two variables.
 fn values<R: Print + Threads + Wait>(rt: &R, alloc: Global) -> io::Result<()> {
-    let mut functions = Functions::new(alloc, 10_000)?;
+    let mut functions = Functions::new(alloc, 2, 10_000)?;
     for case in 0..4 * TWOS {
         functions.ask(of_two(case / 4), case % 4)?;
     }
@@ -302,7 +325,7 @@ fn of_one_variable<R: Print + Threads + Wait>(rt: &R, alloc: Global) -> io::Resu
         Operation::Threshold,
     ] {
         let name = format!(in alloc; "{} of one variable", operation.word())?;
-        tried(rt, alloc, &name, ONES * ONES, |case| {
+        tried(rt, alloc, 1, &name, ONES * ONES, |case| {
             let (f, g) = (of_one(case / ONES), of_one(case));
             Command::Pointwise(operation, f, g)
         })?;
@@ -312,23 +335,23 @@ fn of_one_variable<R: Print + Threads + Wait>(rt: &R, alloc: Global) -> io::Resu
 
 /// Commands on functions of two variables.
 fn of_two_variables<R: Print + Threads + Wait>(rt: &R, alloc: Global) -> io::Result<()> {
-    tried(rt, alloc, "plus", TWOS * TWOS, |case| {
+    tried(rt, alloc, 2, "plus", TWOS * TWOS, |case| {
         let (f, g) = (of_two(case / TWOS), of_two(case));
         Command::Pointwise(Operation::Plus, f, g)
     })?;
-    tried(rt, alloc, "sum", 2 * TWOS, |case| {
+    tried(rt, alloc, 2, "sum", 2 * TWOS, |case| {
         Command::Sum(of_two(case / 2), (case % 2) as u32)
     })?;
-    tried(rt, alloc, "ofbdd", 16, |case| {
+    tried(rt, alloc, 2, "ofbdd", 16, |case| {
         Command::OfTruth((case % 16) as u8)
     })?;
-    tried(rt, alloc, "pattern", TWOS, |case| {
+    tried(rt, alloc, 2, "pattern", TWOS, |case| {
         Command::Pattern(of_two(case))
     })?;
-    tried(rt, alloc, "atleast", 4 * TWOS, |case| {
+    tried(rt, alloc, 2, "atleast", 4 * TWOS, |case| {
         Command::AtLeast(of_two(case / 4), BOUNDS[case % 4])
     })?;
-    tried(rt, alloc, "addite", 16 * TWOS, |case| {
+    tried(rt, alloc, 2, "addite", 16 * TWOS, |case| {
         let (f, g) = (of_two(case), of_two(case % TWOS + STEP));
         Command::AddIte((case / TWOS % 16) as u8, f, g)
     })
@@ -339,19 +362,23 @@ fn of_two_variables<R: Print + Threads + Wait>(rt: &R, alloc: Global) -> io::Res
 fn tried<R: Print + Threads + Wait, F: Fn(usize) -> Command>(
     rt: &R,
     alloc: Global,
+    variables: u32,
     name: &str,
     cases: usize,
     command_of: F,
 ) -> io::Result<()>
     requires { F.IsAlwaysCallable command_of }
 {
-    let mut shared = Functions::with_truths(alloc)?;
+    let mut shared = Functions::new(alloc, variables, 10_000)?;
+    if variables == 2 {
+        shared.add_truths()?;
+    }
     let mut tally = Tally::NONE;
     for case in 0..cases {
         let command = command_of(case);
         let made = command.made(alloc)?;
         if let (Made::Overflow, _) | (_, Made::Overflow) = (made.lists, made.words) {
-            tally.add(alone(rt, alloc, command, made)?);
+            tally.add(alone(rt, alloc, variables, command, made)?);
         } else {
             shared.add(command, made)?;
         }
@@ -364,10 +391,11 @@ fn tried<R: Print + Threads + Wait, F: Fn(usize) -> Command>(
 fn alone<R: Threads + Wait>(
     rt: &R,
     alloc: Global,
+    variables: u32,
     command: Command,
     made: Oracles<Made>,
 ) -> Result<Tally, AllocError> {
-    let mut functions = Functions::new(alloc, 64)?;
+    let mut functions = Functions::new(alloc, variables, 64)?;
     functions.add(command, made)?;
     functions.job.tally(rt)
 }
