@@ -99,7 +99,8 @@ impl Job {
         self.ask(command, due)
     }
 
-    /// Adds a command that makes a function in a new register, and asks of each function that is due whether it is that one.
+    /// Adds a command that makes a function in a new register, and asks of each function that is due whether it is that
+    /// one.
     pub fn make<C: Display>(
         &mut self,
         command: &C,

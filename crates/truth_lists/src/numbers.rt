@@ -1,4 +1,5 @@
-//! Cases of functions of numbers. Those of one variable have the values of a function of two that does not depend on the second.
+//! Cases of functions of numbers. Those of one variable have the values of a function of two that does not depend on the
+//! second.
 
 ghost use Rattle.std.specs.Prelude.{◌<◌};
 

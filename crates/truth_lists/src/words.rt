@@ -51,12 +51,16 @@ fn depends(f: u8, variable: Digit) -> bool {
 
 /// The or of both cofactors, for each of the variables.
 pub fn exists(f: u8, variables: &[Digit]) -> u8 {
-    variables.iter().fold(f, |f, v| { cofactor(f, *v, true) | cofactor(f, *v, false) })
+    variables
+        .iter()
+        .fold(f, |f, v| cofactor(f, *v, true) | cofactor(f, *v, false))
 }
 
 /// The and of both cofactors, for each of the variables.
 pub fn forall(f: u8, variables: &[Digit]) -> u8 {
-    variables.iter().fold(f, |f, v| { cofactor(f, *v, true) & cofactor(f, *v, false) })
+    variables
+        .iter()
+        .fold(f, |f, v| cofactor(f, *v, true) & cofactor(f, *v, false))
 }
 
 /// f with g put for a variable.
@@ -101,7 +105,8 @@ pub fn restricts(f: u8, c: u8, r: u8) -> bool {
     agrees && depends_on_no_more && keeps_constants && takes_cofactors(f, c, r) && keeps_false
 }
 
-/// If c is the product of some literals, r is the cofactor of f by them. The literals can only be those that hold wherever c does.
+/// If c is the product of some literals, r is the cofactor of f by them. The literals can only be those that hold wherever
+/// c does.
 fn takes_cofactors(f: u8, c: u8, r: u8) -> bool {
     let mut product = u8::MAX;
     let mut cofactor_of_f = f;
@@ -150,7 +155,8 @@ pub fn product(p: u8, q: u8) -> u8 {
         .fold(0, |product, b| product | joined(p, b))
 }
 
-/// The combinations that have no element of a combination of q, and give one of p with it, for each of them; none where q is empty.
+/// The combinations that have no element of a combination of q, and give one of p with it, for each of them; none where q is
+/// empty.
 pub fn quotient(p: u8, q: u8) -> u8 {
     if q == 0 {
         return 0;
