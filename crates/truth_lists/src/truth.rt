@@ -191,7 +191,8 @@ pub fn print<R: Print + Threads + Wait>(rt: &R, alloc: Global) -> io::Result<()>
     quantifiers(rt, alloc)?;
     for_each(rt, table(alloc)?, "support", Command::Support)?;
     compositions(rt, alloc)?;
-    restrictions(rt, alloc)
+    restrictions(rt, alloc)?;
+    restrict_relation(rt)
 }
 
 /// Asks whether g is true wherever f is.
@@ -266,6 +267,19 @@ fn restrictions<R: Print + Threads + Wait>(rt: &R, alloc: Global) -> io::Result<
     }
     let history = job.history(rt)?;
     show(rt, "restrict", PAIRS, judged(alloc, history.as_str())?)
+}
+
+/// Whether a function may be the answer of a restrict, for each triple of functions of the first two variables.
+fn restrict_relation<R: Print>(rt: &R) -> io::Result<()> {
+    let agreeing = (0..4096usize).filter(|case| {
+        let (f, c, r) = (of_two(*case), of_two(*case / 16), of_two(*case / 256));
+        lists::restricts(f, c, r) == words::restricts(f, c, r)
+    });
+    let tally = Tally {
+        lists: None,
+        words: agreeing.count(),
+    };
+    show(rt, "restrict relation of two variables", 4096, tally)
 }
 
 /// Adds a restrict, and asks for each value of what it answers.
