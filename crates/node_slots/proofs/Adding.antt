@@ -80,6 +80,8 @@ module _ (p : Plain) (i bits : ℕ) (word : Word) (within : i < length p.words) 
     top = top-grown;
     made = made-grown;
     fulls = omega arith;
+    counts = refl;
+    holds = refl;
     wants = λ h. h;
   }
 

@@ -111,7 +111,7 @@ family_of p false f h = cc
 family_of p true f h = cc
 
 Grown-same : (a : View) → Grown a a
-Grown-same a = record { vars = refl; elements = refl; slots = refl; level = refl; content = λ s f h. h; top = λ s f h. refl; made = λ s h. h; fulls = omega arith; wants = λ h. h }
+Grown-same a = record { vars = refl; elements = refl; slots = refl; level = refl; content = λ s f h. h; top = λ s f h. refl; made = λ s h. h; fulls = omega arith; counts = refl; holds = refl; wants = λ h. h }
 
 module _ (p : Plain) (st : IsStore p) where
   free_high : (s : ℕ) → slots p s ≡ None → 5 ≤ s
@@ -262,7 +262,7 @@ module _ (p : Plain) (st : IsStore p) where
   -- a refused call
   module _ (n : ℕ) (d : Option Refused) (more : p.fulls ≤ n) where
     pub refused-grown : Grown (plain_view p) (plain_view (after_refusal p n d))
-    refused-grown = record { vars = refl; elements = refl; slots = refl; level = refl; content = λ s f h. h; top = λ s f h. refl; made = λ s h. h; fulls = more; wants = λ h. h }
+    refused-grown = record { vars = refl; elements = refl; slots = refl; level = refl; content = λ s f h. h; top = λ s f h. refl; made = λ s h. h; fulls = more; counts = refl; holds = refl; wants = λ h. h }
 
     IsNode-refused : (k : Kind) (node : Node) → IsNode k p node → IsNode k (after_refusal p n d) node
     unfolding refused-grown

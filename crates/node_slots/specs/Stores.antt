@@ -74,6 +74,8 @@ plain_view p = record {
   made = λ s. nat_le (5 + length p.variable_levels) s && is_used (slots p s);
   fulls = p.fulls;
   due = refused_function (content_of p) p.due;
+  count = λ s. 0;
+  is_held = false;
   may_want_memory = false;
 }
 

@@ -27,6 +27,10 @@ pub record View : Type 0 where
   -- how often the answer was Full, and the function that was due at the last of them
   pub fulls : ℕ
   pub due : Option Denoted
+  -- how often rows, cells and pins hold each slot
+  pub count : ℕ → ℕ
+  -- whether a sweep, a half-made swap or a pin is on
+  pub is_held : Bool
   -- whether it may want memory
   pub may_want_memory : Bool
 
@@ -91,6 +95,8 @@ pub record Grown (old new : View) : Type 0 where
   pub top : (s : ℕ) (f : Denoted) → old.content s ≡ Some f → new.top s ≡ old.top s
   pub made : (s : ℕ) → old.made s ≡ true → new.made s ≡ true
   pub fulls : old.fulls ≤ new.fulls
+  pub counts : new.count ≡ old.count
+  pub holds : new.is_held ≡ old.is_held
   pub wants : new.may_want_memory ≡ true → old.may_want_memory ≡ true
 
 -- It grew, and nothing was made or refused.
