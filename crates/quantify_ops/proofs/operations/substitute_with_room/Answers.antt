@@ -1,4 +1,4 @@
-use Rattle.node_store.specs.ViewLaws.{Grown-refl, Kept-refl, Permanent-grown}
+use Rattle.node_store.specs.ViewLaws.{Grown-refl, Grown-trans, Kept-refl, Permanent-grown}
 use Rattle.node_store.specs.WorkLaws.{IsWork-grown}
 use Rattle.node_store.proofs.ThreeWork.{Adds-between}
 use Rattle.quantify_ops.specs.SubstitutedLasts.{substituted_at-grown}
@@ -8,6 +8,9 @@ use Rattle.quantify_ops.proofs.operations.substitute_with_room.Goals as goal
 
 pub substitute-requires-clause-permanent : goal.substitute-requires-clause-permanent
 substitute-requires-clause-permanent g c = Permanent-grown c.lowest_level-lowest.ensures.kept.grown c.requires.permanent
+
+pub returns-clause-grown : goal.returns-clause-grown
+returns-clause-grown g c = Grown-trans c.lowest_level-lowest.ensures.kept.grown c.substitute.ensures.grown
 
 pub returns-clause-vector_compose : goal.returns-clause-vector_compose
 returns-clause-vector_compose g c =

@@ -1,0 +1,2 @@
+pub mod EightLemmas
+pub mod FourLemmas

@@ -1,0 +1,402 @@
+//! Cases of functions of numbers. Those of one variable have the values of a function of two that does not depend on the
+//! second.
+
+ghost use Rattle.std.specs.Prelude.{◌<◌};
+
+use crate::cases::show;
+use crate::digits::Digit;
+use crate::jobs::{Due, Job, Reply};
+use crate::oracles::{Oracles, Tally};
+use crate::registers::{Register, choices};
+use crate::{lists, words};
+use edge_bits::Memory;
+use std::alloc::{AllocError, Global};
+use std::collections::BTreeMap;
+use std::fmt::Display;
+use std::io;
+use std::sync::Wait;
+use std::thread::Threads;
+
+/// The values of a function at the four assignments.
+type Values = [i64; 4];
+
+/// The least value of a function.
+const LEAST: i64 = -70_368_744_177_664;
+
+/// The greatest.
+const GREATEST: i64 = 70_368_744_177_663;
+
+/// The values of the functions of one variable: the ends of the range, and what is near zero.
+const OF_ONE: [i64; 5] = [LEAST, -3, 0, 2, GREATEST];
+
+/// The values of the functions of two variables.
+const OF_TWO: [i64; 5] = [LEAST, -1, 0, 1, GREATEST];
+
+/// How many functions of one variable have the five values.
+const ONES: usize = 25;
+
+/// How many functions of two variables.
+const TWOS: usize = 625;
+
+/// What values are compared with.
+const BOUNDS: [i64; 4] = [LEAST, 0, 1, GREATEST];
+
+/// How far the second function stands from the first in a choice; no divisor of the number of functions.
+const STEP: usize = 277;
+
+/// A function of one variable, by its number.
+fn of_one(number: usize) -> Values {
+    let (without, with) = (OF_ONE[number % 5], OF_ONE[number / 5 % 5]);
+    [without, with, without, with]
+}
+
+/// A function of two variables, by its number.
+fn of_two(number: usize) -> Values {
+    [
+        OF_TWO[number % 5],
+        OF_TWO[number / 5 % 5],
+        OF_TWO[number / 25 % 5],
+        OF_TWO[number / 125 % 5],
+    ]
+}
+
+/// An operation on the values of two functions at one place.
+#[derive(Clone, Copy)]
+enum Operation {
+    Plus,
+    Minus,
+    Times,
+    Min,
+    Max,
+    Threshold,
+}
+
+impl Operation {
+    /// Its word.
+    fn word(self) -> &'static str {
+        match self {
+            Operation::Plus => "plus",
+            Operation::Minus => "minus",
+            Operation::Times => "times",
+            Operation::Min => "min",
+            Operation::Max => "max",
+            Operation::Threshold => "threshold",
+        }
+    }
+
+    /// The value that it gives, whatever its range.
+    fn of(self, a: i64, b: i64) -> i128 {
+        match self {
+            Operation::Plus => i128::from(a) + i128::from(b),
+            Operation::Minus => i128::from(a) - i128::from(b),
+            Operation::Times => i128::from(a) * i128::from(b),
+            Operation::Min => i128::from(a.min(b)),
+            Operation::Max => i128::from(a.max(b)),
+            Operation::Threshold => i128::from(if a >= b { a } else { 0 }),
+        }
+    }
+
+    /// The values that it gives of two functions.
+    fn at_each_place(self, [a, b, c, d]: Values, [e, f, g, h]: Values) -> [i128; 4] {
+        [self.of(a, e), self.of(b, f), self.of(c, g), self.of(d, h)]
+    }
+}
+
+/// A command on functions of numbers. Truth functions go by number.
+#[derive(Clone, Copy)]
+enum Command {
+    Pointwise(Operation, Values, Values),
+    Sum(Values, u32),
+    OfTruth(u8),
+    AddIte(u8, Values, Values),
+    AtLeast(Values, i64),
+    Pattern(Values),
+}
+
+/// What a command is to make.
+#[derive(Clone, Copy)]
+enum Made {
+    Numbers(Values),
+    Truth(u8),
+    /// Nothing, since some value is out of range.
+    Overflow,
+    /// There is no plain call on lists for it.
+    Unsaid,
+}
+
+impl Made {
+    /// What has these exact values.
+    fn of(values: [i128; 4]) -> Made {
+        match values.map(words::in_range) {
+            [Some(a), Some(b), Some(c), Some(d)] => Made::Numbers([a, b, c, d]),
+            _ => Made::Overflow,
+        }
+    }
+}
+
+impl Command {
+    /// What is due by the plain calls on lists.
+    fn by_lists(self, alloc: Global) -> Result<Made, Memory> {
+        let values = match self {
+            Command::Pointwise(Operation::Plus, f, g) => lists::plus(alloc, f, g)?,
+            Command::Sum(f, variable) if variable < 2 => lists::sum(alloc, f, variable)?,
+            _ => return Ok(Made::Unsaid),
+        };
+        match values.as_deref() {
+            Some([a, b, c, d]) => Ok(Made::Numbers([*a, *b, *c, *d])),
+            Some(_) => Ok(Made::Unsaid),
+            None => Ok(Made::Overflow),
+        }
+    }
+
+    /// What is due by arithmetic on words.
+    fn by_words(self) -> Made {
+        match self {
+            Command::Pointwise(operation, f, g) => Made::of(operation.at_each_place(f, g)),
+            Command::Sum(f, variable) => Made::of(words::sum(f, variable)),
+            Command::OfTruth(c) => Made::Numbers(words::choice(c, [1; 4], [0; 4])),
+            Command::AddIte(c, f, g) => Made::Numbers(words::choice(c, f, g)),
+            Command::AtLeast(f, bound) => Made::Truth(words::truth(f.map(|value| value >= bound))),
+            Command::Pattern(f) => Made::Truth(words::truth(f.map(|value| value != 0))),
+        }
+    }
+
+    /// What is due by both.
+    fn made(self, alloc: Global) -> Result<Oracles<Made>, AllocError> {
+        let Ok(lists) = self.by_lists(alloc) else {
+            return Err(AllocError);
+        };
+        Ok(Oracles {
+            lists,
+            words: self.by_words(),
+        })
+    }
+}
+
+/// A job, and the functions of numbers that have registers in it.
+#[derive(Drop)]
+struct Functions {
+    job: Job,
+    registers: BTreeMap<Values, Register>,
+}
+
+impl Functions {
+    /// A job of so many variables and slots, without functions.
+    fn new(alloc: Global, variables: u32, limit: u32) -> Result<Functions, AllocError> {
+        let head = format!(in alloc; "vars {variables}")?;
+        let mut job = Job::new(alloc, &head, limit)?;
+        for variable in 0..variables {
+            job.tell(&format_args!("v{variable} = var {variable}"))?;
+        }
+        Ok(Functions {
+            job,
+            registers: BTreeMap::new(alloc),
+        })
+    }
+
+    /// Adds all truth functions of two variables, in registers c0 to c15.
+    fn add_truths(&mut self) -> Result<(), AllocError> {
+        self.job.tell(&"a0 = false")?;
+        self.job.tell(&"a1 = true")?;
+        choices(&mut self.job, Digit::First, 'a', 2, 'b')?;
+        choices(&mut self.job, Digit::Second, 'b', 4, 'c')
+    }
+
+    /// The register of a function. It is added to the job if it has none yet.
+    fn register(&mut self, values: Values) -> Result<Register, AllocError> {
+        let [a, b, c, d] = values;
+        if a == c && b == d {
+            return self.of_first(a, b);
+        }
+        if let Some(register) = self.registers.get(&values) {
+            return Ok(*register);
+        }
+        let (with, without) = (self.of_first(c, d)?, self.of_first(a, b)?);
+        self.put(values, &format_args!("addite v1 {with} {without}"))
+    }
+
+    /// The register of a function of the first variable, by its values without it and with it.
+    fn of_first(&mut self, a: i64, b: i64) -> Result<Register, AllocError> {
+        if a == b {
+            return self.constant(a);
+        }
+        if let Some(register) = self.registers.get(&[a, b, a, b]) {
+            return Ok(*register);
+        }
+        let (with, without) = (self.constant(b)?, self.constant(a)?);
+        self.put([a, b, a, b], &format_args!("addite v0 {with} {without}"))
+    }
+
+    /// The register of a constant.
+    fn constant(&mut self, value: i64) -> Result<Register, AllocError> {
+        if let Some(register) = self.registers.get(&[value; 4]) {
+            return Ok(*register);
+        }
+        self.put([value; 4], &format_args!("num {value}"))
+    }
+
+    /// Adds the function that a command makes.
+    fn put<C: Display>(&mut self, values: Values, command: &C) -> Result<Register, AllocError> {
+        let register = Register::new('n', self.registers.len());
+        self.job.tell(&format_args!("{register} = {command}"))?;
+        self.registers.insert(values, register)?;
+        Ok(register)
+    }
+
+    /// What is due, in registers.
+    fn due(&mut self, made: Made) -> Result<Due, AllocError> {
+        Ok(match made {
+            Made::Numbers(values) => Due::Function(self.register(values)?),
+            Made::Truth(number) => Due::Function(Register::new('c', usize::from(number))),
+            Made::Overflow => Due::Overflow,
+            Made::Unsaid => Due::Unsaid,
+        })
+    }
+
+    /// Adds a command, and asks for what it is to make.
+    fn add(&mut self, command: Command, made: Oracles<Made>) -> Result<(), AllocError> {
+        let due = Oracles {
+            lists: self.due(made.lists)?,
+            words: self.due(made.words)?,
+        };
+        let alloc = self.job.alloc();
+        let line = match command {
+            Command::Pointwise(operation, f, g) => {
+                let (f, g) = (self.register(f)?, self.register(g)?);
+                format!(in alloc; "{} {f} {g}", operation.word())?
+            }
+            Command::Sum(f, variable) => {
+                let f = self.register(f)?;
+                format!(in alloc; "sum {f} {variable}")?
+            }
+            Command::OfTruth(c) => format!(in alloc; "ofbdd c{c}")?,
+            Command::AddIte(c, f, g) => {
+                let (f, g) = (self.register(f)?, self.register(g)?);
+                format!(in alloc; "addite c{c} {f} {g}")?
+            }
+            Command::AtLeast(f, bound) => {
+                let f = self.register(f)?;
+                format!(in alloc; "atleast {f} {bound}")?
+            }
+            Command::Pattern(f) => {
+                let f = self.register(f)?;
+                format!(in alloc; "pattern {f}")?
+            }
+        };
+        self.job.make(&line, due)?;
+        Ok(())
+    }
+
+    /// Asks for the value of a function at an assignment.
+    fn ask(&mut self, values: Values, place: usize) -> Result<(), AllocError>
+        requires { place < 4 }
+    {
+        let register = self.register(values)?;
+        let due = Oracles::by_words(Reply::Value(values[place]));
+        let (first, second) = (place % 2, place / 2);
+        self.job
+            .ask(&format_args!("eval {register} {first}{second}"), due)
+    }
+}
+
+/// Prints how many cases of functions of numbers are as due.
+pub fn print<R: Print + Threads + Wait>(rt: &R, alloc: Global) -> io::Result<()> {
+    values(rt, alloc)?;
+    of_one_variable(rt, alloc)?;
+    of_two_variables(rt, alloc)
+}
+
+/// Asks for each value of each function of two variables.
+fn values<R: Print + Threads + Wait>(rt: &R, alloc: Global) -> io::Result<()> {
+    let mut functions = Functions::new(alloc, 2, 10_000)?;
+    for case in 0..4 * TWOS {
+        functions.ask(of_two(case / 4), case % 4)?;
+    }
+    show(rt, "numbers", 4 * TWOS, functions.job.tally(rt)?)
+}
+
+/// Each operation on all pairs of functions of one variable.
+fn of_one_variable<R: Print + Threads + Wait>(rt: &R, alloc: Global) -> io::Result<()> {
+    for operation in [
+        Operation::Plus,
+        Operation::Minus,
+        Operation::Times,
+        Operation::Min,
+        Operation::Max,
+        Operation::Threshold,
+    ] {
+        let name = format!(in alloc; "{} of one variable", operation.word())?;
+        tried(rt, alloc, 1, &name, ONES * ONES, |case| {
+            let (f, g) = (of_one(case / ONES), of_one(case));
+            Command::Pointwise(operation, f, g)
+        })?;
+    }
+    Ok(())
+}
+
+/// Commands on functions of two variables.
+fn of_two_variables<R: Print + Threads + Wait>(rt: &R, alloc: Global) -> io::Result<()> {
+    tried(rt, alloc, 2, "plus", TWOS * TWOS, |case| {
+        let (f, g) = (of_two(case / TWOS), of_two(case));
+        Command::Pointwise(Operation::Plus, f, g)
+    })?;
+    tried(rt, alloc, 2, "sum", 2 * TWOS, |case| {
+        Command::Sum(of_two(case / 2), (case % 2) as u32)
+    })?;
+    tried(rt, alloc, 2, "ofbdd", 16, |case| {
+        Command::OfTruth((case % 16) as u8)
+    })?;
+    tried(rt, alloc, 2, "pattern", TWOS, |case| {
+        Command::Pattern(of_two(case))
+    })?;
+    tried(rt, alloc, 2, "atleast", 4 * TWOS, |case| {
+        Command::AtLeast(of_two(case / 4), BOUNDS[case % 4])
+    })?;
+    tried(rt, alloc, 2, "addite", 16 * TWOS, |case| {
+        let (f, g) = (of_two(case), of_two(case % TWOS + STEP));
+        Command::AddIte((case / TWOS % 16) as u8, f, g)
+    })
+}
+
+/// Adds the commands that end well to one job, and plays each of the others, at which a session stops, in a job of its own.
+/// Prints how many are as due.
+fn tried<R: Print + Threads + Wait, F: Fn(usize) -> Command>(
+    rt: &R,
+    alloc: Global,
+    variables: u32,
+    name: &str,
+    cases: usize,
+    command_of: F,
+) -> io::Result<()>
+    requires { F.IsAlwaysCallable command_of }
+{
+    let mut shared = Functions::new(alloc, variables, 10_000)?;
+    if variables == 2 {
+        shared.add_truths()?;
+    }
+    let mut tally = Tally::NONE;
+    for case in 0..cases {
+        let command = command_of(case);
+        let made = command.made(alloc)?;
+        if let (Made::Overflow, _) | (_, Made::Overflow) = (made.lists, made.words) {
+            tally.add(alone(rt, alloc, variables, command, made)?);
+        } else {
+            shared.add(command, made)?;
+        }
+    }
+    tally.add(shared.job.tally(rt)?);
+    show(rt, name, cases, tally)
+}
+
+/// Plays a command in a job of its own.
+fn alone<R: Threads + Wait>(
+    rt: &R,
+    alloc: Global,
+    variables: u32,
+    command: Command,
+    made: Oracles<Made>,
+) -> Result<Tally, AllocError> {
+    let mut functions = Functions::new(alloc, variables, 64)?;
+    functions.add(command, made)?;
+    functions.job.tally(rt)
+}

@@ -1,4 +1,0 @@
-pub mod EightLemmas
-pub mod StoreLemmas
-pub mod TableLemmas
-pub mod FourLemmas

@@ -1,4 +1,0 @@
-use Rattle.truth_tests.proofs.families.table.+edge_of.Given as goal
-
-abbrev pub decreases-edge_of : goal.decreases-edge_of
-decreases-edge_of l = l.elements

@@ -1,8 +1,0 @@
-use Rattle.truth_tests.proofs.TableLemmas.{IsFamilyTable-grown}
-use Rattle.truth_tests.proofs.families.table.Families.quotient.Goals as goal
-
-pub invariant_of-self : goal.invariant_of-self
-invariant_of-self c = IsFamilyTable-grown c.quotient.ensures.grown c.self.invariant
-
-pub invariant_of-self-2 : goal.invariant_of-self-2
-invariant_of-self-2 c = IsFamilyTable-grown c.quotient.ensures.grown c.self.invariant

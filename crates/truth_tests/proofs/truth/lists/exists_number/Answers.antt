@@ -1,8 +1,0 @@
-use Rattle.truth_tests.proofs.EightLemmas.{size_of_eight, variables_of_eight}
-use Rattle.truth_tests.proofs.truth.lists.exists_number.Goals as goal
-
-pub exists_of-requires-clause-size : goal.exists_of-requires-clause-size
-exists_of-requires-clause-size c = size_of_eight _ c.values_of.ensures
-
-pub exists_of-requires-clause-vars : goal.exists_of-requires-clause-vars
-exists_of-requires-clause-vars c = variables_of_eight _ c.args.vars.now c.values_of.ensures c.in_ok-check_variables.ensures
