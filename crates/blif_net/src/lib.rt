@@ -1,0 +1,11 @@
+//! Networks of the Berkeley Logic Interchange Format, and the texts that they are read from.
+#![tactic(auto)]
+
+mod faults;
+mod net;
+mod reader;
+mod text;
+
+pub use faults::{BlifError, BlifFault, FaultKind};
+pub use net::{Cover, Cube, Literal, Net, Output};
+pub use reader::texts_have_one_reading;
