@@ -12,3 +12,5 @@ pub mod Cycles
 pub mod Permutations
 pub mod Networks
 pub mod Orders
+pub mod NameIndex
+pub mod NameLists

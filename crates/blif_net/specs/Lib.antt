@@ -4,5 +4,6 @@ pub mod Faults
 pub mod Networks
 pub mod Readings
 pub mod Products
+pub mod Names
 pub mod Joined
 pub mod Bridges

@@ -1,5 +1,8 @@
 //! Why a text is not read.
 
+ghost use Rattle.std.specs.Prelude.{◌≡◌};
+
+use std::alloc::{AllocError, AllocFailed};
 use thiserror::Error;
 
 /// What is wrong with a line, or with the whole network.
@@ -52,4 +55,31 @@ pub enum BlifError {
     /// The text is not that of a network.
     #[error("{0}")]
     Fault(BlifFault),
+}
+
+/// Why a line was not taken.
+#[derive(Debug, Clone, Copy, PartialEq, Eq)]
+pub enum Stop {
+    Memory,
+    Fault(FaultKind),
+}
+
+impl From<AllocError> for Stop {
+    ghost use Rattle.blif_net.specs.declared.faults.Stop.TheVariants.{Memory};
+
+    ghost from_gives = { λ _ e. e ≡ Memory };
+
+    fn from(_: AllocError) -> Stop {
+        Stop::Memory
+    }
+}
+
+impl<T: Drop> From<AllocFailed<T>> for Stop {
+    ghost use Rattle.blif_net.specs.declared.faults.Stop.TheVariants.{Memory};
+
+    ghost from_gives = { λ _ e. e ≡ Memory };
+
+    fn from(_: AllocFailed<T>) -> Stop {
+        Stop::Memory
+    }
 }

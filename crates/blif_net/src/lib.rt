@@ -2,6 +2,7 @@
 #![tactic(auto)]
 
 mod faults;
+mod names;
 mod net;
 mod reader;
 mod text;

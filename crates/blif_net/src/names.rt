@@ -1,0 +1,152 @@
+//! The names of a text.
+
+ghost use Rattle.std.specs.Prelude.{◌≡◌, ◌∷◌, ◌++◌, [], ◌<◌, ◌^◌, length, map, slice_get, IfOk, IfErr, MatchOption, OnOk, Some, true, false};
+ghost use Rattle.std.specs.List.{list_any};
+ghost use Rattle.blif_net.specs.Names.{DefineStop, IsNumberOf, given_role, is_called, name_at, role_called, with_name};
+
+use crate::faults::{FaultKind, Stop};
+use indexmap::IndexSet;
+use std::alloc::Global;
+use std::hash::RandomState;
+use std::marker::Model;
+
+/// The most names, whose numbers are 32 bits.
+const MOST_NAMES: usize = 4_294_967_295;
+
+/// What a name is so far: no signal, the input of a number, or the output of the cover of a number.
+#[derive(Clone, Copy)]
+pub enum Role {
+    Unknown,
+    Input(u32),
+    Cover(u32),
+}
+
+/// What is known of a name: the line where it first stands, and what it is.
+#[derive(Clone, Copy)]
+pub struct Known {
+    pub line: u64,
+    pub role: Role,
+}
+
+/// Names in the order in which they first stand. Each is stored once, in an index, and beside it stands what is known of it.
+#[derive(Drop)]
+pub struct Names {
+    index: IndexSet<Vec<u8>, RandomState>,
+    known: Vec<Known>,
+}
+
+impl Model for Names {
+    ghost use Rattle.std.specs.Prelude.{◌<◌, ◌^◌, vec_len, List as ListOf};
+    ghost use Rattle.blif_net.specs.Names.{AreNamed, Name, named};
+
+    ghost Value = { ListOf Name };
+
+    ghost view = { λ names. named names.index.keys names.known.items };
+
+    ghost invariant = { λ names. AreNamed names.index.keys names.known.items × (vec_len names.known < 2 ^ 32) };
+}
+
+impl Names {
+    /// No names. The index has these keys.
+    pub fn new(alloc: Global, keys: RandomState) -> Names
+        ensures { result ≡ [] }
+    {
+        Names {
+            index: IndexSet::with_hasher(alloc, keys),
+            known: Vec::new(alloc),
+        }
+    }
+
+    /// How many there are.
+    pub fn len(&self) -> usize
+        ensures number { result ≡ length self.now }
+        ensures few { result < 2 ^ 32 }
+    {
+        self.known.len()
+    }
+
+    /// The number of the name of a word.
+    fn find(&self, word: &[u8]) -> Option<u32>
+        ensures { MatchOption result (list_any (is_called word.now) self.now ≡ false) (IsNumberOf self.now word.now) }
+    {
+        match self.index.get_index_of(word) {
+            Some(place) => Some(place as u32),
+            None => None,
+        }
+    }
+
+    /// The role of the name at a place.
+    pub fn role_at(&self, place: usize) -> Role
+        requires { place < length self.now }
+        ensures { slice_get (map (λ name. name.role) self.now) place ≡ Some result }
+    {
+        self.known[place].role
+    }
+
+    /// Adds a name that is new. There are fewer than 2^32: for more there is no memory.
+    fn add(&mut self, alloc: Global, word: &[u8], known: Known) -> Result<(), Stop>
+        requires { list_any (is_called word.now) self.old ≡ false }
+        ensures ok { OnOk result (self.new ≡ self.old ++ name_at word.now known.line known.role ∷ []) }
+        ensures stop { IfErr result (λ stop. stop ≡ Stop.Memory) }
+    {
+        if self.known.len() >= MOST_NAMES {
+            return Err(Stop::Memory);
+        }
+        let key = Vec::from_slice(alloc, word)?;
+        self.known.reserve(1)?;
+        self.index.insert(key)?;
+        self.known.push(known)?;
+        Ok(())
+    }
+
+    /// Gives this role to the name of a word.
+    fn give_role(&mut self, word: &[u8], number: u32, role: Role)
+        requires { IsNumberOf self.old word.now number }
+        ensures { self.new ≡ map (given_role word.now role) self.old }
+    {
+        let known = &mut self.known[number as usize];
+        known.role = role;
+    }
+
+    /// The number of the name of a word that stands on a line, which is a new name where the word didn't come yet.
+    pub fn number_of(&mut self, alloc: Global, word: &[u8], line: u64) -> Result<u32, Stop>
+        ensures names { OnOk result (self.new ≡ with_name self.old word.now line) }
+        ensures number { IfOk result (IsNumberOf self.new word.now) }
+        ensures stop { IfErr result (λ stop. stop ≡ Stop.Memory) }
+    {
+        if let Some(number) = self.find(word) {
+            return Ok(number);
+        }
+        let number = self.len() as u32;
+        self.add(
+            alloc,
+            word,
+            Known {
+                line,
+                role: Role::Unknown,
+            },
+        )?;
+        Ok(number)
+    }
+
+    /// Makes a signal of the name of a word that stands on a line, unless it is one.
+    pub fn define(&mut self, alloc: Global, word: &[u8], line: u64, role: Role) -> Result<u32, Stop>
+        ensures names { OnOk result (self.new ≡ map (given_role word.now role) (with_name self.old word.now line)) }
+        ensures number { IfOk result (IsNumberOf self.new word.now) }
+        ensures new { OnOk result (role_called self.old word.now ≡ Role.Unknown) }
+        ensures stop { IfErr result (DefineStop self.old word.now) }
+    {
+        let Some(number) = self.find(word) else {
+            let number = self.len() as u32;
+            self.add(alloc, word, Known { line, role })?;
+            return Ok(number);
+        };
+        match self.role_at(number as usize) {
+            Role::Unknown => {
+                self.give_role(word, number, role);
+                Ok(number)
+            }
+            _ => Err(Stop::Fault(FaultKind::Twice)),
+        }
+    }
+}
