@@ -5,5 +5,6 @@ pub mod Networks
 pub mod Readings
 pub mod Products
 pub mod Names
+pub mod Statements
 pub mod Joined
 pub mod Bridges

@@ -5,6 +5,7 @@ mod faults;
 mod names;
 mod net;
 mod reader;
+mod statements;
 mod text;
 
 pub use faults::{BlifError, BlifFault, FaultKind};
