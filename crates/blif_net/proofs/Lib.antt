@@ -14,3 +14,4 @@ pub mod Networks
 pub mod Orders
 pub mod NameIndex
 pub mod NameLists
+pub mod CoverRows

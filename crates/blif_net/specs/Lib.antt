@@ -6,5 +6,6 @@ pub mod Readings
 pub mod Products
 pub mod Names
 pub mod Statements
+pub mod Covers
 pub mod Joined
 pub mod Bridges
