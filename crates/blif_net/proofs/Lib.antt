@@ -15,3 +15,8 @@ pub mod Orders
 pub mod NameIndex
 pub mod NameLists
 pub mod CoverRows
+pub mod Growing
+pub mod Roles
+pub mod Drafting
+pub mod Lines
+pub mod Taking

@@ -7,5 +7,6 @@ pub mod Products
 pub mod Names
 pub mod Statements
 pub mod Covers
+pub mod Drafts
 pub mod Joined
 pub mod Bridges

@@ -1,5 +1,5 @@
 -- The names of a text as they come: each with the line where it first stands, and with what it is so far.
-use Rattle.std.specs.Prelude.{◌≡◌, ℕ, ◌<◌, Bool, true, false, List, [], ◌∷◌, ◌++◌, Option, Some, None, find, length, if◌then◌else◌}
+use Rattle.std.specs.Prelude.{◌≡◌, ℕ, ◌<◌, Bool, true, false, List, [], ◌∷◌, ◌++◌, Option, Some, None, find, length, map, if◌then◌else◌}
 use Rattle.std.specs.Global.{Vec}
 use Rattle.std.specs.List.{list_any, position_or_len}
 use Rattle.std.specs.Str.{bytes_eq}
@@ -56,6 +56,14 @@ IsNumberOf names word number = (number ≡ position_or_len (is_called word) name
 -- the names with that of a word which stands on a line of this number
 abbrev pub with_name : List Name → Word → ℕ → List Name
 with_name names word line = if list_any (is_called word) names then names else names ++ name_at word line Unknown ∷ []
+
+-- and with those of more words
+abbrev pub with_names : List Name → List Word → ℕ → List Name
+with_names names [] line = names
+with_names names (word ∷ words) line = with_names (with_name names word line) words line
+
+abbrev pub words_in : List Name → List Word
+words_in names = map (λ name. name.word) names
 
 -- the name, with this role where it is of the word
 abbrev pub given_role : Word → Role → Name → Name

@@ -2,6 +2,7 @@
 #![tactic(auto)]
 
 mod covers;
+mod draft;
 mod faults;
 mod names;
 mod net;

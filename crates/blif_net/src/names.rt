@@ -2,11 +2,12 @@
 
 ghost use Rattle.std.specs.Prelude.{◌≡◌, ◌∷◌, ◌++◌, [], ◌<◌, ◌^◌, length, map, slice_get, IfOk, IfErr, MatchOption, OnOk, Some, true, false};
 ghost use Rattle.std.specs.List.{list_any};
-ghost use Rattle.blif_net.specs.Names.{DefineStop, IsNumberOf, given_role, is_called, name_at, role_called, with_name};
+ghost use Rattle.blif_net.specs.Names.{DefineStop, IsNumberOf, given_role, is_called, name_at, role_called, with_name, with_names, words_in};
+ghost use Rattle.blif_net.specs.Networks.{AreNumbers};
 
 use crate::faults::{FaultKind, Stop};
 use indexmap::IndexSet;
-use std::alloc::Global;
+use std::alloc::{AllocError, Global};
 use std::hash::RandomState;
 use std::marker::Model;
 
@@ -84,13 +85,12 @@ impl Names {
     }
 
     /// Adds a name that is new. There are fewer than 2^32: for more there is no memory.
-    fn add(&mut self, alloc: Global, word: &[u8], known: Known) -> Result<(), Stop>
+    fn add(&mut self, alloc: Global, word: &[u8], known: Known) -> Result<(), AllocError>
         requires { list_any (is_called word.now) self.old ≡ false }
-        ensures ok { OnOk result (self.new ≡ self.old ++ name_at word.now known.line known.role ∷ []) }
-        ensures stop { IfErr result (λ stop. stop ≡ Stop.Memory) }
+        ensures { OnOk result (self.new ≡ self.old ++ name_at word.now known.line known.role ∷ []) }
     {
         if self.known.len() >= MOST_NAMES {
-            return Err(Stop::Memory);
+            return Err(AllocError);
         }
         let key = Vec::from_slice(alloc, word)?;
         self.known.reserve(1)?;
@@ -109,10 +109,9 @@ impl Names {
     }
 
     /// The number of the name of a word that stands on a line, which is a new name where the word didn't come yet.
-    pub fn number_of(&mut self, alloc: Global, word: &[u8], line: u64) -> Result<u32, Stop>
+    pub fn number_of(&mut self, alloc: Global, word: &[u8], line: u64) -> Result<u32, AllocError>
         ensures names { OnOk result (self.new ≡ with_name self.old word.now line) }
         ensures number { IfOk result (IsNumberOf self.new word.now) }
-        ensures stop { IfErr result (λ stop. stop ≡ Stop.Memory) }
     {
         if let Some(number) = self.find(word) {
             return Ok(number);
@@ -148,5 +147,23 @@ impl Names {
             }
             _ => Err(Stop::Fault(FaultKind::Twice)),
         }
+    }
+
+    /// The numbers of the names of words that stand on a line.
+    pub fn numbers_of(
+        &mut self,
+        alloc: Global,
+        words: &[&[u8]],
+        line: u64,
+    ) -> Result<Vec<u32>, AllocError>
+        ensures names { OnOk result (self.new ≡ with_names self.old (map (λ word. word.now) words.now) line) }
+        ensures numbers { IfOk result (λ numbers. AreNumbers (words_in self.new) (map (λ word. word.now) words.now) numbers.items) }
+    {
+        let mut numbers = Vec::with_capacity(alloc, words.len())?;
+        for word in words {
+            let number = self.number_of(alloc, word, line)?;
+            numbers.push(number)?;
+        }
+        Ok(numbers)
     }
 }

@@ -19,5 +19,5 @@ invariant_of-self-2 c = (
   omega (arith, ap length (c.in_ok-push.ensures.items), ap length c.reserve.ensures.items, length-append c.reserve.new.self.items (c.args.known ∷ []), c.if-len-ge-MOST_NAMES.false, c.len.ensures),
 )
 
-pub returns-clause-ok : goal.returns-clause-ok
-returns-clause-ok c = (both c).1 ∙ ap (λ t. t ++ name_at c.args.word.now c.args.known.line c.args.known.role ∷ []) c.self.view_is
+pub returns : goal.returns
+returns c = (both c).1 ∙ ap (λ t. t ++ name_at c.args.word.now c.args.known.line c.args.known.role ∷ []) c.self.view_is

@@ -5,11 +5,11 @@ use Rattle.blif_net.proofs.NameLists.{any_of_number, given_new, not_unknown, num
 use Rattle.blif_net.proofs.names.Names.define.Goals as goal
 
 pub returns-in_default-clause-names : goal.returns-in_default-clause-names
-returns-in_default-clause-names c = c.in_ok-add.ensures.ok ∙ given_new c.args.self.now c.args.word.now c.args.line c.args.role c.in_default.ensures
+returns-in_default-clause-names c = c.in_ok-add.ensures ∙ given_new c.args.self.now c.args.word.now c.args.line c.args.role c.in_default.ensures
 
 pub returns-in_default-clause-number : goal.returns-in_default-clause-number
 returns-in_default-clause-number c =
-    number_last c.args.self.now c.add.new.self c.args.word.now c.args.line c.args.role c.len-number.result c.in_default.ensures c.in_ok-add.ensures.ok c.len-number.ensures.number
+    number_last c.args.self.now c.add.new.self c.args.word.now c.args.line c.args.role c.len-number.result c.in_default.ensures c.in_ok-add.ensures c.len-number.ensures.number
 
 pub returns-in_default-clause-new : goal.returns-in_default-clause-new
 returns-in_default-clause-new c = role_none c.args.self.now c.args.word.now c.in_default.ensures

@@ -8,4 +8,4 @@ returns-in-Some-clause-names c = sym (with_old c.args.self.now c.args.word.now c
 
 pub returns-clause-number : goal.returns-clause-number
 returns-clause-number c =
-    number_last c.args.self.now c.add.new.self c.args.word.now c.args.line Unknown c.len-number.result c.in_default.ensures c.in_ok-add.ensures.ok c.len-number.ensures.number
+    number_last c.args.self.now c.add.new.self c.args.word.now c.args.line Unknown c.len-number.result c.in_default.ensures c.in_ok-add.ensures c.len-number.ensures.number
