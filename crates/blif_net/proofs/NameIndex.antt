@@ -1,6 +1,7 @@
 -- Names by the index of their words.
 use Rattle.std.proofs.Common.{◌≡◌, ℕ, zero, suc, ◌+◌, ◌<◌, ◌≤◌, ◌||◌, not, Bool, true, false, cond, List, [], ◌∷◌, ◌++◌, length, map, get_or, set, Some, None, nat_lt, refl, ap, sym, ◌∙◌, subst, arith}
-use Rattle.std.specs.Prelude.{position, slice_get}
+use Rattle.std.specs.Prelude.{find, position, slice_get}
+use Rattle.std.specs.Option.{option_map}
 use Rattle.std.specs.Global.{Vec}
 use Rattle.std.specs.List.{list_any, position_or_len}
 use Rattle.std.specs.Str.{bytes_eq}
@@ -10,7 +11,7 @@ use Rattle.std.proofs.lemmas.Slice.Eq.{bytes_eq-Decides}
 use Rattle.blif_net.specs.declared.names.Known.{Known}
 use Rattle.blif_net.specs.declared.names.Role.{Role}
 use Rattle.blif_net.specs.Text.{Word}
-use Rattle.blif_net.specs.Names.{AreNamed, IsNumberOf, Name, given_role, is_called, is_word, name_at, named}
+use Rattle.blif_net.specs.Names.{AreNamed, IsNumberOf, Name, given_role, is_called, is_unknown, is_word, name_at, named, words_in}
 use Rattle.blif_net.proofs.Distinct.{other_way}
 
 pub as_many : (keys : List (Vec ℕ)) (known : List Known) → AreNamed keys known → length (named keys known) ≡ length known
@@ -152,3 +153,30 @@ given_there (key ∷ keys) (x ∷ known) w r (suc i) k h e lt at = by_cases (byt
           ap (λ b. cond b (name_at key.items x.line r) (name_at key.items x.line x.role) ∷ named keys (set known i (record { line = k.line; role = r }))) (sym f)
               ∙ ap (λ t. given_role w r (name_at key.items x.line x.role) ∷ t) rest.1,
         )
+
+-- what is read of names where they are stored
+pub roles_named : (keys : List (Vec ℕ)) (known : List Known) → AreNamed keys known → map (λ (name : Name). name.role) (named keys known) ≡ map (λ (one : Known). one.role) known
+roles_named [] [] h = refl
+roles_named [] (k ∷ known) h = absurd h
+roles_named (key ∷ keys) [] h = absurd h
+roles_named (key ∷ keys) (k ∷ known) h = ap (λ t. k.role ∷ t) (roles_named keys known h.1)
+
+pub unknown_named : (keys : List (Vec ℕ)) (known : List Known) → AreNamed keys known
+    → option_map (λ (one : Known). one.line) (find (λ (one : Known). is_unknown one.role) known) ≡ option_map (λ (name : Name). name.line) (find (λ (name : Name). is_unknown name.role) (named keys known))
+unknown_named [] [] h = refl
+unknown_named [] (k ∷ known) h = absurd h
+unknown_named (key ∷ keys) [] h = absurd h
+unknown_named (key ∷ keys) (k ∷ known) h = by_cases (unknown_named keys known h.1) (is_unknown k.role)
+  where
+    by_cases : option_map (λ (one : Known). one.line) (find (λ (one : Known). is_unknown one.role) known) ≡ option_map (λ (name : Name). name.line) (find (λ (name : Name). is_unknown name.role) (named keys known))
+        → (b : Bool) → option_map (λ (one : Known). one.line) (cond b (Some k) (find (λ (one : Known). is_unknown one.role) known))
+        ≡ option_map (λ (name : Name). name.line) (cond b (Some (name_at key.items k.line k.role)) (find (λ (name : Name). is_unknown name.role) (named keys known)))
+    by_cases more true = refl
+    by_cases more false = more
+
+pub word_named : (keys : List (Vec ℕ)) (known : List Known) (i : ℕ) (key : Vec ℕ) → AreNamed keys known → i < length keys → key ≡ get_or keys i key → slice_get (words_in (named keys known)) i ≡ Some key.items
+word_named [] [] i key h lt at = absurd (omega (arith, lt))
+word_named [] (k ∷ known) i key h lt at = absurd h
+word_named (x ∷ keys) [] i key h lt at = absurd h
+word_named (x ∷ keys) (k ∷ known) zero key h lt at = ap (λ (t : Vec ℕ). Some t.items) (sym at)
+word_named (x ∷ keys) (k ∷ known) (suc i) key h lt at = word_named keys known i key h.1 (omega (arith, lt)) at

@@ -1,8 +1,9 @@
 //! The names of a text.
 
-ghost use Rattle.std.specs.Prelude.{◌≡◌, ◌∷◌, ◌++◌, [], ◌<◌, ◌^◌, length, map, slice_get, IfOk, IfErr, MatchOption, OnOk, Some, true, false};
+ghost use Rattle.std.specs.Prelude.{◌≡◌, ◌∷◌, ◌++◌, [], ◌<◌, ◌^◌, find, length, map, slice_get, IfOk, IfErr, MatchOption, OnOk, Some, true, false};
 ghost use Rattle.std.specs.List.{list_any};
-ghost use Rattle.blif_net.specs.Names.{DefineStop, IsNumberOf, given_role, is_called, name_at, role_called, with_name, with_names, words_in};
+ghost use Rattle.std.specs.Option.{option_map};
+ghost use Rattle.blif_net.specs.Names.{DefineStop, IsNumberOf, given_role, is_called, is_unknown, name_at, role_called, with_name, with_names, words_in};
 ghost use Rattle.blif_net.specs.Networks.{AreNumbers};
 
 use crate::faults::{FaultKind, Stop};
@@ -166,4 +167,51 @@ impl Names {
         }
         Ok(numbers)
     }
+
+    /// The word of the name at a place.
+    pub fn word_at(&self, place: usize) -> &[u8]
+        requires { place < length self.now }
+        ensures { slice_get (words_in self.now) place ≡ Some result.now }
+    {
+        self.index.as_slice()[place].as_slice()
+    }
+
+    /// The roles of all names.
+    pub fn roles(&self, alloc: Global) -> Result<Vec<Role>, AllocError>
+        ensures { IfOk result (λ roles. roles.items ≡ map (λ name. name.role) self.now) }
+    {
+        roles_in(alloc, self.known.as_slice())
+    }
+
+    /// The line of the first name that is no signal.
+    pub fn first_unknown(&self) -> Option<u64>
+        ensures { result ≡ option_map (λ name. name.line) (find (λ name. is_unknown name.role) self.now) }
+    {
+        first_unknown(self.known.as_slice())
+    }
+}
+
+fn is_unknown(role: Role) -> bool
+    ensures { result ≡ is_unknown role }
+{
+    match role {
+        Role::Unknown => true,
+        _ => false,
+    }
+}
+
+fn roles_in(alloc: Global, known: &[Known]) -> Result<Vec<Role>, AllocError>
+    ensures { IfOk result (λ roles. roles.items ≡ map (λ one. one.role) known.now) }
+{
+    known.iter().map(|one| one.role).collect(alloc)
+}
+
+/// The line of the first that is unknown.
+fn first_unknown(known: &[Known]) -> Option<u64>
+    ensures { result ≡ option_map (λ one. one.line) (find (λ one. is_unknown one.role) known.now) }
+{
+    known
+        .iter()
+        .find(|one| is_unknown(one.role))
+        .map(|one| one.line)
 }
