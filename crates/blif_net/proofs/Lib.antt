@@ -20,3 +20,5 @@ pub mod Roles
 pub mod Drafting
 pub mod Lines
 pub mod Taking
+pub mod CoverReads
+pub mod Undefining

@@ -38,7 +38,7 @@ or_right : (a b : Bool) → b ≡ true → (a || b) ≡ true
 or_right true b h = refl
 or_right false b h = h
 
-all_words : (p : Word → Bool) (words : List Word) → ((z : Word) → is_among words z ≡ true → p z ≡ true) → list_all p words ≡ true
+pub all_words : (p : Word → Bool) (words : List Word) → ((z : Word) → is_among words z ≡ true → p z ≡ true) → list_all p words ≡ true
 all_words p [] h = refl
 all_words p (word ∷ words) h =
     ap (λ b. b && list_all p words) (h word (or_left (bytes_eq word word) (is_among words word) ((bytes_eq-Decides word word).1 refl)))

@@ -82,7 +82,7 @@ new_signal c draft w h e = by_cases (list_any (is_called w) draft.names) refl
     by_cases true f = subst (λ (r : Role). IsRoleOf c.inputs (defined_in (covers_in c)) w r) e (role_is c.inputs (defined_in (covers_in c)) draft.names w h.roles f)
     by_cases false f = no_signal c draft w h (sym (same_names w draft.names) ∙ f)
 
-in_either : (ins defined : List Word) (z : Word) → (is_among ins z ≡ true) ⊎ (is_among defined z ≡ true) → is_among (ins ++ defined) z ≡ true
+pub in_either : (ins defined : List Word) (z : Word) → (is_among ins z ≡ true) ⊎ (is_among defined z ≡ true) → is_among (ins ++ defined) z ≡ true
 in_either ins defined z (inl e) = list_any-append (bytes_eq z) ins defined ∙ ap (λ b. b || is_among defined z) e
 in_either ins defined z (inr e) = list_any-append (bytes_eq z) ins defined ∙ later (is_among ins z) (is_among defined z) e
   where

@@ -1,5 +1,5 @@
 -- What the code keeps from line to line.
-use Rattle.std.specs.Prelude.{◌≡◌, ℕ, Bool, true, false, List, [], ◌∷◌, ◌++◌, Option, Some, None, map, slice_get, if◌then◌else◌}
+use Rattle.std.specs.Prelude.{◌≡◌, ℕ, Bool, true, false, List, [], ◌∷◌, ◌++◌, ◌<◌, All, Option, Some, None, find, length, map, slice_get, if◌then◌else◌}
 use Rattle.std.specs.List.{list_any}
 use Rattle.std.specs.Str.{bytes_eq}
 use Rattle.blif_net.specs.declared.covers.CoverDraft.{CoverDraft}
@@ -11,10 +11,10 @@ use Rattle.blif_net.specs.declared.faults.FaultKind.TheVariants as kinds
 use Rattle.blif_net.specs.declared.faults.Stop.{Stop}
 use Rattle.blif_net.specs.declared.faults.Stop.TheVariants as stops
 use Rattle.blif_net.specs.Text.{Word, Line}
-use Rattle.blif_net.specs.Circuits.{Context, Cover, Statement, nothing, model, inputs, outputs, names, ends, passed_over, left_out, unknown, row, after_line, after_statement, close, cover_at, covers_in, defined_in, is_among, said}
-use Rattle.blif_net.specs.Faults.{end_fault, line_fault, open_fault, signals_in, some_again}
+use Rattle.blif_net.specs.Circuits.{Context, Cover, Statement, nothing, model, inputs, outputs, names, ends, passed_over, left_out, unknown, row, Circuit, after_line, at_start, behind, after_statement, close, cover_at, covers_in, defined_in, is_among, said}
+use Rattle.blif_net.specs.Faults.{end_fault, faulty_line, line_fault, open_fault, signals_in, some_again}
 use Rattle.blif_net.specs.Networks.{AreNumbers}
-use Rattle.blif_net.specs.Names.{Name, words_in}
+use Rattle.blif_net.specs.Names.{Name, is_unknown, role_or_none, words_in}
 use Rattle.blif_net.specs.Covers.{IsCoverOf, StopIs}
 
 -- the drafts are of the covers, one by one
@@ -138,3 +138,39 @@ pub record TakesLine (old : Draft) (line : Line) (new : Draft) : Type 0 where
 -- or not, and why
 abbrev pub StopsLine : Draft → Line → Stop → Type 0
 StopsLine draft line stop = (c : Context) → IsDraftOf c draft → StopIs (line_fault c line) stop
+
+-- the uses of lines, after these
+abbrev pub uses_by : List Use → List Line → List Use
+uses_by uses [] = uses
+uses_by uses (line ∷ lines) = uses_by (with_uses line.number uses (names_said (said line))) lines
+
+-- The draft is what these lines declare, and none of them is faulty.
+pub record IsReadFrom (lines : List Line) (draft : Draft) : Type 0 where
+  pub faultless : faulty_line at_start lines ≡ None
+  pub draft_of : IsDraftOf (behind at_start lines) draft
+  pub uses : uses_in draft ≡ uses_by [] lines
+
+-- The draft is of the circuit: no cover is open, and roles are those among the circuit's signals.
+pub record IsCircuitOf (circuit : Circuit) (draft : Draft) : Type 0 where
+  pub inputs : AreNumbers (words_in draft.names) circuit.inputs draft.inputs
+  pub outputs : AreNumbers (words_in draft.names) circuit.outputs draft.outputs.items
+  pub covers : AreCovers (words_in draft.names) circuit.covers draft.closed
+  pub roles : AreRoles circuit.inputs (defined_in circuit.covers) draft.names
+
+-- each name is a signal
+abbrev pub AllKnown : List Name → Type 0
+AllKnown all = find (λ name. is_unknown name.role) all ≡ None
+
+-- the cover, where the role is that of one
+abbrev pub cover_in : Role → List ℕ
+cover_in (roles.Cover c) = c ∷ []
+cover_in _ = []
+
+-- the covers whose outputs have these numbers
+abbrev pub reads_in : List Name → List ℕ → List ℕ
+reads_in all [] = []
+reads_in all (number ∷ numbers) = cover_in (role_or_none (slice_get all number)) ++ reads_in all numbers
+
+-- the numbers are names'
+abbrev pub InRange : List Name → List CoverDraft → Type 0
+InRange all covers = All (λ cover. All (λ n. n < length all) cover.ins) covers

@@ -7,6 +7,7 @@ mod faults;
 mod names;
 mod net;
 mod reader;
+mod reads;
 mod statements;
 mod text;
 
