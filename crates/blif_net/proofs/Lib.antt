@@ -22,3 +22,5 @@ pub mod Lines
 pub mod Taking
 pub mod CoverReads
 pub mod Undefining
+pub mod Placing
+pub mod NetBuilding

@@ -8,5 +8,6 @@ pub mod Names
 pub mod Statements
 pub mod Covers
 pub mod Drafts
+pub mod Building
 pub mod Joined
 pub mod Bridges

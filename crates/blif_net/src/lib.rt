@@ -1,6 +1,7 @@
 //! Networks of the Berkeley Logic Interchange Format, and the texts that they are read from.
 #![tactic(auto)]
 
+mod building;
 mod covers;
 mod draft;
 mod faults;

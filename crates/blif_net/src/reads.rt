@@ -1,10 +1,14 @@
 //! The covers in an order in which each stands after those that it reads.
 
 ghost use Rattle.std.specs.Prelude.{◌≡◌, ◌<◌, ◌-◌, ◌^◌, All, length, map, IfOk};
-ghost use Rattle.blif_net.specs.Drafts.{InRange, reads_in};
+ghost use Rattle.blif_net.specs.Drafts.{AllKnown, InRange, IsCircuitOf, reads_in};
+ghost use Rattle.blif_net.specs.Bridges.{IsArranged};
+ghost use Rattle.blif_net.specs.Circuits.{Circuit};
 
 use crate::covers::CoverDraft;
+use crate::draft::Draft;
 use crate::names::{Names, Role};
+use blif_order::{Arranged, arrange};
 use edge_bits::List;
 use std::alloc::{AllocError, Global};
 
@@ -40,4 +44,18 @@ fn all_reads(alloc: Global, names: &Names, covers: &[CoverDraft]) -> Result<Vec<
         reads.push(reads_of(alloc, names, cover.ins.as_slice())?)?;
     }
     Ok(reads)
+}
+
+/// The circuit's covers in an order in which each stands after those that it reads, or the first that lies on a cycle or depends on one.
+pub fn arranged(alloc: Global, draft: &Draft) -> Result<Arranged, AllocError>
+    requires circuit { (circuit : Circuit) × IsCircuitOf circuit draft.now }
+    requires known { AllKnown draft.now.names }
+    ensures { IfOk result (λ arranged. (circuit : Circuit) → IsCircuitOf circuit draft.now → IsArranged circuit arranged) }
+{
+    let covers = draft.closed.as_slice();
+    if covers.len() > MOST {
+        return Err(AllocError);
+    }
+    let reads = all_reads(alloc, &draft.names, covers)?;
+    arrange(alloc, &reads)
 }
