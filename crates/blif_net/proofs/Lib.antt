@@ -24,3 +24,4 @@ pub mod CoverReads
 pub mod Undefining
 pub mod Placing
 pub mod NetBuilding
+pub mod Wholes

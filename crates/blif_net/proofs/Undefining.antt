@@ -231,7 +231,7 @@ unknown_is ins defined (name ∷ all) h =
     by_cases true more = refl
     by_cases false more = more
 
-abbrev undefined_at : ℕ → BlifFault
+abbrev pub undefined_at : ℕ → BlifFault
 undefined_at n = record { line = n; what = kinds.Undefined }
 
 map_twice : (o : Option Line) → option_map (λ (line : Line). undefined_at line.number) o ≡ option_map undefined_at (option_map (λ (line : Line). line.number) o)

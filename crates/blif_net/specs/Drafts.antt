@@ -4,6 +4,9 @@ use Rattle.std.specs.List.{list_any}
 use Rattle.std.specs.Str.{bytes_eq}
 use Rattle.blif_net.specs.declared.covers.CoverDraft.{CoverDraft}
 use Rattle.blif_net.specs.declared.draft.Draft.{Draft}
+use Rattle.blif_net.specs.declared.faults.BlifError.{BlifError}
+use Rattle.blif_net.specs.declared.faults.BlifError.TheVariants as errors
+use Rattle.blif_net.specs.declared.net.Net.{Net}
 use Rattle.blif_net.specs.declared.names.Role.{Role}
 use Rattle.blif_net.specs.declared.names.Role.TheVariants as roles
 use Rattle.blif_net.specs.declared.faults.FaultKind.{FaultKind}
@@ -11,9 +14,9 @@ use Rattle.blif_net.specs.declared.faults.FaultKind.TheVariants as kinds
 use Rattle.blif_net.specs.declared.faults.Stop.{Stop}
 use Rattle.blif_net.specs.declared.faults.Stop.TheVariants as stops
 use Rattle.blif_net.specs.Text.{Word, Line}
-use Rattle.blif_net.specs.Circuits.{Context, Cover, Statement, nothing, model, inputs, outputs, names, ends, passed_over, left_out, unknown, row, Circuit, after_line, at_start, behind, after_statement, close, cover_at, covers_in, defined_in, is_among, said}
-use Rattle.blif_net.specs.Faults.{end_fault, faulty_line, line_fault, open_fault, signals_in, some_again}
-use Rattle.blif_net.specs.Networks.{AreNumbers}
+use Rattle.blif_net.specs.Circuits.{Context, Cover, Statement, nothing, model, inputs, outputs, names, ends, passed_over, left_out, unknown, row, Circuit, after_line, at_start, behind, circuit_of, after_statement, close, cover_at, covers_in, defined_in, is_among, said}
+use Rattle.blif_net.specs.Faults.{end_fault, fault_in, faulty_line, line_fault, open_fault, signals_in, some_again}
+use Rattle.blif_net.specs.Networks.{AreNumbers, IsNetOf}
 use Rattle.blif_net.specs.Names.{Name, is_unknown, role_or_none, words_in}
 use Rattle.blif_net.specs.Covers.{IsCoverOf, StopIs}
 
@@ -174,3 +177,18 @@ reads_in all (number ∷ numbers) = cover_in (role_or_none (slice_get all number
 -- the numbers are names'
 abbrev pub InRange : List Name → List CoverDraft → Type 0
 InRange all covers = All (λ cover. All (λ n. n < length all) cover.ins) covers
+
+-- The draft is what these lines declare, none of them is faulty, and no cover is open any more.
+pub record IsClosedFrom (lines : List Line) (draft : Draft) : Type 0 where
+  pub faultless : faulty_line at_start lines ≡ None
+  pub circuit : IsCircuitOf (circuit_of lines) draft
+  pub uses : uses_in draft ≡ uses_by [] lines
+
+-- the network is that of the lines, which have no fault
+abbrev pub IsNetFrom : List Line → Net → Type 0
+IsNetFrom lines net = (fault_in lines ≡ None) × IsNetOf (circuit_of lines) net
+
+-- why lines are not those of a network
+abbrev pub HasFaultIn : List Line → BlifError → Type 0
+HasFaultIn lines errors.Memory = Unit {0}
+HasFaultIn lines (errors.Fault fault) = fault_in lines ≡ Some fault

@@ -83,3 +83,13 @@ impl<T: Drop> From<AllocFailed<T>> for Stop {
         Stop::Memory
     }
 }
+
+impl From<AllocError> for BlifError {
+    ghost use Rattle.blif_net.specs.declared.faults.BlifError.TheVariants.{Memory};
+
+    ghost from_gives = { λ _ e. e ≡ Memory };
+
+    fn from(_: AllocError) -> BlifError {
+        BlifError::Memory
+    }
+}

@@ -1,6 +1,46 @@
-//! The reader of networks.
+//! The reader of networks, line by line.
 
+ghost use Rattle.std.specs.Prelude.{◌≡◌, List as ListOf, IfOk, IfErr};
+ghost use Rattle.blif_net.specs.Drafts.{HasFaultIn, IsClosedFrom, IsNetFrom};
+ghost use Rattle.blif_net.specs.Faults.{last_number};
 ghost use Rattle.blif_net.specs.Readings.{EachHasOne, NetOrFault, OneFault, OneNet};
+ghost use Rattle.blif_net.specs.Text.{Line};
+
+use crate::building::net_of;
+use crate::draft::Draft;
+use crate::faults::{BlifError, BlifFault, FaultKind};
+use crate::net::Net;
+use crate::reads::arranged;
+use blif_order::Arranged;
+use std::alloc::Global;
+
+fn fault_at(line: u64, what: FaultKind) -> BlifError
+    ensures { result ≡ BlifError.Fault (record { line = line; what = what }) }
+{
+    BlifError::Fault(BlifFault { line, what })
+}
+
+/// The network of a draft, where no cover is open and the last line has this number, or what is wrong with the whole.
+fn finish(alloc: Global, draft: Draft, last: u64) -> Result<Net, BlifError>
+    requires { (lines : ListOf Line) × IsClosedFrom lines draft }
+    ensures net { IfOk result (λ net. (lines : ListOf Line) → IsClosedFrom lines draft → IsNetFrom lines net) }
+    ensures fault { IfErr result (λ error. (lines : ListOf Line) → IsClosedFrom lines draft → last ≡ last_number lines → HasFaultIn lines error) }
+{
+    if let Some(line) = draft.names.first_unknown() {
+        return Err(fault_at(line, FaultKind::Undefined));
+    }
+    let order = match arranged(alloc, &draft)? {
+        Arranged::Cyclic(root) => {
+            let cover = &draft.closed.as_slice()[root as usize];
+            return Err(fault_at(cover.line, FaultKind::Cycle));
+        }
+        Arranged::Ordering(order) => order,
+    };
+    if draft.outputs.as_slice().is_empty() {
+        return Err(fault_at(last, FaultKind::NoOutputs));
+    }
+    Ok(net_of(alloc, draft, &order)?)
+}
 
 /// Each text, of any length, is that of a network or has one fault, and not both; and the networks of one text give each output
 /// the same values.
