@@ -25,3 +25,4 @@ pub mod Undefining
 pub mod Placing
 pub mod NetBuilding
 pub mod Wholes
+pub mod Reading

@@ -92,11 +92,11 @@ pub taken_more : (order : List ℕ) (start now now' : List CoverDraft) (signals 
 taken_more order start now now' signals gates gates' i gate cover' o lt e many others f g k =
     let here : get_or now (get_or order i 0) no_cover ≡ get_or start (get_or order i 0) no_cover = others (get_or order i 0) (not_yet order i o lt) in (
       k ∙ ap (λ t. t ++ gate ∷ []) e ∙ ap (λ t. map (λ c. gate_of signals (get_or start c no_cover)) (take i order) ++ t ∷ []) (g ∙ ap (gate_of signals) here)
-      ∙ sym (ap (map (λ c. gate_of signals (get_or start c no_cover))) (take_more order i 0 lt) ∙ map-append (λ c. gate_of signals (get_or start c no_cover)) (take i order) (get_or order i 0 ∷ [])),
+          ∙ sym (ap (map (λ c. gate_of signals (get_or start c no_cover))) (take_more order i 0 lt) ∙ map-append (λ c. gate_of signals (get_or start c no_cover)) (take i order) (get_or order i 0 ∷ [])),
       ap length f ∙ length-set now (get_or order i 0) cover' ∙ many,
       λ c h.
-      let both = or_parts (is_in (take i order) c) (get_or order i 0 == c || false) (sym (ap (λ t. is_in t c) (take_more order i 0 lt) ∙ list_any-append (λ x. x == c) (take i order) (get_or order i 0 ∷ [])) ∙ h) in
-      ap (λ t. get_or t c no_cover) f ∙ get_or-set_other now (get_or order i 0) c cover' no_cover (λ s. differs (get_or order i 0) c (or_parts (get_or order i 0 == c) false both.1).0 s) ∙ others c both.0,
+          let both = or_parts (is_in (take i order) c) (get_or order i 0 == c || false) (sym (ap (λ t. is_in t c) (take_more order i 0 lt) ∙ list_any-append (λ x. x == c) (take i order) (get_or order i 0 ∷ [])) ∙ h) in
+          ap (λ t. get_or t c no_cover) f ∙ get_or-set_other now (get_or order i 0) c cover' no_cover (λ s. differs (get_or order i 0) c (or_parts (get_or order i 0 == c) false both.1).0 s) ∙ others c both.0,
     )
   where
     differs : (a b : ℕ) → (a == b) ≡ false → b ≡ a → ⊥

@@ -118,7 +118,7 @@ first_use sig us (line ∷ lines) f h = by_cases (list_all sig (uses (said line)
   where
     by_cases : (b : Bool) → list_all sig (uses (said line)) ≡ b
         → (find (no_signal sig) (with_uses line.number us (names_said (said line))) ≡ None
-            → option_map (λ (u : Use). u.line) (find (no_signal sig) (uses_by (with_uses line.number us (names_said (said line))) lines)) ≡ option_map (λ (one : Line). one.number) (find (is_bad sig) lines))
+        → option_map (λ (u : Use). u.line) (find (no_signal sig) (uses_by (with_uses line.number us (names_said (said line))) lines)) ≡ option_map (λ (one : Line). one.number) (find (is_bad sig) lines))
         → option_map (λ (u : Use). u.line) (find (no_signal sig) (uses_by us (line ∷ lines))) ≡ option_map (λ (one : Line). one.number) (cond (is_bad sig line) (Some line) (find (is_bad sig) lines))
     by_cases true e more =
         more (uses_none sig line.number us (names_said (said line)) h (f.0 ∙ e)) ∙ ap (λ b. option_map (λ (one : Line). one.number) (cond (not b) (Some line) (find (is_bad sig) lines))) (sym e)

@@ -97,8 +97,8 @@ no_cycle : (circuit : Circuit) (order : Vec ℕ) → IsArranged circuit (Orderin
 no_cycle circuit order (reads, r, a) =
     ap (option_map cycle_at) (find_none (λ (one : Cover). not (is_settled circuit one)) circuit.covers
     (λ i cover at.
-        let led : is_led reads (length reads) i ≡ true = led_in_all reads order.items a.0 a.1 a.3 i (a.2 i (omega (arith, slice_get_within circuit.covers i cover at, r.as_many))) in
-        ap not (led_settles circuit reads r (length circuit.covers) i cover at (led_more reads (length circuit.covers) i (subst (λ (n : ℕ). is_led reads n i ≡ true) r.as_many led)))))
+    let led : is_led reads (length reads) i ≡ true = led_in_all reads order.items a.0 a.1 a.3 i (a.2 i (omega (arith, slice_get_within circuit.covers i cover at, r.as_many))) in
+    ap not (led_settles circuit reads r (length circuit.covers) i cover at (led_more reads (length circuit.covers) i (subst (λ (n : ℕ). is_led reads n i ≡ true) r.as_many led)))))
 
 -- outputs
 none_named : (lines : List Line) (draft : Draft) → IsClosedFrom lines draft → (b : Bool) → (length draft.outputs.items == 0) ≡ b → no_outputs lines ≡ cond b (Some (record { line = last_number lines; what = kinds.NoOutputs })) None

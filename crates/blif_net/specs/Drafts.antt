@@ -192,3 +192,8 @@ IsNetFrom lines net = (fault_in lines ≡ None) × IsNetOf (circuit_of lines) ne
 abbrev pub HasFaultIn : List Line → BlifError → Type 0
 HasFaultIn lines errors.Memory = Unit {0}
 HasFaultIn lines (errors.Fault fault) = fault_in lines ≡ Some fault
+
+-- why a text is not that of a network of which a line was not taken
+abbrev pub stopped_at : ℕ → Stop → BlifError
+stopped_at line stops.Memory = errors.Memory
+stopped_at line (stops.Fault kind) = errors.Fault (record { line = line; what = kind })

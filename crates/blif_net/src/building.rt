@@ -8,15 +8,20 @@ ghost use Rattle.blif_net.specs.Drafts.{IsCircuitOf};
 ghost use Rattle.blif_net.specs.Names.{words_in};
 
 use crate::covers::CoverDraft;
-use crate::names::{Names, Role};
 use crate::draft::{Draft, number_of};
+use crate::names::{Names, Role};
 use crate::net::{Cover, Net, Output};
 use edge_bits::List;
 use std::alloc::{AllocError, Global};
 use std::mem;
 
 /// The signals of covers that stand in this order, from this signal on. There are fewer than 2^32: for more there is no memory.
-fn cover_signals(alloc: Global, first: u32, order: &[u32], covers: usize) -> Result<Vec<u32>, AllocError>
+fn cover_signals(
+    alloc: Global,
+    first: u32,
+    order: &[u32],
+    covers: usize,
+) -> Result<Vec<u32>, AllocError>
     requires within { All (λ c. c < covers) order.now }
     requires once { Once order.now }
     ensures many { IfOk result (λ signals. length signals.items ≡ covers) }
@@ -85,7 +90,12 @@ fn gate(alloc: Global, signals: &[u32], cover: &mut CoverDraft) -> Result<Cover,
 }
 
 /// The gates of covers in this order.
-fn gates(alloc: Global, signals: &[u32], covers: List<CoverDraft>, order: &[u32]) -> Result<List<Cover>, AllocError>
+fn gates(
+    alloc: Global,
+    signals: &[u32],
+    covers: List<CoverDraft>,
+    order: &[u32],
+) -> Result<List<Cover>, AllocError>
     requires within { All (λ c. c < length covers) order.now }
     requires once { Once order.now }
     requires in_range { All (λ cover. All (λ n. n < length signals.now) cover.ins) covers }
@@ -114,7 +124,12 @@ fn words_at(alloc: Global, names: &Names, numbers: &[u32]) -> Result<List<List<u
 }
 
 /// The outputs of these numbers.
-fn outputs_at(alloc: Global, names: &Names, signals: &[u32], numbers: &[u32]) -> Result<List<Output>, AllocError>
+fn outputs_at(
+    alloc: Global,
+    names: &Names,
+    signals: &[u32],
+    numbers: &[u32],
+) -> Result<List<Output>, AllocError>
     requires names { All (λ n. n < length names.now) numbers.now }
     requires signals { length signals.now ≡ length names.now }
     ensures names { IfOk result (λ outputs. map (λ output. Some output.name) outputs ≡ map (slice_get (words_in names.now)) numbers.now) }

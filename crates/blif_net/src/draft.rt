@@ -99,7 +99,7 @@ impl Draft {
     }
 
     /// Closes the open cover.
-    fn close(&mut self) -> Result<(), AllocError>
+    pub fn close(&mut self) -> Result<(), AllocError>
         ensures { OnOk result (Closes self.old self.new) }
     {
         if let Some(cover) = self.current.take() {

@@ -34,7 +34,11 @@ fn reads_of(alloc: Global, names: &Names, ins: &[u32]) -> Result<List<u32>, Allo
 }
 
 /// The numbers of the covers that each cover reads.
-fn all_reads(alloc: Global, names: &Names, covers: &[CoverDraft]) -> Result<Vec<List<u32>>, AllocError>
+fn all_reads(
+    alloc: Global,
+    names: &Names,
+    covers: &[CoverDraft],
+) -> Result<Vec<List<u32>>, AllocError>
     requires { InRange names.now covers.now }
     ensures reads { IfOk result (λ reads. reads.items ≡ map (λ cover. reads_in names.now cover.ins) covers.now) }
     ensures few { IfOk result (λ reads. All (λ one. length one < 2 ^ 32 - 1) reads.items) }

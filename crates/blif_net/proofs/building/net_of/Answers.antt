@@ -14,9 +14,13 @@ pub name_signals-requires : goal.name_signals-requires
 name_signals-requires c =
     λ n d e.
     let h = c.requires.circuit in
-    omega (arith,
+    omega (
+      arith,
       roles_within h.0 c.args.draft n d h.1 (ap (λ (t : List Role). slice_get t n) (sym (c.deref.ensures.value ∙ c.in_ok-roles.ensures)) ∙ e),
-      ap length c.deref-2.ensures.value, c.in_ok-covers.ensures.many, c.len-2.ensures)
+      ap length c.deref-2.ensures.value,
+      c.in_ok-covers.ensures.many,
+      c.len-2.ensures,
+    )
 
 pub words_at-requires : goal.words_at-requires
 words_at-requires c =

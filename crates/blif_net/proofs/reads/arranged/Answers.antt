@@ -30,10 +30,9 @@ arrange-requires c =
 pub returns : goal.returns
 returns c =
     IfOk-weaker c.arrange.result (ArrangedIs c.deref.result.now) (λ arranged. (circuit : Circuit) → IsCircuitOf circuit c.args.draft.now → IsArranged circuit arranged)
-    (λ arranged a circuit h.
-        (
-          c.deref.result.now,
-          reads_are circuit c.args.draft.now c.deref.result.now h c.requires.known
+    (λ arranged a circuit h. (
+      c.deref.result.now,
+      reads_are circuit c.args.draft.now c.deref.result.now h c.requires.known
           (c.deref.ensures.value ∙ c.in_ok-reads.ensures.reads ∙ ap (map (λ (cover : CoverDraft). reads_in c.args.draft.now.names cover.ins)) c.as_slice-covers.ensures),
-          a,
-        )) c.arrange.ensures
+      a,
+    )) c.arrange.ensures
