@@ -1,8 +1,7 @@
 -- Rows as they are read into a cover.
-use Rattle.std.proofs.Common.{◌≡◌, ℕ, zero, suc, ◌+◌, ◌==◌, ◌&&◌, ◌||◌, not, Bool, true, false, cond, List, [], ◌∷◌, ◌++◌, length, map, get_or, Option, Some, None, Bor, codes, inl, inr, refl, ap, sym, ◌∙◌, subst, arith}
-use Rattle.std.specs.Prelude.{◌⊎◌, slice_get, option_to_list}
+use Rattle.std.proofs.Common.{◌≡◌, ℕ, suc, ◌==◌, ◌&&◌, ◌||◌, not, Bool, true, false, cond, List, [], ◌∷◌, ◌++◌, length, map, get_or, Option, Some, None, Bor, refl, ap, sym, ◌∙◌, subst, arith}
+use Rattle.std.specs.Prelude.{slice_get, option_to_list}
 use Rattle.std.specs.List.{list_all}
-use Rattle.std.specs.Str.{bytes_eq}
 use Rattle.std.proofs.lemmas.Bool.{false≢true}
 use Rattle.std.proofs.lemmas.Bool.Decides.{nat_tests}
 use Rattle.std.proofs.lemmas.List.{length-map, map-append}
@@ -11,7 +10,7 @@ use Rattle.blif_net.specs.declared.covers.ReadRow.{ReadRow}
 use Rattle.blif_net.specs.declared.net.Cube.{Cube}
 use Rattle.blif_net.specs.declared.faults.FaultKind.TheVariants as kinds
 use Rattle.blif_net.specs.Text.{Word}
-use Rattle.blif_net.specs.Circuits.{Cover, Row, is_bit, is_cube, is_literal, row_of, row_with, with_row}
+use Rattle.blif_net.specs.Circuits.{Cover, Row, is_bit, is_cube, is_literal, row_of, row_with}
 use Rattle.blif_net.specs.Faults.{is_mixed, row_fault}
 use Rattle.blif_net.specs.Networks.{AreNumbers, is_on, literals_of}
 use Rattle.blif_net.specs.Covers.{IsCoverOf, IsRead, IsReadRow, IsRowOf, TakesRow, takes_output}

@@ -26,7 +26,7 @@ any_here p [] d cover h e = cc
 any_here p (x ∷ covers) zero cover h e = let same : x ≡ cover = cc in or_left (p x) (list_any p covers) (ap p same ∙ e)
 any_here p (x ∷ covers) (suc d) cover h e = or_right (p x) (list_any p covers) (any_here p covers d cover h e)
 
-none_here : (p : Cover → Bool) (covers : List Cover) → ((d : ℕ) (cover : Cover) → slice_get covers d ≡ Some cover → p cover ≡ false) → list_any p covers ≡ false
+pub none_here : (p : Cover → Bool) (covers : List Cover) → ((d : ℕ) (cover : Cover) → slice_get covers d ≡ Some cover → p cover ≡ false) → list_any p covers ≡ false
 none_here p [] h = refl
 none_here p (x ∷ covers) h = ap (λ b. b || list_any p covers) (h 0 x refl) ∙ none_here p covers (λ d cover e. h (suc d) cover e)
 
@@ -36,7 +36,7 @@ all_words p (word ∷ words) h =
     ap (λ b. b && list_all p words) (h word (or_left (bytes_eq word word) (is_among words word) ((bytes_eq-Decides word word).1 refl)))
     ∙ all_words p words (λ z e. h z (or_right (bytes_eq z word) (is_among words z) e))
 
-some_word : (p : Word → Bool) (words : List Word) (z : Word) → is_among words z ≡ true → p z ≡ false → list_all p words ≡ false
+pub some_word : (p : Word → Bool) (words : List Word) (z : Word) → is_among words z ≡ true → p z ≡ false → list_all p words ≡ false
 some_word p [] z h e = absurd (false≢true h)
 some_word p (word ∷ words) z h e = by_cases (bytes_eq z word) refl (λ k. some_word p words z k e)
   where
@@ -97,7 +97,7 @@ only_cover circuit d e one other a h k same =
     sym (found_once circuit.covers d one a.covers h) ∙ ap (λ z. find (λ (cover : Cover). bytes_eq z cover.name) circuit.covers) name ∙ found_once circuit.covers e other a.covers k in
     cc
 
-by_name : (circuit : Circuit) (d e : ℕ) (one other : Cover) (limit : ℕ) → Alone circuit.inputs (defined_in circuit.covers) → slice_get circuit.covers d ≡ Some one → slice_get circuit.covers e ≡ Some other
+pub by_name : (circuit : Circuit) (d e : ℕ) (one other : Cover) (limit : ℕ) → Alone circuit.inputs (defined_in circuit.covers) → slice_get circuit.covers d ≡ Some one → slice_get circuit.covers e ≡ Some other
     → list_all (settles circuit limit) one.ins ≡ false → (b : Bool) → bytes_eq one.name other.name ≡ b → (bytes_eq one.name other.name && list_all (settles circuit limit) other.ins) ≡ false
 by_name circuit d e one other limit a h k stops false f = ap (λ b. b && list_all (settles circuit limit) other.ins) f
 by_name circuit d e one other limit a h k stops true f =

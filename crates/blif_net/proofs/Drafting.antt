@@ -1,23 +1,18 @@
 -- A draft that takes a line, kind by kind.
-use Rattle.std.proofs.Common.{◌≡◌, ℕ, zero, suc, ◌+◌, ◌-◌, ◌<◌, ◌||◌, not, Bool, true, false, cond, List, [], ◌∷◌, ◌++◌, length, map, take, drop, Option, Some, None, Vec, nat_lt, refl, ap, sym, ◌∙◌, subst, arith, append_assoc, append-nil, length-append}
-use Rattle.std.specs.Prelude.{option_to_list, slice_get}
+use Rattle.std.proofs.Common.{◌≡◌, ℕ, ◌||◌, Bool, true, false, cond, List, [], ◌∷◌, ◌++◌, length, map, refl, ap, sym, ◌∙◌, subst}
 use Rattle.std.specs.List.{list_any}
 use Rattle.std.specs.Str.{bytes_eq}
-use Rattle.std.proofs.lemmas.Bool.{false≢true, or_parts, or_from}
-use Rattle.std.proofs.lemmas.Bool.Decides.{nat_tests}
-use Rattle.std.proofs.lemmas.List.{map-append, length-map}
-use Rattle.blif_net.specs.declared.covers.CoverDraft.{CoverDraft}
+use Rattle.std.proofs.lemmas.List.{map-append}
 use Rattle.blif_net.specs.declared.draft.Draft.{Draft}
 use Rattle.blif_net.specs.declared.names.Role.{Role}
 use Rattle.blif_net.specs.declared.names.Role.TheVariants as roles
 use Rattle.blif_net.specs.declared.faults.Stop.{Stop}
 use Rattle.blif_net.specs.declared.faults.Stop.TheVariants as stops
 use Rattle.blif_net.specs.Text.{Word}
-use Rattle.blif_net.specs.Circuits.{Context, Cover, close, covers_in, defined_in, is_among}
-use Rattle.blif_net.specs.Faults.{signals_in}
+use Rattle.blif_net.specs.Circuits.{covers_in, defined_in}
 use Rattle.blif_net.specs.Networks.{AreNumbers}
 use Rattle.blif_net.specs.Names.{DefineStop, IsNumberOf, Name, given_role, is_called, name_at, role_called, with_name, words_in}
-use Rattle.blif_net.specs.Drafts.{AddsInput, AreCovers, AreRoles, Closes, IsCurrent, InputStop, IsDraftOf, Use, use_at, uses_in, with_use}
+use Rattle.blif_net.specs.Drafts.{AddsInput, AreCovers, AreRoles, IsCurrent, InputStop, Use, use_at, with_use}
 use Rattle.blif_net.proofs.NameLists.{words_given}
 use Rattle.blif_net.proofs.CoverRows.{as_many_numbers}
 use Rattle.blif_net.proofs.Growing.{covers_grow, current_grows, number_word, numbers_grow, numbers_last, words_more}

@@ -1,15 +1,13 @@
 -- Numbers of names stay right when names are added.
-use Rattle.std.proofs.Common.{◌≡◌, ℕ, zero, suc, ◌+◌, ◌<◌, ◌||◌, not, Bool, true, false, cond, List, [], ◌∷◌, ◌++◌, length, map, take, get_or, Option, Some, None, Bor, refl, ap, sym, ◌∙◌, subst, arith, append-nil, append_assoc}
+use Rattle.std.proofs.Common.{◌≡◌, ℕ, suc, ◌+◌, ◌<◌, not, Bool, true, false, cond, List, [], ◌∷◌, ◌++◌, length, map, Option, Some, None, refl, ap, sym, ◌∙◌, subst, arith, append-nil, append_assoc}
 use Rattle.std.specs.Prelude.{slice_get}
 use Rattle.std.specs.List.{list_any, position_or_len}
-use Rattle.std.specs.Str.{bytes_eq}
-use Rattle.std.proofs.lemmas.Bool.{false≢true, or_parts}
 use Rattle.std.proofs.lemmas.List.{map-append}
 use Rattle.std.proofs.lemmas.Slice.Eq.{bytes_eq-Decides}
 use Rattle.blif_net.specs.declared.covers.CoverDraft.{CoverDraft}
 use Rattle.blif_net.specs.declared.names.Role.TheVariants.{Unknown}
 use Rattle.blif_net.specs.Text.{Word}
-use Rattle.blif_net.specs.Circuits.{Cover, is_among}
+use Rattle.blif_net.specs.Circuits.{Cover}
 use Rattle.blif_net.specs.Networks.{AreNumbers}
 use Rattle.blif_net.specs.Names.{IsNumberOf, Name, is_called, name_at, with_name, with_names, words_in}
 use Rattle.blif_net.specs.Covers.{IsCoverOf}

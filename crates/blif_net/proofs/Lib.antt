@@ -26,3 +26,4 @@ pub mod Placing
 pub mod NetBuilding
 pub mod Wholes
 pub mod Reading
+pub mod OnCycles

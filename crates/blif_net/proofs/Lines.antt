@@ -1,33 +1,30 @@
 -- A draft that takes a line, kind by kind.
-use Rattle.std.proofs.Common.{◌≡◌, ℕ, zero, suc, ◌+◌, ◌-◌, ◌<◌, ◌≤◌, ◌||◌, not, Bool, true, false, cond, List, [], ◌∷◌, ◌++◌, length, map, Option, Some, None, nat_lt, refl, ap, sym, ◌∙◌, subst, arith, append_assoc, append-nil, length-append, take}
+use Rattle.std.proofs.Common.{◌≡◌, ℕ, suc, ◌+◌, ◌-◌, ◌≤◌, ◌||◌, Bool, true, false, cond, List, [], ◌∷◌, ◌++◌, length, map, Option, Some, None, nat_lt, refl, ap, sym, ◌∙◌, subst, arith, append_assoc, append-nil, length-append, take}
 use Rattle.std.specs.Prelude.{option_to_list, slice_get}
 use Rattle.std.specs.Global.{Vec}
 use Rattle.std.specs.List.{list_any}
 use Rattle.std.specs.Str.{bytes_eq}
-use Rattle.std.proofs.lemmas.Bool.{false≢true, or_parts, or_from}
 use Rattle.std.proofs.lemmas.Bool.Decides.{nat_tests}
 use Rattle.std.proofs.lemmas.List.{map-append, length-map}
 use Rattle.std.proofs.lemmas.List.Folds.{list_any-append}
 use Rattle.blif_net.specs.declared.covers.CoverDraft.{CoverDraft}
 use Rattle.blif_net.specs.declared.draft.Draft.{Draft}
 use Rattle.blif_net.specs.declared.net.Cube.{Cube}
-use Rattle.blif_net.specs.declared.names.Role.{Role}
 use Rattle.blif_net.specs.declared.names.Role.TheVariants as roles
-use Rattle.blif_net.specs.declared.faults.FaultKind.{FaultKind}
 use Rattle.blif_net.specs.declared.faults.FaultKind.TheVariants as kinds
 use Rattle.blif_net.specs.declared.faults.Stop.{Stop}
 use Rattle.blif_net.specs.declared.faults.Stop.TheVariants as stops
 use Rattle.blif_net.specs.Text.{Word}
-use Rattle.blif_net.specs.Circuits.{Context, Cover, inputs, outputs, names, row, close, cover_at, covers_in, defined_in, front_of, is_among, last_of, row_of, with_row, with_row_in}
-use Rattle.blif_net.specs.Faults.{fault_if, inputs_fault, most_inputs, most_outputs, most_signals, names_fault, or_else, row_fault, rows_fault, signals_in, some_again}
+use Rattle.blif_net.specs.Circuits.{Context, Cover, inputs, outputs, names, row, cover_at, covers_in, defined_in, front_of, is_among, last_of, with_row_in}
+use Rattle.blif_net.specs.Faults.{fault_if, inputs_fault, most_inputs, most_outputs, most_signals, names_fault, or_else, rows_fault, signals_in, some_again}
 use Rattle.blif_net.specs.Networks.{AreNumbers}
 use Rattle.blif_net.specs.Names.{DefineStop, IsNumberOf, Name, given_role, is_called, name_at, role_called, with_name, with_names, words_in}
-use Rattle.blif_net.specs.Covers.{IsCoverOf, StopIs, TakesRow}
+use Rattle.blif_net.specs.Covers.{IsCoverOf, TakesRow}
 use Rattle.blif_net.specs.Drafts.{AddsInput, AddsInputs, AreCovers, AreRoles, Closes, InputStop, InputsStop, IsCurrent, IsDraftOf, Stops, Takes, TakesStatement, uses_in, with_use, with_uses}
 use Rattle.blif_net.proofs.CoverRows.{as_many_numbers}
 use Rattle.blif_net.proofs.Distinct.{closed_same, row_same}
 use Rattle.blif_net.proofs.Drafting.{given_more, use_of, uses_given, uses_named}
-use Rattle.blif_net.proofs.Growing.{cover_grows, covers_grow, current_grows, number_word, numbers_grow, words_many, words_more}
+use Rattle.blif_net.proofs.Growing.{covers_grow, current_grows, number_word, numbers_grow, words_more}
 use Rattle.blif_net.proofs.Roles.{last_got, new_signal, no_signal, old_signal, roles_given, roles_last, same_names}
 use Rattle.blif_net.proofs.Roles.{cover_grows as signals_grow}
 

@@ -1,7 +1,6 @@
 -- What was built of a draft is a network of its circuit.
-use Rattle.std.proofs.Common.{◌≡◌, ℕ, zero, suc, ◌+◌, ◌==◌, ◌<◌, ◌||◌, Bool, true, false, cond, List, [], ◌∷◌, ◌++◌, length, map, get_or, Option, Some, None, inl, inr, refl, ap, sym, ◌∙◌, subst, arith}
-use Rattle.std.specs.Prelude.{◌⊎◌, find, slice_get, slice_index}
-use Rattle.std.specs.List.{All}
+use Rattle.std.proofs.Common.{◌≡◌, ℕ, zero, suc, ◌+◌, ◌==◌, ◌<◌, ◌||◌, Bool, true, false, cond, List, [], ◌∷◌, ◌++◌, length, map, get_or, Some, None, refl, ap, sym, ◌∙◌, subst, arith}
+use Rattle.std.specs.Prelude.{find, slice_get, slice_index}
 use Rattle.std.proofs.lemmas.Bool.{false≢true}
 use Rattle.std.proofs.lemmas.Bool.Decides.{nat_tests}
 use Rattle.std.proofs.lemmas.List.{length-map}
@@ -14,14 +13,14 @@ use Rattle.blif_net.specs.declared.net.Cover.{Cover as Gate}
 use Rattle.blif_net.specs.declared.net.Net.{Net}
 use Rattle.blif_net.specs.declared.net.Output.{Output}
 use Rattle.blif_net.specs.Text.{Word}
-use Rattle.blif_net.specs.Circuits.{Circuit, Cover, defined_in, is_among}
-use Rattle.blif_net.specs.Networks.{AreNumbers, IsGateOf, IsNetOf}
+use Rattle.blif_net.specs.Circuits.{Circuit, Cover, defined_in}
+use Rattle.blif_net.specs.Networks.{AreNumbers, IsNetOf}
 use Rattle.blif_net.specs.Names.{Name, is_unknown, words_in}
 use Rattle.blif_net.specs.Covers.{IsCoverOf}
-use Rattle.blif_net.specs.Drafts.{AllKnown, AreCovers, AreRoles, InRange, IsCircuitOf, IsRoleOf}
+use Rattle.blif_net.specs.Drafts.{AllKnown, AreCovers, AreRoles, IsCircuitOf, IsRoleOf}
 use Rattle.blif_net.specs.Building.{IsBuilt, gate_of, no_cover, signal_in}
 use Rattle.blif_net.specs.Bridges.{ReadsOf}
-use Rattle.blif_net.proofs.CoverReads.{as_many_drafts, covers_in_range, draft_at}
+use Rattle.blif_net.proofs.CoverReads.{as_many_drafts}
 use Rattle.blif_net.proofs.CoverRows.{as_many_numbers}
 use Rattle.blif_net.proofs.Distinct.{Alone}
 use Rattle.blif_net.proofs.Networks.{Gives, blank, gates_over, picked, stands}

@@ -1,5 +1,5 @@
 -- What names are, where an input or a cover is added.
-use Rattle.std.proofs.Common.{◌≡◌, ℕ, zero, suc, ◌||◌, Bool, true, false, cond, List, [], ◌∷◌, ◌++◌, length, map, Option, Some, None, inl, inr, refl, ap, sym, ◌∙◌, subst, append_assoc, append-nil}
+use Rattle.std.proofs.Common.{◌≡◌, ℕ, zero, suc, ◌||◌, Bool, true, false, cond, List, [], ◌∷◌, ◌++◌, length, map, Option, Some, None, inl, inr, refl, ap, sym, ◌∙◌, subst, append_assoc}
 use Rattle.std.specs.Prelude.{◌⊎◌, find, option_to_list, slice_get}
 use Rattle.std.specs.List.{list_any}
 use Rattle.std.specs.Str.{bytes_eq}
@@ -16,7 +16,6 @@ use Rattle.blif_net.specs.Circuits.{Context, Cover, covers_in, defined_in, is_am
 use Rattle.blif_net.specs.Faults.{signals_in}
 use Rattle.blif_net.specs.Networks.{AreNumbers}
 use Rattle.blif_net.specs.Names.{Name, given_role, is_called, is_unknown, name_at, role_called, role_or_none, with_name, words_in}
-use Rattle.blif_net.specs.Covers.{IsCoverOf}
 use Rattle.blif_net.specs.Drafts.{AreCovers, AreRoles, IsCurrent, IsDraftOf, IsRoleOf}
 use Rattle.blif_net.proofs.Distinct.{other_way}
 use Rattle.blif_net.proofs.OneNet.{among_got, get_front}

@@ -1,5 +1,5 @@
 -- A draft that takes a line: it closes its cover first where the line begins with `.`.
-use Rattle.std.proofs.Common.{◌≡◌, ℕ, ◌+◌, not, Bool, true, false, cond, List, [], ◌∷◌, ◌++◌, length, Option, Some, None, nat_lt, refl, ap, sym, ◌∙◌, subst}
+use Rattle.std.proofs.Common.{◌≡◌, ℕ, ◌+◌, not, Bool, true, false, cond, [], ◌∷◌, ◌++◌, length, Option, Some, nat_lt, refl, ap, sym, ◌∙◌, subst}
 use Rattle.std.specs.Prelude.{Result, OnOk, IfErr}
 use Rattle.std.specs.List.{list_all}
 use Rattle.std.proofs.lemmas.Result.{IfErr-weaker, on_ok_weaker}
@@ -7,7 +7,7 @@ use Rattle.blif_net.specs.declared.draft.Draft.{Draft}
 use Rattle.blif_net.specs.declared.faults.FaultKind.{FaultKind}
 use Rattle.blif_net.specs.declared.faults.FaultKind.TheVariants as kinds
 use Rattle.blif_net.specs.declared.faults.Stop.{Stop}
-use Rattle.blif_net.specs.Text.{Line, Word, is_allowed}
+use Rattle.blif_net.specs.Text.{Line, is_allowed}
 use Rattle.blif_net.specs.Circuits.{Context, Statement, nothing, model, inputs, outputs, names, ends, passed_over, left_out, unknown, row, after_statement, close, is_among, last_of, said}
 use Rattle.blif_net.specs.Faults.{end_fault, fault_if, line_fault, most_inputs, most_signals, open_fault, or_else, signals_in, some_again}
 use Rattle.blif_net.specs.Covers.{StopIs}

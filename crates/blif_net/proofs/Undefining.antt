@@ -1,6 +1,6 @@
 -- The first name that is no signal stands first on the first line that uses one.
-use Rattle.std.proofs.Common.{◌≡◌, ℕ, zero, suc, ◌+◌, ◌-◌, ◌||◌, ◌&&◌, not, Bool, true, false, cond, List, [], ◌∷◌, ◌++◌, length, map, Option, Some, None, inl, inr, refl, ap, sym, ◌∙◌, subst, arith, take, append-nil}
-use Rattle.std.specs.Prelude.{find, option_to_list}
+use Rattle.std.proofs.Common.{◌≡◌, ℕ, suc, ◌-◌, ◌||◌, ◌&&◌, not, Bool, true, false, cond, List, [], ◌∷◌, ◌++◌, length, map, Option, Some, None, inl, inr, refl, ap, sym, ◌∙◌, arith, take}
+use Rattle.std.specs.Prelude.{find}
 use Rattle.std.specs.Option.{option_map}
 use Rattle.std.specs.List.{list_all, list_any}
 use Rattle.std.specs.Str.{bytes_eq}
@@ -15,7 +15,7 @@ use Rattle.blif_net.specs.declared.names.Role.{Role}
 use Rattle.blif_net.specs.declared.names.Role.TheVariants as roles
 use Rattle.blif_net.specs.Text.{Line, Word}
 use Rattle.blif_net.specs.Circuits.{Context, Cover, Statement, nothing, model, inputs, outputs, names, ends, passed_over, left_out, unknown, row, after_line, after_statement, at_start, behind, circuit_of, close, cover_at, covers_in, defined_in, front_of, is_among, last_of, said}
-use Rattle.blif_net.specs.Faults.{is_signal, signals_in, undefined_line, uses}
+use Rattle.blif_net.specs.Faults.{signals_in, undefined_line, uses}
 use Rattle.blif_net.specs.Names.{Name, is_unknown}
 use Rattle.blif_net.specs.Drafts.{AreRoles, IsCircuitOf, IsRoleOf, Use, names_said, use_at, uses_by, uses_in, with_use, with_uses}
 use Rattle.blif_net.proofs.Distinct.{closed_same, row_same}

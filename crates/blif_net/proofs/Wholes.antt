@@ -1,10 +1,9 @@
 -- What is wrong with the whole where no line is faulty, and that nothing is.
-use Rattle.std.proofs.Common.{◌≡◌, ℕ, zero, suc, ◌==◌, ◌<◌, ◌||◌, not, Bool, true, false, cond, List, [], ◌∷◌, length, map, get_or, Option, Some, None, inl, inr, refl, ap, sym, ◌∙◌, subst, arith}
+use Rattle.std.proofs.Common.{◌≡◌, ℕ, zero, suc, ◌==◌, ◌<◌, ◌||◌, not, Bool, true, false, cond, List, [], ◌∷◌, length, get_or, Option, Some, None, refl, ap, sym, ◌∙◌, subst, arith}
 use Rattle.std.specs.Prelude.{find, slice_get}
 use Rattle.std.specs.Global.{Vec}
 use Rattle.std.specs.List.{All}
 use Rattle.std.specs.Option.{option_map}
-use Rattle.std.proofs.lemmas.Bool.{false≢true}
 use Rattle.std.proofs.lemmas.Bool.Decides.{nat_tests}
 use Rattle.std.proofs.lemmas.Option.{slice_get_within, slice_get-get_or}
 use Rattle.blif_net.specs.declared.covers.CoverDraft.{CoverDraft}
@@ -13,12 +12,12 @@ use Rattle.blif_net.specs.declared.faults.BlifFault.{BlifFault}
 use Rattle.blif_net.specs.declared.faults.FaultKind.TheVariants as kinds
 use Rattle.blif_net.specs.declared.net.Net.{Net}
 use Rattle.blif_net.specs.Text.{Line, Word}
-use Rattle.blif_net.specs.Circuits.{Context, Circuit, Cover, at_start, behind, circuit_of, close, covers_in, defined_in}
+use Rattle.blif_net.specs.Circuits.{Circuit, Cover, at_start, behind, circuit_of, defined_in}
 use Rattle.blif_net.specs.Faults.{cycle_at, cyclic_cover, fault_in, faulty_line, first_of, is_settled, last_number, no_outputs, undefined_line}
 use Rattle.blif_net.specs.Names.{Name, is_unknown, words_in}
 use Rattle.blif_net.specs.Drafts.{AllKnown, AreRoles, Closes, IsCircuitOf, IsClosedFrom, IsNetFrom, IsReadFrom}
 use Rattle.blif_net.specs.Building.{IsBuilt}
-use Rattle.blif_net.specs.Bridges.{IsArranged, ReadsOf}
+use Rattle.blif_net.specs.Bridges.{IsArranged}
 use Rattle.blif_net.proofs.CoverReads.{as_many_drafts, draft_at}
 use Rattle.blif_net.proofs.CoverRows.{as_many_numbers}
 use Rattle.blif_net.proofs.Cycles.{first_cyclic, led_settles}

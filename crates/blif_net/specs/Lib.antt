@@ -3,6 +3,7 @@ pub mod Circuits
 pub mod Faults
 pub mod Networks
 pub mod Readings
+pub mod Cycles
 pub mod Products
 pub mod Names
 pub mod Statements

@@ -5,7 +5,7 @@ use Rattle.std.specs.List.{list_any, position_or_len}
 use Rattle.std.specs.Str.{bytes_eq}
 use Rattle.blif_net.specs.declared.names.Known.{Known}
 use Rattle.blif_net.specs.declared.names.Role.{Role}
-use Rattle.blif_net.specs.declared.names.Role.TheVariants.{Unknown, Input, Cover}
+use Rattle.blif_net.specs.declared.names.Role.TheVariants.{Unknown}
 use Rattle.blif_net.specs.declared.faults.FaultKind.TheVariants as kinds
 use Rattle.blif_net.specs.declared.faults.Stop.{Stop}
 use Rattle.blif_net.specs.declared.faults.Stop.TheVariants as stops

@@ -1,6 +1,7 @@
 //! The reader of networks, line by line.
 
 ghost use Rattle.std.specs.Prelude.{◌≡◌, List as ListOf, IfOk, IfErr};
+ghost use Rattle.blif_net.specs.Cycles.{CyclesAreFound};
 ghost use Rattle.blif_net.specs.Drafts.{HasFaultIn, IsClosedFrom, IsNetFrom, stopped_at};
 ghost use Rattle.blif_net.specs.Faults.{HasFault, last_number};
 ghost use Rattle.blif_net.specs.Networks.{IsBlifText};
@@ -89,4 +90,9 @@ pub fn texts_have_one_reading()
     ensures net_or_fault { NetOrFault }
     ensures one_net { OneNet }
     ensures each_has_one { EachHasOne }
+{}
+
+/// A cover of a text is told as cyclic exactly where it lies on a cycle or depends on one.
+pub fn cyclic_covers_are_found()
+    ensures { CyclesAreFound }
 {}

@@ -1,4 +1,4 @@
-use Rattle.std.proofs.Common.{◌+◌, ap, arith, get_or, length, ◌∙◌}
+use Rattle.std.proofs.Common.{arith, get_or, ◌∙◌}
 use Rattle.std.proofs.lemmas.List.{length-set}
 use Rattle.std.proofs.lemmas.Option.{slice_get_within}
 use Rattle.blif_net.proofs.Placing.{placed_more}

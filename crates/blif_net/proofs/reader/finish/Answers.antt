@@ -1,4 +1,4 @@
-use Rattle.std.proofs.Common.{◌≡◌, ◌<◌, ◌==◌, ℕ, List, ap, length, subst, sym, ◌∙◌, get_or, true, false}
+use Rattle.std.proofs.Common.{◌<◌, ◌==◌, ℕ, List, ap, length, subst, sym, ◌∙◌, get_or}
 use Rattle.std.specs.List.{All}
 use Rattle.blif_net.specs.declared.covers.CoverDraft.{CoverDraft}
 use Rattle.blif_net.specs.declared.faults.BlifError.{BlifError}

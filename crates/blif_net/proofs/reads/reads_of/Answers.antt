@@ -1,4 +1,4 @@
-use Rattle.std.proofs.Common.{◌≡◌, ◌+◌, ◌++◌, ◌∷◌, [], List, ℕ, ap, get_or, refl, subst, sym, ◌∙◌, take, append-nil}
+use Rattle.std.proofs.Common.{◌≡◌, ◌++◌, ap, get_or, sym, ◌∙◌, take, append-nil}
 use Rattle.std.proofs.lemmas.List.{take_more}
 use Rattle.blif_net.specs.Drafts.{cover_in, reads_in}
 use Rattle.blif_net.proofs.CoverReads.{no_cover, reads_last}

@@ -1,4 +1,4 @@
-use Rattle.std.proofs.Common.{rules, length, map, ap, sym, ◌∙◌}
+use Rattle.std.proofs.Common.{rules, length, map, sym, ◌∙◌}
 use Rattle.std.proofs.lemmas.List.{length-map}
 use Rattle.blif_net.proofs.Lines.{outputs_taken}
 use Rattle.blif_net.proofs.draft.Draft.outputs_line.Goals as goal

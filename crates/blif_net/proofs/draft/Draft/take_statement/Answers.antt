@@ -1,6 +1,6 @@
 use Rattle.std.proofs.Common.{ap, map, refl, subst, sym}
 use Rattle.std.proofs.lemmas.Result.{on_ok_weaker}
-use Rattle.blif_net.specs.Circuits.{Statement, ends, inputs, model, names, outputs, row}
+use Rattle.blif_net.specs.Circuits.{Statement, ends, inputs, model, names, outputs}
 use Rattle.blif_net.specs.Drafts.{TakesStatement}
 use Rattle.blif_net.specs.Statements.{statement_in}
 use Rattle.blif_net.proofs.Taking.{stopped, taken}

@@ -1,4 +1,4 @@
-use Rattle.std.proofs.Common.{◌≡◌, ap, refl, sym, ◌∙◌, subst, List, map}
+use Rattle.std.proofs.Common.{ap, refl, sym, ◌∙◌, subst, List, map}
 use Rattle.blif_net.specs.declared.names.Role.TheVariants.{Unknown}
 use Rattle.blif_net.specs.Names.{IsNumberOf, Name, given_role, is_unknown}
 use Rattle.blif_net.proofs.NameLists.{any_of_number, given_new, not_unknown, number_given, number_last, role_none, role_there, with_old}

@@ -1,7 +1,7 @@
-use Rattle.std.proofs.Common.{◌≡◌, ◌<◌, List, false, ap, sym, ◌∙◌, subst, arith, length}
+use Rattle.std.proofs.Common.{◌≡◌, List, false, ap, sym, ◌∙◌, subst, arith, length}
 use Rattle.std.specs.List.{list_any}
 use Rattle.blif_net.specs.Names.{IsNumberOf, Name, is_called}
-use Rattle.blif_net.proofs.NameIndex.{as_many, as_many_keys, found_none, found_number}
+use Rattle.blif_net.proofs.NameIndex.{as_many, found_none, found_number}
 use Rattle.blif_net.proofs.names.Names.find.Goals as goal
 use Rattle.blif_net.proofs.names.Names.find.Goals.{In-Some}
 

@@ -1,6 +1,6 @@
-use Rattle.std.proofs.Common.{◌≡◌, ◌<◌, List, ap, sym, ◌∙◌, arith, length, map}
+use Rattle.std.proofs.Common.{ap, sym, ◌∙◌, arith, length, map}
 use Rattle.std.specs.List.{position_or_len}
-use Rattle.blif_net.specs.Names.{Name, given_role, is_called}
+use Rattle.blif_net.specs.Names.{given_role, is_called}
 use Rattle.blif_net.proofs.NameIndex.{as_many, given_there}
 use Rattle.blif_net.proofs.names.Names.give_role.Goals as goal
 

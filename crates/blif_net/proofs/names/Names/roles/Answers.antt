@@ -1,8 +1,6 @@
 use Rattle.std.proofs.Common.{◌≡◌, ap, map, sym, ◌∙◌}
 use Rattle.std.proofs.lemmas.Result.{IfOk-weaker}
-use Rattle.std.proofs.Common.{Vec}
 use Rattle.blif_net.specs.declared.names.Known.{Known}
-use Rattle.blif_net.specs.declared.names.Role.{Role}
 use Rattle.blif_net.specs.Names.{Name}
 use Rattle.blif_net.proofs.NameIndex.{roles_named}
 use Rattle.blif_net.proofs.names.Names.roles.Goals as goal

@@ -1,4 +1,4 @@
-use Rattle.std.proofs.Common.{◌≡◌, ℕ, List, Some, get_or, ap, arith, length, sym, ◌∙◌}
+use Rattle.std.proofs.Common.{ℕ, List, Some, get_or, ap, arith, length, sym, ◌∙◌}
 use Rattle.std.specs.Global.{Vec}
 use Rattle.std.specs.Prelude.{slice_get}
 use Rattle.blif_net.specs.Names.{words_in}
