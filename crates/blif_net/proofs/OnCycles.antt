@@ -1,0 +1,260 @@
+-- Covers that are not led back to inputs lie on cycles or depend on such.
+use Rattle.std.proofs.Common.{◌≡◌, ℕ, zero, suc, ◌==◌, ◌<◌, ◌&&◌, ◌||◌, not, Bool, true, false, cond, List, [], ◌∷◌, ◌++◌, length, Option, Some, None, inl, inr, refl, ap, sym, ◌∙◌, subst, arith, append-nil}
+use Rattle.std.specs.Prelude.{◌⊎◌, find, option_map, option_to_list, slice_get}
+use Rattle.std.specs.List.{list_all, list_any}
+use Rattle.std.specs.Str.{bytes_eq}
+use Rattle.std.proofs.lemmas.Bool.{false≢true, or_parts}
+use Rattle.std.proofs.lemmas.Bool.Decides.{nat_tests}
+use Rattle.std.proofs.lemmas.List.Folds.{list_all-append, list_any-append}
+use Rattle.std.proofs.lemmas.Option.{slice_get_within}
+use Rattle.std.proofs.lemmas.Slice.Eq.{bytes_eq-Decides}
+use Rattle.blif_net.specs.declared.faults.FaultKind.TheVariants as kinds
+use Rattle.blif_net.specs.Text.{Line, Word}
+use Rattle.blif_net.specs.Circuits.{Circuit, Context, Cover, Statement, nothing, model, inputs, outputs, names, ends, passed_over, left_out, unknown, row, after_line, after_statement, at_start, behind, circuit_of, close, cover_at, covers_in, defined_in, is_among, said, settles, with_row, with_row_in}
+use Rattle.blif_net.specs.Faults.{fault_on, is_settled, is_signal, undefined_line, uses}
+use Rattle.blif_net.specs.Cycles.{CyclesAreFound, IsCyclic, Leads, LiesOnCycle, ReadsCover}
+use Rattle.blif_net.proofs.Cycles.{by_name, none_here, some_word}
+use Rattle.blif_net.proofs.Distinct.{Alone, alone_at_start, alone_behind}
+use Rattle.blif_net.proofs.OneNet.{covered, not_input}
+use Rattle.blif_net.proofs.Permutations.{split_at}
+use Rattle.blif_order.specs.Orders.{Once, is_in}
+use Rattle.blif_order.proofs.Ends.{order_length}
+
+-- What is cyclic reads what is cyclic
+next_of : (covers : List Cover) (one other : Cover) (between : List Cover) → Leads covers one between other → LiesOnCycle covers other → (next : Cover) × ReadsCover covers one next × IsCyclic covers next
+next_of covers one other [] l on = (other, l, inl on)
+next_of covers one other (next ∷ between) l on = (next, l.0, inr (other, between, l.1, on))
+
+-- from a place on a cycle, the cover behind it lies on that cycle too, or leads to it
+next_on : (covers : List Cover) (cover : Cover) → LiesOnCycle covers cover → (next : Cover) × ReadsCover covers cover next × IsCyclic covers next
+next_on covers cover (between, l) = next_of covers cover cover between l (between, l)
+
+next_cyclic : (covers : List Cover) (cover : Cover) → IsCyclic covers cover → (next : Cover) × ReadsCover covers cover next × IsCyclic covers next
+next_cyclic covers cover (inl on) = next_on covers cover on
+next_cyclic covers cover (inr (other, between, l, on)) = next_of covers cover other between l on
+
+-- and is not led back, through however many
+pub never_settled : (circuit : Circuit) → Alone circuit.inputs (defined_in circuit.covers) → (limit : ℕ) (cover : Cover) → IsCyclic circuit.covers cover → list_all (settles circuit limit) cover.ins ≡ false
+unfolding settles
+never_settled circuit a zero cover c =
+    let n = next_cyclic circuit.covers cover c in
+    some_word (settles circuit zero) cover.ins (n.0).name (n.1).0 (not_input circuit ((n.1).1).0 n.0 a ((n.1).1).1)
+never_settled circuit a (suc limit) cover c =
+    let n = next_cyclic circuit.covers cover c in
+    let at = (n.1).1 in
+    let stops = never_settled circuit a limit n.0 n.2 in
+    some_word (settles circuit (suc limit)) cover.ins (n.0).name (n.1).0
+    (ap (λ b. b || list_any (λ one. bytes_eq (n.0).name one.name && list_all (settles circuit limit) one.ins) circuit.covers) (not_input circuit at.0 n.0 a at.1)
+    ∙ none_here (λ one. bytes_eq (n.0).name one.name && list_all (settles circuit limit) one.ins) circuit.covers (λ e one place. by_name circuit at.0 e n.0 one limit a at.1 place stops (bytes_eq (n.0).name one.name) refl))
+
+-- A cover that is not led back reads another
+word_of : (p : Word → Bool) (words : List Word) → list_all p words ≡ false → (z : Word) × (is_among words z ≡ true) × (p z ≡ false)
+word_of p [] h = absurd (false≢true (sym h))
+word_of p (w ∷ words) h = by_cases (p w) refl h (λ k. word_of p words k)
+  where
+    later : (a b : Bool) → b ≡ true → (a || b) ≡ true
+    later true b e = refl
+    later false b e = e
+
+    by_cases : (b : Bool) → p w ≡ b → (b && list_all p words) ≡ false → (list_all p words ≡ false → (z : Word) × (is_among words z ≡ true) × (p z ≡ false)) → (z : Word) × (is_among (w ∷ words) z ≡ true) × (p z ≡ false)
+    by_cases false e k more = (w, ap (λ b. b || is_among words w) ((bytes_eq-Decides w w).1 refl), e)
+    by_cases true e k more = let m = more k in (m.0, later (bytes_eq m.0 w) (is_among words m.0) m.1, m.2)
+
+all_pass : (p : Word → Bool) (words : List Word) (z : Word) → list_all p words ≡ true → is_among words z ≡ true → p z ≡ true
+all_pass p [] z h e = absurd (false≢true e)
+all_pass p (w ∷ words) z h e = by_cases (bytes_eq z w) refl (p w) refl h e (λ k f. all_pass p words z k f)
+  where
+    by_cases : (a : Bool) → bytes_eq z w ≡ a → (b : Bool) → p w ≡ b → (b && list_all p words) ≡ true → (a || is_among words z) ≡ true → (list_all p words ≡ true → is_among words z ≡ true → p z ≡ true) → p z ≡ true
+    by_cases a f false g k i more = absurd (false≢true k)
+    by_cases true f true g k i more = ap p ((bytes_eq-Decides z w).0 f) ∙ g
+    by_cases false f true g k i more = more k i
+
+place_of : (words : List Word) (z : Word) → is_among words z ≡ true → (i : ℕ) × (slice_get words i ≡ Some z)
+place_of [] z h = absurd (false≢true h)
+place_of (w ∷ words) z h = by_cases (bytes_eq z w) refl h (λ k. place_of words z k)
+  where
+    by_cases : (b : Bool) → bytes_eq z w ≡ b → (b || is_among words z) ≡ true → (is_among words z ≡ true → (i : ℕ) × (slice_get words i ≡ Some z)) → (i : ℕ) × (slice_get (w ∷ words) i ≡ Some z)
+    by_cases true e k more = (0, ap Some (sym ((bytes_eq-Decides z w).0 e)))
+    by_cases false e k more = let m = more k in (suc m.0, m.1)
+
+-- each input of each cover is a signal
+abbrev AllSignals : Circuit → Type 0
+AllSignals circuit = (i : ℕ) (cover : Cover) → slice_get circuit.covers i ≡ Some cover → list_all (is_signal circuit) cover.ins ≡ true
+
+-- the cover whose output is a word that is a signal and no input
+cover_of : (circuit : Circuit) (z : Word) → is_signal circuit z ≡ true → is_among circuit.inputs z ≡ false → (j : ℕ) × (other : Cover) × (slice_get circuit.covers j ≡ Some other) × (other.name ≡ z)
+cover_of circuit z s n =
+    let at = place_of (defined_in circuit.covers) z (sym (ap (λ b. b || is_among (defined_in circuit.covers) z) n) ∙ sym (list_any-append (bytes_eq z) circuit.inputs (defined_in circuit.covers)) ∙ s) in
+    let found = covered circuit.covers at.0 z at.1 in
+    (at.0, found.0, found.1, found.2)
+
+-- the one of these places reads the other
+abbrev Links : List Cover → ℕ → ℕ → Type 0
+Links covers i j = (one other : Cover) × (slice_get covers i ≡ Some one) × (slice_get covers j ≡ Some other) × (is_among one.ins other.name ≡ true)
+
+abbrev Chained : List Cover → ℕ → List ℕ → Type 0
+Chained covers i [] = (one : Cover) × (slice_get covers i ≡ Some one)
+Chained covers i (j ∷ path) = Links covers i j × Chained covers j path
+
+none_passes : (p : Cover → Bool) (covers : List Cover) (j : ℕ) (cover : Cover) → list_any p covers ≡ false → slice_get covers j ≡ Some cover → p cover ≡ false
+none_passes p [] j cover h e = cc
+none_passes p (x ∷ covers) zero cover h e = let same : x ≡ cover = cc in ap p (sym same) ∙ (or_parts (p x) (list_any p covers) h).0
+none_passes p (x ∷ covers) (suc j) cover h e = none_passes p covers j cover (or_parts (p x) (list_any p covers) h).1 e
+
+-- a path of as many covers as one wants
+path_from : (circuit : Circuit) → AllSignals circuit → (limit i : ℕ) (cover : Cover) → slice_get circuit.covers i ≡ Some cover → list_all (settles circuit limit) cover.ins ≡ false
+    → (path : List ℕ) × (length path ≡ suc limit) × Chained circuit.covers i path
+unfolding settles
+path_from circuit s zero i cover at h =
+    let w = word_of (settles circuit zero) cover.ins h in
+    let next = cover_of circuit w.0 (all_pass (is_signal circuit) cover.ins w.0 (s i cover at) w.1) w.2 in
+    (next.0 ∷ [], refl, ((cover, next.1, at, next.2, ap (is_among cover.ins) next.3 ∙ w.1), (next.1, next.2)))
+path_from circuit s (suc limit) i cover at h =
+    let w = word_of (settles circuit (suc limit)) cover.ins h in
+    let both = or_parts (is_among circuit.inputs w.0) (list_any (λ one. bytes_eq w.0 one.name && list_all (settles circuit limit) one.ins) circuit.covers) w.2 in
+    let next = cover_of circuit w.0 (all_pass (is_signal circuit) cover.ins w.0 (s i cover at) w.1) both.0 in
+    let stops = none_passes (λ one. bytes_eq w.0 one.name && list_all (settles circuit limit) one.ins) circuit.covers next.0 next.1 both.1 next.2 in
+    let rest = path_from circuit s limit next.0 next.1 next.2
+    (sym (ap (λ b. b && list_all (settles circuit limit) (next.1).ins) ((bytes_eq-Decides w.0 (next.1).name).1 (sym next.3))) ∙ stops) in
+    (next.0 ∷ rest.0, ap suc rest.1, ((cover, next.1, at, next.2, ap (is_among cover.ins) next.3 ∙ w.1), rest.2))
+
+-- a number that stands twice
+repeats : (xs : List ℕ) → Once xs ⊎ ((front mid back : List ℕ) × (c : ℕ) × (xs ≡ front ++ c ∷ (mid ++ c ∷ back)))
+repeats [] = inl tt
+repeats (x ∷ xs) = by_cases (is_in xs x) refl (repeats xs)
+  where
+    by_cases : (b : Bool) → is_in xs x ≡ b → Once xs ⊎ ((front mid back : List ℕ) × (c : ℕ) × (xs ≡ front ++ c ∷ (mid ++ c ∷ back)))
+        → Once (x ∷ xs) ⊎ ((front mid back : List ℕ) × (c : ℕ) × (x ∷ xs ≡ front ++ c ∷ (mid ++ c ∷ back)))
+    by_cases true e rest = let at = split_at x xs e in inr ([], at.0, at.1, x, ap (λ t. x ∷ t) at.2)
+    by_cases false e (inl o) = inl (e, o)
+    by_cases false e (inr (front, mid, back, c, f)) = inr (x ∷ front, mid, back, c, ap (λ t. x ∷ t) f)
+
+in_chain : (covers : List Cover) (i : ℕ) (path : List ℕ) → Chained covers i path → (c : ℕ) → is_in (i ∷ path) c ≡ true → c < length covers
+in_chain covers i [] (one, at) c h = by_cases (i == c) refl h
+  where
+    same : (i == c) ≡ true → i ≡ c
+    same e = grind (arith, nat_tests)
+
+    by_cases : (b : Bool) → (i == c) ≡ b → (b || false) ≡ true → c < length covers
+    by_cases true e k = subst (λ (n : ℕ). n < length covers) (same e) (slice_get_within covers i one at)
+    by_cases false e k = absurd (false≢true k)
+in_chain covers i (j ∷ path) (link, rest) c h = by_cases (i == c) refl h (λ k. in_chain covers j path rest c k)
+  where
+    same : (i == c) ≡ true → i ≡ c
+    same e = grind (arith, nat_tests)
+
+    by_cases : (b : Bool) → (i == c) ≡ b → (b || is_in (j ∷ path) c) ≡ true → (is_in (j ∷ path) c ≡ true → c < length covers) → c < length covers
+    by_cases true e k more = subst (λ (n : ℕ). n < length covers) (same e) (slice_get_within covers i link.0 link.2)
+    by_cases false e k more = more k
+
+-- a part of a chain leads from its first cover to the one behind it
+leads : (covers : List Cover) (i : ℕ) (mid : List ℕ) (d : ℕ) (back : List ℕ) (one other : Cover) → Chained covers i (mid ++ d ∷ back) → slice_get covers i ≡ Some one → slice_get covers d ≡ Some other → (between : List Cover) × Leads covers one between other
+leads covers i [] d back one other ((x, y, at, place, read), rest) e f =
+    let first : x ≡ one = cc in
+    let last : y ≡ other = cc in
+    ([], (subst (λ (t : Cover). is_among t.ins other.name ≡ true) first (subst (λ (t : Cover). is_among x.ins t.name ≡ true) last read), (d, f)))
+leads covers i (m ∷ mid) d back one other ((x, y, at, place, read), rest) e f =
+    let first : x ≡ one = cc in
+    let more = leads covers m mid d back y other rest place f in
+    (y ∷ more.0, ((subst (λ (t : Cover). is_among t.ins y.name ≡ true) first read, (m, place)), more.1))
+
+-- the rest of a chain
+tail : (covers : List Cover) (i : ℕ) (front : List ℕ) (c : ℕ) (rest : List ℕ) → Chained covers i (front ++ c ∷ rest) → Chained covers c rest
+tail covers i [] c rest (link, h) = h
+tail covers i (f ∷ front) c rest (link, h) = tail covers f front c rest h
+
+start : (covers : List Cover) (i : ℕ) (path : List ℕ) → Chained covers i path → (one : Cover) × (slice_get covers i ≡ Some one)
+start covers i [] h = h
+start covers i (j ∷ path) ((x, y, at, place, read), rest) = (x, at)
+
+cycle_in : (covers : List Cover) (i : ℕ) (path : List ℕ) (cover : Cover) → slice_get covers i ≡ Some cover → Chained covers i path → (front mid back : List ℕ) (c : ℕ) → i ∷ path ≡ front ++ c ∷ (mid ++ c ∷ back) → IsCyclic covers cover
+cycle_in covers i path cover at h [] mid back c e =
+    let first : i ≡ c = cc in
+    let rest : path ≡ mid ++ c ∷ back = cc in
+    let chain : Chained covers i (mid ++ i ∷ back) = subst (λ (t : List ℕ). Chained covers i t) (rest ∙ ap (λ k. mid ++ k ∷ back) (sym first)) h in
+    inl (leads covers i mid i back cover cover chain at at)
+cycle_in covers i path cover at h (f ∷ front) mid back c e =
+    let rest : path ≡ front ++ c ∷ (mid ++ c ∷ back) = cc in
+    let chain : Chained covers i (front ++ c ∷ (mid ++ c ∷ back)) = subst (λ (t : List ℕ). Chained covers i t) rest h in
+    let later = tail covers i front c (mid ++ c ∷ back) chain in
+    let other = start covers c (mid ++ c ∷ back) later in
+    let to = leads covers i front c (mid ++ c ∷ back) cover other.0 chain at other.1 in
+    let round = leads covers c mid c back other.0 other.0 later other.1 other.1 in
+    inr (other.0, to.0, to.1, round)
+
+pub cyclic_is : (circuit : Circuit) → AllSignals circuit → (i : ℕ) (cover : Cover) → slice_get circuit.covers i ≡ Some cover → is_settled circuit cover ≡ false → IsCyclic circuit.covers cover
+cyclic_is circuit s i cover at h =
+    let path = path_from circuit s (length circuit.covers) i cover at h in
+    by_kind path.0 path.1 path.2 (repeats (i ∷ path.0))
+  where
+    by_kind : (path : List ℕ) → length path ≡ suc (length circuit.covers) → Chained circuit.covers i path → Once (i ∷ path) ⊎ ((front mid back : List ℕ) × (c : ℕ) × (i ∷ path ≡ front ++ c ∷ (mid ++ c ∷ back))) → IsCyclic circuit.covers cover
+    by_kind path long chain (inl once) = absurd (omega (arith, order_length (i ∷ path) (length circuit.covers) once (in_chain circuit.covers i path chain), long))
+    by_kind path long chain (inr (front, mid, back, c, e)) = cycle_in circuit.covers i path cover at chain front mid back c e
+
+-- Inputs of covers are used on their lines
+abbrev reads_well : (Word → Bool) → List Cover → Bool
+reads_well sig covers = list_all (λ cover. list_all sig cover.ins) covers
+
+and_both : (a b : Bool) → a ≡ true → b ≡ true → (a && b) ≡ true
+and_both a b h k = ap (λ t. t && b) h ∙ k
+
+well_closed : (sig : Word → Bool) (c : Context) → reads_well sig (covers_in c) ≡ true → reads_well sig (covers_in (close c)) ≡ true
+well_closed sig c h = ap (reads_well sig) (append-nil (covers_in c)) ∙ h
+
+well_row : (sig : Word → Bool) (closed : List Cover) (o : Option Cover) (words : List Word) → reads_well sig (closed ++ option_to_list o) ≡ true → reads_well sig (closed ++ option_to_list (with_row_in o words)) ≡ true
+well_row sig closed None words h = h
+well_row sig closed (Some cover) words h =
+    list_all-append (λ (one : Cover). list_all sig one.ins) closed (with_row cover words ∷ []) ∙ sym (list_all-append (λ (one : Cover). list_all sig one.ins) closed (cover ∷ [])) ∙ h
+
+step_well : (sig : Word → Bool) (c : Context) (l : ℕ) (statement : Statement) → reads_well sig (covers_in c) ≡ true → list_all sig (uses statement) ≡ true → reads_well sig (covers_in (after_statement c l statement)) ≡ true
+step_well sig c l nothing h e = h
+step_well sig c l model h e = well_closed sig c h
+step_well sig c l (inputs words) h e = well_closed sig c h
+step_well sig c l (outputs words) h e = well_closed sig c h
+step_well sig c l (names words) h e =
+    list_all-append (λ (one : Cover). list_all sig one.ins) (covers_in c) (cover_at l words ∷ []) ∙ and_both (reads_well sig (covers_in c)) (list_all sig (cover_at l words).ins && true) h (and_both (list_all sig (cover_at l words).ins) true e refl)
+step_well sig c l (ends words) h e = well_closed sig c h
+step_well sig c l passed_over h e = well_closed sig c h
+step_well sig c l left_out h e = well_closed sig c h
+step_well sig c l unknown h e = well_closed sig c h
+step_well sig c l (row words) h e = well_row sig c.closed c.current words h
+
+lines_well : (sig : Word → Bool) (c : Context) (lines : List Line) → reads_well sig (covers_in c) ≡ true → find (λ (line : Line). not (list_all sig (uses (said line)))) lines ≡ None → reads_well sig (covers_in (behind c lines)) ≡ true
+unfolding behind
+lines_well sig c [] h e = h
+lines_well sig c (line ∷ lines) h e = by_cases (list_all sig (uses (said line))) refl e (λ f k. lines_well sig (after_line c line) lines (step_well sig c line.number (said line) h f) k)
+  where
+    by_cases : (b : Bool) → list_all sig (uses (said line)) ≡ b → cond (not b) (Some line) (find (λ (one : Line). not (list_all sig (uses (said one)))) lines) ≡ None
+        → (list_all sig (uses (said line)) ≡ true → find (λ (one : Line). not (list_all sig (uses (said one)))) lines ≡ None → reads_well sig (covers_in (behind (after_line c line) lines)) ≡ true)
+        → reads_well sig (covers_in (behind (after_line c line) lines)) ≡ true
+    by_cases true f k more = more f k
+    by_cases false f k more = cc
+
+each_well : (sig : Word → Bool) (covers : List Cover) (i : ℕ) (cover : Cover) → reads_well sig covers ≡ true → slice_get covers i ≡ Some cover → list_all sig cover.ins ≡ true
+each_well sig [] i cover h e = cc
+each_well sig (x ∷ covers) zero cover h e = let same : x ≡ cover = cc in subst (λ (t : Cover). list_all sig t.ins ≡ true) same (first (list_all sig x.ins) h)
+  where
+    first : (b : Bool) → (b && reads_well sig covers) ≡ true → b ≡ true
+    first true k = refl
+    first false k = absurd (false≢true k)
+each_well sig (x ∷ covers) (suc i) cover h e = each_well sig covers i cover (later (list_all sig x.ins) h) e
+  where
+    later : (b : Bool) → (b && reads_well sig covers) ≡ true → reads_well sig covers ≡ true
+    later true k = k
+    later false k = absurd (false≢true k)
+
+no_line : (o : Option Line) → option_map (λ (line : Line). fault_on line kinds.Undefined) o ≡ None → o ≡ None
+no_line None h = refl
+no_line (Some line) h = cc
+
+all_signals : (lines : List Line) → undefined_line lines ≡ None → AllSignals (circuit_of lines)
+unfolding behind
+all_signals lines h = λ i cover at.
+    let sig = is_signal (circuit_of lines) in
+    each_well sig (circuit_of lines).covers i cover (lines_well sig at_start lines refl (no_line (find (λ (line : Line). not (list_all sig (uses (said line)))) lines) h)) at
+
+pub cycles_found : CyclesAreFound
+cycles_found = record {
+  cyclic = λ lines cover f u at h. cyclic_is (circuit_of lines) (all_signals lines u) at.0 cover at.1 h;
+  unsettled = λ lines cover f at c. never_settled (circuit_of lines) (alone_behind at_start lines f alone_at_start) (length (circuit_of lines).covers) cover c;
+}

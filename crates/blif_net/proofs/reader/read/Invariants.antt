@@ -1,0 +1,12 @@
+use Rattle.std.proofs.Common.{◌≤◌, ◌+◌, length}
+use Rattle.blif_net.proofs.Reading.{IsReadOf}
+use Rattle.blif_net.proofs.reader.read.Given as goal
+
+abbrev pub invariant-loop-rest : goal.invariant-loop-rest
+invariant-loop-rest l = record {
+  read : IsReadOf l.text l.rest l.number l.last l.draft;
+  budget : l.number + length l.rest ≤ 1 + length l.text;
+}
+
+abbrev pub decreases-loop-rest : goal.decreases-loop-rest
+decreases-loop-rest l = length l.rest

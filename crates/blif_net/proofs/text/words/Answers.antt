@@ -1,0 +1,8 @@
+use Rattle.std.proofs.Common.{ap, sym, ◌∙◌, ◌++◌, append-nil, map}
+use Rattle.blif_net.proofs.Split.{is_nothing, no_words}
+use Rattle.blif_net.proofs.text.words.Goals as goal
+
+pub returns-clause-words : goal.returns-clause-words
+returns-clause-words c =
+    let found = map (λ word. word.now) c.loop-rest.words.items in
+    sym (c.loop-rest.invariant.words ∙ ap (λ t. found ++ t) (no_words c.loop-rest.rest.now (is_nothing c.loop-rest.rest.now (sym c.is_empty.ensures ∙ c.loop-rest-test.false))) ∙ append-nil found)

@@ -1,0 +1,64 @@
+-- Covers as the code has them while they are read.
+use Rattle.std.specs.Prelude.{◌≡◌, ℕ, ◌==◌, Bool, true, false, ◌&&◌, ◌||◌, not, List, Option, Some, None, length, map, slice_get, if◌then◌else◌}
+use Rattle.std.specs.List.{list_all}
+use Rattle.blif_net.specs.declared.covers.CoverDraft.{CoverDraft}
+use Rattle.blif_net.specs.declared.covers.ReadRow.{ReadRow}
+use Rattle.blif_net.specs.declared.faults.FaultKind.{FaultKind}
+use Rattle.blif_net.specs.declared.faults.FaultKind.TheVariants as kinds
+use Rattle.blif_net.specs.declared.faults.Stop.{Stop}
+use Rattle.blif_net.specs.declared.faults.Stop.TheVariants as stops
+use Rattle.blif_net.specs.Text.{Word}
+use Rattle.blif_net.specs.Circuits.{Cover, Row, is_bit, is_literal, row_of, row_with, with_row}
+use Rattle.blif_net.specs.Faults.{row_fault}
+use Rattle.blif_net.specs.Networks.{AreNumbers, is_on, literals_of}
+
+-- the stop is want of memory, or this fault
+abbrev pub StopIs : Option FaultKind → Stop → Type 0
+StopIs fault stops.Memory = Unit {0}
+StopIs fault (stops.Fault kind) = fault ≡ Some kind
+
+-- what was read is this row
+abbrev pub IsRowOf : Row → ReadRow → Type 0
+IsRowOf row read = (read.cube ≡ literals_of row) × (read.output ≡ row.output)
+
+-- what was read is the row of these two words, which have the form of one
+abbrev pub IsReadRow : Word → Word → ReadRow → Type 0
+IsReadRow literals output read = (list_all is_literal literals ≡ true) × (is_bit output ≡ true) × IsRowOf (row_with literals output) read
+
+-- and of these words in a cover with so many inputs
+abbrev pub IsRead : ℕ → List Word → ReadRow → Type 0
+IsRead ins words read = (row : Row) × (row_of ins words ≡ Some row) × IsRowOf row read
+
+-- why words were not read as a row
+abbrev pub CubeStop : Word → Stop → Type 0
+CubeStop literals stops.Memory = Unit {0}
+CubeStop literals (stops.Fault kind) = (kind ≡ kinds.Row) × (list_all is_literal literals ≡ false)
+
+abbrev pub WordsStop : Word → Word → Stop → Type 0
+WordsStop literals output stops.Memory = Unit {0}
+WordsStop literals output (stops.Fault kind) = (kind ≡ kinds.Row) × ((list_all is_literal literals && is_bit output) ≡ false)
+
+abbrev pub RowStop : ℕ → List Word → Stop → Type 0
+RowStop ins words stops.Memory = Unit {0}
+RowStop ins words (stops.Fault kind) = (kind ≡ kinds.Row) × (row_of ins words ≡ None)
+
+-- The draft is of the cover, where names are numbered as these words are.
+pub record IsCoverOf (words : List Word) (cover : Cover) (draft : CoverDraft) : Type 0 where
+  pub line : draft.line ≡ cover.line
+  pub name : slice_get words draft.name ≡ Some cover.name
+  pub ins : AreNumbers words cover.ins draft.ins
+  pub rows : draft.rows ≡ map literals_of cover.rows
+  pub on : draft.on ≡ is_on cover.rows
+
+-- a row of this output may stand behind those of the draft
+abbrev pub takes_output : CoverDraft → Bool → Bool
+takes_output draft output = length draft.rows == 0 || (if draft.on then output else not output)
+
+-- the draft took the row of these words
+abbrev pub TakesRow : CoverDraft → List Word → CoverDraft → Type 0
+TakesRow old row new = (words : List Word) (cover : Cover) → IsCoverOf words cover old
+    → (row_fault cover (row_of (length cover.ins) row) ≡ None) × IsCoverOf words (with_row cover row) new
+
+-- or didn't, and why
+abbrev pub StopsRow : CoverDraft → List Word → Stop → Type 0
+StopsRow old row stop = (words : List Word) (cover : Cover) → IsCoverOf words cover old → StopIs (row_fault cover (row_of (length cover.ins) row)) stop

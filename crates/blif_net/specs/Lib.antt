@@ -1,0 +1,14 @@
+pub mod Text
+pub mod Circuits
+pub mod Faults
+pub mod Networks
+pub mod Readings
+pub mod Cycles
+pub mod Products
+pub mod Names
+pub mod Statements
+pub mod Covers
+pub mod Drafts
+pub mod Building
+pub mod Joined
+pub mod Bridges

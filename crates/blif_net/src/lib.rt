@@ -1,0 +1,17 @@
+//! Networks of the Berkeley Logic Interchange Format, and the texts that they are read from.
+#![tactic(auto)]
+
+mod building;
+mod covers;
+mod draft;
+mod faults;
+mod names;
+mod net;
+mod reader;
+mod reads;
+mod statements;
+mod text;
+
+pub use faults::{BlifError, BlifFault, FaultKind};
+pub use net::{Cover, Cube, Literal, Net, Output};
+pub use reader::{cyclic_covers_are_found, read, texts_have_one_reading};

@@ -1,0 +1,98 @@
+//! The reader of networks, line by line.
+
+ghost use Rattle.std.specs.Prelude.{◌≡◌, List as ListOf, IfOk, IfErr};
+ghost use Rattle.blif_net.specs.Cycles.{CyclesAreFound};
+ghost use Rattle.blif_net.specs.Drafts.{HasFaultIn, IsClosedFrom, IsNetFrom, stopped_at};
+ghost use Rattle.blif_net.specs.Faults.{HasFault, last_number};
+ghost use Rattle.blif_net.specs.Networks.{IsBlifText};
+ghost use Rattle.blif_net.specs.Readings.{EachHasOne, NetOrFault, OneFault, OneNet};
+ghost use Rattle.blif_net.specs.Text.{Line};
+
+use crate::building::net_of;
+use crate::draft::Draft;
+use crate::faults::{BlifError, BlifFault, FaultKind, Stop};
+use crate::net::Net;
+use crate::reads::arranged;
+use crate::text::next_line;
+use blif_order::Arranged;
+use std::alloc::Global;
+use std::hash::RandomState;
+
+fn fault_at(line: u64, what: FaultKind) -> BlifError
+    ensures { result ≡ BlifError.Fault (record { line = line; what = what }) }
+{
+    BlifError::Fault(BlifFault { line, what })
+}
+
+/// Why a text was not read of which the line of this number was not taken.
+fn stopped_at(line: u64, stop: Stop) -> BlifError
+    ensures { result ≡ stopped_at line stop }
+{
+    match stop {
+        Stop::Memory => BlifError::Memory,
+        Stop::Fault(what) => fault_at(line, what),
+    }
+}
+
+/// The network of a draft, where no cover is open and the last line has this number, or what is wrong with the whole.
+fn finish(alloc: Global, draft: Draft, last: u64) -> Result<Net, BlifError>
+    requires { (lines : ListOf Line) × IsClosedFrom lines draft }
+    ensures net { IfOk result (λ net. (lines : ListOf Line) → IsClosedFrom lines draft → IsNetFrom lines net) }
+    ensures fault { IfErr result (λ error. (lines : ListOf Line) → IsClosedFrom lines draft → last ≡ last_number lines → HasFaultIn lines error) }
+{
+    if let Some(line) = draft.names.first_unknown() {
+        return Err(fault_at(line, FaultKind::Undefined));
+    }
+    let order = match arranged(alloc, &draft)? {
+        Arranged::Cyclic(root) => {
+            let cover = &draft.closed.as_slice()[root as usize];
+            return Err(fault_at(cover.line, FaultKind::Cycle));
+        }
+        Arranged::Ordering(order) => order,
+    };
+    if draft.outputs.as_slice().is_empty() {
+        return Err(fault_at(last, FaultKind::NoOutputs));
+    }
+    Ok(net_of(alloc, draft, &order)?)
+}
+
+/// The network of a text of any length in the Berkeley Logic Interchange Format, or its first faulty line and the first fault on it;
+/// where no line is faulty, what is wrong with the whole.
+///
+/// Names are looked up by an index whose hashes have these keys, so that chosen names do not make it slow. Want of memory may be
+/// the answer to any text.
+pub fn read(alloc: Global, keys: RandomState, text: &[u8]) -> Result<Net, BlifError>
+    ensures net { IfOk result (λ net. IsBlifText text.now net) }
+    ensures fault { IfErr result (λ error. HasFault text.now error) }
+{
+    let mut draft = Draft::new(alloc, keys);
+    let mut rest = text;
+    let mut number = 1u64;
+    let mut last = 0u64;
+    while !rest.is_empty() {
+        let next = next_line(alloc, rest, number)?;
+        match draft.take(alloc, next.bytes.as_slice(), number) {
+            Ok(()) => {}
+            Err(stop) => return Err(stopped_at(number, stop)),
+        }
+        last = number;
+        number = next.number;
+        rest = next.rest;
+    }
+    draft.close()?;
+    finish(alloc, draft, last)
+}
+
+/// Each text, of any length, is that of a network or has one fault, and not both; and the networks of one text give each output
+/// the same values.
+pub fn texts_have_one_reading()
+    ensures one_fault { OneFault }
+    ensures net_or_fault { NetOrFault }
+    ensures one_net { OneNet }
+    ensures each_has_one { EachHasOne }
+{}
+
+/// A cover of a text is told as cyclic exactly where it lies on a cycle or depends on one.
+pub fn cyclic_covers_are_found()
+    ensures { CyclesAreFound }
+{}
