@@ -1,0 +1,21 @@
+-- A text has one reading: it is that of one dump, or it has one fault.
+use Rattle.std.specs.Prelude.{◌≡◌, ◌⊎◌, ℕ, List, Some}
+use Rattle.dddmp_text.specs.declared.dump.Dump.{Dump}
+use Rattle.dddmp_text.specs.declared.faults.DddmpFault.{DddmpFault}
+use Rattle.dddmp_text.specs.Faults.{IsDddmpText, fault_of}
+
+-- each text is that of a dump or has a fault
+abbrev pub EachHasOne : Type 0
+EachHasOne = (text : List ℕ) → ((dump : Dump) × IsDddmpText text dump) ⊎ ((fault : DddmpFault) × (fault_of text ≡ Some fault))
+
+-- no text is that of two dumps
+abbrev pub OneDump : Type 0
+OneDump = (text : List ℕ) (one other : Dump) → IsDddmpText text one → IsDddmpText text other → one ≡ other
+
+-- no text has two faults
+abbrev pub OneFault : Type 0
+OneFault = (text : List ℕ) (one other : DddmpFault) → fault_of text ≡ Some one → fault_of text ≡ Some other → one ≡ other
+
+-- no text of a dump has a fault
+abbrev pub DumpOrFault : Type 0
+DumpOrFault = (text : List ℕ) (dump : Dump) (fault : DddmpFault) → IsDddmpText text dump → fault_of text ≡ Some fault → ⊥
