@@ -1,8 +1,10 @@
--- A text has one reading: it is that of one dump, or it has one fault.
-use Rattle.std.specs.Prelude.{◌≡◌, ◌⊎◌, ℕ, List, Some}
+-- A text has one reading: it is that of one dump, or it has one fault. What is written for a dump is read as that dump.
+use Rattle.std.specs.Prelude.{◌≡◌, ◌⊎◌, ◌+◌, ◌^◌, ◌<◌, ◌≤◌, ℕ, List, Some, All, length}
 use Rattle.dddmp_text.specs.declared.dump.Dump.{Dump}
 use Rattle.dddmp_text.specs.declared.faults.DddmpFault.{DddmpFault}
-use Rattle.dddmp_text.specs.Faults.{IsDddmpText, fault_of}
+use Rattle.dddmp_text.specs.Faults.{IsDddmpText, fault_of, most_variables}
+use Rattle.dddmp_text.specs.WellMade.{IsWritable}
+use Rattle.dddmp_text.specs.Written.{written}
 
 -- each text is that of a dump or has a fault
 abbrev pub EachHasOne : Type 0
@@ -19,3 +21,14 @@ OneFault = (text : List ℕ) (one other : DddmpFault) → fault_of text ≡ Some
 -- no text of a dump has a fault
 abbrev pub DumpOrFault : Type 0
 DumpOrFault = (text : List ℕ) (dump : Dump) (fault : DddmpFault) → IsDddmpText text dump → fault_of text ≡ Some fault → ⊥
+
+-- a dump whose numbers may stand in a text
+pub record IsSmall (dump : Dump) : Type 0 where
+  pub variables : dump.nvars ≤ most_variables
+  pub positions : All (λ position. position < 2 ^ 31) dump.permids
+  pub nodes : length dump.nodes + 1 < 2 ^ 31
+  pub roots : length dump.roots < 2 ^ 31
+
+-- the text that is written for a dump is that dump's
+abbrev pub IsReadAgain : Type 0
+IsReadAgain = (dump : Dump) → IsWritable dump → IsSmall dump → IsDddmpText (written dump) dump

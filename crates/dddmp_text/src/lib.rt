@@ -10,5 +10,5 @@ mod writer;
 pub use dump::Dump;
 pub use edge_bits::Line;
 pub use faults::{DddmpFault, FaultKind};
-pub use readings::texts_have_one_reading;
+pub use readings::{texts_have_one_reading, written_texts_are_read_again};
 pub use writer::write;
