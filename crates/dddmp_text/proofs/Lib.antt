@@ -1,0 +1,16 @@
+mod Counting
+mod Decimals
+mod HeaderSteps
+mod Lookups
+mod NodeLines
+mod NodeSteps
+mod OneReading
+mod Ranks
+mod ReadAgain
+mod Rows
+mod Spelled
+mod Steps
+mod Texts
+mod Walks
+mod Writable
+mod WrittenLines

@@ -1,0 +1,6 @@
+pub mod Fields
+pub mod Dumps
+pub mod WellMade
+pub mod Faults
+pub mod Readings
+pub mod Written

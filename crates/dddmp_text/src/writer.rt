@@ -1,0 +1,138 @@
+//! The text of a dump.
+
+ghost use Rattle.std.specs.Prelude.{◌≡◌, ◌<◌, ◌++◌, ◌∷◌, [], All, Contains, OnOk, IfOk, length, map, string_bytes};
+ghost use Rattle.std.specs.Fmt.{decimal, signed_decimal};
+ghost use Rattle.dddmp_text.specs.Dumps.{comes_before, rank_of};
+ghost use Rattle.dddmp_text.specs.WellMade.{IsWritable};
+ghost use Rattle.dddmp_text.specs.Written.{AreInternals, counts, header, item, node_item, node_items, written};
+
+use crate::dump::Dump;
+use edge_bits::{Line, Memory};
+use std::alloc::{AllocError, Global};
+
+/// Whether the position at the first place comes before that at the second.
+fn comes_before(permids: &[u32], place: usize, other: usize) -> bool
+    requires place { place < length permids.now }
+    requires other { other < length permids.now }
+    ensures { result ≡ comes_before permids.now place other }
+{
+    permids[place] < permids[other] || (permids[place] == permids[other] && place < other)
+}
+
+/// The rank of a place among the positions.
+fn rank_of(permids: &[u32], place: usize) -> usize
+    requires { place < length permids.now }
+    ensures { result ≡ rank_of permids.now place }
+{
+    let mut rank = 0;
+    for other in 0..permids.len() {
+        if comes_before(permids, other, place) {
+            rank += 1;
+        }
+    }
+    rank
+}
+
+/// By variable, the internal index of the node lines of each id.
+fn internals_of(alloc: Global, dump: &Dump) -> Result<Vec<usize>, AllocError>
+    requires { IsWritable dump.now }
+    ensures { IfOk result (λ internals. AreInternals dump.now internals.items) }
+{
+    let mut internals = vec![in alloc; 0usize; dump.nvars as usize]?;
+    for (place, id) in dump.ids.as_slice().iter().enumerate() {
+        internals[*id as usize] = rank_of(dump.permids.as_slice(), place);
+    }
+    Ok(internals)
+}
+
+/// A line of a word and one number.
+fn put_number(text: &mut String, word: &str, number: usize) -> Result<(), AllocError>
+    ensures { OnOk result (string_bytes text.new ≡ string_bytes text.old ++ item word.now (decimal number ∷ [])) }
+{
+    text.push_str(word)?;
+    write!(text, " {number}\n")
+}
+
+/// A line of a word and numbers.
+fn put_numbers(text: &mut String, word: &str, numbers: &[u32]) -> Result<(), AllocError>
+    ensures { OnOk result (string_bytes text.new ≡ string_bytes text.old ++ item word.now (map decimal numbers.now)) }
+{
+    text.push_str(word)?;
+    for number in numbers {
+        write!(text, " {number}")?;
+    }
+    text.push_str("\n")
+}
+
+/// A line of a word and whole numbers.
+fn put_integers(text: &mut String, word: &str, numbers: &[i32]) -> Result<(), AllocError>
+    ensures { OnOk result (string_bytes text.new ≡ string_bytes text.old ++ item word.now (map signed_decimal numbers.now)) }
+{
+    text.push_str(word)?;
+    for whole in numbers {
+        write!(text, " {whole}")?;
+    }
+    text.push_str("\n")
+}
+
+/// The first lines of the header.
+#[tactic(auto, unfolding(crate::specs::Written::counts))]
+fn counted(alloc: Global, dump: &Dump) -> Result<String, AllocError>
+    ensures { IfOk result (λ text. string_bytes text ≡ counts dump.now) }
+{
+    let mut text = String::from_str(alloc, ".ver DDDMP-2.0\n.mode A\n.varinfo 0\n")?;
+    put_number(&mut text, ".nnodes", dump.nodes.as_slice().len() + 1)?;
+    put_number(&mut text, ".nvars", dump.nvars as usize)?;
+    put_number(&mut text, ".nsuppvars", dump.ids.len())?;
+    Ok(text)
+}
+
+/// The header, with the line of the constant.
+#[tactic(auto, unfolding(crate::specs::Written::header))]
+fn header(alloc: Global, dump: &Dump) -> Result<String, AllocError>
+    ensures { IfOk result (λ text. string_bytes text ≡ header dump.now) }
+{
+    let mut text = counted(alloc, dump)?;
+    put_numbers(&mut text, ".ids", dump.ids.as_slice())?;
+    put_numbers(&mut text, ".permids", dump.permids.as_slice())?;
+    put_number(&mut text, ".nroots", dump.roots.len())?;
+    put_integers(&mut text, ".rootids", dump.roots.as_slice())?;
+    text.push_str(".nodes\n1 T 1 0 0\n")?;
+    Ok(text)
+}
+
+/// A node line.
+fn put_node(text: &mut String, index: usize, line: &Line, internal: usize) -> Result<(), AllocError>
+    ensures { OnOk result (string_bytes text.new ≡ string_bytes text.old ++ node_item internal index line.now) }
+{
+    write!(text, "{index} {}", line.var)?;
+    write!(text, " {internal} {}", line.hi)?;
+    write!(text, " {}\n", line.lo)?;
+    Ok(())
+}
+
+/// The node lines behind that of the constant.
+fn put_nodes(text: &mut String, dump: &Dump, internals: &[usize]) -> Result<(), AllocError>
+    requires internals { AreInternals dump.now internals.now }
+    requires holds { All (λ line. Contains dump.now.ids line.var) dump.now.nodes }
+    ensures { OnOk result (string_bytes text.new ≡ string_bytes text.old ++ node_items dump.now dump.now.nodes) }
+{
+    for (place, line) in dump.nodes.as_slice().iter().enumerate() {
+        put_node(text, place + 2, line, internals[line.var as usize])?;
+    }
+    Ok(())
+}
+
+/// The text of a well made dump whose `ids` rise, are below `nvars` and hold each line's variable, and whose `permids` are as
+/// many and distinct. Want of memory may be the answer to any dump.
+#[tactic(auto, unfolding(crate::specs::Written::written))]
+pub fn write(alloc: Global, dump: &Dump) -> Result<Vec<u8>, Memory>
+    requires { IsWritable dump.now }
+    ensures { IfOk result (λ text. text.items ≡ written dump.now) }
+{
+    let internals = internals_of(alloc, dump)?;
+    let mut text = header(alloc, dump)?;
+    put_nodes(&mut text, dump, &internals)?;
+    text.push_str(".end\n")?;
+    Ok(text.into_bytes())
+}
