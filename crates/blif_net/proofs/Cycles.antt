@@ -9,6 +9,7 @@ use Rattle.blif_net.specs.Text.{Word}
 use Rattle.blif_net.specs.Circuits.{Cover, Circuit, defined_in, is_among, settles}
 use Rattle.blif_net.specs.Faults.{is_settled}
 use Rattle.blif_net.proofs.Distinct.{Alone}
+use Rattle.blif_net.proofs.Networks.{all_words}
 use Rattle.blif_net.proofs.OneNet.{found_once, not_input}
 use Rattle.blif_order.specs.Orders.{is_led, reads_of}
 use Rattle.blif_net.specs.Bridges.{ReadsOf}
@@ -29,12 +30,6 @@ any_here p (x ∷ covers) (suc d) cover h e = or_right (p x) (list_any p covers)
 pub none_here : (p : Cover → Bool) (covers : List Cover) → ((d : ℕ) (cover : Cover) → slice_get covers d ≡ Some cover → p cover ≡ false) → list_any p covers ≡ false
 none_here p [] h = refl
 none_here p (x ∷ covers) h = ap (λ b. b || list_any p covers) (h 0 x refl) ∙ none_here p covers (λ d cover e. h (suc d) cover e)
-
-all_words : (p : Word → Bool) (words : List Word) → ((z : Word) → is_among words z ≡ true → p z ≡ true) → list_all p words ≡ true
-all_words p [] h = refl
-all_words p (word ∷ words) h =
-    ap (λ b. b && list_all p words) (h word (or_left (bytes_eq word word) (is_among words word) ((bytes_eq-Decides word word).1 refl)))
-    ∙ all_words p words (λ z e. h z (or_right (bytes_eq z word) (is_among words z) e))
 
 pub some_word : (p : Word → Bool) (words : List Word) (z : Word) → is_among words z ≡ true → p z ≡ false → list_all p words ≡ false
 some_word p [] z h e = absurd (false≢true h)

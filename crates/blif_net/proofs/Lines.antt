@@ -1,5 +1,5 @@
 -- A draft that takes a line, kind by kind.
-use Rattle.std.proofs.Common.{◌≡◌, ℕ, suc, ◌+◌, ◌-◌, ◌≤◌, ◌||◌, Bool, true, false, cond, List, [], ◌∷◌, ◌++◌, length, map, Option, Some, None, nat_lt, refl, ap, sym, ◌∙◌, subst, arith, append_assoc, append-nil, length-append, take}
+use Rattle.std.proofs.Common.{◌≡◌, ℕ, ◌+◌, ◌-◌, ◌≤◌, ◌||◌, Bool, true, false, cond, List, [], ◌∷◌, ◌++◌, length, map, Option, Some, None, nat_lt, refl, ap, sym, ◌∙◌, subst, arith, append_assoc, append-nil, length-append, take}
 use Rattle.std.specs.Prelude.{option_to_list, slice_get}
 use Rattle.std.specs.Global.{Vec}
 use Rattle.std.specs.List.{list_any}
@@ -21,6 +21,7 @@ use Rattle.blif_net.specs.Networks.{AreNumbers}
 use Rattle.blif_net.specs.Names.{DefineStop, IsNumberOf, Name, given_role, is_called, name_at, role_called, with_name, with_names, words_in}
 use Rattle.blif_net.specs.Covers.{IsCoverOf, TakesRow}
 use Rattle.blif_net.specs.Drafts.{AddsInput, AddsInputs, AreCovers, AreRoles, Closes, InputStop, InputsStop, IsCurrent, IsDraftOf, Stops, Takes, TakesStatement, uses_in, with_use, with_uses}
+use Rattle.blif_net.proofs.CoverReads.{as_many_drafts}
 use Rattle.blif_net.proofs.CoverRows.{as_many_numbers}
 use Rattle.blif_net.proofs.Distinct.{closed_same, row_same}
 use Rattle.blif_net.proofs.Drafting.{given_more, use_of, uses_given, uses_named}
@@ -200,19 +201,13 @@ inputs_stopped old now front back w l (stops.Fault kind) a s = (
       a.so_far c h ∙ ap (λ t. cond t true (some_again ((signals_in c ++ front) ++ w ∷ []) back)) some,
 )
 
-as_many_covers : (words : List Word) (covers : List Cover) (drafts : List CoverDraft) → AreCovers words covers drafts → length covers ≡ length drafts
-as_many_covers words [] [] h = refl
-as_many_covers words [] (draft ∷ drafts) h = absurd h
-as_many_covers words (cover ∷ covers) [] h = absurd h
-as_many_covers words (cover ∷ covers) (draft ∷ drafts) h = ap suc (as_many_covers words covers drafts h.1)
-
 -- how many signals there are where no cover is open
 signals_many : (c : Context) (draft : Draft) → IsDraftOf c draft → draft.current ≡ None → length (signals_in c) ≡ length draft.inputs + length draft.closed
 signals_many c draft h none =
     let covers : covers_in c ≡ c.closed = ap (λ (o : Option Cover). c.closed ++ option_to_list o) (none_current (words_in draft.names) c.current draft.current none h.current) ∙ append-nil c.closed in
     length-append c.inputs (defined_in (covers_in c))
     ∙ ap (λ n. n + length (defined_in (covers_in c))) (as_many_numbers (words_in draft.names) c.inputs draft.inputs h.inputs)
-    ∙ ap (λ n. length draft.inputs + n) (length-map (covers_in c) (λ (cover : Cover). cover.name) ∙ ap length covers ∙ as_many_covers (words_in draft.names) c.closed draft.closed h.closed)
+    ∙ ap (λ n. length draft.inputs + n) (length-map (covers_in c) (λ (cover : Cover). cover.name) ∙ ap length covers ∙ as_many_drafts (words_in draft.names) c.closed draft.closed h.closed)
 
 -- and of all inputs and signals, where more inputs came
 inputs_many : (c : Context) (new : Draft) (ws : List Word) → IsDraftOf (with_inputs c ws) new → length c.inputs + length ws ≡ length new.inputs
@@ -315,7 +310,7 @@ names_taken old front w l i number names1 names2 ns ins rows none many e n f is 
           let k = named_draft c old front l names1 e h in
           let covers : covers_in c ≡ c.closed = ap (λ (o : Option Cover). c.closed ++ option_to_list o) (none_current (words_in old.names) c.current old.current none h.current) ∙ append-nil c.closed in
           let count : i ≡ length (defined_in (covers_in c)) =
-          many ∙ sym (as_many_covers (words_in old.names) c.closed old.closed h.closed) ∙ ap length (sym covers) ∙ sym (length-map (covers_in c) (λ (cover : Cover). cover.name)) in
+          many ∙ sym (as_many_drafts (words_in old.names) c.closed old.closed h.closed) ∙ ap length (sym covers) ∙ sym (length-map (covers_in c) (λ (cover : Cover). cover.name)) in
           let all : defined_in (c.closed ++ cover_at l (front ++ w ∷ []) ∷ []) ≡ defined_in (covers_in c) ++ w ∷ [] =
           map-append (λ (cover : Cover). cover.name) c.closed (cover_at l (front ++ w ∷ []) ∷ []) ∙ ap (λ t. t ++ last_of (front ++ w ∷ []) ∷ []) (ap defined_in (sym covers)) ∙ ap (λ t. defined_in (covers_in c) ++ t ∷ []) ((front_is front w).1) in
           record {

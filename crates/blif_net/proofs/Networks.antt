@@ -90,7 +90,7 @@ stands circuit reads r before (c ∷ order) names h inputs named within =
         (or_left (bytes_eq other.name (get_or circuit.covers c blank).name) false ((bytes_eq-Decides other.name (get_or circuit.covers c blank).name).1 (ap (λ (t : Cover). t.name) (sym one))))
 
 -- the place of a word among names
-place_of : (names : List Word) (word : Word) → is_among names word ≡ true → (i : ℕ) × (slice_get names i ≡ Some word)
+pub place_of : (names : List Word) (word : Word) → is_among names word ≡ true → (i : ℕ) × (slice_get names i ≡ Some word)
 place_of [] word h = absurd (false≢true h)
 place_of (name ∷ names) word h = by_cases (bytes_eq word name) refl (λ more. place_of names word more)
   where

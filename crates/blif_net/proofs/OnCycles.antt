@@ -15,6 +15,7 @@ use Rattle.blif_net.specs.Faults.{fault_on, is_settled, is_signal, undefined_lin
 use Rattle.blif_net.specs.Cycles.{CyclesAreFound, IsCyclic, Leads, LiesOnCycle, ReadsCover}
 use Rattle.blif_net.proofs.Cycles.{by_name, none_here, some_word}
 use Rattle.blif_net.proofs.Distinct.{Alone, alone_at_start, alone_behind}
+use Rattle.blif_net.proofs.Networks.{place_of}
 use Rattle.blif_net.proofs.OneNet.{covered, not_input}
 use Rattle.blif_net.proofs.Permutations.{split_at}
 use Rattle.blif_order.specs.Orders.{Once, is_in}
@@ -68,14 +69,6 @@ all_pass p (w ∷ words) z h e = by_cases (bytes_eq z w) refl (p w) refl h e (λ
     by_cases a f false g k i more = absurd (false≢true k)
     by_cases true f true g k i more = ap p ((bytes_eq-Decides z w).0 f) ∙ g
     by_cases false f true g k i more = more k i
-
-place_of : (words : List Word) (z : Word) → is_among words z ≡ true → (i : ℕ) × (slice_get words i ≡ Some z)
-place_of [] z h = absurd (false≢true h)
-place_of (w ∷ words) z h = by_cases (bytes_eq z w) refl h (λ k. place_of words z k)
-  where
-    by_cases : (b : Bool) → bytes_eq z w ≡ b → (b || is_among words z) ≡ true → (is_among words z ≡ true → (i : ℕ) × (slice_get words i ≡ Some z)) → (i : ℕ) × (slice_get (w ∷ words) i ≡ Some z)
-    by_cases true e k more = (0, ap Some (sym ((bytes_eq-Decides z w).0 e)))
-    by_cases false e k more = let m = more k in (suc m.0, m.1)
 
 -- each input of each cover is a signal
 abbrev AllSignals : Circuit → Type 0

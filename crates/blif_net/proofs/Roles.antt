@@ -18,6 +18,7 @@ use Rattle.blif_net.specs.Networks.{AreNumbers}
 use Rattle.blif_net.specs.Names.{Name, given_role, is_called, is_unknown, name_at, role_called, role_or_none, with_name, words_in}
 use Rattle.blif_net.specs.Drafts.{AreCovers, AreRoles, IsCurrent, IsDraftOf, IsRoleOf}
 use Rattle.blif_net.proofs.Distinct.{other_way}
+use Rattle.blif_net.proofs.NameLists.{role_none}
 use Rattle.blif_net.proofs.OneNet.{among_got, get_front}
 
 -- Signals are among the words of names
@@ -68,12 +69,6 @@ role_is ins defined (name ∷ names) w h e = by_cases (is_called w name) refl e 
     by_cases true f k more = subst (λ (t : Word). IsRoleOf ins defined t name.role) (sym ((bytes_eq-Decides w name.word).0 f)) h.0
     by_cases false f k more = more k
 
-no_role : (names : List Name) (w : Word) → list_any (is_called w) names ≡ false → role_called names w ≡ roles.Unknown
-no_role [] w h = refl
-no_role (name ∷ names) w h =
-    let both = or_parts (is_called w name) (list_any (is_called w) names) h in
-    ap (λ b. role_or_none (cond b (Some name) (find (is_called w) names))) both.0 ∙ no_role names w both.1
-
 pub new_signal : (c : Context) (draft : Draft) (w : Word) → IsDraftOf c draft → role_called draft.names w ≡ roles.Unknown → is_among (signals_in c) w ≡ false
 new_signal c draft w h e = by_cases (list_any (is_called w) draft.names) refl
   where
@@ -99,7 +94,7 @@ old_signal c draft w h e = by_cases (list_any (is_called w) draft.names) refl
   where
     by_cases : (b : Bool) → list_any (is_called w) draft.names ≡ b → is_among (signals_in c) w ≡ true
     by_cases true f = known_signal c.inputs (defined_in (covers_in c)) w (role_called draft.names w) (role_is c.inputs (defined_in (covers_in c)) draft.names w h.roles f) e
-    by_cases false f = absurd (false≢true (sym e ∙ ap is_unknown (no_role draft.names w f)))
+    by_cases false f = absurd (false≢true (sym e ∙ ap is_unknown (role_none draft.names w f)))
 
 -- More signals: what was a signal stays that one, and other words stay none.
 pub record Grows (w : Word) (ins defined ins' defined' : List Word) : Type 0 where

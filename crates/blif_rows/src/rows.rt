@@ -1,0 +1,91 @@
+//! The rows of a file.
+//!
+//! A row is a text, and what has to be read of it. Each line begins with a word, and a blank:
+//!
+//! - `row NAME` begins a row.
+//! - `> LINE` is a line of its text.
+//! - `! FAULT` says that the text has this fault, as `4 mixed`.
+//! - `< LINE` is a line of the network that has to be read: `inputs` and their names; for each gate, in some order of them,
+//!   `gate`, the signals that it reads, `on` or `off`, and `|` with its word for each row; for each output `output`, its name and
+//!   its signal.
+//!
+//! In a LINE `%HH` stands for the byte of these two digits, and a `%` at the end of `> LINE` drops its line feed. Other lines say
+//! nothing.
+
+use std::alloc::{AllocError, Global};
+
+/// A text, and what is due.
+#[derive(Drop)]
+pub struct Row {
+    pub name: String,
+    pub text: Vec<u8>,
+    pub due: Vec<u8>,
+}
+
+/// The byte of the first two digits, and what stands behind them.
+fn escaped(piece: &str) -> Option<(u8, &str)> {
+    let (digits, rest) = piece.split_at_checked(2)?;
+    let byte = u8::from_str_radix(digits, 16).ok()?;
+    Some((byte, rest))
+}
+
+/// Adds the bytes for which a line stands.
+fn add_bytes(bytes: &mut Vec<u8>, line: &str) -> Result<(), AllocError> {
+    let mut pieces = line.split('%');
+    bytes.extend_from_slice(pieces.next().unwrap_or("").as_bytes())?;
+    for piece in pieces {
+        match escaped(piece) {
+            Some((byte, rest)) => {
+                bytes.push(byte)?;
+                bytes.extend_from_slice(rest.as_bytes())?;
+            }
+            None => bytes.extend_from_slice(piece.as_bytes())?,
+        }
+    }
+    Ok(())
+}
+
+/// Adds the bytes for which a line stands, and a line feed unless a `%` ends it.
+fn add_line(bytes: &mut Vec<u8>, line: &str) -> Result<(), AllocError> {
+    match line.strip_suffix('%') {
+        Some(front) => add_bytes(bytes, front),
+        None => {
+            add_bytes(bytes, line)?;
+            bytes.push(b'\n')?;
+            Ok(())
+        }
+    }
+}
+
+impl Row {
+    /// Takes what a line says of the row.
+    fn say(&mut self, word: &str, rest: &str) -> Result<(), AllocError> {
+        match word {
+            ">" => add_line(&mut self.text, rest),
+            "<" => add_line(&mut self.due, rest),
+            "!" => {
+                self.due.extend_from_slice("fault ".as_bytes())?;
+                add_line(&mut self.due, rest)
+            }
+            _ => Ok(()),
+        }
+    }
+}
+
+/// The rows of a file, in order.
+pub fn rows(alloc: Global, text: &str) -> Result<Vec<Row>, AllocError> {
+    let mut rows: Vec<Row> = Vec::new(alloc);
+    for line in text.lines() {
+        let (word, rest) = line.split_once(' ').unwrap_or((line, ""));
+        if word == "row" {
+            rows.push(Row {
+                name: rest.to_string(alloc)?,
+                text: Vec::new(alloc),
+                due: Vec::new(alloc),
+            })?;
+        } else if let Some(row) = rows.last_mut() {
+            row.say(word, rest)?;
+        }
+    }
+    Ok(rows)
+}
