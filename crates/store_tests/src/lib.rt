@@ -1,8 +1,11 @@
-//! Operations over a store in hand: its last slots, nodes of each kind, and bounds that no job can name; and its unique tables.
+//! Operations over a store in hand: its last slots, nodes of each kind, and bounds that no job can name; its unique tables, and
+//! the rows of a session.
 #![tactic(auto)]
 
 #[cfg(test)]
 mod bounds;
+#[cfg(test)]
+mod rows;
 #[cfg(test)]
 mod stores;
 #[cfg(test)]
