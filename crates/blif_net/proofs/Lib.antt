@@ -1,6 +1,5 @@
 mod Rows
 pub mod Values
-pub mod Products
 pub mod Arranging
 pub mod Completeness
 pub mod Split

@@ -4,7 +4,6 @@ pub mod Faults
 pub mod Networks
 pub mod Readings
 pub mod Cycles
-pub mod Products
 pub mod Names
 pub mod Statements
 pub mod Covers

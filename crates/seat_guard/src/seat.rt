@@ -7,6 +7,7 @@ use atomic_table::{Perch, Seat, Table, TableRule};
 use std::alloc::Global;
 use std::marker::PhantomData;
 
+/// The rule of the table, which holds whatever the interleaving.
 pub struct Turns<S> {
     shared: PhantomData<S>,
 }
@@ -20,6 +21,7 @@ impl<S: Content> TableRule<Option<S>, View, Opening> for Turns<S> {
     ghost first = { λ key. viewed (closing_of key) };
 }
 
+/// The table: a journal word, a turn word, and a slot for what all sessions share.
 #[derive(Drop)]
 pub struct Guard<S: Content> {
     pub(crate) table: Table<Option<S>, View, Opening, Turns<S>, Global>,
