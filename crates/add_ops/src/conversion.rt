@@ -124,7 +124,7 @@ impl<G: Grow, C: Conversion> Apply<G> for OneOperand<C> {
     ghost extra_stays = { λ _ _ _ _. refl };
 }
 
-// The answer for a function, if the store still knows it.
+/// The answer for a function, if the store still knows it.
 fn known<G: Grow, C: Conversion>(store: &mut G, op: &C, f: Edge) -> Option<Edge>
     requires { Is C.source (G.view store.old) f }
     ensures kept { Kept (G.view store.old) (G.view store.new) }
@@ -136,7 +136,7 @@ fn known<G: Grow, C: Conversion>(store: &mut G, op: &C, f: Edge) -> Option<Edge>
     }
 }
 
-// Runs on this stack, with the memo of the store.
+/// Runs on this stack, with the memo of the store.
 fn convert<G: Grow, C: Conversion + Drop>(
     store: &mut G,
     stack: &mut Stack,
@@ -157,7 +157,7 @@ fn convert<G: Grow, C: Conversion + Drop>(
     without_overflow(evaluate(store, stack, &Binary(op), Task::two(f, f)))
 }
 
-// Makes room for as many frames as there are levels, and runs.
+/// Makes room for as many frames as there are levels, and runs.
 fn convert_with_room<G: Grow, C: Conversion + Drop>(
     store: &mut G,
     stack: &mut Stack,

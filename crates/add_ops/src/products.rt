@@ -50,7 +50,7 @@ impl<G: Grow> Pointwise<G> for Multiplication {
     ghost keeps = { tt };
 }
 
-// The exact product, unless it is far out of range.
+/// The exact product, unless it is far out of range.
 fn product(x: i64, y: i64) -> Option<i64>
     ensures some { IfSome result (λ exact. exact ≡ x *ℤ y) }
     ensures none { IfNone result (is_value (x *ℤ y) ≡ false) }

@@ -12,7 +12,7 @@ use node_store::operator::{Task, without_overflow};
 use node_store::remembering::Remembering;
 use node_store::{Grow, Stack, Stop};
 
-// Runs on this stack, where the table of the call is empty.
+/// Runs on this stack, where the table of the call is empty.
 fn remember<G: Grow, C: Conversion + Drop>(
     store: &mut G,
     stack: &mut Stack,
@@ -34,7 +34,7 @@ fn remember<G: Grow, C: Conversion + Drop>(
     without_overflow(evaluate(store, stack, &Remembering(op), Task::two(f, f)))
 }
 
-// Makes room for as many frames as there are levels and for the answers of the call, and runs.
+/// Makes room for as many frames as there are levels and for the answers of the call, and runs.
 fn remember_with_room<G: Grow, C: Conversion + Drop>(
     store: &mut G,
     stack: &mut Stack,

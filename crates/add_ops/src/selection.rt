@@ -31,7 +31,7 @@ impl IfThenElse for Selection {
     ghost on_variables = { tt };
 }
 
-// The answer where the condition is constant or both functions are one, else operands with the same answer and a regular condition.
+/// The answer where the condition is constant or both functions are one, else operands with the same answer and a regular condition.
 fn reduce(f: Edge, g: Edge, h: Edge) -> Reduced
     ensures { (w : View) → Permanent w → AreThree Add w f g h → IsReduced Add w f g h result }
 {

@@ -116,7 +116,7 @@ impl<G: Grow> Operator<G> for Summation {
 }
 
 impl Summation {
-    // The node of both answers, which is kept as the answer of the task.
+    /// The node of both answers, which is kept as the answer of the task.
     fn join<G: Grow>(
         &self,
         store: &mut G,
@@ -175,7 +175,7 @@ fn key_of(f: Edge, projection: Edge) -> Key
     }
 }
 
-// Runs on this stack.
+/// Runs on this stack.
 fn sum<G: Grow>(store: &mut G, stack: &mut Stack, f: Edge, var: u32) -> Result<Edge, Halt>
     requires operands { HasSum (G.view store.old) f var }
     requires permanent { Permanent (G.view store.old) }
@@ -194,7 +194,7 @@ fn sum<G: Grow>(store: &mut G, stack: &mut Stack, f: Edge, var: u32) -> Result<E
     evaluate(store, stack, &op, Task::two(f, f))
 }
 
-// Makes room for twice as many frames as there are levels, and runs.
+/// Makes room for twice as many frames as there are levels, and runs.
 fn sum_with_room<G: Grow>(
     store: &mut G,
     stack: &mut Stack,

@@ -6,6 +6,7 @@ use Rattle.edge_bits.specs.declared.words.Word.{Word}
 use Rattle.edge_bits.specs.declared.words.Word.TheVariants.{Inner, Leaf}
 use Rattle.edge_bits.specs.Words.{unpack_of}
 use Rattle.edge_bits.specs.Assignments.{bit, set_bit}
+use Rattle.edge_bits.specs.Permanent.{first_element}
 
 -- what the slots hold, by their words: none where a slot isn't in use
 abbrev pub slots_of : List ℕ → ℕ → Option Word
@@ -21,7 +22,7 @@ flipped complement value = if complement then not value else value
 
 -- the element of a node of a ZDD
 abbrev pub element_of : ℕ → ℕ
-element_of var = var - 16384
+element_of var = var - first_element
 
 -- A BDD at k: the only leaf is one; a node goes on by the bit of its variable
 abbrev pub bdd_step : (Edge → Option Bool) → ℕ → Option Word → Option Bool

@@ -3,6 +3,7 @@ use Rattle.std.specs.Prelude.{ℕ, ◌+◌, ◌-◌, ◌*◌, ◌/◌, ◌%◌, 
 use Rattle.edge_bits.specs.declared.words.Node.{Node}
 use Rattle.edge_bits.specs.declared.words.Word.{Word}
 use Rattle.edge_bits.specs.declared.words.Word.TheVariants.{Inner, Leaf}
+use Rattle.edge_bits.specs.Permanent.{least_value, value_end}
 
 -- a truth value as a bit
 abbrev pub digit : Bool → ℕ
@@ -19,7 +20,7 @@ signed low = if nat_lt low (2 ^ 46) then pos low else negsuc (2 ^ 47 - 1 - low)
 
 -- from -2 ^ 46 to 2 ^ 46 - 1
 abbrev pub IsLeafValue : ℤ → Type 0
-IsLeafValue z = (negsuc (2 ^ 46 - 1) ≤ℤ z) × (z <ℤ pos (2 ^ 46))
+IsLeafValue z = (least_value ≤ℤ z) × (z <ℤ value_end)
 
 -- each field fits its bits
 abbrev pub IsInRange : Word → Type 0

@@ -1,3 +1,5 @@
+//! The kinds of diagram, arcs to nodes, and the node lines of stored diagrams.
+
 ghost use Rattle.std.specs.Prelude.{◌≡◌, not};
 
 /// The three kinds of diagram.

@@ -1,3 +1,5 @@
+//! Want of memory, and the lists that public types hold.
+
 ghost use Rattle.std.specs.Prelude.{◌≡◌, ◌∷◌, ◌++◌, [], ◌↔◌, length, IsTrue, IfErr, OnOk, OnErr};
 
 use std::alloc::{AllocError, AllocFailed, Global};

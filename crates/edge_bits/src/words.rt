@@ -1,3 +1,5 @@
+//! The 64 bits of a slot's word.
+
 ghost use Rattle.std.specs.Prelude.{◌≡◌, ◌<◌, ◌≤◌, ◌^◌, ◌↔◌, ◌⊎◌, IsNone, IfSome};
 ghost use Rattle.edge_bits.specs.Words.{IsInRange, pack_of, unpack_of, variable_field};
 

@@ -1,4 +1,5 @@
-// The entries of a history. Contracts speak of them and views carry them; of all this a program makes names alone.
+//! The entries of a history. Contracts speak of them and views carry them; of all this a program makes names alone.
+
 use std::collections::LinkedList;
 
 /// A row of one session.

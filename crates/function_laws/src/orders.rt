@@ -1,4 +1,4 @@
-// What an order and its blocks are called. Contracts speak of them.
+//! What an order and its blocks are called. Contracts speak of them.
 
 /// One of the two orders.
 #[derive(Debug, Clone, Copy, PartialEq, Eq)]

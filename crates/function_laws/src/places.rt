@@ -1,4 +1,5 @@
-// Places of a list of 2^n values: each is an assignment, bit v being the value of variable v, or a combination.
+//! Places of a list of 2^n values: each is an assignment, bit v being the value of variable v, or a combination.
+
 ghost use Rattle.std.specs.Prelude.{◌≡◌, ◌<◌, ◌^◌, IsTrue, bit_or, length};
 ghost use Rattle.edge_bits.specs.Assignments.{bit, set_bit};
 ghost use Rattle.function_laws.specs.Lists.{is_size, truth};

@@ -1,4 +1,5 @@
-// Plain calls over whole lists of values. They are slow and short, and tests compare the store's operations with them.
+//! Plain calls over whole lists of values. They are slow and short, and tests compare the store's operations with them.
+
 ghost use Rattle.std.specs.Prelude.{◌≡◌, ◌<◌, ◌^◌, All, length, IsTrue, IfOk};
 ghost use Rattle.function_laws.specs.Lists.{is_size, list_of, truth};
 ghost use Rattle.function_laws.specs.Values.{exists_one};

@@ -1,11 +1,12 @@
-// Plain calls over lists of whole numbers.
+//! Plain calls over lists of whole numbers.
+
 ghost use Rattle.std.specs.Prelude.{◌≡◌, ◌<◌, ◌^◌, length, IsTrue, IfOk, if◌then◌else◌, option_map};
 ghost use Rattle.function_laws.specs.Lists.{is_size, list_of, whole};
 ghost use Rattle.function_laws.specs.Numbers.{exactly, is_value, plus, sum_over};
 ghost use Rattle.function_laws.specs.Functions.{plus_of, sum_of};
 
 use crate::places::place_with;
-use edge_bits::Memory;
+use edge_bits::{LEAST_VALUE, Memory, VALUE_END};
 use std::alloc::Global;
 
 /// The sums; none where one is out of the range -2^46 to 2^46 - 1.
@@ -62,7 +63,7 @@ fn exact_cofactor_sums(alloc: Global, a: &[i64], var: u32) -> Result<Vec<i128>, 
 fn value_in_range(exact: i128) -> Option<i64>
     ensures { result ≡ (if is_value exact then Some exact else None) }
 {
-    if -70368744177664 <= exact && exact < 70368744177664 {
+    if i128::from(LEAST_VALUE) <= exact && exact < i128::from(VALUE_END) {
         Some(exact as i64)
     } else {
         None

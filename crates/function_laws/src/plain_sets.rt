@@ -1,4 +1,5 @@
-// Plain calls over families.
+//! Plain calls over families.
+
 ghost use Rattle.std.specs.Prelude.{◌≡◌, ℕ, ◌==◌, not, ◌&&◌, ◌||◌, bit_and, bit_or, ◌<◌, ◌^◌, length, IsTrue, IfOk};
 ghost use Rattle.function_laws.specs.Lists.{all_below, any_below, is_size, truth};
 ghost use Rattle.function_laws.specs.Functions.{diff_of, flip_of, meet_of, off_of, on_of, product_of, quotient_of, union_of};

@@ -50,7 +50,7 @@ impl Model for Rows {
     ghost invariant = { λ r. AreRows r.places.items (vec_capacity r.places) r.free.items (vec_capacity r.free) r.adds r.spare };
 }
 
-// Puts a row at the place that was freed last, or else behind all places.
+/// Puts a row at the place that was freed last, or else behind all places.
 fn put(places: &mut Vec<Option<Row>>, free: &mut Vec<u32>, row: Row) -> u32
     requires free { AreFree places.old.items free.old.items }
     requires room { length free.old.items ≡ 0 → length places.old.items < vec_capacity places.old }
@@ -72,7 +72,7 @@ fn put(places: &mut Vec<Option<Row>>, free: &mut Vec<u32>, row: Row) -> u32
     }
 }
 
-// The row at a place, if there is one.
+/// The row at a place, if there is one.
 fn row_at(places: &[Option<Row>], place: u32) -> Option<Row>
     ensures { result ≡ slice_index_or places.now place None }
 {
@@ -155,7 +155,7 @@ impl Rows {
         }
     }
 
-    // The row of a name.
+    /// The row of a name.
     fn row_of(&self, h: H) -> Option<Row>
         ensures { option_map (held_at h.row) result ≡ find_row self.now.live h }
     {

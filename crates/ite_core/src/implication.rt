@@ -106,7 +106,7 @@ impl<G: Grow> Operator<G> for Implication {
     ghost extra_stays = { λ _ _ _ _. refl };
 }
 
-// The answer for equal operands, and for constants that tell it.
+/// The answer for equal operands, and for constants that tell it.
 fn terminal(f: Edge, g: Edge) -> Option<bool>
     ensures { (w : View) → Permanent w → ImplicationTerminal w f g result }
 {
@@ -128,7 +128,7 @@ fn terminal(f: Edge, g: Edge) -> Option<bool>
     None
 }
 
-// The constant that is true where both are.
+/// The constant that is true where both are.
 fn both(first: Edge, second: Edge) -> Edge
     ensures { result ≡ cond first.complement first second }
 {

@@ -48,7 +48,7 @@ impl<G: Grow> Pointwise<G> for Conjunction {
     ghost keeps = { tt };
 }
 
-// The conjunction of equal or opposite operands, or with a constant.
+/// The conjunction of equal or opposite operands, or with a constant.
 fn terminal(f: Edge, g: Edge) -> Option<Edge>
     ensures { (w : View) → Permanent w → AreTwo Bdd w f g → Terminal Bdd (λ a b. a && b) w f g result }
 {

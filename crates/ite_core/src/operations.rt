@@ -1,3 +1,5 @@
+//! The operations as they are called, in the scratch that the store lends.
+
 ghost use Rattle.std.specs.Prelude.{◌≡◌, ◌&&◌, ◌||◌, ◌↔◌, IfOk, IsErrOf, Ok, true};
 ghost use Rattle.edge_bits.specs.declared.edges.Kind.TheVariants.{Bdd};
 ghost use Rattle.function_laws.specs.Values.{cofactor as cofactor_of, conjunction, differs, disjunction, exclusive, if_then_else, negation};
@@ -99,7 +101,7 @@ pub fn cofactor<G: Grow>(store: &mut G, f: Edge, var: u32, bit: bool) -> Result<
     outcome
 }
 
-// Makes room for as many frames as there are levels, and runs.
+/// Makes room for as many frames as there are levels, and runs.
 fn cofactor_with_room<G: Grow>(
     store: &mut G,
     stack: &mut Stack,
@@ -138,7 +140,7 @@ pub fn leq<G: Grow>(store: &mut G, f: Edge, g: Edge) -> Result<bool, Memory>
     outcome
 }
 
-// Makes room for as many frames as there are levels, and runs.
+/// Makes room for as many frames as there are levels, and runs.
 fn leq_with_room<G: Grow>(
     store: &mut G,
     stack: &mut Stack,

@@ -30,7 +30,7 @@ pub(crate) fn reduce(f: Edge, g: Edge, h: Edge) -> Reduced
     in_order(f, then, other)
 }
 
-// What may stand for an operand that is read only where f is true: logic one for f itself, zero for its complement.
+/// What may stand for an operand that is read only where f is true: logic one for f itself, zero for its complement.
 fn known_where(f: Edge, g: Edge) -> Edge
     ensures { (w : View) → Permanent w → Is Bdd w f → Is Bdd w g → StandsFor w f g result }
 {
@@ -41,7 +41,7 @@ fn known_where(f: Edge, g: Edge) -> Edge
     }
 }
 
-// An exclusive or, whose second and third operands are complements, takes the lower slot for its condition.
+/// An exclusive or, whose second and third operands are complements, takes the lower slot for its condition.
 fn in_order(f: Edge, g: Edge, h: Edge) -> Reduced
     requires inner { f.index ≡ 0 → ⊥ }
     requires apart { g ≡ h → ⊥ }

@@ -1,3 +1,5 @@
+//! A job as it was read: its sizes, its sections and their commands.
+
 use edge_bits::{Kind, List};
 
 /// What a command does. Registers go by number of assignment in their section, from 0.

@@ -7,7 +7,7 @@ ghost use Rattle.job_words.specs.Text.{is_bit, is_bits, bits_in, bit_word, lines
 ghost use Rattle.function_laws.specs.Numbers.{is_value};
 ghost use Rattle.std.specs.Char.{is_ascii_digit};
 
-use edge_bits::List;
+use edge_bits::{LEAST_VALUE, List, VALUE_END};
 use std::alloc::{AllocError, Global};
 
 fn position_of(bytes: &[u8], byte: u8) -> Option<usize>
@@ -183,8 +183,6 @@ pub fn is_integer(word: &[u8]) -> bool
     is_number(digits) && !(is_negative(word) && digits_value(digits) == 0)
 }
 
-const VALUES: i64 = 1 << 46;
-
 /// The value of a whole number from -2^46 to 2^46 - 1; none for others.
 pub fn integer_value(word: &[u8]) -> Option<i64>
     requires { is_integer word.now ≡ true }
@@ -193,7 +191,7 @@ pub fn integer_value(word: &[u8]) -> Option<i64>
 {
     let size = digits_value(magnitude(word)) as i64;
     let value = if is_negative(word) { -size } else { size };
-    if -VALUES <= value && value < VALUES {
+    if LEAST_VALUE <= value && value < VALUE_END {
         Some(value)
     } else {
         None

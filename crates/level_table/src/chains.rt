@@ -30,7 +30,7 @@ impl Model for Chains {
     ghost invariant = { λ c. AreChains c.hashes.items c.links.items c.heads.items };
 }
 
-// The place that a link leads to.
+/// The place that a link leads to.
 fn place_of(link: u32) -> Option<usize>
     ensures { link_to result ≡ link }
 {
@@ -41,7 +41,7 @@ fn place_of(link: u32) -> Option<usize>
     }
 }
 
-// From this link down, the greatest place with the hash.
+/// From this link down, the greatest place with the hash.
 fn candidate(hashes: &[u32], links: &[u32], first: u32, hash: u32) -> Option<usize>
     requires within { first ≤ length links.now }
     requires as_long { length links.now ≡ length hashes.now }
@@ -58,7 +58,7 @@ fn candidate(hashes: &[u32], links: &[u32], first: u32, hash: u32) -> Option<usi
     None
 }
 
-// The least place above this one in the bucket.
+/// The least place above this one in the bucket.
 fn next_above(heads: &[u32], links: &[u32], bucket: usize, place: usize) -> Option<usize>
     requires bucket { bucket < length heads.now }
     requires within { slice_index heads.now bucket ≤ length links.now }
@@ -77,7 +77,7 @@ fn next_above(heads: &[u32], links: &[u32], bucket: usize, place: usize) -> Opti
     above
 }
 
-// Takes a place out of its chain.
+/// Takes a place out of its chain.
 fn unlink(heads: &mut [u32], links: &mut [u32], hashes: &[u32], place: usize)
     requires chains { AreChains hashes.now links.old heads.old }
     requires within { place < length hashes.now }
@@ -91,7 +91,7 @@ fn unlink(heads: &mut [u32], links: &mut [u32], hashes: &[u32], place: usize)
     }
 }
 
-// Puts a place that is in no chain into that of its hash.
+/// Puts a place that is in no chain into that of its hash.
 fn link(heads: &mut [u32], links: &mut [u32], hashes: &[u32], place: usize)
     requires chained { IsChained (put (bucket_of hashes.now (length heads.old)) place (length heads.old)) heads.old links.old }
     requires as_long { length links.old ≡ length hashes.now }
@@ -114,7 +114,7 @@ fn link(heads: &mut [u32], links: &mut [u32], hashes: &[u32], place: usize)
     }
 }
 
-// So many empty buckets.
+/// So many empty buckets.
 fn clear(heads: &mut Vec<u32>, buckets: usize)
     requires { buckets ≤ vec_capacity heads.old }
     ensures { heads.new.items ≡ replicate buckets 0 }
@@ -125,7 +125,7 @@ fn clear(heads: &mut Vec<u32>, buckets: usize)
     }
 }
 
-// Puts all places into empty buckets.
+/// Puts all places into empty buckets.
 fn link_all(heads: &mut [u32], links: &mut [u32], hashes: &[u32])
     requires empty { heads.old ≡ replicate (length heads.old) 0 }
     requires bucket { 0 < length heads.old }
@@ -140,7 +140,7 @@ fn link_all(heads: &mut [u32], links: &mut [u32], hashes: &[u32])
     }
 }
 
-// Doubles the buckets, where the capacity allows it.
+/// Doubles the buckets, where the capacity allows it.
 fn widen(heads: &mut Vec<u32>, links: &mut [u32], hashes: &[u32])
     requires { AreChains hashes.now links.old heads.old.items }
     ensures { AreChains hashes.now links.new heads.new.items }
@@ -152,7 +152,7 @@ fn widen(heads: &mut Vec<u32>, links: &mut [u32], hashes: &[u32])
     }
 }
 
-// Takes out the last place, and gives its hash.
+/// Takes out the last place, and gives its hash.
 fn take_last(heads: &mut [u32], links: &mut Vec<u32>, hashes: &mut Vec<u32>) -> u32
     requires chains { AreChains hashes.old.items links.old.items heads.old }
     requires some { 0 < length hashes.old.items }
@@ -169,7 +169,7 @@ fn take_last(heads: &mut [u32], links: &mut Vec<u32>, hashes: &mut Vec<u32>) -> 
     hash
 }
 
-// Gives a place another hash.
+/// Gives a place another hash.
 fn rehash(heads: &mut [u32], links: &mut [u32], hashes: &mut [u32], place: usize, hash: u32)
     requires chains { AreChains hashes.old links.old heads.old }
     requires within { place < length hashes.old }

@@ -36,7 +36,7 @@ impl Model for LeafTable {
     ghost invariant = { λ t. IsLeafTable t.entries.items (vec_capacity t.entries) t.chains t.spare };
 }
 
-// The hash of a value.
+/// The hash of a value.
 fn mix(value: i64) -> u32
     ensures { result ≡ hash_of_value value }
 {
@@ -75,7 +75,7 @@ impl LeafTable {
         Ok(())
     }
 
-    // The place of the entry of a value.
+    /// The place of the entry of a value.
     fn place_of(&self, value: i64) -> Option<usize>
         ensures { MatchOption result (IsAbsentValue self.now.entries value) (λ k. (k < length self.now.entries) × ((d : LeafEntry) → IsOfValue value (slice_index_or self.now.entries k d))) }
     {

@@ -38,7 +38,7 @@ impl Model for LevelTable {
     ghost invariant = { λ t. IsTable t.entries.items (vec_capacity t.entries) t.chains t.spare };
 }
 
-// The hash of a pair.
+/// The hash of a pair.
 fn mix(hi: u32, lo: Edge) -> u32
     ensures { result ≡ hash_of hi lo }
 {
@@ -81,7 +81,7 @@ impl LevelTable {
         Ok(())
     }
 
-    // The place of the entry of a pair.
+    /// The place of the entry of a pair.
     fn place_of(&self, hi: u32, lo: Edge) -> Option<usize>
         ensures { MatchOption result (IsAbsent self.now.entries hi lo) (λ k. (k < length self.now.entries) × ((d : Entry) → IsOf hi lo (slice_index_or self.now.entries k d))) }
     {

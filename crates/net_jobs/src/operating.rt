@@ -225,7 +225,7 @@ impl Session {
         settle(&self.store, &mut self.rows, Kind::Bdd, made)
     }
 
-    // The pairs' variables with the edges of their rows.
+    /// The pairs' variables with the edges of their rows.
     fn edges(&self, pairs: &[(u32, Name)]) -> Result<Vec<(u32, Edge)>, Memory>
         requires stored { AreStored (plain_view self.now.store) self.now.rows.items }
         requires pairs { All (λ pair. IsLiveOf kinds.Bdd self.now.rows.items pair.1) pairs.now }

@@ -1,3 +1,5 @@
+//! Reads the source to its end.
+
 ghost use Rattle.std.specs.Prelude.{◌≡◌, ◌^◌, ◌+◌, ◌<◌, ◌≤◌, ◌++◌, ℕ, List, [], length, IfSome, IfOk, OnOk, OnErr, vec_len, IsErrOf, IfErr, ◌≢◌};
 ghost use Rattle.std.specs.Io.KnownBytes.{Consumes, IsAtEnd};
 ghost use Rattle.net_jobs.specs.Causes.{Rose};

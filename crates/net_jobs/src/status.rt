@@ -1,3 +1,5 @@
+//! How a run ends.
+
 ghost use Rattle.std.specs.Prelude.{◌≡◌};
 ghost use Rattle.net_jobs.specs.Codes.{code_of};
 

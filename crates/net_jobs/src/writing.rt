@@ -1,3 +1,5 @@
+//! Writes a text to its end.
+
 ghost use Rattle.std.specs.Prelude.{◌≡◌, ◌≤◌, OnOk, OnErr};
 ghost use Rattle.std.specs.Io.KnownBytes.{Appends};
 ghost use Rattle.net_jobs.specs.Causes.{HasCause, AppendsFront};

@@ -36,7 +36,7 @@ impl Model for NodeTable {
     ghost invariant = { λ t. IsIndexed t.words.items t.next t.variables.items t.elements.items t.leaves };
 }
 
-// Where a word stands, beyond the slots that are told by their number.
+/// Where a word stands, beyond the slots that are told by their number.
 pub(crate) fn find(words: &[u64], wanted: Word) -> Option<usize>
     ensures found { IfSome result (λ s. slots_of words.now s ≡ Some wanted) }
     ensures high { IfSome result (λ s. 3 ≤ s) }
@@ -51,7 +51,7 @@ pub(crate) fn find(words: &[u64], wanted: Word) -> Option<usize>
     None
 }
 
-// Puts a word into the next slot, if there is one more.
+/// Puts a word into the next slot, if there is one more.
 fn put(words: &mut Vec<u64>, next: &mut usize, word: Word) -> Option<usize>
     requires range { IsInRange word }
     requires taken { IsTaken words.old.items next.old }
@@ -69,7 +69,7 @@ fn put(words: &mut Vec<u64>, next: &mut usize, word: Word) -> Option<usize>
     Some(slot)
 }
 
-// Where a leaf stands by the leaves' table, or comes to stand where a slot is free.
+/// Where a leaf stands by the leaves' table, or comes to stand where a slot is free.
 fn place_leaf(
     words: &mut Vec<u64>,
     next: &mut usize,
@@ -95,7 +95,7 @@ fn place_leaf(
     Some(slot)
 }
 
-// Where the node stands by the table of this place, that of its variable, or comes to stand where a slot is free.
+/// Where the node stands by the table of this place, that of its variable, or comes to stand where a slot is free.
 fn place_node(
     words: &mut Vec<u64>,
     next: &mut usize,
@@ -125,7 +125,7 @@ fn place_node(
     Some(slot)
 }
 
-// The word of a permanent slot.
+/// The word of a permanent slot.
 fn permanent(slot: u32) -> Word
     requires { slot < 1029 }
     ensures word { result ≡ permanent_word slot }
@@ -142,7 +142,7 @@ fn permanent(slot: u32) -> Word
     }
 }
 
-// So many words, of which the permanent slots have theirs.
+/// So many words, of which the permanent slots have theirs.
 fn opening_words(alloc: Global, vars: u32, limit: u32) -> Result<Vec<u64>, Memory>
     requires vars { vars ≤ 1024 }
     requires limit { 5 + vars ≤ limit }
@@ -157,7 +157,7 @@ fn opening_words(alloc: Global, vars: u32, limit: u32) -> Result<Vec<u64>, Memor
     Ok(words)
 }
 
-// A table without entries, with room for so many.
+/// A table without entries, with room for so many.
 fn empty_table(alloc: Global, limit: u32) -> Result<LevelTable, Memory>
     ensures { IfOk result (λ t. t ≡ no_nodes limit) }
 {
@@ -166,7 +166,7 @@ fn empty_table(alloc: Global, limit: u32) -> Result<LevelTable, Memory>
     Ok(table)
 }
 
-// Puts the one node of a variable without others into its table: the projection, in this slot.
+/// Puts the one node of a variable without others into its table: the projection, in this slot.
 fn add_projection(table: &mut LevelTable, slot: u32)
     requires empty { table.old.entries ≡ [] }
     requires room { 1 ≤ table.old.spare }
@@ -175,7 +175,7 @@ fn add_projection(table: &mut LevelTable, slot: u32)
     table.insert(0, Edge::new(0, true), slot);
 }
 
-// The tables of so many variables, with their projections.
+/// The tables of so many variables, with their projections.
 fn variable_tables(alloc: Global, vars: u32, limit: u32) -> Result<Vec<LevelTable>, Memory>
     requires vars { vars ≤ 1024 }
     requires limit { 5 + vars ≤ limit }
@@ -191,7 +191,7 @@ fn variable_tables(alloc: Global, vars: u32, limit: u32) -> Result<Vec<LevelTabl
     Ok(tables)
 }
 
-// The tables of so many elements.
+/// The tables of so many elements.
 fn element_tables(alloc: Global, elements: u32, limit: u32) -> Result<Vec<LevelTable>, Memory>
     ensures length { IfOk result (λ tables. length tables.items ≡ elements) }
     ensures tables { IfOk result (λ tables. (i : ℕ) (t : Table) → slice_get tables.items i ≡ Some t → t ≡ no_nodes limit) }
@@ -204,7 +204,7 @@ fn element_tables(alloc: Global, elements: u32, limit: u32) -> Result<Vec<LevelT
     Ok(tables)
 }
 
-// Puts the leaves of the constants 0 and 1 into their table.
+/// Puts the leaves of the constants 0 and 1 into their table.
 fn add_constants(leaves: &mut LeafTable)
     requires empty { leaves.old.entries ≡ [] }
     requires room { 2 ≤ leaves.old.spare }
@@ -214,7 +214,7 @@ fn add_constants(leaves: &mut LeafTable)
     leaves.insert(1, 4);
 }
 
-// The leaves' table with the constants, with room for so many.
+/// The leaves' table with the constants, with room for so many.
 fn leaf_table(alloc: Global, limit: u32) -> Result<LeafTable, Memory>
     requires limit { 2 ≤ limit }
     ensures { IfOk result (λ t. t ≡ constants_table limit) }
@@ -225,7 +225,7 @@ fn leaf_table(alloc: Global, limit: u32) -> Result<LeafTable, Memory>
     Ok(leaves)
 }
 
-// Empties the leaves' table, but for the constants.
+/// Empties the leaves' table, but for the constants.
 fn clear_leaves(leaves: &mut LeafTable)
     requires room { 2 ≤ leaves.old.spare + length leaves.old.entries }
     ensures { leaves.new ≡ constants_table (leaves.old.spare + length leaves.old.entries) }
@@ -234,7 +234,7 @@ fn clear_leaves(leaves: &mut LeafTable)
     add_constants(leaves);
 }
 
-// Frees the slots from this one on.
+/// Frees the slots from this one on.
 fn free_from(words: &mut Vec<u64>, from: usize)
     ensures kept { (s : ℕ) → s < from → slots_of words.new.items s ≡ slots_of words.old.items s }
     ensures free { (s : ℕ) → from ≤ s → slots_of words.new.items s ≡ None }
@@ -245,7 +245,7 @@ fn free_from(words: &mut Vec<u64>, from: usize)
     }
 }
 
-// Empties the tables of the variables, but for their projections.
+/// Empties the tables of the variables, but for their projections.
 fn clear_variables(tables: &mut [LevelTable])
     requires few { length tables.old ≤ 1024 }
     requires room { (i : ℕ) (t : Table) → slice_get tables.old i ≡ Some t → 1 ≤ t.spare + length t.entries }
@@ -257,7 +257,7 @@ fn clear_variables(tables: &mut [LevelTable])
     }
 }
 
-// Empties the tables of the elements.
+/// Empties the tables of the elements.
 fn clear_elements(tables: &mut [LevelTable])
     ensures tables { (i : ℕ) (t : Table) → slice_get tables.old i ≡ Some t → slice_get tables.new i ≡ Some (no_nodes (t.spare + length t.entries)) }
 {

@@ -43,7 +43,7 @@ impl Model for PlainStore {
     ghost invariant = { λ s. IsPlain (record { variable_levels = s.variable_levels.items; element_levels = s.element_levels.items; words = s.nodes.words; fulls = s.fulls; due = s.due }) s.nodes };
 }
 
-// The child that a node would be, if it would be one.
+/// The child that a node would be, if it would be one.
 fn only_child(var: u32, hi: Edge, lo: Edge) -> Option<Edge>
     ensures child { IfSome result (IsChild var hi lo) }
     ensures none { IfNone result (HasNoChild var hi lo) }
@@ -73,7 +73,7 @@ fn opened(word: Word, complement: bool) -> Opened
     }
 }
 
-// One more, or the same at the end of its type.
+/// One more, or the same at the end of its type.
 fn risen(fulls: u64) -> u64
     ensures capped { result ≡ min (fulls + 1) (2 ^ 64 - 1) }
     ensures least { fulls ≤ result }
@@ -195,7 +195,7 @@ impl Grow for PlainStore {
     }
 }
 
-// The order 0, 1, 2, ..
+/// The order 0, 1, 2, ..
 fn ascending(alloc: Global, count: u32) -> Result<Vec<u32>, Memory>
     ensures { IfOk result (λ levels. levels.items ≡ range_with_len 0 count) }
 {
@@ -206,7 +206,7 @@ fn ascending(alloc: Global, count: u32) -> Result<Vec<u32>, Memory>
     Ok(levels)
 }
 
-// How many of the bits are a word's.
+/// How many of the bits are a word's.
 fn count_words(words: &[u64]) -> usize
     ensures count { result ≡ count_by is_word words.now }
     ensures within { result ≤ length words.now }

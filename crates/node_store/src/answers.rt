@@ -17,12 +17,12 @@ pub struct Answer {
 /// The most places of a table.
 const MOST_PLACES: usize = 1 << 22;
 
-// An edge with its complement as one number.
+/// An edge with its complement as one number.
 fn number_of(edge: Edge) -> u64 {
     2 * edge.index as u64 + u64::from(edge.complement)
 }
 
-// Where the answer of a task stands in a table of this size: multiplicative hashing (Knuth 1973) of all three operands.
+/// Where the answer of a task stands in a table of this size: multiplicative hashing (Knuth 1973) of all three operands.
 fn place_of(task: Task, size: usize) -> usize
     requires { 0 < size }
     ensures { result < size }

@@ -214,7 +214,7 @@ ghost use Rattle.std.specs.Prelude.{◌≡◌};
 ghost use Rattle.node_store.specs.Edges.{flip_if as flipped_edge};
 ghost use Rattle.node_store.specs.Views.{Kept};
 
-// Keeps the answer of a frame's task under its key, and gives it the complement that the frame asks for.
+/// Keeps the answer of a frame's task under its key, and gives it the complement that the frame asks for.
 fn finish<G: Grow, O: Apply<G>>(op: &O, store: &mut G, frame: Frame, edge: Edge) -> Edge
     requires due { O.due op.now (G.view store.old) frame.task }
     requires answer { O.answers op.now (G.view store.old) frame.task edge }

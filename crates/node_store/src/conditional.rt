@@ -125,7 +125,7 @@ impl<G: Grow, O: IfThenElse> Apply<G> for ThreeOperands<O> {
     ghost extra_stays = { λ _ _ _ _. refl };
 }
 
-// The parts of a task at its top variable.
+/// The parts of a task at its top variable.
 fn split<G: Grow>(store: &mut G, task: Task, flip: bool) -> Branch
     requires { (k : Kind) × CanSplit k (G.view store.old) task }
     ensures kept { Kept (G.view store.old) (G.view store.new) }
@@ -181,7 +181,7 @@ pub fn if_then_else<G: Grow, O: IfThenElse + Drop>(
     without_overflow(evaluate(store, stack, &Binary(op), Task { f, g, h }))
 }
 
-// Makes room for as many frames as there are levels, and runs.
+/// Makes room for as many frames as there are levels, and runs.
 fn with_room<G: Grow, O: IfThenElse + Drop>(
     store: &mut G,
     stack: &mut Stack,

@@ -33,7 +33,7 @@ pub fn evaluate<G: Grow, O: Operator<G>>(
     outcome
 }
 
-// The same, which leaves frames above the old ones where it stops early.
+/// The same, which leaves frames above the old ones where it stops early.
 fn run<G: Grow, O: Operator<G>>(
     store: &mut G,
     stack: &mut Stack,

@@ -185,7 +185,7 @@ pub fn place_by_place<G: Grow, O: Pointwise<G> + Drop>(
     )
 }
 
-// Makes room for as many frames as there are levels, and runs.
+/// Makes room for as many frames as there are levels, and runs.
 fn with_room<G: Grow, O: Pointwise<G> + Drop>(
     store: &mut G,
     stack: &mut Stack,

@@ -123,7 +123,7 @@ impl Stack {
         look_up(&self.answers, task)
     }
 
-    // Doubles the table where half of its places were taken, if there is memory.
+    /// Doubles the table where half of its places were taken, if there is memory.
     fn make_place(&mut self)
         ensures is_of { IsOf self.old.answers self.new.answers }
         ensures frames { self.new.frames ≡ self.old.frames }

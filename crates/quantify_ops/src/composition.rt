@@ -93,7 +93,7 @@ impl<G: Grow> Apply<G> for Composition {
 }
 
 impl Composition {
-    // The answer of a task, or its parts in normal form, in which the first function is regular.
+    /// The answer of a task, or its parts in normal form, in which the first function is regular.
     fn expansion<G: Grow>(&self, store: &mut G, task: Task) -> Expansion
         requires { ComposeDue self.now.f self.now.var self.now.g self.now.projection (G.view store.old) task }
         ensures kept { Kept (G.view store.old) (G.view store.new) }

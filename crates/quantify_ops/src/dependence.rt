@@ -94,7 +94,7 @@ impl<G: Grow> Apply<G> for Dependence {
     ghost extra_stays = { λ o v w m. m.vars };
 }
 
-// A function and its complement have one support.
+/// A function and its complement have one support.
 fn key_of(f: Edge) -> Key
     ensures { result ≡ support_key f }
 {

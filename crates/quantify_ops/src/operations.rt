@@ -1,3 +1,5 @@
+//! The operations as they are called, in the scratch that the store lends.
+
 ghost use Rattle.std.specs.Prelude.{◌≡◌, ◌*◌, ◌≤◌, IfOk, IsErrOf, ℕ, None, slice_index_or};
 ghost use Rattle.std.specs.List.{All};
 ghost use Rattle.edge_bits.specs.declared.edges.Kind.TheVariants.{Bdd};
@@ -69,7 +71,7 @@ pub fn and_exists<G: Grow>(store: &mut G, f: Edge, g: Edge, vars: &[u32]) -> Res
     outcome
 }
 
-// Makes room for twice as many frames as there are levels, and runs.
+/// Makes room for twice as many frames as there are levels, and runs.
 fn with_room<G: Grow>(
     store: &mut G,
     stack: &mut Stack,
@@ -95,7 +97,7 @@ fn with_room<G: Grow>(
     }
 }
 
-// Makes the product of the variables first.
+/// Makes the product of the variables first.
 fn over_product<G: Grow>(
     store: &mut G,
     stack: &mut Stack,
@@ -134,7 +136,7 @@ pub fn support<G: Grow>(store: &mut G, f: Edge) -> Result<Edge, Stop>
     outcome
 }
 
-// Makes room for twice as many frames as there are levels, and runs.
+/// Makes room for twice as many frames as there are levels, and runs.
 fn support_with_room<G: Grow>(
     store: &mut G,
     stack: &mut Stack,
@@ -174,7 +176,7 @@ pub fn compose<G: Grow>(store: &mut G, f: Edge, var: u32, g: Edge) -> Result<Edg
     outcome
 }
 
-// Makes room for twice as many frames as there are levels, and runs.
+/// Makes room for twice as many frames as there are levels, and runs.
 fn compose_with_room<G: Grow>(
     store: &mut G,
     stack: &mut Stack,
@@ -216,7 +218,7 @@ pub fn vector_compose<G: Grow>(store: &mut G, f: Edge, pairs: &[(u32, Edge)]) ->
     outcome
 }
 
-// Makes room for twice as many frames as there are levels and for the answers of the call, and runs.
+/// Makes room for twice as many frames as there are levels and for the answers of the call, and runs.
 fn substitute_with_room<G: Grow>(
     store: &mut G,
     stack: &mut Stack,
@@ -244,7 +246,7 @@ fn substitute_with_room<G: Grow>(
     substitute(store, stack, f, pairs, lowest)
 }
 
-// Runs the evaluator, where the table of the call is empty.
+/// Runs the evaluator, where the table of the call is empty.
 fn substitute<G: Grow>(
     store: &mut G,
     stack: &mut Stack,
@@ -284,7 +286,7 @@ pub fn restrict<G: Grow>(store: &mut G, f: Edge, c: Edge) -> Result<Edge, Stop>
     outcome
 }
 
-// Makes room for twice as many frames as there are levels, and runs.
+/// Makes room for twice as many frames as there are levels, and runs.
 fn restrict_with_room<G: Grow>(
     store: &mut G,
     stack: &mut Stack,

@@ -34,7 +34,7 @@ pub(crate) fn product<G: Grow>(store: &mut G, stack: &mut Stack, vars: &[u32]) -
     }
 }
 
-// The variables with their levels.
+/// The variables with their levels.
 fn with_levels<G: Grow>(store: &mut G, alloc: Global, vars: &[u32]) -> Result<Vec<Top>, Memory>
     requires { All (IsVariable Bdd (G.view store.old)) vars.now }
     ensures kept { Kept (G.view store.old) (G.view store.new) }
@@ -48,7 +48,7 @@ fn with_levels<G: Grow>(store: &mut G, alloc: Global, vars: &[u32]) -> Result<Ve
     Ok(tops)
 }
 
-// The variables with their levels, from the first in the order to the last.
+/// The variables with their levels, from the first in the order to the last.
 fn in_order<G: Grow>(store: &mut G, alloc: Global, vars: &[u32]) -> Result<Vec<Top>, Memory>
     requires { All (IsVariable Bdd (G.view store.old)) vars.now }
     ensures kept { Kept (G.view store.old) (G.view store.new) }
@@ -60,7 +60,7 @@ fn in_order<G: Grow>(store: &mut G, alloc: Global, vars: &[u32]) -> Result<Vec<T
     Ok(tops)
 }
 
-// The product of variables, from the last in the order to the first.
+/// The product of variables, from the last in the order to the first.
 fn multiply<G: Grow>(store: &mut G, stack: &mut Stack, tops: Vec<Top>) -> Result<Edge, Stop>
     requires ranked { IsRanked (G.view store.old) tops.items }
     requires permanent { Permanent (G.view store.old) }

@@ -121,7 +121,7 @@ impl<G: Grow> Operator<G> for Quantification {
 }
 
 impl Quantification {
-    // The task with what is left of its product below its top variable, and its parts.
+    /// The task with what is left of its product below its top variable, and its parts.
     fn narrow<G: Grow>(&self, store: &mut G, task: Task) -> Branch
         requires due { QuantifiedDue self.now.f self.now.g self.now.cube (G.view store.old) task }
         requires inner { NotBothLeaves Bdd (G.view store.old) task.f task.g }
@@ -141,7 +141,7 @@ impl Quantification {
         }
     }
 
-    // Whether the answer of the first part is that of the task: it is true, and the variable is quantified.
+    /// Whether the answer of the first part is that of the task: it is true, and the variable is quantified.
     fn settles<G: Grow>(&self, store: &mut G, task: Task, var: u32, first: Edge) -> bool
         requires { QuantifiedFirst self.now.f self.now.g self.now.cube (G.view store.old) task var first }
         ensures kept { Kept (G.view store.old) (G.view store.new) }
@@ -159,7 +159,7 @@ impl Quantification {
         }
     }
 
-    // The answer of a task from those of its parts: their disjunction where the variable is quantified, else a node.
+    /// The answer of a task from those of its parts: their disjunction where the variable is quantified, else a node.
     fn join<G: Grow>(
         &self,
         store: &mut G,
@@ -186,7 +186,7 @@ impl Quantification {
         }
     }
 
-    // Keeps the answer of a task.
+    /// Keeps the answer of a task.
     fn keep<G: Grow>(&self, store: &mut G, task: Task, answer: Edge)
         requires due { QuantifiedDue self.now.f self.now.g self.now.cube (G.view store.old) task }
         requires answer { QuantifiedAnswers (G.view store.old) task answer }
@@ -196,7 +196,7 @@ impl Quantification {
     }
 }
 
-// The constant that the conjunction of two functions is known to be.
+/// The constant that the conjunction of two functions is known to be.
 fn known(f: Edge, g: Edge) -> Option<bool>
     ensures { (w : View) → Permanent w → AreTwo Bdd w f g → IsKnown w f g result }
 {
@@ -219,7 +219,7 @@ fn known(f: Edge, g: Edge) -> Option<bool>
     None
 }
 
-// A conjunction of a function with true, or with itself, stands under the key of that function.
+/// A conjunction of a function with true, or with itself, stands under the key of that function.
 fn key_of(task: Task) -> Key
     ensures { (w : View) → Permanent w → AreQuantified w task.f task.g task.h → IsKeyOf w task result }
 {

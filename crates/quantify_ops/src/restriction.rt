@@ -117,7 +117,7 @@ impl<G: Grow> Operator<G> for Restriction {
 }
 
 impl Restriction {
-    // The condition with the variables above a level quantified.
+    /// The condition with the variables above a level quantified.
     fn lift<G: Grow>(
         &self,
         store: &mut G,
@@ -153,7 +153,7 @@ impl Restriction {
         }
     }
 
-    // The frame of a task and the branch for which it waits first: the one that is taken alone, or the then branch.
+    /// The frame of a task and the branch for which it waits first: the one that is taken alone, or the then branch.
     fn branch<G: Grow>(
         &self,
         store: &mut G,
@@ -189,7 +189,7 @@ impl Restriction {
         (first, then_task)
     }
 
-    // Keeps the answer of a frame's task, and gives it the complement that the frame asks for.
+    /// Keeps the answer of a frame's task, and gives it the complement that the frame asks for.
     fn keep<G: Grow>(&self, store: &mut G, frame: Frame, answer: Edge) -> Edge
         requires due { RestrictDue self.now.f self.now.c (G.view store.old) frame.task }
         requires answer { RestrictAnswers (G.view store.old) frame.task answer }
@@ -214,7 +214,7 @@ pub(crate) fn is_false<G: Grow>(store: &mut G, edge: Edge) -> bool
     }
 }
 
-// The answer where the condition is true, or is the function or its complement.
+/// The answer where the condition is true, or is the function or its complement.
 fn known(f: Edge, condition: Edge) -> Option<Edge>
     ensures { (w : View) → Permanent w → AreTwo Bdd w f condition → (IsNowhere (bdd_at w condition) → ⊥) → IsKnownRestriction w (record { f = f; g = condition; h = f }) result }
 {

@@ -100,7 +100,7 @@ impl Substitution<'_> {
     ghost use Rattle.std.specs.Prelude.{◌≡◌, ◌<◌, true, false};
     ghost use Rattle.quantify_ops.specs.Substituted.{IsBelowAll, image_edge};
 
-    // Whether all of the pairs' variables stand above the level.
+    /// Whether all of the pairs' variables stand above the level.
     fn ends_above(&self, level: u32) -> bool
         ensures { result ≡ true → IsBelowAll self.now.lowest level }
     {
@@ -110,7 +110,7 @@ impl Substitution<'_> {
         }
     }
 
-    // The function that is put for a variable.
+    /// The function that is put for a variable.
     fn image(&self, var: u32) -> Edge
         requires { var < 16384 }
         ensures { result ≡ image_edge self.now.pairs.now var }
@@ -137,7 +137,7 @@ pub(crate) fn lowest_level<G: Grow>(store: &mut G, pairs: &[(u32, Edge)]) -> Opt
     lowest
 }
 
-// The lower one of two levels, of which the first may be missing.
+/// The lower one of two levels, of which the first may be missing.
 fn lower(first: Option<u32>, second: u32) -> u32
     ensures { result ≡ lower_of first second }
 {

@@ -63,7 +63,7 @@ fn values_of(number: usize) -> [i64; 4] {
     ]
 }
 
-// The edge of the function with these values.
+/// The edge of the function with these values.
 fn edge_of(store: &mut PlainStore, values: [i64; 4]) -> Result<Edge, Fail>
     requires { (plain_view store.old).vars ≡ 2 }
     ensures grown { Grown (plain_view store.old) (plain_view store.new) }
@@ -75,7 +75,7 @@ fn edge_of(store: &mut PlainStore, values: [i64; 4]) -> Result<Edge, Fail>
     choice_of(store, 1, high, low)
 }
 
-// The edge of the function of the first variable with these values without it and with it.
+/// The edge of the function of the first variable with these values without it and with it.
 fn half_of(store: &mut PlainStore, without: i64, with: i64) -> Result<Edge, Fail>
     requires { (plain_view store.old).vars ≡ 2 }
     ensures grown { Grown (plain_view store.old) (plain_view store.new) }
@@ -86,7 +86,7 @@ fn half_of(store: &mut PlainStore, without: i64, with: i64) -> Result<Edge, Fail
     choice_of(store, 0, hi, lo)
 }
 
-// The first function with a variable, and the second without it.
+/// The first function with a variable, and the second without it.
 fn choice_of(store: &mut PlainStore, var: u32, hi: Edge, lo: Edge) -> Result<Edge, Fail>
     requires vars { (plain_view store.old).vars ≡ 2 }
     requires var { var < 2 }
@@ -98,7 +98,7 @@ fn choice_of(store: &mut PlainStore, var: u32, hi: Edge, lo: Edge) -> Result<Edg
     Ok(add_ops::add_ite(store, Edge::new(5 + var, false), hi, lo)?)
 }
 
-// The leaf of a value.
+/// The leaf of a value.
 fn leaf_of(store: &mut PlainStore, value: i64) -> Result<Edge, Fail>
     ensures grown { Grown (plain_view store.old) (plain_view store.new) }
     ensures leaf { IfOk result (λ e. Denotes Add (plain_view store.new) e (constant value)) }

@@ -7,7 +7,7 @@ use handle_count::{H, Rows};
 use std::process::Abort;
 use std::test::Fail;
 
-// Adds a row where few are live.
+/// Adds a row where few are live.
 fn add(rt: &impl Abort, rows: &mut Rows, edge: Edge) -> H
     requires room { 1 ≤ rows.old.spare }
     requires adds { rows.old.adds < 2 ^ 63 }
@@ -18,7 +18,7 @@ fn add(rt: &impl Abort, rows: &mut Rows, edge: Edge) -> H
     rows.add(Kind::Bdd, edge)
 }
 
-// Takes a row away that is seen to be live, and then not to be.
+/// Takes a row away that is seen to be live, and then not to be.
 fn remove(rt: &impl Abort, rows: &mut Rows, h: H, edge: Edge)
     ensures spare { rows.new.spare ≡ rows.old.spare + 1 }
     ensures adds { rows.new.adds ≡ rows.old.adds }

@@ -5,7 +5,7 @@ use ite_core::and;
 use node_slots::{Grow, Opened, PlainStore, Stop};
 use std::test::Fail;
 
-// The node of a product: its else arc leads to logic zero.
+/// The node of a product: its else arc leads to logic zero.
 fn node(var: u16, hi: u32) -> Node {
     Node {
         var,

@@ -7,7 +7,7 @@ use level_table::{LeafTable, LevelTable};
 use std::process::Abort;
 use std::test::Fail;
 
-// Adds a pair that is seen to be absent.
+/// Adds a pair that is seen to be absent.
 fn add(rt: &impl Abort, table: &mut LevelTable, hi: u32, lo: Edge, slot: u32)
     requires room { 1 ≤ table.old.spare }
     requires few { length table.old.entries < 2 ^ 32 - 1 }
@@ -19,12 +19,12 @@ fn add(rt: &impl Abort, table: &mut LevelTable, hi: u32, lo: Edge, slot: u32)
     table.insert(hi, lo, slot);
 }
 
-// The pair of a number, with many that differ in one part alone.
+/// The pair of a number, with many that differ in one part alone.
 fn numbered(i: u32) -> (u32, Edge) {
     (i % 71, Edge::new(i / 142, i / 71 % 2 == 1))
 }
 
-// Adds so many pairs, each with its number as its slot.
+/// Adds so many pairs, each with its number as its slot.
 fn fill(rt: &impl Abort, table: &mut LevelTable, count: u32)
     requires empty { table.old.entries ≡ [] }
     requires room { count ≤ table.old.spare }
@@ -78,7 +78,7 @@ fn thousands(rt: HostRuntime) -> Result<(), Fail> {
     Ok(())
 }
 
-// Adds a value that is seen to be absent.
+/// Adds a value that is seen to be absent.
 fn add_value(rt: &impl Abort, table: &mut LeafTable, value: i64, slot: u32)
     requires room { 1 ≤ table.old.spare }
     requires few { length table.old.entries < 2 ^ 32 - 1 }

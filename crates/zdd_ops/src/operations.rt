@@ -114,7 +114,7 @@ pub fn product<G: Grow>(store: &mut G, p: Edge, q: Edge) -> Result<Edge, Stop>
     outcome
 }
 
-// Makes room for four times as many frames as there are levels, and runs.
+/// Makes room for four times as many frames as there are levels, and runs.
 fn product_with_room<G: Grow>(
     store: &mut G,
     stack: &mut Stack,
@@ -155,7 +155,7 @@ pub fn quotient<G: Grow>(store: &mut G, p: Edge, q: Edge) -> Result<Edge, Stop>
     outcome
 }
 
-// Makes room for twice as many frames as there are levels, and runs.
+/// Makes room for twice as many frames as there are levels, and runs.
 fn quotient_with_room<G: Grow>(
     store: &mut G,
     stack: &mut Stack,
@@ -179,7 +179,7 @@ fn quotient_with_room<G: Grow>(
     }
 }
 
-// An operation by one element, in the scratch that the store lends.
+/// An operation by one element, in the scratch that the store lends.
 fn call_by_element<G: Grow, O: ByElement<G> + Drop>(
     store: &mut G,
     op: O,
@@ -207,7 +207,7 @@ fn call_by_element<G: Grow, O: ByElement<G> + Drop>(
     outcome
 }
 
-// Makes room for as many frames as there are levels and for the answers of the call, and runs.
+/// Makes room for as many frames as there are levels and for the answers of the call, and runs.
 fn with_room<G: Grow, O: ByElement<G> + Drop>(
     store: &mut G,
     stack: &mut Stack,

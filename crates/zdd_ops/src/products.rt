@@ -150,7 +150,7 @@ impl<G: Grow> Apply<G> for Multiplication {
     ghost extra_stays = { λ o v w m. m.elements };
 }
 
-// The product with Empty, which is slot 1, or with Base, which is slot 2.
+/// The product with Empty, which is slot 1, or with Base, which is slot 2.
 fn terminal(f: Edge, g: Edge) -> Option<Edge>
     ensures { (w : View) → Permanent w → AreTwo Zdd w f g → IsProductTerminal w f g result }
 {
@@ -169,7 +169,7 @@ fn terminal(f: Edge, g: Edge) -> Option<Edge>
     None
 }
 
-// Both orders of two families have one product.
+/// Both orders of two families have one product.
 fn key_of(f: Edge, g: Edge) -> Key
     ensures { result ≡ product_key f g }
 {
@@ -182,7 +182,7 @@ fn key_of(f: Edge, g: Edge) -> Key
     }
 }
 
-// The two tasks in which a portion of a product splits at an element, from the parts of both families: with the element, and without it.
+/// The two tasks in which a portion of a product splits at an element, from the parts of both families: with the element, and without it.
 fn tasks(
     portion: Portion,
     task: Task,
@@ -224,7 +224,7 @@ pub(crate) fn portion_task(f: Edge, g: Edge, portion: Portion) -> Task
     }
 }
 
-// A portion of a product, split at an element.
+/// A portion of a product, split at an element.
 fn divide<G: Grow>(store: &mut G, task: Task, portion: Portion, var: u32) -> Branch
     requires parts { CanPartBoth (G.view store.old) task var }
     requires here { IsAt portion var }

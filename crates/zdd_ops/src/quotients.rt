@@ -103,7 +103,7 @@ impl<G: Grow> Apply<G> for Division {
     ghost extra_stays = { λ o v w m. m.elements };
 }
 
-// The quotient by Empty, which is slot 1, or by Base, which is slot 2, and that of Empty.
+/// The quotient by Empty, which is slot 1, or by Base, which is slot 2, and that of Empty.
 fn terminal(f: Edge, g: Edge) -> Option<Edge>
     ensures { (w : View) → Permanent w → AreTwo Zdd w f g → IsQuotientTerminal w f g result }
 {
@@ -130,7 +130,7 @@ fn key_of(f: Edge, g: Edge) -> Key
     }
 }
 
-// The two quotients of which that of a task is made, at an element that is not below its families.
+/// The two quotients of which that of a task is made, at an element that is not below its families.
 fn divide<G: Grow>(store: &mut G, task: Task, var: u32) -> Branch
     requires { CanPartBoth (G.view store.old) task var }
     ensures kept { Kept (G.view store.old) (G.view store.new) }
@@ -181,7 +181,7 @@ fn divisor_at<G: Grow>(store: &mut G, edge: Edge, var: u32) -> Divisor
     }
 }
 
-// Whether a family has no member.
+/// Whether a family has no member.
 fn is_empty<G: Grow>(store: &mut G, edge: Edge) -> bool
     requires { Is Zdd (G.view store.old) edge }
     ensures kept { Kept (G.view store.old) (G.view store.new) }

@@ -38,7 +38,7 @@ impl<G: Grow> Pointwise<G> for Uniting {
     ghost keeps = { refl };
 }
 
-// The union of equal families, or with Empty, which is slot 1.
+/// The union of equal families, or with Empty, which is slot 1.
 fn united(f: Edge, g: Edge) -> Option<Edge>
     ensures { (w : View) → Permanent w → AreTwo Zdd w f g → Terminal Zdd (λ a b. a || b) w f g result }
 {
@@ -82,7 +82,7 @@ impl<G: Grow> Pointwise<G> for Meeting {
     ghost keeps = { refl };
 }
 
-// What equal families have in common, and what is in Empty, which is slot 1.
+/// What equal families have in common, and what is in Empty, which is slot 1.
 fn common(f: Edge, g: Edge) -> Option<Edge>
     ensures { (w : View) → Permanent w → AreTwo Zdd w f g → Terminal Zdd (λ a b. a && b) w f g result }
 {
@@ -126,7 +126,7 @@ impl<G: Grow> Pointwise<G> for Removing {
     ghost keeps = { refl };
 }
 
-// What is left of a family without itself, of Empty, which is slot 1, and without Empty.
+/// What is left of a family without itself, of Empty, which is slot 1, and without Empty.
 fn remaining(f: Edge, g: Edge) -> Option<Edge>
     ensures { (w : View) → Permanent w → AreTwo Zdd w f g → Terminal Zdd (λ a b. a && not b) w f g result }
 {
