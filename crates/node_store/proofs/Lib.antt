@@ -1,5 +1,7 @@
 pub mod Frames
 pub mod Stops
+pub mod Running
+pub mod Operands
 pub mod MemoLaws
 pub mod TopLaws
 pub mod TwoParts

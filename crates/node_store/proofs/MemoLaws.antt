@@ -36,7 +36,7 @@ CofactorHolds-grown g p = record {
   variable = p.variable;
   bit = p.bit;
   in_range = IsVariable-grown Bdd g p.variable p.in_range;
-  literal = p.literal;
+  literal = Denotes-grown Bdd g p.literal;
   f = Is-grown Bdd g p.f;
   answer = rw (values_at-grown Bdd g p.f) (Denotes-grown Bdd g p.answer);
 }
@@ -76,7 +76,7 @@ pub ComposeHolds-grown : {a b : View} {key : Key} {e : Edge} → Grown a b → C
 ComposeHolds-grown g p = record {
   variable = p.variable;
   in_range = IsVariable-grown Bdd g p.variable p.in_range;
-  projection = p.projection;
+  projection = Denotes-grown Bdd g p.projection;
   f = Is-grown Bdd g p.f;
   g = Is-grown Bdd g p.g;
   answer = rw (values_at-grown Bdd g p.f, values_at-grown Bdd g p.g) (Denotes-grown Bdd g p.answer);
@@ -100,7 +100,7 @@ pub SumHolds-grown : {a b : View} {key : Key} {e : Edge} → Grown a b → SumHo
 SumHolds-grown g p = record {
   variable = p.variable;
   in_range = IsVariable-grown Add g p.variable p.in_range;
-  projection = p.projection;
+  projection = Denotes-grown Bdd g p.projection;
   f = Is-grown Add g p.f;
   answer = rw (values_at-grown Add g p.f) (Denotes-grown Add g p.answer);
 }

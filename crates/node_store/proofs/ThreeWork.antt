@@ -48,34 +48,6 @@ module _ (k : Kind) (f g h : Edge) where
   Three-refused v w t d m is = part_of_either k w (ite_at k w f g h) (ite_at k v t.f t.g t.h) w.due
       (λ r p. IsWork-due k w (λ F. F ≡ function_of k r) r (ite_at k v t.f t.g t.h) refl p is) (later v w t d m)
 
-  -- from the view at the end to that at the start
-  pub value_back : (v w : View) → Grown v w → AreThree k v f g h → (F : Denoted) → value_of_three k f g h w F → value_of_three k f g h v F
-  value_back v w m d F is = is ∙ ap (function_of k) (ite_at-grown k m d)
-
-  pub Three-due_start : (v w : View) → Grown v w → AreThree k v f g h → (o : Option Denoted) → IsWork w (value_of_three k f g h w) o → IsWork w (value_of_three k f g h v) o
-  Three-due_start v w m d o i = IsWork-grown (Grown-refl w) (value_of_three k f g h w) (value_of_three k f g h v) (value_back v w m d) o i
-
-  pub Three-adds_start : (v w : View) → AreThree k v f g h → Moves (λ w. AreThree k w f g h) (value_of_three k f g h) v w → Adds (value_of_three k f g h v) v w
-  Three-adds_start v w d m s here = elim (m.work d s here) [ inl old ↦ inl old | inr i ↦ inr (Three-due_start v w m.grown d (w.content s) i) ]
-
--- calls that make nothing, before and after a run
-pub Adds-between : (P Q : Denoted → Type 0) → ((F : Denoted) → P F → Q F) → (a b c d : View) → Kept a b → Kept c d → Adds P b c → Adds Q a d
-Adds-between P Q more a b c d before after adds s here =
-    elim (adds s (ap (λ (x : ℕ → Bool). x s) (sym after.made) ∙ here)) [
-      | inl old ↦ inl (ap (λ (x : ℕ → Bool). x s) (sym before.made) ∙ old)
-      | inr i ↦ inr (record {
-        kind = i.kind;
-        root = i.root;
-        part = i.part;
-        asked = more (function_of i.kind i.root) i.asked;
-        is_part = IsPart-grown i.kind after.grown i.root i.part i.is_part;
-        is = elim i.is [ inl e ↦ inl (after.grown.content s (function_of i.kind i.part) e) | inr e ↦ inr (after.grown.content s (opposite (function_of i.kind i.part)) e) ];
-      })
-    ]
-
-pub IsWork-between : (P Q : Denoted → Type 0) → ((F : Denoted) → P F → Q F) → (c d : View) → Kept c d → IsWork c P c.due → IsWork d Q d.due
-IsWork-between P Q more c d after i = subst (IsWork d Q) (sym after.due) (IsWork-grown after.grown P Q more c.due i)
-
 -- an answer under the key of the normal form
 pub Ite-hit : (k : Kind) (v w : View) (root t : Task) (flip : Bool) (key : Key) (e : Edge) → Grown v w → AreThree k v root.f root.g root.h → IsNormal k v root.f root.g root.h t flip
     → key.f ≡ t.f → key.g ≡ t.g → key.h ≡ t.h → IteHolds k w key e → Denotes k w (flip_if flip e) (ite_at k w root.f root.g root.h)

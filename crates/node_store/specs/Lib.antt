@@ -21,4 +21,5 @@ pub mod Three
 pub mod ThreeLaws
 pub mod Steps
 pub mod Halt
-pub mod HaltLaws
+pub mod Operations
+pub mod Operands

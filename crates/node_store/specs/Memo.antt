@@ -1,5 +1,6 @@
 -- What a computed table may hold under a key, a case for each operation's number.
 use Rattle.std.specs.Prelude.{◌≡◌, ◌↔◌, ℕ, ◌+◌, ◌^◌, Bool, true, false, not, ◌==◌, ◌&&◌, ◌||◌, if◌then◌else◌, pos, ◌+ℤ◌, ◌-ℤ◌, ◌*ℤ◌, int_le, nat_lt}
+use Rattle.edge_bits.specs.Permanent.{truth_edge}
 use Rattle.edge_bits.specs.declared.edges.Edge.{Edge}
 use Rattle.computed_cache.specs.declared.Key.{Key}
 use Rattle.edge_bits.specs.declared.edges.Kind.{Kind}
@@ -8,10 +9,10 @@ use Rattle.function_laws.specs.Cubes.{IsExists, IsSupport}
 use Rattle.function_laws.specs.Families.{product, quotient}
 use Rattle.function_laws.specs.Numbers.{from_truth, pattern, sum_over}
 use Rattle.function_laws.specs.Restrictions.{IsRestriction}
-use Rattle.function_laws.specs.Values.{cofactor, composed, conjunction, if_then_else}
+use Rattle.function_laws.specs.Values.{cofactor, composed, conjunction, if_then_else, negation, projection}
 use Rattle.function_laws.specs.Kinds.{ValueOf, place}
 use Rattle.node_store.specs.Numbers.{and_number, ite_number, cofactor_number, leq_number, exists_number, and_exists_number, support_number, compose_number, restrict_number, plus_number, minus_number, times_number, min_number, max_number, threshold_number, add_ite_number, from_bdd_number, pattern_number, sum_over_number, union_number, meet_number, diff_number, product_number, quotient_number}
-use Rattle.node_store.specs.Views.{View, Denotes, Is, IsVariable, values_at, truth_edge}
+use Rattle.node_store.specs.Views.{View, Denotes, Is, IsVariable, values_at}
 
 abbrev pub either : Bool → Type 0 → Type 0 → Type 0
 either true a b = a
@@ -31,15 +32,16 @@ pub record IteHolds (k : Kind) (w : View) (key : Key) (e : Edge) : Type 0 where
   pub answer : Denotes k w e (if_then_else (values_at Bdd w key.f) (values_at k w key.g) (values_at k w key.h))
 
 -- the projection of a variable, or its complement
-abbrev pub literal_edge : ℕ → Bool → Edge
-literal_edge v b = record { index = 5 + v; complement = not b }
+abbrev pub literal : ℕ → Bool → ℕ → Bool
+literal v true = projection v
+literal v false = negation (projection v)
 
 -- a function and the literal by which its cofactor is taken
 pub record CofactorHolds (w : View) (key : Key) (e : Edge) : Type 0 where
   pub variable : ℕ
   pub bit : Bool
   pub in_range : IsVariable Bdd w variable
-  pub literal : key.g ≡ literal_edge variable bit
+  pub literal : Denotes Bdd w key.g (literal variable bit)
   pub f : Is Bdd w key.f
   pub answer : Denotes Bdd w e (cofactor (values_at Bdd w key.f) variable bit)
 
@@ -83,7 +85,7 @@ pub record SupportHolds (w : View) (key : Key) (e : Edge) : Type 0 where
 pub record ComposeHolds (w : View) (key : Key) (e : Edge) : Type 0 where
   pub variable : ℕ
   pub in_range : IsVariable Bdd w variable
-  pub projection : key.h ≡ literal_edge variable true
+  pub projection : Denotes Bdd w key.h (projection variable)
   pub f : Is Bdd w key.f
   pub g : Is Bdd w key.g
   pub answer : Denotes Bdd w e (composed (values_at Bdd w key.f) variable (values_at Bdd w key.g))
@@ -109,7 +111,7 @@ pub record PatternHolds (w : View) (key : Key) (e : Edge) : Type 0 where
 pub record SumHolds (w : View) (key : Key) (e : Edge) : Type 0 where
   pub variable : ℕ
   pub in_range : IsVariable Add w variable
-  pub projection : key.g ≡ literal_edge variable true
+  pub projection : Denotes Bdd w key.g (projection variable)
   pub f : Is Add w key.f
   pub answer : Denotes Add w e (sum_over (values_at Add w key.f) variable)
 

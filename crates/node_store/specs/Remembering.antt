@@ -25,10 +25,15 @@ abbrev pub Remembers : List (Option Answer) → List (Option Answer) → Task �
 Remembers old new task e = (j : ℕ) (a : Answer) → slice_index_or new j None ≡ Some a → Stands old a ⊎ (a ≡ record { task = task; edge = e })
 
 -- what the table holds are answers of tasks of this call
-abbrev pub Knows : (View → Task → Type 0) → (View → Task → Edge → Type 0) → State → Type 0
-Knows due answers s = (j : ℕ) (a : Answer) → slice_index_or s.answers j None ≡ Some a → due s.view a.task × answers s.view a.task a.edge
+abbrev pub Knows : (View → Task → Type 0) → (View → Task → Edge → Type 0) → View → List (Option Answer) → Type 0
+Knows due answers w items = (j : ℕ) (a : Answer) → slice_index_or items j None ≡ Some a → due w a.task × answers w a.task a.edge
+
+-- no answer stands in the table
+abbrev pub IsBlank : List (Option Answer) → Type 0
+IsBlank items = (j : ℕ) → slice_index_or items j None ≡ None
 
 -- what an operator with such a table does to a state
 pub record RememberingMoves (Roots : View → Type 0) (Work : View → Denoted → Type 0) (Due : View → Task → Type 0) (Answers : View → Task → Edge → Type 0) (old new : State) : Type 0 where
   pub moves : Moves Roots Work old.view new.view
-  pub known : Knows Due Answers old → Knows Due Answers new
+  pub known : Knows Due Answers old.view old.answers → Knows Due Answers new.view new.answers
+  pub marks : new.marks ≡ old.marks

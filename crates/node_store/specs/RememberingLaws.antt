@@ -1,13 +1,14 @@
 -- The answers of a call's own table stay answers.
-use Rattle.std.proofs.Common.{◌≡◌, ℕ, inl, inr, List, Option, Some, None, ap, sym, ◌∙◌, subst}
+use Rattle.std.proofs.Common.{◌≡◌, ℕ, inl, inr, List, Option, Some, None, refl, ap, sym, ◌∙◌, subst}
 use Rattle.std.specs.Prelude.{slice_index_or}
 use Rattle.edge_bits.specs.declared.edges.Edge.{Edge}
 use Rattle.function_laws.specs.Kinds.{Denoted}
 use Rattle.node_store.specs.Views.{View, Grown}
-use Rattle.node_store.specs.States.{State}
+use Rattle.node_store.specs.Stacks.{Scratch}
+use Rattle.node_store.specs.States.{State, state_of}
 use Rattle.node_store.specs.Work.{Moves}
 use Rattle.node_store.specs.WorkLaws.{Moves-none, Moves-both}
-use Rattle.node_store.specs.Remembering.{IsOf, Remembers, Knows, RememberingMoves}
+use Rattle.node_store.specs.Remembering.{IsBlank, IsOf, Remembers, Knows, RememberingMoves}
 use Rattle.node_store.specs.declared.operator.Task.{Task}
 use Rattle.node_store.specs.declared.answers.Answer.{Answer}
 
@@ -21,18 +22,18 @@ Remembers-of first old new t e of more j a here = elim (more j a here) [
 module _ (Due : View → Task → Type 0) (Answers : View → Task → Edge → Type 0)
     (due_stays : (v w : View) (t : Task) → Grown v w → Due v t → Due w t)
     (answers_stay : (v w : View) (t : Task) (e : Edge) → Grown v w → Due v t → Answers v t e → Answers w t e) where
-  pub Knows-grown : (v w : View) (items : List (Option Answer)) → Grown v w → Knows Due Answers (record { view = v; answers = items }) → Knows Due Answers (record { view = w; answers = items })
+  pub Knows-grown : (v w : View) (items : List (Option Answer)) → Grown v w → Knows Due Answers v items → Knows Due Answers w items
   Knows-grown v w items m known j a here = let k = known j a here in (due_stays v w a.task m k.0, answers_stay v w a.task a.edge m k.0 k.1)
 
   pub Knows-more : (v : View) (old new : List (Option Answer)) (t : Task) (e : Edge) → Remembers old new t e → Due v t → Answers v t e
-      → Knows Due Answers (record { view = v; answers = old }) → Knows Due Answers (record { view = v; answers = new })
+      → Knows Due Answers v old → Knows Due Answers v new
   Knows-more v old new t e more d is known j a here = elim (more j a here) [
     | inl was ↦ known was.0 a was.1
     | inr same ↦ (rw same d, rw same is)
   ]
 
 pub RememberingMoves-none : (Roots : View → Type 0) (Work : View → Denoted → Type 0) (Due : View → Task → Type 0) (Answers : View → Task → Edge → Type 0) (v : State) → RememberingMoves Roots Work Due Answers v v
-RememberingMoves-none Roots Work Due Answers v = record { moves = Moves-none Roots Work v.view; known = λ k. k }
+RememberingMoves-none Roots Work Due Answers v = record { moves = Moves-none Roots Work v.view; known = λ k. k; marks = refl }
 
 pub RememberingMoves-both : (Roots : View → Type 0) (Work : View → Denoted → Type 0) (Due : View → Task → Type 0) (Answers : View → Task → Edge → Type 0)
     → ((v w : View) → Grown v w → Roots v → Roots w) → ((v w : View) (f : Denoted) → Grown v w → Roots v → Work v f → Work w f)
@@ -40,33 +41,35 @@ pub RememberingMoves-both : (Roots : View → Type 0) (Work : View → Denoted �
 RememberingMoves-both Roots Work Due Answers roots work u v w p q = record {
   moves = Moves-both Roots Work roots work u.view v.view w.view p.moves q.moves;
   known = λ k. q.known (p.known k);
+  marks = q.marks ∙ p.marks;
 }
 
 module _ (Roots : View → Type 0) (Work : View → Denoted → Type 0) (Due : View → Task → Type 0) (Answers : View → Task → Edge → Type 0)
     (due_stays : (v w : View) (t : Task) → Grown v w → Due v t → Due w t)
     (answers_stay : (v w : View) (t : Task) (e : Edge) → Grown v w → Due v t → Answers v t e → Answers w t e) where
-  -- the table stayed as it was
-  pub RememberingMoves-same : (v w : View) (old new : List (Option Answer)) → Moves Roots Work v w → new ≡ old
-      → RememberingMoves Roots Work Due Answers (record { view = v; answers = old }) (record { view = w; answers = new })
+  -- the scratch stayed as it was
+  pub RememberingMoves-same : (v w : View) (old new : Scratch) → Moves Roots Work v w → new ≡ old
+      → RememberingMoves Roots Work Due Answers (state_of v old) (state_of w new)
   RememberingMoves-same v w old new m same = record {
     moves = m;
-    known = λ k. subst (λ items. Knows Due Answers (record { view = w; answers = items })) (sym same) (Knows-grown Due Answers due_stays answers_stay v w old m.grown k);
+    known = λ k. subst (λ (s : Scratch). Knows Due Answers w s.answers) (sym same) (Knows-grown Due Answers due_stays answers_stay v w old.answers m.grown k);
+    marks = ap (λ (s : Scratch). s.marks) same;
   }
 
   -- the table has one answer more
-  pub RememberingMoves-more : (v w : View) (old mid new final : List (Option Answer)) (t : Task) (e : Edge) → Moves Roots Work v w → mid ≡ old → Remembers mid new t e → final ≡ new → Due w t → Answers w t e
-      → RememberingMoves Roots Work Due Answers (record { view = v; answers = old }) (record { view = w; answers = final })
-  RememberingMoves-more v w old mid new final t e m same more end d is = record {
+  pub RememberingMoves-more : (v w : View) (old mid new : Scratch) (t : Task) (e : Edge) → Moves Roots Work v w → mid ≡ old → Remembers mid.answers new.answers t e → new.marks ≡ mid.marks → Due w t → Answers w t e
+      → RememberingMoves Roots Work Due Answers (state_of v old) (state_of w new)
+  RememberingMoves-more v w old mid new t e m same more marks d is = record {
     moves = m;
-    known = λ k. subst (λ items. Knows Due Answers (record { view = w; answers = items })) (sym end) (Knows-more Due Answers due_stays answers_stay w mid new t e more d is
-        (subst (λ items. Knows Due Answers (record { view = w; answers = items })) (sym same) (Knows-grown Due Answers due_stays answers_stay v w old m.grown k)));
+    known = λ k. Knows-more Due Answers due_stays answers_stay w mid.answers new.answers t e more d is
+        (subst (λ (s : Scratch). Knows Due Answers w s.answers) (sym same) (Knows-grown Due Answers due_stays answers_stay v w old.answers m.grown k));
+    marks = marks ∙ ap (λ (s : Scratch). s.marks) same;
   }
 
--- an empty table knows nothing
-pub Knows-nothing : (Due : View → Task → Type 0) (Answers : View → Task → Edge → Type 0) (v : View) (items new : List (Option Answer)) → items ≡ new
-    → ((j : ℕ) → slice_index_or new j None ≡ None) → Knows Due Answers (record { view = v; answers = items })
-Knows-nothing Due Answers v items new same none j a here =
-    let bad : None ≡ Some a = sym (none j) ∙ ap (λ (xs : List (Option Answer)). slice_index_or xs j None) (sym same) ∙ here in absurd (never bad)
+-- a blank table knows nothing
+pub Knows-nothing : (Due : View → Task → Type 0) (Answers : View → Task → Edge → Type 0) (w : View) (items : List (Option Answer))
+    → IsBlank items → Knows Due Answers w items
+Knows-nothing Due Answers w items none j a here = absurd (never (sym (none j) ∙ here))
   where
     never : {a : Answer} → None ≡ Some a → ⊥
     never e = cc

@@ -8,6 +8,8 @@ use Rattle.node_store.specs.declared.operator.Wait.TheVariants.{Only, First, Sec
 use Rattle.node_store.specs.declared.operator.Frame.{Frame}
 use Rattle.node_store.specs.declared.operator.Next.{Next}
 use Rattle.node_store.specs.declared.operator.Next.TheVariants.{Done, Call}
+use Rattle.node_store.specs.declared.operator.Turn.{Turn}
+use Rattle.node_store.specs.declared.operator.Turn.TheVariants as turn
 
 -- how many further tasks a frame may ask for
 abbrev pub left : Wait → ℕ
@@ -28,6 +30,11 @@ pub record Asks (Due : State → Task → Type 0) (Waits : State → Task → Fr
 abbrev pub NextFor : (State → Task → Type 0) → (State → Task → Edge → Type 0) → (State → Task → Frame → Task → Type 0) → (State → Task → ℕ) → State → Task → Next → Type 0
 NextFor due answers waits depth w root (Done e) = answers w root e
 NextFor due answers waits depth w root (Call frame child) = Asks due waits depth w root frame child
+
+-- the step of a frame, as one of its task: the frame waits for something else
+abbrev pub next_of : Frame → Turn → Next
+next_of frame (turn.Done e) = Done e
+next_of frame (turn.Call wait child) = Call (record frame { wait = wait }) child
 
 -- a frame asks for fewer tasks at each step
 abbrev pub FewerLeft : Frame → Next → Type 0

@@ -1,11 +1,12 @@
 -- What is true of tasks of if-then-else, and stays true while a store grows.
-use Rattle.std.proofs.Common.{◌≡◌, ℕ, inl, inr, refl, ap, sym, ◌∙◌}
+use Rattle.std.proofs.Common.{◌≡◌, ℕ, inl, inr, refl, ap, sym, ◌∙◌, subst}
 use Rattle.edge_bits.specs.declared.edges.Edge.{Edge}
 use Rattle.edge_bits.specs.declared.edges.Kind.{Kind}
 use Rattle.edge_bits.specs.declared.edges.Kind.TheVariants.{Bdd}
 use Rattle.function_laws.specs.Kinds.{Denoted, ValueOf, function_of}
-use Rattle.node_store.specs.Views.{View, Grown}
-use Rattle.node_store.specs.ViewLaws.{Permanent-grown, Denotes-grown, Is-grown, values_at-grown, Splits-grown, top-grown, levels-grown, IsVariable-grown}
+use Rattle.node_store.specs.Two.{Overflows}
+use Rattle.node_store.specs.Views.{View, Grown, Denotes}
+use Rattle.node_store.specs.ViewLaws.{Permanent-grown, Denotes-grown, Denotes-lasts, Is-grown, values_at-grown, Splits-grown, top-grown, levels-grown, IsVariable-grown}
 use Rattle.node_store.specs.WorkLaws.{IsPart-grown}
 use Rattle.node_store.specs.Three.{ite_at, AreThree, ThreeAnswers, ThreeSplits, three_depth, ThreeDue, value_of_three, complement_of, IsPartOrComplement}
 use Rattle.node_store.specs.declared.operator.Task.{Task}
@@ -43,3 +44,14 @@ three_depth-stays k v w t m d = rw (levels-grown k m, top-grown Bdd m d.conditio
 
 pub value_of_three-stays : (k : Kind) (f g h : Edge) (v w : View) (F : Denoted) → Grown v w → AreThree k v f g h → value_of_three k f g h v F → value_of_three k f g h w F
 value_of_three-stays k f g h v w F m d is = is ∙ ap (function_of k) (sym (ite_at-grown k m d))
+
+-- a call's answer, and what is told of it, by the operands at its start
+pub ite_at-lasts : (k : Kind) (f g h : Edge) (u v w x : View) (e : Edge) → Grown u v → Grown w x → AreThree k u f g h
+    → Denotes k w e (ite_at k v f g h) → Denotes k x e (ite_at k u f g h)
+ite_at-lasts k f g h u v w x e before after d a = Denotes-lasts k after (ite_at-grown k before d) a
+
+pub ite-overflows : (k : Kind) {v w : View} {f g h : Edge} → Grown v w → AreThree k v f g h → Overflows k (ite_at k w f g h) → Overflows k (ite_at k v f g h)
+ite-overflows k m d over = subst (Overflows k) (ite_at-grown k m d) over
+
+pub value_of_three-back : (k : Kind) (f g h : Edge) (v w : View) (F : Denoted) → Grown v w → AreThree k v f g h → value_of_three k f g h w F → value_of_three k f g h v F
+value_of_three-back k f g h v w F m d is = is ∙ ap (function_of k) (ite_at-grown k m d)

@@ -1,11 +1,11 @@
 -- Tasks of two functions of a kind that are computed place by place.
-use Rattle.std.specs.Prelude.{◌≡◌, ℕ, ◌-◌, false, min, ◌⊎◌, Option, Some, None}
+use Rattle.std.specs.Prelude.{◌≡◌, ℕ, ◌-◌, false, min, ◌⊎◌}
 use Rattle.edge_bits.specs.declared.edges.Edge.{Edge}
 use Rattle.edge_bits.specs.declared.edges.Kind.{Kind}
 use Rattle.function_laws.specs.Numbers.{is_value}
 use Rattle.edge_bits.specs.declared.edges.Kind.TheVariants.{Bdd, Add, Zdd}
 use Rattle.function_laws.specs.Kinds.{Denoted, ValueOf, function_of, place}
-use Rattle.node_store.specs.Views.{View, Denotes, Permanent, AreTwo, IsVariable, values_at, levels, Splits, NotBothLeaves}
+use Rattle.node_store.specs.Views.{View, Denotes, Permanent, AreTwo, IsVariable, values_at, levels, Splits}
 use Rattle.node_store.specs.Work.{IsPart}
 use Rattle.node_store.specs.declared.operator.Task.{Task}
 
@@ -51,13 +51,3 @@ abbrev pub Overflows : (k : Kind) → (ℕ → ValueOf k) → Type 0
 Overflows Bdd f = ⊥
 Overflows Add f = (x : ℕ) × (is_value (f x) ≡ false)
 Overflows Zdd f = ⊥
-
--- the answer of a terminal case; else not both operands are leaves
-abbrev pub Terminal : (k : Kind) → (ValueOf k → ValueOf k → ValueOf k) → View → Edge → Edge → Option Edge → Type 0
-Terminal k op w f g (Some e) = Denotes k w e (place_at k op w f g)
-Terminal k op w f g None = NotBothLeaves k w f g
-
--- the slot is that of the answer
-abbrev pub IsMade : ℕ → Option Edge → Type 0
-IsMade s (Some e) = e.index ≡ s
-IsMade s None = ⊥

@@ -9,8 +9,8 @@ use Rattle.function_laws.specs.Numbers.{is_value}
 use Rattle.function_laws.specs.Values.{IsFree, choice}
 use Rattle.function_laws.specs.Kinds.{Denoted, ValueOf, function_of, joined_at, Lacks, Keeps}
 use Rattle.node_store.specs.KindLaws.{joined-place}
-use Rattle.node_store.specs.Views.{View, values_at, IsBelow, Grown, AreTwo}
-use Rattle.node_store.specs.ViewLaws.{Permanent-grown, Denotes-grown, Is-grown, values_at-grown, Splits-grown, top-grown, levels-grown, IsVariable-grown, IsBelow-place}
+use Rattle.node_store.specs.Views.{View, values_at, Denotes, IsBelow, Grown, AreTwo}
+use Rattle.node_store.specs.ViewLaws.{Permanent-grown, Denotes-grown, Denotes-lasts, Is-grown, values_at-grown, Splits-grown, top-grown, levels-grown, IsVariable-grown, IsBelow-place}
 use Rattle.node_store.specs.WorkLaws.{IsPart-grown, IsPart-half}
 use Rattle.node_store.specs.Two.{place_at, TwoAnswers, TwoSplits, two_depth, TwoDue, value_of_two, Overflows}
 use Rattle.node_store.specs.declared.operator.Task.{Task}
@@ -45,6 +45,17 @@ two_depth-stays k v w t m d = rw (levels-grown k m, top-grown k m d.first, top-g
 
 pub value-stays : (k : Kind) (op : ValueOf k → ValueOf k → ValueOf k) (f g : Edge) (v w : View) (F : Denoted) → Grown v w → AreTwo k v f g → value_of_two k op f g v F → value_of_two k op f g w F
 value-stays k op f g v w F m d is = is ∙ ap (function_of k) (sym (place_at-grown k op m d))
+
+-- a call's answer, and what is told of it, by the operands at its start
+pub place_at-lasts : (k : Kind) (op : ValueOf k → ValueOf k → ValueOf k) (f g : Edge) (u v w x : View) (e : Edge) → Grown u v → Grown w x → AreTwo k u f g
+    → Denotes k w e (place_at k op v f g) → Denotes k x e (place_at k op u f g)
+place_at-lasts k op f g u v w x e before after d a = Denotes-lasts k after (place_at-grown k op before d) a
+
+pub overflows-back : (k : Kind) (op : ValueOf k → ValueOf k → ValueOf k) {v w : View} {f g : Edge} → Grown v w → AreTwo k v f g → Overflows k (place_at k op w f g) → Overflows k (place_at k op v f g)
+overflows-back k op m d over = subst (Overflows k) (place_at-grown k op m d) over
+
+pub value-back : (k : Kind) (op : ValueOf k → ValueOf k → ValueOf k) (f g : Edge) (v w : View) (F : Denoted) → Grown v w → AreTwo k v f g → value_of_two k op f g w F → value_of_two k op f g v F
+value-back k op f g v w F m d is = is ∙ ap (function_of k) (place_at-grown k op m d)
 
 -- the two parts of a task
 pub Two-is : (k : Kind) (op : ValueOf k → ValueOf k → ValueOf k) {w : View} {t hi lo : Task} {x : ℕ} → TwoSplits k w t x hi lo

@@ -1,5 +1,6 @@
 -- Facts that last while a store grows.
 use Rattle.std.proofs.Common.{◌≡◌, ◌≢◌, ℕ, ◌+◌, ◌<◌, Bool, true, false, not, Option, Some, None, pos, refl, ap, sym, ◌∙◌, subst, arith}
+use Rattle.edge_bits.specs.Permanent.{base_slot, empty_edge, empty_slot, one_slot, true_slot, truth_edge, zero_slot}
 use Rattle.edge_bits.specs.declared.edges.Edge.{Edge}
 use Rattle.edge_bits.specs.declared.edges.Kind.{Kind}
 use Rattle.edge_bits.specs.declared.edges.Kind.TheVariants.{Bdd, Add, Zdd}
@@ -8,7 +9,7 @@ use Rattle.function_laws.specs.Families.{empty, base}
 use Rattle.function_laws.proofs.ValueLemmas.{everywhere}
 use Rattle.function_laws.specs.Kinds.{Denoted, BddFunction, AddFunction, ZddFamily, ValueOf, function_of, values_of, absent_part, Keeps, place, flipped}
 use Rattle.node_store.specs.KindLaws.{values_of-function, Apart, Lacks-joined, Lacks-place, Lacks-absent, joined-absent, Fits-joined, flipped-function, flipped-some}
-use Rattle.node_store.specs.Views.{View, levels, IsVariable, IsBeyond, function_at, values_at, Denotes, Is, IsBelow, Grown, Kept, Splits, CanMake, IsInner, node_values, Permanent, truth_edge, empty_edge}
+use Rattle.node_store.specs.Views.{View, levels, IsVariable, IsBeyond, function_at, values_at, Denotes, Is, IsBelow, Grown, Kept, Splits, CanMake, IsInner, node_values, Permanent, IsProjection}
 use Rattle.node_store.specs.Edges.{flip_if}
 
 pub Grown-refl : (a : View) → Grown a a
@@ -66,6 +67,10 @@ Denotes-grown k {a} {b} {e} {f} g d = record {
   beyond = λ v h. d.beyond v (IsBeyond-grown k g v h);
   fits = d.fits;
 }
+
+-- an answer lasts, under each name of its function
+pub Denotes-lasts : (k : Kind) {a b : View} {e : Edge} {f g : ℕ → ValueOf k} → Grown a b → f ≡ g → Denotes k a e f → Denotes k b e g
+Denotes-lasts k {a} {b} {e} m same d = subst (λ x. Denotes k b e x) same (Denotes-grown k m d)
 
 pub values_at-is : (k : Kind) {a : View} {e : Edge} {f : ℕ → ValueOf k} → Denotes k a e f → values_at k a e ≡ f
 values_at-is k {a} {e} {f} d = ap (values_of k) d.is ∙ values_of-function k f
@@ -162,20 +167,20 @@ Denotes-flip {w} {e} {f} d = record {
 -- the permanent slots
 pub Permanent-grown : {a b : View} → Grown a b → Permanent a → Permanent b
 Permanent-grown g p = record {
-  one = g.content 0 (BddFunction (constant true)) p.one;
-  empty = g.content 1 (ZddFamily empty) p.empty;
-  base = g.content 2 (ZddFamily base) p.base;
-  add_zero = g.content 3 (AddFunction (constant (pos 0))) p.add_zero;
-  add_one = g.content 4 (AddFunction (constant (pos 1))) p.add_one;
-  projections = λ v vn. g.content (5 + v) (BddFunction (projection v)) (p.projections v (IsVariable-back Bdd g v vn));
-  one_top = g.top 0 (BddFunction (constant true)) p.one ∙ p.one_top ∙ sym g.vars;
-  empty_top = g.top 1 (ZddFamily empty) p.empty ∙ p.empty_top ∙ sym g.elements;
-  base_top = g.top 2 (ZddFamily base) p.base ∙ p.base_top ∙ sym g.elements;
-  add_zero_top = g.top 3 (AddFunction (constant (pos 0))) p.add_zero ∙ p.add_zero_top ∙ sym g.vars;
-  add_one_top = g.top 4 (AddFunction (constant (pos 1))) p.add_one ∙ p.add_one_top ∙ sym g.vars;
-  projection_tops = λ v vn. let back = IsVariable-back Bdd g v vn in
-      g.top (5 + v) (BddFunction (projection v)) (p.projections v back) ∙ p.projection_tops v back ∙ sym (level-grown g v);
+  one = g.content true_slot (BddFunction (constant true)) p.one;
+  empty = g.content empty_slot (ZddFamily empty) p.empty;
+  base = g.content base_slot (ZddFamily base) p.base;
+  add_zero = g.content zero_slot (AddFunction (constant (pos 0))) p.add_zero;
+  add_one = g.content one_slot (AddFunction (constant (pos 1))) p.add_one;
+  one_top = g.top true_slot (BddFunction (constant true)) p.one ∙ p.one_top ∙ sym g.vars;
+  empty_top = g.top empty_slot (ZddFamily empty) p.empty ∙ p.empty_top ∙ sym g.elements;
+  base_top = g.top base_slot (ZddFamily base) p.base ∙ p.base_top ∙ sym g.elements;
+  add_zero_top = g.top zero_slot (AddFunction (constant (pos 0))) p.add_zero ∙ p.add_zero_top ∙ sym g.vars;
+  add_one_top = g.top one_slot (AddFunction (constant (pos 1))) p.add_one ∙ p.add_one_top ∙ sym g.vars;
 }
+
+pub IsProjection-grown : {a b : View} {v : ℕ} {e : Edge} → Grown a b → IsProjection a v e → IsProjection b v e
+IsProjection-grown {a} {b} {v} g p = record { denotes = Denotes-grown Bdd g p.denotes; top = top-grown Bdd g p.denotes ∙ p.top ∙ sym (level-grown g v) }
 
 pub Denotes-truth : (w : View) → Permanent w → (b : Bool) → Denotes Bdd w (truth_edge b) (constant b)
 Denotes-truth w p true = record { is = p.one; beyond = λ v h k b. refl; fits = tt }

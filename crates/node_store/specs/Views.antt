@@ -1,5 +1,6 @@
 -- What a caller knows of a store.
 use Rattle.std.specs.Prelude.{◌≡◌, ◌≢◌, ℕ, ◌+◌, ◌^◌, ◌<◌, ◌≤◌, Bool, true, false, not, Option, Some, ℤ, pos, ◌⊎◌}
+use Rattle.edge_bits.specs.Permanent.{base_edge, base_slot, empty_edge, empty_slot, first_element, one_slot, true_slot, truth_edge, zero_slot}
 use Rattle.edge_bits.specs.declared.edges.Edge.{Edge}
 use Rattle.computed_cache.specs.declared.Key.{Key}
 use Rattle.edge_bits.specs.declared.edges.Kind.{Kind}
@@ -33,6 +34,8 @@ pub record View : Type 0 where
   pub is_held : Bool
   -- whether it may want memory
   pub may_want_memory : Bool
+  -- for how many levels the scratch that it lends has room
+  pub room : ℕ
 
 -- the number of levels of a kind's order
 abbrev pub levels : Kind → View → ℕ
@@ -42,15 +45,15 @@ levels Zdd w = w.elements
 
 -- a node's variable number of the kind, in the store
 abbrev pub IsVariable : Kind → View → ℕ → Type 0
-IsVariable Bdd w v = (v < 16384) × (v < w.vars)
-IsVariable Add w v = (v < 16384) × (v < w.vars)
-IsVariable Zdd w v = (16384 ≤ v) × (v < 16384 + w.elements)
+IsVariable Bdd w v = (v < first_element) × (v < w.vars)
+IsVariable Add w v = (v < first_element) × (v < w.vars)
+IsVariable Zdd w v = (first_element ≤ v) × (v < first_element + w.elements)
 
 -- one beyond those of the store
 abbrev pub IsBeyond : Kind → View → ℕ → Type 0
 IsBeyond Bdd w v = w.vars ≤ v
 IsBeyond Add w v = w.vars ≤ v
-IsBeyond Zdd w v = 16384 + w.elements ≤ v
+IsBeyond Zdd w v = first_element + w.elements ≤ v
 
 -- what an edge denotes
 abbrev pub function_at : View → Edge → Option Denoted
@@ -146,16 +149,6 @@ pub record IsInner (k : Kind) (w : View) (e : Edge) (f : ℕ → ValueOf k) (v :
   pub hi_top : w.level v < w.top hi.index
   pub lo_top : w.level v < w.top lo.index
 
--- The permanent slots
-abbrev pub truth_edge : Bool → Edge
-truth_edge b = record { index = 0; complement = not b }
-
-abbrev pub empty_edge : Edge
-empty_edge = record { index = 1; complement = false }
-
-abbrev pub base_edge : Edge
-base_edge = record { index = 2; complement = false }
-
 -- a leaf of the kind, with its edge and its value
 pub data IsLeafOf : (k : Kind) → Edge → (ℕ → ValueOf k) → ℤ → Type 0 where
   logic_one : IsLeafOf Bdd (truth_edge true) (constant true) (pos 1)
@@ -175,18 +168,21 @@ Opens k w e f (Leaf x) = IsLeaf k w e f x
 
 -- what stands in the permanent slots
 pub record Permanent (w : View) : Type 0 where
-  pub one : w.content 0 ≡ Some (BddFunction (constant true))
-  pub empty : w.content 1 ≡ Some (ZddFamily empty)
-  pub base : w.content 2 ≡ Some (ZddFamily base)
-  pub add_zero : w.content 3 ≡ Some (AddFunction (constant (pos 0)))
-  pub add_one : w.content 4 ≡ Some (AddFunction (constant (pos 1)))
-  pub projections : (v : ℕ) → IsVariable Bdd w v → w.content (5 + v) ≡ Some (BddFunction (projection v))
-  pub one_top : w.top 0 ≡ w.vars
-  pub empty_top : w.top 1 ≡ w.elements
-  pub base_top : w.top 2 ≡ w.elements
-  pub add_zero_top : w.top 3 ≡ w.vars
-  pub add_one_top : w.top 4 ≡ w.vars
-  pub projection_tops : (v : ℕ) → IsVariable Bdd w v → w.top (5 + v) ≡ w.level v
+  pub one : w.content true_slot ≡ Some (BddFunction (constant true))
+  pub empty : w.content empty_slot ≡ Some (ZddFamily empty)
+  pub base : w.content base_slot ≡ Some (ZddFamily base)
+  pub add_zero : w.content zero_slot ≡ Some (AddFunction (constant (pos 0)))
+  pub add_one : w.content one_slot ≡ Some (AddFunction (constant (pos 1)))
+  pub one_top : w.top true_slot ≡ w.vars
+  pub empty_top : w.top empty_slot ≡ w.elements
+  pub base_top : w.top base_slot ≡ w.elements
+  pub add_zero_top : w.top zero_slot ≡ w.vars
+  pub add_one_top : w.top one_slot ≡ w.vars
+
+-- the edge is that of a variable's projection
+pub record IsProjection (w : View) (v : ℕ) (e : Edge) : Type 0 where
+  pub denotes : Denotes Bdd w e (projection v)
+  pub top : w.top e.index ≡ w.level v
 
 -- what is asked for the two parts of a function at a variable
 pub record CanPart (k : Kind) (w : View) (e : Edge) (v : ℕ) : Type 0 where

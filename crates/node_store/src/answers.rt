@@ -1,7 +1,7 @@
 //! The table of a call's own answers, which is lossy.
 
 ghost use Rattle.std.specs.Prelude.{◌<◌, IfOk, IfSome};
-ghost use Rattle.node_store.specs.Remembering.{IsOf, IsRecalled, Remembers};
+ghost use Rattle.node_store.specs.Remembering.{IsBlank, IsOf, IsRecalled, Remembers};
 
 use crate::operator::Task;
 use edge_bits::{Edge, Memory};
@@ -13,6 +13,9 @@ pub struct Answer {
     pub task: Task,
     pub edge: Edge,
 }
+
+/// The places of a table at its start.
+const FIRST_PLACES: usize = 64;
 
 /// The most places of a table.
 const MOST_PLACES: usize = 1 << 22;
@@ -31,7 +34,7 @@ fn place_of(task: Task, size: usize) -> usize
         .wrapping_mul(0x9e37_79b9_7f4a_7c15)
         .wrapping_add(number_of(task.g).wrapping_mul(0xc2b2_ae3d_27d4_eb4f))
         .wrapping_add(number_of(task.h).wrapping_mul(0x1656_67b1_9e37_79f9));
-    ((mixed >> 32) % size as u64) as usize
+    ((u128::from(mixed) * size as u128) >> 64) as usize
 }
 
 /// The answer of a task, if it stands there.
@@ -66,19 +69,35 @@ pub fn write(answers: &mut Vec<Option<Answer>>, answer: Answer) -> bool
     was_empty
 }
 
-/// A table of twice as many places with these answers, or fewer of them; want of memory also where there are as many places
-/// as may be.
-pub fn doubled(alloc: Global, answers: &[Option<Answer>]) -> Result<Vec<Option<Answer>>, Memory>
+/// A wider table with these answers, or fewer of them: of twice as many places, or of the first few; want of memory also
+/// where there are as many places as may be.
+pub fn grown(alloc: Global, answers: &[Option<Answer>]) -> Result<Vec<Option<Answer>>, Memory>
     ensures { IfOk result (λ table. IsOf answers.now table.items) }
 {
     if answers.len() >= MOST_PLACES {
         return Err(Memory);
     }
-    let mut table = vec![in alloc; None; 2 * answers.len()]?;
+    let places = if answers.is_empty() {
+        FIRST_PLACES
+    } else {
+        2 * answers.len()
+    };
+    let mut table = vec![in alloc; None; places]?;
     for answer in answers {
         if let Some(answer) = answer {
             let _ = write(&mut table, *answer);
         }
     }
     Ok(table)
+}
+
+/// Makes a table blank; one that has grown is given back.
+pub fn blank(answers: &mut Vec<Option<Answer>>)
+    ensures { IsBlank answers.new.items }
+{
+    if answers.len() > FIRST_PLACES {
+        *answers = Vec::new(*answers.allocator());
+        return;
+    }
+    answers.fill(None);
 }

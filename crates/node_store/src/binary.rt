@@ -1,7 +1,7 @@
 //! Operators that split a task in two at a variable, and join the two answers.
 
 use crate::grow::{Edge, Grow, Key};
-use crate::operator::{Frame, Halt, Next, Operator, Task, Wait};
+use crate::operator::{Frame, Halt, Next, Operator, Task, Turn, Wait};
 use crate::stack::Stack;
 
 /// A task in its normal form, with its two parts; its answer is to be flipped.
@@ -92,9 +92,7 @@ pub trait Apply<G: Grow> {
         ensures memory { IsErrOf result Halt.Memory → (G.view store.old).may_want_memory ≡ true }
         ensures due { IsErrOf result Halt.Full → IsWork (G.view store.new) (work self.now (G.view store.new)) (G.view store.new).due }
         ensures full { IsErrOf result Halt.Full → Rose (G.view store.old) (G.view store.new) }
-        ensures frames { stack.new.frames ≡ stack.old.frames }
-        ensures free { stack.new.free ≡ stack.old.free }
-        ensures known { stack.new.answers ≡ stack.old.answers };
+        ensures stack { stack.new ≡ stack.old };
 
     /// The key under which the answer of a task is kept.
     fn key(&self, task: Task) -> Option<Key>
@@ -167,23 +165,19 @@ impl<G: Grow, O: Apply<G>> Operator<G> for Binary<O> {
         stack: &mut Stack,
         frame: Frame,
         answer: Edge,
-    ) -> Result<Next, Halt> {
+    ) -> Result<Turn, Halt> {
         match frame.wait {
             Wait::First(later) => {
                 if let Some(edge) = self.0.settled(frame.task, frame.var, answer) {
-                    return Ok(Next::Done(finish(&self.0, store, frame, edge)));
+                    return Ok(Turn::Done(finish(&self.0, store, frame, edge)));
                 }
-                let frame = Frame {
-                    wait: Wait::Second(answer),
-                    ..frame
-                };
-                Ok(Next::Call(frame, later))
+                Ok(Turn::Call(Wait::Second(answer), later))
             }
             Wait::Second(hi) => {
                 let edge = self
                     .0
                     .join(store, stack, frame.task, frame.var, hi, answer)?;
-                Ok(Next::Done(finish(&self.0, store, frame, edge)))
+                Ok(Turn::Done(finish(&self.0, store, frame, edge)))
             }
             _ => unreachable!(),
         }

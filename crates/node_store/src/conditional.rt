@@ -1,17 +1,18 @@
 //! If-then-else: a condition and two functions of a kind that depends on variables.
 
-ghost use Rattle.std.specs.Prelude.{◌≡◌, IfOk, IsErrOf, true, ◌≤◌};
+ghost use Rattle.std.specs.Prelude.{◌≡◌, ◌≤◌};
 ghost use Rattle.edge_bits.specs.declared.edges.Kind.{Kind};
-ghost use Rattle.node_store.specs.Views.{Kept, Denotes, Grown, Rose, Permanent, levels as levels_of};
-ghost use Rattle.node_store.specs.Work.{Adds, IsWork};
+ghost use Rattle.node_store.specs.Operations.{Runs};
+ghost use Rattle.node_store.specs.Views.{Kept, Permanent, levels as levels_of};
 ghost use Rattle.node_store.specs.Three.{AreThree, CanSplit, IsBranch, ite_at, value_of_three};
 
 use crate::binary::{Apply, Binary, Branch, Expansion, flip_if};
 use crate::evaluate::evaluate;
-use crate::grow::{Edge, Grow, Key, Kind, Stop};
-use crate::operator::{Halt, Task, without_overflow};
-use crate::parts::{parts, top_of_three};
+use crate::grow::{Edge, Grow, Key, Kind};
+use crate::operator::{Halt, Task};
+use crate::parts::{Halves, split_three};
 use crate::pointwise::key_of;
+use crate::scratch::Operation;
 use crate::stack::Stack;
 
 /// The answer of a task, or a task in normal form, whose answer is to be flipped where that is said.
@@ -37,6 +38,10 @@ pub trait IfThenElse {
     /// The answer in a terminal case, else the normal form of the task.
     fn reduce(&self, f: Edge, g: Edge, h: Edge) -> Reduced
         ensures { (w : View) → Permanent w → AreThree kind w f g h → IsReduced kind w f g h result };
+
+    /// The kind of the two functions and of the answer.
+    fn answer_kind(&self) -> Kind
+        ensures { result ≡ kind };
 
     /// The operation's number.
     fn number(&self) -> u8
@@ -84,7 +89,7 @@ impl<G: Grow, O: IfThenElse> Apply<G> for ThreeOperands<O> {
                 let key = key_of(self.op.number(), normal);
                 match store.memo_get(&key) {
                     Some(edge) => Ok(Expansion::Done(flip_if(edge, flip))),
-                    None => Ok(Expansion::Split(split(store, normal, flip))),
+                    None => Ok(Expansion::Split(branch(store, normal, flip))),
                 }
             }
         }
@@ -125,33 +130,19 @@ impl<G: Grow, O: IfThenElse> Apply<G> for ThreeOperands<O> {
     ghost extra_stays = { λ _ _ _ _. refl };
 }
 
-/// The parts of a task at its top variable.
-fn split<G: Grow>(store: &mut G, task: Task, flip: bool) -> Branch
+/// The parts of a task in normal form.
+fn branch<G: Grow>(store: &mut G, task: Task, flip: bool) -> Branch
     requires { (k : Kind) × CanSplit k (G.view store.old) task }
     ensures kept { Kept (G.view store.old) (G.view store.new) }
     ensures branch { (k : Kind) → CanSplit k (G.view store.old) task → IsBranch k (G.view store.new) task flip result }
 {
-    let Some(top) = top_of_three(store, task) else {
-        unreachable!();
-    };
-    let var = top.var;
-    let (f1, f0) = parts(store, task.f, var);
-    let (g1, g0) = parts(store, task.g, var);
-    let (h1, h0) = parts(store, task.h, var);
+    let Halves { top, hi, lo } = split_three(store, task);
     Branch {
         task,
         flip,
-        var,
-        hi: Task {
-            f: f1,
-            g: g1,
-            h: h1,
-        },
-        lo: Task {
-            f: f0,
-            g: g0,
-            h: h0,
-        },
+        var: top.var,
+        hi,
+        lo,
     }
 }
 
@@ -163,64 +154,46 @@ pub fn if_then_else<G: Grow, O: IfThenElse + Drop>(
     f: Edge,
     g: Edge,
     h: Edge,
-) -> Result<Edge, Stop>
+) -> Result<Edge, Halt>
     requires operands { AreThree O.kind (G.view store.old) f g h }
     requires permanent { Permanent (G.view store.old) }
     requires room { levels_of O.kind (G.view store.old) ≤ stack.old.free }
-    ensures grown { Grown (G.view store.old) (G.view store.new) }
-    ensures answer { IfOk result (λ e. Denotes O.kind (G.view store.new) e (ite_at O.kind (G.view store.old) f g h)) }
-    ensures work { Adds (value_of_three O.kind f g h (G.view store.old)) (G.view store.old) (G.view store.new) }
-    ensures memory { IsErrOf result Stop.Memory → (G.view store.old).may_want_memory ≡ true }
-    ensures full { IsErrOf result Stop.Full → Rose (G.view store.old) (G.view store.new) }
-    ensures due { IsErrOf result Stop.Full → IsWork (G.view store.new) (value_of_three O.kind f g h (G.view store.old)) (G.view store.new).due }
-    ensures frames { stack.new.frames ≡ stack.old.frames }
-    ensures free { stack.new.free ≡ stack.old.free }
-    ensures known { stack.new.answers ≡ stack.old.answers }
+    ensures runs { Runs O.kind (ite_at O.kind (G.view store.old) f g h) (value_of_three O.kind f g h (G.view store.old)) (G.view store.old) (G.view store.new) result }
+    ensures stack { stack.new ≡ stack.old }
 {
     let op = ThreeOperands { op, f, g, h };
-    without_overflow(evaluate(store, stack, &Binary(op), Task { f, g, h }))
+    evaluate(store, stack, &Binary(op), Task { f, g, h })
 }
 
-/// Makes room for as many frames as there are levels, and runs.
-fn with_room<G: Grow, O: IfThenElse + Drop>(
-    store: &mut G,
-    stack: &mut Stack,
-    levels: u32,
-    op: ThreeOperands<O>,
-) -> Result<Edge, Stop>
-    requires operands { AreThree O.kind (G.view store.old) op.f op.g op.h }
-    requires permanent { Permanent (G.view store.old) }
-    requires levels { levels ≡ levels_of O.kind (G.view store.old) }
-    ensures grown { Grown (G.view store.old) (G.view store.new) }
-    ensures answer { IfOk result (λ e. Denotes O.kind (G.view store.new) e (ite_at O.kind (G.view store.old) op.f op.g op.h)) }
-    ensures work { Adds (value_of_three O.kind op.f op.g op.h (G.view store.old)) (G.view store.old) (G.view store.new) }
-    ensures full { IsErrOf result Stop.Full → Rose (G.view store.old) (G.view store.new) }
-    ensures due { IsErrOf result Stop.Full → IsWork (G.view store.new) (value_of_three O.kind op.f op.g op.h (G.view store.old)) (G.view store.new).due }
-    ensures frames { stack.new.frames ≡ stack.old.frames }
-{
-    match stack.reserve(levels as usize) {
-        Ok(()) => if_then_else(store, stack, op.op, op.f, op.g, op.h),
-        Err(_) => Err(Stop::Memory),
+impl<G: Grow, O: IfThenElse + Drop> Operation<G> for ThreeOperands<O> {
+    ghost use Rattle.node_store.specs.Views.{Denotes};
+    ghost use Rattle.node_store.specs.Two.{Overflows};
+    ghost use Rattle.node_store.specs.Three.{AreThree, ite_at, value_of_three};
+    ghost use Rattle.node_store.specs.ThreeLaws.{AreThree-grown, ite_at-lasts, ite-overflows, value_of_three-back};
+
+    ghost kind = { O.kind };
+
+    ghost asks = { λ o w. AreThree O.kind w o.f o.g o.h };
+
+    ghost answers = { λ o v w e. Denotes O.kind w e (ite_at O.kind v o.f o.g o.h) };
+
+    ghost overflows = { λ o w. Overflows O.kind (ite_at O.kind w o.f o.g o.h) };
+
+    ghost work = { λ o. value_of_three O.kind o.f o.g o.h };
+
+    fn answer_kind(&self) -> Kind {
+        self.op.answer_kind()
     }
-}
 
-/// If-then-else of three operands, in the scratch that the store lends.
-pub fn call_if_then_else<G: Grow, O: IfThenElse + Drop>(
-    store: &mut G,
-    kind: Kind,
-    op: ThreeOperands<O>,
-) -> Result<Edge, Stop>
-    requires kind { kind ≡ O.kind }
-    requires operands { AreThree O.kind (G.view store.old) op.f op.g op.h }
-    ensures grown { Grown (G.view store.old) (G.view store.new) }
-    ensures answer { IfOk result (λ e. Denotes O.kind (G.view store.new) e (ite_at O.kind (G.view store.old) op.f op.g op.h)) }
-    ensures work { Adds (value_of_three O.kind op.f op.g op.h (G.view store.old)) (G.view store.old) (G.view store.new) }
-    ensures full { IsErrOf result Stop.Full → Rose (G.view store.old) (G.view store.new) }
-    ensures due { IsErrOf result Stop.Full → IsWork (G.view store.new) (value_of_three O.kind op.f op.g op.h (G.view store.old)) (G.view store.new).due }
-{
-    let mut stack = store.take_scratch();
-    let levels = store.levels(kind);
-    let outcome = with_room(store, &mut stack, levels, op);
-    store.give_scratch(stack);
-    outcome
+    fn run(self, store: &mut G, stack: &mut Stack) -> Result<Edge, Halt> {
+        if_then_else(store, stack, self.op, self.f, self.g, self.h)
+    }
+
+    ghost asks_stay = { λ o v w m. AreThree-grown O.kind m };
+
+    ghost answers_last = { λ o. ite_at-lasts O.kind o.f o.g o.h };
+
+    ghost overflows_back = { λ o v w m d. ite-overflows O.kind m d };
+
+    ghost work_back = { λ o. value_of_three-back O.kind o.f o.g o.h };
 }

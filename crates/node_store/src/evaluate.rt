@@ -6,7 +6,7 @@ ghost use Rattle.node_store.specs.States.{state_of};
 ghost use Rattle.node_store.specs.Stacks.{room_of};
 
 use crate::grow::{Edge, Grow};
-use crate::operator::{Halt, Next, Operator, Task};
+use crate::operator::{Halt, Next, Operator, Task, Turn};
 use crate::stack::Stack;
 
 /// The answer of a task, computed with a stack of its own in place of calls of itself. The frames of the stack stay as they are.
@@ -63,10 +63,19 @@ fn run<G: Grow, O: Operator<G>>(
                 if stack.len() == base {
                     return Ok(edge);
                 }
-                let Some(frame) = stack.pop() else {
+                let Some(frame) = stack.top() else {
                     return Ok(edge);
                 };
-                next = op.resume(store, stack, frame, edge)?;
+                match op.resume(store, stack, frame, edge)? {
+                    Turn::Done(edge) => {
+                        stack.drop_top();
+                        next = Next::Done(edge);
+                    }
+                    Turn::Call(wait, child) => {
+                        stack.wait_for(wait);
+                        next = op.start(store, stack, child)?;
+                    }
+                }
             }
         }
     }

@@ -11,6 +11,7 @@ pub mod operator;
 pub mod parts;
 pub mod pointwise;
 pub mod remembering;
+pub mod scratch;
 pub mod stack;
 
 pub use computed_cache::Key;

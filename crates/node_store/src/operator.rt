@@ -1,6 +1,7 @@
 //! What an operator tells the evaluator.
 
-ghost use Rattle.std.specs.Prelude.{◌≡◌, IfOk, IsErrOf, Ok};
+ghost use Rattle.std.specs.Prelude.{◌≡◌, IsErrOf};
+ghost use Rattle.node_store.specs.Operations.{halts};
 
 use crate::grow::{Edge, Grow, Stop};
 use crate::stack::Stack;
@@ -30,9 +31,7 @@ impl From<Stop> for Halt {
 /// The answer of a call that is never out of range.
 pub fn without_overflow(answer: Result<Edge, Halt>) -> Result<Edge, Stop>
     requires { IsErrOf answer Halt.Overflow → ⊥ }
-    ensures ok { IfOk result (λ e. answer ≡ Ok e) }
-    ensures memory { IsErrOf result Stop.Memory → IsErrOf answer Halt.Memory }
-    ensures full { IsErrOf result Stop.Full → IsErrOf answer Halt.Full }
+    ensures { halts result ≡ answer }
 {
     match answer {
         Ok(edge) => Ok(edge),
@@ -95,10 +94,10 @@ pub struct Frame {
     pub wait: Wait,
 }
 
-// The scratch fills its unused places with it.
+/// The scratch fills its unused places with it.
 impl Default for Frame {
     fn default() -> Frame {
-        let edge = Edge::new(0, false);
+        let edge = Edge::truth(true);
         Frame {
             task: Task::two(edge, edge),
             var: 0,
@@ -108,11 +107,18 @@ impl Default for Frame {
     }
 }
 
-/// The next step of a task: its answer, or a further task for the frame to wait for.
+/// The first step of a task: its answer, or a frame for it with the first task for the frame to wait for.
 #[derive(Clone, Copy, PartialEq, Eq, Drop)]
 pub enum Next {
     Done(Edge),
     Call(Frame, Task),
+}
+
+/// The next step of a frame: the answer of its task, or what it waits for from now on, with the task of that.
+#[derive(Clone, Copy, PartialEq, Eq, Drop)]
+pub enum Turn {
+    Done(Edge),
+    Call(Wait, Task),
 }
 
 /// An operator, as the evaluator runs it.
@@ -120,7 +126,7 @@ pub trait Operator<G: Grow> {
     ghost use Rattle.std.specs.Prelude.{◌≡◌, ℕ, ◌+◌, ◌<◌, ◌≤◌, IfOk, IsErrOf, true};
     ghost use Rattle.node_store.specs.Views.{Rose};
     ghost use Rattle.node_store.specs.States.{State, state_of};
-    ghost use Rattle.node_store.specs.Steps.{NextFor, FewerLeft, HasAnswer};
+    ghost use Rattle.node_store.specs.Steps.{NextFor, FewerLeft, HasAnswer, next_of};
     ghost use Rattle.edge_bits.specs.declared.edges.Edge.{Edge};
     ghost use Rattle.node_store.specs.declared.operator.Task.{Task};
     ghost use Rattle.node_store.specs.declared.operator.Frame.{Frame};
@@ -162,20 +168,20 @@ pub trait Operator<G: Grow> {
         ensures frames { stack.new.frames ≡ stack.old.frames }
         ensures free { stack.new.free ≡ stack.old.free };
 
-    /// The next step of a frame that has the answer that it waited for.
+    /// The next step of the frame at the top of the stack, which has the answer that it waited for.
     fn resume(
         &self,
         store: &mut G,
         stack: &mut Stack,
         frame: Frame,
         answer: Edge,
-    ) -> Result<Next, Halt>
+    ) -> Result<Turn, Halt>
         requires waits { HasAnswer (due self.now) (answers self.now) (waits self.now) (state_of (G.view store.old) stack.old) frame answer }
         requires room { extra self.now (state_of (G.view store.old) stack.old) ≤ stack.old.free }
         ensures moved { moves self.now (state_of (G.view store.old) stack.old) (state_of (G.view store.new) stack.new) }
-        ensures next { (root child : Task) → due self.now (state_of (G.view store.old) stack.old) root → waits self.now (state_of (G.view store.old) stack.old) root frame child → answers self.now (state_of (G.view store.old) stack.old) child answer → IfOk result (NextFor (due self.now) (answers self.now) (waits self.now) (depth self.now) (state_of (G.view store.new) stack.new) root) }
+        ensures next { (root child : Task) → due self.now (state_of (G.view store.old) stack.old) root → waits self.now (state_of (G.view store.old) stack.old) root frame child → answers self.now (state_of (G.view store.old) stack.old) child answer → IfOk result (λ turn. NextFor (due self.now) (answers self.now) (waits self.now) (depth self.now) (state_of (G.view store.new) stack.new) root (next_of frame turn)) }
         ensures overflow { IsErrOf result Halt.Overflow → (root child : Task) → due self.now (state_of (G.view store.old) stack.old) root → waits self.now (state_of (G.view store.old) stack.old) root frame child → answers self.now (state_of (G.view store.old) stack.old) child answer → overflows self.now (state_of (G.view store.new) stack.new) root }
-        ensures fewer { IfOk result (FewerLeft frame) }
+        ensures fewer { IfOk result (λ turn. FewerLeft frame (next_of frame turn)) }
         ensures memory { IsErrOf result Halt.Memory → (G.view store.old).may_want_memory ≡ true }
         ensures due { IsErrOf result Halt.Full → refused self.now (state_of (G.view store.new) stack.new) }
         ensures full { IsErrOf result Halt.Full → Rose (G.view store.old) (G.view store.new) }

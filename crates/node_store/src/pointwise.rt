@@ -1,16 +1,16 @@
 //! Operators of two operands of one kind that go place by place.
 
-ghost use Rattle.std.specs.Prelude.{◌≡◌, IfOk, IsErrOf, true, ◌≤◌};
-ghost use Rattle.node_store.specs.Views.{View, AreTwo, Grown, Rose, Permanent, levels as levels_of};
-ghost use Rattle.node_store.specs.Work.{Adds, IsWork};
-ghost use Rattle.node_store.specs.Two.{TwoAnswers, value_of_two, place_at, Overflows};
-ghost use Rattle.node_store.specs.Views.{Denotes};
+ghost use Rattle.std.specs.Prelude.{◌≡◌, ◌≤◌};
+ghost use Rattle.node_store.specs.Views.{View, AreTwo, Permanent, levels as levels_of};
+ghost use Rattle.node_store.specs.Operations.{Runs};
+ghost use Rattle.node_store.specs.Two.{value_of_two, place_at};
 
 use crate::binary::{Apply, Binary, Branch, Expansion};
 use crate::evaluate::evaluate;
 use crate::grow::{Edge, Grow, Key, Kind};
 use crate::operator::{Halt, Task};
-use crate::parts::{parts, top_of_two};
+use crate::parts::{Split, split_two};
+use crate::scratch::Operation;
 use crate::stack::Stack;
 
 /// An operation on the values of a kind, with its terminal cases.
@@ -20,9 +20,9 @@ pub trait Pointwise<G: Grow> {
     ghost use Rattle.computed_cache.specs.declared.Key.{Key};
     ghost use Rattle.edge_bits.specs.declared.edges.Kind.{Kind};
     ghost use Rattle.function_laws.specs.Kinds.{ValueOf, Keeps, function_of};
-    ghost use Rattle.node_store.specs.Views.{View, AreTwo, Denotes, Grown, Kept, Rose, Permanent, NotBothLeaves};
+    ghost use Rattle.node_store.specs.Views.{View, AreTwo, Denotes, Grown, IsLeaf, Rose, Permanent, values_at};
     ghost use Rattle.node_store.specs.Memo.{MemoHolds, PlaceHolds};
-    ghost use Rattle.node_store.specs.Two.{place_at, IsOrderFor, Overflows, Terminal, IsMade};
+    ghost use Rattle.node_store.specs.Two.{place_at, IsOrderFor, Overflows};
 
     /// The kind of the operands and of the answer.
     ghost kind: { Kind };
@@ -30,13 +30,19 @@ pub trait Pointwise<G: Grow> {
     /// What it does to the values at each place.
     ghost op: { ValueOf kind → ValueOf kind → ValueOf kind };
 
-    /// The terminal cases.
-    fn terminal(&self, store: &mut G, f: Edge, g: Edge) -> Result<Option<Edge>, Halt>
+    /// The answer where the edges alone tell it.
+    fn terminal(&self, f: Edge, g: Edge) -> Option<Edge>
+        ensures { (w : View) → Permanent w → AreTwo kind w f g → IfSome result (λ e. Denotes kind w e (place_at kind op w f g)) };
+
+    /// The answer of two leaves with these values.
+    fn at_leaves(&self, store: &mut G, f: Edge, g: Edge, x: i64, y: i64) -> Result<Edge, Halt>
         requires operands { AreTwo kind (G.view store.old) f g }
         requires permanent { Permanent (G.view store.old) }
+        requires first { IsLeaf kind (G.view store.old) f (values_at kind (G.view store.old) f) x }
+        requires second { IsLeaf kind (G.view store.old) g (values_at kind (G.view store.old) g) y }
         ensures grown { Grown (G.view store.old) (G.view store.new) }
-        ensures terminal { IfOk result (Terminal kind op (G.view store.new) f g) }
-        ensures made { (s : ℕ) → (G.view store.new).made s ≡ true → ((G.view store.old).made s ≡ true) ⊎ IsOkAnd result (IsMade s) }
+        ensures answer { IfOk result (λ e. Denotes kind (G.view store.new) e (place_at kind op (G.view store.old) f g)) }
+        ensures made { (s : ℕ) → (G.view store.new).made s ≡ true → ((G.view store.old).made s ≡ true) ⊎ IsOkAnd result (λ e. e.index ≡ s) }
         ensures overflow { IsErrOf result Halt.Overflow → Overflows kind (place_at kind op (G.view store.old) f g) }
         ensures memory { IsErrOf result Halt.Memory → (G.view store.old).may_want_memory ≡ true }
         ensures due { IsErrOf result Halt.Full → (G.view store.new).due ≡ Some (function_of kind (place_at kind op (G.view store.old) f g)) }
@@ -46,6 +52,10 @@ pub trait Pointwise<G: Grow> {
     fn arrange(&self, f: Edge, g: Edge) -> Task
         ensures order { IsOrderFor op f g result.f result.g }
         ensures unused { result.h ≡ result.f };
+
+    /// The kind of the operands and of the answer.
+    fn answer_kind(&self) -> Kind
+        ensures { result ≡ kind };
 
     /// The operation's number.
     fn number(&self) -> u8
@@ -87,7 +97,7 @@ impl<G: Grow, O: Pointwise<G>> Apply<G> for TwoOperands<O> {
     ghost extra = { λ _ _. 0 };
 
     fn expand(&self, store: &mut G, task: Task) -> Result<Expansion, Halt> {
-        if let Some(edge) = self.op.terminal(store, task.f, task.g)? {
+        if let Some(edge) = self.op.terminal(task.f, task.g) {
             return Ok(Expansion::Done(edge));
         }
         let task = self.op.arrange(task.f, task.g);
@@ -95,18 +105,18 @@ impl<G: Grow, O: Pointwise<G>> Apply<G> for TwoOperands<O> {
         if let Some(edge) = store.memo_get(&key) {
             return Ok(Expansion::Done(edge));
         }
-        let Some(top) = top_of_two(store, task.f, task.g) else {
-            unreachable!();
-        };
-        let (f1, f0) = parts(store, task.f, top.var);
-        let (g1, g0) = parts(store, task.g, top.var);
-        Ok(Expansion::Split(Branch {
-            task,
-            flip: false,
-            var: top.var,
-            hi: Task::two(f1, g1),
-            lo: Task::two(f0, g0),
-        }))
+        match split_two(store, task.f, task.g) {
+            Split::Leaves(x, y) => Ok(Expansion::Done(
+                self.op.at_leaves(store, task.f, task.g, x, y)?,
+            )),
+            Split::At(halves) => Ok(Expansion::Split(Branch {
+                task,
+                flip: false,
+                var: halves.top.var,
+                hi: halves.hi,
+                lo: halves.lo,
+            })),
+        }
     }
 
     fn join(
@@ -166,16 +176,8 @@ pub fn place_by_place<G: Grow, O: Pointwise<G> + Drop>(
     requires operands { AreTwo O.kind (G.view store.old) f g }
     requires permanent { Permanent (G.view store.old) }
     requires room { levels_of O.kind (G.view store.old) ≤ stack.old.free }
-    ensures grown { Grown (G.view store.old) (G.view store.new) }
-    ensures answer { IfOk result (λ e. Denotes O.kind (G.view store.new) e (place_at O.kind O.op (G.view store.old) f g)) }
-    ensures work { Adds (value_of_two O.kind O.op f g (G.view store.old)) (G.view store.old) (G.view store.new) }
-    ensures overflow { IsErrOf result Halt.Overflow → Overflows O.kind (place_at O.kind O.op (G.view store.old) f g) }
-    ensures memory { IsErrOf result Halt.Memory → (G.view store.old).may_want_memory ≡ true }
-    ensures full { IsErrOf result Halt.Full → Rose (G.view store.old) (G.view store.new) }
-    ensures due { IsErrOf result Halt.Full → IsWork (G.view store.new) (value_of_two O.kind O.op f g (G.view store.old)) (G.view store.new).due }
-    ensures frames { stack.new.frames ≡ stack.old.frames }
-    ensures free { stack.new.free ≡ stack.old.free }
-    ensures known { stack.new.answers ≡ stack.old.answers }
+    ensures runs { Runs O.kind (place_at O.kind O.op (G.view store.old) f g) (value_of_two O.kind O.op f g (G.view store.old)) (G.view store.old) (G.view store.new) result }
+    ensures stack { stack.new ≡ stack.old }
 {
     evaluate(
         store,
@@ -185,52 +187,34 @@ pub fn place_by_place<G: Grow, O: Pointwise<G> + Drop>(
     )
 }
 
-/// Makes room for as many frames as there are levels, and runs.
-fn with_room<G: Grow, O: Pointwise<G> + Drop>(
-    store: &mut G,
-    stack: &mut Stack,
-    levels: u32,
-    op: O,
-    f: Edge,
-    g: Edge,
-) -> Result<Edge, Halt>
-    requires operands { AreTwo O.kind (G.view store.old) f g }
-    requires permanent { Permanent (G.view store.old) }
-    requires levels { levels ≡ levels_of O.kind (G.view store.old) }
-    ensures grown { Grown (G.view store.old) (G.view store.new) }
-    ensures answer { IfOk result (λ e. Denotes O.kind (G.view store.new) e (place_at O.kind O.op (G.view store.old) f g)) }
-    ensures work { Adds (value_of_two O.kind O.op f g (G.view store.old)) (G.view store.old) (G.view store.new) }
-    ensures overflow { IsErrOf result Halt.Overflow → Overflows O.kind (place_at O.kind O.op (G.view store.old) f g) }
-    ensures full { IsErrOf result Halt.Full → Rose (G.view store.old) (G.view store.new) }
-    ensures due { IsErrOf result Halt.Full → IsWork (G.view store.new) (value_of_two O.kind O.op f g (G.view store.old)) (G.view store.new).due }
-    ensures frames { stack.new.frames ≡ stack.old.frames }
-{
-    match stack.reserve(levels as usize) {
-        Ok(()) => place_by_place(store, stack, op, f, g),
-        Err(_) => Err(Halt::Memory),
-    }
-}
+impl<G: Grow, O: Pointwise<G> + Drop> Operation<G> for TwoOperands<O> {
+    ghost use Rattle.node_store.specs.Views.{AreTwo, Denotes};
+    ghost use Rattle.node_store.specs.Two.{Overflows, place_at, value_of_two};
+    ghost use Rattle.node_store.specs.TwoLaws.{AreTwo-grown, overflows-back, place_at-lasts, value-back};
 
-/// The operation on two operands of this kind, in the scratch that the store lends.
-pub fn call_place_by_place<G: Grow, O: Pointwise<G> + Drop>(
-    store: &mut G,
-    kind: Kind,
-    op: O,
-    f: Edge,
-    g: Edge,
-) -> Result<Edge, Halt>
-    requires kind { kind ≡ O.kind }
-    requires operands { AreTwo O.kind (G.view store.old) f g }
-    ensures grown { Grown (G.view store.old) (G.view store.new) }
-    ensures answer { IfOk result (λ e. Denotes O.kind (G.view store.new) e (place_at O.kind O.op (G.view store.old) f g)) }
-    ensures work { Adds (value_of_two O.kind O.op f g (G.view store.old)) (G.view store.old) (G.view store.new) }
-    ensures overflow { IsErrOf result Halt.Overflow → Overflows O.kind (place_at O.kind O.op (G.view store.old) f g) }
-    ensures full { IsErrOf result Halt.Full → Rose (G.view store.old) (G.view store.new) }
-    ensures due { IsErrOf result Halt.Full → IsWork (G.view store.new) (value_of_two O.kind O.op f g (G.view store.old)) (G.view store.new).due }
-{
-    let mut stack = store.take_scratch();
-    let levels = store.levels(kind);
-    let outcome = with_room(store, &mut stack, levels, op, f, g);
-    store.give_scratch(stack);
-    outcome
+    ghost kind = { O.kind };
+
+    ghost asks = { λ o w. AreTwo O.kind w o.f o.g };
+
+    ghost answers = { λ o v w e. Denotes O.kind w e (place_at O.kind O.op v o.f o.g) };
+
+    ghost overflows = { λ o w. Overflows O.kind (place_at O.kind O.op w o.f o.g) };
+
+    ghost work = { λ o. value_of_two O.kind O.op o.f o.g };
+
+    fn answer_kind(&self) -> Kind {
+        self.op.answer_kind()
+    }
+
+    fn run(self, store: &mut G, stack: &mut Stack) -> Result<Edge, Halt> {
+        place_by_place(store, stack, self.op, self.f, self.g)
+    }
+
+    ghost asks_stay = { λ o v w m. AreTwo-grown O.kind m };
+
+    ghost answers_last = { λ o. place_at-lasts O.kind O.op o.f o.g };
+
+    ghost overflows_back = { λ o v w m d. overflows-back O.kind O.op m d };
+
+    ghost work_back = { λ o. value-back O.kind O.op o.f o.g };
 }

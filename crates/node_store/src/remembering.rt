@@ -2,7 +2,7 @@
 
 use crate::binary::{Apply, Expansion, flip_if};
 use crate::grow::{Edge, Grow};
-use crate::operator::{Frame, Halt, Next, Operator, Task, Wait};
+use crate::operator::{Frame, Halt, Next, Operator, Task, Turn, Wait};
 use crate::stack::Stack;
 
 /// Such an operator, as the evaluator runs it.
@@ -19,7 +19,7 @@ impl<G: Grow, O: Apply<G>> Operator<G> for Remembering<O> {
 
     ghost moves = { λ s. RememberingMoves (O.roots s.0) (O.work s.0) (O.due s.0) (O.answers s.0) };
 
-    ghost due = { λ s w t. O.due s.0 w.view t × Knows (O.due s.0) (O.answers s.0) w };
+    ghost due = { λ s w t. O.due s.0 w.view t × Knows (O.due s.0) (O.answers s.0) w.view w.answers };
 
     ghost answers = { λ s w. O.answers s.0 w.view };
 
@@ -57,25 +57,21 @@ impl<G: Grow, O: Apply<G>> Operator<G> for Remembering<O> {
         stack: &mut Stack,
         frame: Frame,
         answer: Edge,
-    ) -> Result<Next, Halt> {
+    ) -> Result<Turn, Halt> {
         match frame.wait {
             Wait::First(later) => {
                 if let Some(edge) = self.0.settled(frame.task, frame.var, answer) {
                     stack.remember(frame.task, edge);
-                    return Ok(Next::Done(flip_if(edge, frame.flip)));
+                    return Ok(Turn::Done(flip_if(edge, frame.flip)));
                 }
-                let frame = Frame {
-                    wait: Wait::Second(answer),
-                    ..frame
-                };
-                Ok(Next::Call(frame, later))
+                Ok(Turn::Call(Wait::Second(answer), later))
             }
             Wait::Second(hi) => {
                 let edge = self
                     .0
                     .join(store, stack, frame.task, frame.var, hi, answer)?;
                 stack.remember(frame.task, edge);
-                Ok(Next::Done(flip_if(edge, frame.flip)))
+                Ok(Turn::Done(flip_if(edge, frame.flip)))
             }
             _ => unreachable!(),
         }

@@ -1,25 +1,25 @@
 //! What a run of the evaluator works in.
 
-ghost use Rattle.std.specs.Prelude.{◌≡◌, ◌+◌, ◌<◌, ◌≤◌, ◌++◌, ◌∷◌, [], IfSome, IfNone, IsOk, OnOk, OnErr, length, take, ℕ, slice_index_or, None};
-ghost use Rattle.node_store.specs.Remembering.{IsOf, IsRecalled, Remembers};
+ghost use Rattle.std.specs.Prelude.{◌≡◌, ◌+◌, ◌<◌, ◌≤◌, ◌++◌, ◌∷◌, [], IfSome, IfNone, IsOk, OnOk, length, take, replicate, slice_set, slice_index_or, List, Some, None};
+ghost use Rattle.node_store.specs.Remembering.{IsBlank, IsOf, IsRecalled, Remembers};
+ghost use Rattle.node_store.specs.declared.operator.Frame.{Frame as FrameOf};
 
-use crate::answers::{Answer, doubled, look_up, write};
-use crate::operator::{Frame, Task};
+use crate::answers::{Answer, blank, grown, look_up, write};
+use crate::operator::{Frame, Task, Wait};
 use edge_bits::{Edge, Memory};
 use smallvec::SmallVec;
 use std::alloc::Global;
 use std::marker::Model;
 
-/// The places of a table at its start.
-const FIRST_PLACES: usize = 64;
-
-/// The frames of the tasks that wait, and a lossy table of the present call's answers, which grows with them.
+/// The frames of the tasks that wait, a lossy table of the present call's answers, which grows with them, and a mark for
+/// each level.
 #[derive(Drop)]
 pub struct Stack {
-    frames: SmallVec<Frame, 16>,
+    frames: SmallVec<Frame, 2>,
     answers: Vec<Option<Answer>>,
     /// How many places of the table were taken.
     taken: usize,
+    marks: Vec<Option<u32>>,
 }
 
 impl Model for Stack {
@@ -28,23 +28,25 @@ impl Model for Stack {
 
     ghost Value = { Scratch };
 
-    ghost view = { λ s. record { frames = s.frames.items; free = s.frames.capacity - length s.frames.items; answers = s.answers.items } };
+    ghost view = { λ s. record { frames = s.frames.items; free = s.frames.capacity - length s.frames.items; answers = s.answers.items; marks = s.marks.items } };
 
     ghost invariant = { λ s. length s.frames.items ≤ s.frames.capacity };
 }
 
 impl Stack {
-    ghost use Rattle.node_store.specs.Stacks.{room_of};
+    ghost use Rattle.node_store.specs.Stacks.{levels_in, room_of};
 
-    /// No frame, with the room for a few, and no table.
+    /// No frame, with the room for a few, no table and no marks.
     pub fn new(alloc: Global) -> Stack
         ensures frames { result.frames ≡ [] }
         ensures answers { result.answers ≡ [] }
+        ensures marks { result.marks ≡ [] }
     {
         Stack {
             frames: SmallVec::new(alloc),
             answers: Vec::new(alloc),
             taken: 0,
+            marks: Vec::new(alloc),
         }
     }
 
@@ -60,15 +62,18 @@ impl Stack {
         self.frames.len()
     }
 
-    /// Makes room for so many frames more. Want of memory changes nothing.
-    pub fn reserve(&mut self, more: usize) -> Result<(), Memory>
-        ensures ok { OnOk result (more ≤ self.new.free) }
-        ensures succeeds { more ≤ self.old.free → IsOk result }
+    /// Makes room for a run over so many levels: two frames more and a mark for each. Its room never gets less.
+    pub fn prepare(&mut self, levels: u32) -> Result<(), Memory>
+        ensures ok { OnOk result (levels ≤ levels_in self.new) }
+        ensures succeeds { levels ≤ levels_in self.old → IsOk result }
+        ensures least { levels_in self.old ≤ levels_in self.new }
         ensures frames { self.new.frames ≡ self.old.frames }
         ensures answers { self.new.answers ≡ self.old.answers }
-        ensures err { OnErr result (self.new ≡ self.old) }
     {
-        self.frames.reserve(more)?;
+        self.frames.reserve(2 * levels as usize)?;
+        if self.marks.len() < levels as usize {
+            self.marks.resize(levels as usize, None)?;
+        }
         Ok(())
     }
 
@@ -78,19 +83,39 @@ impl Stack {
         ensures frames { self.new.frames ≡ self.old.frames ++ frame ∷ [] }
         ensures free { self.new.free + 1 ≡ self.old.free }
         ensures answers { self.new.answers ≡ self.old.answers }
+        ensures marks { self.new.marks ≡ self.old.marks }
     {
         self.frames.push_reserved(frame);
     }
 
-    /// Takes the frame at the top.
-    pub fn pop(&mut self) -> Option<Frame>
-        ensures some { IfSome result (λ frame. self.old.frames ≡ self.new.frames ++ frame ∷ []) }
-        ensures none { IfNone result (length self.old.frames ≡ 0) }
-        ensures left { IfNone result (self.new.frames ≡ []) }
+    /// The frame at the top.
+    pub fn top(&self) -> Option<Frame>
+        ensures some { IfSome result (λ frame. (below : List FrameOf) × (self.now.frames ≡ below ++ frame ∷ [])) }
+        ensures none { IfNone result (self.now.frames ≡ []) }
+    {
+        self.frames.last().copied()
+    }
+
+    /// Changes what the frame at the top waits for.
+    pub fn wait_for(&mut self, wait: Wait)
+        ensures top { (below : List FrameOf) (frame : FrameOf) → self.old.frames ≡ below ++ frame ∷ [] → self.new.frames ≡ below ++ (record frame { wait = wait }) ∷ [] }
+        ensures free { self.new.free ≡ self.old.free }
+        ensures answers { self.new.answers ≡ self.old.answers }
+        ensures marks { self.new.marks ≡ self.old.marks }
+    {
+        if let Some(frame) = self.frames.last_mut() {
+            frame.wait = wait;
+        }
+    }
+
+    /// Takes the frame at the top away.
+    pub fn drop_top(&mut self)
+        ensures top { (below : List FrameOf) (frame : FrameOf) → self.old.frames ≡ below ++ frame ∷ [] → self.new.frames ≡ below }
         ensures room { room_of self.new ≡ room_of self.old }
         ensures answers { self.new.answers ≡ self.old.answers }
+        ensures marks { self.new.marks ≡ self.old.marks }
     {
-        self.frames.pop()
+        let _top = self.frames.pop();
     }
 
     /// Keeps so many frames, the lowest.
@@ -98,22 +123,20 @@ impl Stack {
         ensures frames { self.new.frames ≡ take len self.old.frames }
         ensures room { room_of self.new ≡ room_of self.old }
         ensures answers { self.new.answers ≡ self.old.answers }
+        ensures marks { self.new.marks ≡ self.old.marks }
     {
         self.frames.truncate(len);
     }
 
-    /// Makes an empty table in place of the table. Want of memory changes nothing.
-    pub fn make_table(&mut self) -> Result<(), Memory>
-        ensures none { OnOk result ((j : ℕ) → slice_index_or self.new.answers j None ≡ None) }
-        ensures some { OnOk result (0 < length self.new.answers) }
+    /// Makes the table of answers blank. It takes no memory.
+    pub fn clear_table(&mut self)
+        ensures blank { IsBlank self.new.answers }
         ensures frames { self.new.frames ≡ self.old.frames }
         ensures free { self.new.free ≡ self.old.free }
-        ensures err { OnErr result (self.new ≡ self.old) }
+        ensures marks { self.new.marks ≡ self.old.marks }
     {
-        let alloc = self.allocator();
-        self.answers = vec![in alloc; None; FIRST_PLACES]?;
+        blank(&mut self.answers);
         self.taken = 0;
-        Ok(())
     }
 
     /// The answer of a task, if it is still known.
@@ -123,17 +146,18 @@ impl Stack {
         look_up(&self.answers, task)
     }
 
-    /// Doubles the table where half of its places were taken, if there is memory.
+    /// Widens the table where half of its places were taken, if there is memory.
     fn make_place(&mut self)
         ensures is_of { IsOf self.old.answers self.new.answers }
         ensures frames { self.new.frames ≡ self.old.frames }
         ensures free { self.new.free ≡ self.old.free }
+        ensures marks { self.new.marks ≡ self.old.marks }
     {
         if self.taken < self.answers.len() / 2 {
             return;
         }
         let alloc = self.allocator();
-        if let Ok(answers) = doubled(alloc, &self.answers) {
+        if let Ok(answers) = grown(alloc, &self.answers) {
             self.answers = answers;
         }
     }
@@ -143,10 +167,40 @@ impl Stack {
         ensures remembers { Remembers self.old.answers self.new.answers task edge }
         ensures frames { self.new.frames ≡ self.old.frames }
         ensures free { self.new.free ≡ self.old.free }
+        ensures marks { self.new.marks ≡ self.old.marks }
     {
         self.make_place();
         if write(&mut self.answers, Answer { task, edge }) {
             self.taken = self.taken.saturating_add(1);
         }
+    }
+
+    /// Takes all marks away.
+    pub fn clear_marks(&mut self)
+        ensures marks { self.new.marks ≡ replicate (length self.old.marks) None }
+        ensures frames { self.new.frames ≡ self.old.frames }
+        ensures free { self.new.free ≡ self.old.free }
+        ensures answers { self.new.answers ≡ self.old.answers }
+    {
+        self.marks.fill(None);
+    }
+
+    /// Marks a level with the variable that stands there.
+    pub fn mark(&mut self, level: u32, var: u32)
+        requires { level < length self.old.marks }
+        ensures marks { self.new.marks ≡ slice_set self.old.marks level (Some var) }
+        ensures frames { self.new.frames ≡ self.old.frames }
+        ensures free { self.new.free ≡ self.old.free }
+        ensures answers { self.new.answers ≡ self.old.answers }
+    {
+        self.marks[level as usize] = Some(var);
+    }
+
+    /// The variable with which a level is marked.
+    pub fn marked(&self, level: u32) -> Option<u32>
+        requires { level < length self.now.marks }
+        ensures { result ≡ slice_index_or self.now.marks level None }
+    {
+        self.marks[level as usize]
     }
 }

@@ -1,0 +1,50 @@
+-- What a run of an operator on a stack promises, and what stays of it around the run.
+use Rattle.std.proofs.Common.{◌≡◌, ℕ, Bool, true, Option, Some, ◌⊎◌, inl, inr, Result, IfOk, ap, sym, ◌∙◌, subst}
+use Rattle.std.specs.Prelude.{IsErrOf}
+use Rattle.edge_bits.specs.declared.edges.Edge.{Edge}
+use Rattle.function_laws.specs.Kinds.{Denoted, function_of, opposite}
+use Rattle.node_store.specs.Operations.{RunsTo}
+use Rattle.node_store.specs.Views.{View, Grown, Kept, Rose}
+use Rattle.node_store.specs.ViewLaws.{Grown-refl}
+use Rattle.node_store.specs.Work.{Adds, IsWork, Moves}
+use Rattle.node_store.specs.WorkLaws.{IsPart-grown, IsWork-grown}
+use Rattle.node_store.specs.declared.operator.Halt.{Halt}
+use Rattle.node_store.specs.declared.operator.Halt.TheVariants.{Memory, Full, Overflow}
+
+-- work under another name
+pub IsWork-named : {P Q : Denoted → Type 0} → ((f : Denoted) → P f → Q f) → {w : View} {o : Option Denoted} → IsWork w P o → IsWork w Q o
+IsWork-named {P} {Q} more {w} {o} i = IsWork-grown (Grown-refl w) P Q more o i
+
+-- what an operator on a call's operands did, by the work at its start
+pub runs : {Roots : View → Type 0} {Work : View → Denoted → Type 0} {Q : Denoted → Type 0} {IsAnswer : Edge → Type 0} {IsOver : Type 0} {old new : View} {r : Result Edge Halt}
+    → Moves Roots Work old new → Roots old → ((f : Denoted) → Work new f → Q f)
+    → IfOk r IsAnswer → (IsErrOf r Overflow → IsOver) → (IsErrOf r Memory → old.may_want_memory ≡ true) → (IsErrOf r Full → Rose old new) → (IsErrOf r Full → IsWork new (Work new) new.due)
+    → RunsTo IsAnswer IsOver Q old new r
+runs moves roots back answer overflow memory full due = record {
+  grown = moves.grown;
+  room = tt;
+  answer = answer;
+  overflow = overflow;
+  work = λ s here. elim (moves.work roots s here) [ inl old ↦ inl old | inr i ↦ inr (IsWork-named back i) ];
+  memory = λ is. inr (memory is);
+  full = full;
+  due = λ is. IsWork-named back (due is);
+}
+
+-- calls that make nothing, before and after a run
+pub Adds-between : (P Q : Denoted → Type 0) → ((f : Denoted) → P f → Q f) → (a b c d : View) → Kept a b → Kept c d → Adds P b c → Adds Q a d
+Adds-between P Q more a b c d before after adds s here =
+    elim (adds s (ap (λ (x : ℕ → Bool). x s) (sym after.made) ∙ here)) [
+      | inl old ↦ inl (ap (λ (x : ℕ → Bool). x s) (sym before.made) ∙ old)
+      | inr i ↦ inr (record {
+        kind = i.kind;
+        root = i.root;
+        part = i.part;
+        asked = more (function_of i.kind i.root) i.asked;
+        is_part = IsPart-grown i.kind after.grown i.root i.part i.is_part;
+        is = elim i.is [ inl e ↦ inl (after.grown.content s (function_of i.kind i.part) e) | inr e ↦ inr (after.grown.content s (opposite (function_of i.kind i.part)) e) ];
+      })
+    ]
+
+pub IsWork-between : (P Q : Denoted → Type 0) → ((f : Denoted) → P f → Q f) → (c d : View) → Kept c d → IsWork c P c.due → IsWork d Q d.due
+IsWork-between P Q more c d after i = subst (IsWork d Q) (sym after.due) (IsWork-grown after.grown P Q more c.due i)
