@@ -9,3 +9,4 @@ pub mod TwoWork
 pub mod ComplementWork
 pub mod ThreeParts
 pub mod ThreeWork
+pub mod Literals

@@ -1,10 +1,12 @@
 -- What a run of an operator on a stack promises, and what stays of it around the run.
-use Rattle.std.proofs.Common.{◌≡◌, ℕ, Bool, true, Option, Some, ◌⊎◌, inl, inr, Result, IfOk, ap, sym, ◌∙◌, subst}
+use Rattle.std.proofs.Common.{◌≡◌, ℕ, Bool, true, Option, inl, inr, Result, Ok, Err, IfOk, refl, ap, sym, ◌∙◌, subst}
 use Rattle.std.specs.Prelude.{IsErrOf}
 use Rattle.edge_bits.specs.declared.edges.Edge.{Edge}
-use Rattle.function_laws.specs.Kinds.{Denoted, function_of, opposite}
+use Rattle.edge_bits.specs.declared.edges.Kind.{Kind}
+use Rattle.function_laws.specs.Kinds.{Denoted, ValueOf, function_of, opposite}
 use Rattle.node_store.specs.Operations.{RunsTo}
-use Rattle.node_store.specs.Views.{View, Grown, Kept, Rose}
+use Rattle.node_store.specs.Views.{View, Denotes, Kept, Rose}
+use Rattle.node_store.specs.Stacks.{Scratch}
 use Rattle.node_store.specs.ViewLaws.{Grown-refl}
 use Rattle.node_store.specs.Work.{Adds, IsWork, Moves}
 use Rattle.node_store.specs.WorkLaws.{IsPart-grown, IsWork-grown}
@@ -48,3 +50,16 @@ Adds-between P Q more a b c d before after adds s here =
 
 pub IsWork-between : (P Q : Denoted → Type 0) → ((f : Denoted) → P f → Q f) → (c d : View) → Kept c d → IsWork c P c.due → IsWork d Q d.due
 IsWork-between P Q more c d after i = subst (IsWork d Q) (sym after.due) (IsWork-grown after.grown P Q more c.due i)
+
+-- an answer under another name of its function
+pub same_answer : (k : Kind) (w : View) (f g : ℕ → ValueOf k) → f ≡ g → (r : Result Edge Halt) → IfOk r (λ e. Denotes k w e f) → IfOk r (λ e. Denotes k w e g)
+same_answer k w f g same r ok = subst (λ h. IfOk r (λ e. Denotes k w e h)) same ok
+
+-- nothing of the scratch changed
+pub same_scratch : (old new : Scratch) → new.frames ≡ old.frames → new.free ≡ old.free → new.answers ≡ old.answers → new.marks ≡ old.marks → new ≡ old
+same_scratch old new frames free answers marks = rw (frames, free, answers, marks) refl
+
+-- an answer that lasts
+pub lasting : (P Q : Edge → Type 0) (r : Result Edge Halt) → ((e : Edge) → P e → Q e) → IfOk r P → IfOk r Q
+lasting P Q (Ok e) more ok = more e ok
+lasting P Q (Err _) more ok = tt

@@ -1,16 +1,17 @@
 -- The parts of tasks of if-then-else, and the nodes of their answers.
 use Rattle.std.proofs.Common.{◌≡◌, ℕ, ◌<◌, ◌≤◌, Bool, true, false, cond, inl, inr, ℤ, refl, ap, sym, ◌∙◌, subst, arith}
-use Rattle.std.specs.Prelude.{min, nat_le, if◌then◌else◌, Option, Some, None, IfNone}
+use Rattle.std.specs.Prelude.{min, nat_le, if◌then◌else◌, Option, Some, None}
 use Rattle.edge_bits.specs.declared.edges.Edge.{Edge}
 use Rattle.edge_bits.specs.declared.edges.Kind.{Kind}
 use Rattle.edge_bits.specs.declared.edges.Kind.TheVariants.{Bdd, Add, Zdd}
 use Rattle.edge_bits.specs.Assignments.{set_bit}
+use Rattle.edge_bits.specs.Permanent.{true_slot}
 use Rattle.function_laws.specs.Values.{if_then_else, negation, choice, IsFree}
 use Rattle.function_laws.proofs.ValueLemmas.{ite-choice}
 use Rattle.function_laws.specs.Kinds.{ValueOf, Lacks, joined_at}
 use Rattle.node_store.specs.Edges.{flip_if}
-use Rattle.node_store.specs.Views.{View, levels, IsVariable, Denotes, values_at, IsBelow, Grown, CanMake, CanPart, PartsAt, node_values, IsLeafOf, logic_one, logic_zero}
-use Rattle.node_store.specs.ViewLaws.{Grown-trans, Is-grown, Is-from, values_at-is, values_at-grown, Denotes-flip, top-grown, level-grown, levels-grown, IsVariable-grown}
+use Rattle.node_store.specs.Views.{View, levels, IsVariable, Denotes, values_at, IsBelow, Grown, CanMake, PartsAt, node_values, IsLeafOf, logic_one, logic_zero}
+use Rattle.node_store.specs.ViewLaws.{Grown-trans, Is-from, values_at-is, Denotes-flip, top-grown, levels-grown}
 use Rattle.node_store.specs.Work.{IsPart}
 use Rattle.node_store.specs.WorkLaws.{IsPart-half, IsPart-not}
 use Rattle.node_store.specs.Splits.{Leads, Branches}
@@ -19,9 +20,10 @@ use Rattle.node_store.specs.ThreeLaws.{ite_at-grown, ThreeDue-stays}
 use Rattle.node_store.specs.Tops.{TopIs, upper_of}
 use Rattle.node_store.specs.declared.binary.Branch.{Branch}
 use Rattle.node_store.specs.declared.operator.Task.{Task}
+use Rattle.node_store.specs.Operands.{IsSplitThree}
+use Rattle.node_store.specs.declared.parts.Halves.{Halves}
 use Rattle.node_store.specs.declared.parts.Top.{Top}
 use Rattle.node_store.proofs.ComplementWork.{negation-negation}
-use Rattle.node_store.proofs.TwoParts.{PartsAt-grown}
 
 -- a variable of the kind is one of BDDs
 pub bdd_variable : (k : Kind) → IsOnVariables k → (w : View) (v : ℕ) → IsVariable k w v → IsVariable Bdd w v
@@ -163,75 +165,28 @@ HasTop-bdd k on w n (Some t) p = record { in_range = variable_of k on w t.var p.
 HasTop-bdd k on w n None p = p ∙ sym (bdd_levels k on w)
 
 -- a leaf of BDDs stands in slot 0
-pub bdd_leaf_index : (e : Edge) (f : ℕ → Bool) (x : ℤ) → IsLeafOf Bdd e f x → e.index ≡ 0
+pub bdd_leaf_index : (e : Edge) (f : ℕ → Bool) (x : ℤ) → IsLeafOf Bdd e f x → e.index ≡ true_slot
 bdd_leaf_index _ _ _ logic_one = refl
 bdd_leaf_index _ _ _ logic_zero = refl
 
-if_none : {P : Type 0} (t : Option Top) → P → IfNone t P
-if_none None p = p
-if_none (Some t) p = tt
-
 -- there is no top only where the condition is a leaf
-pub no_top : (w : View) (f : Edge) (F : ℕ → Bool) (a b t : Option Top) → TopIs Bdd w f F a → t ≡ upper_of a b → IfNone t (f.index ≡ 0)
-no_top w f F None b t p is = if_none t (bdd_leaf_index f F p.0 p.1.leaf)
-no_top w f F (Some a) None t p is = rw is tt
-no_top w f F (Some a) (Some b) t p is = rw is tt
+pub no_top : (w : View) (f : Edge) (F : ℕ → Bool) (a b : Option Top) → TopIs Bdd w f F a → upper_of a b ≡ None → f.index ≡ true_slot
+no_top w f F None b p is = bdd_leaf_index f F p.0 p.1.leaf
+no_top w f F (Some a) None p is = cc
+no_top w f F (Some a) (Some b) p is = cc
 
 -- the parts of each operand at the top variable
-pub CanPart-grown : (k : Kind) {v w : View} {e : Edge} {x : ℕ} → Grown v w → CanPart k v e x → CanPart k w e x
-CanPart-grown k {v} {w} {e} {x} m p =
-    let a = p.above in let b = p.within in
-    let t = top-grown k m p.edge in let l = level-grown m x in let n = levels-grown k m in
-    record { edge = Is-grown k m p.edge; in_range = IsVariable-grown k m x p.in_range; above = omega arith; within = omega arith }
-
-pub CanPart-condition : (k : Kind) → IsOnVariables k → (w : View) (t : Task) (top : Top) → IsTopAt k w (least_top w t) top → AreThree k w t.f t.g t.h → CanPart Bdd w t.f top.var
-CanPart-condition k on w t top p d =
-    let here = p.here in
-    record { edge = d.condition; in_range = bdd_variable k on w top.var p.in_range; above = omega arith; within = rw (sym (bdd_levels k on w)) p.within }
-
-pub CanPart-first : (k : Kind) (w : View) (t : Task) (top : Top) → IsTopAt k w (least_top w t) top → AreThree k w t.f t.g t.h → CanPart k w t.g top.var
-CanPart-first k w t top p d =
-    let here = p.here in
-    record { edge = d.first; in_range = p.in_range; above = omega arith; within = p.within }
-
-pub CanPart-second : (k : Kind) (w : View) (t : Task) (top : Top) → IsTopAt k w (least_top w t) top → AreThree k w t.f t.g t.h → CanPart k w t.h top.var
-CanPart-second k w t top p d =
-    let here = p.here in
-    record { edge = d.second; in_range = p.in_range; above = omega arith; within = p.within }
-
-pub Three-branch : (k : Kind) → IsOnVariables k → (w : View) (t hi lo : Task) (v : ℕ) (flip : Bool)
-    → IsVariable k w v → w.level v < levels k w → w.level v ≡ least_top w t
-    → PartsAt Bdd w t.f (values_at Bdd w t.f) v hi.f lo.f → PartsAt k w t.g (values_at k w t.g) v hi.g lo.g → PartsAt k w t.h (values_at k w t.h) v hi.h lo.h
-    → IsBranch k w t flip (record { task = t; flip = flip; var = v; hi = hi; lo = lo })
-Three-branch k on w t hi lo v flip vn within here pf pg ph =
+pub Three-halves : (k : Kind) → IsOnVariables k → (w : View) (t : Task) (h : Halves) → IsTopAt k w (least_top w t) h.top
+    → PartsAt Bdd w t.f (values_at Bdd w t.f) h.top.var h.hi.f h.lo.f → PartsAt k w t.g (values_at k w t.g) h.top.var h.hi.g h.lo.g → PartsAt k w t.h (values_at k w t.h) h.top.var h.hi.h h.lo.h
+    → IsSplitThree k w t h
+Three-halves k on w t h p pf pg ph =
     let hf = pf.hi_top in let lf = pf.lo_top in let hg = pg.hi_top in let lg = pg.lo_top in let hh = ph.hi_top in let lh = ph.lo_top in
+    let here = p.here in let within = p.within in
     record {
-      task = refl;
-      flip = refl;
-      splits = record { in_range = vn; f = pf.splits; g = pg.splits; h = ph.splits };
+      splits = record { in_range = p.in_range; f = pf.splits; g = pg.splits; h = ph.splits };
       hi_less = omega arith;
       lo_less = omega arith;
     }
-
--- from the views of the three openings to the last
-pub Three-split : (k : Kind) → IsOnVariables k → (v1 v2 v3 v4 : View) (t : Task) (top : Top) (flip : Bool) (f1 f0 g1 g0 h1 h0 : Edge)
-    → AreThree k v1 t.f t.g t.h → IsTopAt k v1 (least_top v1 t) top
-    → Grown v1 v2 → PartsAt Bdd v2 t.f (values_at Bdd v1 t.f) top.var f1 f0
-    → Grown v2 v3 → PartsAt k v3 t.g (values_at k v2 t.g) top.var g1 g0
-    → Grown v3 v4 → PartsAt k v4 t.h (values_at k v3 t.h) top.var h1 h0
-    → IsBranch k v4 t flip (record { task = t; flip = flip; var = top.var; hi = record { f = f1; g = g1; h = h1 }; lo = record { f = f0; g = g0; h = h0 } })
-Three-split k on v1 v2 v3 v4 t top flip f1 f0 g1 g0 h1 h0 d p m2 pf m3 pg m4 ph =
-    let m = Grown-trans m2 (Grown-trans m3 m4) in
-    let m12 = Grown-trans m2 m3 in
-    let m34 = Grown-trans m3 m4 in
-    let tf = top-grown Bdd m d.condition in let tg = top-grown k m d.first in let th = top-grown k m d.second in
-    let l = level-grown m top.var in let n = levels-grown k m in
-    let here = p.here in let within = p.within in
-    Three-branch k on v4 t (record { f = f1; g = g1; h = h1 }) (record { f = f0; g = g0; h = h0 }) top.var flip
-    (IsVariable-grown k m top.var p.in_range) (omega arith) (omega arith)
-    (rw (values_at-grown Bdd m d.condition) (PartsAt-grown Bdd m34 pf))
-    (rw (values_at-grown k m34 (Is-grown k m2 d.first)) (PartsAt-grown k m4 pg))
-    (rw (values_at-grown k m4 (Is-grown k m12 d.second)) ph)
 
 -- the two parts of a task's normal form
 pub Three-branches : (k : Kind) → IsOnVariables k → (f g h : Edge) (v w : View) (root t : Task) (flip : Bool) (b : Branch)

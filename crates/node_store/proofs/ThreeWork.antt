@@ -1,16 +1,15 @@
 -- What if-then-else stores is part of its value.
-use Rattle.std.proofs.Common.{◌≡◌, ℕ, ◌≤◌, Bool, true, Option, Some, ◌⊎◌, inl, inr, refl, ap, sym, ◌∙◌, subst}
+use Rattle.std.proofs.Common.{◌≡◌, ℕ, ◌≤◌, Bool, true, Option, Some, ◌⊎◌, inl, inr, refl, sym, subst}
 use Rattle.edge_bits.specs.declared.edges.Edge.{Edge}
 use Rattle.computed_cache.specs.declared.Key.{Key}
 use Rattle.edge_bits.specs.declared.edges.Kind.{Kind}
 use Rattle.edge_bits.specs.declared.edges.Kind.TheVariants.{Bdd, Add, Zdd}
 use Rattle.function_laws.specs.Values.{negation}
 use Rattle.node_store.specs.Edges.{flip_if}
-use Rattle.function_laws.specs.Kinds.{Denoted, BddFunction, ValueOf, function_of, opposite}
-use Rattle.node_store.specs.Views.{View, Grown, Kept, Denotes, IsKey}
-use Rattle.node_store.specs.ViewLaws.{Grown-refl}
-use Rattle.node_store.specs.Work.{IsPart, IsWork, Adds, Moves}
-use Rattle.node_store.specs.WorkLaws.{IsPart-grown, IsWork-grown, IsWork-edge, IsWork-due}
+use Rattle.function_laws.specs.Kinds.{Denoted, BddFunction, ValueOf, function_of}
+use Rattle.node_store.specs.Views.{View, Grown, Denotes, IsKey}
+use Rattle.node_store.specs.Work.{IsPart, IsWork, Moves}
+use Rattle.node_store.specs.WorkLaws.{IsWork-edge, IsWork-due}
 use Rattle.node_store.specs.Three.{ite_at, AreThree, ThreeDue, value_of_three, IsPartOrComplement, IsNormal}
 use Rattle.node_store.specs.ThreeLaws.{ite_at-grown, IsPartOrComplement-grown}
 use Rattle.node_store.specs.Memo.{IteHolds}

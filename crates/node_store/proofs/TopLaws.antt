@@ -1,10 +1,10 @@
 -- The upper one of two top variables.
-use Rattle.std.proofs.Common.{◌≡◌, ℕ, ◌<◌, ◌≤◌, Bool, true, false, inl, inr, Option, Some, None, IfSome, IfNone, refl, sym, ◌∙◌, arith}
+use Rattle.std.proofs.Common.{◌≡◌, ℕ, ◌<◌, ◌≤◌, Bool, true, false, inl, inr, Option, Some, None, IfSome, refl, sym, ◌∙◌, arith}
 use Rattle.std.specs.Prelude.{nat_le, if◌then◌else◌}
 use Rattle.edge_bits.specs.declared.edges.Edge.{Edge}
 use Rattle.edge_bits.specs.declared.edges.Kind.{Kind}
 use Rattle.function_laws.specs.Kinds.{ValueOf}
-use Rattle.node_store.specs.Views.{View, IsTop, NotBothLeaves, AreTwo, Grown, Is, values_at}
+use Rattle.node_store.specs.Views.{View, IsTop, Grown, Is, values_at}
 use Rattle.node_store.specs.ViewLaws.{IsVariable-grown, level-grown, levels-grown, top-grown}
 use Rattle.node_store.specs.Tops.{TopIs, upper_of}
 use Rattle.node_store.specs.declared.parts.Top.{Top}
@@ -16,14 +16,7 @@ TopIs-grown k {v} {w} {e} f m d (Some t) p =
     record { in_range = IsVariable-grown k m t.var p.in_range; level = omega arith; here = omega arith; within = omega arith }
 TopIs-grown k {v} {w} {e} f m d None p = (p.0, record { leaf = p.1.leaf; here = top-grown k m d ∙ p.1.here ∙ sym (levels-grown k m) })
 
-none_is : (k : Kind) (w : View) (f g : Edge) (a b : Option Top) → TopIs k w f (values_at k w f) a → TopIs k w g (values_at k w g) b
-    → (t : Option Top) → t ≡ upper_of a b → IfNone t (NotBothLeaves k w f g → ⊥)
-none_is k w f g None None p q t is = rw is (λ no. no p.0 q.0 p.1 q.1)
-none_is k w f g None (Some b) p q t is = rw is tt
-none_is k w f g (Some a) None p q t is = rw is tt
-none_is k w f g (Some a) (Some b) p q t is = rw is tt
-
-some_is : (k : Kind) (w : View) (f g : Edge) (a b : Option Top) → TopIs k w f (values_at k w f) a → TopIs k w g (values_at k w g) b
+pub some_is : (k : Kind) (w : View) (f g : Edge) (a b : Option Top) → TopIs k w f (values_at k w f) a → TopIs k w g (values_at k w g) b
     → (t : Option Top) → t ≡ upper_of a b → IfSome t (λ t. IsTop k w f g t.var)
 some_is k w f g None None p q t is = rw is tt
 some_is k w f g None (Some b) p q t is =
@@ -44,21 +37,7 @@ some_is k w f g (Some a) (Some b) p q t is = rw is (by_test (nat_le a.level b.le
         let x = p.here in let y = q.here in let u = p.level in let v = q.level in
         record { in_range = q.in_range; within = q.within; above_f = omega arith; above_g = omega arith; touches = inr (omega arith) }
 
--- what is known of both tops, for each kind that the edges may have
-abbrev pub BothTops : View → View → Edge → Edge → Option Top → Option Top → Type 0
-BothTops v w f g a b = (k : Kind) → AreTwo k v f g → TopIs k w f (values_at k w f) a × TopIs k w g (values_at k w g) b
-
-pub upper-none : (v w : View) (f g : Edge) (a b : Option Top) → BothTops v w f g a b → (t : Option Top) → t ≡ upper_of a b
-    → IfNone t ((k : Kind) → AreTwo k v f g → NotBothLeaves k w f g → ⊥)
-upper-none v w f g a b both None is = λ k two no. none_is k w f g a b (both k two).0 (both k two).1 None is no
-upper-none v w f g a b both (Some t) is = tt
-
-pub upper-some : (v w : View) (f g : Edge) (a b : Option Top) → BothTops v w f g a b → (t : Option Top) → t ≡ upper_of a b
-    → IfSome t (λ t. (k : Kind) → AreTwo k v f g → IsTop k w f g t.var)
-upper-some v w f g a b both None is = tt
-upper-some v w f g a b both (Some t) is = λ k two. some_is k w f g a b (both k two).0 (both k two).1 (Some t) is
-
-has_level : (k : Kind) (w : View) (f g : Edge) (a b : Option Top) → TopIs k w f (values_at k w f) a → TopIs k w g (values_at k w g) b
+pub has_level : (k : Kind) (w : View) (f g : Edge) (a b : Option Top) → TopIs k w f (values_at k w f) a → TopIs k w g (values_at k w g) b
     → (t : Option Top) → t ≡ upper_of a b → IfSome t (λ t. t.level ≡ w.level t.var)
 has_level k w f g None None p q t is = rw is tt
 has_level k w f g None (Some b) p q t is = rw is q.level
@@ -68,7 +47,3 @@ has_level k w f g (Some a) (Some b) p q t is = rw is (by_test (nat_le a.level b.
     by_test : (c : Bool) → (if c then a else b).level ≡ w.level (if c then a else b).var
     by_test true = p.level
     by_test false = q.level
-
-pub upper-level : (k : Kind) (v w : View) (f g : Edge) (a b : Option Top) → AreTwo k v f g → BothTops v w f g a b → (t : Option Top) → t ≡ upper_of a b
-    → IfSome t (λ t. t.level ≡ w.level t.var)
-upper-level k v w f g a b two both t is = has_level k w f g a b (both k two).0 (both k two).1 t is

@@ -11,13 +11,15 @@ use Rattle.function_laws.specs.Families.{base, IsWithout}
 use Rattle.function_laws.proofs.ValueLemmas.{everywhere}
 use Rattle.function_laws.specs.Kinds.{ValueOf, Lacks, absent_part, Keeps}
 use Rattle.node_store.specs.Views.{View, levels, IsVariable, Denotes, Is, values_at, IsBelow, Grown, Splits, CanMake, node_values, IsInner, IsLeaf, IsLeafOf, logic_one, logic_zero, number, no_member, only_base, Permanent, PartsAt, IsTop, AreTwo}
-use Rattle.node_store.specs.ViewLaws.{Grown-trans, Is-from, values_at-is, values_at-grown, Splits-grown, Splits-absent, top-grown, level-grown, levels-grown, IsVariable-grown, IsBelow-inner, Denotes-empty}
+use Rattle.node_store.specs.ViewLaws.{Is-from, values_at-is, Splits-absent, IsBelow-inner, Denotes-empty}
 use Rattle.node_store.specs.Two.{place_at, IsOrderFor, TwoAnswers, TwoSplits, two_depth, TwoDue, Overflows}
 use Rattle.node_store.specs.Parts.{absent_edge}
 use Rattle.node_store.specs.Splits.{Leads, Branches}
+use Rattle.node_store.specs.Operands.{HalvesOfTwo}
 use Rattle.node_store.specs.declared.operator.Task.{Task}
+use Rattle.node_store.specs.declared.parts.Halves.{Halves}
 use Rattle.node_store.specs.declared.binary.Branch.{Branch}
-use Rattle.node_store.specs.TwoLaws.{place_at-grown, TwoDue-stays, AreTwo-grown, Two-is, Two-hi_below, Two-lo_below, TwoDue-hi, TwoDue-lo}
+use Rattle.node_store.specs.TwoLaws.{place_at-grown, TwoDue-stays, Two-is, Two-hi_below, Two-lo_below, TwoDue-hi, TwoDue-lo}
 
 -- the node of both answers
 pub Two-can_make : (k : Kind) (op : ValueOf k → ValueOf k → ValueOf k) → Keeps k op → {w : View} {t hi lo : Task} {x : ℕ} {a b : Edge}
@@ -73,7 +75,7 @@ Leads-order k op w t u is = record {
 }
 
 -- leaves are below each variable
-bit-zero : (e : ℕ) → bit 0 e ≡ false
+pub bit-zero : (e : ℕ) → bit 0 e ≡ false
 bit-zero e = ap (λ (n : ℕ). eqb n 1) (bit_at-zero e)
 
 base-without : (e : ℕ) → IsWithout base e
@@ -122,24 +124,6 @@ PartsAt-leaf k w p v e f x vn d same i within =
     let lt : w.level v < w.top e.index = omega arith in
     PartsAt-absent k w p v e f vn d same (λ u un le. Lacks-leaf k e f x i.leaf u) within lt
 
-pub PartsAt-grown : (k : Kind) {v w : View} {e hi lo : Edge} {f : ℕ → ValueOf k} {x : ℕ} → Grown v w → PartsAt k v e f x hi lo → PartsAt k w e f x hi lo
-PartsAt-grown k {v} {w} {e} {hi} {lo} {f} {x} g p =
-    let h = p.hi_top in let l = p.lo_top in
-    let th = top-grown k g p.splits.hi_is in let tl = top-grown k g p.splits.lo_is in let lv = level-grown g x in
-    record { splits = Splits-grown k g p.splits; hi_top = omega arith; lo_top = omega arith }
-
-pub IsTop-grown : (k : Kind) {v w : View} {f g : Edge} {x : ℕ} → Grown v w → AreTwo k v f g → IsTop k v f g x → IsTop k w f g x
-IsTop-grown k {v} {w} {f} {g} {x} m d t =
-    let tf = top-grown k m d.first in let tg = top-grown k m d.second in let lv = level-grown m x in let n = levels-grown k m in
-    let j = t.within in let a = t.above_f in let b = t.above_g in
-    record {
-      in_range = IsVariable-grown k m x t.in_range;
-      within = omega arith;
-      above_f = omega arith;
-      above_g = omega arith;
-      touches = elim t.touches [ inl h ↦ inl (omega arith) | inr h ↦ inr (omega arith) ];
-    }
-
 -- the two parts of a task at its top variable, in the view where both are known
 pub Two-branches : (k : Kind) (op : ValueOf k → ValueOf k → ValueOf k) → Keeps k op → (f g : Edge) (w : View) (t : Task) (b : Branch)
     → TwoDue k op f g w t → IsOrderFor op t.f t.g b.task.f b.task.g → b.flip ≡ false → IsTop k w b.task.f b.task.g b.var
@@ -162,22 +146,12 @@ Two-branches k op keeps f g w t b due is flip top pf pg =
       lo_less = omega arith;
     }
 
--- what an operator of two functions learns on the way, from view to view
-pub Two-expand : (k : Kind) (op : ValueOf k → ValueOf k → ValueOf k) → Keeps k op → (f g : Edge) (v0 v1 v2 v3 : View) (t : Task) (b : Branch) (f1 f0 g1 g0 : Edge)
-    → TwoDue k op f g v0 t → IsOrderFor op t.f t.g b.task.f b.task.g → b.flip ≡ false
-    → Grown v0 v1 → IsTop k v1 b.task.f b.task.g b.var
-    → Grown v1 v2 → PartsAt k v2 b.task.f (values_at k v1 b.task.f) b.var f1 f0
-    → Grown v2 v3 → PartsAt k v3 b.task.g (values_at k v2 b.task.g) b.var g1 g0
-    → b.hi.f ≡ f1 → b.hi.g ≡ g1 → b.lo.f ≡ f0 → b.lo.g ≡ g0
-    → Branches (TwoDue k op f g) (TwoAnswers k op) (λ x t. Overflows k (place_at k op x t.f t.g)) (TwoSplits k) (two_depth k) v3 t b
-Two-expand k op keeps f g v0 v1 v2 v3 t b f1 f0 g1 g0 due is flip m1 top m2 pf m3 pg ef1 eg1 ef0 eg0 =
-    let two1 = AreTwo-grown k m1 (AreTwo-order k op v0 t.f t.g b.task.f b.task.g is due.two) in
-    let two2 = AreTwo-grown k m2 two1 in
-    let m13 = Grown-trans m2 m3 in
-    Two-branches k op keeps f g v3 t b (TwoDue-stays k op f g v0 v3 t (Grown-trans m1 m13) due) is flip
-    (IsTop-grown k m13 two1 top)
-    (rw (ef1, ef0, values_at-grown k m13 two1.first) (PartsAt-grown k m3 pf))
-    (rw (eg1, eg0, values_at-grown k m3 two2.second) pg)
+-- the parts of a call's task whose operands were arranged
+pub Two-split : (k : Kind) (op : ValueOf k → ValueOf k → ValueOf k) → Keeps k op → (f g : Edge) (v w : View) (t u : Task) (h : Halves)
+    → TwoDue k op f g v t → IsOrderFor op t.f t.g u.f u.g → Grown v w → HalvesOfTwo k w u.f u.g h
+    → Branches (TwoDue k op f g) (TwoAnswers k op) (λ x t. Overflows k (place_at k op x t.f t.g)) (TwoSplits k) (two_depth k) w t (record { task = u; flip = false; var = h.top.var; hi = h.hi; lo = h.lo })
+Two-split k op keeps f g v w t u h due is m p =
+    Two-branches k op keeps f g w t (record { task = u; flip = false; var = h.top.var; hi = h.hi; lo = h.lo }) (TwoDue-stays k op f g v w t m due) is refl p.top p.f p.g
 
 pub PartsAt-own : (k : Kind) (w : View) (v : ℕ) (e : Edge) (f : ℕ → ValueOf k) (u : ℕ) (hi lo : Edge) → u ≡ v → IsInner k w e f u hi lo → PartsAt k w e f v hi lo
 PartsAt-own k w v e f u hi lo same i = subst (λ x. PartsAt k w e f x hi lo) same (record { splits = i.splits; hi_top = i.hi_top; lo_top = i.lo_top })

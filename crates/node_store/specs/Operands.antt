@@ -2,7 +2,6 @@
 use Rattle.std.specs.Prelude.{◌≡◌, ℕ, ◌<◌, ◌≤◌, ℤ, pos}
 use Rattle.edge_bits.specs.declared.edges.Edge.{Edge}
 use Rattle.edge_bits.specs.declared.edges.Kind.{Kind}
-use Rattle.edge_bits.specs.declared.edges.Kind.TheVariants.{Bdd}
 use Rattle.node_store.specs.Three.{ThreeSplits, three_depth}
 use Rattle.node_store.specs.Tops.{TopIs}
 use Rattle.node_store.specs.Views.{View, Is, IsLeaf, IsTop, IsVariable, Opens, PartsAt, Permanent, levels, values_at}

@@ -1,6 +1,5 @@
 -- The answers of a call's own table stay answers.
-use Rattle.std.proofs.Common.{◌≡◌, ℕ, inl, inr, List, Option, Some, None, refl, ap, sym, ◌∙◌, subst}
-use Rattle.std.specs.Prelude.{slice_index_or}
+use Rattle.std.proofs.Common.{◌≡◌, inl, inr, List, Option, Some, None, refl, ap, sym, ◌∙◌, subst}
 use Rattle.edge_bits.specs.declared.edges.Edge.{Edge}
 use Rattle.function_laws.specs.Kinds.{Denoted}
 use Rattle.node_store.specs.Views.{View, Grown}

@@ -1,5 +1,6 @@
 -- Tasks of a condition and two functions of a kind: if-then-else.
 use Rattle.std.specs.Prelude.{◌≡◌, ℕ, ◌-◌, ◌<◌, ◌≤◌, Bool, true, false, min, ◌⊎◌, Option, Some, None}
+use Rattle.edge_bits.specs.Permanent.{true_slot}
 use Rattle.edge_bits.specs.declared.edges.Edge.{Edge}
 use Rattle.edge_bits.specs.declared.edges.Kind.{Kind}
 use Rattle.edge_bits.specs.declared.edges.Kind.TheVariants.{Bdd, Add, Zdd}
@@ -76,7 +77,7 @@ IsFlipped Zdd true f g = ⊥
 pub record IsNormal (k : Kind) (w : View) (f g h : Edge) (t : Task) (flip : Bool) : Type 0 where
   pub three : AreThree k w t.f t.g t.h
   pub same : IsFlipped k flip (ite_at k w f g h) (ite_at k w t.f t.g t.h)
-  pub inner : t.f.index ≡ 0 → ⊥
+  pub inner : t.f.index ≡ true_slot → ⊥
   pub depth : levels k w - least_top w t ≤ levels k w - min (w.top f.index) (min (w.top g.index) (w.top h.index))
 
 -- the answer, or a task in normal form
@@ -99,7 +100,7 @@ HasTop k w top None = top ≡ levels k w
 pub record CanSplit (k : Kind) (w : View) (t : Task) : Type 0 where
   pub on_variables : IsOnVariables k
   pub three : AreThree k w t.f t.g t.h
-  pub inner : t.f.index ≡ 0 → ⊥
+  pub inner : t.f.index ≡ true_slot → ⊥
 
 -- the parts of the task at its top variable
 pub record IsBranch (k : Kind) (w : View) (t : Task) (flipped : Bool) (b : Branch) : Type 0 where

@@ -1,10 +1,10 @@
 -- Facts that last while a store grows.
-use Rattle.std.proofs.Common.{◌≡◌, ◌≢◌, ℕ, ◌+◌, ◌<◌, Bool, true, false, not, Option, Some, None, pos, refl, ap, sym, ◌∙◌, subst, arith}
+use Rattle.std.proofs.Common.{◌≡◌, ◌≢◌, ℕ, ◌<◌, Bool, true, false, not, Option, Some, None, pos, refl, ap, sym, ◌∙◌, subst, arith}
 use Rattle.edge_bits.specs.Permanent.{base_slot, empty_edge, empty_slot, one_slot, true_slot, truth_edge, zero_slot}
 use Rattle.edge_bits.specs.declared.edges.Edge.{Edge}
 use Rattle.edge_bits.specs.declared.edges.Kind.{Kind}
 use Rattle.edge_bits.specs.declared.edges.Kind.TheVariants.{Bdd, Add, Zdd}
-use Rattle.function_laws.specs.Values.{constant, projection, negation}
+use Rattle.function_laws.specs.Values.{constant, negation}
 use Rattle.function_laws.specs.Families.{empty, base}
 use Rattle.function_laws.proofs.ValueLemmas.{everywhere}
 use Rattle.function_laws.specs.Kinds.{Denoted, BddFunction, AddFunction, ZddFamily, ValueOf, function_of, values_of, absent_part, Keeps, place, flipped}

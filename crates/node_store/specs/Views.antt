@@ -1,5 +1,5 @@
 -- What a caller knows of a store.
-use Rattle.std.specs.Prelude.{◌≡◌, ◌≢◌, ℕ, ◌+◌, ◌^◌, ◌<◌, ◌≤◌, Bool, true, false, not, Option, Some, ℤ, pos, ◌⊎◌}
+use Rattle.std.specs.Prelude.{◌≡◌, ◌≢◌, ℕ, ◌+◌, ◌^◌, ◌<◌, ◌≤◌, Bool, true, false, Option, Some, ℤ, pos, ◌⊎◌}
 use Rattle.edge_bits.specs.Permanent.{base_edge, base_slot, empty_edge, empty_slot, first_element, one_slot, true_slot, truth_edge, zero_slot}
 use Rattle.edge_bits.specs.declared.edges.Edge.{Edge}
 use Rattle.computed_cache.specs.declared.Key.{Key}

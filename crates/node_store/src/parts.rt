@@ -111,14 +111,19 @@ fn upper(first: Option<Top>, second: Option<Top>) -> Option<Top>
     }
 }
 
-/// The value of an opened leaf; 0 for a node.
-fn value_of(operand: Operand) -> i64
-    ensures { result ≡ leaf_value operand.opened }
+/// Two opened leaves, with their values; 0 in place of a node's.
+fn leaves(first: Operand, second: Operand) -> Split
+    ensures { result ≡ Split.Leaves (leaf_value first.opened) (leaf_value second.opened) }
 {
-    match operand.opened {
+    let x = match first.opened {
         Opened::Leaf(value) => value,
         Opened::Inner(_, _, _) => 0,
-    }
+    };
+    let y = match second.opened {
+        Opened::Leaf(value) => value,
+        Opened::Inner(_, _, _) => 0,
+    };
+    Split::Leaves(x, y)
 }
 
 /// The parts of two functions at the upper one of their top variables, or two leaves.
@@ -130,7 +135,7 @@ pub fn split_two<G: Grow>(store: &mut G, f: Edge, g: Edge) -> Split
     let first = look(store, f);
     let second = look(store, g);
     let Some(top) = upper(first.top, second.top) else {
-        return Split::Leaves(value_of(first), value_of(second));
+        return leaves(first, second);
     };
     let (f1, f0) = parts_of(first, top.var);
     let (g1, g0) = parts_of(second, top.var);
@@ -150,7 +155,8 @@ pub fn split_three<G: Grow>(store: &mut G, task: Task) -> Halves
     let condition = look(store, task.f);
     let first = look(store, task.g);
     let second = look(store, task.h);
-    let Some(top) = upper(condition.top, upper(first.top, second.top)) else {
+    let below = upper(first.top, second.top);
+    let Some(top) = upper(condition.top, below) else {
         unreachable!();
     };
     let (f1, f0) = parts_of(condition, top.var);
@@ -158,7 +164,15 @@ pub fn split_three<G: Grow>(store: &mut G, task: Task) -> Halves
     let (h1, h0) = parts_of(second, top.var);
     Halves {
         top,
-        hi: Task { f: f1, g: g1, h: h1 },
-        lo: Task { f: f0, g: g0, h: h0 },
+        hi: Task {
+            f: f1,
+            g: g1,
+            h: h1,
+        },
+        lo: Task {
+            f: f0,
+            g: g0,
+            h: h0,
+        },
     }
 }

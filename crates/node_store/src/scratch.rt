@@ -1,7 +1,9 @@
 //! Operations in the scratch that the store lends.
 
 ghost use Rattle.std.specs.Prelude.{◌≡◌, ◌<◌, ◌≤◌};
-ghost use Rattle.node_store.specs.Operations.{CallsTo};
+ghost use Rattle.node_store.specs.Operations.{CallsTo, Serves};
+ghost use Rattle.node_store.specs.Stacks.{levels_in};
+ghost use Rattle.node_store.specs.Views.{Permanent, levels as levels_of};
 
 use crate::grow::{Edge, Grow, Kind};
 use crate::operator::Halt;
@@ -56,6 +58,26 @@ pub trait Operation<G: Grow> {
     ghost work_back: { (o : Self) (v w : View) (f : Denoted) → Grown v w → asks o v → work o w f → work o v f };
 }
 
+/// The operation on a stack that is made large enough for so many levels.
+fn run_prepared<G: Grow, O: Operation<G> + Drop>(
+    store: &mut G,
+    stack: &mut Stack,
+    levels: u32,
+    op: O,
+) -> Result<Edge, Halt>
+    requires asks { O.asks op (G.view store.old) }
+    requires permanent { Permanent (G.view store.old) }
+    requires levels { levels ≡ levels_of O.kind (G.view store.old) }
+    ensures serves { Serves (O.answers op (G.view store.old) (G.view store.new)) (O.overflows op (G.view store.old)) (O.work op (G.view store.old)) (levels_in stack.old < levels) (levels_in stack.old ≤ levels_in stack.new) (G.view store.old) (G.view store.new) result }
+    ensures frames { stack.new.frames ≡ stack.old.frames }
+{
+    if stack.prepare(levels).is_err() {
+        return Err(Halt::Memory);
+    }
+    stack.clear_table();
+    op.run(store, stack)
+}
+
 /// The operation, in the scratch that the store lends, which is made large enough and given back.
 pub fn in_scratch<G: Grow, O: Operation<G> + Drop>(store: &mut G, op: O) -> Result<Edge, Halt>
     requires { O.asks op (G.view store.old) }
@@ -63,13 +85,7 @@ pub fn in_scratch<G: Grow, O: Operation<G> + Drop>(store: &mut G, op: O) -> Resu
 {
     let mut stack = store.take_scratch();
     let levels = store.levels(op.answer_kind());
-    let outcome = match stack.prepare(levels) {
-        Ok(()) => {
-            stack.clear_table();
-            op.run(store, &mut stack)
-        }
-        Err(_) => Err(Halt::Memory),
-    };
+    let outcome = run_prepared(store, &mut stack, levels, op);
     store.give_scratch(stack);
     outcome
 }

@@ -1,22 +1,18 @@
-use Rattle.std.proofs.Common.{inl, subst}
-use Rattle.node_store.specs.Views.{Denotes}
+use Rattle.std.proofs.Common.{inl}
 use Rattle.node_store.specs.Work.{whole}
-use Rattle.node_store.specs.HaltLaws.{without_overflow_gives}
-use Rattle.node_store.specs.ThreeLaws.{ite_at-grown}
-use Rattle.node_store.proofs.ThreeWork.{Three-due_start, Three-adds_start}
+use Rattle.node_store.specs.ThreeLaws.{ite_at-grown, value_of_three-back}
+use Rattle.node_store.proofs.Running.{runs, same_answer, same_scratch}
 use Rattle.node_store.proofs.conditional.if_then_else.Goals as goal
 
 pub evaluate-requires-clause-due : goal.evaluate-requires-clause-due
 evaluate-requires-clause-due g c = record { permanent = c.requires.permanent; roots = c.requires.operands; three = c.requires.operands; part = inl whole }
 
-pub returns-clause-answer : goal.returns-clause-answer
-returns-clause-answer g c =
-    let k = g.O.IfThenElse.kind in let e = c.evaluate.ensures in
-    without_overflow_gives _ _ _ _ (λ x a. subst (λ f. Denotes k (g.G.Grow.view c.evaluate.new.store) x f) (ite_at-grown k e.moved.moves.grown c.requires.operands) a) c.without_overflow.ensures.ok e.answer
+pub returns-clause-runs : goal.returns-clause-runs
+returns-clause-runs g c =
+    let k = g.O.IfThenElse.kind in let r = c.evaluate.ensures in
+    let m = r.moved.moves.grown in
+    runs r.moved.moves c.requires.operands (λ F is. value_of_three-back k c.args.f c.args.g c.args.h _ _ F m c.requires.operands is)
+    (same_answer k _ _ _ (ite_at-grown k m c.requires.operands) c.evaluate.result r.answer) (λ over. absurd (r.overflow over)) r.memory r.full r.due
 
-pub returns-clause-work : goal.returns-clause-work
-returns-clause-work g c = Three-adds_start g.O.IfThenElse.kind c.args.f c.args.g c.args.h _ _ c.requires.operands c.evaluate.ensures.moved.moves
-
-pub returns-clause-due : goal.returns-clause-due
-returns-clause-due g c = let e = c.evaluate.ensures in λ is.
-    Three-due_start g.O.IfThenElse.kind c.args.f c.args.g c.args.h _ _ e.moved.moves.grown c.requires.operands _ (e.due (c.without_overflow.ensures.full is))
+pub returns-clause-stack : goal.returns-clause-stack
+returns-clause-stack g c = let r = c.evaluate.ensures in same_scratch _ _ r.frames r.free r.moved.known r.moved.marks

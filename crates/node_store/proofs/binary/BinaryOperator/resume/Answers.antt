@@ -1,3 +1,5 @@
+use Rattle.std.proofs.Common.{ap}
+use Rattle.node_store.specs.Stacks.{Scratch}
 use Rattle.node_store.specs.ViewLaws.{Grown-trans}
 use Rattle.node_store.specs.WorkLaws.{Moves-both, Moves-kept}
 use Rattle.node_store.proofs.binary.BinaryOperator.resume.Goals as goal
@@ -15,7 +17,8 @@ returns-in_ok-edge-in-Second-clause-moved g c =
     let e = c.in_ok-edge-in-Second.ensures in
     record {
       moves = Moves-both (a.roots op) (a.work op) (m.roots_stay op) (m.work_stays op) _ _ _ e.moved (Moves-kept (a.roots op) (a.work op) _ _ c.finish-in-Second.ensures.kept);
-      known = e.known;
+      known = ap (λ (s : Scratch). s.answers) e.stack;
+      marks = ap (λ (s : Scratch). s.marks) e.stack;
     }
 
 pub returns-in_ok-edge-in-Second-clause-next : goal.returns-in_ok-edge-in-Second-clause-next

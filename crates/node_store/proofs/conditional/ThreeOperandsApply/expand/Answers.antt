@@ -6,8 +6,8 @@ use Rattle.node_store.proofs.ThreeParts.{Three-branches}
 use Rattle.node_store.proofs.ThreeWork.{Ite-hit}
 use Rattle.node_store.proofs.conditional.ThreeOperandsApply.expand.Goals as goal
 
-pub split-requires : goal.split-requires
-split-requires g c =
+pub branch-store-requires : goal.branch-store-requires
+branch-store-requires g c =
     let k = g.O.IfThenElse.kind in
     let n = c.in-Normal.ensures _ c.requires.permanent c.requires.three in
     (k, record { on_variables = g.met.O.IfThenElse.on_variables; three = AreThree-grown k c.in-None.ensures.kept.grown n.three; inner = n.inner })
@@ -27,4 +27,4 @@ returns-in-None-clause-expanded g c =
     let n = c.in-Normal.ensures _ c.requires.permanent c.requires.three in
     let m = c.in-None.ensures.kept.grown in
     let can : CanSplit k (g.G.Grow.view c.memo_get.new.self) c.in-Normal.normal = record { on_variables = on; three = AreThree-grown k m n.three; inner = n.inner } in
-    Three-branches k on o.f o.g o.h _ _ c.args.task c.in-Normal.normal c.in-Normal.flip c.split.result c.requires (Grown-trans m c.split.ensures.kept.grown) n (c.split.ensures.branch k can)
+    Three-branches k on o.f o.g o.h _ _ c.args.task c.in-Normal.normal c.in-Normal.flip c.branch-store.result c.requires (Grown-trans m c.branch-store.ensures.kept.grown) n (c.branch-store.ensures.branch k can)

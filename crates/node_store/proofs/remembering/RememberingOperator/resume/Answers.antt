@@ -14,15 +14,15 @@ pub returns-in_err-edge-in-Second-clause-moved : goal.returns-in_err-edge-in-Sec
 returns-in_err-edge-in-Second-clause-moved g c =
     let a = g.O.Apply in let m = g.met.O.Apply in let op = c.args.self.now.0 in
     let e = c.in_err-edge-in-Second.ensures in
-    RememberingMoves-same (a.roots op) (a.work op) (a.due op) (a.answers op) (m.due_stays op) (m.answers_stay op) _ _ _ _ e.moved e.known
+    RememberingMoves-same (a.roots op) (a.work op) (a.due op) (a.answers op) (m.due_stays op) (m.answers_stay op) _ _ c.args.stack.now c.join.new.stack e.moved e.stack
 
 pub returns-in_ok-edge-in-Second-clause-moved : goal.returns-in_ok-edge-in-Second-clause-moved
 returns-in_ok-edge-in-Second-clause-moved g c =
     let a = g.O.Apply in let m = g.met.O.Apply in let op = c.args.self.now.0 in
     let e = c.in_ok-edge-in-Second.ensures in
     let here = m.due_stays op _ _ c.args.frame.task e.moved.grown c.requires.waits.1.waits.due in
-    RememberingMoves-more (a.roots op) (a.work op) (a.due op) (a.answers op) (m.due_stays op) (m.answers_stay op) _ _ _ _ _ _ c.args.frame.task c.in_ok-edge-in-Second.edge
-    e.moved e.known c.remember-in-Second.ensures.remembers refl here e.answer
+    RememberingMoves-more (a.roots op) (a.work op) (a.due op) (a.answers op) (m.due_stays op) (m.answers_stay op) _ _ c.args.stack.now c.join.new.stack c.remember-in-Second.new.self c.args.frame.task c.in_ok-edge-in-Second.edge
+    e.moved e.stack c.remember-in-Second.ensures.remembers c.remember-in-Second.ensures.marks here e.answer
 
 pub returns-in-Some-clause-moved : goal.returns-in-Some-clause-moved
 returns-in-Some-clause-moved g c =
@@ -30,5 +30,5 @@ returns-in-Some-clause-moved g c =
     let p = c.requires.waits in
     let q = p.1.waits in
     let first = rw c.in-First.is at q.wait in
-    RememberingMoves-more (a.roots op) (a.work op) (a.due op) (a.answers op) (m.due_stays op) (m.answers_stay op) _ _ _ _ _ _ c.args.frame.task c.in-Some.edge
-    (Moves-none (a.roots op) (a.work op) _) refl c.remember.ensures.remembers refl q.due (c.in-Some.ensures _ p.0.1 _ q.due first.splits first.hi_due p.1.answers)
+    RememberingMoves-more (a.roots op) (a.work op) (a.due op) (a.answers op) (m.due_stays op) (m.answers_stay op) _ _ c.args.stack.now c.args.stack.now c.remember.new.self c.args.frame.task c.in-Some.edge
+    (Moves-none (a.roots op) (a.work op) _) refl c.remember.ensures.remembers c.remember.ensures.marks q.due (c.in-Some.ensures _ p.0.1 _ q.due first.splits first.hi_due p.1.answers)

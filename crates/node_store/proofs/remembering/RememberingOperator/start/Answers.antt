@@ -9,17 +9,17 @@ returns-in-Some-clause-next g c =
 pub returns-in_err-edge-clause-moved : goal.returns-in_err-edge-clause-moved
 returns-in_err-edge-clause-moved g c =
     let a = g.O.Apply in let m = g.met.O.Apply in let op = c.args.self.now.0 in
-    RememberingMoves-same (a.roots op) (a.work op) (a.due op) (a.answers op) (m.due_stays op) (m.answers_stay op) _ _ _ _ c.in_err-edge.ensures.moved refl
+    RememberingMoves-same (a.roots op) (a.work op) (a.due op) (a.answers op) (m.due_stays op) (m.answers_stay op) _ _ c.args.stack.now c.args.stack.now c.in_err-edge.ensures.moved refl
 
 pub returns-in-Done-clause-moved : goal.returns-in-Done-clause-moved
 returns-in-Done-clause-moved g c =
     let a = g.O.Apply in let m = g.met.O.Apply in let op = c.args.self.now.0 in
-    RememberingMoves-same (a.roots op) (a.work op) (a.due op) (a.answers op) (m.due_stays op) (m.answers_stay op) _ _ _ _ c.in_ok-edge.ensures.moved refl
+    RememberingMoves-same (a.roots op) (a.work op) (a.due op) (a.answers op) (m.due_stays op) (m.answers_stay op) _ _ c.args.stack.now c.args.stack.now c.in_ok-edge.ensures.moved refl
 
 pub returns-in-Split-clause-moved : goal.returns-in-Split-clause-moved
 returns-in-Split-clause-moved g c =
     let a = g.O.Apply in let m = g.met.O.Apply in let op = c.args.self.now.0 in
-    RememberingMoves-same (a.roots op) (a.work op) (a.due op) (a.answers op) (m.due_stays op) (m.answers_stay op) _ _ _ _ c.in_ok-edge.ensures.moved refl
+    RememberingMoves-same (a.roots op) (a.work op) (a.due op) (a.answers op) (m.due_stays op) (m.answers_stay op) _ _ c.args.stack.now c.args.stack.now c.in_ok-edge.ensures.moved refl
 
 pub returns-in-Split-clause-next : goal.returns-in-Split-clause-next
 returns-in-Split-clause-next g c =
