@@ -1,17 +1,17 @@
 -- Conversions of the values of one function, step by step.
-use Rattle.std.proofs.Common.{◌≡◌, ℕ, ℤ, true, false, Option, Some, None, ◌⊎◌, inl, inr, Result, Ok, Err, IfOk, ap, sym, ◌∙◌, subst, arith}
+use Rattle.std.proofs.Common.{◌≡◌, ℕ, ℤ, true, false, Option, Some, None, ◌⊎◌, ap, sym, ◌∙◌, subst, arith}
 use Rattle.std.specs.Prelude.{IfSome}
 use Rattle.edge_bits.specs.declared.edges.Edge.{Edge}
 use Rattle.edge_bits.specs.declared.edges.Kind.{Kind}
 use Rattle.edge_bits.specs.declared.edges.Kind.TheVariants.{Bdd, Add, Zdd}
 use Rattle.function_laws.proofs.ValueLemmas.{place_one}
-use Rattle.function_laws.specs.Kinds.{Denoted, ValueOf, function_of, joined_at, Lacks}
+use Rattle.function_laws.specs.Kinds.{ValueOf, function_of, joined_at, Lacks}
 use Rattle.node_store.specs.Splits.{Branches}
 use Rattle.node_store.specs.Three.{IsOnVariables}
 use Rattle.node_store.specs.Views.{View, CanMake, Denotes, Grown, Is, IsBelow, IsInner, IsLeaf, IsLeafOf, IsVariable, node_values, values_at}
-use Rattle.node_store.specs.ViewLaws.{Denotes-grown, Grown-refl, Grown-trans, Is-from, Is-grown, IsVariable-grown, Splits-grown, levels-grown, top-grown, values_at-grown, values_at-is}
-use Rattle.node_store.specs.Work.{IsWork, Adds, Moves}
-use Rattle.node_store.specs.WorkLaws.{IsPart-grown, IsPart-half, IsWork-due, IsWork-grown, Moves-made}
+use Rattle.node_store.specs.ViewLaws.{Grown-trans, Is-from, Is-grown, IsVariable-grown, Splits-grown, levels-grown, top-grown, values_at-grown, values_at-is}
+use Rattle.node_store.specs.Work.{IsWork, Moves}
+use Rattle.node_store.specs.WorkLaws.{IsPart-grown, IsPart-half, IsWork-due, Moves-made}
 use Rattle.node_store.specs.declared.operator.Task.{Task}
 use Rattle.add_ops.specs.Conversions.{converted, converted_at, value_of_one, OneDue, OneAnswers, OneSplits, one_depth}
 use Rattle.add_ops.specs.ConversionLasts.{converted_at-grown, OneDue-stays}
@@ -124,16 +124,6 @@ module _ (j k : Kind) (op : ValueOf j → ValueOf k) (f : Edge) where
   One-refused v w t d m is = IsWork-due k w (value_of_one j k op f w) (converted_at j k op v f) (converted_at j k op v t.f)
       (ap (function_of k) (sym (converted_at-grown j k op m d.root))) (IsPart-grown k m (converted_at j k op v f) (converted_at j k op v t.f) d.part) is
 
-  -- from the view at the end to that at the start
-  pub one_back : (v w : View) → Grown v w → Is j v f → (F : Denoted) → value_of_one j k op f w F → value_of_one j k op f v F
-  one_back v w m d F is = is ∙ ap (function_of k) (converted_at-grown j k op m d)
-
-  pub One-due_start : (v w : View) → Grown v w → Is j v f → (o : Option Denoted) → IsWork w (value_of_one j k op f w) o → IsWork w (value_of_one j k op f v) o
-  One-due_start v w m d o i = IsWork-grown (Grown-refl w) (value_of_one j k op f w) (value_of_one j k op f v) (one_back v w m d) o i
-
-  pub One-adds_start : (v w : View) → Is j v f → Moves (λ w. Is j w f) (value_of_one j k op f) v w → Adds (value_of_one j k op f v) v w
-  One-adds_start v w d m s here = elim (m.work d s here) [ inl old ↦ inl old | inr i ↦ inr (One-due_start v w m.grown d (w.content s) i) ]
-
 -- the answer for a leaf, whose number was passed by value
 pub One-leaf : (j k : Kind) (op : ValueOf j → ValueOf k) (v w : View) (t : Task) (x y : ℤ) (r : Edge) → Grown v w → Is j v t.f → IsLeaf j w t.f (values_at j v t.f) x → x ≡ y
     → (IsLeafOf j t.f (values_at j v t.f) y → Denotes k w r (converted op (values_at j v t.f))) → OneAnswers j k op w t r
@@ -143,8 +133,3 @@ One-leaf j k op v w t x y r m d i same told = rw (converted_at-grown j k op m d)
 pub if_some : {X : Type 0} (P Q : X → Type 0) (r : Option X) → ((x : X) → P x → Q x) → IfSome r P → IfSome r Q
 if_some P Q (Some x) more h = more x h
 if_some P Q None more h = h
-
--- an answer lasts to the end, and is that of the operand at the start
-pub lasts : {E : Type 0} (k : Kind) (f h : ℕ → ValueOf k) (c d : View) → Grown c d → f ≡ h → (r : Result Edge E) → IfOk r (λ e. Denotes k c e f) → IfOk r (λ e. Denotes k d e h)
-lasts k f h c d m same (Ok e) is = subst (λ x. Denotes k d e x) same (Denotes-grown k m is)
-lasts k f h c d m same (Err e) is = is

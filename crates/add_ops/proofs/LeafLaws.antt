@@ -1,33 +1,24 @@
 -- Leaves of ADDs.
-use Rattle.std.proofs.Common.{◌≡◌, ℕ, ℤ, pos, Bool, true, false, cond, Option, Some, None, ◌⊎◌, inl, inr, Result, Ok, Err, refl, ap, sym, ◌∙◌, subst, arith, SFits, of_z, to_z, w64}
+use Rattle.std.proofs.Common.{◌≡◌, ℕ, ℤ, pos, Bool, true, false, cond, Option, Some, ◌⊎◌, inl, inr, Result, Ok, Err, refl, ap, sym, ◌∙◌, subst, arith, SFits, of_z, to_z, w64}
 use Rattle.std.specs.Int.{w128}
-use Rattle.std.specs.Prelude.{◌+ℤ◌, ◌-ℤ◌, ◌*ℤ◌, if◌then◌else◌, int_le, IfOk, IsOkAnd}
+use Rattle.std.specs.Prelude.{◌+ℤ◌, ◌-ℤ◌, ◌*ℤ◌, if◌then◌else◌, int_le, IfOk, IsErrOf, IsOkAnd}
 use Rattle.std.proofs.lemmas.Int.{ints, to_z-of_z}
+use Rattle.edge_bits.specs.Permanent.{one_edge, zero_edge}
 use Rattle.edge_bits.specs.declared.edges.Edge.{Edge}
-use Rattle.edge_bits.specs.declared.edges.Kind.{Kind}
 use Rattle.edge_bits.specs.declared.edges.Kind.TheVariants.{Add}
 use Rattle.function_laws.specs.Values.{constant}
 use Rattle.function_laws.specs.Numbers.{is_value}
-use Rattle.function_laws.specs.Kinds.{Denoted, AddFunction, ValueOf}
-use Rattle.node_store.specs.Views.{View, AreTwo, Denotes, Grown, Kept, add_at, values_at, IsInner, IsLeaf, IsLeafOf as IsLeafWith, number, NotBothLeaves, Permanent}
-use Rattle.node_store.specs.ViewLaws.{Denotes-grown, Grown-trans, values_at-grown}
+use Rattle.function_laws.specs.Kinds.{Denoted, AddFunction}
+use Rattle.node_store.specs.Views.{View, AreTwo, Denotes, Grown, Rose, add_at, IsLeaf, IsLeafOf as IsLeafWith, number, Permanent}
 use Rattle.node_store.specs.Work.{Adds, whole}
-use Rattle.node_store.specs.WorkLaws.{Moves-made}
+use Rattle.node_store.specs.WorkLaws.{IsWork-due, Moves-made}
 use Rattle.node_store.specs.declared.grow.Stop.{Stop}
+use Rattle.node_store.specs.declared.grow.Stop.TheVariants as stop
 use Rattle.node_store.specs.declared.operator.Halt.{Halt}
-use Rattle.node_store.specs.Two.{Terminal, place_at}
-use Rattle.node_store.specs.TwoLaws.{place_at-grown}
-use Rattle.add_ops.specs.Leaves.{AreLeaves, IsLeafOf, value_of_constant}
-
--- a leaf is no node
-no_leaf : (k : Kind) (w : View) (e : Edge) (f h : ℕ → ValueOf k) (v : ℕ) (hi lo : Edge) (x : ℤ) → IsInner k w e f v hi lo → IsLeaf k w e h x → ⊥
-no_leaf k w e f h v hi lo x i j = let a = i.here in let b = i.within in let c = j.here in omega arith
-
-pub first_inner : (k : Kind) (w : View) (f g : Edge) (h : ℕ → ValueOf k) (v : ℕ) (hi lo : Edge) → IsInner k w f h v hi lo → NotBothLeaves k w f g
-first_inner k w f g h v hi lo i x y p q = no_leaf k w f h (values_at k w f) v hi lo x i p
-
-pub second_inner : (k : Kind) (w : View) (f g : Edge) (h : ℕ → ValueOf k) (v : ℕ) (hi lo : Edge) → IsInner k w g h v hi lo → NotBothLeaves k w f g
-second_inner k w f g h v hi lo i x y p q = no_leaf k w g h (values_at k w g) v hi lo y i q
+use Rattle.node_store.specs.declared.operator.Halt.TheVariants as halt
+use Rattle.node_store.specs.Operations.{Calls, halts}
+use Rattle.node_store.specs.Two.{Overflows, place_at}
+use Rattle.add_ops.specs.Leaves.{AreLeaves, value_of_constant}
 
 leaf_values : (e : Edge) (f : ℕ → ℤ) (x : ℤ) → IsLeafWith Add e f x → f ≡ constant x
 leaf_values _ _ _ (number e x) = refl
@@ -45,28 +36,25 @@ wide_difference x y fx fy = omega (arith, ints)
 wide_same : (x : ℤ) → SFits w64 x → wide x ≡ x
 wide_same x fx = omega (arith, ints)
 
-pub wide_product : (x y exact : ℤ) → SFits w64 x → SFits w64 y → SFits w64 exact → exact ≡ to_z w64 (of_z w64 x) *ℤ to_z w64 (of_z w64 y) → wide exact ≡ x *ℤ y
-wide_product x y exact fx fy fe is = wide_same exact fe ∙ is ∙ ap (λ a. a *ℤ to_z w64 (of_z w64 y)) (to_z-of_z w64 x fx) ∙ ap (λ b. x *ℤ b) (to_z-of_z w64 y fy)
+-- numbers that were passed by value have the same product
+pub passed_product : (x y : ℤ) → SFits w64 x → SFits w64 y → to_z w64 (of_z w64 x) *ℤ to_z w64 (of_z w64 y) ≡ x *ℤ y
+passed_product x y fx fy = ap (λ a. a *ℤ to_z w64 (of_z w64 y)) (to_z-of_z w64 x fx) ∙ ap (λ b. x *ℤ b) (to_z-of_z w64 y fy)
 
--- the numbers of two leaves that were opened one after the other
-pub AreLeaves-passed : (a b c : View) (f g : Edge) (x y : ℤ) → SFits w64 x → SFits w64 y → Grown a b → AreTwo Add a f g
-    → IsLeaf Add b f (add_at a f) x → IsLeaf Add c g (add_at b g) y → AreLeaves a f g (to_z w64 (of_z w64 x)) (to_z w64 (of_z w64 y))
-AreLeaves-passed a b c f g x y fx fy m d i j = record {
-  first = leaf_values f (add_at a f) x i.leaf ∙ ap (constant {X = ℤ}) (sym (to_z-of_z w64 x fx));
-  second = sym (values_at-grown Add m d.second) ∙ leaf_values g (add_at b g) y j.leaf ∙ ap (constant {X = ℤ}) (sym (to_z-of_z w64 y fy));
-}
+pub wide_product : (x y exact : ℤ) → SFits w64 x → SFits w64 y → SFits w64 exact → exact ≡ to_z w64 (of_z w64 x) *ℤ to_z w64 (of_z w64 y) → wide exact ≡ x *ℤ y
+wide_product x y exact fx fy fe is = wide_same exact fe ∙ is ∙ passed_product x y fx fy
+
+-- the numbers of two leaves
+pub leaves_are : (w : View) (f g : Edge) (x y : ℤ) → IsLeaf Add w f (add_at w f) x → IsLeaf Add w g (add_at w g) y → AreLeaves w f g x y
+leaves_are w f g x y i j = record { first = leaf_values f (add_at w f) x i.leaf; second = leaf_values g (add_at w g) y j.leaf }
 
 -- an operation on two leaves
 place_leaves : (op : ℤ → ℤ → ℤ) (w : View) (f g : Edge) (x y z : ℤ) → AreLeaves w f g x y → z ≡ op x y → place_at Add op w f g ≡ constant z
 place_leaves op w f g x y z l is = rw (l.first, l.second) (ap (constant {X = ℤ}) (sym is))
 
 -- the leaf of its value is its answer
-pub leaf_terminal : (op : ℤ → ℤ → ℤ) (v u w : View) (f g : Edge) (x y z : ℤ) (r : Result (Option Edge) Halt) → Kept v u → Grown u w → AreTwo Add v f g → AreLeaves v f g x y → z ≡ op x y
-    → IfOk r (IsLeafOf w z) → IfOk r (Terminal Add op w f g)
-leaf_terminal op v u w f g x y z (Ok (Some e)) k m d l is a =
-    subst (λ h. Denotes Add w e h) (sym (place_leaves op v f g x y z l is) ∙ sym (place_at-grown Add op (Grown-trans k.grown m) d)) a
-leaf_terminal op v u w f g x y z (Ok None) k m d l is a = absurd a
-leaf_terminal op v u w f g x y z (Err halt) k m d l is a = a
+pub leaf_answer : (op : ℤ → ℤ → ℤ) (v w : View) (f g : Edge) (x y z : ℤ) (r : Result Edge Halt) → AreLeaves v f g x y → z ≡ op x y
+    → IfOk r (λ e. Denotes Add w e (constant z)) → IfOk r (λ e. Denotes Add w e (place_at Add op v f g))
+leaf_answer op v w f g x y z r l is a = subst (λ h. IfOk r (λ e. Denotes Add w e h)) (sym (place_leaves op v f g x y z l is)) a
 
 -- that its value is out of range is an overflow of the functions
 pub leaf_overflow : (op : ℤ → ℤ → ℤ) (w : View) (f g : Edge) (x y z : ℤ) → AreLeaves w f g x y → z ≡ op x y → is_value z ≡ false → (k : ℕ) × (is_value (place_at Add op w f g k) ≡ false)
@@ -77,24 +65,22 @@ pub leaf_due : (op : ℤ → ℤ → ℤ) (w : View) (f g : Edge) (x y z : ℤ) 
 leaf_due op w f g x y z o l is due = due ∙ ap (λ (h : ℕ → ℤ). Some (AddFunction h)) (sym (place_leaves op w f g x y z l is))
 
 -- the edge of the value that is chosen
-pub chosen_terminal : (op : ℤ → ℤ → ℤ) (v w : View) (f g h r : Edge) (x y z : ℤ) (b : Bool) → Kept v w → AreTwo Add v f g → AreLeaves v f g x y → Denotes Add v h (constant z) → cond b x z ≡ op x y → r ≡ cond b f h
+pub chosen_answer : (op : ℤ → ℤ → ℤ) (w : View) (f g h r : Edge) (x y z : ℤ) (b : Bool) → AreTwo Add w f g → AreLeaves w f g x y → Denotes Add w h (constant z) → cond b x z ≡ op x y → r ≡ cond b f h
     → Denotes Add w r (place_at Add op w f g)
-chosen_terminal op v w f g h r x y z true k d l dh is same =
-    subst (λ e. Denotes Add w e (place_at Add op w f g)) (sym same)
-    (subst (λ t. Denotes Add w f t) (l.first ∙ sym (place_leaves op v f g x y x l is) ∙ sym (place_at-grown Add op k.grown d)) (Denotes-grown Add k.grown d.first))
-chosen_terminal op v w f g h r x y z false k d l dh is same =
-    subst (λ e. Denotes Add w e (place_at Add op w f g)) (sym same)
-    (subst (λ t. Denotes Add w h t) (sym (place_leaves op v f g x y z l is) ∙ sym (place_at-grown Add op k.grown d)) (Denotes-grown Add k.grown dh))
+chosen_answer op w f g h r x y z true d l dh is same =
+    subst (λ e. Denotes Add w e (place_at Add op w f g)) (sym same) (subst (λ t. Denotes Add w f t) (l.first ∙ sym (place_leaves op w f g x y x l is)) d.first)
+chosen_answer op w f g h r x y z false d l dh is same =
+    subst (λ e. Denotes Add w e (place_at Add op w f g)) (sym same) (subst (λ t. Denotes Add w h t) (sym (place_leaves op w f g x y z l is)) dh)
 
 pub second_leaf : (w : View) (f g : Edge) (x y : ℤ) → AreTwo Add w f g → AreLeaves w f g x y → Denotes Add w g (constant y)
 second_leaf w f g x y d l = subst (λ t. Denotes Add w g t) l.second d.second
 
--- slot 3
-pub zero_leaf : (w : View) (e : Edge) → Permanent w → e ≡ record { index = 3; complement = false } → Denotes Add w e (constant (pos 0))
+-- the number 0
+pub zero_leaf : (w : View) (e : Edge) → Permanent w → e ≡ zero_edge → Denotes Add w e (constant (pos 0))
 zero_leaf w e p is = subst (λ t. Denotes Add w t (constant (pos 0))) (sym is) (record { is = p.add_zero; beyond = λ v h k b. refl; fits = λ x. refl })
 
--- slot 4
-pub one_leaf : (w : View) (e : Edge) → Permanent w → e ≡ record { index = 4; complement = false } → Denotes Add w e (constant (pos 1))
+-- the number 1
+pub one_leaf : (w : View) (e : Edge) → Permanent w → e ≡ one_edge → Denotes Add w e (constant (pos 1))
 one_leaf w e p is = subst (λ t. Denotes Add w t (constant (pos 1))) (sym is) (record { is = p.add_one; beyond = λ v h k b. refl; fits = λ x. refl })
 
 -- numbers that were passed by value compare as before
@@ -112,3 +98,36 @@ pub constant_work : (v w : View) (x : ℤ) (r : Result Edge Stop) → Grown v w 
     → IfOk r (λ e. Denotes Add w e (constant x)) → Adds (value_of_constant x) v w
 constant_work v w x (Ok e) m made d = (Moves-made Add (λ _. Unit {0}) (λ _. value_of_constant x) v w e (constant x) (constant x) m made (λ _. refl) whole d).work tt
 constant_work v w x (Err stop) m made d = λ s h. elim (made s h) [ inl old ↦ inl old | inr bad ↦ absurd bad ]
+
+pub constant_calls : (v w : View) (x : ℤ) (r : Result Edge Stop) → Grown v w → w.room ≡ v.room → ((s : ℕ) → w.made s ≡ true → (v.made s ≡ true) ⊎ IsOkAnd r (λ e. e.index ≡ s))
+    → IfOk r (λ e. Denotes Add w e (constant x)) → (IsErrOf r stop.Memory → v.may_want_memory ≡ true) → (IsErrOf r stop.Full → Rose v w) → (IsErrOf r stop.Full → w.due ≡ Some (AddFunction (constant x)))
+    → Calls Add (constant x) (value_of_constant x) v w (halts r)
+constant_calls v w x r m room made ok memory full due = record {
+  grown = m;
+  room = omega arith;
+  answer = by_answer r ok;
+  overflow = by_overflow r;
+  work = constant_work v w x r m made ok;
+  memory = by_memory r memory;
+  full = by_full r full;
+  due = λ is. IsWork-due Add w (value_of_constant x) (constant x) (constant x) refl whole (by_full r due is);
+}
+  where
+    by_answer : (r : Result Edge Stop) → IfOk r (λ e. Denotes Add w e (constant x)) → IfOk (halts r) (λ e. Denotes Add w e (constant x))
+    by_answer (Ok e) ok = ok
+    by_answer (Err s) ok = tt
+
+    by_overflow : (r : Result Edge Stop) → IsErrOf (halts r) halt.Overflow → Overflows Add (constant x)
+    by_overflow (Ok e) is = cc
+    by_overflow (Err stop.Memory) is = cc
+    by_overflow (Err stop.Full) is = cc
+
+    by_memory : {P Q : Type 0} (r : Result Edge Stop) → (IsErrOf r stop.Memory → P) → IsErrOf (halts r) halt.Memory → Q ⊎ P
+    by_memory (Ok e) more is = cc
+    by_memory (Err stop.Memory) more is = inr (more refl)
+    by_memory (Err stop.Full) more is = cc
+
+    by_full : {P : Type 0} (r : Result Edge Stop) → (IsErrOf r stop.Full → P) → IsErrOf (halts r) halt.Full → P
+    by_full (Ok e) more is = cc
+    by_full (Err stop.Memory) more is = cc
+    by_full (Err stop.Full) more is = more refl

@@ -1,24 +1,24 @@
 -- Sums over a variable, step by step.
-use Rattle.std.proofs.Common.{◌≡◌, ℕ, ◌+◌, ◌<◌, Bool, true, false, cond, ℤ, Option, Some, ◌⊎◌, inl, inr, refl, ap, sym, ◌∙◌, subst, arith}
+use Rattle.std.proofs.Common.{◌≡◌, ℕ, ◌<◌, Bool, true, false, cond, ℤ, Option, Some, ◌⊎◌, inl, inr, refl, ap, sym, ◌∙◌, subst, arith}
 use Rattle.std.specs.Prelude.{◌+ℤ◌}
 use Rattle.edge_bits.specs.declared.edges.Edge.{Edge}
 use Rattle.edge_bits.specs.declared.edges.Kind.{Kind}
 use Rattle.edge_bits.specs.declared.edges.Kind.TheVariants.{Bdd, Add, Zdd}
-use Rattle.edge_bits.proofs.AssignmentLemmas.{bit-set_other}
 use Rattle.function_laws.specs.Numbers.{plus, sum_over}
 use Rattle.function_laws.specs.Values.{IsFree, choice, cofactor, projection}
 use Rattle.function_laws.proofs.ValueLemmas.{everywhere, cofactor-choice_true, cofactor-choice_false}
 use Rattle.function_laws.specs.Kinds.{Denoted, AddFunction, ValueOf, function_of, opposite, values_of}
-use Rattle.node_store.specs.Memo.{NumberHolds, MemoHolds, SumHolds, literal_edge}
+use Rattle.node_store.specs.Memo.{NumberHolds, MemoHolds, SumHolds}
 use Rattle.node_store.specs.Numbers.{sum_over_number}
 use Rattle.node_store.specs.Two.{Overflows, place_at, value_of_two}
-use Rattle.node_store.specs.Views.{View, CanMake, Denotes, Grown, Is, IsInner, IsKey, IsLeaf, IsVariable, Permanent, add_at, node_values}
-use Rattle.node_store.specs.ViewLaws.{Grown-refl, Grown-trans, Is-from, Is-grown, IsBelow-inner, IsVariable-grown, Splits-grown, level-grown, top-grown, values_at-grown, values_at-is}
+use Rattle.node_store.specs.Views.{View, CanMake, Denotes, Grown, Is, IsInner, IsKey, IsLeaf, IsVariable, add_at, node_values}
+use Rattle.node_store.specs.ViewLaws.{Grown-trans, Is-from, Is-grown, IsBelow-inner, IsVariable-grown, Splits-grown, level-grown, top-grown, values_at-grown, values_at-is}
 use Rattle.node_store.specs.Work.{IsPart, IsWork, Adds, Moves}
-use Rattle.node_store.specs.WorkLaws.{IsPart-both, IsPart-grown, IsPart-half, IsWork-due, IsWork-grown, Moves-both, Moves-made}
+use Rattle.node_store.specs.WorkLaws.{IsPart-both, IsPart-grown, IsPart-half, IsWork-due, Moves-both, Moves-made}
 use Rattle.node_store.specs.declared.operator.Task.{Task}
 use Rattle.node_store.specs.declared.operator.Frame.{Frame}
 use Rattle.node_store.specs.declared.operator.Wait.TheVariants.{First}
+use Rattle.node_store.proofs.Literals.{same_variable}
 use Rattle.node_store.proofs.TwoParts.{Lacks-leaf}
 use Rattle.add_ops.specs.Conversions.{one_depth}
 use Rattle.add_ops.specs.Sums.{summed_at, HasSum, value_of_sum, SumDue, SumAnswers, SumOverflows, SumSplits, SumWaits, AreHalves, SplitsAbove}
@@ -86,13 +86,10 @@ SplitsAbove-grown f y x hi lo n d i =
     }
 
 -- the key
-Is-projection : (w : View) → Permanent w → (v : ℕ) → IsVariable Add w v → Is Bdd w (literal_edge v true)
-Is-projection w p v vn = Is-from Bdd {f = projection v} (record { is = p.projections v vn; beyond = λ u h k c. bit-set_other k u v c (λ e. let n = vn.1 in omega (arith, e)); fits = tt })
+pub sum_key : (w : View) (f p : Edge) (v : ℕ) → Denotes Bdd w p (projection v) → Is Add w f → IsKey w (record { op = sum_over_number; f = f; g = p; h = f })
+sum_key w f p v literal d = record { least = omega arith; most = omega arith; f = (Add, d); g = (Bdd, Is-from Bdd literal); h = (Add, d) }
 
-pub sum_key : (w : View) → Permanent w → (f p : Edge) (v : ℕ) → p ≡ literal_edge v true → Is Add w f → IsVariable Add w v → IsKey w (record { op = sum_over_number; f = f; g = p; h = f })
-sum_key w permanent f p v same d vn = rw same (record { least = omega arith; most = omega arith; f = (Add, d); g = (Bdd, Is-projection w permanent v vn); h = (Add, d) })
-
-pub sum_memo : (w : View) (f p : Edge) (v : ℕ) (e : Edge) → p ≡ literal_edge v true → Is Add w f → IsVariable Add w v → Denotes Add w e (summed_at w f v) → MemoHolds w (record { op = sum_over_number; f = f; g = p; h = f }) e
+pub sum_memo : (w : View) (f p : Edge) (v : ℕ) (e : Edge) → Denotes Bdd w p (projection v) → Is Add w f → IsVariable Add w v → Denotes Add w e (summed_at w f v) → MemoHolds w (record { op = sum_over_number; f = f; g = p; h = f }) e
 unfolding NumberHolds
 sum_memo w f p v e same d vn a = record { variable = v; in_range = vn; projection = same; f = d; answer = a }
 
@@ -100,11 +97,10 @@ sum_holds : (w : View) (f p e : Edge) → MemoHolds w (record { op = sum_over_nu
 unfolding NumberHolds
 sum_holds w f p e h = h
 
-pub sum_hit : (w : View) (f p : Edge) (v : ℕ) (e : Edge) → p ≡ literal_edge v true → MemoHolds w (record { op = sum_over_number; f = f; g = p; h = f }) e → Denotes Add w e (summed_at w f v)
+pub sum_hit : (w : View) (f p : Edge) (v : ℕ) (e : Edge) → Denotes Bdd w p (projection v) → MemoHolds w (record { op = sum_over_number; f = f; g = p; h = f }) e → Denotes Add w e (summed_at w f v)
 sum_hit w f p v e same holds =
     let h = sum_holds w f p e holds in
-    let index : 5 + v ≡ 5 + h.variable = ap (λ x. x.index) (sym same ∙ h.projection) in
-    let variable : h.variable ≡ v = omega arith in
+    let variable : h.variable ≡ v = same_variable h.variable v (sym (values_at-is Bdd h.projection) ∙ values_at-is Bdd same) in
     subst (λ x. Denotes Add w e (summed_at w f x)) variable h.answer
 
 -- the two parts
@@ -204,14 +200,3 @@ module _ (f : Edge) (v : ℕ) (p : Edge) where
 
     pub halves_overflow : Overflows Add (place_at Add (λ a b. a +ℤ b) u hi lo) → SumOverflows v w t
     halves_overflow o = subst (λ g. Overflows Add g) (h.sum ∙ sym (summed_at-grown v m d.edge)) o
-
--- from the view at the end to that at the start
-module _ (f : Edge) (v : ℕ) where
-  pub sum_back : (u w : View) → Grown u w → HasSum u f v → (F : Denoted) → value_of_sum f v w F → value_of_sum f v u F
-  sum_back u w m d F is = is ∙ ap AddFunction (summed_at-grown v m d.edge)
-
-  pub Sum-due_start : (u w : View) → Grown u w → HasSum u f v → (o : Option Denoted) → IsWork w (value_of_sum f v w) o → IsWork w (value_of_sum f v u) o
-  Sum-due_start u w m d o i = IsWork-grown (Grown-refl w) (value_of_sum f v w) (value_of_sum f v u) (sum_back u w m d) o i
-
-  pub Sum-adds_start : (u w : View) → HasSum u f v → Moves (λ w. HasSum w f v) (value_of_sum f v) u w → Adds (value_of_sum f v u) u w
-  Sum-adds_start u w d m s here = elim (m.work d s here) [ inl old ↦ inl old | inr i ↦ inr (Sum-due_start u w m.grown d (w.content s) i) ]

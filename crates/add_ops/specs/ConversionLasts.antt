@@ -3,8 +3,8 @@ use Rattle.std.proofs.Common.{◌≡◌, ℕ, refl, ap, sym, ◌∙◌}
 use Rattle.edge_bits.specs.declared.edges.Edge.{Edge}
 use Rattle.edge_bits.specs.declared.edges.Kind.{Kind}
 use Rattle.function_laws.specs.Kinds.{Denoted, ValueOf, function_of}
-use Rattle.node_store.specs.Views.{View, Grown, Is}
-use Rattle.node_store.specs.ViewLaws.{Denotes-grown, Is-grown, IsVariable-grown, Permanent-grown, Splits-grown, levels-grown, top-grown, values_at-grown}
+use Rattle.node_store.specs.Views.{View, Denotes, Grown, Is}
+use Rattle.node_store.specs.ViewLaws.{Denotes-grown, Denotes-lasts, Is-grown, IsVariable-grown, Permanent-grown, Splits-grown, levels-grown, top-grown, values_at-grown}
 use Rattle.node_store.specs.WorkLaws.{IsPart-grown}
 use Rattle.node_store.specs.declared.operator.Task.{Task}
 use Rattle.add_ops.specs.Conversions.{converted, converted_at, value_of_one, OneDue, OneAnswers, OneSplits, one_depth}
@@ -14,6 +14,14 @@ converted_at-grown j k op m d = ap (converted op) (values_at-grown j m d)
 
 pub value_of_one-stays : (j k : Kind) (op : ValueOf j → ValueOf k) (f : Edge) (v w : View) (F : Denoted) → Grown v w → Is j v f → value_of_one j k op f v F → value_of_one j k op f w F
 value_of_one-stays j k op f v w F m d is = is ∙ ap (function_of k) (sym (converted_at-grown j k op m d))
+
+-- a call's answer, by the operand at its start
+pub converted_at-lasts : (j k : Kind) (op : ValueOf j → ValueOf k) (f : Edge) (u v w x : View) (e : Edge) → Grown u v → Grown w x → Is j u f
+    → Denotes k w e (converted_at j k op v f) → Denotes k x e (converted_at j k op u f)
+converted_at-lasts j k op f u v w x e before after d a = Denotes-lasts k after (converted_at-grown j k op before d) a
+
+pub value_of_one-back : (j k : Kind) (op : ValueOf j → ValueOf k) (f : Edge) (v w : View) (F : Denoted) → Grown v w → Is j v f → value_of_one j k op f w F → value_of_one j k op f v F
+value_of_one-back j k op f v w F m d is = is ∙ ap (function_of k) (converted_at-grown j k op m d)
 
 pub OneDue-stays : (j k : Kind) (op : ValueOf j → ValueOf k) (f : Edge) (v w : View) (t : Task) → Grown v w → OneDue j k op f v t → OneDue j k op f w t
 OneDue-stays j k op f v w t m d = record {

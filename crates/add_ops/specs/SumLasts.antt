@@ -2,14 +2,15 @@
 use Rattle.std.proofs.Common.{◌≡◌, ◌≢◌, ℕ, eqb, Bool, true, false, cond, refl, subst, ap, sym, ◌∙◌, arith}
 use Rattle.std.specs.Prelude.{◌+ℤ◌, ℤ}
 use Rattle.edge_bits.specs.declared.edges.Edge.{Edge}
-use Rattle.edge_bits.specs.declared.edges.Kind.TheVariants.{Add}
+use Rattle.edge_bits.specs.declared.edges.Kind.TheVariants.{Add, Bdd}
 use Rattle.function_laws.specs.Numbers.{sum_over}
 use Rattle.function_laws.specs.Values.{IsFree, choice, cofactor}
 use Rattle.function_laws.proofs.ValueLemmas.{IsFree-cofactor, IsFree-cofactor_other, IsFree-place, cofactor-choice_other, place_two}
 use Rattle.function_laws.specs.Kinds.{Denoted, AddFunction}
+use Rattle.node_store.specs.Two.{Overflows}
 use Rattle.node_store.specs.TwoLaws.{Overflows-joined}
-use Rattle.node_store.specs.Views.{View, Grown, Is, IsBelow, add_at}
-use Rattle.node_store.specs.ViewLaws.{Denotes-grown, Is-grown, IsVariable-grown, Permanent-grown, Splits-grown, values_at-grown}
+use Rattle.node_store.specs.Views.{View, Denotes, Grown, Is, IsBelow, add_at}
+use Rattle.node_store.specs.ViewLaws.{Denotes-grown, Denotes-lasts, Is-grown, IsVariable-grown, Permanent-grown, Splits-grown, values_at-grown}
 use Rattle.node_store.specs.Waiting.{Waiting-overflows, Waiting-stays}
 use Rattle.node_store.specs.WorkLaws.{IsPart-grown}
 use Rattle.node_store.specs.declared.operator.Frame.{Frame}
@@ -27,9 +28,19 @@ HasSum-grown {v} {w} {f} {x} m d = record { edge = Is-grown Add m d.edge; in_ran
 pub value_of_sum-stays : (f : Edge) (x : ℕ) (v w : View) (F : Denoted) → Grown v w → HasSum v f x → value_of_sum f x v F → value_of_sum f x w F
 value_of_sum-stays f x v w F m d is = is ∙ ap AddFunction (sym (summed_at-grown x m d.edge))
 
+-- a call's answer, and what is told of it, by the operand at its start
+pub summed_at-lasts : (f : Edge) (x : ℕ) (u v w y : View) (e : Edge) → Grown u v → Grown w y → HasSum u f x → Denotes Add w e (summed_at v f x) → Denotes Add y e (summed_at u f x)
+summed_at-lasts f x u v w y e before after d a = Denotes-lasts Add after (summed_at-grown x before d.edge) a
+
+pub sum-overflows : (f : Edge) (x : ℕ) {v w : View} → Grown v w → HasSum v f x → Overflows Add (summed_at w f x) → Overflows Add (summed_at v f x)
+sum-overflows f x m d over = subst (Overflows Add) (summed_at-grown x m d.edge) over
+
+pub value_of_sum-back : (f : Edge) (x : ℕ) (v w : View) (F : Denoted) → Grown v w → HasSum v f x → value_of_sum f x w F → value_of_sum f x v F
+value_of_sum-back f x v w F m d is = is ∙ ap AddFunction (summed_at-grown x m d.edge)
+
 pub SumDue-stays : (f : Edge) (x : ℕ) (p : Edge) (v w : View) (t : Task) → Grown v w → SumDue f x p v t → SumDue f x p w t
 SumDue-stays f x p v w t m d = record {
-  projection = d.projection;
+  projection = Denotes-grown Bdd m d.projection;
   permanent = Permanent-grown m d.permanent;
   root = HasSum-grown m d.root;
   edge = Is-grown Add m d.edge;

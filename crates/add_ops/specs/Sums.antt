@@ -1,10 +1,10 @@
 -- Tasks of one function of numbers that is summed over a variable.
-use Rattle.std.specs.Prelude.{◌≡◌, ◌≢◌, ℕ, ◌<◌, true, ℤ}
+use Rattle.std.specs.Prelude.{◌≡◌, ◌≢◌, ℕ, ◌<◌, ℤ}
 use Rattle.edge_bits.specs.declared.edges.Edge.{Edge}
-use Rattle.edge_bits.specs.declared.edges.Kind.TheVariants.{Add}
+use Rattle.edge_bits.specs.declared.edges.Kind.TheVariants.{Add, Bdd}
 use Rattle.function_laws.specs.Numbers.{plus, sum_over}
 use Rattle.function_laws.specs.Kinds.{Denoted, AddFunction}
-use Rattle.node_store.specs.Memo.{literal_edge}
+use Rattle.function_laws.specs.Values.{projection}
 use Rattle.node_store.specs.Splits.{Waiting}
 use Rattle.node_store.specs.Two.{Overflows}
 use Rattle.node_store.specs.Views.{View, AreTwo, Denotes, Is, IsVariable, Permanent, Splits, add_at}
@@ -29,7 +29,7 @@ value_of_sum f v w F = F ≡ AddFunction (summed_at w f v)
 
 -- a task of the call with this function and this variable, whose projection is p
 pub record SumDue (f : Edge) (v : ℕ) (p : Edge) (w : View) (t : Task) : Type 0 where
-  pub projection : p ≡ literal_edge v true
+  pub projection : Denotes Bdd w p (projection v)
   pub permanent : Permanent w
   pub root : HasSum w f v
   pub edge : Is Add w t.f

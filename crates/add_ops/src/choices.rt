@@ -1,7 +1,7 @@
 //! Choices between the values of two functions of numbers.
 
-use crate::leaves::{chosen, leaves};
-use edge_bits::Edge;
+use crate::leaves::chosen;
+use edge_bits::{Edge, Kind, ZERO_SLOT};
 use node_store::operator::{Halt, Task};
 use node_store::pointwise::Pointwise;
 use node_store::{Grow, numbers};
@@ -18,18 +18,20 @@ impl<G: Grow> Pointwise<G> for Minimum {
 
     ghost op = { λ a b. if int_le a b then a else b };
 
-    fn terminal(&self, store: &mut G, f: Edge, g: Edge) -> Result<Option<Edge>, Halt> {
-        if f == g {
-            return Ok(Some(f));
-        }
-        match leaves(store, f, g) {
-            Some((x, y)) => Ok(Some(chosen(x <= y, f, g))),
-            None => Ok(None),
-        }
+    fn terminal(&self, f: Edge, g: Edge) -> Option<Edge> {
+        if f == g { Some(f) } else { None }
+    }
+
+    fn at_leaves(&self, _store: &mut G, f: Edge, g: Edge, x: i64, y: i64) -> Result<Edge, Halt> {
+        Ok(chosen(x <= y, f, g))
     }
 
     fn arrange(&self, f: Edge, g: Edge) -> Task {
         Task::ordered(f, g)
+    }
+
+    fn answer_kind(&self) -> Kind {
+        Kind::Add
     }
 
     #[tactic(auto, unfolding(node_store::specs::Memo::NumberHolds))]
@@ -52,18 +54,20 @@ impl<G: Grow> Pointwise<G> for Maximum {
 
     ghost op = { λ a b. if int_le b a then a else b };
 
-    fn terminal(&self, store: &mut G, f: Edge, g: Edge) -> Result<Option<Edge>, Halt> {
-        if f == g {
-            return Ok(Some(f));
-        }
-        match leaves(store, f, g) {
-            Some((x, y)) => Ok(Some(chosen(y <= x, f, g))),
-            None => Ok(None),
-        }
+    fn terminal(&self, f: Edge, g: Edge) -> Option<Edge> {
+        if f == g { Some(f) } else { None }
+    }
+
+    fn at_leaves(&self, _store: &mut G, f: Edge, g: Edge, x: i64, y: i64) -> Result<Edge, Halt> {
+        Ok(chosen(y <= x, f, g))
     }
 
     fn arrange(&self, f: Edge, g: Edge) -> Task {
         Task::ordered(f, g)
+    }
+
+    fn answer_kind(&self) -> Kind {
+        Kind::Add
     }
 
     #[tactic(auto, unfolding(node_store::specs::Memo::NumberHolds))]
@@ -86,19 +90,24 @@ impl<G: Grow> Pointwise<G> for Reaching {
 
     ghost op = { λ a b. if int_le b a then a else pos 0 };
 
-    fn terminal(&self, store: &mut G, f: Edge, g: Edge) -> Result<Option<Edge>, Halt> {
-        // Slot 3 is the number 0.
-        if f == g || f.index == 3 {
-            return Ok(Some(f));
+    fn terminal(&self, f: Edge, g: Edge) -> Option<Edge> {
+        if f == g || f.index == ZERO_SLOT {
+            Some(f)
+        } else {
+            None
         }
-        match leaves(store, f, g) {
-            Some((x, y)) => Ok(Some(chosen(y <= x, f, Edge::new(3, false)))),
-            None => Ok(None),
-        }
+    }
+
+    fn at_leaves(&self, _store: &mut G, f: Edge, _g: Edge, x: i64, y: i64) -> Result<Edge, Halt> {
+        Ok(chosen(y <= x, f, Edge::number_zero()))
     }
 
     fn arrange(&self, f: Edge, g: Edge) -> Task {
         Task::two(f, g)
+    }
+
+    fn answer_kind(&self) -> Kind {
+        Kind::Add
     }
 
     #[tactic(auto, unfolding(node_store::specs::Memo::NumberHolds))]

@@ -1,19 +1,20 @@
 //! Operators of one operand that convert its values, one by one, to those of another kind.
 
-ghost use Rattle.std.specs.Prelude.{◌≡◌, ◌≤◌, IfOk, IfSome, IsErrOf, true};
-ghost use Rattle.node_store.specs.Views.{View, Denotes, Grown, Is, Kept, Permanent, Rose, levels as levels_of};
-ghost use Rattle.node_store.specs.Work.{Adds, IsWork};
-ghost use Rattle.add_ops.specs.Conversions.{converted_at, value_of_one};
+ghost use Rattle.std.specs.Prelude.{IfSome};
+ghost use Rattle.node_store.specs.Views.{Denotes, Is, Kept};
+ghost use Rattle.add_ops.specs.Conversions.{converted_at};
 
 use edge_bits::{Edge, Kind};
 use node_store::binary::{Apply, Binary, Branch, Expansion};
 use node_store::evaluate::evaluate;
-use node_store::operator::{Halt, Task, without_overflow};
-use node_store::{Grow, Key, Opened, Stack, Stop};
+use node_store::operator::{Halt, Task};
+use node_store::remembering::Remembering;
+use node_store::scratch::Operation;
+use node_store::{Grow, Key, Opened, Stack};
 
 /// An operation on the values of one function. Both kinds depend on variables.
 pub(crate) trait Conversion {
-    ghost use Rattle.std.specs.Prelude.{ℕ, IfSome};
+    ghost use Rattle.std.specs.Prelude.{◌≡◌, ℕ, IfSome};
     ghost use Rattle.edge_bits.specs.declared.edges.Edge.{Edge};
     ghost use Rattle.edge_bits.specs.declared.edges.Kind.{Kind};
     ghost use Rattle.function_laws.specs.Kinds.{ValueOf};
@@ -33,6 +34,10 @@ pub(crate) trait Conversion {
     /// The answer for a leaf of this number.
     fn at_leaf(&self, number: i64) -> Edge
         ensures { (w : View) → Permanent w → (e : Edge) (f : ℕ → ValueOf source) → IsLeafOf source e f number → Denotes target w result (converted (op self.now) f) };
+
+    /// The kind of the answer.
+    fn answer_kind(&self) -> Kind
+        ensures { result ≡ target };
 
     /// The key under which the store keeps the answer for a function, if there is one.
     fn key(&self, f: Edge) -> Option<Key>
@@ -136,69 +141,74 @@ fn known<G: Grow, C: Conversion>(store: &mut G, op: &C, f: Edge) -> Option<Edge>
     }
 }
 
-/// Runs on this stack, with the memo of the store.
-fn convert<G: Grow, C: Conversion + Drop>(
-    store: &mut G,
-    stack: &mut Stack,
-    op: C,
-    f: Edge,
-) -> Result<Edge, Stop>
-    requires operand { Is C.source (G.view store.old) f }
-    requires permanent { Permanent (G.view store.old) }
-    requires room { levels_of C.source (G.view store.old) ≤ stack.old.free }
-    ensures grown { Grown (G.view store.old) (G.view store.new) }
-    ensures answer { IfOk result (λ e. Denotes C.target (G.view store.new) e (converted_at C.source C.target (C.op op) (G.view store.old) f)) }
-    ensures work { Adds (value_of_one C.source C.target (C.op op) f (G.view store.old)) (G.view store.old) (G.view store.new) }
-    ensures full { IsErrOf result Stop.Full → Rose (G.view store.old) (G.view store.new) }
-    ensures due { IsErrOf result Stop.Full → IsWork (G.view store.new) (value_of_one C.source C.target (C.op op) f (G.view store.old)) (G.view store.new).due }
-    ensures frames { stack.new.frames ≡ stack.old.frames }
-{
-    let op = OneOperand { op, f };
-    without_overflow(evaluate(store, stack, &Binary(op), Task::two(f, f)))
-}
+impl<G: Grow, C: Conversion + Drop> Operation<G> for OneOperand<C> {
+    ghost use Rattle.node_store.specs.Views.{Denotes, Is};
+    ghost use Rattle.node_store.specs.ViewLaws.{Is-grown};
+    ghost use Rattle.add_ops.specs.Conversions.{converted_at, value_of_one};
+    ghost use Rattle.add_ops.specs.ConversionLasts.{converted_at-lasts, value_of_one-back};
 
-/// Makes room for as many frames as there are levels, and runs.
-fn convert_with_room<G: Grow, C: Conversion + Drop>(
-    store: &mut G,
-    stack: &mut Stack,
-    levels: u32,
-    op: C,
-    f: Edge,
-) -> Result<Edge, Stop>
-    requires operand { Is C.source (G.view store.old) f }
-    requires permanent { Permanent (G.view store.old) }
-    requires levels { levels ≡ levels_of C.source (G.view store.old) }
-    ensures grown { Grown (G.view store.old) (G.view store.new) }
-    ensures answer { IfOk result (λ e. Denotes C.target (G.view store.new) e (converted_at C.source C.target (C.op op) (G.view store.old) f)) }
-    ensures work { Adds (value_of_one C.source C.target (C.op op) f (G.view store.old)) (G.view store.old) (G.view store.new) }
-    ensures full { IsErrOf result Stop.Full → Rose (G.view store.old) (G.view store.new) }
-    ensures due { IsErrOf result Stop.Full → IsWork (G.view store.new) (value_of_one C.source C.target (C.op op) f (G.view store.old)) (G.view store.new).due }
-    ensures frames { stack.new.frames ≡ stack.old.frames }
-{
-    match stack.reserve(levels as usize) {
-        Ok(()) => convert(store, stack, op, f),
-        Err(_) => Err(Stop::Memory),
+    ghost kind = { C.target };
+
+    ghost asks = { λ o w. Is C.source w o.f };
+
+    ghost answers = { λ o v w e. Denotes C.target w e (converted_at C.source C.target (C.op o.op) v o.f) };
+
+    ghost overflows = { λ _ _. ⊥ };
+
+    ghost work = { λ o. value_of_one C.source C.target (C.op o.op) o.f };
+
+    fn answer_kind(&self) -> Kind {
+        self.op.answer_kind()
     }
+
+    fn run(self, store: &mut G, stack: &mut Stack) -> Result<Edge, Halt> {
+        let task = Task::two(self.f, self.f);
+        evaluate(store, stack, &Binary(self), task)
+    }
+
+    ghost asks_stay = { λ o v w m. Is-grown C.source m };
+
+    ghost answers_last = { λ o. converted_at-lasts C.source C.target (C.op o.op) o.f };
+
+    ghost overflows_back = { λ o v w m d over. over };
+
+    ghost work_back = { λ o. value_of_one-back C.source C.target (C.op o.op) o.f };
 }
 
-/// The operation on an operand of this kind, in the scratch that the store lends.
-pub(crate) fn call_conversion<G: Grow, C: Conversion + Drop>(
-    store: &mut G,
-    kind: Kind,
-    op: C,
-    f: Edge,
-) -> Result<Edge, Stop>
-    requires kind { kind ≡ C.source }
-    requires operand { Is C.source (G.view store.old) f }
-    ensures grown { Grown (G.view store.old) (G.view store.new) }
-    ensures answer { IfOk result (λ e. Denotes C.target (G.view store.new) e (converted_at C.source C.target (C.op op) (G.view store.old) f)) }
-    ensures work { Adds (value_of_one C.source C.target (C.op op) f (G.view store.old)) (G.view store.old) (G.view store.new) }
-    ensures full { IsErrOf result Stop.Full → Rose (G.view store.old) (G.view store.new) }
-    ensures due { IsErrOf result Stop.Full → IsWork (G.view store.new) (value_of_one C.source C.target (C.op op) f (G.view store.old)) (G.view store.new).due }
-{
-    let mut stack = store.take_scratch();
-    let levels = store.levels(kind);
-    let outcome = convert_with_room(store, &mut stack, levels, op, f);
-    store.give_scratch(stack);
-    outcome
+/// The same operation where the table of the call keeps the answers, since no key has room for what it needs.
+#[derive(Drop)]
+pub(crate) struct RememberedOperand<C>(pub OneOperand<C>);
+
+impl<G: Grow, C: Conversion + Drop> Operation<G> for RememberedOperand<C> {
+    ghost use Rattle.node_store.specs.Views.{Denotes, Is};
+    ghost use Rattle.node_store.specs.ViewLaws.{Is-grown};
+    ghost use Rattle.add_ops.specs.Conversions.{converted_at, value_of_one};
+    ghost use Rattle.add_ops.specs.ConversionLasts.{converted_at-lasts, value_of_one-back};
+
+    ghost kind = { C.target };
+
+    ghost asks = { λ o w. Is C.source w o.0.f };
+
+    ghost answers = { λ o v w e. Denotes C.target w e (converted_at C.source C.target (C.op o.0.op) v o.0.f) };
+
+    ghost overflows = { λ _ _. ⊥ };
+
+    ghost work = { λ o. value_of_one C.source C.target (C.op o.0.op) o.0.f };
+
+    fn answer_kind(&self) -> Kind {
+        self.0.op.answer_kind()
+    }
+
+    fn run(self, store: &mut G, stack: &mut Stack) -> Result<Edge, Halt> {
+        let task = Task::two(self.0.f, self.0.f);
+        evaluate(store, stack, &Remembering(self.0), task)
+    }
+
+    ghost asks_stay = { λ o v w m. Is-grown C.source m };
+
+    ghost answers_last = { λ o. converted_at-lasts C.source C.target (C.op o.0.op) o.0.f };
+
+    ghost overflows_back = { λ o v w m d over. over };
+
+    ghost work_back = { λ o. value_of_one-back C.source C.target (C.op o.0.op) o.0.f };
 }

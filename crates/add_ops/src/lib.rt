@@ -7,7 +7,6 @@ mod conversion;
 mod leaves;
 mod operations;
 mod products;
-mod remembered;
 mod selection;
 mod summation;
 mod truths;

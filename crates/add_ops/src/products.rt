@@ -3,8 +3,8 @@
 ghost use Rattle.std.specs.Prelude.{◌≡◌, ◌*ℤ◌, IfSome, IfNone, false};
 ghost use Rattle.function_laws.specs.Numbers.{is_value};
 
-use crate::leaves::{leaf_of, leaves};
-use edge_bits::Edge;
+use crate::leaves::leaf_of;
+use edge_bits::{Edge, Kind, ONE_SLOT, ZERO_SLOT};
 use node_store::operator::{Halt, Task};
 use node_store::pointwise::Pointwise;
 use node_store::{Grow, numbers};
@@ -21,17 +21,17 @@ impl<G: Grow> Pointwise<G> for Multiplication {
 
     ghost op = { λ a b. a *ℤ b };
 
-    fn terminal(&self, store: &mut G, f: Edge, g: Edge) -> Result<Option<Edge>, Halt> {
-        // Slot 3 is the number 0, and slot 4 is the number 1.
-        if f.index == 3 || g.index == 4 {
-            return Ok(Some(f));
+    fn terminal(&self, f: Edge, g: Edge) -> Option<Edge> {
+        if f.index == ZERO_SLOT || g.index == ONE_SLOT {
+            return Some(f);
         }
-        if g.index == 3 || f.index == 4 {
-            return Ok(Some(g));
+        if g.index == ZERO_SLOT || f.index == ONE_SLOT {
+            return Some(g);
         }
-        let Some((x, y)) = leaves(store, f, g) else {
-            return Ok(None);
-        };
+        None
+    }
+
+    fn at_leaves(&self, store: &mut G, _f: Edge, _g: Edge, x: i64, y: i64) -> Result<Edge, Halt> {
         match product(x, y) {
             Some(exact) => leaf_of(store, exact as i128),
             None => Err(Halt::Overflow),
@@ -40,6 +40,10 @@ impl<G: Grow> Pointwise<G> for Multiplication {
 
     fn arrange(&self, f: Edge, g: Edge) -> Task {
         Task::ordered(f, g)
+    }
+
+    fn answer_kind(&self) -> Kind {
+        Kind::Add
     }
 
     #[tactic(auto, unfolding(node_store::specs::Memo::NumberHolds))]

@@ -4,7 +4,7 @@ ghost use Rattle.edge_bits.specs.declared.edges.Kind.TheVariants.{Add};
 ghost use Rattle.node_store.specs.Three.{AreThree, IsReduced};
 ghost use Rattle.node_store.specs.Views.{View, Permanent};
 
-use edge_bits::Edge;
+use edge_bits::{Edge, Kind, TRUE_SLOT};
 use node_store::binary::flip_if;
 use node_store::conditional::{IfThenElse, Reduced};
 use node_store::numbers;
@@ -23,6 +23,10 @@ impl IfThenElse for Selection {
         reduce(f, g, h)
     }
 
+    fn answer_kind(&self) -> Kind {
+        Kind::Add
+    }
+
     #[tactic(auto, unfolding(node_store::specs::Memo::NumberHolds))]
     fn number(&self) -> u8 {
         numbers::ADD_ITE
@@ -38,7 +42,7 @@ fn reduce(f: Edge, g: Edge, h: Edge) -> Reduced
     if g == h {
         return Reduced::Answer(g);
     }
-    if f.index == 0 {
+    if f.index == TRUE_SLOT {
         return Reduced::Answer(if f.complement { h } else { g });
     }
     if f.complement {

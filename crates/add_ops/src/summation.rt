@@ -1,19 +1,18 @@
 //! Sums of a function of numbers over a variable.
 
-ghost use Rattle.std.specs.Prelude.{◌≡◌, ◌*◌, ◌≤◌, IfOk, IsErrOf, true};
-ghost use Rattle.edge_bits.specs.declared.edges.Kind.TheVariants.{Add};
+ghost use Rattle.std.specs.Prelude.{◌≡◌, IfOk, IsErrOf, true};
 ghost use Rattle.node_store.specs.Numbers.{sum_over_number};
 ghost use Rattle.node_store.specs.Splits.{CanJoin};
-ghost use Rattle.node_store.specs.Two.{Overflows};
-ghost use Rattle.node_store.specs.Views.{Denotes, Grown, Kept, Permanent, Rose};
-ghost use Rattle.node_store.specs.Work.{Adds, IsWork, Moves};
-ghost use Rattle.add_ops.specs.Sums.{HasSum, IsFound, SumAnswers, SumDue, SumSplits, summed_at, value_of_sum};
+ghost use Rattle.node_store.specs.Views.{Kept, Rose};
+ghost use Rattle.node_store.specs.Work.{IsWork, Moves};
+ghost use Rattle.add_ops.specs.Sums.{HasSum, IsFound, SumAnswers, SumDue, SumSplits, value_of_sum};
 
 use crate::arithmetic::Addition;
 use edge_bits::{Edge, Kind};
 use node_store::evaluate::evaluate;
-use node_store::operator::{Frame, Halt, Next, Operator, Task, Wait};
+use node_store::operator::{Frame, Halt, Next, Operator, Task, Turn, Wait};
 use node_store::pointwise::place_by_place;
+use node_store::scratch::Operation;
 use node_store::{Grow, Key, Opened, Stack, Stop, numbers};
 
 /// The sum of a function's cofactors by a variable, as the evaluator runs it. Above the variable a node is made of the sums of both parts; from it on down both halves are added.
@@ -77,18 +76,12 @@ impl<G: Grow> Operator<G> for Summation {
         _stack: &mut Stack,
         frame: Frame,
         answer: Edge,
-    ) -> Result<Next, Halt> {
+    ) -> Result<Turn, Halt> {
         match frame.wait {
-            Wait::First(later) => {
-                let frame = Frame {
-                    wait: Wait::Second(answer),
-                    ..frame
-                };
-                Ok(Next::Call(frame, later))
-            }
+            Wait::First(later) => Ok(Turn::Call(Wait::Second(answer), later)),
             Wait::Second(hi) => {
                 let edge = self.join(store, frame.task, frame.var, hi, answer)?;
-                Ok(Next::Done(edge))
+                Ok(Turn::Done(edge))
             }
             _ => unreachable!(),
         }
@@ -175,63 +168,49 @@ fn key_of(f: Edge, projection: Edge) -> Key
     }
 }
 
-/// Runs on this stack.
-fn sum<G: Grow>(store: &mut G, stack: &mut Stack, f: Edge, var: u32) -> Result<Edge, Halt>
-    requires operands { HasSum (G.view store.old) f var }
-    requires permanent { Permanent (G.view store.old) }
-    requires room { 2 * (G.view store.old).vars ≤ stack.old.free }
-    ensures grown { Grown (G.view store.old) (G.view store.new) }
-    ensures answer { IfOk result (λ e. Denotes Add (G.view store.new) e (summed_at (G.view store.old) f var)) }
-    ensures work { Adds (value_of_sum f var (G.view store.old)) (G.view store.old) (G.view store.new) }
-    ensures overflow { IsErrOf result Halt.Overflow → Overflows Add (summed_at (G.view store.old) f var) }
-    ensures full { IsErrOf result Halt.Full → Rose (G.view store.old) (G.view store.new) }
-    ensures due { IsErrOf result Halt.Full → IsWork (G.view store.new) (value_of_sum f var (G.view store.old)) (G.view store.new).due }
-    ensures frames { stack.new.frames ≡ stack.old.frames }
-{
-    // The slot of a variable's projection.
-    let projection = Edge::new(5 + var, false);
-    let op = Summation { f, var, projection };
-    evaluate(store, stack, &op, Task::two(f, f))
+/// A function and the variable over which it is summed.
+#[derive(Drop)]
+pub(crate) struct SumOver {
+    pub f: Edge,
+    pub var: u32,
 }
 
-/// Makes room for twice as many frames as there are levels, and runs.
-fn sum_with_room<G: Grow>(
-    store: &mut G,
-    stack: &mut Stack,
-    levels: u32,
-    f: Edge,
-    var: u32,
-) -> Result<Edge, Halt>
-    requires operands { HasSum (G.view store.old) f var }
-    requires permanent { Permanent (G.view store.old) }
-    requires levels { levels ≡ (G.view store.old).vars }
-    ensures grown { Grown (G.view store.old) (G.view store.new) }
-    ensures answer { IfOk result (λ e. Denotes Add (G.view store.new) e (summed_at (G.view store.old) f var)) }
-    ensures work { Adds (value_of_sum f var (G.view store.old)) (G.view store.old) (G.view store.new) }
-    ensures overflow { IsErrOf result Halt.Overflow → Overflows Add (summed_at (G.view store.old) f var) }
-    ensures full { IsErrOf result Halt.Full → Rose (G.view store.old) (G.view store.new) }
-    ensures due { IsErrOf result Halt.Full → IsWork (G.view store.new) (value_of_sum f var (G.view store.old)) (G.view store.new).due }
-    ensures frames { stack.new.frames ≡ stack.old.frames }
-{
-    match stack.reserve(2 * levels as usize) {
-        Ok(()) => sum(store, stack, f, var),
-        Err(_) => Err(Halt::Memory),
+impl<G: Grow> Operation<G> for SumOver {
+    ghost use Rattle.edge_bits.specs.declared.edges.Kind.TheVariants.{Add};
+    ghost use Rattle.node_store.specs.Two.{Overflows};
+    ghost use Rattle.node_store.specs.Views.{Denotes};
+    ghost use Rattle.add_ops.specs.Sums.{HasSum, summed_at, value_of_sum};
+    ghost use Rattle.add_ops.specs.SumLasts.{HasSum-grown, sum-overflows, summed_at-lasts, value_of_sum-back};
+
+    ghost kind = { Add };
+
+    ghost asks = { λ o w. HasSum w o.f o.var };
+
+    ghost answers = { λ o v w e. Denotes Add w e (summed_at v o.f o.var) };
+
+    ghost overflows = { λ o w. Overflows Add (summed_at w o.f o.var) };
+
+    ghost work = { λ o. value_of_sum o.f o.var };
+
+    fn answer_kind(&self) -> Kind {
+        Kind::Add
     }
-}
 
-/// The sum, in the scratch that the store lends.
-pub(crate) fn call_sum<G: Grow>(store: &mut G, f: Edge, var: u32) -> Result<Edge, Halt>
-    requires { HasSum (G.view store.old) f var }
-    ensures grown { Grown (G.view store.old) (G.view store.new) }
-    ensures answer { IfOk result (λ e. Denotes Add (G.view store.new) e (summed_at (G.view store.old) f var)) }
-    ensures work { Adds (value_of_sum f var (G.view store.old)) (G.view store.old) (G.view store.new) }
-    ensures overflow { IsErrOf result Halt.Overflow → Overflows Add (summed_at (G.view store.old) f var) }
-    ensures full { IsErrOf result Halt.Full → Rose (G.view store.old) (G.view store.new) }
-    ensures due { IsErrOf result Halt.Full → IsWork (G.view store.new) (value_of_sum f var (G.view store.old)) (G.view store.new).due }
-{
-    let mut stack = store.take_scratch();
-    let levels = store.levels(Kind::Add);
-    let outcome = sum_with_room(store, &mut stack, levels, f, var);
-    store.give_scratch(stack);
-    outcome
+    fn run(self, store: &mut G, stack: &mut Stack) -> Result<Edge, Halt> {
+        let projection = store.projection(self.var);
+        let op = Summation {
+            f: self.f,
+            var: self.var,
+            projection,
+        };
+        evaluate(store, stack, &op, Task::two(self.f, self.f))
+    }
+
+    ghost asks_stay = { λ o v w m. HasSum-grown m };
+
+    ghost answers_last = { λ o. summed_at-lasts o.f o.var };
+
+    ghost overflows_back = { λ o v w m d. sum-overflows o.f o.var m d };
+
+    ghost work_back = { λ o. value_of_sum-back o.f o.var };
 }

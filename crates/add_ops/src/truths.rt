@@ -3,7 +3,7 @@
 ghost use Rattle.std.specs.Prelude.{◌≡◌};
 
 use crate::conversion::Conversion;
-use edge_bits::Edge;
+use edge_bits::{Edge, Kind, TRUE_SLOT};
 use node_store::{Key, numbers};
 
 /// 1 where a truth function holds, and 0 elsewhere, as the evaluator runs it.
@@ -21,12 +21,15 @@ impl Conversion for Indicator {
     ghost op = { λ _ b. if b then pos 1 else pos 0 };
 
     fn at_leaf(&self, number: i64) -> Edge {
-        // Slot 3 is the number 0, and slot 4 is the number 1.
         if number == 0 {
-            Edge::new(3, false)
+            Edge::number_zero()
         } else {
-            Edge::new(4, false)
+            Edge::number_one()
         }
+    }
+
+    fn answer_kind(&self) -> Kind {
+        Kind::Add
     }
 
     fn key(&self, f: Edge) -> Option<Key> {
@@ -54,7 +57,11 @@ impl Conversion for NonZero {
     ghost op = { λ _ z. not (is_zero z) };
 
     fn at_leaf(&self, number: i64) -> Edge {
-        Edge::new(0, number == 0)
+        Edge::new(TRUE_SLOT, number == 0)
+    }
+
+    fn answer_kind(&self) -> Kind {
+        Kind::Bdd
     }
 
     fn key(&self, f: Edge) -> Option<Key> {
@@ -84,7 +91,11 @@ impl Conversion for LowerBound {
 
     fn at_leaf(&self, number: i64) -> Edge {
         let reaches = self.bound <= number;
-        Edge::new(0, !reaches)
+        Edge::new(TRUE_SLOT, !reaches)
+    }
+
+    fn answer_kind(&self) -> Kind {
+        Kind::Bdd
     }
 
     fn key(&self, _f: Edge) -> Option<Key> {

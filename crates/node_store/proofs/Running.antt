@@ -1,5 +1,5 @@
 -- What a run of an operator on a stack promises, and what stays of it around the run.
-use Rattle.std.proofs.Common.{◌≡◌, ℕ, Bool, true, Option, inl, inr, Result, Ok, Err, IfOk, refl, ap, sym, ◌∙◌, subst}
+use Rattle.std.proofs.Common.{◌≡◌, ℕ, Bool, true, Option, inl, inr, Result, Ok, Err, IfOk, refl, ap, sym, ◌∙◌, subst, arith}
 use Rattle.std.specs.Prelude.{IsErrOf}
 use Rattle.edge_bits.specs.declared.edges.Edge.{Edge}
 use Rattle.edge_bits.specs.declared.edges.Kind.{Kind}
@@ -7,7 +7,7 @@ use Rattle.function_laws.specs.Kinds.{Denoted, ValueOf, function_of, opposite}
 use Rattle.node_store.specs.Operations.{RunsTo}
 use Rattle.node_store.specs.Views.{View, Denotes, Kept, Rose}
 use Rattle.node_store.specs.Stacks.{Scratch}
-use Rattle.node_store.specs.ViewLaws.{Grown-refl}
+use Rattle.node_store.specs.ViewLaws.{Grown-refl, Grown-trans}
 use Rattle.node_store.specs.Work.{Adds, IsWork, Moves}
 use Rattle.node_store.specs.WorkLaws.{IsPart-grown, IsWork-grown}
 use Rattle.node_store.specs.declared.operator.Halt.{Halt}
@@ -63,3 +63,17 @@ same_scratch old new frames free answers marks = rw (frames, free, answers, mark
 pub lasting : (P Q : Edge → Type 0) (r : Result Edge Halt) → ((e : Edge) → P e → Q e) → IfOk r P → IfOk r Q
 lasting P Q (Ok e) more ok = more e ok
 lasting P Q (Err _) more ok = tt
+
+-- a run after a call that makes nothing
+pub after_kept : {IsAnswer : Edge → Type 0} {IsOver : Type 0} {Work : Denoted → Type 0} {old mid new : View} {r : Result Edge Halt}
+    → Kept old mid → RunsTo IsAnswer IsOver Work mid new r → RunsTo IsAnswer IsOver Work old new r
+after_kept {IsAnswer} {IsOver} {Work} {old} {mid} {new} {r} kept run = record {
+  grown = Grown-trans kept.grown run.grown;
+  room = tt;
+  answer = run.answer;
+  overflow = run.overflow;
+  work = λ s here. elim (run.work s here) [ inl was ↦ inl (ap (λ (h : ℕ → Bool). h s) (sym kept.made) ∙ was) | inr i ↦ inr i ];
+  memory = λ is. elim (run.memory is) [ inl short ↦ absurd short | inr may ↦ inr (kept.grown.wants may) ];
+  full = λ is few. (let a = run.full is few in let k = kept.fulls in omega (arith, a, k));
+  due = run.due;
+}

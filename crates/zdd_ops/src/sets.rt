@@ -1,11 +1,12 @@
 //! Union, intersection and difference, as the evaluator runs them.
 
-ghost use Rattle.std.specs.Prelude.{◌≡◌, ◌&&◌, ◌||◌, not};
+ghost use Rattle.std.specs.Prelude.{◌&&◌, ◌||◌, not, IfSome};
 ghost use Rattle.edge_bits.specs.declared.edges.Kind.TheVariants.{Zdd};
-ghost use Rattle.node_store.specs.Two.{Terminal};
-ghost use Rattle.node_store.specs.Views.{View, AreTwo, Permanent};
+ghost use Rattle.node_store.specs.Two.{place_at};
+ghost use Rattle.node_store.specs.Views.{View, AreTwo, Denotes, Permanent};
+ghost use Rattle.zdd_ops.specs.Elements.{AreFamilyLeaves};
 
-use edge_bits::Edge;
+use edge_bits::{EMPTY_SLOT, Edge, Kind};
 use node_store::operator::{Halt, Task};
 use node_store::pointwise::Pointwise;
 use node_store::{Grow, numbers};
@@ -22,12 +23,20 @@ impl<G: Grow> Pointwise<G> for Uniting {
 
     ghost op = { λ a b. a || b };
 
-    fn terminal(&self, _store: &mut G, f: Edge, g: Edge) -> Result<Option<Edge>, Halt> {
-        Ok(united(f, g))
+    fn terminal(&self, f: Edge, g: Edge) -> Option<Edge> {
+        united(f, g)
+    }
+
+    fn at_leaves(&self, _store: &mut G, f: Edge, g: Edge, _x: i64, _y: i64) -> Result<Edge, Halt> {
+        Ok(united_leaves(f, g))
     }
 
     fn arrange(&self, f: Edge, g: Edge) -> Task {
         Task::ordered(f, g)
+    }
+
+    fn answer_kind(&self) -> Kind {
+        Kind::Zdd
     }
 
     #[tactic(auto, unfolding(node_store::specs::Memo::FamilyHolds))]
@@ -38,20 +47,27 @@ impl<G: Grow> Pointwise<G> for Uniting {
     ghost keeps = { refl };
 }
 
-/// The union of equal families, or with Empty, which is slot 1.
+/// The union of equal families, or with Empty.
 fn united(f: Edge, g: Edge) -> Option<Edge>
-    ensures { (w : View) → Permanent w → AreTwo Zdd w f g → Terminal Zdd (λ a b. a || b) w f g result }
+    ensures { (w : View) → Permanent w → AreTwo Zdd w f g → IfSome result (λ e. Denotes Zdd w e (place_at Zdd (λ a b. a || b) w f g)) }
 {
     if f == g {
         return Some(f);
     }
-    if f.index == 1 {
+    if f.index == EMPTY_SLOT {
         return Some(g);
     }
-    if g.index == 1 {
+    if g.index == EMPTY_SLOT {
         return Some(f);
     }
     None
+}
+
+/// The union of two leaves.
+fn united_leaves(f: Edge, g: Edge) -> Edge
+    ensures { (w : View) → Permanent w → AreTwo Zdd w f g → AreFamilyLeaves w f g → Denotes Zdd w result (place_at Zdd (λ a b. a || b) w f g) }
+{
+    if f.index == EMPTY_SLOT { g } else { f }
 }
 
 /// Intersection.
@@ -66,12 +82,20 @@ impl<G: Grow> Pointwise<G> for Meeting {
 
     ghost op = { λ a b. a && b };
 
-    fn terminal(&self, _store: &mut G, f: Edge, g: Edge) -> Result<Option<Edge>, Halt> {
-        Ok(common(f, g))
+    fn terminal(&self, f: Edge, g: Edge) -> Option<Edge> {
+        common(f, g)
+    }
+
+    fn at_leaves(&self, _store: &mut G, f: Edge, g: Edge, _x: i64, _y: i64) -> Result<Edge, Halt> {
+        Ok(common_leaves(f, g))
     }
 
     fn arrange(&self, f: Edge, g: Edge) -> Task {
         Task::ordered(f, g)
+    }
+
+    fn answer_kind(&self) -> Kind {
+        Kind::Zdd
     }
 
     #[tactic(auto, unfolding(node_store::specs::Memo::FamilyHolds))]
@@ -82,20 +106,27 @@ impl<G: Grow> Pointwise<G> for Meeting {
     ghost keeps = { refl };
 }
 
-/// What equal families have in common, and what is in Empty, which is slot 1.
+/// What equal families have in common, and what is in Empty.
 fn common(f: Edge, g: Edge) -> Option<Edge>
-    ensures { (w : View) → Permanent w → AreTwo Zdd w f g → Terminal Zdd (λ a b. a && b) w f g result }
+    ensures { (w : View) → Permanent w → AreTwo Zdd w f g → IfSome result (λ e. Denotes Zdd w e (place_at Zdd (λ a b. a && b) w f g)) }
 {
     if f == g {
         return Some(f);
     }
-    if f.index == 1 {
+    if f.index == EMPTY_SLOT {
         return Some(f);
     }
-    if g.index == 1 {
+    if g.index == EMPTY_SLOT {
         return Some(g);
     }
     None
+}
+
+/// What two leaves have in common.
+fn common_leaves(f: Edge, g: Edge) -> Edge
+    ensures { (w : View) → Permanent w → AreTwo Zdd w f g → AreFamilyLeaves w f g → Denotes Zdd w result (place_at Zdd (λ a b. a && b) w f g) }
+{
+    if f.index == EMPTY_SLOT { f } else { g }
 }
 
 /// Difference.
@@ -110,12 +141,20 @@ impl<G: Grow> Pointwise<G> for Removing {
 
     ghost op = { λ a b. a && not b };
 
-    fn terminal(&self, _store: &mut G, f: Edge, g: Edge) -> Result<Option<Edge>, Halt> {
-        Ok(remaining(f, g))
+    fn terminal(&self, f: Edge, g: Edge) -> Option<Edge> {
+        remaining(f, g)
+    }
+
+    fn at_leaves(&self, _store: &mut G, f: Edge, g: Edge, _x: i64, _y: i64) -> Result<Edge, Halt> {
+        Ok(remaining_leaves(f, g))
     }
 
     fn arrange(&self, f: Edge, g: Edge) -> Task {
         Task::two(f, g)
+    }
+
+    fn answer_kind(&self) -> Kind {
+        Kind::Zdd
     }
 
     #[tactic(auto, unfolding(node_store::specs::Memo::FamilyHolds))]
@@ -126,18 +165,29 @@ impl<G: Grow> Pointwise<G> for Removing {
     ghost keeps = { refl };
 }
 
-/// What is left of a family without itself, of Empty, which is slot 1, and without Empty.
+/// What is left of a family without itself, of Empty, and without Empty.
 fn remaining(f: Edge, g: Edge) -> Option<Edge>
-    ensures { (w : View) → Permanent w → AreTwo Zdd w f g → Terminal Zdd (λ a b. a && not b) w f g result }
+    ensures { (w : View) → Permanent w → AreTwo Zdd w f g → IfSome result (λ e. Denotes Zdd w e (place_at Zdd (λ a b. a && not b) w f g)) }
 {
     if f == g {
-        return Some(Edge::new(1, false));
+        return Some(Edge::empty_family());
     }
-    if f.index == 1 {
+    if f.index == EMPTY_SLOT {
         return Some(f);
     }
-    if g.index == 1 {
+    if g.index == EMPTY_SLOT {
         return Some(f);
     }
     None
+}
+
+/// What is left of a leaf without another.
+fn remaining_leaves(f: Edge, g: Edge) -> Edge
+    ensures { (w : View) → Permanent w → AreTwo Zdd w f g → AreFamilyLeaves w f g → Denotes Zdd w result (place_at Zdd (λ a b. a && not b) w f g) }
+{
+    if g.index == EMPTY_SLOT {
+        f
+    } else {
+        Edge::empty_family()
+    }
 }

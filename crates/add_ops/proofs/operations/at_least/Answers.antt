@@ -2,16 +2,13 @@ use Rattle.std.proofs.Common.{subst, w64}
 use Rattle.std.proofs.lemmas.Int.{to_z-of_z}
 use Rattle.std.specs.Prelude.{int_le}
 use Rattle.edge_bits.specs.declared.edges.Kind.TheVariants.{Add, Bdd}
-use Rattle.node_store.specs.Work.{Adds, IsWork}
+use Rattle.function_laws.specs.Numbers.{at_least}
+use Rattle.node_store.specs.Operations.{Calls}
+use Rattle.node_store.specs.Views.{add_at}
 use Rattle.add_ops.specs.Conversions.{value_of_one}
 use Rattle.add_ops.proofs.operations.at_least.Goals as goal
 
-pub returns-clause-work : goal.returns-clause-work
-returns-clause-work g c =
-    subst (λ y. Adds (value_of_one Add Bdd (λ z. int_le y z) c.args.f (g.G.Grow.view c.args.store.now)) (g.G.Grow.view c.args.store.now) (g.G.Grow.view c.call_remembering.new.store))
-    (to_z-of_z w64 c.args.value c.ranges.value) c.call_remembering.ensures.work
-
-pub returns-clause-due : goal.returns-clause-due
-returns-clause-due g c = λ is.
-    subst (λ y. IsWork (g.G.Grow.view c.call_remembering.new.store) (value_of_one Add Bdd (λ z. int_le y z) c.args.f (g.G.Grow.view c.args.store.now)) (g.G.Grow.view c.call_remembering.new.store).due)
-    (to_z-of_z w64 c.args.value c.ranges.value) (c.call_remembering.ensures.due is)
+pub returns : goal.returns
+returns g c =
+    let v = g.G.Grow.view c.args.store.now in let w = g.G.Grow.view c.in_scratch.new.store in
+    rw c.without_overflow.ensures (subst (λ y. Calls Bdd (at_least (add_at v c.args.f) y) (value_of_one Add Bdd (λ z. int_le y z) c.args.f v) v w c.in_scratch.result) (to_z-of_z w64 c.args.value c.ranges.value) c.in_scratch.ensures)

@@ -23,7 +23,7 @@ pub memo_put-requires-clause-key : goal.memo_put-requires-clause-key
 memo_put-requires-clause-key g c =
     let o = c.args.self.now in let p = c.requires.1 in let m = c.in_ok-edge.ensures.grown in
     let d = SumDue-stays o.f o.var o.projection _ _ c.args.task m p.due in
-    rw c.key_of.ensures (sum_key _ d.permanent c.args.task.f o.projection o.var d.projection d.edge d.root.in_range)
+    rw c.key_of.ensures (sum_key _ c.args.task.f o.projection o.var d.projection d.edge)
 
 pub memo_put-requires-clause-holds : goal.memo_put-requires-clause-holds
 memo_put-requires-clause-holds g c =

@@ -1,5 +1,0 @@
-use Rattle.node_store.specs.HaltLaws.{without_overflow_keeps}
-use Rattle.add_ops.proofs.operations.max.Goals as goal
-
-pub returns-clause-max : goal.returns-clause-max
-returns-clause-max g c = without_overflow_keeps _ _ _ c.without_overflow.ensures.ok c.call_place_by_place.ensures.answer
