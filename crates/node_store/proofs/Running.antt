@@ -1,15 +1,18 @@
 -- What a run of an operator on a stack promises, and what stays of it around the run.
-use Rattle.std.proofs.Common.{◌≡◌, ℕ, Bool, true, Option, inl, inr, Result, Ok, Err, IfOk, refl, ap, sym, ◌∙◌, subst, arith}
-use Rattle.std.specs.Prelude.{IsErrOf}
+use Rattle.std.proofs.Common.{◌≡◌, ℕ, Bool, true, Option, Some, inl, inr, Result, Ok, Err, IfOk, refl, ap, sym, ◌∙◌, subst, arith}
+use Rattle.std.specs.Prelude.{◌⊎◌, IsErrOf, IsOkAnd}
 use Rattle.edge_bits.specs.declared.edges.Edge.{Edge}
 use Rattle.edge_bits.specs.declared.edges.Kind.{Kind}
 use Rattle.function_laws.specs.Kinds.{Denoted, ValueOf, function_of, opposite}
-use Rattle.node_store.specs.Operations.{RunsTo}
-use Rattle.node_store.specs.Views.{View, Denotes, Kept, Rose}
+use Rattle.node_store.specs.Operations.{Calls, RunsTo, halts}
+use Rattle.node_store.specs.Views.{View, Denotes, Grown, Kept, Rose}
 use Rattle.node_store.specs.Stacks.{Scratch}
 use Rattle.node_store.specs.ViewLaws.{Grown-refl, Grown-trans}
-use Rattle.node_store.specs.Work.{Adds, IsWork, Moves}
-use Rattle.node_store.specs.WorkLaws.{IsPart-grown, IsWork-grown}
+use Rattle.node_store.specs.Two.{Overflows}
+use Rattle.node_store.specs.Work.{Adds, IsWork, Moves, whole}
+use Rattle.node_store.specs.WorkLaws.{IsPart-grown, IsWork-due, IsWork-edge, IsWork-grown}
+use Rattle.node_store.specs.declared.grow.Stop.{Stop}
+use Rattle.node_store.specs.declared.grow.Stop.TheVariants as stop
 use Rattle.node_store.specs.declared.operator.Halt.{Halt}
 use Rattle.node_store.specs.declared.operator.Halt.TheVariants.{Memory, Full, Overflow}
 
@@ -77,3 +80,43 @@ after_kept {IsAnswer} {IsOver} {Work} {old} {mid} {new} {r} kept run = record {
   full = λ is few. (let a = run.full is few in let k = kept.fulls in omega (arith, a, k));
   due = run.due;
 }
+
+-- what one call of a store for a function's own node or leaf promises, after a call that makes nothing
+pub stored_calls : (k : Kind) (value : ℕ → ValueOf k) (v u w : View) (r : Result Edge Stop) → Kept v u → u.room ≡ v.room → Grown u w → w.room ≡ u.room
+    → ((s : ℕ) → w.made s ≡ true → (u.made s ≡ true) ⊎ IsOkAnd r (λ e. e.index ≡ s)) → IfOk r (λ e. Denotes k w e value)
+    → (IsErrOf r stop.Memory → u.may_want_memory ≡ true) → (IsErrOf r stop.Full → Rose u w) → (IsErrOf r stop.Full → w.due ≡ Some (function_of k value))
+    → Calls k value (λ F. F ≡ function_of k value) v w (halts r)
+stored_calls k value v u w r kept first m second made ok memory full due = record {
+  grown = Grown-trans kept.grown m;
+  room = omega arith;
+  answer = by_answer r ok;
+  overflow = by_overflow r;
+  work = λ s here. by_made r ok s (elim (made s here) [ inl old ↦ inl (ap (λ (h : ℕ → Bool). h s) (sym kept.made) ∙ old) | inr new ↦ inr new ]);
+  memory = λ is. inr (kept.grown.wants (by_memory r memory is));
+  full = λ is few. (let a = by_full r full is few in let b = kept.fulls in omega (arith, a, b));
+  due = λ is. IsWork-due k w (λ F. F ≡ function_of k value) value value refl whole (by_full r due is);
+}
+  where
+    by_answer : (r : Result Edge Stop) → IfOk r (λ e. Denotes k w e value) → IfOk (halts r) (λ e. Denotes k w e value)
+    by_answer (Ok e) ok = ok
+    by_answer (Err s) ok = tt
+
+    by_made : {P : Type 0} (r : Result Edge Stop) → IfOk r (λ e. Denotes k w e value) → (s : ℕ) → P ⊎ IsOkAnd r (λ e. e.index ≡ s) → P ⊎ IsWork w (λ F. F ≡ function_of k value) (w.content s)
+    by_made r ok s (inl old) = inl old
+    by_made (Ok e) ok s (inr same) = inr (subst (λ x. IsWork w (λ F. F ≡ function_of k value) (w.content x)) same (IsWork-edge k w (λ F. F ≡ function_of k value) e value value refl whole ok))
+    by_made (Err stop) ok s (inr bad) = absurd bad
+
+    by_overflow : (r : Result Edge Stop) → IsErrOf (halts r) Overflow → Overflows k value
+    by_overflow (Ok e) is = cc
+    by_overflow (Err stop.Memory) is = cc
+    by_overflow (Err stop.Full) is = cc
+
+    by_memory : {P : Type 0} (r : Result Edge Stop) → (IsErrOf r stop.Memory → P) → IsErrOf (halts r) Memory → P
+    by_memory (Ok e) more is = cc
+    by_memory (Err stop.Memory) more is = more refl
+    by_memory (Err stop.Full) more is = cc
+
+    by_full : {P : Type 0} (r : Result Edge Stop) → (IsErrOf r stop.Full → P) → IsErrOf (halts r) Full → P
+    by_full (Ok e) more is = cc
+    by_full (Err stop.Memory) more is = cc
+    by_full (Err stop.Full) more is = more refl

@@ -11,7 +11,7 @@ use Rattle.function_laws.specs.Families.{base, IsWithout}
 use Rattle.function_laws.proofs.ValueLemmas.{everywhere}
 use Rattle.function_laws.specs.Kinds.{ValueOf, Lacks, absent_part, Keeps}
 use Rattle.node_store.specs.Views.{View, levels, IsVariable, Denotes, Is, values_at, IsBelow, Grown, Splits, CanMake, node_values, IsInner, IsLeaf, IsLeafOf, logic_one, logic_zero, number, no_member, only_base, Permanent, PartsAt, IsTop, AreTwo}
-use Rattle.node_store.specs.ViewLaws.{Is-from, values_at-is, Splits-absent, IsBelow-inner, Denotes-empty}
+use Rattle.node_store.specs.ViewLaws.{Denotes-empty, Is-from, IsBelow-inner, Splits-absent, Splits-grown, level-grown, top-grown, values_at-is}
 use Rattle.node_store.specs.Two.{place_at, IsOrderFor, TwoAnswers, TwoSplits, two_depth, TwoDue, Overflows}
 use Rattle.node_store.specs.Parts.{absent_edge}
 use Rattle.node_store.specs.Splits.{Leads, Branches}
@@ -123,6 +123,12 @@ PartsAt-leaf k w p v e f x vn d same i within =
     let here = i.here in
     let lt : w.level v < w.top e.index = omega arith in
     PartsAt-absent k w p v e f vn d same (λ u un le. Lacks-leaf k e f x i.leaf u) within lt
+
+pub PartsAt-grown : (k : Kind) {v w : View} {e hi lo : Edge} {f : ℕ → ValueOf k} {x : ℕ} → Grown v w → PartsAt k v e f x hi lo → PartsAt k w e f x hi lo
+PartsAt-grown k {v} {w} {e} {hi} {lo} {f} {x} g p =
+    let h = p.hi_top in let l = p.lo_top in
+    let th = top-grown k g p.splits.hi_is in let tl = top-grown k g p.splits.lo_is in let lv = level-grown g x in
+    record { splits = Splits-grown k g p.splits; hi_top = omega arith; lo_top = omega arith }
 
 -- the two parts of a task at its top variable, in the view where both are known
 pub Two-branches : (k : Kind) (op : ValueOf k → ValueOf k → ValueOf k) → Keeps k op → (f g : Edge) (w : View) (t : Task) (b : Branch)

@@ -8,9 +8,11 @@ use Rattle.node_store.specs.Views.{View, AreTwo, Denotes, Grown, Permanent, fami
 use Rattle.node_store.specs.ViewLaws.{Grown-refl, values_at-grown, values_at-is}
 use Rattle.node_store.specs.Work.{Adds, IsPart, IsWork, Moves, whole}
 use Rattle.node_store.specs.WorkLaws.{IsPart-back, IsWork-grown}
+use Rattle.node_store.specs.Operations.{halts}
 use Rattle.node_store.specs.declared.grow.Stop.{Stop}
+use Rattle.node_store.specs.declared.operator.Halt.{Halt}
 use Rattle.node_store.specs.declared.operator.Task.{Task}
-use Rattle.zdd_ops.specs.Members.{product-is}
+use Rattle.zdd_ops.proofs.Members.{product-is}
 use Rattle.zdd_ops.specs.Products.{IsProductOfParts, IsTask, ProductAnswers, ProductDue, ReachesFor, product_at, product_depth, product_work, depth_for}
 use Rattle.zdd_ops.specs.ProductLasts.{portion-grown}
 use Rattle.zdd_ops.specs.Quotients.{QuotientAnswers, QuotientDue, quotient_at, quotient_work}
@@ -37,55 +39,6 @@ pub product_value : (a w : View) (p q : Edge) (t : Task) (e : Edge) → Grown a 
 product_value a w p q t e m d i is = subst (Denotes Zdd w e)
     (task_asks w p q Whole t i ∙ ap₂ (product_at w) (values_at-grown Zdd m d.first) (values_at-grown Zdd m d.second) ∙ portion-grown a w m Whole (family_at a p) (family_at a q)) is
 
-module _ (a w : View) (p q : Edge) (m : Grown a w) (d : AreTwo Zdd a p q) where
-  parts_back : (r : ℕ → Bool) → IsProductOfParts p q w r → IsProductOfParts p q a r
-  parts_back r i = record {
-    first = i.first;
-    second = i.second;
-    f_part = IsPart-back Zdd m (family_at a p) i.first (subst (λ f. IsPart Zdd w f i.first) (values_at-grown Zdd m d.first) i.f_part);
-    g_part = IsPart-back Zdd m (family_at a q) i.second (subst (λ f. IsPart Zdd w f i.second) (values_at-grown Zdd m d.second) i.g_part);
-    is = i.is ∙ portion-grown a w m Whole i.first i.second;
-  }
-
-  pub product_back : (F : Denoted) → product_work p q w F → product_work p q a F
-  product_back F (r, is, inl one) = (r, is, inl (parts_back r one))
-  product_back F (r, is, inr two) = (
-    r,
-    is,
-    inr (record {
-      one = two.one;
-      other = two.other;
-      one_is = parts_back two.one two.one_is;
-      other_is = parts_back two.other two.other_is;
-      is = two.is;
-    }),
-  )
-
-  pub product_start : (o : Option Denoted) → IsWork w (product_work p q w) o → IsWork w (product_work p q a) o
-  product_start o i = IsWork-grown (Grown-refl w) (product_work p q w) (product_work p q a) product_back o i
-
-  pub product_adds : Moves (λ u. AreTwo Zdd u p q) (product_work p q) a w → Adds (product_work p q a) a w
-  product_adds moves s h = elim (moves.work d s h) [ inl old ↦ inl old | inr i ↦ inr (product_start (w.content s) i) ]
-
-  pub quotient_back : (F : Denoted) → quotient_work p q w F → quotient_work p q a F
-  quotient_back F (r, is, i) = (
-    r,
-    is,
-    record {
-      first = i.first;
-      second = i.second;
-      f_part = IsPart-back Zdd m (family_at a p) i.first (subst (λ f. IsPart Zdd w f i.first) (values_at-grown Zdd m d.first) i.f_part);
-      g_part = IsPart-back Zdd m (family_at a q) i.second (subst (λ f. IsPart Zdd w f i.second) (values_at-grown Zdd m d.second) i.g_part);
-      is = i.is ∙ quotient-grown a w m i.first i.second;
-    },
-  )
-
-  pub quotient_start : (o : Option Denoted) → IsWork w (quotient_work p q w) o → IsWork w (quotient_work p q a) o
-  quotient_start o i = IsWork-grown (Grown-refl w) (quotient_work p q w) (quotient_work p q a) quotient_back o i
-
-  pub quotient_adds : Moves (λ u. AreTwo Zdd u p q) (quotient_work p q) a w → Adds (quotient_work p q a) a w
-  quotient_adds moves s h = elim (moves.work d s h) [ inl old ↦ inl old | inr i ↦ inr (quotient_start (w.content s) i) ]
-
 -- the task of a quotient
 pub quotient_root : (w : View) (p q : Edge) (t : Task) → Permanent w → AreTwo Zdd w p q → t.f ≡ p → t.g ≡ q → QuotientDue p q w t
 quotient_root w p q t permanent d ef eg = record {
@@ -101,12 +54,17 @@ quotient_value a w p q t e m d ef eg is = subst (Denotes Zdd w e)
     (ap₂ (λ x y. quotient_at w (family_at w x) (family_at w y)) ef eg ∙ quotient_of-grown a w m p q d) is
 
 -- the members of an answer
-pub product_members : (a w : View) (p q : Edge) (r : Result Edge Stop) → AreTwo Zdd a p q → IfOk r (λ e. Denotes Zdd w e (product_at a (family_at a p) (family_at a q))) → IfOk r (λ e. IsProduct (family_at a p) (family_at a q) (family_at w e))
+pub product_members : (a w : View) (p q : Edge) (r : Result Edge Halt) → AreTwo Zdd a p q → IfOk r (λ e. Denotes Zdd w e (product_at a (family_at a p) (family_at a q))) → IfOk r (λ e. IsProduct (family_at a p) (family_at a q) (family_at w e))
 product_members a w p q (Ok e) d is = subst (IsProduct (family_at a p) (family_at a q)) (sym (values_at-is Zdd is))
     (product-is (2 ^ a.elements) (family_at a p) (family_at a q) (Is-within a p (family_at a p) d.first) (Is-within a q (family_at a q) d.second))
-product_members a w p q (Err stop) d is = is
+product_members a w p q (Err halt) d is = is
 
-pub quotient_members : (a w : View) (p q : Edge) (r : Result Edge Stop) → AreTwo Zdd a p q → IfOk r (λ e. Denotes Zdd w e (quotient_at a (family_at a p) (family_at a q))) → IfOk r (λ e. IsQuotient (family_at a p) (family_at a q) (family_at w e))
+pub quotient_members : (a w : View) (p q : Edge) (r : Result Edge Halt) → AreTwo Zdd a p q → IfOk r (λ e. Denotes Zdd w e (quotient_at a (family_at a p) (family_at a q))) → IfOk r (λ e. IsQuotient (family_at a p) (family_at a q) (family_at w e))
 quotient_members a w p q (Ok e) d is = subst (IsQuotient (family_at a p) (family_at a q)) (sym (values_at-is Zdd is))
     (quotient-is (2 ^ a.elements) (family_at a p) (family_at a q) (Is-within a q (family_at a q) d.second))
-quotient_members a w p q (Err stop) d is = is
+quotient_members a w p q (Err halt) d is = is
+
+-- what holds of an answer holds of it where the outcome is told without an overflow
+pub ok_only : (P : Edge → Type 0) (outcome : Result Edge Halt) (result : Result Edge Stop) → halts result ≡ outcome → IfOk outcome P → IfOk result P
+ok_only P outcome (Ok e) is holds = subst (λ r. IfOk r P) (sym is) holds
+ok_only P outcome (Err stop) is holds = tt

@@ -7,8 +7,8 @@ use Rattle.edge_bits.proofs.AssignmentLemmas.{bit-set_same, set_bit-set_same}
 use Rattle.function_laws.specs.Families.{IsWithout, base, empty, joined, product, subset0, subset1, union}
 use Rattle.function_laws.proofs.FamilyLemmas.{joined-subsets}
 use Rattle.function_laws.proofs.ValueLemmas.{everywhere}
-use Rattle.zdd_ops.specs.Combinations.{bit-or}
-use Rattle.zdd_ops.specs.Members.{IsProduct-unique, IsWithin, and_both, and_left, and_right, clash, or_comm, or_set, own, product-is, product-unions, same_truth, two_ways, unions-product, zero_or}
+use Rattle.zdd_ops.proofs.Combinations.{bit-or}
+use Rattle.zdd_ops.proofs.Members.{IsProduct-unique, IsWithin, and_both, and_left, and_right, clash, or_comm, or_set, own, product-is, product-unions, same_truth, two_ways, unions-product, zero_or}
 
 -- members of a node's family
 pub has_not : (p : ℕ → Bool) (e b : ℕ) → IsWithout p e → p b ≡ true → bit b e ≡ false

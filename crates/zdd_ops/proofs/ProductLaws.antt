@@ -1,4 +1,5 @@
 -- Products of families, step by step.
+use Rattle.edge_bits.specs.Permanent.{base_slot, empty_slot, first_element}
 use Rattle.std.proofs.Common.{◌≡◌, ◌≢◌, ℕ, ◌+◌, ◌-◌, ◌*◌, ◌^◌, ◌<◌, ◌≤◌, Bool, true, false, cond, Some, ℤ, inl, inr, not, ◌&&◌, refl, ap, ap₂, sym, ◌∙◌, subst, arith}
 use Rattle.std.specs.Prelude.{min}
 use Rattle.std.proofs.lemmas.Bool.{cases_eq, eqb-true}
@@ -24,15 +25,15 @@ use Rattle.zdd_ops.specs.Elementwise.{subset1-lacks}
 use Rattle.node_store.specs.KindLaws.{Apart, Lacks-joined}
 use Rattle.node_store.specs.Work.{IsPart, cut, whole}
 use Rattle.node_store.specs.WorkLaws.{IsPart-half}
-use Rattle.zdd_ops.specs.Members.{IsWithin, clash, two_ways}
+use Rattle.zdd_ops.proofs.Members.{IsWithin, clash, two_ways}
 use Rattle.zdd_ops.specs.Products.{AreParts, CanPartBoth, IsAt, IsPartedTask, IsProductOfParts, IsTask, ProductAnswers, ProductDue, ProductSplits, Reaches, ReachesFor, asked_by, depth_for, product_depth, portion_in, portion_of, product_at, product_work}
 use Rattle.zdd_ops.proofs.ProductFamilies.{product-base, product-comm, product-empty, product-joined, product-lacks, product-then}
 
 -- the members of a store's family are combinations of its elements
 pub Is-within : (w : View) (e : Edge) (f : ℕ → Bool) → Denotes Zdd w e f → IsWithin (2 ^ w.elements) f
 Is-within w e f d a h = below_from_bits w.elements a (λ i from. elim (two_ways (bit a i)) [
-  | inl has ↦ (let same : element_of (16384 + i) ≡ i = omega arith in
-      clash (f a) h (d.beyond (16384 + i) (omega arith) a (subst (λ x. bit a x ≡ true) (sym same) has)))
+  | inl has ↦ (let same : element_of (first_element + i) ≡ i = omega arith in
+      clash (f a) h (d.beyond (first_element + i) (omega arith) a (subst (λ x. bit a x ≡ true) (sym same) has)))
   | inr lacks ↦ sym (digit-bit a i) ∙ ap digit lacks
 ])
 
@@ -40,14 +41,14 @@ pub base-within : (n : ℕ) → IsWithin (2 ^ n) base
 base-within n a h = let none = eqb-true a 0 h in subst (λ x. x < 2 ^ n) (sym none) (pow_pos n)
 
 -- slots 1 and 2
-pub empty_at : (w : View) → Permanent w → (e : Edge) → e.index ≡ 1 → family_at w e ≡ empty
+pub empty_at : (w : View) → Permanent w → (e : Edge) → e.index ≡ empty_slot → family_at w e ≡ empty
 empty_at w p e one = ap (λ s. values_of Zdd (flipped e.complement (w.content s))) one ∙ ap (λ o. values_of Zdd (flipped e.complement o)) p.empty ∙ by_complement e.complement
   where
     by_complement : (c : Bool) → values_of Zdd (flipped c (Some (ZddFamily empty))) ≡ empty
     by_complement true = refl
     by_complement false = refl
 
-pub base_at : (w : View) → Permanent w → (e : Edge) → Is Zdd w e → e.index ≡ 2 → family_at w e ≡ base
+pub base_at : (w : View) → Permanent w → (e : Edge) → Is Zdd w e → e.index ≡ base_slot → family_at w e ≡ base
 base_at w p e d two = by_complement e.complement (ap (λ s. flipped e.complement (w.content s)) two ∙ ap (flipped e.complement) p.base) d.is
   where
     by_complement : (c : Bool) → flipped e.complement (w.content e.index) ≡ flipped c (Some (ZddFamily base)) → flipped e.complement (w.content e.index) ≡ Some (ZddFamily (family_at w e)) → family_at w e ≡ base
@@ -64,26 +65,26 @@ module _ (w : View) (f g : Edge) (p : Permanent w) (d : AreTwo Zdd w f g) where
   pub Product-comm : product_at w (family_at w f) (family_at w g) ≡ product_at w (family_at w g) (family_at w f)
   Product-comm = product-comm (2 ^ w.elements) (family_at w f) (family_at w g) wf wg
 
-  pub first_empty : f.index ≡ 1 → Denotes Zdd w f (product_at w (family_at w f) (family_at w g))
+  pub first_empty : f.index ≡ empty_slot → Denotes Zdd w f (product_at w (family_at w f) (family_at w g))
   first_empty one = let is = empty_at w p f one in
       subst (λ x. Denotes Zdd w f x) (is ∙ sym (product-empty (2 ^ w.elements) (family_at w g)) ∙ ap (λ x. product_at w x (family_at w g)) (sym is)) d.first
 
-  pub second_empty : g.index ≡ 1 → Denotes Zdd w g (product_at w (family_at w f) (family_at w g))
+  pub second_empty : g.index ≡ empty_slot → Denotes Zdd w g (product_at w (family_at w f) (family_at w g))
   second_empty one = let is = empty_at w p g one in
       subst (λ x. Denotes Zdd w g x) (is ∙ sym (product-empty (2 ^ w.elements) (family_at w f)) ∙ ap (λ x. product_at w x (family_at w f)) (sym is) ∙ sym Product-comm) d.second
 
-  pub first_base : f.index ≡ 2 → Denotes Zdd w g (product_at w (family_at w f) (family_at w g))
+  pub first_base : f.index ≡ base_slot → Denotes Zdd w g (product_at w (family_at w f) (family_at w g))
   first_base two = let is = base_at w p f d.first two in
       subst (λ x. Denotes Zdd w g x) (sym (product-base (2 ^ w.elements) (family_at w g) (base-within w.elements) wg) ∙ ap (λ x. product_at w x (family_at w g)) (sym is)) d.second
 
-  pub second_base : g.index ≡ 2 → Denotes Zdd w f (product_at w (family_at w f) (family_at w g))
+  pub second_base : g.index ≡ base_slot → Denotes Zdd w f (product_at w (family_at w f) (family_at w g))
   second_base two = let is = base_at w p g d.second two in
       subst (λ x. Denotes Zdd w f x) (sym (product-base (2 ^ w.elements) (family_at w f) (base-within w.elements) wf) ∙ ap (λ x. product_at w x (family_at w f)) (sym is) ∙ sym Product-comm) d.first
 
-pub no_leaf : (w : View) (f g : Edge) → (f.index ≡ 1 → ⊥) → (f.index ≡ 2 → ⊥) → NotBothLeaves Zdd w f g
+pub no_leaf : (w : View) (f g : Edge) → (f.index ≡ empty_slot → ⊥) → (f.index ≡ base_slot → ⊥) → NotBothLeaves Zdd w f g
 no_leaf w f g not_empty not_base x y i j = leaf_is f (family_at w f) x i.leaf not_empty not_base
   where
-    leaf_is : (e : Edge) (h : ℕ → Bool) (z : ℤ) → IsLeafOf Zdd e h z → (e.index ≡ 1 → ⊥) → (e.index ≡ 2 → ⊥) → ⊥
+    leaf_is : (e : Edge) (h : ℕ → Bool) (z : ℤ) → IsLeafOf Zdd e h z → (e.index ≡ empty_slot → ⊥) → (e.index ≡ base_slot → ⊥) → ⊥
     leaf_is _ _ _ no_member a b = a refl
     leaf_is _ _ _ only_base a b = b refl
 

@@ -9,9 +9,9 @@ use Rattle.function_laws.specs.Families.{IsWithout, base, empty, joined, meet, q
 use Rattle.function_laws.specs.Products.{FitsEach, IsQuotient}
 use Rattle.function_laws.proofs.ListLemmas.{all_below-true, any_below-true, true-all_below, true-any_below}
 use Rattle.function_laws.proofs.ValueLemmas.{everywhere}
-use Rattle.zdd_ops.specs.Combinations.{bit-and, bit-or, bit-zero}
+use Rattle.zdd_ops.proofs.Combinations.{bit-and, bit-or, bit-zero}
 use Rattle.zdd_ops.specs.Quotients.{HasMember}
-use Rattle.zdd_ops.specs.Members.{IsWithin, and_both, and_left, and_right, and_set, and_zero, clash, or_set, or_zero, own, same_truth, two_ways}
+use Rattle.zdd_ops.proofs.Members.{IsWithin, and_both, and_left, and_right, and_set, and_zero, clash, or_set, or_zero, own, same_truth, two_ways}
 use Rattle.zdd_ops.proofs.ProductFamilies.{from_else, from_then, has_not, in_else, in_then}
 
 -- the test of one member of the divisor

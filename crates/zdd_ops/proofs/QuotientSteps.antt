@@ -1,4 +1,5 @@
 -- The steps of a quotient, from view to view.
+use Rattle.edge_bits.specs.Permanent.{base_slot, empty_slot}
 use Rattle.std.proofs.Common.{◌≡◌, ℕ, ◌^◌, ◌<◌, ◌≤◌, eqb, Bool, true, false, cond, ◌&&◌, Option, Some, ℤ, ◌⊎◌, inl, inr, refl, ap, ap₂, sym, ◌∙◌, subst, arith, of_z, w64}
 use Rattle.std.specs.Prelude.{min}
 use Rattle.edge_bits.specs.Assignments.{set_bit}
@@ -23,8 +24,8 @@ use Rattle.node_store.specs.WorkLaws.{IsPart-half, IsWork-due, Moves-made}
 use Rattle.node_store.specs.declared.binary.Branch.{Branch}
 use Rattle.node_store.specs.declared.operator.Task.{Task}
 use Rattle.node_store.proofs.TwoParts.{PartsAt-grown}
-use Rattle.zdd_ops.specs.Combinations.{base-without}
-use Rattle.zdd_ops.specs.Members.{IsWithin, clash, two_ways}
+use Rattle.zdd_ops.proofs.Combinations.{base-without}
+use Rattle.zdd_ops.proofs.Members.{IsWithin, clash, two_ways}
 use Rattle.zdd_ops.specs.Products.{CanPartBoth}
 use Rattle.zdd_ops.specs.Quotients.{AreByIt, HasMember, IsSplitTask, LacksIt, QuotientAnswers, QuotientDue, QuotientSplits, quotient_at, quotient_key, quotient_work}
 use Rattle.zdd_ops.specs.QuotientLasts.{QuotientDue-stays, quotient_of-grown, quotient_work-stays}
@@ -78,22 +79,22 @@ module _ (w : View) (f g : Edge) (p : Permanent w) (d : AreTwo Zdd w f g) where
   wg : IsWithin (2 ^ w.elements) (family_at w g)
   wg = Is-within w g (family_at w g) d.second
 
-  pub by_empty : g.index ≡ 1 → Denotes Zdd w g (quotient_at w (family_at w f) (family_at w g))
+  pub by_empty : g.index ≡ empty_slot → Denotes Zdd w g (quotient_at w (family_at w f) (family_at w g))
   by_empty one = let is = empty_at w p g one in
       subst (Denotes Zdd w g) (is ∙ sym (quotient-by_empty (2 ^ w.elements) (family_at w f)) ∙ ap (quotient_at w (family_at w f)) (sym is)) d.second
 
-  pub of_empty : f.index ≡ 1 → Denotes Zdd w f (quotient_at w (family_at w f) (family_at w g))
+  pub of_empty : f.index ≡ empty_slot → Denotes Zdd w f (quotient_at w (family_at w f) (family_at w g))
   of_empty one = let is = empty_at w p f one in
       subst (Denotes Zdd w f) (is ∙ sym (quotient-of_empty (2 ^ w.elements) (family_at w g) wg) ∙ ap (λ x. quotient_at w x (family_at w g)) (sym is)) d.first
 
-  pub by_base : g.index ≡ 2 → Denotes Zdd w f (quotient_at w (family_at w f) (family_at w g))
+  pub by_base : g.index ≡ base_slot → Denotes Zdd w f (quotient_at w (family_at w f) (family_at w g))
   by_base two = let is = base_at w p g d.second two in
       subst (Denotes Zdd w f) (sym (quotient-by_base (2 ^ w.elements) (family_at w f) (base-within w.elements)) ∙ ap (quotient_at w (family_at w f)) (sym is)) d.first
 
-pub no_leaf : (w : View) (f g : Edge) → (g.index ≡ 1 → ⊥) → (g.index ≡ 2 → ⊥) → NotBothLeaves Zdd w f g
+pub no_leaf : (w : View) (f g : Edge) → (g.index ≡ empty_slot → ⊥) → (g.index ≡ base_slot → ⊥) → NotBothLeaves Zdd w f g
 no_leaf w f g not_empty not_base x y i j = leaf_is g (family_at w g) y j.leaf not_empty not_base
   where
-    leaf_is : (e : Edge) (h : ℕ → Bool) (z : ℤ) → IsLeafOf Zdd e h z → (e.index ≡ 1 → ⊥) → (e.index ≡ 2 → ⊥) → ⊥
+    leaf_is : (e : Edge) (h : ℕ → Bool) (z : ℤ) → IsLeafOf Zdd e h z → (e.index ≡ empty_slot → ⊥) → (e.index ≡ base_slot → ⊥) → ⊥
     leaf_is _ _ _ no_member a b = a refl
     leaf_is _ _ _ only_base a b = b refl
 

@@ -1,4 +1,5 @@
 -- Operations by one element, step by step.
+use Rattle.edge_bits.specs.Permanent.{empty_edge}
 use Rattle.std.proofs.Common.{◌≡◌, ◌≢◌, ℕ, ◌<◌, ◌≤◌, Bool, true, false, cond, Option, Some, ℤ, ◌⊎◌, inl, inr, refl, ap, sym, ◌∙◌, subst, arith}
 use Rattle.edge_bits.specs.declared.edges.Edge.{Edge}
 use Rattle.edge_bits.specs.declared.edges.Kind.TheVariants.{Zdd}
@@ -6,14 +7,14 @@ use Rattle.edge_bits.specs.Reading.{element_of}
 use Rattle.function_laws.specs.Families.{IsWithout, change, joined, subset0, subset1}
 use Rattle.function_laws.proofs.FamilyLemmas.{subset0-joined, subset1-joined}
 use Rattle.function_laws.specs.Kinds.{Denoted, ZddFamily}
-use Rattle.node_store.specs.Views.{View, CanMake, Denotes, Grown, Is, IsBelow, IsInner, IsLeaf, IsLeafOf, IsVariable, Kept, Permanent, Splits, empty_edge, family_at, no_member, node_values, only_base}
+use Rattle.node_store.specs.Views.{View, CanMake, Denotes, Grown, Is, IsBelow, IsInner, IsLeaf, IsLeafOf, IsVariable, Kept, Permanent, Splits, family_at, no_member, node_values, only_base}
 use Rattle.node_store.specs.ViewLaws.{Apart-variables, Denotes-empty, Denotes-grown, Grown-refl, Grown-trans, IsBelow-inner, Is-from, Splits-absent, values_at-grown, values_at-is}
 use Rattle.node_store.specs.Splits.{Branches}
 use Rattle.node_store.specs.Work.{Adds, IsWork, Moves}
 use Rattle.node_store.specs.WorkLaws.{IsPart-grown, IsPart-half, IsWork-due, IsWork-grown, Moves-made}
 use Rattle.node_store.specs.declared.binary.Branch.{Branch}
 use Rattle.node_store.specs.declared.operator.Task.{Task}
-use Rattle.zdd_ops.specs.Combinations.{base-without}
+use Rattle.zdd_ops.proofs.Combinations.{base-without}
 use Rattle.zdd_ops.specs.Elementwise.{change-joined}
 use Rattle.zdd_ops.specs.Subsets.{Operation, SubsetAnswers, SubsetDue, SubsetSplits, subset_at, subset_at-grown, subset_depth, subset_work}
 

@@ -1,27 +1,54 @@
 -- The terminal cases of operations on families.
-use Rattle.std.proofs.Common.{◌≡◌, ℕ, ℤ, eqb, Bool, true, false, ◌&&◌, refl, sym, ◌∙◌, subst}
-use Rattle.std.specs.Bool.{beq}
-use Rattle.std.proofs.lemmas.Bool.{and_from, eq-eqb}
+use Rattle.std.proofs.Common.{◌≡◌, ℕ, ℤ, Bool, true, false, not, ◌&&◌, ◌||◌, ◌⊎◌, inl, inr, refl, ap, arith}
+use Rattle.std.proofs.Math.Bool.{and-false, and-true, or-false}
+use Rattle.edge_bits.specs.Permanent.{base_edge, empty_edge, empty_slot}
 use Rattle.edge_bits.specs.declared.edges.Edge.{Edge}
 use Rattle.edge_bits.specs.declared.edges.Kind.TheVariants.{Zdd}
-use Rattle.node_store.specs.Views.{View, family_at, NotBothLeaves, IsLeafOf, no_member, only_base, base_edge}
+use Rattle.function_laws.specs.Families.{base, empty}
+use Rattle.function_laws.specs.Kinds.{place}
+use Rattle.function_laws.proofs.ValueLemmas.{everywhere}
+use Rattle.node_store.specs.Views.{View, family_at, IsLeafOf, no_member, only_base}
 
--- the test of two edges
-own : (b : Bool) → beq b b ≡ true
-own true = refl
-own false = refl
-
-pub edges_differ : (f g : Edge) (r : Bool) → r ≡ (eqb f.index g.index && beq f.complement g.complement) → r ≡ false → f ≡ g → ⊥
-edges_differ f g r is never same =
-    let t : (eqb f.index g.index && beq f.complement g.complement) ≡ true =
-    subst (λ (e : Edge). (eqb f.index e.index && beq f.complement e.complement) ≡ true) same
-    (and_from (eqb f.index f.index) (beq f.complement f.complement) (eq-eqb f.index f.index refl) (own f.complement)) in
-    let bad : true ≡ false = sym t ∙ sym is ∙ never in cc
+-- a leaf is Empty or Base
+pub leaf_family : (w : View) (e : Edge) (x : ℤ) → IsLeafOf Zdd e (family_at w e) x → ((e ≡ empty_edge) × (family_at w e ≡ empty)) ⊎ ((e ≡ base_edge) × (family_at w e ≡ base))
+leaf_family w e x leaf = by_leaf e (family_at w e) x leaf
+  where
+    by_leaf : (e : Edge) (f : ℕ → Bool) (x : ℤ) → IsLeafOf Zdd e f x → ((e ≡ empty_edge) × (f ≡ empty)) ⊎ ((e ≡ base_edge) × (f ≡ base))
+    by_leaf _ _ _ no_member = inl (refl, refl)
+    by_leaf _ _ _ only_base = inr (refl, refl)
 
 -- a leaf that is not Empty is Base
-is_base : (e : Edge) (f : ℕ → Bool) (x : ℤ) → IsLeafOf Zdd e f x → (e.index ≡ 1 → ⊥) → e ≡ base_edge
-is_base _ _ _ no_member ne = absurd (ne refl)
-is_base _ _ _ only_base ne = refl
+pub is_base : (w : View) (e : Edge) (x : ℤ) → IsLeafOf Zdd e (family_at w e) x → (e.index ≡ empty_slot → ⊥) → (e ≡ base_edge) × (family_at w e ≡ base)
+is_base w e x leaf ne = elim (leaf_family w e x leaf) [ inl one ↦ absurd (ne (ap (λ (y : Edge). y.index) one.0)) | inr two ↦ two ]
 
-pub not_leaves : (w : View) (f g : Edge) → (f ≡ g → ⊥) → (f.index ≡ 1 → ⊥) → (g.index ≡ 1 → ⊥) → NotBothLeaves Zdd w f g
-not_leaves w f g ne nf ng x y i j = ne (is_base f (family_at w f) x i.leaf nf ∙ sym (is_base g (family_at w g) y j.leaf ng))
+pub is_empty : (w : View) (e : Edge) (x : ℤ) → IsLeafOf Zdd e (family_at w e) x → e.index ≡ empty_slot → family_at w e ≡ empty
+is_empty w e x leaf here = elim (leaf_family w e x leaf) [
+  | inl one ↦ one.1
+  | inr two ↦ (let clash = ap (λ (y : Edge). y.index) two.0 in absurd (omega arith))
+]
+
+with_itself : (b : Bool) → ((b || b) ≡ b) × ((b && b) ≡ b) × ((b && not b) ≡ false)
+with_itself true = (refl, refl, refl)
+with_itself false = (refl, refl, refl)
+
+-- the operations of Base with a leaf
+pub base_or : (w : View) (e : Edge) (x : ℤ) → IsLeafOf Zdd e (family_at w e) x → place (λ a b. a || b) base (family_at w e) ≡ base
+base_or w e x leaf = elim (leaf_family w e x leaf) [
+  | inl one ↦ rw one.1 (everywhere (place (λ a b. a || b) base empty) base (λ a. or-false (base a)))
+  | inr two ↦ rw two.1 (everywhere (place (λ a b. a || b) base base) base (λ a. (with_itself (base a)).0))
+]
+
+pub base_and : (w : View) (e : Edge) (x : ℤ) → IsLeafOf Zdd e (family_at w e) x → place (λ a b. a && b) base (family_at w e) ≡ family_at w e
+base_and w e x leaf = elim (leaf_family w e x leaf) [
+  | inl one ↦ rw one.1 (everywhere (place (λ a b. a && b) base empty) empty (λ a. and-false (base a)))
+  | inr two ↦ rw two.1 (everywhere (place (λ a b. a && b) base base) base (λ a. (with_itself (base a)).1))
+]
+
+pub and_not_base : (w : View) (e : Edge) (x : ℤ) → IsLeafOf Zdd e (family_at w e) x → place (λ a b. a && not b) (family_at w e) base ≡ empty
+and_not_base w e x leaf = elim (leaf_family w e x leaf) [
+  | inl one ↦ rw one.1 (everywhere (place (λ a b. a && not b) empty base) empty (λ a. refl))
+  | inr two ↦ rw two.1 (everywhere (place (λ a b. a && not b) base base) empty (λ a. (with_itself (base a)).2))
+]
+
+pub and_not_empty : (p : ℕ → Bool) → place (λ a b. a && not b) p empty ≡ p
+and_not_empty p = everywhere (place (λ a b. a && not b) p empty) p (λ a. and-true (p a))

@@ -1,4 +1,5 @@
 -- A walk down a family along a combination.
+use Rattle.edge_bits.specs.Permanent.{first_element}
 use Rattle.std.proofs.Common.{◌≡◌, ◌≢◌, ℕ, zero, suc, ◌+◌, ◌-◌, ◌<◌, ◌≤◌, eqb, Bool, true, false, cond, List, [], ◌∷◌, length, get_or, set, ℤ, inl, inr, refl, sym, ap, ◌∙◌, subst, arith, eq-eqb, ne_eqb, get_or-set_same, get_or-set_other, of_z, w64}
 use Rattle.std.specs.List.{count_by}
 use Rattle.std.proofs.lemmas.List.Sums.{sum_by-cons}
@@ -12,7 +13,7 @@ use Rattle.function_laws.specs.Values.{assignment_of}
 use Rattle.function_laws.proofs.BitLists.{bit-assignment_of}
 use Rattle.node_store.specs.Views.{View, Is, IsInner, IsLeaf, IsLeafOf, Kept, family_at, no_member, only_base}
 use Rattle.node_store.specs.ViewLaws.{Kept-refl, Kept-trans, level-grown, top-grown}
-use Rattle.zdd_ops.specs.Combinations.{bit-zero}
+use Rattle.zdd_ops.proofs.Combinations.{bit-zero}
 
 abbrev pub set_in : List Bool → ℕ
 set_in bits = count_by (λ b. b) bits
@@ -25,7 +26,7 @@ pub record Walked (v w : View) (p at : Edge) (bits : List Bool) (left : ℕ) : T
   pub long : length rest ≡ length bits
   pub counted : left ≡ set_in rest
   pub value : family_at w at (assignment_of rest) ≡ family_at v p (assignment_of bits)
-  pub below : (e : ℕ) → w.top at.index ≤ w.level (16384 + e) → get_or rest e false ≡ get_or bits e false
+  pub below : (e : ℕ) → w.top at.index ≤ w.level (first_element + e) → get_or rest e false ≡ get_or bits e false
 
 set_in-cons : (b : Bool) (bits : List Bool) → set_in (b ∷ bits) ≡ cond b 1 0 + set_in bits
 set_in-cons b bits = sum_by-cons (λ x. cond x 1 0) b bits
@@ -83,7 +84,7 @@ module _ (v a b : View) (p at : Edge) (bits : List Bool) (left : ℕ) (w : Walke
 
   module _ (x : ℕ) (hi lo : Edge) (i : IsInner Zdd b at (family_at a at) x hi lo) where
     -- the node's element
-    e_is : 16384 + element_of x ≡ x
+    e_is : first_element + element_of x ≡ x
     e_is = let r = i.in_range.0 in omega arith
 
     pub element-in : (length bits ≡ v.elements) → element_of x < length bits
@@ -101,8 +102,8 @@ module _ (v a b : View) (p at : Edge) (bits : List Bool) (left : ℕ) (w : Walke
     value_else lacks = ap (λ (f : ℕ → Bool). f (assignment_of w.rest)) i.splits.is
         ∙ ap (λ c. cond c (family_at b hi (set_bit (assignment_of w.rest) (element_of x) false)) (family_at b lo (assignment_of w.rest))) (bit-assignment_of w.rest (element_of x) ∙ rest_bit ∙ lacks)
 
-    further : (e : ℕ) → b.level x < b.level (16384 + e) → get_or w.rest e false ≡ get_or bits e false
-    further e lt = w.below e (let here = i.here in let t = same_top in let l = level-grown k.grown (16384 + e) in omega arith)
+    further : (e : ℕ) → b.level x < b.level (first_element + e) → get_or w.rest e false ≡ get_or bits e false
+    further e lt = w.below e (let here = i.here in let t = same_top in let l = level-grown k.grown (first_element + e) in omega arith)
 
     pub Walked-then : element_of x < length bits → get_or bits (element_of x) false ≡ true → Walked v b p hi bits (left - 1)
     Walked-then inside has =
@@ -115,8 +116,8 @@ module _ (v a b : View) (p at : Edge) (bits : List Bool) (left : ℕ) (w : Walke
           value = ap (family_at b hi) (cleared-is w.rest (element_of x) within) ∙ sym (value_then has) ∙ w.value;
           below = λ e le.
               let down = i.hi_top in
-              let lt : b.level x < b.level (16384 + e) = omega arith in
-              let apart : e ≢ element_of x = λ same. let up = ap (λ n. b.level (16384 + n)) same in let here = ap b.level e_is in omega arith in
+              let lt : b.level x < b.level (first_element + e) = omega arith in
+              let apart : e ≢ element_of x = λ same. let up = ap (λ n. b.level (first_element + n)) same in let here = ap b.level e_is in omega arith in
               get_or-set_other w.rest (element_of x) e false false apart ∙ further e lt;
         }
 

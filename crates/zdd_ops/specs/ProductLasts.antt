@@ -1,15 +1,15 @@
 -- Tasks of a product last while the store grows.
-use Rattle.std.proofs.Common.{◌≡◌, ℕ, Bool, inl, inr, refl, sym, ◌∙◌, arith}
+use Rattle.std.proofs.Common.{◌≡◌, ℕ, Bool, inl, inr, refl, sym, ap₂, ◌∙◌, subst, arith}
 use Rattle.edge_bits.specs.declared.edges.Edge.{Edge}
 use Rattle.edge_bits.specs.declared.edges.Kind.TheVariants.{Zdd}
 use Rattle.function_laws.specs.Kinds.{Denoted}
-use Rattle.node_store.specs.Views.{View, AreTwo, Grown, Is, family_at}
-use Rattle.node_store.specs.ViewLaws.{Denotes-grown, IsVariable-grown, Permanent-grown, Splits-grown, level-grown, top-grown, values_at-grown}
+use Rattle.node_store.specs.Views.{View, AreTwo, Denotes, Grown, Is, family_at}
+use Rattle.node_store.specs.ViewLaws.{Denotes-grown, Denotes-lasts, IsVariable-grown, Permanent-grown, Splits-grown, level-grown, top-grown, values_at-grown}
 use Rattle.node_store.specs.TwoLaws.{AreTwo-grown}
 use Rattle.node_store.specs.Work.{IsPart}
-use Rattle.node_store.specs.WorkLaws.{IsPart-grown}
+use Rattle.node_store.specs.WorkLaws.{IsPart-back, IsPart-grown}
 use Rattle.node_store.specs.declared.operator.Task.{Task}
-use Rattle.zdd_ops.specs.Products.{IsProductOfParts, ProductAnswers, ProductDue, ProductSplits, Reaches, ReachesFor, asked_by, depth_for, portion_in, portion_of, product_depth, product_work}
+use Rattle.zdd_ops.specs.Products.{IsProductOfParts, IsUnionOf, ProductAnswers, ProductDue, ProductSplits, Reaches, ReachesFor, asked_by, depth_for, portion_in, portion_of, product_at, product_depth, product_work}
 use Rattle.zdd_ops.specs.declared.products.Portion.{Portion}
 use Rattle.zdd_ops.specs.declared.products.Portion.TheVariants.{Whole, Then, First}
 
@@ -91,3 +91,23 @@ product_work-stays p q a b F m d (r, is, inr two) = (
     is = two.is;
   }),
 )
+
+-- a call's answer and its work, by the operands at its start
+pub product-lasts : (p q : Edge) (a b c d : View) (e : Edge) → Grown a b → Grown c d → AreTwo Zdd a p q → Denotes Zdd c e (product_at b (family_at b p) (family_at b q)) → Denotes Zdd d e (product_at a (family_at a p) (family_at a q))
+product-lasts p q a b c d e before after two is =
+    Denotes-lasts Zdd after (ap₂ (product_at b) (values_at-grown Zdd before two.first) (values_at-grown Zdd before two.second) ∙ portion-grown a b before Whole (family_at a p) (family_at a q)) is
+
+pub product_work-back : (p q : Edge) (a w : View) (F : Denoted) → Grown a w → AreTwo Zdd a p q → product_work p q w F → product_work p q a F
+product_work-back p q a w F m d (r, is, one_or_two) = (r, is, elim one_or_two [ | inl one ↦ inl (parts_back r one) | inr two ↦ inr (both_back two) ])
+  where
+    parts_back : (r : ℕ → Bool) → IsProductOfParts p q w r → IsProductOfParts p q a r
+    parts_back r i = record {
+      first = i.first;
+      second = i.second;
+      f_part = IsPart-back Zdd m (family_at a p) i.first (subst (λ f. IsPart Zdd w f i.first) (values_at-grown Zdd m d.first) i.f_part);
+      g_part = IsPart-back Zdd m (family_at a q) i.second (subst (λ f. IsPart Zdd w f i.second) (values_at-grown Zdd m d.second) i.g_part);
+      is = i.is ∙ portion-grown a w m Whole i.first i.second;
+    }
+
+    both_back : {r : ℕ → Bool} → IsUnionOf (IsProductOfParts p q w) r → IsUnionOf (IsProductOfParts p q a) r
+    both_back two = record { one = two.one; other = two.other; one_is = parts_back two.one two.one_is; other_is = parts_back two.other two.other_is; is = two.is }

@@ -1,5 +1,6 @@
 -- Tasks of a product of two families.
 use Rattle.std.specs.Prelude.{◌≡◌, ℕ, ◌-◌, ◌*◌, ◌^◌, ◌==◌, ◌<◌, ◌≤◌, nat_lt, Bool, true, false, min, ◌⊎◌, Option, Some, None, if◌then◌else◌}
+use Rattle.edge_bits.specs.Permanent.{first_element}
 use Rattle.edge_bits.specs.declared.edges.Edge.{Edge}
 use Rattle.edge_bits.specs.declared.edges.Kind.TheVariants.{Zdd}
 use Rattle.edge_bits.specs.Reading.{element_of}
@@ -71,8 +72,8 @@ IsAt (First u) v = u ≡ v
 -- what its number is one of
 abbrev pub IsElementOf : Portion → Type 0
 IsElementOf Whole = Unit {0}
-IsElementOf (Then v) = 16384 ≤ v
-IsElementOf (First v) = 16384 ≤ v
+IsElementOf (Then v) = first_element ≤ v
+IsElementOf (First v) = first_element ≤ v
 
 -- the task of a portion of the product of these
 pub record IsTask (first second : Edge) (asked : Portion) (t : Task) : Type 0 where

@@ -1,13 +1,13 @@
 -- Tasks of a quotient last while the store grows.
-use Rattle.std.proofs.Common.{◌≡◌, ℕ, Bool, inl, inr, refl, sym, ◌∙◌, arith}
+use Rattle.std.proofs.Common.{◌≡◌, ℕ, Bool, inl, inr, refl, sym, ◌∙◌, subst, arith}
 use Rattle.edge_bits.specs.declared.edges.Edge.{Edge}
 use Rattle.edge_bits.specs.declared.edges.Kind.TheVariants.{Zdd}
 use Rattle.function_laws.specs.Kinds.{Denoted}
-use Rattle.node_store.specs.Views.{View, AreTwo, Grown, Is, IsInner, family_at}
-use Rattle.node_store.specs.ViewLaws.{Denotes-grown, IsBelow-grown, IsVariable-back, IsVariable-grown, Permanent-grown, Splits-grown, level-grown, top-grown, values_at-grown}
+use Rattle.node_store.specs.Views.{View, AreTwo, Denotes, Grown, Is, IsInner, family_at}
+use Rattle.node_store.specs.ViewLaws.{Denotes-grown, Denotes-lasts, IsBelow-grown, IsVariable-back, IsVariable-grown, Permanent-grown, Splits-grown, level-grown, top-grown, values_at-grown}
 use Rattle.node_store.specs.TwoLaws.{AreTwo-grown}
 use Rattle.node_store.specs.Work.{IsPart}
-use Rattle.node_store.specs.WorkLaws.{IsPart-grown}
+use Rattle.node_store.specs.WorkLaws.{IsPart-back, IsPart-grown}
 use Rattle.node_store.specs.declared.operator.Task.{Task}
 use Rattle.zdd_ops.specs.Quotients.{LacksIt, QuotientAnswers, QuotientDue, QuotientSplits, quotient_at, quotient_work}
 
@@ -76,5 +76,22 @@ quotient_work-stays p q a b F m d (r, is, i) = (
     f_part = rw (values_at-grown Zdd m d.first) (IsPart-grown Zdd m (family_at a p) i.first i.f_part);
     g_part = rw (values_at-grown Zdd m d.second) (IsPart-grown Zdd m (family_at a q) i.second i.g_part);
     is = i.is ∙ sym (quotient-grown a b m i.first i.second);
+  },
+)
+
+-- a call's answer and its work, by the operands at its start
+pub quotient-lasts : (p q : Edge) (a b c d : View) (e : Edge) → Grown a b → Grown c d → AreTwo Zdd a p q → Denotes Zdd c e (quotient_at b (family_at b p) (family_at b q)) → Denotes Zdd d e (quotient_at a (family_at a p) (family_at a q))
+quotient-lasts p q a b c d e before after two is = Denotes-lasts Zdd after (quotient_of-grown a b before p q two) is
+
+pub quotient_work-back : (p q : Edge) (a w : View) (F : Denoted) → Grown a w → AreTwo Zdd a p q → quotient_work p q w F → quotient_work p q a F
+quotient_work-back p q a w F m d (r, is, i) = (
+  r,
+  is,
+  record {
+    first = i.first;
+    second = i.second;
+    f_part = IsPart-back Zdd m (family_at a p) i.first (subst (λ f. IsPart Zdd w f i.first) (values_at-grown Zdd m d.first) i.f_part);
+    g_part = IsPart-back Zdd m (family_at a q) i.second (subst (λ f. IsPart Zdd w f i.second) (values_at-grown Zdd m d.second) i.g_part);
+    is = i.is ∙ quotient-grown a w m i.first i.second;
   },
 )

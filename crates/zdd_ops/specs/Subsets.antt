@@ -5,7 +5,7 @@ use Rattle.edge_bits.specs.declared.edges.Kind.TheVariants.{Zdd}
 use Rattle.edge_bits.specs.Reading.{element_of}
 use Rattle.function_laws.specs.Kinds.{Denoted, ZddFamily}
 use Rattle.node_store.specs.Views.{View, Denotes, Grown, Is, IsInner, IsVariable, Permanent, Splits, family_at}
-use Rattle.node_store.specs.ViewLaws.{Denotes-grown, Is-grown, IsVariable-grown, Permanent-grown, Splits-grown, level-grown, top-grown, values_at-grown}
+use Rattle.node_store.specs.ViewLaws.{Denotes-grown, Denotes-lasts, Is-grown, IsVariable-grown, Permanent-grown, Splits-grown, level-grown, top-grown, values_at-grown}
 use Rattle.node_store.specs.Work.{IsPart}
 use Rattle.node_store.specs.WorkLaws.{IsPart-grown}
 use Rattle.node_store.specs.declared.operator.Task.{Task}
@@ -19,6 +19,11 @@ Operation = (ℕ → Bool) → ℕ → ℕ → Bool
 -- what it makes of the family of an edge and the element with this variable number
 abbrev pub subset_at : Operation → ℕ → View → Edge → ℕ → Bool
 subset_at part v w e = part (family_at w e) (element_of v)
+
+-- the family and the element are of the store
+pub record HasElement (w : View) (p : Edge) (v : ℕ) : Type 0 where
+  pub family : Is Zdd w p
+  pub element : IsVariable Zdd w v
 
 -- a task of the call on this family
 pub record SubsetDue (part : Operation) (v : ℕ) (root : Edge) (w : View) (t : Task) : Type 0 where
@@ -76,3 +81,13 @@ module _ (part : Operation) (v : ℕ) (p : Edge) (a b : View) where
 
   pub subset_work-stays : (F : Denoted) → Grown a b → Is Zdd a p → subset_work part v p a F → subset_work part v p b F
   subset_work-stays F m d is = is ∙ ap ZddFamily (sym (subset_at-grown m d))
+
+pub HasElement-grown : {a b : View} {p : Edge} {v : ℕ} → Grown a b → HasElement a p v → HasElement b p v
+HasElement-grown {a} {b} {p} {v} m d = record { family = Is-grown Zdd m d.family; element = IsVariable-grown Zdd m v d.element }
+
+-- a call's answer and its work, by the family at its start
+pub subset_at-lasts : (part : Operation) (v : ℕ) (p : Edge) (a b c d : View) (e : Edge) → Grown a b → Grown c d → HasElement a p v → Denotes Zdd c e (subset_at part v b p) → Denotes Zdd d e (subset_at part v a p)
+subset_at-lasts part v p a b c d e before after has is = Denotes-lasts Zdd after (subset_at-grown part v p a b before has.family) is
+
+pub subset_work-back : (part : Operation) (v : ℕ) (p : Edge) (a b : View) (F : Denoted) → Grown a b → HasElement a p v → subset_work part v p b F → subset_work part v p a F
+subset_work-back part v p a b F m has is = is ∙ ap ZddFamily (subset_at-grown part v p a b m has.family)

@@ -6,7 +6,7 @@ ghost use Rattle.edge_bits.specs.declared.edges.Kind.TheVariants.{Zdd};
 ghost use Rattle.function_laws.specs.Values.{assignment_of};
 ghost use Rattle.node_store.specs.Views.{Is, Kept, family_at};
 
-use edge_bits::Edge;
+use edge_bits::{Edge, FIRST_ELEMENT};
 use node_store::{Grow, Opened};
 
 /// Whether the combination of the elements whose bits are set is a member of a family. It follows the arcs that the bits choose, and makes no node.
@@ -14,6 +14,7 @@ pub fn contains<G: Grow>(store: &mut G, p: Edge, bits: &[bool]) -> bool
     requires family { Is Zdd (G.view store.old) p }
     requires bits { length bits.now ≡ (G.view store.old).elements }
     ensures kept { Kept (G.view store.old) (G.view store.new) }
+    ensures room { (G.view store.new).room ≡ (G.view store.old).room }
     ensures member { result ≡ family_at (G.view store.old) p (assignment_of bits.now) }
 {
     let mut left = set_bits(bits);
@@ -21,7 +22,7 @@ pub fn contains<G: Grow>(store: &mut G, p: Edge, bits: &[bool]) -> bool
     'walk: loop {
         match store.open(at) {
             Opened::Inner(var, hi, lo) => {
-                if bits[(var - 16384) as usize] {
+                if bits[(var - FIRST_ELEMENT) as usize] {
                     at = hi;
                     left -= 1;
                 } else {

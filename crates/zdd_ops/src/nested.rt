@@ -1,10 +1,10 @@
 //! The operations on a stack that is handed in, for runs within other operators.
 
-ghost use Rattle.std.specs.Prelude.{◌≡◌, ◌*◌, ◌≤◌, ◌&&◌, ◌||◌, not, IfOk, IsErrOf, true};
+ghost use Rattle.std.specs.Prelude.{◌≡◌, ◌*◌, ◌≤◌, ◌&&◌, ◌||◌, not};
 ghost use Rattle.edge_bits.specs.declared.edges.Kind.TheVariants.{Zdd};
 ghost use Rattle.function_laws.specs.Families.{diff as diff_of, meet as meet_of, union as union_of};
-ghost use Rattle.node_store.specs.Views.{AreTwo, Denotes, Grown, Permanent, Rose, family_at};
-ghost use Rattle.node_store.specs.Work.{Adds, IsWork};
+ghost use Rattle.node_store.specs.Operations.{Runs, halts};
+ghost use Rattle.node_store.specs.Views.{AreTwo, Permanent, family_at};
 ghost use Rattle.node_store.specs.Two.{value_of_two};
 ghost use Rattle.zdd_ops.specs.Products.{product_at, product_work};
 ghost use Rattle.zdd_ops.specs.Quotients.{quotient_at, quotient_work};
@@ -24,15 +24,8 @@ pub fn union<G: Grow>(store: &mut G, stack: &mut Stack, p: Edge, q: Edge) -> Res
     requires operands { AreTwo Zdd (G.view store.old) p q }
     requires permanent { Permanent (G.view store.old) }
     requires room { (G.view store.old).elements ≤ stack.old.free }
-    ensures grown { Grown (G.view store.old) (G.view store.new) }
-    ensures union { IfOk result (λ e. Denotes Zdd (G.view store.new) e (union_of (family_at (G.view store.old) p) (family_at (G.view store.old) q))) }
-    ensures work { Adds (value_of_two Zdd (λ a b. a || b) p q (G.view store.old)) (G.view store.old) (G.view store.new) }
-    ensures memory { IsErrOf result Stop.Memory → (G.view store.old).may_want_memory ≡ true }
-    ensures full { IsErrOf result Stop.Full → Rose (G.view store.old) (G.view store.new) }
-    ensures due { IsErrOf result Stop.Full → IsWork (G.view store.new) (value_of_two Zdd (λ a b. a || b) p q (G.view store.old)) (G.view store.new).due }
-    ensures frames { stack.new.frames ≡ stack.old.frames }
-    ensures free { stack.new.free ≡ stack.old.free }
-    ensures known { stack.new.answers ≡ stack.old.answers }
+    ensures runs { Runs Zdd (union_of (family_at (G.view store.old) p) (family_at (G.view store.old) q)) (value_of_two Zdd (λ a b. a || b) p q (G.view store.old)) (G.view store.old) (G.view store.new) (halts result) }
+    ensures stack { stack.new ≡ stack.old }
 {
     without_overflow(place_by_place(store, stack, Uniting, p, q))
 }
@@ -42,15 +35,8 @@ pub fn meet<G: Grow>(store: &mut G, stack: &mut Stack, p: Edge, q: Edge) -> Resu
     requires operands { AreTwo Zdd (G.view store.old) p q }
     requires permanent { Permanent (G.view store.old) }
     requires room { (G.view store.old).elements ≤ stack.old.free }
-    ensures grown { Grown (G.view store.old) (G.view store.new) }
-    ensures meet { IfOk result (λ e. Denotes Zdd (G.view store.new) e (meet_of (family_at (G.view store.old) p) (family_at (G.view store.old) q))) }
-    ensures work { Adds (value_of_two Zdd (λ a b. a && b) p q (G.view store.old)) (G.view store.old) (G.view store.new) }
-    ensures memory { IsErrOf result Stop.Memory → (G.view store.old).may_want_memory ≡ true }
-    ensures full { IsErrOf result Stop.Full → Rose (G.view store.old) (G.view store.new) }
-    ensures due { IsErrOf result Stop.Full → IsWork (G.view store.new) (value_of_two Zdd (λ a b. a && b) p q (G.view store.old)) (G.view store.new).due }
-    ensures frames { stack.new.frames ≡ stack.old.frames }
-    ensures free { stack.new.free ≡ stack.old.free }
-    ensures known { stack.new.answers ≡ stack.old.answers }
+    ensures runs { Runs Zdd (meet_of (family_at (G.view store.old) p) (family_at (G.view store.old) q)) (value_of_two Zdd (λ a b. a && b) p q (G.view store.old)) (G.view store.old) (G.view store.new) (halts result) }
+    ensures stack { stack.new ≡ stack.old }
 {
     without_overflow(place_by_place(store, stack, Meeting, p, q))
 }
@@ -60,15 +46,8 @@ pub fn diff<G: Grow>(store: &mut G, stack: &mut Stack, p: Edge, q: Edge) -> Resu
     requires operands { AreTwo Zdd (G.view store.old) p q }
     requires permanent { Permanent (G.view store.old) }
     requires room { (G.view store.old).elements ≤ stack.old.free }
-    ensures grown { Grown (G.view store.old) (G.view store.new) }
-    ensures diff { IfOk result (λ e. Denotes Zdd (G.view store.new) e (diff_of (family_at (G.view store.old) p) (family_at (G.view store.old) q))) }
-    ensures work { Adds (value_of_two Zdd (λ a b. a && not b) p q (G.view store.old)) (G.view store.old) (G.view store.new) }
-    ensures memory { IsErrOf result Stop.Memory → (G.view store.old).may_want_memory ≡ true }
-    ensures full { IsErrOf result Stop.Full → Rose (G.view store.old) (G.view store.new) }
-    ensures due { IsErrOf result Stop.Full → IsWork (G.view store.new) (value_of_two Zdd (λ a b. a && not b) p q (G.view store.old)) (G.view store.new).due }
-    ensures frames { stack.new.frames ≡ stack.old.frames }
-    ensures free { stack.new.free ≡ stack.old.free }
-    ensures known { stack.new.answers ≡ stack.old.answers }
+    ensures runs { Runs Zdd (diff_of (family_at (G.view store.old) p) (family_at (G.view store.old) q)) (value_of_two Zdd (λ a b. a && not b) p q (G.view store.old)) (G.view store.old) (G.view store.new) (halts result) }
+    ensures stack { stack.new ≡ stack.old }
 {
     without_overflow(place_by_place(store, stack, Removing, p, q))
 }
@@ -78,15 +57,8 @@ pub fn product<G: Grow>(store: &mut G, stack: &mut Stack, p: Edge, q: Edge) -> R
     requires operands { AreTwo Zdd (G.view store.old) p q }
     requires permanent { Permanent (G.view store.old) }
     requires room { 4 * (G.view store.old).elements ≤ stack.old.free }
-    ensures grown { Grown (G.view store.old) (G.view store.new) }
-    ensures product { IfOk result (λ e. Denotes Zdd (G.view store.new) e (product_at (G.view store.old) (family_at (G.view store.old) p) (family_at (G.view store.old) q))) }
-    ensures work { Adds (product_work p q (G.view store.old)) (G.view store.old) (G.view store.new) }
-    ensures memory { IsErrOf result Stop.Memory → (G.view store.old).may_want_memory ≡ true }
-    ensures full { IsErrOf result Stop.Full → Rose (G.view store.old) (G.view store.new) }
-    ensures due { IsErrOf result Stop.Full → IsWork (G.view store.new) (product_work p q (G.view store.old)) (G.view store.new).due }
-    ensures frames { stack.new.frames ≡ stack.old.frames }
-    ensures free { stack.new.free ≡ stack.old.free }
-    ensures known { stack.new.answers ≡ stack.old.answers }
+    ensures runs { Runs Zdd (product_at (G.view store.old) (family_at (G.view store.old) p) (family_at (G.view store.old) q)) (product_work p q (G.view store.old)) (G.view store.old) (G.view store.new) (halts result) }
+    ensures stack { stack.new ≡ stack.old }
 {
     without_overflow(evaluate(
         store,
@@ -101,15 +73,8 @@ pub fn quotient<G: Grow>(store: &mut G, stack: &mut Stack, p: Edge, q: Edge) -> 
     requires operands { AreTwo Zdd (G.view store.old) p q }
     requires permanent { Permanent (G.view store.old) }
     requires room { 2 * (G.view store.old).elements ≤ stack.old.free }
-    ensures grown { Grown (G.view store.old) (G.view store.new) }
-    ensures quotient { IfOk result (λ e. Denotes Zdd (G.view store.new) e (quotient_at (G.view store.old) (family_at (G.view store.old) p) (family_at (G.view store.old) q))) }
-    ensures work { Adds (quotient_work p q (G.view store.old)) (G.view store.old) (G.view store.new) }
-    ensures memory { IsErrOf result Stop.Memory → (G.view store.old).may_want_memory ≡ true }
-    ensures full { IsErrOf result Stop.Full → Rose (G.view store.old) (G.view store.new) }
-    ensures due { IsErrOf result Stop.Full → IsWork (G.view store.new) (quotient_work p q (G.view store.old)) (G.view store.new).due }
-    ensures frames { stack.new.frames ≡ stack.old.frames }
-    ensures free { stack.new.free ≡ stack.old.free }
-    ensures known { stack.new.answers ≡ stack.old.answers }
+    ensures runs { Runs Zdd (quotient_at (G.view store.old) (family_at (G.view store.old) p) (family_at (G.view store.old) q)) (quotient_work p q (G.view store.old)) (G.view store.old) (G.view store.new) (halts result) }
+    ensures stack { stack.new ≡ stack.old }
 {
     without_overflow(evaluate(store, stack, &Binary(Division { p, q }), Task::two(p, q)))
 }

@@ -1,15 +1,17 @@
 //! Products of families, as the evaluator runs them.
 
 ghost use Rattle.std.specs.Prelude.{◌≡◌, ◌≤◌};
+ghost use Rattle.edge_bits.specs.Permanent.{first_element};
 ghost use Rattle.edge_bits.specs.declared.edges.Kind.TheVariants.{Zdd};
 ghost use Rattle.node_store.specs.Views.{View, AreTwo, Kept, Permanent};
 ghost use Rattle.zdd_ops.specs.Products.{AreParts, CanPartBoth, IsAt, IsElementOf, IsPartedTask, IsProductTerminal, IsTask, edge_for, portion_in, product_key};
 
-use crate::nested::union;
-use edge_bits::Edge;
+use crate::nested::{product, union};
+use edge_bits::{BASE_SLOT, EMPTY_SLOT, Edge, Kind};
 use node_store::binary::{Apply, Branch, Expansion};
 use node_store::operator::{Halt, Task};
-use node_store::parts::{parts, top_of_two};
+use node_store::parts::{Split, parts, split_two};
+use node_store::scratch::Operation;
 use node_store::{Grow, Key, Stack, numbers};
 
 /// What a task asks of the product of its two families.
@@ -89,10 +91,15 @@ impl<G: Grow> Apply<G> for Multiplication {
                 if let Some(edge) = store.memo_get(&key_of(task.f, task.g)) {
                     return Ok(Expansion::Done(edge));
                 }
-                let Some(top) = top_of_two(store, task.f, task.g) else {
-                    unreachable!();
-                };
-                Ok(Expansion::Split(divide(store, task, Portion::Whole, top.var)))
+                match split_two(store, task.f, task.g) {
+                    Split::Leaves(_, _) => unreachable!(),
+                    Split::At(halves) => Ok(Expansion::Split(divide(
+                        store,
+                        task,
+                        Portion::Whole,
+                        halves.top.var,
+                    ))),
+                }
             }
             Portion::Then(var) => Ok(Expansion::Split(divide(
                 store,
@@ -150,20 +157,54 @@ impl<G: Grow> Apply<G> for Multiplication {
     ghost extra_stays = { λ o v w m. m.elements };
 }
 
-/// The product with Empty, which is slot 1, or with Base, which is slot 2.
+impl<G: Grow> Operation<G> for Multiplication {
+    ghost use Rattle.edge_bits.specs.declared.edges.Kind.TheVariants.{Zdd};
+    ghost use Rattle.node_store.specs.TwoLaws.{AreTwo-grown};
+    ghost use Rattle.node_store.specs.Views.{AreTwo, Denotes, family_at};
+    ghost use Rattle.zdd_ops.specs.Products.{product_at, product_work};
+    ghost use Rattle.zdd_ops.specs.ProductLasts.{product-lasts, product_work-back};
+
+    ghost kind = { Zdd };
+
+    ghost asks = { λ o w. AreTwo Zdd w o.p o.q };
+
+    ghost answers = { λ o v w e. Denotes Zdd w e (product_at v (family_at v o.p) (family_at v o.q)) };
+
+    ghost overflows = { λ _ _. ⊥ };
+
+    ghost work = { λ o. product_work o.p o.q };
+
+    fn answer_kind(&self) -> Kind {
+        Kind::Zdd
+    }
+
+    fn run(self, store: &mut G, stack: &mut Stack) -> Result<Edge, Halt> {
+        Ok(product(store, stack, self.p, self.q)?)
+    }
+
+    ghost asks_stay = { λ o v w m. AreTwo-grown Zdd m };
+
+    ghost answers_last = { λ o. product-lasts o.p o.q };
+
+    ghost overflows_back = { λ o v w m d over. over };
+
+    ghost work_back = { λ o. product_work-back o.p o.q };
+}
+
+/// The product with Empty, or with Base.
 fn terminal(f: Edge, g: Edge) -> Option<Edge>
     ensures { (w : View) → Permanent w → AreTwo Zdd w f g → IsProductTerminal w f g result }
 {
-    if f.index == 1 {
+    if f.index == EMPTY_SLOT {
         return Some(f);
     }
-    if g.index == 1 {
+    if g.index == EMPTY_SLOT {
         return Some(g);
     }
-    if f.index == 2 {
+    if f.index == BASE_SLOT {
         return Some(g);
     }
-    if g.index == 2 {
+    if g.index == BASE_SLOT {
         return Some(f);
     }
     None
@@ -190,7 +231,7 @@ fn tasks(
     first: (Edge, Edge),
     second: (Edge, Edge),
 ) -> (Task, Task)
-    requires element { 16384 ≤ var }
+    requires element { first_element ≤ var }
     requires here { IsAt portion var }
     ensures { AreParts portion var task first.0 first.1 second.0 second.1 result.0 result.1 }
 {

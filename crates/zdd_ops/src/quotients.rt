@@ -7,11 +7,12 @@ ghost use Rattle.node_store.specs.Views.{View, AreTwo, CanPart, Is, Kept, Perman
 ghost use Rattle.zdd_ops.specs.Products.{CanPartBoth};
 ghost use Rattle.zdd_ops.specs.Quotients.{HasMember, IsDivided, IsQuotientTerminal, IsSplitTask, quotient_key};
 
-use crate::nested::meet;
-use edge_bits::Edge;
+use crate::nested::{meet, quotient};
+use edge_bits::{BASE_SLOT, EMPTY_SLOT, Edge, Kind};
 use node_store::binary::{Apply, Branch, Expansion};
 use node_store::operator::{Halt, Task};
-use node_store::parts::{parts, top_of_two};
+use node_store::parts::{Split, parts, split_two};
+use node_store::scratch::Operation;
 use node_store::{Grow, Key, Opened, Stack, numbers};
 
 /// A quotient of two families.
@@ -53,10 +54,10 @@ impl<G: Grow> Apply<G> for Division {
         if let Some(edge) = store.memo_get(&key_of(task.f, task.g)) {
             return Ok(Expansion::Done(edge));
         }
-        let Some(top) = top_of_two(store, task.f, task.g) else {
-            unreachable!();
-        };
-        Ok(Expansion::Split(divide(store, task, top.var)))
+        match split_two(store, task.f, task.g) {
+            Split::Leaves(_, _) => unreachable!(),
+            Split::At(halves) => Ok(Expansion::Split(divide(store, task, halves.top.var))),
+        }
     }
 
     fn join(
@@ -103,17 +104,51 @@ impl<G: Grow> Apply<G> for Division {
     ghost extra_stays = { λ o v w m. m.elements };
 }
 
-/// The quotient by Empty, which is slot 1, or by Base, which is slot 2, and that of Empty.
+impl<G: Grow> Operation<G> for Division {
+    ghost use Rattle.edge_bits.specs.declared.edges.Kind.TheVariants.{Zdd};
+    ghost use Rattle.node_store.specs.TwoLaws.{AreTwo-grown};
+    ghost use Rattle.node_store.specs.Views.{AreTwo, Denotes, family_at};
+    ghost use Rattle.zdd_ops.specs.Quotients.{quotient_at, quotient_work};
+    ghost use Rattle.zdd_ops.specs.QuotientLasts.{quotient-lasts, quotient_work-back};
+
+    ghost kind = { Zdd };
+
+    ghost asks = { λ o w. AreTwo Zdd w o.p o.q };
+
+    ghost answers = { λ o v w e. Denotes Zdd w e (quotient_at v (family_at v o.p) (family_at v o.q)) };
+
+    ghost overflows = { λ _ _. ⊥ };
+
+    ghost work = { λ o. quotient_work o.p o.q };
+
+    fn answer_kind(&self) -> Kind {
+        Kind::Zdd
+    }
+
+    fn run(self, store: &mut G, stack: &mut Stack) -> Result<Edge, Halt> {
+        Ok(quotient(store, stack, self.p, self.q)?)
+    }
+
+    ghost asks_stay = { λ o v w m. AreTwo-grown Zdd m };
+
+    ghost answers_last = { λ o. quotient-lasts o.p o.q };
+
+    ghost overflows_back = { λ o v w m d over. over };
+
+    ghost work_back = { λ o. quotient_work-back o.p o.q };
+}
+
+/// The quotient by Empty, or by Base, and that of Empty.
 fn terminal(f: Edge, g: Edge) -> Option<Edge>
     ensures { (w : View) → Permanent w → AreTwo Zdd w f g → IsQuotientTerminal w f g result }
 {
-    if g.index == 1 {
+    if g.index == EMPTY_SLOT {
         return Some(g);
     }
-    if f.index == 1 {
+    if f.index == EMPTY_SLOT {
         return Some(f);
     }
-    if g.index == 2 {
+    if g.index == BASE_SLOT {
         return Some(f);
     }
     None

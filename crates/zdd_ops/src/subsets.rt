@@ -7,7 +7,10 @@ ghost use Rattle.zdd_ops.specs.Subsets.{IsStanding};
 
 use edge_bits::{Edge, Kind};
 use node_store::binary::{Apply, Branch, Expansion};
+use node_store::evaluate::evaluate;
 use node_store::operator::{Halt, Task};
+use node_store::remembering::Remembering;
+use node_store::scratch::Operation;
 use node_store::{Grow, Key, Opened, Stack, Stop};
 
 /// An operation on a family by one element. At a node of another element it is the operation on both children.
@@ -119,6 +122,39 @@ impl<G: Grow, O: ByElement<G>> Apply<G> for OneElement<O> {
     ghost extra_stays = { λ _ _ _ _. refl };
 }
 
+impl<G: Grow, O: ByElement<G> + Drop> Operation<G> for OneElement<O> {
+    ghost use Rattle.edge_bits.specs.declared.edges.Kind.TheVariants.{Zdd};
+    ghost use Rattle.node_store.specs.Views.{Denotes};
+    ghost use Rattle.zdd_ops.specs.Subsets.{HasElement, HasElement-grown, subset_at, subset_at-lasts, subset_work, subset_work-back};
+
+    ghost kind = { Zdd };
+
+    ghost asks = { λ o w. HasElement w o.family o.element };
+
+    ghost answers = { λ o v w e. Denotes Zdd w e (subset_at O.part o.element v o.family) };
+
+    ghost overflows = { λ _ _. ⊥ };
+
+    ghost work = { λ o. subset_work O.part o.element o.family };
+
+    fn answer_kind(&self) -> Kind {
+        Kind::Zdd
+    }
+
+    fn run(self, store: &mut G, stack: &mut Stack) -> Result<Edge, Halt> {
+        let task = Task::two(self.family, self.family);
+        evaluate(store, stack, &Remembering(self), task)
+    }
+
+    ghost asks_stay = { λ o v w m. HasElement-grown m };
+
+    ghost answers_last = { λ o. subset_at-lasts O.part o.element o.family };
+
+    ghost overflows_back = { λ o v w m d over. over };
+
+    ghost work_back = { λ o v w f m d. subset_work-back O.part o.element o.family v w f m d };
+}
+
 /// Where an element stands to a family.
 #[derive(Clone, Copy, Drop)]
 pub(crate) enum Standing {
@@ -135,7 +171,6 @@ pub(crate) fn place<G: Grow>(store: &mut G, edge: Edge, element: u32) -> Standin
     ensures kept { Kept (G.view store.old) (G.view store.new) }
     ensures place { IsStanding (G.view store.new) edge element result }
 {
-    // Slot 1 is Empty.
     match store.open(edge) {
         Opened::Inner(var, hi, lo) => {
             if var == element {
@@ -146,10 +181,10 @@ pub(crate) fn place<G: Grow>(store: &mut G, edge: Edge, element: u32) -> Standin
             if level < wanted {
                 Standing::Above(var, hi, lo)
             } else {
-                Standing::Here(Edge::new(1, false), edge)
+                Standing::Here(Edge::empty_family(), edge)
             }
         }
-        Opened::Leaf(_) => Standing::Here(Edge::new(1, false), edge),
+        Opened::Leaf(_) => Standing::Here(Edge::empty_family(), edge),
     }
 }
 

@@ -4,7 +4,8 @@ use Rattle.node_store.specs.Operations.{Calls, halts}
 use Rattle.edge_bits.specs.declared.edges.Kind.TheVariants.{Add}
 use Rattle.function_laws.specs.Values.{constant}
 use Rattle.add_ops.specs.Leaves.{value_of_constant}
-use Rattle.add_ops.proofs.LeafLaws.{constant_calls}
+use Rattle.node_store.specs.ViewLaws.{Kept-refl}
+use Rattle.node_store.proofs.Running.{stored_calls}
 use Rattle.add_ops.proofs.operations.constant.Goals as goal
 
 pub returns : goal.returns
@@ -13,4 +14,4 @@ returns g c =
     let v = g.G.Grow.view c.args.store.now in let w = g.G.Grow.view c.leaf.new.self in
     let e = c.leaf.ensures in
     subst (λ z. Calls Add (constant z) (value_of_constant z) v w (halts c.leaf.result)) (to_z-of_z w64 c.args.value fits)
-    (constant_calls v w (to_z w64 (of_z w64 c.args.value)) c.leaf.result e.grown e.room e.made e.ok e.memory e.full e.due)
+    (stored_calls Add (constant (to_z w64 (of_z w64 c.args.value))) v v w c.leaf.result (Kept-refl v) refl e.grown e.room e.made e.ok e.memory e.full e.due)

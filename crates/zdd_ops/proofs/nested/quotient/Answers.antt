@@ -1,19 +1,16 @@
-use Rattle.node_store.specs.HaltLaws.{without_overflow_gives}
-use Rattle.zdd_ops.proofs.CallLaws.{quotient_adds, quotient_root, quotient_start, quotient_value}
+use Rattle.node_store.proofs.Running.{lasting, runs, same_scratch}
+use Rattle.zdd_ops.specs.QuotientLasts.{quotient_work-back}
+use Rattle.zdd_ops.proofs.CallLaws.{quotient_root, quotient_value}
 use Rattle.zdd_ops.proofs.nested.quotient.Goals as goal
 
 pub evaluate-requires-clause-due : goal.evaluate-requires-clause-due
 evaluate-requires-clause-due g c = quotient_root _ c.args.p c.args.q c.two.result c.requires.permanent c.requires.operands c.two.ensures.f c.two.ensures.g
 
-pub returns-clause-quotient : goal.returns-clause-quotient
-returns-clause-quotient g c =
-    let e = c.evaluate.ensures in
-    without_overflow_gives _ _ _ _ (λ x a. quotient_value _ _ c.args.p c.args.q c.two.result x e.moved.moves.grown c.requires.operands c.two.ensures.f c.two.ensures.g a) c.without_overflow.ensures.ok e.answer
+pub returns-clause-runs : goal.returns-clause-runs
+returns-clause-runs g c =
+    let r = c.evaluate.ensures in let m = r.moved.moves.grown in let p = c.args.p in let q = c.args.q in
+    rw c.without_overflow.ensures (runs r.moved.moves c.requires.operands (λ F is. quotient_work-back p q _ _ F m c.requires.operands is)
+    (lasting _ _ c.evaluate.result (λ x a. quotient_value _ _ p q c.two.result x m c.requires.operands c.two.ensures.f c.two.ensures.g a) r.answer) r.overflow r.memory r.full r.due)
 
-pub returns-clause-work : goal.returns-clause-work
-returns-clause-work g c = let m = c.evaluate.ensures.moved.moves in quotient_adds _ _ c.args.p c.args.q m.grown c.requires.operands m
-
-pub returns-clause-due : goal.returns-clause-due
-returns-clause-due g c =
-    let e = c.evaluate.ensures in
-    λ is. quotient_start _ _ c.args.p c.args.q e.moved.moves.grown c.requires.operands _ (e.due (c.without_overflow.ensures.full is))
+pub returns-clause-stack : goal.returns-clause-stack
+returns-clause-stack g c = let r = c.evaluate.ensures in same_scratch _ _ r.frames r.free r.moved.known r.moved.marks

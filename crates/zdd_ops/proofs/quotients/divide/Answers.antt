@@ -1,4 +1,6 @@
-use Rattle.std.proofs.Common.{refl}
+use Rattle.std.proofs.Common.{refl, subst}
+use Rattle.node_store.specs.Views.{PartsAt}
+use Rattle.node_store.specs.ViewLaws.{values_at-grown}
 use Rattle.edge_bits.specs.declared.edges.Kind.TheVariants.{Zdd}
 use Rattle.zdd_ops.proofs.ProductLaws.{CanPart-grown}
 use Rattle.zdd_ops.proofs.QuotientSteps.{Split-has, Split-lacks}
@@ -10,11 +12,11 @@ divisor_at-requires g c = CanPart-grown _ _ c.args.task.g c.args.var c.parts.ens
 pub returns-in-Has-clause-split : goal.returns-in-Has-clause-split
 returns-in-Has-clause-split g c =
     let a = c.parts.ensures in let can = c.requires in
-    Split-has _ _ _ c.args.task c.args.var _ c.parts.result.0 c.parts.result.1 c.in-Has.g1 c.in-Has.g0 can a.kept.grown c.in-Has.ensures.kept.grown (a.parts Zdd can.f) c.in-Has.ensures.divided
+    Split-has _ _ _ c.args.task c.args.var _ c.parts.result.0 c.parts.result.1 c.in-Has.g1 c.in-Has.g0 can a.kept.grown c.in-Has.ensures.kept.grown (subst (λ h. PartsAt Zdd (g.G.Grow.view c.parts.new.store) c.args.task.f h c.args.var c.parts.result.0 c.parts.result.1) (values_at-grown Zdd a.kept.grown can.f.edge) (a.parts Zdd can.f)) c.in-Has.ensures.divided
     refl refl refl c.two.ensures.f c.two.ensures.g c.two-in-Has.ensures.f c.two-in-Has.ensures.g
 
 pub returns-in-Lacks-clause-split : goal.returns-in-Lacks-clause-split
 returns-in-Lacks-clause-split g c =
     let a = c.parts.ensures in let can = c.requires in
-    Split-lacks _ _ _ c.args.task c.args.var _ c.parts.result.0 c.parts.result.1 can a.kept.grown c.in-Lacks.ensures.kept.grown (a.parts Zdd can.f) c.in-Lacks.ensures.divided
+    Split-lacks _ _ _ c.args.task c.args.var _ c.parts.result.0 c.parts.result.1 can a.kept.grown c.in-Lacks.ensures.kept.grown (subst (λ h. PartsAt Zdd (g.G.Grow.view c.parts.new.store) c.args.task.f h c.args.var c.parts.result.0 c.parts.result.1) (values_at-grown Zdd a.kept.grown can.f.edge) (a.parts Zdd can.f)) c.in-Lacks.ensures.divided
     refl refl refl c.two-in-Lacks.ensures.f c.two-in-Lacks.ensures.g c.two-in-Lacks-2.ensures.f c.two-in-Lacks-2.ensures.g

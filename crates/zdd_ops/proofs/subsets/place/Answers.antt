@@ -41,11 +41,11 @@ returns-else-level-wanted-clause-place g c =
     let a = c.level-level.ensures.level in let b = c.level-wanted.ensures.level in
     let x = level-grown later c.in-Inner.var in let y = level-grown m3 c.args.element in
     let le = c.if-level-wanted.false in
-    Here-below _ c.args.edge c.new.result c.args.element c.in-Inner.var c.in-Inner.hi c.in-Inner.lo (Permanent-grown later c.in-Inner.ensures.permanent) (Is-grown Zdd all c.requires.family)
-    (IsVariable-grown Zdd all c.args.element c.requires.element) c.new.ensures (IsInner-grown _ _ c.args.edge _ _ _ later (Is-grown Zdd m c.requires.family) i) c.if-var-element.false (omega arith)
+    Here-below _ c.args.edge c.empty_family.result c.args.element c.in-Inner.var c.in-Inner.hi c.in-Inner.lo (Permanent-grown later c.in-Inner.ensures.permanent) (Is-grown Zdd all c.requires.family)
+    (IsVariable-grown Zdd all c.args.element c.requires.element) c.empty_family.ensures (IsInner-grown _ _ c.args.edge _ _ _ later (Is-grown Zdd m c.requires.family) i) c.if-var-element.false (omega arith)
 
 pub returns-in-Leaf-clause-place : goal.returns-in-Leaf-clause-place
 returns-in-Leaf-clause-place g c =
     let m = c.in-Leaf.ensures.kept.grown in
-    Here-leaf _ c.args.edge c.new-in-Leaf.result c.args.element c.in-Leaf.field-0 c.in-Leaf.ensures.permanent (IsVariable-grown Zdd m c.args.element c.requires.element) (Is-grown Zdd m c.requires.family) c.new-in-Leaf.ensures
+    Here-leaf _ c.args.edge c.empty_family-in-Leaf.result c.args.element c.in-Leaf.field-0 c.in-Leaf.ensures.permanent (IsVariable-grown Zdd m c.args.element c.requires.element) (Is-grown Zdd m c.requires.family) c.empty_family-in-Leaf.ensures
     (subst (λ f. IsLeaf Zdd (g.G.Grow.view c.open.new.self) c.args.edge f c.in-Leaf.field-0) (sym (values_at-grown Zdd m c.requires.family)) (c.in-Leaf.ensures.opens Zdd c.requires.family))

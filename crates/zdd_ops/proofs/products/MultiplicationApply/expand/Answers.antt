@@ -9,8 +9,8 @@ use Rattle.zdd_ops.specs.declared.products.Portion.TheVariants.{Whole, Then, Fir
 use Rattle.zdd_ops.proofs.ProductSteps.{Divided, Product-memo, Reaches-can, Top-can, Top-first, reaches_by}
 use Rattle.zdd_ops.proofs.products.MultiplicationApply.expand.Goals as goal
 
-pub top_of_two-requires : goal.top_of_two-requires
-top_of_two-requires g c = (Zdd, AreTwo-grown Zdd c.in_default-memo_get.ensures.kept.grown c.requires.two)
+pub split_two-requires : goal.split_two-requires
+split_two-requires g c = (Zdd, AreTwo-grown Zdd c.in_default-memo_get.ensures.kept.grown c.requires.two)
 
 pub returns-in-Some-memo_get-clause-expanded : goal.returns-in-Some-memo_get-clause-expanded
 returns-in-Some-memo_get-clause-expanded g c =
@@ -19,25 +19,26 @@ returns-in-Some-memo_get-clause-expanded g c =
 
 pub unreachable-requires : goal.unreachable-requires
 unreachable-requires g c =
-    let m = c.memo_get.ensures.kept.grown in let e = c.in_default-top_of_two.ensures in let later = Grown-trans m e.kept.grown in
-    e.none Zdd (AreTwo-grown Zdd m c.requires.two) (c.in_default.ensures (g.G.Grow.view c.top_of_two.new.store) (Permanent-grown later c.requires.permanent) (AreTwo-grown Zdd later c.requires.two))
+    let m = c.in_default-memo_get.ensures.kept.grown in let e = c.in-Leaves.ensures in let later = Grown-trans m e.kept.grown in
+    let leaves = e.split Zdd (AreTwo-grown Zdd m c.requires.two) in
+    c.in_default.ensures (g.G.Grow.view c.split_two.new.store) (Permanent-grown later c.requires.permanent) (AreTwo-grown Zdd later c.requires.two) _ _ leaves.0 leaves.1
 
 pub divide-requires-clause-parts : goal.divide-requires-clause-parts
 divide-requires-clause-parts g c =
-    let m = c.memo_get.ensures.kept.grown in let n = c.in-Some-top_of_two.ensures.kept.grown in
-    Top-can _ c.args.task c.in-Some-top_of_two.top.var (AreTwo-grown Zdd (Grown-trans m n) c.requires.two) (c.in-Some-top_of_two.ensures.top Zdd (AreTwo-grown Zdd m c.requires.two))
+    let m = c.in_default-memo_get.ensures.kept.grown in let n = c.in-At.ensures.kept.grown in
+    Top-can _ c.args.task c.in-At.halves.top.var (AreTwo-grown Zdd (Grown-trans m n) c.requires.two) ((c.in-At.ensures.split Zdd (AreTwo-grown Zdd m c.requires.two)).top)
 
-pub returns-in-Some-top_of_two-clause-moved : goal.returns-in-Some-top_of_two-clause-moved
-returns-in-Some-top_of_two-clause-moved g c =
-    Moves-kept _ (product_work c.args.self.now.p c.args.self.now.q) _ _ (Kept-trans c.memo_get.ensures.kept (Kept-trans c.in-Some-top_of_two.ensures.kept c.divide.ensures.kept))
+pub returns-in-At-clause-moved : goal.returns-in-At-clause-moved
+returns-in-At-clause-moved g c =
+    Moves-kept _ (product_work c.args.self.now.p c.args.self.now.q) _ _ (Kept-trans c.in_default-memo_get.ensures.kept (Kept-trans c.in-At.ensures.kept c.divide.ensures.kept))
 
-pub returns-in-Some-top_of_two-clause-expanded : goal.returns-in-Some-top_of_two-clause-expanded
-returns-in-Some-top_of_two-clause-expanded g c =
-    let m = c.memo_get.ensures.kept.grown in let n = c.in-Some-top_of_two.ensures.kept.grown in let p = c.args.self.now.p in let q = c.args.self.now.q in
+pub returns-in-At-clause-expanded : goal.returns-in-At-clause-expanded
+returns-in-At-clause-expanded g c =
+    let m = c.in_default-memo_get.ensures.kept.grown in let n = c.in-At.ensures.kept.grown in let p = c.args.self.now.p in let q = c.args.self.now.q in
     let due = ProductDue-stays p q _ _ c.args.task (Grown-trans m n) c.requires in
-    let top = c.in-Some-top_of_two.ensures.top Zdd (AreTwo-grown Zdd m c.requires.two) in
-    Divided p q _ _ c.args.task c.in-Some-top_of_two.top.var c.divide.result Whole c.divide.ensures.kept.grown due (sym c.of.ensures ∙ c.in-Whole.is) tt
-    (Top-can _ c.args.task c.in-Some-top_of_two.top.var due.two top) c.divide.ensures.parted (λ _. Top-first _ c.args.task c.in-Some-top_of_two.top.var top)
+    let top = (c.in-At.ensures.split Zdd (AreTwo-grown Zdd m c.requires.two)).top in
+    Divided p q _ _ c.args.task c.in-At.halves.top.var c.divide.result Whole c.divide.ensures.kept.grown due (sym c.of.ensures ∙ c.in-Whole.is) tt
+    (Top-can _ c.args.task c.in-At.halves.top.var due.two top) c.divide.ensures.parted (λ _. Top-first _ c.args.task c.in-At.halves.top.var top)
 
 pub returns-in-Then-clause-expanded : goal.returns-in-Then-clause-expanded
 returns-in-Then-clause-expanded g c =

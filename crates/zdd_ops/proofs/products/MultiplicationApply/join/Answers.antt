@@ -3,6 +3,7 @@ use Rattle.std.proofs.lemmas.Result.{err_from_is_err_and}
 use Rattle.edge_bits.specs.declared.edges.Kind.TheVariants.{Zdd}
 use Rattle.function_laws.specs.Kinds.{ZddFamily}
 use Rattle.node_store.specs.Views.{Denotes}
+use Rattle.node_store.proofs.Frames.{other_err}
 use Rattle.node_store.proofs.Stops.{full_stop}
 use Rattle.zdd_ops.proofs.ProductSteps.{Joined-answer, Made-due, Made-moved, Other-two, Other-value, Through, Union-moved, Whole-can, Whole-node}
 use Rattle.zdd_ops.proofs.products.MultiplicationApply.join.Goals as goal
@@ -41,21 +42,21 @@ union-requires-clause-operands g c =
 pub returns-in_ok-union-in_default-clause-moved : goal.returns-in_ok-union-in_default-clause-moved
 returns-in_ok-union-in_default-clause-moved g c =
     let b = c.requires.parts.1 in let e = c.in_ok-union-in_default.ensures in let p = c.args.self.now.p in let q = c.args.self.now.q in
-    Union-moved p q _ c.args.task _ _ c.args.var c.args.hi c.args.lo b.due b.splits b.hi_is b.lo_is _ e.grown (λ is. c.in_default.not-Whole (c.of.ensures ∙ is)) e.work
+    Union-moved p q _ c.args.task _ _ c.args.var c.args.hi c.args.lo b.due b.splits b.hi_is b.lo_is _ e.runs.grown (λ is. c.in_default.not-Whole (c.of.ensures ∙ is)) e.runs.work
 
 pub returns-in_ok-union-in_default-clause-answer : goal.returns-in_ok-union-in_default-clause-answer
 returns-in_ok-union-in_default-clause-answer g c =
     let b = c.requires.parts.1 in let e = c.in_ok-union-in_default.ensures in let p = c.args.self.now.p in let q = c.args.self.now.q in
-    Joined-answer p q _ c.args.task _ _ c.args.var c.args.hi c.args.lo b.due b.splits b.hi_is b.lo_is _ c.in_ok-union-in_default.field-0 _ e.grown
-    (Other-value p q _ c.args.task _ _ c.args.var c.args.hi c.args.lo b.due b.splits b.hi_is b.lo_is (λ is. c.in_default.not-Whole (c.of.ensures ∙ is))) e.union
+    Joined-answer p q _ c.args.task _ _ c.args.var c.args.hi c.args.lo b.due b.splits b.hi_is b.lo_is _ c.in_ok-union-in_default.field-0 _ e.runs.grown
+    (Other-value p q _ c.args.task _ _ c.args.var c.args.hi c.args.lo b.due b.splits b.hi_is b.lo_is (λ is. c.in_default.not-Whole (c.of.ensures ∙ is))) e.runs.answer
 
 pub returns-in_err-union-in_default-clause-moved : goal.returns-in_err-union-in_default-clause-moved
 returns-in_err-union-in_default-clause-moved g c =
     let b = c.requires.parts.1 in let e = c.in_err-union-in_default.ensures in let p = c.args.self.now.p in let q = c.args.self.now.q in
-    Union-moved p q _ c.args.task _ _ c.args.var c.args.hi c.args.lo b.due b.splits b.hi_is b.lo_is _ e.grown (λ is. c.in_default.not-Whole (c.of.ensures ∙ is)) e.work
+    Union-moved p q _ c.args.task _ _ c.args.var c.args.hi c.args.lo b.due b.splits b.hi_is b.lo_is _ e.runs.grown (λ is. c.in_default.not-Whole (c.of.ensures ∙ is)) e.runs.work
 
 pub returns-in_err-union-in_default-clause-due : goal.returns-in_err-union-in_default-clause-due
 returns-in_err-union-in_default-clause-due g c =
     let b = c.requires.parts.1 in let e = c.in_err-union-in_default.ensures in let p = c.args.self.now.p in let q = c.args.self.now.q in
     let r = err_from_is_err_and c.from_residual-in_err-union-in_default.result c.from_residual-in_err-union-in_default.ensures.1 in rw (r.1, r.2) (λ full.
-    Through p q _ c.args.task _ _ c.args.var c.args.hi c.args.lo b.due b.splits b.hi_is b.lo_is _ _ e.grown (λ is. c.in_default.not-Whole (c.of.ensures ∙ is)) (e.due (full_stop _ full)))
+    Through p q _ c.args.task _ _ c.args.var c.args.hi c.args.lo b.due b.splits b.hi_is b.lo_is _ _ e.runs.grown (λ is. c.in_default.not-Whole (c.of.ensures ∙ is)) (e.runs.due (other_err _ _ full)))

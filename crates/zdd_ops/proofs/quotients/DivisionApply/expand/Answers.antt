@@ -8,8 +8,8 @@ use Rattle.zdd_ops.proofs.ProductSteps.{Top-can}
 use Rattle.zdd_ops.proofs.QuotientSteps.{Quotient-divided, Quotient-memo}
 use Rattle.zdd_ops.proofs.quotients.DivisionApply.expand.Goals as goal
 
-pub top_of_two-requires : goal.top_of_two-requires
-top_of_two-requires g c = (Zdd, AreTwo-grown Zdd c.in_default-memo_get.ensures.kept.grown c.requires.two)
+pub split_two-requires : goal.split_two-requires
+split_two-requires g c = (Zdd, AreTwo-grown Zdd c.in_default-memo_get.ensures.kept.grown c.requires.two)
 
 pub returns-in-Some-memo_get-clause-expanded : goal.returns-in-Some-memo_get-clause-expanded
 returns-in-Some-memo_get-clause-expanded g c =
@@ -18,20 +18,21 @@ returns-in-Some-memo_get-clause-expanded g c =
 
 pub unreachable-requires : goal.unreachable-requires
 unreachable-requires g c =
-    let m = c.memo_get.ensures.kept.grown in let e = c.in_default-top_of_two.ensures in let later = Grown-trans m e.kept.grown in
-    e.none Zdd (AreTwo-grown Zdd m c.requires.two) (c.in_default.ensures (g.G.Grow.view c.top_of_two.new.store) (Permanent-grown later c.requires.permanent) (AreTwo-grown Zdd later c.requires.two))
+    let m = c.in_default-memo_get.ensures.kept.grown in let e = c.in-Leaves.ensures in let later = Grown-trans m e.kept.grown in
+    let leaves = e.split Zdd (AreTwo-grown Zdd m c.requires.two) in
+    c.in_default.ensures (g.G.Grow.view c.split_two.new.store) (Permanent-grown later c.requires.permanent) (AreTwo-grown Zdd later c.requires.two) _ _ leaves.0 leaves.1
 
 pub divide-requires : goal.divide-requires
 divide-requires g c =
-    let m = c.memo_get.ensures.kept.grown in let n = c.in-Some-top_of_two.ensures.kept.grown in
-    Top-can _ c.args.task c.in-Some-top_of_two.top.var (AreTwo-grown Zdd (Grown-trans m n) c.requires.two) (c.in-Some-top_of_two.ensures.top Zdd (AreTwo-grown Zdd m c.requires.two))
+    let m = c.in_default-memo_get.ensures.kept.grown in let n = c.in-At.ensures.kept.grown in
+    Top-can _ c.args.task c.in-At.halves.top.var (AreTwo-grown Zdd (Grown-trans m n) c.requires.two) ((c.in-At.ensures.split Zdd (AreTwo-grown Zdd m c.requires.two)).top)
 
 pub returns-clause-moved : goal.returns-clause-moved
 returns-clause-moved g c =
-    Moves-kept _ (quotient_work c.args.self.now.p c.args.self.now.q) _ _ (Kept-trans c.memo_get.ensures.kept (Kept-trans c.in-Some-top_of_two.ensures.kept c.divide.ensures.kept))
+    Moves-kept _ (quotient_work c.args.self.now.p c.args.self.now.q) _ _ (Kept-trans c.in_default-memo_get.ensures.kept (Kept-trans c.in-At.ensures.kept c.divide.ensures.kept))
 
 pub returns-clause-expanded : goal.returns-clause-expanded
 returns-clause-expanded g c =
-    let m = c.memo_get.ensures.kept.grown in let n = c.in-Some-top_of_two.ensures.kept.grown in let p = c.args.self.now.p in let q = c.args.self.now.q in
-    Quotient-divided p q _ _ c.args.task c.in-Some-top_of_two.top.var c.divide.result c.divide.ensures.kept.grown (QuotientDue-stays p q _ _ c.args.task (Grown-trans m n) c.requires)
-    (c.in-Some-top_of_two.ensures.top Zdd (AreTwo-grown Zdd m c.requires.two)) c.divide.ensures.split
+    let m = c.in_default-memo_get.ensures.kept.grown in let n = c.in-At.ensures.kept.grown in let p = c.args.self.now.p in let q = c.args.self.now.q in
+    Quotient-divided p q _ _ c.args.task c.in-At.halves.top.var c.divide.result c.divide.ensures.kept.grown (QuotientDue-stays p q _ _ c.args.task (Grown-trans m n) c.requires)
+    ((c.in-At.ensures.split Zdd (AreTwo-grown Zdd m c.requires.two)).top) c.divide.ensures.split

@@ -5,6 +5,7 @@ use Rattle.function_laws.specs.Kinds.{ZddFamily}
 use Rattle.node_store.specs.Views.{Denotes}
 use Rattle.node_store.specs.ViewLaws.{Grown-trans, Kept-trans, Permanent-grown}
 use Rattle.node_store.specs.WorkLaws.{Moves-kept}
+use Rattle.node_store.proofs.Frames.{other_err}
 use Rattle.node_store.proofs.Stops.{full_stop}
 use Rattle.zdd_ops.specs.Quotients.{quotient_work}
 use Rattle.zdd_ops.proofs.QuotientSteps.{Above-can_later, Above-node_later, Both-answer, Both-meet, Divisor-can, Joined-answer, Joined-two_later, Made-due, Made-moved_later, Meet-moved, One-answer, Through}
@@ -55,24 +56,24 @@ meet-requires-clause-permanent g c = let b = c.requires.parts.1 in Permanent-gro
 pub returns-in_ok-meet-in-Has-clause-moved : goal.returns-in_ok-meet-in-Has-clause-moved
 returns-in_ok-meet-in-Has-clause-moved g c =
     let b = c.requires.parts.1 in let k = Kept-trans c.in-Has.ensures.kept c.is_empty.ensures.kept in let e = c.in_ok-meet-in-Has.ensures in
-    Meet-moved c.args.self.now.p c.args.self.now.q _ c.args.task _ _ c.args.var c.args.hi c.args.lo b.due b.splits b.hi_is b.lo_is _ _ k e.grown
-    (Both-meet c.args.self.now.p c.args.self.now.q _ c.args.task _ _ c.args.var c.args.hi c.args.lo b.due b.splits b.hi_is b.lo_is _ c.in-Has.field-0 c.in-Has.without c.in-Has.ensures.kept c.in-Has.ensures.divided (c.is_empty.ensures.no c.if-is_empty.false)) e.work
+    Meet-moved c.args.self.now.p c.args.self.now.q _ c.args.task _ _ c.args.var c.args.hi c.args.lo b.due b.splits b.hi_is b.lo_is _ _ k e.runs.grown
+    (Both-meet c.args.self.now.p c.args.self.now.q _ c.args.task _ _ c.args.var c.args.hi c.args.lo b.due b.splits b.hi_is b.lo_is _ c.in-Has.field-0 c.in-Has.without c.in-Has.ensures.kept c.in-Has.ensures.divided (c.is_empty.ensures.no c.if-is_empty.false)) e.runs.work
 
 pub returns-in_ok-meet-in-Has-clause-answer : goal.returns-in_ok-meet-in-Has-clause-answer
 returns-in_ok-meet-in-Has-clause-answer g c =
     let b = c.requires.parts.1 in let k = Kept-trans c.in-Has.ensures.kept c.is_empty.ensures.kept in let e = c.in_ok-meet-in-Has.ensures in
-    Both-answer c.args.self.now.p c.args.self.now.q _ c.args.task _ _ c.args.var c.args.hi c.args.lo b.due b.splits b.hi_is b.lo_is _ _ c.in_ok-meet-in-Has.field-0 k e.grown
-    (Both-meet c.args.self.now.p c.args.self.now.q _ c.args.task _ _ c.args.var c.args.hi c.args.lo b.due b.splits b.hi_is b.lo_is _ c.in-Has.field-0 c.in-Has.without c.in-Has.ensures.kept c.in-Has.ensures.divided (c.is_empty.ensures.no c.if-is_empty.false)) e.meet
+    Both-answer c.args.self.now.p c.args.self.now.q _ c.args.task _ _ c.args.var c.args.hi c.args.lo b.due b.splits b.hi_is b.lo_is _ _ c.in_ok-meet-in-Has.field-0 k e.runs.grown
+    (Both-meet c.args.self.now.p c.args.self.now.q _ c.args.task _ _ c.args.var c.args.hi c.args.lo b.due b.splits b.hi_is b.lo_is _ c.in-Has.field-0 c.in-Has.without c.in-Has.ensures.kept c.in-Has.ensures.divided (c.is_empty.ensures.no c.if-is_empty.false)) e.runs.answer
 
 pub returns-in_err-meet-in-Has-clause-moved : goal.returns-in_err-meet-in-Has-clause-moved
 returns-in_err-meet-in-Has-clause-moved g c =
     let b = c.requires.parts.1 in let k = Kept-trans c.in-Has.ensures.kept c.is_empty.ensures.kept in let e = c.in_err-meet-in-Has.ensures in
-    Meet-moved c.args.self.now.p c.args.self.now.q _ c.args.task _ _ c.args.var c.args.hi c.args.lo b.due b.splits b.hi_is b.lo_is _ _ k e.grown
-    (Both-meet c.args.self.now.p c.args.self.now.q _ c.args.task _ _ c.args.var c.args.hi c.args.lo b.due b.splits b.hi_is b.lo_is _ c.in-Has.field-0 c.in-Has.without c.in-Has.ensures.kept c.in-Has.ensures.divided (c.is_empty.ensures.no c.if-is_empty.false)) e.work
+    Meet-moved c.args.self.now.p c.args.self.now.q _ c.args.task _ _ c.args.var c.args.hi c.args.lo b.due b.splits b.hi_is b.lo_is _ _ k e.runs.grown
+    (Both-meet c.args.self.now.p c.args.self.now.q _ c.args.task _ _ c.args.var c.args.hi c.args.lo b.due b.splits b.hi_is b.lo_is _ c.in-Has.field-0 c.in-Has.without c.in-Has.ensures.kept c.in-Has.ensures.divided (c.is_empty.ensures.no c.if-is_empty.false)) e.runs.work
 
 pub returns-in_err-meet-in-Has-clause-due : goal.returns-in_err-meet-in-Has-clause-due
 returns-in_err-meet-in-Has-clause-due g c =
     let b = c.requires.parts.1 in let k = Kept-trans c.in-Has.ensures.kept c.is_empty.ensures.kept in let e = c.in_err-meet-in-Has.ensures in
     let r = err_from_is_err_and c.from_residual-in_err-meet-in-Has.result c.from_residual-in_err-meet-in-Has.ensures.1 in rw (r.1, r.2) (λ full.
-    Through c.args.self.now.p c.args.self.now.q _ c.args.task _ _ c.args.var c.args.hi c.args.lo b.due b.splits b.hi_is b.lo_is _ _ _ k.grown e.grown
-    (Both-meet c.args.self.now.p c.args.self.now.q _ c.args.task _ _ c.args.var c.args.hi c.args.lo b.due b.splits b.hi_is b.lo_is _ c.in-Has.field-0 c.in-Has.without c.in-Has.ensures.kept c.in-Has.ensures.divided (c.is_empty.ensures.no c.if-is_empty.false)) (e.due (full_stop _ full)))
+    Through c.args.self.now.p c.args.self.now.q _ c.args.task _ _ c.args.var c.args.hi c.args.lo b.due b.splits b.hi_is b.lo_is _ _ _ k.grown e.runs.grown
+    (Both-meet c.args.self.now.p c.args.self.now.q _ c.args.task _ _ c.args.var c.args.hi c.args.lo b.due b.splits b.hi_is b.lo_is _ c.in-Has.field-0 c.in-Has.without c.in-Has.ensures.kept c.in-Has.ensures.divided (c.is_empty.ensures.no c.if-is_empty.false)) (e.runs.due (other_err _ _ full)))

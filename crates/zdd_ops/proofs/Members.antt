@@ -9,7 +9,7 @@ use Rattle.function_laws.specs.Families.{product}
 use Rattle.function_laws.specs.Products.{IsProduct}
 use Rattle.function_laws.proofs.ListLemmas.{any_below-true, true-any_below}
 use Rattle.function_laws.proofs.ValueLemmas.{everywhere}
-use Rattle.zdd_ops.specs.Combinations.{bit-and, bit-or, bit-zero}
+use Rattle.zdd_ops.proofs.Combinations.{bit-and, bit-or, bit-zero}
 
 -- truth values
 pub and_left : (a b : Bool) → (a && b) ≡ true → a ≡ true

@@ -1,5 +1,0 @@
-use Rattle.node_store.specs.HaltLaws.{without_overflow_keeps}
-use Rattle.zdd_ops.proofs.operations.union.Goals as goal
-
-pub returns-clause-union : goal.returns-clause-union
-returns-clause-union g c = without_overflow_keeps _ _ _ c.without_overflow.ensures.ok c.call_place_by_place.ensures.answer
