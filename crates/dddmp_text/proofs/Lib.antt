@@ -12,5 +12,5 @@ mod Spelled
 mod Steps
 mod Texts
 mod Walks
-mod Writable
+pub mod Writable
 mod WrittenLines
