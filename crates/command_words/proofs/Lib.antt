@@ -1,2 +1,3 @@
-mod Ranges
+pub mod Alone
+pub mod Ranges
 mod Rows

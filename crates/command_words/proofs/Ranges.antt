@@ -18,20 +18,20 @@ use Rattle.command_words.specs.Values.{is_pattern, longest_pattern, number_in, n
 use Rattle.command_words.specs.Orders.{ArePatterns, IsInRange, build_in, gen_in, limit_in, load_in, most_bits, most_limit, most_workers, order_in, patterns_in, table_order, workers_in}
 
 -- what holds of each value that a choice, a map or a chain may give
-chosen : {A : Type 0} (P : A → Type 0) (b : Bool) (x y : Option A) → (b ≡ true → IfSome x P) → (b ≡ false → IfSome y P) → IfSome (if b then x else y) P
+pub chosen : {A : Type 0} (P : A → Type 0) (b : Bool) (x y : Option A) → (b ≡ true → IfSome x P) → (b ≡ false → IfSome y P) → IfSome (if b then x else y) P
 chosen P true x y then_holds else_holds = then_holds refl
 chosen P false x y then_holds else_holds = else_holds refl
 
-mapped : {A B : Type 0} (Q : A → Type 0) (P : B → Type 0) (f : A → B) (o : Option A) → IfSome o Q → ((x : A) → Q x → P (f x)) → IfSome (option_map f o) P
+pub mapped : {A B : Type 0} (Q : A → Type 0) (P : B → Type 0) (f : A → B) (o : Option A) → IfSome o Q → ((x : A) → Q x → P (f x)) → IfSome (option_map f o) P
 mapped Q P f None holds next = tt
 mapped Q P f (Some x) holds next = next x holds
 
-chained : {A B : Type 0} (Q : A → Type 0) (P : B → Type 0) (f : A → Option B) (o : Option A) → IfSome o Q → ((x : A) → Q x → IfSome (f x) P) → IfSome (option_and_then f o) P
+pub chained : {A B : Type 0} (Q : A → Type 0) (P : B → Type 0) (f : A → Option B) (o : Option A) → IfSome o Q → ((x : A) → Q x → IfSome (f x) P) → IfSome (option_and_then f o) P
 chained Q P f None holds next = tt
 chained Q P f (Some x) holds next = next x holds
 
 -- nothing is known of the value
-anything : {A : Type 0} (o : Option A) → IfSome o (λ _. Unit {0})
+pub anything : {A : Type 0} (o : Option A) → IfSome o (λ _. Unit {0})
 anything None = tt
 anything (Some x) = tt
 

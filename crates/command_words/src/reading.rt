@@ -1,10 +1,11 @@
 //! What the words ask for.
 
-ghost use Rattle.std.specs.Prelude.{◌≡◌, ◌<◌, IfOk, IfSome, map, string_bytes, option_map, option_and_then, true, false};
+ghost use Rattle.std.specs.Prelude.{◌≡◌, ◌<◌, IfOk, IfSome, Some, map, string_bytes, option_map, option_and_then, true, false};
 ghost use Rattle.clap.specs.Values.{kind_of};
 ghost use Rattle.clap.specs.Matches.{found_of};
 ghost use Rattle.clap.specs.Walk.{rows_of, first_of};
 ghost use Rattle.clap.specs.Simple.{subcommand_rows_of};
+ghost use Rattle.command_words.specs.declared.order.Order.TheVariants.{Play};
 ghost use Rattle.command_words.specs.Values.{number_or};
 ghost use Rattle.command_words.specs.Orders.{IsInRange, build_in, gen_in, is_play, is_set, load_in, order_in, order_of, patterns_in, table_order, workers_in};
 
@@ -174,6 +175,7 @@ fn read_table(alloc: Global, words: &[String]) -> Result<Option<Order>, Memory>
 pub fn read_words(alloc: Global, words: &[String]) -> Result<Option<Order>, Memory>
     ensures order { IfOk result (λ order. order ≡ order_of (map string_bytes words.now)) }
     ensures in_range { IfOk result (λ order. IfSome order IsInRange) }
+    ensures play_alone { IfOk result (λ order. order ≡ Some Play → is_play (map string_bytes words.now) ≡ true) }
 {
     if is_play(words) {
         return Ok(Some(Order::Play));

@@ -11,6 +11,6 @@ mod Rows
 mod Spelled
 mod Steps
 mod Texts
-mod Walks
-mod Writable
+pub mod Walks
+pub mod Writable
 mod WrittenLines

@@ -12,4 +12,5 @@ pub mod SessionLemmas
 pub mod SizeLemmas
 pub mod StandsLemmas
 pub mod WalkingLemmas
+pub mod WordLemmas
 pub mod FamilyLemmas

@@ -1,12 +1,13 @@
 //! The top call.
 
-ghost use Rattle.std.specs.Prelude.{◌≡◌, ◌≢◌, ◌<◌, ◌^◌, ◌++◌, All, codes, length, ℕ, List, None, IfOk, IfErr, map, string_bytes, is_some};
+ghost use Rattle.std.specs.Prelude.{◌≡◌, ◌≢◌, ◌<◌, ◌^◌, ◌++◌, All, codes, length, ℕ, List, Some, None, IfOk, IfErr, map, string_bytes, true, false};
 ghost use Rattle.std.specs.Fmt.{decimal};
 ghost use Rattle.std.specs.Io.KnownBytes.{Appends};
+ghost use Rattle.command_words.specs.declared.order.Order.TheVariants.{Play};
 ghost use Rattle.job_text.specs.Grammar.{IsJob};
 ghost use Rattle.job_text.specs.Histories.{IsPlayed, left_text};
 ghost use Rattle.net_jobs.specs.Causes.{Rose, AppendsFront};
-ghost use Rattle.net_jobs.specs.Ends.{Due, IsComplete, fault_line, kind_word, order_of};
+ghost use Rattle.net_jobs.specs.Ends.{Due, IsComplete, PlaysAlone, asked_of, fault_line, kind_word};
 ghost use Rattle.net_jobs.specs.Refusals.{refusal_line, status_of};
 ghost use Rattle.net_jobs.specs.declared.status.Status.{Status};
 ghost use Rattle.net_jobs.specs.declared.status.Status.TheVariants.{Memory as WantOfMemory, WriteFault};
@@ -18,6 +19,7 @@ use crate::sink::Sink;
 use crate::source::Source;
 use crate::status::Status;
 use crate::writing::write_to_end;
+use command_words::{Order, read_words};
 use edge_bits::Memory;
 use job_text::{FaultKind, Job, JobError, JobFault, parse};
 use node_slots::PlainStore;
@@ -38,14 +40,16 @@ pub enum Refusal {
     Job(JobFault),
 }
 
-/// Whether the words are `play` alone.
-#[tactic(auto, unfolding(crate::specs::Ends::order_of))]
-fn is_play(words: &[String]) -> bool
-    ensures { result ≡ is_some (order_of (map string_bytes words.now)) }
+/// Whether the words ask to play a job. What asks for another command asks for nothing that runs.
+#[tactic(auto, unfolding(crate::specs::Ends::asked_of))]
+fn asks_to_play(alloc: Global, words: &[String]) -> Result<bool, Memory>
+    ensures yes { IfOk result (λ yes. yes ≡ true → asked_of (map string_bytes words.now) ≡ Some Play) }
+    ensures no { IfOk result (λ yes. yes ≡ false → asked_of (map string_bytes words.now) ≡ None) }
 {
-    match words {
-        [word] => word.as_str() == "play",
-        _ => false,
+    match read_words(alloc, words)? {
+        Some(Order::Play) => Ok(true),
+        Some(_) => Ok(false),
+        None => Ok(false),
     }
 }
 
@@ -80,14 +84,16 @@ fn find<S: Source, G: Gate>(
     source: &mut S,
     gate: &G,
 ) -> Result<Vec<u8>, Refusal>
-    ensures text { IfOk result (λ text. Due (order_of (map string_bytes words.now)) (S.left source.old) (S.left source.new)
+    ensures text { IfOk result (λ text. Due (asked_of (map string_bytes words.now)) (S.left source.old) (S.left source.new)
         (Rose (S.faults source.old) (S.faults source.new)) Status.Ok text.items) }
-    ensures refusal { IfErr result (λ refusal. Due (order_of (map string_bytes words.now)) (S.left source.old) (S.left source.new)
+    ensures refusal { IfErr result (λ refusal. Due (asked_of (map string_bytes words.now)) (S.left source.old) (S.left source.new)
         (Rose (S.faults source.old) (S.faults source.new)) (status_of refusal) (refusal_line refusal)) }
-    ensures untouched { order_of (map string_bytes words.now) ≡ None → source.new ≡ source.old }
+    ensures untouched { asked_of (map string_bytes words.now) ≡ None → source.new ≡ source.old }
 {
-    if !is_play(words) {
-        return Err(Refusal::Usage);
+    match asks_to_play(alloc, words) {
+        Ok(true) => {}
+        Ok(false) => return Err(Refusal::Usage),
+        Err(Memory) => return Err(Refusal::Memory),
     }
     let text = match read_to_end(alloc, MAX_LEN, source) {
         Ok(text) => text,
@@ -179,6 +185,7 @@ pub fn refuse_memory<K: Sink>(sink: &mut K) -> Status
 ///
 /// `play` reads the text of a job and writes the text of its history. The checks come in this order: words, reading,
 /// length, format, work, writing; a refused run writes its one line alone.
+#[tactic(auto, using(crate::proofs::WordLemmas::plays_alone))]
 pub fn run<R: Threads + Wait, S: Source, K: Sink, G: Gate>(
     _rt: &R,
     alloc: Global,
@@ -189,17 +196,20 @@ pub fn run<R: Threads + Wait, S: Source, K: Sink, G: Gate>(
 ) -> Status
     // The status has its cause, and its whole text was written.
     ensures told { result ≢ WriteFault → (text : List ℕ)
-        × Due (order_of (map string_bytes words.now)) (S.left source.old) (S.left source.new) (Rose (S.faults source.old) (S.faults source.new)) result text
+        × Due (asked_of (map string_bytes words.now)) (S.left source.old) (S.left source.new) (Rose (S.faults source.old) (S.faults source.new)) result text
         × Appends (K.written sink.old) (K.written sink.new) text }
 
     // The sink failed, and a front of what there was to tell was written.
     ensures cut_off { result ≡ WriteFault → Rose (K.faults sink.old) (K.faults sink.new)
         × ((status : Status) × (text : List ℕ)
-        × Due (order_of (map string_bytes words.now)) (S.left source.old) (S.left source.new) (Rose (S.faults source.old) (S.faults source.new)) status text
+        × Due (asked_of (map string_bytes words.now)) (S.left source.old) (S.left source.new) (Rose (S.faults source.old) (S.faults source.new)) status text
         × AppendsFront (K.written sink.old) (K.written sink.new) text) }
 
     // Where the words ask for nothing, nothing is read.
-    ensures untouched { order_of (map string_bytes words.now) ≡ None → source.new ≡ source.old }
+    ensures untouched { asked_of (map string_bytes words.now) ≡ None → source.new ≡ source.old }
+
+    // That is so for all words but `play` alone.
+    ensures plays_alone { PlaysAlone (map string_bytes words.now) }
 {
     match find(alloc, words, source, gate) {
         Ok(text) => tell(sink, &text, Status::Ok),

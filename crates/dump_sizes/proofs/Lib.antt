@@ -1,0 +1,5 @@
+mod Counted
+mod Lines
+mod Rows
+mod Shown
+mod Standing
