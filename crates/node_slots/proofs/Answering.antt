@@ -1,5 +1,5 @@
 -- What the calls leave, as their goals have it: q is what the fields show, and p is the value.
-use Rattle.std.proofs.Common.{◌≡◌, ◌⊎◌, ◌+◌, inl, inr, ℕ, ◌<◌, ◌≤◌, ◌^◌, Bool, true, false, List, Option, Some, Ok, ℤ, SFits, w64, to_z, of_z, refl, ap, sym, ◌∙◌, subst, arith}
+use Rattle.std.proofs.Common.{◌≡◌, inl, inr, ℕ, ◌<◌, ◌≤◌, ◌^◌, Bool, true, false, List, Option, Some, Ok, ℤ, SFits, w64, to_z, of_z, refl, ap, sym, ◌∙◌, subst, arith}
 use Rattle.std.specs.Prelude.{IsErrOf}
 use Rattle.std.proofs.Common.{◌&&◌, nat_eq, eq-eqb}
 use mathlib.Core.Bool.{beq}
@@ -20,7 +20,6 @@ use Rattle.function_laws.specs.Kinds.{AddFunction, ValueOf, function_of}
 use Rattle.node_store.specs.Views.{AreTwo, IsVariable, CanMake, Denotes, Grown, Is, values_at, node_values}
 use Rattle.node_store.specs.declared.grow.Stop.{Stop}
 use Rattle.node_store.specs.declared.grow.Stop.TheVariants as stop
-use Rattle.node_slots.specs.Indexing.{Nodes, IsPlain}
 use Rattle.node_slots.specs.Stores.{Plain, slots, content_of, plain_view, IsStore}
 use Rattle.node_slots.specs.Placing.{IsPlaced, HasNoPlace, HasNoFree, IsUnknown, IsUnknownNode, IsChild, HasNoChild}
 use Rattle.node_slots.specs.declared.plain_store.Refused.{Refused}
@@ -55,16 +54,6 @@ variable_small q p same st k v vn = small k v (subst (λ x. IsVariable k (plain_
     small Bdd v h = let a = h.0 in omega arith
     small Add v h = let a = h.0 in omega arith
     small Zdd v h = let a = h.1 in let b = st.few_elements in omega arith
-
--- there is a table for the variable
-pub has_table : (q p : Plain) → q ≡ p → (nodes : Nodes) → IsPlain q nodes → (k : Kind) (v : ℕ) → IsVariable k (plain_view p) v
-    → ((v < 16384) × (v < nodes.variables)) ⊎ ((16384 ≤ v) × (v < 16384 + nodes.elements))
-has_table q p same nodes is k v vn = by_kind k (subst (λ x. IsVariable k (plain_view x) v) (sym same) vn)
-  where
-    by_kind : (k : Kind) → IsVariable k (plain_view q) v → ((v < 16384) × (v < nodes.variables)) ⊎ ((16384 ≤ v) × (v < 16384 + nodes.elements))
-    by_kind Bdd h = inl (h.0, omega (arith, h.1, is.variables))
-    by_kind Add h = inl (h.0, omega (arith, h.1, is.variables))
-    by_kind Zdd h = inr (h.0, omega (arith, h.1, is.elements))
 
 pub index_small : (q p : Plain) → q ≡ p → IsStore q → (k : Kind) (e : Edge) → Is k (plain_view p) e → e.index < 2 ^ 23
 index_small q p same st k e d =

@@ -23,7 +23,7 @@ count_rest p ws k (suc n) le first none =
     rw e (count_by_more_no p ws (k + n) 0 (omega arith) (none (k + n) (omega arith)) ∙ count_rest p ws k n (omega arith) first none)
 
 -- the first are all, and no others
-count_prefix : (p : ℕ → Bool) (ws : List ℕ) (k : ℕ) → k ≤ length ws → ((t : ℕ) → t < k → p (get_or ws t 0) ≡ true) → ((t : ℕ) → k ≤ t → p (get_or ws t 0) ≡ false) → count_by p ws ≡ k
+pub count_prefix : (p : ℕ → Bool) (ws : List ℕ) (k : ℕ) → k ≤ length ws → ((t : ℕ) → t < k → p (get_or ws t 0) ≡ true) → ((t : ℕ) → k ≤ t → p (get_or ws t 0) ≡ false) → count_by p ws ≡ k
 count_prefix p ws k le each none =
     let e : k + (length ws - k) ≡ length ws = omega arith in
     ap (count_by p) (sym (take-length ws)) ∙ ap (λ n. count_by p (take n ws)) (sym e) ∙ count_rest p ws k (length ws - k) (omega arith) (count_first p ws k le each) none

@@ -8,6 +8,4 @@ pub mod Answering
 pub mod Opening
 pub mod Denoting
 pub mod Counting
-mod Slices
-mod Tables
-mod LeafTables
+pub mod Taking

@@ -49,6 +49,10 @@ permanent_words p h s below = elim (cases_lt s 5) [
       ap (slots p) at ∙ h.projections v (omega arith) ∙ ap Some (sym (permanent_high v)) ∙ ap (λ t. Some (permanent_word t)) (sym at))
 ]
 
+-- words among which the permanent ones stand agree with the store's there
+pub permanent_kept : (p : Plain) → HasPermanent p → (ws : List ℕ) (n : ℕ) → n ≡ 5 + length p.variable_levels → ((s : ℕ) → s < n → slots_of ws s ≡ Some (permanent_word s)) → (s : ℕ) → s < n → slots_of ws s ≡ slots p s
+permanent_kept p h ws n is permanent s below = permanent s below ∙ sym (permanent_words p h s (omega (arith, below, is)))
+
 -- both orders are 0, 1, 2, ..
 pub IsOrdered-ascending : (p : Plain) (n m : ℕ) → p.variable_levels ≡ range_with_len 0 n → p.element_levels ≡ range_with_len 0 m → IsOrdered p
 IsOrdered-ascending p n m lv le = record { within = within; alone = alone }

@@ -1,7 +1,7 @@
 pub mod Slots
 pub mod Stores
 pub mod Placing
-pub mod Indexing
+pub mod Taking
 pub use Rattle.node_store.specs.Views
 pub use Rattle.node_store.specs.Memo
 pub use Rattle.node_store.specs.Work

@@ -1,13 +1,14 @@
-//! A store of diagrams in one vector of words, with a unique table for each variable and element, and one for the leaves.
+//! A store of diagrams in one vector of words, with one unique table for all nodes and leaves.
 
-ghost use Rattle.std.specs.Prelude.{◌≡◌, ℕ, ◌+◌, ◌-◌, ◌<◌, ◌≤◌, ◌^◌, ◌↔◌, ◌⊎◌, min, IfOk, IfSome, IfNone, IsErrOf, IsOkAnd, IsTrue, OnOk, count_by, length, Some, None, true};
+ghost use Rattle.std.specs.Prelude.{◌≡◌, ℕ, ◌+◌, ◌-◌, ◌<◌, ◌≤◌, ◌^◌, ◌↔◌, ◌⊎◌, min, IfOk, IfSome, IfNone, IsErrOf, IsOkAnd, IsTrue, OnOk, length, Some, None, true};
 ghost use Rattle.std.specs.List.{range_with_len};
 ghost use Rattle.edge_bits.specs.Reading.{slots_of};
-ghost use Rattle.node_slots.specs.Stores.{is_word};
 ghost use Rattle.node_slots.specs.Placing.{IsChild, HasNoChild, opened_of};
 
 use crate::node_table::{NodeTable, find};
-use edge_bits::{Edge, Kind, Memory, Node, Word, unpack};
+use edge_bits::{
+    EMPTY_SLOT, Edge, FIRST_ELEMENT, FIRST_PROJECTION, Kind, Memory, Node, Word, unpack,
+};
 use node_store::binary::flip_if;
 use node_store::{Grow, Key, Opened, Stack, Stop};
 use std::alloc::Global;
@@ -20,7 +21,7 @@ pub enum Refused {
     Leaf(i64),
 }
 
-/// A store in one vector of words. It finds a node by the unique table of its variable, and a leaf by that of the leaves; its computed table is empty.
+/// A store in one vector of words. It finds a node or a leaf by its word in one unique table; its computed table is empty.
 #[derive(Drop)]
 pub struct PlainStore {
     alloc: Global,
@@ -33,14 +34,13 @@ pub struct PlainStore {
 }
 
 impl Model for PlainStore {
-    ghost use Rattle.node_slots.specs.Stores.{Plain};
-    ghost use Rattle.node_slots.specs.Indexing.{IsPlain};
+    ghost use Rattle.node_slots.specs.Stores.{Plain, IsStore};
 
     ghost Value = { Plain };
 
-    ghost view = { λ s. record { variable_levels = s.variable_levels.items; element_levels = s.element_levels.items; words = s.nodes.words; fulls = s.fulls; due = s.due } };
+    ghost view = { λ s. record { variable_levels = s.variable_levels.items; element_levels = s.element_levels.items; words = s.nodes; fulls = s.fulls; due = s.due } };
 
-    ghost invariant = { λ s. IsPlain (record { variable_levels = s.variable_levels.items; element_levels = s.element_levels.items; words = s.nodes.words; fulls = s.fulls; due = s.due }) s.nodes };
+    ghost invariant = { λ s. IsStore (record { variable_levels = s.variable_levels.items; element_levels = s.element_levels.items; words = s.nodes; fulls = s.fulls; due = s.due }) };
 }
 
 /// The child that a node would be, if it would be one.
@@ -48,9 +48,9 @@ fn only_child(var: u32, hi: Edge, lo: Edge) -> Option<Edge>
     ensures child { IfSome result (IsChild var hi lo) }
     ensures none { IfNone result (HasNoChild var hi lo) }
 {
-    if var < 16384 {
+    if var < FIRST_ELEMENT {
         if hi == lo { Some(hi) } else { None }
-    } else if hi.index == 1 {
+    } else if hi.index == EMPTY_SLOT {
         Some(lo)
     } else {
         None
@@ -103,7 +103,7 @@ impl Grow for PlainStore {
     }
 
     fn open(&mut self, edge: Edge) -> Opened {
-        match unpack(self.nodes.words()[edge.index as usize]) {
+        match unpack(self.nodes.word(edge.index)) {
             Some(word) => opened(word, edge.complement),
             None => unreachable!(),
         }
@@ -133,7 +133,7 @@ impl Grow for PlainStore {
             lo: flip_if(lo, hi.complement),
         };
         match self.nodes.place(Word::Inner(node)) {
-            Some(slot) => Ok(Edge::new(slot as u32, hi.complement)),
+            Some(slot) => Ok(Edge::new(slot, hi.complement)),
             None => {
                 self.fulls = risen(fulls);
                 self.due = Some(Refused::Node(var, hi, lo));
@@ -157,7 +157,7 @@ impl Grow for PlainStore {
         ensures uncounted { OnOk result ((plain_view self.new).fulls ≡ (plain_view self.old).fulls) }
     {
         match self.nodes.place(Word::Leaf(value)) {
-            Some(slot) => Ok(Edge::new(slot as u32, false)),
+            Some(slot) => Ok(Edge::new(slot, false)),
             None => {
                 self.fulls = risen(self.fulls);
                 self.due = Some(Refused::Leaf(value));
@@ -167,10 +167,10 @@ impl Grow for PlainStore {
     }
 
     fn level(&mut self, var: u32) -> u32 {
-        if var < 16384 {
+        if var < FIRST_ELEMENT {
             self.variable_levels[var as usize]
         } else {
-            self.element_levels[(var - 16384) as usize]
+            self.element_levels[(var - FIRST_ELEMENT) as usize]
         }
     }
 
@@ -206,14 +206,6 @@ fn ascending(alloc: Global, count: u32) -> Result<Vec<u32>, Memory>
     Ok(levels)
 }
 
-/// How many of the bits are a word's.
-fn count_words(words: &[u64]) -> usize
-    ensures count { result ≡ count_by is_word words.now }
-    ensures within { result ≤ length words.now }
-{
-    words.iter().filter(|bits| unpack(**bits).is_some()).count()
-}
-
 impl PlainStore {
     ghost use Rattle.edge_bits.specs.declared.edges.Kind.{Kind};
     ghost use Rattle.std.specs.Prelude.{Bool, ℤ};
@@ -222,7 +214,7 @@ impl PlainStore {
     ghost use Rattle.edge_bits.specs.Reading.{DenotesBdd, DenotesAdd, DenotesZdd};
     ghost use Rattle.node_store.specs.Views.{AreTwo, Denotes, values_at};
     ghost use Rattle.function_laws.specs.Kinds.{Denoted};
-    ghost use Rattle.node_slots.specs.Stores.{plain_view, in_use, IsOpening, IsCleared};
+    ghost use Rattle.node_slots.specs.Stores.{plain_view, in_use, slots, IsOpening, IsCleared};
 
     /// A store of so many variables and elements, at most 1,024 each, with so many slots: 5 and one for each variable at least, 8,388,607 at most. Both orders are 0, 1, 2, ..
     pub fn new(alloc: Global, vars: u32, elements: u32, limit: u32) -> Result<PlainStore, Memory>
@@ -234,7 +226,7 @@ impl PlainStore {
     {
         let variable_levels = ascending(alloc, vars)?;
         let element_levels = ascending(alloc, elements)?;
-        let nodes = NodeTable::new(alloc, vars, elements, limit)?;
+        let nodes = NodeTable::new(alloc, vars, limit)?;
         Ok(PlainStore {
             alloc,
             variable_levels,
@@ -266,12 +258,12 @@ impl PlainStore {
     pub fn limit(&self) -> u32
         ensures { result ≡ length self.now.words }
     {
-        self.nodes.words().len() as u32
+        self.nodes.limit()
     }
 
-    /// The words of all slots, out of which the function of an edge is read.
+    /// The words of all slots up to the last that was ever in use, out of which the function of an edge is read.
     pub fn words(&self) -> &[u64]
-        ensures words { result.now ≡ self.now.words }
+        ensures words { (s : ℕ) → slots_of result.now s ≡ slots self.now s }
         ensures bdd { (e : Edge) (f : ℕ → Bool) → Denotes Bdd (plain_view self.now) e f → DenotesBdd (plain_view self.now).vars (slots_of result.now) e f }
         ensures add { (e : Edge) (f : ℕ → ℤ) → Denotes Add (plain_view self.now) e f → DenotesAdd (plain_view self.now).vars (slots_of result.now) e f }
         ensures zdd { (e : Edge) (p : ℕ → Bool) → Denotes Zdd (plain_view self.now) e p → DenotesZdd (plain_view self.now).elements (slots_of result.now) e p }
@@ -293,7 +285,7 @@ impl PlainStore {
         ensures count { result ≡ in_use self.now }
         ensures full { (f : Denoted) → (plain_view self.now).due ≡ Some f → result ≡ length self.now.words }
     {
-        count_words(self.nodes.words()) as u32
+        self.nodes.in_use() as u32
     }
 
     /// Frees all slots that are not permanent, and answers how many are in use then: 5 and one for each variable.
@@ -302,10 +294,10 @@ impl PlainStore {
         ensures permanent { result ≡ 5 + (plain_view self.old).vars }
         ensures in_use { result ≡ in_use self.new }
     {
-        let permanent = 5 + self.variable_levels.len();
-        self.nodes.clear();
+        let vars = self.variable_levels.len() as u32;
+        self.nodes.clear(vars);
         self.due = None;
-        permanent as u32
+        FIRST_PROJECTION + vars
     }
 
     /// Whether two edges of one kind denote one function: they are equal then.

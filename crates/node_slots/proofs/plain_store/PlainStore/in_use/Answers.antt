@@ -7,5 +7,5 @@ use Rattle.node_slots.proofs.plain_store.PlainStore.in_use.Goals as goal
 
 pub returns-clause-full : goal.returns-clause-full
 returns-clause-full c = λ f due.
-    c.count_words.ensures.count ∙ ap (count_by is_word) (c.words.ensures ∙ ap (λ (p : Plain). p.words) c.self.view_is)
-    ∙ count_full (the_view c.self.inside) c.args.self.now c.self.view_is c.self.invariant.store f due
+    c.in_use.ensures.count ∙ ap (λ (p : Plain). count_by is_word p.words) c.self.view_is
+    ∙ count_full (the_view c.self.inside) c.args.self.now c.self.view_is c.self.invariant f due
