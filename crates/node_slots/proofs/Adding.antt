@@ -18,7 +18,7 @@ use Rattle.node_store.specs.ViewLaws.{Is-grown, values_at-grown, IsBelow-grown, 
 use Rattle.node_store.proofs.TwoParts.{Lacks-leaf}
 use Rattle.node_slots.specs.Slots.{word_function, function_at_most}
 use Rattle.node_slots.specs.Stores.{Plain, slots, level_in, longest, content_of, top_of_word, top_in, plain_view, is_used, IsNode, IsStore}
-use Rattle.node_slots.proofs.Reading.{at_word, function-more, used}
+use Rattle.node_slots.proofs.Reading.{was_refused, at_word, function-more, used}
 use Rattle.node_slots.proofs.Parting.{depends, top_once, same_parts}
 use Rattle.node_slots.proofs.Canonical.{content_node, leaf_or_node, same_edge}
 
@@ -181,6 +181,7 @@ module _ (p : Plain) (i bits : ℕ) (word : Word) (within : i < length p.words) 
       room = rw (length-set {A = ℕ}) st.room;
       few_words = rw (length-set {A = ℕ}) st.few_words;
       refused = λ r is t below none. absurd (st.refused r is i within free);
+      missing = λ f due. absurd (let r = was_refused (content_of (written p i bits)) p.due f due in st.refused r.0 r.1 i within free);
     }
 
 -- a slot of the function of a node holds the node

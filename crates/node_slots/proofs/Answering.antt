@@ -20,8 +20,8 @@ use Rattle.function_laws.specs.Kinds.{AddFunction, ValueOf, function_of}
 use Rattle.node_store.specs.Views.{AreTwo, IsVariable, CanMake, Denotes, Grown, Is, values_at, node_values}
 use Rattle.node_store.specs.declared.grow.Stop.{Stop}
 use Rattle.node_store.specs.declared.grow.Stop.TheVariants as stop
-use Rattle.node_slots.specs.Stores.{Plain, slots, content_of, plain_view, IsStore}
-use Rattle.node_slots.specs.Placing.{IsPlaced, HasNoPlace, HasNoFree, IsUnknown, IsUnknownNode, IsChild, HasNoChild}
+use Rattle.node_slots.specs.Stores.{Plain, slots, content_of, plain_view, HasNoFree, IsUnknown, IsStore}
+use Rattle.node_slots.specs.Placing.{IsPlaced, HasNoPlace, IsUnknownNode, IsChild, HasNoChild}
 use Rattle.node_slots.specs.declared.plain_store.Refused.{Refused}
 use Rattle.node_slots.specs.declared.plain_store.Refused.TheVariants as refused
 use Rattle.node_slots.proofs.Reading.{in_words}

@@ -19,8 +19,8 @@ use Rattle.node_store.specs.Edges.{flip_if}
 use Rattle.node_store.specs.Views.{View, IsBelow, IsProper, CanMake, Grown, Denotes, empty_edge, function_at, values_at, node_values}
 use Rattle.node_store.specs.ViewLaws.{values_at-is, Is-from, Denotes-flip, Denotes-node, flipped-not, levels-grown, IsVariable-back}
 use Rattle.node_slots.specs.Slots.{node_of, function_at_most}
-use Rattle.node_slots.specs.Stores.{Plain, slots, content_of, plain_view, is_used, ones, IsRegular, IsNode, IsStore}
-use Rattle.node_slots.specs.Placing.{IsPlaced, HasNoFree, IsUnknown, IsUnknownNode, IsChild, HasNoChild}
+use Rattle.node_slots.specs.Stores.{Plain, slots, content_of, refused_function, plain_view, is_used, ones, IsRegular, IsNode, HasNoFree, IsUnknown, IsStore}
+use Rattle.node_slots.specs.Placing.{IsPlaced, IsUnknownNode, IsChild, HasNoChild}
 use Rattle.node_slots.specs.declared.plain_store.Refused.{Refused}
 use Rattle.node_slots.specs.declared.plain_store.Refused.TheVariants as refused
 use Rattle.node_slots.proofs.Reading.{node_of-functions}
@@ -112,6 +112,13 @@ family_of p true f h = cc
 
 Grown-same : (a : View) → Grown a a
 Grown-same a = record { vars = refl; elements = refl; slots = refl; level = refl; content = λ s f h. h; top = λ s f h. refl; made = λ s h. h; fulls = omega arith; counts = refl; holds = refl; wants = λ h. h }
+
+-- what was due where a node was refused
+pub due_node : (p : Plain) (n : ℕ) (k : Kind) (v : ℕ) (hi lo : Edge) → CanMake k (plain_view p) v hi lo
+    → (plain_view (after_refusal p n (Some (refused.Node v hi lo)))).due ≡ Some (function_of k (node_values k (plain_view p) v hi lo))
+due_node p n k v hi lo m =
+    let w = plain_view p in
+    ap (λ o. node_of v o (function_at w lo)) m.hi_is.is ∙ ap (λ o. node_of v (Some (function_of k (values_at k w hi))) o) m.lo_is.is ∙ node_of-functions k v (values_at k w hi) (values_at k w lo)
 
 module _ (p : Plain) (st : IsStore p) where
   free_high : (s : ℕ) → slots p s ≡ None → 5 ≤ s
@@ -274,8 +281,8 @@ module _ (p : Plain) (st : IsStore p) where
       lo_short = rw (levels-grown k refused-grown) i.lo_short;
     }
 
-    pub refused-store : HasNoFree p → IsStore (after_refusal p n d)
-    refused-store full = record {
+    pub refused-store : HasNoFree p → ((f : Denoted) → refused_function (content_of p) d ≡ Some f → IsUnknown p f) → IsStore (after_refusal p n d)
+    refused-store full unknown = record {
       ordered = record {
         within = λ k v vn. rw (levels-grown k refused-grown) (st.ordered.within k v (IsVariable-back k refused-grown v vn));
         alone = λ k u v un vn e. st.ordered.alone k u v (IsVariable-back k refused-grown u un) (IsVariable-back k refused-grown v vn) e;
@@ -291,11 +298,14 @@ module _ (p : Plain) (st : IsStore p) where
       room = st.room;
       few_words = st.few_words;
       refused = λ r is t below free. full t below free;
+      missing = unknown;
     }
 
--- what was due where a node was refused
-pub due_node : (p : Plain) (n : ℕ) (k : Kind) (v : ℕ) (hi lo : Edge) → CanMake k (plain_view p) v hi lo
-    → (plain_view (after_refusal p n (Some (refused.Node v hi lo)))).due ≡ Some (function_of k (node_values k (plain_view p) v hi lo))
-due_node p n k v hi lo m =
-    let w = plain_view p in
-    ap (λ o. node_of v o (function_at w lo)) m.hi_is.is ∙ ap (λ o. node_of v (Some (function_of k (values_at k w hi))) o) m.lo_is.is ∙ node_of-functions k v (values_at k w hi) (values_at k w lo)
+  -- what is due where a node or a leaf is refused
+  pub missing_node : (k : Kind) (v : ℕ) (hi lo : Edge) → CanMake k (plain_view p) v hi lo → IsUnknownNode p v hi lo → (f : Denoted) → refused_function (content_of p) (Some (refused.Node v hi lo)) ≡ Some f → IsUnknown p f
+  missing_node k v hi lo m unknown f due =
+      let e : Some (function_of k (node_values k (plain_view p) v hi lo)) ≡ Some f = sym (due_node p p.fulls k v hi lo m) ∙ due in
+      subst (IsUnknown p) (let same : function_of k (node_values k (plain_view p) v hi lo) ≡ f = cc in same) (unknown k m)
+
+  pub missing_leaf : (x : ℤ) → IsUnknown p (AddFunction (constant x)) → (f : Denoted) → refused_function (content_of p) (Some (refused.Leaf x)) ≡ Some f → IsUnknown p f
+  missing_leaf x unknown f due = subst (IsUnknown p) (let same : AddFunction (constant x) ≡ f = cc in same) unknown

@@ -21,7 +21,7 @@ use Rattle.node_store.specs.Views.{levels, IsVariable}
 use Rattle.node_slots.specs.Slots.{function_at_most}
 use Rattle.node_slots.specs.Stores.{Plain, slots, level_in, longest, content_of, plain_view, projection_node, constant_value, permanent_word, IsNode, IsOrdered, HasPermanent, IsStore, IsOpening}
 use Rattle.node_slots.specs.declared.plain_store.Refused.{Refused}
-use Rattle.node_slots.proofs.Reading.{used}
+use Rattle.node_slots.proofs.Reading.{used, was_refused}
 use Rattle.node_slots.proofs.Calls.{leaf_content, zero_at, projection_content}
 
 pub permanent_low : (s : ℕ) → s < 5 → permanent_word s ≡ Leaf (constant_value s)
@@ -220,6 +220,7 @@ module _ (p : Plain) (first : HasPermanent p) (free : (s : ℕ) → 5 + length p
       room = room;
       few_words = words;
       refused = λ r is t below free. none r is;
+      missing = λ f due. absurd (let r = was_refused (content_of p) p.due f due in none r.0 r.1);
     }
 
 -- a store of which the slots from the permanent ones on were freed

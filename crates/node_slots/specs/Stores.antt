@@ -2,6 +2,7 @@
 use Rattle.std.specs.Prelude.{◌≡◌, ℕ, zero, suc, ◌+◌, ◌-◌, ◌^◌, ◌<◌, ◌≤◌, nat_lt, nat_le, Bool, true, false, ◌&&◌, if◌then◌else◌, List, length, slice_index, Option, Some, None, ℤ, pos, max}
 use Rattle.std.specs.List.{count_by, range_with_len}
 use Rattle.edge_bits.specs.Words.{unpack_of}
+use Rattle.edge_bits.specs.declared.edges.Edge.{Edge}
 use Rattle.edge_bits.specs.declared.edges.Kind.{Kind}
 use Rattle.edge_bits.specs.declared.edges.Kind.TheVariants.{Bdd, Add, Zdd}
 use Rattle.edge_bits.specs.declared.words.Node.{Node}
@@ -12,7 +13,7 @@ use Rattle.edge_bits.specs.Reading.{slots_of, element_of, plain}
 use Rattle.function_laws.specs.Values.{constant}
 use Rattle.function_laws.specs.Numbers.{is_value}
 use Rattle.function_laws.specs.Kinds.{Denoted, AddFunction, ValueOf, flipped}
-use Rattle.node_store.specs.Views.{View, IsVariable, IsProper, CanMake, levels, values_at}
+use Rattle.node_store.specs.Views.{View, IsVariable, IsProper, CanMake, function_at, levels, values_at}
 use Rattle.node_slots.specs.Slots.{node_of, function_at_most}
 use Rattle.node_slots.specs.declared.plain_store.Refused.{Refused}
 use Rattle.node_slots.specs.declared.plain_store.Refused.TheVariants as refused
@@ -129,6 +130,14 @@ pub record IsCanonical (p : Plain) : Type 0 where
   pub leaves : (s : ℕ) (x : ℤ) → slots p s ≡ Some (Leaf x) → is_value x ≡ true
   pub apart : (s t : ℕ) (f : Denoted) → content_of p s ≡ Some f → content_of p t ≡ Some f → s ≡ t
 
+-- each slot has a word
+abbrev pub HasNoFree : Plain → Type 0
+HasNoFree p = (t : ℕ) → t < length p.words → slots p t ≡ None → ⊥
+
+-- no edge denotes the function
+abbrev pub IsUnknown : Plain → Denoted → Type 0
+IsUnknown p f = (e : Edge) → function_at (plain_view p) e ≡ Some f → ⊥
+
 pub record IsStore (p : Plain) : Type 0 where
   pub ordered : IsOrdered p
   pub permanent : HasPermanent p
@@ -137,8 +146,9 @@ pub record IsStore (p : Plain) : Type 0 where
   pub few_elements : length p.element_levels ≤ 1024
   pub room : 5 + length p.variable_levels ≤ length p.words
   pub few_words : length p.words < 2 ^ 23
-  -- where a call was refused and nothing was freed since, each slot has a word
-  pub refused : (r : Refused) → p.due ≡ Some r → (t : ℕ) → t < length p.words → slots p t ≡ None → ⊥
+  -- where a call was refused and nothing was freed since, each slot has a word, and no edge denotes what was due
+  pub refused : (r : Refused) → p.due ≡ Some r → HasNoFree p
+  pub missing : (f : Denoted) → (plain_view p).due ≡ Some f → IsUnknown p f
 
 -- whether the bits are a word's
 abbrev pub is_word : ℕ → Bool

@@ -1,17 +1,21 @@
 //! The words of all slots, by which a node is found, and the slots that are free.
 
-ghost use Rattle.std.specs.Prelude.{◌≡◌, ℕ, ◌+◌, ◌-◌, ◌<◌, ◌≤◌, ◌^◌, IfOk, IfSome, IfNone, count_by, length, slice_index, vec_capacity, Some, None};
+ghost use Rattle.std.specs.Prelude.{◌≡◌, ℕ, ◌+◌, ◌-◌, ◌<◌, ◌≤◌, ◌^◌, IfOk, IfSome, IfNone, count_by, length, slice_index, slice_set, vec_capacity, Some, None};
 ghost use Rattle.edge_bits.specs.Permanent.{first_projection, zero_slot};
 ghost use Rattle.edge_bits.specs.Reading.{slots_of};
 ghost use Rattle.edge_bits.specs.Words.{IsInRange};
 ghost use Rattle.node_slots.specs.Placing.{IsPlaced, HasNoPlace};
 ghost use Rattle.node_slots.specs.Stores.{is_word, permanent_word};
-ghost use Rattle.node_slots.specs.Taking.{ArePacked, AreFree, HasNoZero, IsPut};
+ghost use Rattle.node_slots.specs.Taking.{ArePacked, AreCounted, AreFree, HasNoZero, IsPut, nodes_of};
 
+use crate::node_counts::NodeCounts;
 use edge_bits::{Edge, FIRST_PROJECTION, Memory, Node, TRUE_SLOT, Word, ZERO_SLOT, pack, unpack};
 use level_table::SlotTable;
 use std::alloc::Global;
 use std::marker::Model;
+
+/// As many variable numbers as a word has room for.
+const VARIABLE_NUMBERS: u32 = 1 << 15;
 
 /// The words of a store's slots with their one unique table (Brace, Rudell and Bryant 1990), and the slots that are free.
 #[derive(Drop)]
@@ -20,6 +24,7 @@ pub struct NodeTable {
     // The slots that were taken and freed: the last one is taken first. The room for all of them is there from the opening on.
     freed: Vec<u32>,
     in_use: usize,
+    nodes: NodeCounts,
 }
 
 impl Model for NodeTable {
@@ -30,7 +35,7 @@ impl Model for NodeTable {
 
     ghost view = { λ t. t.table.words };
 
-    ghost invariant = { λ t. IsNodeTable t.table t.freed.items (vec_capacity t.freed) t.in_use };
+    ghost invariant = { λ t. IsNodeTable t.table t.freed.items (vec_capacity t.freed) t.in_use t.nodes };
 }
 
 /// Where a word stands, beyond the slots that are told by their number.
@@ -65,12 +70,15 @@ fn permanent(slot: u32) -> Word
     }
 }
 
-/// Writes the words of the permanent slots into a table without any.
-fn append_permanent(table: &mut SlotTable, vars: u32)
+/// Writes the words of the permanent slots into a table without any, and counts their nodes.
+fn append_permanent(table: &mut SlotTable, nodes: &mut NodeCounts, vars: u32)
     requires vars { vars ≤ 1024 }
     requires room { first_projection + vars ≤ length table.old.words }
     requires empty { table.old.taken ≡ 0 }
     requires free { (s : ℕ) → slice_index table.old.words s ≡ 0 }
+    requires few { length table.old.words < 2 ^ 23 }
+    requires nodes { AreCounted table.old.words nodes.old }
+    ensures nodes { AreCounted table.new.words nodes.new }
     ensures permanent { (s : ℕ) → s < first_projection + vars → slots_of table.new.words s ≡ Some (permanent_word s) }
     ensures free { (s : ℕ) → first_projection + vars ≤ s → slice_index table.new.words s ≡ 0 }
     ensures taken { table.new.taken ≡ first_projection + vars }
@@ -78,7 +86,9 @@ fn append_permanent(table: &mut SlotTable, vars: u32)
     ensures packed { ArePacked table.new.words }
 {
     for slot in 0..FIRST_PROJECTION + vars {
-        table.append(pack(permanent(slot)));
+        let word = permanent(slot);
+        table.append(pack(word));
+        nodes.add(word);
     }
 }
 
@@ -115,12 +125,14 @@ impl NodeTable {
         ensures free { IfOk result (λ words. (s : ℕ) → first_projection + vars ≤ s → slots_of words s ≡ None) }
     {
         let mut table = SlotTable::new(alloc, limit)?;
-        append_permanent(&mut table, vars);
         let freed = Vec::with_capacity(alloc, limit as usize)?;
+        let mut nodes = NodeCounts::new(alloc, VARIABLE_NUMBERS)?;
+        append_permanent(&mut table, &mut nodes, vars);
         Ok(NodeTable {
             table,
             freed,
             in_use: FIRST_PROJECTION as usize + vars as usize,
+            nodes,
         })
     }
 
@@ -167,7 +179,30 @@ impl NodeTable {
         }
         let slot = put(&mut self.table, &mut self.freed, bits)?;
         self.in_use += 1;
+        self.nodes.add(word);
         Some(slot)
+    }
+
+    /// Frees a slot that has a word: it is the next that is taken.
+    pub fn free(&mut self, slot: u32)
+        requires { slots_of self.old slot ≡ None → ⊥ }
+        ensures { self.new ≡ slice_set self.old slot 0 }
+    {
+        let Some(word) = unpack(self.table.word(slot)) else {
+            unreachable!()
+        };
+        self.nodes.remove(word);
+        self.table.erase(slot);
+        self.freed.push_reserved(slot);
+        self.in_use -= 1;
+    }
+
+    /// The number of nodes of a variable, and of element e by 16,384 + e.
+    pub fn nodes_of(&self, var: u32) -> u32
+        requires { var < 2 ^ 15 }
+        ensures { result ≡ nodes_of self.now var }
+    {
+        self.nodes.of(var)
     }
 
     /// Frees all slots but the permanent ones, of so many variables.
@@ -179,8 +214,9 @@ impl NodeTable {
         ensures length { length self.new ≡ length self.old }
     {
         self.table.clear();
-        append_permanent(&mut self.table, vars);
         self.freed.truncate(0);
+        self.nodes.clear();
+        append_permanent(&mut self.table, &mut self.nodes, vars);
         self.in_use = FIRST_PROJECTION as usize + vars as usize;
     }
 }

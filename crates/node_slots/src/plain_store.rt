@@ -89,8 +89,8 @@ impl Grow for PlainStore {
     ghost use Rattle.function_laws.specs.Values.{constant};
     ghost use Rattle.function_laws.specs.Kinds.{function_of, AddFunction};
     ghost use Rattle.node_store.specs.Views.{Denotes, Grown, Rose, CanMake, node_values};
-    ghost use Rattle.node_slots.specs.Stores.{plain_view};
-    ghost use Rattle.node_slots.specs.Placing.{HasNoFree, IsUnknown, IsUnknownNode};
+    ghost use Rattle.node_slots.specs.Stores.{HasNoFree, IsUnknown, plain_view};
+    ghost use Rattle.node_slots.specs.Placing.{IsUnknownNode};
 
     ghost view = { plain_view };
 
@@ -214,7 +214,7 @@ impl PlainStore {
     ghost use Rattle.edge_bits.specs.Reading.{DenotesBdd, DenotesAdd, DenotesZdd};
     ghost use Rattle.node_store.specs.Views.{AreTwo, Denotes, values_at};
     ghost use Rattle.function_laws.specs.Kinds.{Denoted};
-    ghost use Rattle.node_slots.specs.Stores.{plain_view, in_use, slots, IsOpening, IsCleared};
+    ghost use Rattle.node_slots.specs.Stores.{plain_view, in_use, slots, IsOpening, IsCleared, IsUnknown};
 
     /// A store of so many variables and elements, at most 1,024 each, with so many slots: 5 and one for each variable at least, 8,388,607 at most. Both orders are 0, 1, 2, ..
     pub fn new(alloc: Global, vars: u32, elements: u32, limit: u32) -> Result<PlainStore, Memory>
@@ -280,10 +280,11 @@ impl PlainStore {
         Some(slot as u32)
     }
 
-    /// The number of slots that have a word: all, where a function was refused and nothing was freed since.
+    /// The number of slots that have a word: all, where a function was refused and nothing was freed since, and then no slot has that function.
     pub fn in_use(&self) -> u32
         ensures count { result ≡ in_use self.now }
         ensures full { (f : Denoted) → (plain_view self.now).due ≡ Some f → result ≡ length self.now.words }
+        ensures missing { (f : Denoted) → (plain_view self.now).due ≡ Some f → IsUnknown self.now f }
     {
         self.nodes.in_use() as u32
     }

@@ -14,4 +14,4 @@ invariant_of-self c =
     let room = subst (λ (ws : List ℕ). 5 + c.args.vars ≤ length ws) (sym c.self.view_is) c.requires.room in
     rw v.items
     (table_opening c.append_permanent.new.table (5 + c.args.vars) (vec_capacity c.truncate.new.self)
-    (omega (arith, long, room)) (omega (arith, long, old.few)) (omega (arith, long, old.room, v.capacity)) e.taken e.permanent e.free e.packed)
+    (omega (arith, long, room)) (omega (arith, long, old.few)) (omega (arith, long, old.room, v.capacity)) e.taken e.permanent e.free e.packed _ e.nodes)

@@ -12,4 +12,4 @@ invariant_of-result c =
     let long : length c.append_permanent.new.table.words ≡ c.args.limit = e.length ∙ ap length c.in_ok-table.ensures.words ∙ length-replicate c.args.limit zero in
     rw v.items
     (table_opening c.append_permanent.new.table (5 + c.args.vars) (vec_capacity c.in_ok-freed.freed)
-    (omega (arith, long, c.requires.least)) (omega (arith, long, c.requires.most)) (omega (arith, long, v.capacity)) e.taken e.permanent e.free e.packed)
+    (omega (arith, long, c.requires.least)) (omega (arith, long, c.requires.most)) (omega (arith, long, v.capacity)) e.taken e.permanent e.free e.packed _ e.nodes)

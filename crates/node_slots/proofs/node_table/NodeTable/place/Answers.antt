@@ -2,8 +2,8 @@ use Rattle.std.proofs.Common.{◌+◌, length, ap, sym, ◌∙◌, subst, arith}
 use Rattle.std.specs.List.{count_by}
 use Rattle.node_slots.specs.Stores.{is_word}
 use Rattle.std.proofs.lemmas.List.{length-set}
-use Rattle.node_slots.specs.Taking.{ArePacked}
-use Rattle.node_slots.proofs.Taking.{count_put, packed_put}
+use Rattle.node_slots.specs.Taking.{ArePacked, AreCounted}
+use Rattle.node_slots.proofs.Taking.{count_put, counted_put, packed_put}
 use Rattle.node_slots.proofs.node_table.NodeTable.place.Goals as goal
 
 pub invariant_of-self-2 : goal.invariant_of-self-2
@@ -22,4 +22,5 @@ invariant_of-self-2 c =
       room = omega (arith, long, old.room, e.room);
       counted = ap (λ n. n + 1) old.counted ∙ sym (ap (count_by is_word) put.2 ∙ count_put words slot bits c.args.word put.0 put.1 c.pack-bits.ensures.reads_back);
       as_many = omega (arith, old.as_many, e.count);
+      nodes = subst (λ ws. AreCounted ws c.add.new.self) (sym put.2) (counted_put words c.self.inside.nodes c.add.new.self slot bits c.args.word put.0 put.1 c.pack-bits.ensures.reads_back old.nodes c.add.ensures.all c.add.ensures.each);
     }

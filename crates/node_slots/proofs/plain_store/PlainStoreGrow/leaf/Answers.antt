@@ -2,7 +2,7 @@ use Rattle.std.proofs.Common.{refl, rules}
 use Rattle.edge_bits.specs.declared.edges.Kind.TheVariants.{Add}
 use Rattle.function_laws.specs.Values.{constant}
 use Rattle.node_slots.specs.contracts.plain_store.PlainStore.{the_view}
-use Rattle.node_slots.proofs.Making.{Stored, with_words, refused-store}
+use Rattle.node_slots.proofs.Making.{Stored, with_words, missing_leaf, refused-store, unknown_leaf}
 use Rattle.node_slots.proofs.Answering.{passed, leaf_answer, not_refused, leaf_refused}
 use Rattle.node_slots.proofs.plain_store.PlainStoreGrow.leaf.Goals as goal
 use Rattle.node_slots.proofs.plain_store.PlainStoreGrow.leaf.Goals.{After-new}
@@ -15,7 +15,10 @@ pub invariant_of-self : goal.invariant_of-self
 invariant_of-self c = (stored c).store
 
 pub invariant_of-self-in-None : goal.invariant_of-self-in-None
-invariant_of-self-in-None c = rw c.in-None.ensures.full.same (refused-store (the_view c.self.inside) c.self.invariant c.risen-self-inside.result _ c.risen-self-inside.ensures.least c.in-None.ensures.full.full)
+invariant_of-self-in-None c =
+    let q = the_view c.self.inside in
+    let none = c.in-None.ensures.full in
+    rw none.same (refused-store q c.self.invariant c.risen-self-inside.result _ c.risen-self-inside.ensures.least none.full (missing_leaf q c.self.invariant _ (unknown_leaf q c.self.invariant _ none.absent)))
 
 pub returns-in-Some-clause-grown : goal.returns-in-Some-clause-grown
 returns-in-Some-clause-grown c = (stored c).grown

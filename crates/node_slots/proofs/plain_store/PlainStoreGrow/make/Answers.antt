@@ -1,11 +1,11 @@
-use Rattle.std.proofs.Common.{ℕ, refl, ap, arith}
+use Rattle.std.proofs.Common.{ℕ, refl, subst, sym, ap, arith}
 use Rattle.edge_bits.specs.declared.edges.Edge.{Edge}
 use Rattle.edge_bits.specs.declared.edges.Kind.{Kind}
 use Rattle.edge_bits.specs.declared.words.Node.{Node}
 use Rattle.node_store.specs.Views.{CanMake, node_values}
 use Rattle.node_slots.specs.Stores.{plain_view}
 use Rattle.node_slots.specs.contracts.plain_store.PlainStore.{the_view}
-use Rattle.node_slots.proofs.Making.{Stored, with_words, refused-store}
+use Rattle.node_slots.proofs.Making.{Stored, with_words, missing_node, refused-store}
 use Rattle.node_slots.proofs.Answering.{variable_small, index_small, node_answer, node_known, node_refused, child_answer, child_known, due_answer}
 use Rattle.node_slots.proofs.plain_store.PlainStoreGrow.make.Goals as goal
 use Rattle.node_slots.proofs.plain_store.PlainStoreGrow.make.Goals.{After-new}
@@ -46,7 +46,13 @@ pub invariant_of-self : goal.invariant_of-self
 invariant_of-self c = (stored c c.requires.0 c.requires.1).store
 
 pub invariant_of-self-in-None : goal.invariant_of-self-in-None
-invariant_of-self-in-None c = rw c.in-None.ensures.full.same (refused-store (the_view c.self.inside) c.self.invariant c.risen-self-inside.result _ c.risen-self-inside.ensures.least c.in-None.ensures.full.full)
+invariant_of-self-in-None c =
+    let q = the_view c.self.inside in
+    let k = c.requires.0 in let v = c.args.var in let hi = c.args.hi in let lo = c.args.lo in
+    let none = c.in-None.ensures.full in
+    let m = subst (λ p. CanMake k (plain_view p) v hi lo) (sym c.self.view_is) c.requires.1 in
+    let unknown = node_refused q q refl c.self.invariant v hi lo c.in_default.ensures.none _ (ap (λ e. node_of v hi.index e) c.flip_if.ensures) c.place.new.self none in
+    rw none.same (refused-store q c.self.invariant c.risen-self-inside.result _ c.risen-self-inside.ensures.least none.full (missing_node q c.self.invariant k v hi lo m unknown.0))
 
 pub returns-in-Some-place-clause-grown : goal.returns-in-Some-place-clause-grown
 returns-in-Some-place-clause-grown c = (stored c c.requires.0 c.requires.1).grown
