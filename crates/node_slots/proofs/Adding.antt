@@ -36,7 +36,7 @@ node_values-grown k g c = rw (values_at-grown k g c.hi_is, values_at-grown k g c
 
 -- the store with these bits in a slot
 abbrev pub written : Plain → ℕ → ℕ → Plain
-written p i bits = record { variable_levels = p.variable_levels; element_levels = p.element_levels; words = set p.words i bits; fulls = p.fulls; due = p.due }
+written p i bits = record p { words = set p.words i bits }
 
 module _ (p : Plain) (i bits : ℕ) (word : Word) (within : i < length p.words) (reads : unpack_of bits ≡ Some word) (free : slots p i ≡ None) where
   pub slot-here : slots (written p i bits) i ≡ Some word
@@ -180,6 +180,7 @@ module _ (p : Plain) (i bits : ℕ) (word : Word) (within : i < length p.words) 
       few_elements = st.few_elements;
       room = rw (length-set {A = ℕ}) st.room;
       few_words = rw (length-set {A = ℕ}) st.few_words;
+      counted = st.counted ∙ sym (length-set p.words i bits);
       refused = λ r is t below none. absurd (st.refused r is i within free);
       missing = λ f due. absurd (let r = was_refused (content_of (written p i bits)) p.due f due in st.refused r.0 r.1 i within free);
     }

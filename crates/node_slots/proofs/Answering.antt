@@ -108,17 +108,17 @@ pub node_known : (k : Kind) (p q : Plain) (v : ℕ) (hi lo e : Edge) → CanMake
 node_known k p q v hi lo e m s = (λ h. absurd (ok-full e h), λ h. absurd (s.refused_not (h.0 k m) h.1))
 
 pub due_answer : (q p : Plain) → q ≡ p → (n : ℕ) (ws : List ℕ) → ws ≡ q.words → (k : Kind) (v : ℕ) (hi lo : Edge) → CanMake k (plain_view p) v hi lo
-    → (plain_view (record { variable_levels = q.variable_levels; element_levels = q.element_levels; words = ws; fulls = n; due = Some (refused.Node v hi lo) })).due ≡ Some (function_of k (node_values k (plain_view p) v hi lo))
+    → (plain_view (record q { words = ws; fulls = n; due = Some (refused.Node v hi lo) })).due ≡ Some (function_of k (node_values k (plain_view p) v hi lo))
 due_answer q p same n ws is k v hi lo m =
-    subst (λ x. (plain_view (record { variable_levels = q.variable_levels; element_levels = q.element_levels; words = x; fulls = n; due = Some (refused.Node v hi lo) })).due ≡ Some (function_of k (node_values k (plain_view p) v hi lo))) (sym is)
-    (subst (λ x. CanMake k (plain_view x) v hi lo → (plain_view (record { variable_levels = q.variable_levels; element_levels = q.element_levels; words = q.words; fulls = n; due = Some (refused.Node v hi lo) })).due ≡ Some (function_of k (node_values k (plain_view x) v hi lo))) same
+    subst (λ x. (plain_view (record q { words = x; fulls = n; due = Some (refused.Node v hi lo) })).due ≡ Some (function_of k (node_values k (plain_view p) v hi lo))) (sym is)
+    (subst (λ x. CanMake k (plain_view x) v hi lo → (plain_view (record q { words = q.words; fulls = n; due = Some (refused.Node v hi lo) })).due ≡ Some (function_of k (node_values k (plain_view x) v hi lo))) same
     (λ c. due_node q n k v hi lo c) m)
 
 pub grown_answer : (q p : Plain) → q ≡ p → IsStore q → (n : ℕ) (d : Option Refused) → q.fulls ≤ n → (ws : List ℕ) → ws ≡ q.words
-    → Grown (plain_view p) (plain_view (record { variable_levels = q.variable_levels; element_levels = q.element_levels; words = ws; fulls = n; due = d }))
+    → Grown (plain_view p) (plain_view (record q { words = ws; fulls = n; due = d }))
 grown_answer q p same st n d more ws is =
-    subst (λ x. Grown (plain_view p) (plain_view (record { variable_levels = q.variable_levels; element_levels = q.element_levels; words = x; fulls = n; due = d }))) (sym is)
-    (subst (λ x. Grown (plain_view x) (plain_view (record { variable_levels = q.variable_levels; element_levels = q.element_levels; words = q.words; fulls = n; due = d }))) same (refused-grown q st n d more))
+    subst (λ x. Grown (plain_view p) (plain_view (record q { words = x; fulls = n; due = d }))) (sym is)
+    (subst (λ x. Grown (plain_view x) (plain_view (record q { words = q.words; fulls = n; due = d }))) same (refused-grown q st n d more))
 
 -- the test of two edges
 edge-eq : (i j : ℕ) (c d : Bool) → (nat_eq i j && beq c d) ≡ true → (i ≡ j) × (c ≡ d)

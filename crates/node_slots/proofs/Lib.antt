@@ -9,3 +9,4 @@ pub mod Opening
 pub mod Denoting
 pub mod Counting
 pub mod Taking
+pub mod Remaining

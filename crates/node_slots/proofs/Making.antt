@@ -89,11 +89,11 @@ abbrev pub node_with : ℕ → Edge → Edge → Node
 node_with v hi lo = record { var = v; hi = hi.index; lo = flip_if hi.complement lo }
 
 abbrev pub with_words : Plain → List ℕ → Plain
-with_words p ws = record { variable_levels = p.variable_levels; element_levels = p.element_levels; words = ws; fulls = p.fulls; due = p.due }
+with_words p ws = record p { words = ws }
 
 -- the store after a refused call
 abbrev pub after_refusal : Plain → ℕ → Option Refused → Plain
-after_refusal p n d = record { variable_levels = p.variable_levels; element_levels = p.element_levels; words = p.words; fulls = n; due = d }
+after_refusal p n d = record p { fulls = n; due = d }
 
 -- what a call that answers an edge leaves
 pub record Stored (k : Kind) (p q : Plain) (e : Edge) (f : ℕ → ValueOf k) : Type 0 where
@@ -297,6 +297,7 @@ module _ (p : Plain) (st : IsStore p) where
       few_elements = st.few_elements;
       room = st.room;
       few_words = st.few_words;
+      counted = st.counted;
       refused = λ r is t below free. full t below free;
       missing = unknown;
     }

@@ -161,7 +161,8 @@ impl NodeTable {
 
     /// The words of all slots up to the last that was ever taken.
     pub fn words(&self) -> &[u64]
-        ensures within { length result.now < 2 ^ 23 }
+        ensures within { length result.now ≤ length self.now }
+        ensures few { length result.now < 2 ^ 23 }
         ensures words { (s : ℕ) → slice_index result.now s ≡ slice_index self.now s }
     {
         self.table.words()

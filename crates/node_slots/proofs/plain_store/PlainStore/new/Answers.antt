@@ -12,6 +12,7 @@ invariant_of-result c =
       slots_are = w.slots_are;
       permanent = w.permanent;
       free = w.free;
+      counts = c.in_ok-counts.ensures;
       fulls = refl;
       due = refl;
     })
