@@ -1,5 +1,7 @@
 pub mod Reading
 pub mod Parting
+pub mod Bridge
+pub mod Solving
 pub mod Canonical
 pub mod Adding
 pub mod Calls

@@ -24,9 +24,11 @@ use Rattle.node_slots.specs.Placing.{IsPlaced, IsUnknownNode, IsChild, HasNoChil
 use Rattle.node_slots.specs.declared.plain_store.Refused.{Refused}
 use Rattle.node_slots.specs.declared.plain_store.Refused.TheVariants as refused
 use Rattle.node_slots.proofs.Reading.{node_of-functions}
-use Rattle.node_slots.proofs.Canonical.{inner_high, content_node, regular_slot, regular-joined, same_edge, not-injective, not_both}
-use Rattle.node_slots.proofs.Adding.{CanMake-grown, node_values-grown, written, slot-here, written-grown, IsNode-grown, IsStore-written, slot_of_node, slot_of_leaf}
-use Rattle.node_slots.proofs.Calls.{unflip, node_kept, leaf_content}
+use Rattle.node_slots.proofs.Solving.{content_node, node-more}
+use Rattle.node_slots.proofs.Canonical.{inner_high, regular_slot, regular-joined, same_edge, not_both}
+use Rattle.node_slots.proofs.Parting.{not-injective, unflip}
+use Rattle.node_slots.proofs.Adding.{CanMake-grown, written, extends, slot-here, written-grown, IsStore-written, slot_of_node, slot_of_leaf}
+use Rattle.node_slots.proofs.Calls.{node_kept, leaf_content}
 
 below-not : (w : View) (v : ℕ) (f : ℕ → Bool) → IsBelow Bdd w v f → IsBelow Bdd w v (negation f)
 below-not w v f h u un le k b = ap not (h u un le k b)
@@ -155,8 +157,7 @@ module _ (p : Plain) (st : IsStore p) where
       let q = written p s bits in
       let high = free_high s free in
       let grown = written-grown p s bits (Inner node) within reads free in
-      let n2 = IsNode-grown p s bits (Inner node) within reads free k node n in
-      let here = content_node q k s node (slot-here p s bits (Inner node) within reads free) (omega arith) n2 ∙ ap (λ f. Some (function_of k f)) (node_values-grown k grown n.can_make) in
+      let here = node-more p st.canonical (slots q) (extends p s bits (Inner node) within reads free) k s node (slot-here p s bits (Inner node) within reads free) (omega arith) n in
       let fresh : (t : ℕ) → content_of p t ≡ Some (function_of k (node_values k (plain_view p) v (plain hi.index) (flip_if hi.complement lo))) → ⊥ =
       λ t h. (let w = slot_of_node p st k node n t h in let le = inner_high p st.permanent t node w in absent t (omega arith) w) in
       record {
@@ -173,7 +174,7 @@ module _ (p : Plain) (st : IsStore p) where
       → (ws : List ℕ) (s : ℕ) → IsPlaced p.words ws (Inner (node_with v hi lo)) s
       → Stored k p (with_words p ws) (record { index = s; complement = hi.complement }) (node_values k (plain_view p) v hi lo)
   node_placed k v hi lo m n ws s placed = elim placed.way [
-    | inl there ↦ was_stored k _ _ (Denotes-node k m (plain_view p) _ ((normal k (plain_view p) v hi lo m).gives (content_of p s) (content_node p k s (node_with v hi lo) there.here there.high n)) (Grown-same (plain_view p))) ws there.same
+    | inl there ↦ was_stored k _ _ (Denotes-node k m (plain_view p) _ ((normal k (plain_view p) v hi lo m).gives (content_of p s) (content_node p st.canonical k s (node_with v hi lo) there.here there.high n)) (Grown-same (plain_view p))) ws there.same
     | inr new ↦ subst (λ x. Stored k p (with_words p x) (record { index = s; complement = hi.complement }) (node_values k (plain_view p) v hi lo)) (sym new.is)
         (node_stored k v hi lo m n s placed.within new.bits new.reads new.free new.absent)
   ]
@@ -277,8 +278,6 @@ module _ (p : Plain) (st : IsStore p) where
       can_make = CanMake-grown k refused-grown i.can_make;
       proper = i.proper;
       regular = i.regular;
-      hi_short = rw (levels-grown k refused-grown) i.hi_short;
-      lo_short = rw (levels-grown k refused-grown) i.lo_short;
     }
 
     pub refused-store : HasNoFree p → ((f : Denoted) → refused_function (content_of p) d ≡ Some f → IsUnknown p f) → IsStore (after_refusal p n d)

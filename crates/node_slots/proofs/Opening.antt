@@ -23,7 +23,7 @@ use Rattle.node_slots.specs.Slots.{function_at_most}
 use Rattle.node_slots.specs.Stores.{Plain, slots, level_in, longest, content_of, plain_view, projection_node, constant_value, permanent_word, IsNode, IsOrdered, HasPermanent, IsStore, IsOpening}
 use Rattle.node_slots.specs.declared.plain_store.Refused.{Refused}
 use Rattle.node_slots.proofs.Reading.{used, was_refused}
-use Rattle.node_slots.proofs.Calls.{leaf_content, zero_at, projection_content}
+use Rattle.node_slots.proofs.Calls.{leaf_content, projection_content}
 
 pub permanent_low : (s : ℕ) → s < 5 → permanent_word s ≡ Leaf (constant_value s)
 permanent_low s lt = let t : nat_lt s 5 ≡ true = grind (arith, lt) in rw t refl
@@ -184,8 +184,6 @@ module _ (p : Plain) (first : HasPermanent p) (free : (s : ℕ) → 5 + length p
     unfolding function_at_most
     projection_kept v lt =
         let vn : IsVariable Bdd (plain_view p) v = (omega arith, lt) in
-        let inside = orders.within Bdd v vn in
-        let short = zero_at p (length p.variable_levels - level_in p v) (omega arith) in
         record {
           can_make = record {
             in_range = vn;
@@ -196,8 +194,6 @@ module _ (p : Plain) (first : HasPermanent p) (free : (s : ℕ) → 5 + length p
           };
           proper = λ e. never (ap (λ (f : ℕ → Bool). f 0) e);
           regular = refl;
-          hi_short = short;
-          lo_short = short;
         }
 
     nodes : (s : ℕ) (node : Node) → slots p s ≡ Some (Inner node) → (k : Kind) × IsNode k p node

@@ -1,5 +1,5 @@
 -- A store of which some slots were freed, or count words written.
-use Rattle.std.proofs.Common.{◌≡◌, ◌≢◌, ℕ, zero, suc, ◌+◌, ◌-◌, ◌<◌, ◌≤◌, inl, inr, List, length, set, Option, Some, None, refl, ap, sym, ◌∙◌, subst, arith}
+use Rattle.std.proofs.Common.{◌≡◌, ◌≢◌, ℕ, zero, suc, ◌+◌, ◌<◌, ◌≤◌, inl, inr, List, length, set, Option, Some, None, refl, ap, sym, ◌∙◌, subst, arith}
 use Rattle.std.proofs.lemmas.Bool.{cases_eq, cases_lt}
 use Rattle.std.proofs.lemmas.List.{length-set, get_or_past, get_or-set_same, get_or-set_other}
 use Rattle.edge_bits.specs.declared.edges.Edge.{Edge}
@@ -13,7 +13,7 @@ use Rattle.edge_bits.specs.Reading.{plain}
 use Rattle.function_laws.specs.Kinds.{Denoted, ValueOf, values_of, flipped}
 use Rattle.node_store.specs.Views.{levels, IsVariable, IsBeyond, IsBelow, CanMake, Denotes, Is, values_at}
 use Rattle.node_slots.specs.Slots.{node_of, word_function, function_at_most}
-use Rattle.node_slots.specs.Stores.{Plain, slots, level_in, longest, content_of, plain_view, HasNoFree, IsUnknown, IsNode, IsStore}
+use Rattle.node_slots.specs.Stores.{Plain, slots, longest, content_of, plain_view, HasNoFree, IsUnknown, IsNode, IsStore}
 use Rattle.node_slots.specs.Counts.{IsUnnamed}
 use Rattle.node_slots.specs.declared.plain_store.Refused.{Refused}
 use Rattle.node_slots.proofs.Reading.{at_word}
@@ -79,8 +79,6 @@ module _ (p : Plain) (ws cs : List ℕ) (d : Option Refused) where
       can_make = can_make k node.var (plain node.hi) node.lo (content_same node.hi hi) (content_same node.lo.index lo) n.can_make;
       proper = rw (values_same k (plain node.hi) (content_same node.hi hi), values_same k node.lo (content_same node.lo.index lo)) n.proper;
       regular = rw (values_same k (plain node.hi) (content_same node.hi hi)) n.regular;
-      hi_short = rw (levels_same k) (same (levels k (plain_view p) - level_in p node.var) node.hi hi ∙ n.hi_short ∙ sym (content_same node.hi hi));
-      lo_short = rw (levels_same k) (same (levels k (plain_view p) - level_in p node.var) node.lo.index lo ∙ n.lo_short ∙ sym (content_same node.lo.index lo));
     }
 
     -- the slots with words are among those that stay, and so are their children

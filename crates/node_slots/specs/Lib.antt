@@ -3,6 +3,7 @@ pub mod Stores
 pub mod Placing
 pub mod Taking
 pub mod Counts
+pub mod Solutions
 pub use Rattle.node_store.specs.Views
 pub use Rattle.node_store.specs.Memo
 pub use Rattle.node_store.specs.Work

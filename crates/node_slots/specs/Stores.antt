@@ -105,9 +105,6 @@ pub record IsNode (k : Kind) (p : Plain) (node : Node) : Type 0 where
   pub can_make : CanMake k (plain_view p) node.var (plain node.hi) node.lo
   pub proper : IsProper k (values_at k (plain_view p) (plain node.hi)) (values_at k (plain_view p) node.lo)
   pub regular : IsRegular k (length p.variable_levels) (values_at k (plain_view p) (plain node.hi))
-  -- the children's paths are no longer than the levels below the node
-  pub hi_short : function_at_most (slots p) (levels k (plain_view p) - level_in p node.var) node.hi ≡ content_of p node.hi
-  pub lo_short : function_at_most (slots p) (levels k (plain_view p) - level_in p node.var) node.lo.index ≡ content_of p node.lo.index
 
 -- each level holds one variable, or element
 pub record IsOrdered (p : Plain) : Type 0 where
