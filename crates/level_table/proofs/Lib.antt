@@ -4,3 +4,4 @@ pub mod Keyed
 pub mod Entries
 pub mod Removal
 pub mod LeafKeys
+pub mod Slots

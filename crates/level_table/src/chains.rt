@@ -31,7 +31,7 @@ impl Model for Chains {
 }
 
 /// The place that a link leads to.
-fn place_of(link: u32) -> Option<usize>
+pub(crate) fn place_of(link: u32) -> Option<usize>
     ensures { link_to result ≡ link }
 {
     if link == 0 {
@@ -77,13 +77,13 @@ fn next_above(heads: &[u32], links: &[u32], bucket: usize, place: usize) -> Opti
     above
 }
 
-/// Takes a place out of its chain.
-fn unlink(heads: &mut [u32], links: &mut [u32], hashes: &[u32], place: usize)
-    requires chains { AreChains hashes.now links.old heads.old }
-    requires within { place < length hashes.now }
-    ensures { IsChained (put (bucket_of hashes.now (length heads.new)) place (length heads.new)) heads.new links.new }
+/// Takes a place out of the chain of this bucket.
+pub(crate) fn unlink(heads: &mut [u32], links: &mut [u32], bucket: usize, place: usize)
+    requires bucket { bucket < length heads.old }
+    requires place { place < length links.old }
+    requires chained { (at : ℕ → ℕ) × IsChained at heads.old links.old }
+    ensures { (at : ℕ → ℕ) → IsChained at heads.old links.old → at place ≡ bucket → IsChained (put at place (length heads.new)) heads.new links.new }
 {
-    let bucket = hashes[place] as usize % heads.len();
     let below = links[place];
     match next_above(heads, links, bucket, place) {
         Some(above) => links[above] = below,
@@ -91,16 +91,14 @@ fn unlink(heads: &mut [u32], links: &mut [u32], hashes: &[u32], place: usize)
     }
 }
 
-/// Puts a place that is in no chain into that of its hash.
-fn link(heads: &mut [u32], links: &mut [u32], hashes: &[u32], place: usize)
-    requires chained { IsChained (put (bucket_of hashes.now (length heads.old)) place (length heads.old)) heads.old links.old }
-    requires as_long { length links.old ≡ length hashes.now }
-    requires few { length hashes.now < 2 ^ 32 }
-    requires bucket { 0 < length heads.old }
-    requires within { place < length hashes.now }
-    ensures { AreChains hashes.now links.new heads.new }
+/// Puts a place that is in no chain into that of this bucket.
+pub(crate) fn link(heads: &mut [u32], links: &mut [u32], bucket: usize, place: usize)
+    requires bucket { bucket < length heads.old }
+    requires place { place < length links.old }
+    requires few { length links.old < 2 ^ 32 }
+    requires chained { (at : ℕ → ℕ) × IsChained at heads.old links.old }
+    ensures { (at new : ℕ → ℕ) → IsChained at heads.old links.old → at place ≡ length heads.old → ((k : ℕ) → (k ≡ place → ⊥) → new k ≡ at k) → new place ≡ bucket → IsChained new heads.new links.new }
 {
-    let bucket = hashes[place] as usize % heads.len();
     let to_place = place as u32 + 1;
     match next_above(heads, links, bucket, place) {
         Some(above) => {
@@ -115,7 +113,7 @@ fn link(heads: &mut [u32], links: &mut [u32], hashes: &[u32], place: usize)
 }
 
 /// So many empty buckets.
-fn clear(heads: &mut Vec<u32>, buckets: usize)
+pub(crate) fn clear(heads: &mut Vec<u32>, buckets: usize)
     requires { buckets ≤ vec_capacity heads.old }
     ensures { heads.new.items ≡ replicate buckets 0 }
 {
@@ -176,9 +174,11 @@ fn rehash(heads: &mut [u32], links: &mut [u32], hashes: &mut [u32], place: usize
     ensures chains { AreChains hashes.new links.new heads.new }
     ensures hashes { hashes.new ≡ slice_set hashes.old place hash }
 {
-    unlink(heads, links, hashes, place);
+    let before = hashes[place] as usize % heads.len();
+    unlink(heads, links, before, place);
     hashes[place] = hash;
-    link(heads, links, hashes, place);
+    let after = hash as usize % heads.len();
+    link(heads, links, after, place);
 }
 
 impl Chains {

@@ -1,5 +1,5 @@
 -- A store with one word more.
-use Rattle.std.proofs.Common.{◌≡◌, ◌≢◌, ℕ, zero, suc, ◌+◌, ◌-◌, ◌<◌, ◌≤◌, inl, inr, Bool, true, false, ◌&&◌, nat_le, length, set, Option, Some, None, ℤ, refl, ap, sym, ◌∙◌, subst, arith}
+use Rattle.std.proofs.Common.{◌≡◌, ◌≢◌, ℕ, zero, suc, ◌+◌, ◌<◌, ◌≤◌, inl, inr, Bool, true, false, ◌&&◌, nat_le, length, set, Option, Some, None, ℤ, refl, ap, sym, ◌∙◌, subst, arith}
 use Rattle.std.proofs.lemmas.Bool.{cases_eq}
 use Rattle.std.proofs.lemmas.List.{get_or-set_same, get_or-set_other, length-set}
 use Rattle.edge_bits.specs.declared.edges.Edge.{Edge}
@@ -12,15 +12,16 @@ use Rattle.edge_bits.specs.Words.{unpack_of}
 use Rattle.edge_bits.specs.Reading.{plain}
 use Rattle.function_laws.specs.Values.{constant}
 use Rattle.function_laws.specs.Numbers.{is_value}
-use Rattle.function_laws.specs.Kinds.{Denoted, AddFunction, function_of, joined_at, Lacks, flipped}
-use Rattle.node_store.specs.Views.{View, levels, IsBelow, CanMake, Grown, values_at, node_values, IsLeafOf, number}
+use Rattle.function_laws.specs.Kinds.{Denoted, AddFunction, function_of, joined_at, Lacks}
+use Rattle.node_store.specs.Views.{View, IsBelow, CanMake, Grown, values_at, node_values, IsLeafOf, number}
 use Rattle.node_store.specs.ViewLaws.{Is-grown, values_at-grown, IsBelow-grown, IsVariable-grown, IsVariable-back, levels-grown}
 use Rattle.node_store.proofs.TwoParts.{Lacks-leaf}
 use Rattle.node_slots.specs.Slots.{word_function, function_at_most}
-use Rattle.node_slots.specs.Stores.{Plain, slots, level_in, longest, content_of, top_of_word, top_in, plain_view, is_used, IsNode, IsStore}
-use Rattle.node_slots.proofs.Reading.{at_word, function-more, used}
+use Rattle.node_slots.specs.Stores.{Plain, slots, longest, content_of, top_of_word, top_in, plain_view, is_used, IsNode, IsStore}
+use Rattle.node_slots.proofs.Reading.{was_refused, at_word, function-more, used}
 use Rattle.node_slots.proofs.Parting.{depends, top_once, same_parts}
-use Rattle.node_slots.proofs.Canonical.{content_node, leaf_or_node, same_edge}
+use Rattle.node_slots.proofs.Solving.{content_node}
+use Rattle.node_slots.proofs.Canonical.{leaf_or_node, same_edge}
 
 pub CanMake-grown : (k : Kind) {a b : View} {v : ℕ} {hi lo : Edge} → Grown a b → CanMake k a v hi lo → CanMake k b v hi lo
 CanMake-grown k {a} {b} {v} {hi} {lo} g c = record {
@@ -36,7 +37,7 @@ node_values-grown k g c = rw (values_at-grown k g c.hi_is, values_at-grown k g c
 
 -- the store with these bits in a slot
 abbrev pub written : Plain → ℕ → ℕ → Plain
-written p i bits = record { variable_levels = p.variable_levels; element_levels = p.element_levels; words = set p.words i bits; fulls = p.fulls; due = p.due }
+written p i bits = record p { words = set p.words i bits }
 
 module _ (p : Plain) (i bits : ℕ) (word : Word) (within : i < length p.words) (reads : unpack_of bits ≡ Some word) (free : slots p i ≡ None) where
   pub slot-here : slots (written p i bits) i ≡ Some word
@@ -92,22 +93,11 @@ module _ (p : Plain) (i bits : ℕ) (word : Word) (within : i < length p.words) 
       let c = n.can_make in
       let w = plain_view p in
       let same = values_at-grown k g c.hi_is in
-      let m = levels k w - level_in p node.var in
       record {
         can_make = CanMake-grown k g c;
         proper = rw (same, values_at-grown k g c.lo_is) n.proper;
         regular = rw same n.regular;
-        hi_short = rw (levels-grown k g) (short m node.hi (function_of k (values_at k w (plain node.hi))) n.hi_short c.hi_is.is);
-        lo_short = (let x = some_content node.lo.complement (content_of p node.lo.index) (function_of k (values_at k w node.lo)) c.lo_is.is in rw (levels-grown k g) (short m node.lo.index x.0 n.lo_short x.1));
       }
-    where
-      short : (m s : ℕ) (f : Denoted) → function_at_most (slots p) m s ≡ content_of p s → content_of p s ≡ Some f → function_at_most (slots (written p i bits)) m s ≡ content_of (written p i bits) s
-      short m s f e h = function-more (slots p) (slots (written p i bits)) extends m m (omega arith) s f (e ∙ h) ∙ sym (content-grown s f h)
-
-      some_content : (b : Bool) (o : Option Denoted) (f : Denoted) → flipped b o ≡ Some f → (g : Denoted) × (o ≡ Some g)
-      some_content true None f h = cc
-      some_content false None f h = cc
-      some_content b (Some g) f h = (g, refl)
 
   -- what is asked of the word
   module _ (st : IsStore p) (f : Denoted) (here : content_of (written p i bits) i ≡ Some f) (fresh : (t : ℕ) → content_of p t ≡ Some f → ⊥)
@@ -116,7 +106,7 @@ module _ (p : Plain) (i bits : ℕ) (word : Word) (within : i < length p.words) 
     back-some t g le (Leaf x) is = (AddFunction (constant x), at_word (slots p) (longest p) t le ∙ ap (word_function (function_at_most (slots p) (longest p))) is)
     back-some t g le (Inner node) is =
         let n = st.canonical.nodes t node is in
-        (function_of n.0 (node_values n.0 (plain_view p) node.var (plain node.hi) node.lo), content_node p n.0 t node is le n.1)
+        (function_of n.0 (node_values n.0 (plain_view p) node.var (plain node.hi) node.lo), content_node p st.canonical n.0 t node is le n.1)
 
     back-other : (t : ℕ) (g : Denoted) → t ≢ i → 3 ≤ t → content_of (written p i bits) t ≡ Some g → content_of p t ≡ Some g
     back-other t g ne le h =
@@ -180,7 +170,9 @@ module _ (p : Plain) (i bits : ℕ) (word : Word) (within : i < length p.words) 
       few_elements = st.few_elements;
       room = rw (length-set {A = ℕ}) st.room;
       few_words = rw (length-set {A = ℕ}) st.few_words;
+      counted = st.counted ∙ sym (length-set p.words i bits);
       refused = λ r is t below none. absurd (st.refused r is i within free);
+      missing = λ f due. absurd (let r = was_refused (content_of (written p i bits)) p.due f due in st.refused r.0 r.1 i within free);
     }
 
 -- a slot of the function of a node holds the node

@@ -1,5 +1,5 @@
 -- What the calls leave, as their goals have it: q is what the fields show, and p is the value.
-use Rattle.std.proofs.Common.{◌≡◌, ◌⊎◌, ◌+◌, inl, inr, ℕ, ◌<◌, ◌≤◌, ◌^◌, Bool, true, false, List, Option, Some, Ok, ℤ, SFits, w64, to_z, of_z, refl, ap, sym, ◌∙◌, subst, arith}
+use Rattle.std.proofs.Common.{◌≡◌, inl, inr, ℕ, ◌<◌, ◌≤◌, ◌^◌, Bool, true, false, List, Option, Some, Ok, ℤ, SFits, w64, to_z, of_z, refl, ap, sym, ◌∙◌, subst, arith}
 use Rattle.std.specs.Prelude.{IsErrOf}
 use Rattle.std.proofs.Common.{◌&&◌, nat_eq, eq-eqb}
 use mathlib.Core.Bool.{beq}
@@ -20,14 +20,13 @@ use Rattle.function_laws.specs.Kinds.{AddFunction, ValueOf, function_of}
 use Rattle.node_store.specs.Views.{AreTwo, IsVariable, CanMake, Denotes, Grown, Is, values_at, node_values}
 use Rattle.node_store.specs.declared.grow.Stop.{Stop}
 use Rattle.node_store.specs.declared.grow.Stop.TheVariants as stop
-use Rattle.node_slots.specs.Indexing.{Nodes, IsPlain}
-use Rattle.node_slots.specs.Stores.{Plain, slots, content_of, plain_view, IsStore}
-use Rattle.node_slots.specs.Placing.{IsPlaced, HasNoPlace, HasNoFree, IsUnknown, IsUnknownNode, IsChild, HasNoChild}
+use Rattle.node_slots.specs.Stores.{Plain, slots, content_of, plain_view, HasNoFree, IsUnknown, IsStore}
+use Rattle.node_slots.specs.Placing.{IsPlaced, HasNoPlace, IsUnknownNode, IsChild, HasNoChild}
 use Rattle.node_slots.specs.declared.plain_store.Refused.{Refused}
 use Rattle.node_slots.specs.declared.plain_store.Refused.TheVariants as refused
 use Rattle.node_slots.proofs.Reading.{in_words}
 use Rattle.node_slots.proofs.Canonical.{leaf_or_node, edge_is, same_edge}
-use Rattle.node_slots.proofs.Calls.{unflip}
+use Rattle.node_slots.proofs.Parting.{unflip}
 use Rattle.node_slots.proofs.Making.{child_denotes, due_node, refused-grown, Stored, node_with, with_words, new_node, node_placed, leaf_placed, unknown_nodes, unknown_leaf}
 
 -- the word of an edge that denotes something
@@ -55,16 +54,6 @@ variable_small q p same st k v vn = small k v (subst (λ x. IsVariable k (plain_
     small Bdd v h = let a = h.0 in omega arith
     small Add v h = let a = h.0 in omega arith
     small Zdd v h = let a = h.1 in let b = st.few_elements in omega arith
-
--- there is a table for the variable
-pub has_table : (q p : Plain) → q ≡ p → (nodes : Nodes) → IsPlain q nodes → (k : Kind) (v : ℕ) → IsVariable k (plain_view p) v
-    → ((v < 16384) × (v < nodes.variables)) ⊎ ((16384 ≤ v) × (v < 16384 + nodes.elements))
-has_table q p same nodes is k v vn = by_kind k (subst (λ x. IsVariable k (plain_view x) v) (sym same) vn)
-  where
-    by_kind : (k : Kind) → IsVariable k (plain_view q) v → ((v < 16384) × (v < nodes.variables)) ⊎ ((16384 ≤ v) × (v < 16384 + nodes.elements))
-    by_kind Bdd h = inl (h.0, omega (arith, h.1, is.variables))
-    by_kind Add h = inl (h.0, omega (arith, h.1, is.variables))
-    by_kind Zdd h = inr (h.0, omega (arith, h.1, is.elements))
 
 pub index_small : (q p : Plain) → q ≡ p → IsStore q → (k : Kind) (e : Edge) → Is k (plain_view p) e → e.index < 2 ^ 23
 index_small q p same st k e d =
@@ -119,17 +108,17 @@ pub node_known : (k : Kind) (p q : Plain) (v : ℕ) (hi lo e : Edge) → CanMake
 node_known k p q v hi lo e m s = (λ h. absurd (ok-full e h), λ h. absurd (s.refused_not (h.0 k m) h.1))
 
 pub due_answer : (q p : Plain) → q ≡ p → (n : ℕ) (ws : List ℕ) → ws ≡ q.words → (k : Kind) (v : ℕ) (hi lo : Edge) → CanMake k (plain_view p) v hi lo
-    → (plain_view (record { variable_levels = q.variable_levels; element_levels = q.element_levels; words = ws; fulls = n; due = Some (refused.Node v hi lo) })).due ≡ Some (function_of k (node_values k (plain_view p) v hi lo))
+    → (plain_view (record q { words = ws; fulls = n; due = Some (refused.Node v hi lo) })).due ≡ Some (function_of k (node_values k (plain_view p) v hi lo))
 due_answer q p same n ws is k v hi lo m =
-    subst (λ x. (plain_view (record { variable_levels = q.variable_levels; element_levels = q.element_levels; words = x; fulls = n; due = Some (refused.Node v hi lo) })).due ≡ Some (function_of k (node_values k (plain_view p) v hi lo))) (sym is)
-    (subst (λ x. CanMake k (plain_view x) v hi lo → (plain_view (record { variable_levels = q.variable_levels; element_levels = q.element_levels; words = q.words; fulls = n; due = Some (refused.Node v hi lo) })).due ≡ Some (function_of k (node_values k (plain_view x) v hi lo))) same
+    subst (λ x. (plain_view (record q { words = x; fulls = n; due = Some (refused.Node v hi lo) })).due ≡ Some (function_of k (node_values k (plain_view p) v hi lo))) (sym is)
+    (subst (λ x. CanMake k (plain_view x) v hi lo → (plain_view (record q { words = q.words; fulls = n; due = Some (refused.Node v hi lo) })).due ≡ Some (function_of k (node_values k (plain_view x) v hi lo))) same
     (λ c. due_node q n k v hi lo c) m)
 
 pub grown_answer : (q p : Plain) → q ≡ p → IsStore q → (n : ℕ) (d : Option Refused) → q.fulls ≤ n → (ws : List ℕ) → ws ≡ q.words
-    → Grown (plain_view p) (plain_view (record { variable_levels = q.variable_levels; element_levels = q.element_levels; words = ws; fulls = n; due = d }))
+    → Grown (plain_view p) (plain_view (record q { words = ws; fulls = n; due = d }))
 grown_answer q p same st n d more ws is =
-    subst (λ x. Grown (plain_view p) (plain_view (record { variable_levels = q.variable_levels; element_levels = q.element_levels; words = x; fulls = n; due = d }))) (sym is)
-    (subst (λ x. Grown (plain_view x) (plain_view (record { variable_levels = q.variable_levels; element_levels = q.element_levels; words = q.words; fulls = n; due = d }))) same (refused-grown q st n d more))
+    subst (λ x. Grown (plain_view p) (plain_view (record q { words = x; fulls = n; due = d }))) (sym is)
+    (subst (λ x. Grown (plain_view x) (plain_view (record q { words = q.words; fulls = n; due = d }))) same (refused-grown q st n d more))
 
 -- the test of two edges
 edge-eq : (i j : ℕ) (c d : Bool) → (nat_eq i j && beq c d) ≡ true → (i ≡ j) × (c ≡ d)

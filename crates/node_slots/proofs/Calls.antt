@@ -1,5 +1,5 @@
 -- What the calls of a store answer, from what its words are.
-use Rattle.std.proofs.Common.{◌≡◌, ℕ, zero, suc, ◌+◌, ◌-◌, ◌<◌, ◌≤◌, inl, inr, Bool, true, false, not, cond, length, Option, Some, None, ℤ, pos, refl, ap, sym, ◌∙◌, subst, arith}
+use Rattle.std.proofs.Common.{◌≡◌, ℕ, zero, suc, ◌+◌, ◌<◌, ◌≤◌, inl, inr, Bool, true, false, not, cond, length, Some, ℤ, pos, refl, ap, sym, ◌∙◌, subst, arith}
 use Rattle.std.specs.Prelude.{if◌then◌else◌}
 use Rattle.edge_bits.specs.declared.edges.Edge.{Edge}
 use Rattle.edge_bits.specs.declared.edges.Kind.{Kind}
@@ -11,33 +11,16 @@ use Rattle.edge_bits.specs.Assignments.{bit}
 use Rattle.edge_bits.specs.Reading.{plain}
 use Rattle.function_laws.specs.Values.{constant, negation, choice, projection}
 use Rattle.function_laws.proofs.ValueLemmas.{everywhere, place_one}
-use Rattle.function_laws.specs.Kinds.{Denoted, BddFunction, AddFunction, ZddFamily, ValueOf, function_of, Lacks, flipped}
+use Rattle.function_laws.specs.Kinds.{BddFunction, AddFunction, ValueOf, function_of, flipped}
 use Rattle.node_store.specs.Edges.{flip_if}
-use Rattle.node_store.specs.Views.{levels, IsVariable, IsBelow, IsProper, IsInner, IsLeaf, IsLeafOf, logic_one, logic_zero, Opens, Splits, CanMake, Is, Permanent, function_at, values_at, node_values}
+use Rattle.node_store.specs.Views.{IsVariable, IsBelow, IsProper, IsInner, IsLeaf, IsLeafOf, logic_one, logic_zero, Opens, Splits, CanMake, Is, Permanent, function_at, values_at, node_values}
 use Rattle.node_store.specs.ViewLaws.{values_at-is, Is-from, Denotes-flip}
 use Rattle.node_slots.specs.Slots.{word_function, function_at_most}
 use Rattle.node_slots.specs.Stores.{Plain, HasPermanent, projection_node, longest, slots, level_in, content_of, top_in, plain_view, IsNode, IsStore}
 use Rattle.node_slots.specs.Placing.{opened_of}
 use Rattle.node_slots.proofs.Reading.{at_word}
-use Rattle.node_slots.proofs.Parting.{same_values}
-use Rattle.node_slots.proofs.Canonical.{inner_high, top_word, LeafSlot, leaf_or_node, regular_slot, lower_slot, short_slot, not-injective}
-
--- what a slot denotes, by what an edge to it denotes
-pub record Unflipped (k : Kind) (o : Option Denoted) (f : ℕ → ValueOf k) : Type 0 where
-  pub inner : ℕ → ValueOf k
-  pub is : o ≡ Some (function_of k inner)
-  pub lacks : (v : ℕ) → Lacks k f v → Lacks k inner v
-
-pub unflip : (k : Kind) (c : Bool) (o : Option Denoted) (f : ℕ → ValueOf k) → flipped c o ≡ Some (function_of k f) → Unflipped k o f
-unflip k false o f h = record { inner = f; is = h; lacks = λ v p. p }
-unflip k true None f h = cc
-unflip k true (Some (AddFunction g)) f h = cc
-unflip k true (Some (ZddFamily g)) f h = cc
-unflip Add true (Some (BddFunction g)) f h = cc
-unflip Zdd true (Some (BddFunction g)) f h = cc
-unflip Bdd true (Some (BddFunction g)) f h =
-    let e : negation g ≡ f = cc in
-    record { inner = g; is = refl; lacks = λ v p k b. not-injective _ _ (subst (λ (x : ℕ → Bool). Lacks Bdd x v) (sym e) p k b) }
+use Rattle.node_slots.proofs.Parting.{same_values, unflip, not-injective}
+use Rattle.node_slots.proofs.Canonical.{inner_high, top_word, LeafSlot, leaf_or_node, regular_slot, lower_slot}
 
 some_values : (k : Kind) (f g : ℕ → ValueOf k) → Some (function_of k f) ≡ Some (function_of k g) → f ≡ g
 some_values k f g e = same_values k f g (let same : function_of k f ≡ function_of k g = cc in same)
@@ -72,12 +55,6 @@ module _ (p : Plain) (st : IsStore p) where
       let u = unflip k e.complement (content_of p e.index) f h in
       lower_slot p st.permanent st.canonical st.ordered k e.index u.inner u.is v vn (λ x xn le. u.lacks x (below x xn le))
 
-  short_edge : (k : Kind) (e : Edge) (f : ℕ → ValueOf k) → function_at (plain_view p) e ≡ Some (function_of k f)
-      → (v : ℕ) → IsVariable k (plain_view p) v → IsBelow k (plain_view p) v f → function_at_most (slots p) (levels k (plain_view p) - level_in p v) e.index ≡ content_of p e.index
-  short_edge k e f h v vn below =
-      let u = unflip k e.complement (content_of p e.index) f h in
-      short_slot p st.permanent st.canonical st.ordered k e.index u.inner u.is v vn (λ x xn le. u.lacks x (below x xn le))
-
   -- a node as a store keeps it
   pub node_kept : (k : Kind) (node : Node) → CanMake k (plain_view p) node.var (plain node.hi) node.lo
       → IsProper k (values_at k (plain_view p) (plain node.hi)) (values_at k (plain_view p) node.lo) → IsNode k p node
@@ -85,8 +62,6 @@ module _ (p : Plain) (st : IsStore p) where
     can_make = c;
     proper = proper;
     regular = regular_slot p st.permanent st.canonical k node.hi (values_at k (plain_view p) (plain node.hi)) c.hi_is.is;
-    hi_short = short_edge k (plain node.hi) (values_at k (plain_view p) (plain node.hi)) c.hi_is.is node.var c.in_range c.hi_below;
-    lo_short = short_edge k node.lo (values_at k (plain_view p) node.lo) c.lo_is.is node.var c.in_range c.lo_below;
   }
 
   -- opening

@@ -1,5 +1,5 @@
 -- What is known of each slot of a store.
-use Rattle.std.proofs.Common.{◌≡◌, ℕ, zero, suc, ◌-◌, ◌<◌, ◌≤◌, ◌⊎◌, inl, inr, Bool, true, false, not, length, Option, Some, None, ℤ, pos, refl, ap, sym, ◌∙◌, subst, arith}
+use Rattle.std.proofs.Common.{◌≡◌, ℕ, zero, suc, ◌<◌, ◌≤◌, ◌⊎◌, inl, inr, Bool, true, false, not, length, Option, Some, None, ℤ, pos, refl, ap, sym, ◌∙◌, subst, arith}
 use Rattle.std.proofs.lemmas.Bool.{cases_lt}
 use Rattle.edge_bits.specs.declared.edges.Edge.{Edge}
 use Rattle.edge_bits.specs.declared.edges.Kind.{Kind}
@@ -16,37 +16,15 @@ use Rattle.node_store.specs.KindLaws.{flipped-some}
 use Rattle.node_store.specs.Views.{levels, IsVariable, IsBelow, function_at, values_at, node_values, IsLeafOf, logic_one, number, no_member, only_base}
 use Rattle.node_slots.specs.Slots.{word_function, function_at_most}
 use Rattle.node_slots.specs.Stores.{Plain, slots, level_in, longest, content_of, top_of_word, top_in, plain_view, ones, IsRegular, IsNode, IsOrdered, HasPermanent, IsCanonical}
-use Rattle.node_slots.proofs.Reading.{at_word, node_of-functions, flipped-more, function-more, used}
-use Rattle.node_slots.proofs.Parting.{same_kind, same_values, lower, bit-ones}
+use Rattle.node_slots.proofs.Reading.{at_word, used}
+use Rattle.node_slots.proofs.Parting.{same_kind, same_values, lower, bit-ones, not-injective}
+use Rattle.node_slots.proofs.Solving.{content_node}
 
 pub inner_high : (p : Plain) → HasPermanent p → (s : ℕ) (node : Node) → slots p s ≡ Some (Inner node) → 5 ≤ s
 inner_high p first s node is = elim (cases_lt s 5) [
   | inl lt ↦ (let e = sym (first.constants s lt) ∙ is in cc)
   | inr le ↦ le
 ]
-
--- what a node denotes, by paths as long as the levels from it on
-pub node_at : (p : Plain) (k : Kind) (s : ℕ) (node : Node) → slots p s ≡ Some (Inner node) → 3 ≤ s → IsNode k p node
-    → (m : ℕ) → levels k (plain_view p) - level_in p node.var ≤ m
-    → function_at_most (slots p) (suc m) s ≡ Some (function_of k (node_values k (plain_view p) node.var (plain node.hi) node.lo))
-node_at p k s node is le n m long =
-    let w = plain_view p in
-    let short = levels k w - level_in p node.var in
-    let hi : function_at_most (slots p) m node.hi ≡ Some (function_of k (values_at k w (plain node.hi))) =
-    function-more (slots p) (slots p) (λ t x h. h) short m long node.hi (function_of k (values_at k w (plain node.hi))) (n.hi_short ∙ n.can_make.hi_is.is) in
-    let lo : flipped node.lo.complement (function_at_most (slots p) m node.lo.index) ≡ Some (function_of k (values_at k w node.lo)) =
-    flipped-more node.lo.complement (content_of p node.lo.index) (function_at_most (slots p) m node.lo.index) (function_of k (values_at k w node.lo)) n.can_make.lo_is.is
-    (λ f h. function-more (slots p) (slots p) (λ t x h. h) short m long node.lo.index f (n.lo_short ∙ h)) in
-    at_word (slots p) m s le ∙ ap (word_function (function_at_most (slots p) m)) is ∙ rw (hi, lo) (node_of-functions k node.var (values_at k w (plain node.hi)) (values_at k w node.lo))
-
-pub levels_short : (p : Plain) (k : Kind) → levels k (plain_view p) ≤ longest p
-levels_short p Bdd = omega arith
-levels_short p Add = omega arith
-levels_short p Zdd = omega arith
-
-pub content_node : (p : Plain) (k : Kind) (s : ℕ) (node : Node) → slots p s ≡ Some (Inner node) → 3 ≤ s → IsNode k p node
-    → content_of p s ≡ Some (function_of k (node_values k (plain_view p) node.var (plain node.hi) node.lo))
-content_node p k s node is le n = let l = levels_short p k in node_at p k s node is le n (longest p) (omega arith)
 
 pub top_word : (p : Plain) (s : ℕ) (o : Option Word) → 3 ≤ s → slots p s ≡ o → top_in p s ≡ top_of_word p o
 top_word p zero o le is = absurd (omega arith)
@@ -60,7 +38,6 @@ pub record LeafSlot (k : Kind) (p : Plain) (s : ℕ) (f : ℕ → ValueOf k) : T
   pub leaf : IsLeafOf k (plain s) f value
   pub word : slots p s ≡ Some (Leaf value)
   pub top : top_in p s ≡ levels k (plain_view p)
-  pub short : function_at_most (slots p) 1 s ≡ Some (function_of k f)
   pub regular : IsRegular k (length p.variable_levels) f
 
 -- a slot that is a node of the kind
@@ -95,13 +72,12 @@ module _ (p : Plain) (first : HasPermanent p) (sound : IsCanonical p) where
           leaf = number (plain s) x;
           word = is;
           top = top_word p s (Some (Leaf x)) le is;
-          short = at_word (slots p) 0 s le ∙ ap (word_function (function_at_most (slots p) 0)) is;
           regular = tt;
         });
       }
   by_word s le (Inner node) is f h =
       let n = sound.nodes s node is in
-      let e : Some (function_of n.0 (node_values n.0 (plain_view p) node.var (plain node.hi) node.lo)) ≡ Some f = sym (content_node p n.0 s node is le n.1) ∙ h in
+      let e : Some (function_of n.0 (node_values n.0 (plain_view p) node.var (plain node.hi) node.lo)) ≡ Some f = sym (content_node p sound n.0 s node is le n.1) ∙ h in
       record {
         kind = n.0;
         values = node_values n.0 (plain_view p) node.var (plain node.hi) node.lo;
@@ -115,19 +91,19 @@ module _ (p : Plain) (first : HasPermanent p) (sound : IsCanonical p) where
     kind = Bdd;
     values = constant true;
     is = cc;
-    slot = inl (record { value = pos 1; leaf = logic_one; word = first.constants 0 (omega arith); top = refl; short = refl; regular = refl });
+    slot = inl (record { value = pos 1; leaf = logic_one; word = first.constants 0 (omega arith); top = refl; regular = refl });
   }
   some_slot (suc zero) f h = record {
     kind = Zdd;
     values = empty;
     is = cc;
-    slot = inl (record { value = pos 0; leaf = no_member; word = first.constants 1 (omega arith); top = refl; short = refl; regular = tt });
+    slot = inl (record { value = pos 0; leaf = no_member; word = first.constants 1 (omega arith); top = refl; regular = tt });
   }
   some_slot (suc (suc zero)) f h = record {
     kind = Zdd;
     values = base;
     is = cc;
-    slot = inl (record { value = pos 1; leaf = only_base; word = first.constants 2 (omega arith); top = refl; short = refl; regular = tt });
+    slot = inl (record { value = pos 1; leaf = only_base; word = first.constants 2 (omega arith); top = refl; regular = tt });
   }
   some_slot (suc (suc (suc s))) f h =
       let u = used (slots p) (longest p) (suc (suc (suc s))) f (omega arith) h in
@@ -173,35 +149,11 @@ module _ (p : Plain) (first : HasPermanent p) (sound : IsCanonical p) where
               omega (arith, t, lt))
         ]
 
-    -- its paths are no longer than the levels below that level
-    pub short_slot : (k : Kind) (s : ℕ) (f : ℕ → ValueOf k) → content_of p s ≡ Some (function_of k f)
-        → (v : ℕ) → IsVariable k (plain_view p) v → IsBelow k (plain_view p) v f → function_at_most (slots p) (levels k (plain_view p) - level_in p v) s ≡ content_of p s
-    short_slot k s f h v vn below =
-        let inside = orders.within k v vn in
-        let lt = lower_slot k s f h v vn below in
-        let w = plain_view p in
-        elim (leaf_or_node k s f h) [
-          | inl l ↦ function-more (slots p) (slots p) (λ t x e. e) 1 (levels k w - level_in p v) (omega arith) s (function_of k f) l.short ∙ sym h
-          | inr n ↦ (
-              let high = inner_high p first s n.node n.word in
-              let t = top_word p s (Some (Inner n.node)) (omega arith) n.word in
-              let own = orders.within k n.node.var n.is_node.can_make.in_range in
-              let from = levels k w - level_in p n.node.var in
-              function-more (slots p) (slots p) (λ t x e. e) (suc from) (levels k w - level_in p v) (omega (arith, t, lt, own)) s (function_of k f)
-              (node_at p k s n.node n.word (omega arith) n.is_node from (omega arith) ∙ ap (λ x. Some (function_of k x)) (sym n.is)) ∙ sym h)
-        ]
-
 -- an edge is told by its index and its complement
 pub edge_is : (a b : Edge) → a.index ≡ b.index → a.complement ≡ b.complement → a ≡ b
 edge_is a b i c =
     let mk : ℕ → Bool → Edge = λ i c. record { index = i; complement = c } in
     ap (λ i. mk i a.complement) i ∙ ap (λ c. mk b.index c) c
-
-pub not-injective : (a b : Bool) → not a ≡ not b → a ≡ b
-not-injective true true e = refl
-not-injective true false e = cc
-not-injective false true e = cc
-not-injective false false e = refl
 
 pub not_both : (n : ℕ) (g : ℕ → Bool) → g (ones n) ≡ true → negation g (ones n) ≡ true → ⊥
 not_both n g h i = let e : not true ≡ true = ap not (sym h) ∙ i in never e

@@ -7,8 +7,8 @@ use Rattle.std.proofs.lemmas.List.Sums.{count_by_more_yes, count_by_more_no}
 use Rattle.edge_bits.specs.Reading.{slots_of}
 use Rattle.edge_bits.specs.declared.words.Word.{Word}
 use Rattle.function_laws.specs.Kinds.{Denoted}
-use Rattle.node_slots.specs.declared.plain_store.Refused.{Refused}
-use Rattle.node_slots.specs.Stores.{Plain, slots, is_used, is_word, plain_view, refused_function, HasPermanent, IsStore}
+use Rattle.node_slots.proofs.Reading.{was_refused}
+use Rattle.node_slots.specs.Stores.{Plain, slots, is_used, is_word, plain_view, HasPermanent, IsStore}
 
 count_first : (p : ℕ → Bool) (ws : List ℕ) (n : ℕ) → n ≤ length ws → ((t : ℕ) → t < n → p (get_or ws t 0) ≡ true) → count_by p (take n ws) ≡ n
 count_first p ws zero le each = refl
@@ -23,7 +23,7 @@ count_rest p ws k (suc n) le first none =
     rw e (count_by_more_no p ws (k + n) 0 (omega arith) (none (k + n) (omega arith)) ∙ count_rest p ws k n (omega arith) first none)
 
 -- the first are all, and no others
-count_prefix : (p : ℕ → Bool) (ws : List ℕ) (k : ℕ) → k ≤ length ws → ((t : ℕ) → t < k → p (get_or ws t 0) ≡ true) → ((t : ℕ) → k ≤ t → p (get_or ws t 0) ≡ false) → count_by p ws ≡ k
+pub count_prefix : (p : ℕ → Bool) (ws : List ℕ) (k : ℕ) → k ≤ length ws → ((t : ℕ) → t < k → p (get_or ws t 0) ≡ true) → ((t : ℕ) → k ≤ t → p (get_or ws t 0) ≡ false) → count_by p ws ≡ k
 count_prefix p ws k le each none =
     let e : k + (length ws - k) ≡ length ws = omega arith in
     ap (count_by p) (sym (take-length ws)) ∙ ap (λ n. count_by p (take n ws)) (sym e) ∙ count_rest p ws k (length ws - k) (omega arith) (count_first p ws k le each) none
@@ -48,10 +48,6 @@ count_cleared p st ws from is count kept free =
 used_if : (o : Option Word) → (o ≡ None → ⊥) → is_used o ≡ true
 used_if None some = absurd (some refl)
 used_if (Some word) some = refl
-
-was_refused : (content : ℕ → Option Denoted) (d : Option Refused) (f : Denoted) → refused_function content d ≡ Some f → (r : Refused) × (d ≡ Some r)
-was_refused content None f e = cc
-was_refused content (Some r) f e = (r, refl)
 
 -- where a function is due, each slot is in use
 pub count_full : (q p : Plain) → q ≡ p → IsStore q → (f : Denoted) → (plain_view p).due ≡ Some f → count_by is_word p.words ≡ length p.words

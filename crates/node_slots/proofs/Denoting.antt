@@ -15,9 +15,9 @@ use Rattle.function_laws.specs.Kinds.{Denoted, BddFunction, AddFunction, ZddFami
 use Rattle.node_store.specs.Views.{levels, Denotes}
 use Rattle.node_slots.specs.Slots.{node_of, word_function, function_at_most}
 use Rattle.node_slots.specs.Stores.{Plain, slots, content_of, plain_view, HasPermanent, IsStore}
-use Rattle.node_slots.proofs.Reading.{at_word, used, function-more, node_of-some}
+use Rattle.node_slots.proofs.Reading.{at_word, used, node_of-some}
 use Rattle.node_slots.proofs.Parting.{same_kind, same_values}
-use Rattle.node_slots.proofs.Canonical.{inner_high, node_at, leaf_or_node}
+use Rattle.node_slots.proofs.Solving.{by_levels}
 
 -- the children of a node of the kind
 record Parts (k : Kind) (v : ℕ) (a b : Option Denoted) (f : ℕ → ValueOf k) : Type 0 where
@@ -166,12 +166,7 @@ module _ (p : Plain) (first : HasPermanent p) where
 module _ (p : Plain) (st : IsStore p) where
   -- no path has more words than the levels of its kind and a leaf
   at_levels : (k : Kind) (s : ℕ) (f : ℕ → ValueOf k) → content_of p s ≡ Some (function_of k f) → function_at_most (slots p) (levels k (plain_view p) + 1) s ≡ Some (function_of k f)
-  at_levels k s f h = rw add-one (elim (leaf_or_node p st.permanent st.canonical k s f h) [
-    | inl l ↦ function-more (slots p) (slots p) (λ t x e. e) 1 (suc (levels k (plain_view p))) (omega arith) s (function_of k f) l.short
-    | inr n ↦ (
-        let high = inner_high p st.permanent s n.node n.word in
-        node_at p k s n.node n.word (omega arith) n.is_node (levels k (plain_view p)) (omega arith) ∙ ap (λ x. Some (function_of k x)) (sym n.is))
-  ])
+  at_levels k s f h = rw add-one (by_levels p st.canonical k s f h)
 
   pub bdd_denotes : (e : Edge) (f : ℕ → Bool) → Denotes Bdd (plain_view p) e f → DenotesBdd (length p.variable_levels) (slots p) e f
   bdd_denotes e f d k =

@@ -1,5 +1,7 @@
 pub mod Reading
 pub mod Parting
+pub mod Bridge
+pub mod Solving
 pub mod Canonical
 pub mod Adding
 pub mod Calls
@@ -8,6 +10,5 @@ pub mod Answering
 pub mod Opening
 pub mod Denoting
 pub mod Counting
-mod Slices
-mod Tables
-mod LeafTables
+pub mod Taking
+pub mod Remaining

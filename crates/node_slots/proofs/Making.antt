@@ -19,14 +19,16 @@ use Rattle.node_store.specs.Edges.{flip_if}
 use Rattle.node_store.specs.Views.{View, IsBelow, IsProper, CanMake, Grown, Denotes, empty_edge, function_at, values_at, node_values}
 use Rattle.node_store.specs.ViewLaws.{values_at-is, Is-from, Denotes-flip, Denotes-node, flipped-not, levels-grown, IsVariable-back}
 use Rattle.node_slots.specs.Slots.{node_of, function_at_most}
-use Rattle.node_slots.specs.Stores.{Plain, slots, content_of, plain_view, is_used, ones, IsRegular, IsNode, IsStore}
-use Rattle.node_slots.specs.Placing.{IsPlaced, HasNoFree, IsUnknown, IsUnknownNode, IsChild, HasNoChild}
+use Rattle.node_slots.specs.Stores.{Plain, slots, content_of, refused_function, plain_view, is_used, ones, IsRegular, IsNode, HasNoFree, IsUnknown, IsStore}
+use Rattle.node_slots.specs.Placing.{IsPlaced, IsUnknownNode, IsChild, HasNoChild}
 use Rattle.node_slots.specs.declared.plain_store.Refused.{Refused}
 use Rattle.node_slots.specs.declared.plain_store.Refused.TheVariants as refused
 use Rattle.node_slots.proofs.Reading.{node_of-functions}
-use Rattle.node_slots.proofs.Canonical.{inner_high, content_node, regular_slot, regular-joined, same_edge, not-injective, not_both}
-use Rattle.node_slots.proofs.Adding.{CanMake-grown, node_values-grown, written, slot-here, written-grown, IsNode-grown, IsStore-written, slot_of_node, slot_of_leaf}
-use Rattle.node_slots.proofs.Calls.{unflip, node_kept, leaf_content}
+use Rattle.node_slots.proofs.Solving.{content_node, node-more}
+use Rattle.node_slots.proofs.Canonical.{inner_high, regular_slot, regular-joined, same_edge, not_both}
+use Rattle.node_slots.proofs.Parting.{not-injective, unflip}
+use Rattle.node_slots.proofs.Adding.{CanMake-grown, written, extends, slot-here, written-grown, IsStore-written, slot_of_node, slot_of_leaf}
+use Rattle.node_slots.proofs.Calls.{node_kept, leaf_content}
 
 below-not : (w : View) (v : ℕ) (f : ℕ → Bool) → IsBelow Bdd w v f → IsBelow Bdd w v (negation f)
 below-not w v f h u un le k b = ap not (h u un le k b)
@@ -89,11 +91,11 @@ abbrev pub node_with : ℕ → Edge → Edge → Node
 node_with v hi lo = record { var = v; hi = hi.index; lo = flip_if hi.complement lo }
 
 abbrev pub with_words : Plain → List ℕ → Plain
-with_words p ws = record { variable_levels = p.variable_levels; element_levels = p.element_levels; words = ws; fulls = p.fulls; due = p.due }
+with_words p ws = record p { words = ws }
 
 -- the store after a refused call
 abbrev pub after_refusal : Plain → ℕ → Option Refused → Plain
-after_refusal p n d = record { variable_levels = p.variable_levels; element_levels = p.element_levels; words = p.words; fulls = n; due = d }
+after_refusal p n d = record p { fulls = n; due = d }
 
 -- what a call that answers an edge leaves
 pub record Stored (k : Kind) (p q : Plain) (e : Edge) (f : ℕ → ValueOf k) : Type 0 where
@@ -112,6 +114,13 @@ family_of p true f h = cc
 
 Grown-same : (a : View) → Grown a a
 Grown-same a = record { vars = refl; elements = refl; slots = refl; level = refl; content = λ s f h. h; top = λ s f h. refl; made = λ s h. h; fulls = omega arith; counts = refl; holds = refl; wants = λ h. h }
+
+-- what was due where a node was refused
+pub due_node : (p : Plain) (n : ℕ) (k : Kind) (v : ℕ) (hi lo : Edge) → CanMake k (plain_view p) v hi lo
+    → (plain_view (after_refusal p n (Some (refused.Node v hi lo)))).due ≡ Some (function_of k (node_values k (plain_view p) v hi lo))
+due_node p n k v hi lo m =
+    let w = plain_view p in
+    ap (λ o. node_of v o (function_at w lo)) m.hi_is.is ∙ ap (λ o. node_of v (Some (function_of k (values_at k w hi))) o) m.lo_is.is ∙ node_of-functions k v (values_at k w hi) (values_at k w lo)
 
 module _ (p : Plain) (st : IsStore p) where
   free_high : (s : ℕ) → slots p s ≡ None → 5 ≤ s
@@ -148,8 +157,7 @@ module _ (p : Plain) (st : IsStore p) where
       let q = written p s bits in
       let high = free_high s free in
       let grown = written-grown p s bits (Inner node) within reads free in
-      let n2 = IsNode-grown p s bits (Inner node) within reads free k node n in
-      let here = content_node q k s node (slot-here p s bits (Inner node) within reads free) (omega arith) n2 ∙ ap (λ f. Some (function_of k f)) (node_values-grown k grown n.can_make) in
+      let here = node-more p st.canonical (slots q) (extends p s bits (Inner node) within reads free) k s node (slot-here p s bits (Inner node) within reads free) (omega arith) n in
       let fresh : (t : ℕ) → content_of p t ≡ Some (function_of k (node_values k (plain_view p) v (plain hi.index) (flip_if hi.complement lo))) → ⊥ =
       λ t h. (let w = slot_of_node p st k node n t h in let le = inner_high p st.permanent t node w in absent t (omega arith) w) in
       record {
@@ -166,7 +174,7 @@ module _ (p : Plain) (st : IsStore p) where
       → (ws : List ℕ) (s : ℕ) → IsPlaced p.words ws (Inner (node_with v hi lo)) s
       → Stored k p (with_words p ws) (record { index = s; complement = hi.complement }) (node_values k (plain_view p) v hi lo)
   node_placed k v hi lo m n ws s placed = elim placed.way [
-    | inl there ↦ was_stored k _ _ (Denotes-node k m (plain_view p) _ ((normal k (plain_view p) v hi lo m).gives (content_of p s) (content_node p k s (node_with v hi lo) there.here there.high n)) (Grown-same (plain_view p))) ws there.same
+    | inl there ↦ was_stored k _ _ (Denotes-node k m (plain_view p) _ ((normal k (plain_view p) v hi lo m).gives (content_of p s) (content_node p st.canonical k s (node_with v hi lo) there.here there.high n)) (Grown-same (plain_view p))) ws there.same
     | inr new ↦ subst (λ x. Stored k p (with_words p x) (record { index = s; complement = hi.complement }) (node_values k (plain_view p) v hi lo)) (sym new.is)
         (node_stored k v hi lo m n s placed.within new.bits new.reads new.free new.absent)
   ]
@@ -270,12 +278,10 @@ module _ (p : Plain) (st : IsStore p) where
       can_make = CanMake-grown k refused-grown i.can_make;
       proper = i.proper;
       regular = i.regular;
-      hi_short = rw (levels-grown k refused-grown) i.hi_short;
-      lo_short = rw (levels-grown k refused-grown) i.lo_short;
     }
 
-    pub refused-store : HasNoFree p → IsStore (after_refusal p n d)
-    refused-store full = record {
+    pub refused-store : HasNoFree p → ((f : Denoted) → refused_function (content_of p) d ≡ Some f → IsUnknown p f) → IsStore (after_refusal p n d)
+    refused-store full unknown = record {
       ordered = record {
         within = λ k v vn. rw (levels-grown k refused-grown) (st.ordered.within k v (IsVariable-back k refused-grown v vn));
         alone = λ k u v un vn e. st.ordered.alone k u v (IsVariable-back k refused-grown u un) (IsVariable-back k refused-grown v vn) e;
@@ -290,12 +296,16 @@ module _ (p : Plain) (st : IsStore p) where
       few_elements = st.few_elements;
       room = st.room;
       few_words = st.few_words;
+      counted = st.counted;
       refused = λ r is t below free. full t below free;
+      missing = unknown;
     }
 
--- what was due where a node was refused
-pub due_node : (p : Plain) (n : ℕ) (k : Kind) (v : ℕ) (hi lo : Edge) → CanMake k (plain_view p) v hi lo
-    → (plain_view (after_refusal p n (Some (refused.Node v hi lo)))).due ≡ Some (function_of k (node_values k (plain_view p) v hi lo))
-due_node p n k v hi lo m =
-    let w = plain_view p in
-    ap (λ o. node_of v o (function_at w lo)) m.hi_is.is ∙ ap (λ o. node_of v (Some (function_of k (values_at k w hi))) o) m.lo_is.is ∙ node_of-functions k v (values_at k w hi) (values_at k w lo)
+  -- what is due where a node or a leaf is refused
+  pub missing_node : (k : Kind) (v : ℕ) (hi lo : Edge) → CanMake k (plain_view p) v hi lo → IsUnknownNode p v hi lo → (f : Denoted) → refused_function (content_of p) (Some (refused.Node v hi lo)) ≡ Some f → IsUnknown p f
+  missing_node k v hi lo m unknown f due =
+      let e : Some (function_of k (node_values k (plain_view p) v hi lo)) ≡ Some f = sym (due_node p p.fulls k v hi lo m) ∙ due in
+      subst (IsUnknown p) (let same : function_of k (node_values k (plain_view p) v hi lo) ≡ f = cc in same) (unknown k m)
+
+  pub missing_leaf : (x : ℤ) → IsUnknown p (AddFunction (constant x)) → (f : Denoted) → refused_function (content_of p) (Some (refused.Leaf x)) ≡ Some f → IsUnknown p f
+  missing_leaf x unknown f due = subst (IsUnknown p) (let same : AddFunction (constant x) ≡ f = cc in same) unknown

@@ -4,6 +4,7 @@ use Rattle.std.specs.Prelude.{slice_index, if◌then◌else◌}
 use Rattle.std.specs.List.{range_with_len}
 use Rattle.std.proofs.lemmas.Bool.{cases_lt, cases_eq}
 use Rattle.std.proofs.lemmas.Nat.Bits.{bit_at-zero}
+use Rattle.std.proofs.lemmas.List.{length-replicate}
 use Rattle.std.proofs.lemmas.List.FromFn.{get_or-range_with_len, length-range_with_len}
 use Rattle.edge_bits.specs.declared.edges.Kind.{Kind}
 use Rattle.edge_bits.specs.declared.edges.Kind.TheVariants.{Bdd, Add, Zdd}
@@ -21,8 +22,8 @@ use Rattle.node_store.specs.Views.{levels, IsVariable}
 use Rattle.node_slots.specs.Slots.{function_at_most}
 use Rattle.node_slots.specs.Stores.{Plain, slots, level_in, longest, content_of, plain_view, projection_node, constant_value, permanent_word, IsNode, IsOrdered, HasPermanent, IsStore, IsOpening}
 use Rattle.node_slots.specs.declared.plain_store.Refused.{Refused}
-use Rattle.node_slots.proofs.Reading.{used}
-use Rattle.node_slots.proofs.Calls.{leaf_content, zero_at, projection_content}
+use Rattle.node_slots.proofs.Reading.{used, was_refused}
+use Rattle.node_slots.proofs.Calls.{leaf_content, projection_content}
 
 pub permanent_low : (s : ℕ) → s < 5 → permanent_word s ≡ Leaf (constant_value s)
 permanent_low s lt = let t : nat_lt s 5 ≡ true = grind (arith, lt) in rw t refl
@@ -48,6 +49,10 @@ permanent_words p h s below = elim (cases_lt s 5) [
       let at : s ≡ 5 + v = omega arith in
       ap (slots p) at ∙ h.projections v (omega arith) ∙ ap Some (sym (permanent_high v)) ∙ ap (λ t. Some (permanent_word t)) (sym at))
 ]
+
+-- words among which the permanent ones stand agree with the store's there
+pub permanent_kept : (p : Plain) → HasPermanent p → (ws : List ℕ) (n : ℕ) → n ≡ 5 + length p.variable_levels → ((s : ℕ) → s < n → slots_of ws s ≡ Some (permanent_word s)) → (s : ℕ) → s < n → slots_of ws s ≡ slots p s
+permanent_kept p h ws n is permanent s below = permanent s below ∙ sym (permanent_words p h s (omega (arith, below, is)))
 
 -- both orders are 0, 1, 2, ..
 pub IsOrdered-ascending : (p : Plain) (n m : ℕ) → p.variable_levels ≡ range_with_len 0 n → p.element_levels ≡ range_with_len 0 m → IsOrdered p
@@ -179,8 +184,6 @@ module _ (p : Plain) (first : HasPermanent p) (free : (s : ℕ) → 5 + length p
     unfolding function_at_most
     projection_kept v lt =
         let vn : IsVariable Bdd (plain_view p) v = (omega arith, lt) in
-        let inside = orders.within Bdd v vn in
-        let short = zero_at p (length p.variable_levels - level_in p v) (omega arith) in
         record {
           can_make = record {
             in_range = vn;
@@ -191,8 +194,6 @@ module _ (p : Plain) (first : HasPermanent p) (free : (s : ℕ) → 5 + length p
           };
           proper = λ e. never (ap (λ (f : ℕ → Bool). f 0) e);
           regular = refl;
-          hi_short = short;
-          lo_short = short;
         }
 
     nodes : (s : ℕ) (node : Node) → slots p s ≡ Some (Inner node) → (k : Kind) × IsNode k p node
@@ -206,8 +207,8 @@ module _ (p : Plain) (first : HasPermanent p) (free : (s : ℕ) → 5 + length p
     ]
 
     -- the store is canonical
-    pub IsStore-opening : ((r : Refused) → p.due ≡ Some r → ⊥) → length p.element_levels ≤ 1024 → 5 + length p.variable_levels ≤ length p.words → length p.words < 2 ^ 23 → IsStore p
-    IsStore-opening none elements room words = record {
+    pub IsStore-opening : ((r : Refused) → p.due ≡ Some r → ⊥) → length p.element_levels ≤ 1024 → 5 + length p.variable_levels ≤ length p.words → length p.words < 2 ^ 23 → length p.counts ≡ length p.words → IsStore p
+    IsStore-opening none elements room words counts = record {
       ordered = orders;
       permanent = first;
       canonical = record { nodes = nodes; leaves = leaves; apart = apart };
@@ -215,37 +216,39 @@ module _ (p : Plain) (first : HasPermanent p) (free : (s : ℕ) → 5 + length p
       few_elements = elements;
       room = room;
       few_words = words;
+      counted = counts;
       refused = λ r is t below free. none r is;
+      missing = λ f due. absurd (let r = was_refused (content_of p) p.due f due in none r.0 r.1);
     }
 
 -- a store of which the slots from the permanent ones on were freed
-abbrev pub with_rest : Plain → List ℕ → ℕ → Option Refused → Plain
-with_rest p ws n d = record { variable_levels = p.variable_levels; element_levels = p.element_levels; words = ws; fulls = n; due = d }
+abbrev pub with_rest : Plain → List ℕ → List ℕ → ℕ → Option Refused → Plain
+with_rest p ws cs n d = record p { words = ws; counts = cs; fulls = n; due = d }
 
-IsOrdered-same : (p : Plain) (ws : List ℕ) (n : ℕ) (d : Option Refused) → IsOrdered p → IsOrdered (with_rest p ws n d)
-IsOrdered-same p ws n d o = record { within = within; alone = alone }
+IsOrdered-same : (p : Plain) (ws cs : List ℕ) (n : ℕ) (d : Option Refused) → IsOrdered p → IsOrdered (with_rest p ws cs n d)
+IsOrdered-same p ws cs n d o = record { within = within; alone = alone }
   where
-    within : (k : Kind) (v : ℕ) → IsVariable k (plain_view (with_rest p ws n d)) v → level_in p v < levels k (plain_view (with_rest p ws n d))
+    within : (k : Kind) (v : ℕ) → IsVariable k (plain_view (with_rest p ws cs n d)) v → level_in p v < levels k (plain_view (with_rest p ws cs n d))
     within Bdd v h = o.within Bdd v h
     within Add v h = o.within Add v h
     within Zdd v h = o.within Zdd v h
 
-    alone : (k : Kind) (u v : ℕ) → IsVariable k (plain_view (with_rest p ws n d)) u → IsVariable k (plain_view (with_rest p ws n d)) v → level_in p u ≡ level_in p v → u ≡ v
+    alone : (k : Kind) (u v : ℕ) → IsVariable k (plain_view (with_rest p ws cs n d)) u → IsVariable k (plain_view (with_rest p ws cs n d)) v → level_in p u ≡ level_in p v → u ≡ v
     alone Bdd u v = o.alone Bdd u v
     alone Add u v = o.alone Add u v
     alone Zdd u v = o.alone Zdd u v
 
-pub IsStore-cleared : (p : Plain) → IsStore p → (d : Option Refused) → ((r : Refused) → d ≡ Some r → ⊥) → (ws : List ℕ) (n : ℕ) (from : ℕ) → from ≡ 5 + length p.variable_levels → length ws ≡ length p.words
-    → ((s : ℕ) → s < from → slots_of ws s ≡ slots p s) → ((s : ℕ) → from ≤ s → slots_of ws s ≡ None) → IsStore (with_rest p ws n d)
-IsStore-cleared p st d none ws n from is count kept free =
+pub IsStore-cleared : (p : Plain) → IsStore p → (d : Option Refused) → ((r : Refused) → d ≡ Some r → ⊥) → (ws cs : List ℕ) (n : ℕ) (from : ℕ) → from ≡ 5 + length p.variable_levels → length ws ≡ length p.words → length cs ≡ length p.counts
+    → ((s : ℕ) → s < from → slots_of ws s ≡ slots p s) → ((s : ℕ) → from ≤ s → slots_of ws s ≡ None) → IsStore (with_rest p ws cs n d)
+IsStore-cleared p st d none ws cs n from is count recount kept free =
     let f = st.permanent in let r = st.room in let w = st.few_words in
-    IsStore-opening (with_rest p ws n d)
+    IsStore-opening (with_rest p ws cs n d)
     (record {
       constants = λ s lt. kept s (omega (arith, is)) ∙ f.constants s lt;
       projections = λ v lt. kept (5 + v) (omega (arith, is, lt)) ∙ f.projections v lt;
     })
     (λ s le. free s (omega (arith, is, le)))
-    (IsOrdered-same p ws n d st.ordered) st.few_variables none st.few_elements (omega arith) (omega arith)
+    (IsOrdered-same p ws cs n d st.ordered) st.few_variables none st.few_elements (omega arith) (omega arith) (recount ∙ st.counted ∙ sym count)
 
 pub none_due : (r : Refused) → None ≡ Some r → ⊥
 none_due r e = cc
@@ -256,4 +259,4 @@ IsStore-new p vars elements limit fv fe least most o =
     let m = ap length o.element_levels ∙ length-range_with_len 0 elements in
     let l = o.slots_are in
     IsStore-opening p (HasPermanent-words p (λ s lt. o.permanent s (omega (arith, n, lt)))) (λ s le. o.free s (omega (arith, n, le)))
-    (IsOrdered-ascending p vars elements o.variable_levels o.element_levels) (omega (arith, n)) (λ r is. none_due r (sym o.due ∙ is)) (omega (arith, m)) (omega arith) (omega arith)
+    (IsOrdered-ascending p vars elements o.variable_levels o.element_levels) (omega (arith, n)) (λ r is. none_due r (sym o.due ∙ is)) (omega (arith, m)) (omega arith) (omega arith) (ap length o.counts ∙ length-replicate limit zero ∙ sym l)

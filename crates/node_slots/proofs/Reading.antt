@@ -10,6 +10,8 @@ use Rattle.edge_bits.specs.declared.words.Word.{Word}
 use Rattle.edge_bits.specs.declared.words.Word.TheVariants.{Inner, Leaf}
 use Rattle.function_laws.specs.Kinds.{Denoted, BddFunction, AddFunction, ZddFamily, ValueOf, function_of, joined_at, flipped}
 use Rattle.node_slots.specs.Slots.{node_of, word_function, function_at_most}
+use Rattle.node_slots.specs.Stores.{refused_function}
+use Rattle.node_slots.specs.declared.plain_store.Refused.{Refused}
 
 -- a slot that is not told by its number
 pub at_word : (slots : ℕ → Option Word) (m s : ℕ) → 3 ≤ s → function_at_most slots (suc m) s ≡ word_function (function_at_most slots m) (slots s)
@@ -99,3 +101,8 @@ in_words words s word h = elim (cases_lt s (length words)) [
   | inl lt ↦ lt
   | inr le ↦ (let e : None ≡ Some word = sym (ap unpack_of (get_or_past words s 0 le)) ∙ h in cc)
 ]
+
+-- where a function is due, a call was refused
+pub was_refused : (content : ℕ → Option Denoted) (d : Option Refused) (f : Denoted) → refused_function content d ≡ Some f → (r : Refused) × (d ≡ Some r)
+was_refused content None f e = cc
+was_refused content (Some r) f e = (r, refl)

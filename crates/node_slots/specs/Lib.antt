@@ -1,7 +1,9 @@
 pub mod Slots
 pub mod Stores
 pub mod Placing
-pub mod Indexing
+pub mod Taking
+pub mod Counts
+pub mod Solutions
 pub use Rattle.node_store.specs.Views
 pub use Rattle.node_store.specs.Memo
 pub use Rattle.node_store.specs.Work

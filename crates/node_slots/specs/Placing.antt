@@ -6,12 +6,12 @@ use Rattle.edge_bits.specs.declared.words.Word.{Word}
 use Rattle.edge_bits.specs.declared.words.Word.TheVariants.{Inner, Leaf}
 use Rattle.edge_bits.specs.Words.{unpack_of}
 use Rattle.edge_bits.specs.Reading.{slots_of, plain}
-use Rattle.function_laws.specs.Kinds.{Denoted, function_of}
+use Rattle.function_laws.specs.Kinds.{function_of}
 use Rattle.node_store.specs.Edges.{flip_if}
-use Rattle.node_store.specs.Views.{CanMake, function_at, node_values}
+use Rattle.node_store.specs.Views.{CanMake, node_values}
 use Rattle.node_store.specs.declared.grow.Opened.{Opened}
 use Rattle.node_store.specs.declared.grow.Opened.TheVariants as opened
-use Rattle.node_slots.specs.Stores.{Plain, slots, plain_view}
+use Rattle.node_slots.specs.Stores.{Plain, IsUnknown, plain_view}
 
 -- the word stood there
 pub record WasThere (old new : List ℕ) (word : Word) (s : ℕ) : Type 0 where
@@ -36,14 +36,6 @@ pub record HasNoPlace (old new : List ℕ) (word : Word) : Type 0 where
   pub absent : (t : ℕ) → 3 ≤ t → slots_of old t ≡ Some word → ⊥
   pub full : (t : ℕ) → t < length old → slots_of old t ≡ None → ⊥
   pub same : new ≡ old
-
--- each slot has a word
-abbrev pub HasNoFree : Plain → Type 0
-HasNoFree p = (t : ℕ) → t < length p.words → slots p t ≡ None → ⊥
-
--- no edge denotes the function
-abbrev pub IsUnknown : Plain → Denoted → Type 0
-IsUnknown p f = (e : Edge) → function_at (plain_view p) e ≡ Some f → ⊥
 
 abbrev pub IsUnknownNode : Plain → ℕ → Edge → Edge → Type 0
 IsUnknownNode p v hi lo = (k : Kind) → CanMake k (plain_view p) v hi lo → IsUnknown p (function_of k (node_values k (plain_view p) v hi lo))

@@ -1,7 +1,8 @@
 -- A store as its words and its orders, and when it is canonical.
-use Rattle.std.specs.Prelude.{◌≡◌, ℕ, zero, suc, ◌+◌, ◌-◌, ◌^◌, ◌<◌, ◌≤◌, nat_lt, nat_le, Bool, true, false, ◌&&◌, if◌then◌else◌, List, length, slice_index, Option, Some, None, ℤ, pos, max}
+use Rattle.std.specs.Prelude.{◌%◌, ◌⊎◌, replicate, ◌≡◌, ℕ, zero, suc, ◌+◌, ◌-◌, ◌^◌, ◌<◌, ◌≤◌, nat_lt, nat_le, Bool, true, false, ◌&&◌, if◌then◌else◌, List, length, slice_index, Option, Some, None, ℤ, pos, max}
 use Rattle.std.specs.List.{count_by, range_with_len}
 use Rattle.edge_bits.specs.Words.{unpack_of}
+use Rattle.edge_bits.specs.declared.edges.Edge.{Edge}
 use Rattle.edge_bits.specs.declared.edges.Kind.{Kind}
 use Rattle.edge_bits.specs.declared.edges.Kind.TheVariants.{Bdd, Add, Zdd}
 use Rattle.edge_bits.specs.declared.words.Node.{Node}
@@ -12,7 +13,8 @@ use Rattle.edge_bits.specs.Reading.{slots_of, element_of, plain}
 use Rattle.function_laws.specs.Values.{constant}
 use Rattle.function_laws.specs.Numbers.{is_value}
 use Rattle.function_laws.specs.Kinds.{Denoted, AddFunction, ValueOf, flipped}
-use Rattle.node_store.specs.Views.{View, IsVariable, IsProper, CanMake, levels, values_at}
+use Rattle.node_store.specs.Views.{View, IsVariable, IsProper, CanMake, function_at, levels, values_at}
+use Rattle.handle_count.specs.CountWords.{count_of, generation_of}
 use Rattle.node_slots.specs.Slots.{node_of, function_at_most}
 use Rattle.node_slots.specs.declared.plain_store.Refused.{Refused}
 use Rattle.node_slots.specs.declared.plain_store.Refused.TheVariants as refused
@@ -21,8 +23,9 @@ pub record Plain : Type 0 where
   -- the level of each variable, and of each element
   pub variable_levels : List ℕ
   pub element_levels : List ℕ
-  -- the 64-bit word of each slot
+  -- the 64-bit word of each slot, and its count word
   pub words : List ℕ
+  pub counts : List ℕ
   pub fulls : ℕ
   -- the arguments of the call that was refused last
   pub due : Option Refused
@@ -57,6 +60,13 @@ abbrev pub is_used : Option Word → Bool
 is_used None = false
 is_used (Some word) = true
 
+-- how many rows, cells and pins hold a slot, and how often it was freed, modulo 2^32
+abbrev pub count_at : Plain → ℕ → ℕ
+count_at p s = count_of (slice_index p.counts s)
+
+abbrev pub generation_at : Plain → ℕ → ℕ
+generation_at p s = generation_of (slice_index p.counts s)
+
 -- the function that a refused call would have stored
 abbrev pub refused_function : (ℕ → Option Denoted) → Option Refused → Option Denoted
 refused_function content None = None
@@ -74,7 +84,7 @@ plain_view p = record {
   made = λ s. nat_le (5 + length p.variable_levels) s && is_used (slots p s);
   fulls = p.fulls;
   due = refused_function (content_of p) p.due;
-  count = λ s. 0;
+  count = count_at p;
   is_held = false;
   may_want_memory = false;
 }
@@ -95,9 +105,6 @@ pub record IsNode (k : Kind) (p : Plain) (node : Node) : Type 0 where
   pub can_make : CanMake k (plain_view p) node.var (plain node.hi) node.lo
   pub proper : IsProper k (values_at k (plain_view p) (plain node.hi)) (values_at k (plain_view p) node.lo)
   pub regular : IsRegular k (length p.variable_levels) (values_at k (plain_view p) (plain node.hi))
-  -- the children's paths are no longer than the levels below the node
-  pub hi_short : function_at_most (slots p) (levels k (plain_view p) - level_in p node.var) node.hi ≡ content_of p node.hi
-  pub lo_short : function_at_most (slots p) (levels k (plain_view p) - level_in p node.var) node.lo.index ≡ content_of p node.lo.index
 
 -- each level holds one variable, or element
 pub record IsOrdered (p : Plain) : Type 0 where
@@ -129,6 +136,14 @@ pub record IsCanonical (p : Plain) : Type 0 where
   pub leaves : (s : ℕ) (x : ℤ) → slots p s ≡ Some (Leaf x) → is_value x ≡ true
   pub apart : (s t : ℕ) (f : Denoted) → content_of p s ≡ Some f → content_of p t ≡ Some f → s ≡ t
 
+-- each slot has a word
+abbrev pub HasNoFree : Plain → Type 0
+HasNoFree p = (t : ℕ) → t < length p.words → slots p t ≡ None → ⊥
+
+-- no edge denotes the function
+abbrev pub IsUnknown : Plain → Denoted → Type 0
+IsUnknown p f = (e : Edge) → function_at (plain_view p) e ≡ Some f → ⊥
+
 pub record IsStore (p : Plain) : Type 0 where
   pub ordered : IsOrdered p
   pub permanent : HasPermanent p
@@ -137,8 +152,10 @@ pub record IsStore (p : Plain) : Type 0 where
   pub few_elements : length p.element_levels ≤ 1024
   pub room : 5 + length p.variable_levels ≤ length p.words
   pub few_words : length p.words < 2 ^ 23
-  -- where a call was refused and nothing was freed since, each slot has a word
-  pub refused : (r : Refused) → p.due ≡ Some r → (t : ℕ) → t < length p.words → slots p t ≡ None → ⊥
+  pub counted : length p.counts ≡ length p.words
+  -- where a call was refused and nothing was freed since, each slot has a word, and no edge denotes what was due
+  pub refused : (r : Refused) → p.due ≡ Some r → HasNoFree p
+  pub missing : (f : Denoted) → (plain_view p).due ≡ Some f → IsUnknown p f
 
 -- whether the bits are a word's
 abbrev pub is_word : ℕ → Bool
@@ -155,8 +172,14 @@ pub record IsOpening (vars elements limit : ℕ) (p : Plain) : Type 0 where
   pub slots_are : length p.words ≡ limit
   pub permanent : (s : ℕ) → s < 5 + vars → slots p s ≡ Some (permanent_word s)
   pub free : (s : ℕ) → 5 + vars ≤ s → slots p s ≡ None
+  pub counts : p.counts ≡ replicate limit 0
   pub fulls : p.fulls ≡ 0
   pub due : p.due ≡ None
+
+-- the count word of the next generation of a slot
+pub record IsNext (old new : ℕ) : Type 0 where
+  pub count : count_of new ≡ count_of old
+  pub generation : generation_of new ≡ (generation_of old + 1) % 2 ^ 32
 
 -- a store after all slots but the permanent ones were freed
 pub record IsCleared (old new : Plain) : Type 0 where
@@ -165,5 +188,7 @@ pub record IsCleared (old new : Plain) : Type 0 where
   pub slots_are : length new.words ≡ length old.words
   pub permanent : (s : ℕ) → s < 5 + length old.variable_levels → slots new s ≡ slots old s
   pub free : (s : ℕ) → 5 + length old.variable_levels ≤ s → slots new s ≡ None
+  pub freed : (s : ℕ) (word : Word) → 5 + length old.variable_levels ≤ s → slots old s ≡ Some word → IsNext (slice_index old.counts s) (slice_index new.counts s)
+  pub others : (s : ℕ) → (s < 5 + length old.variable_levels) ⊎ (slots old s ≡ None) → slice_index new.counts s ≡ slice_index old.counts s
   pub fulls : new.fulls ≡ old.fulls
   pub due : new.due ≡ None

@@ -1,6 +1,8 @@
 //! A store of decision diagrams in one vector of words, and what operators see of a store.
 #![tactic(auto)]
 
+mod count_table;
+mod node_counts;
 mod node_table;
 mod plain_store;
 

@@ -1,133 +1,61 @@
-//! The words of all slots, and the unique tables by which a node is found.
+//! The words of all slots, by which a node is found, and the slots that are free.
 
-ghost use Rattle.std.specs.Prelude.{◌≡◌, ◌≢◌, ℕ, ◌+◌, ◌-◌, ◌<◌, ◌≤◌, ◌^◌, [], IfOk, IfSome, IfNone, length, slice_get, Some, None};
+ghost use Rattle.std.specs.Prelude.{◌≡◌, ℕ, ◌+◌, ◌-◌, ◌<◌, ◌≤◌, ◌^◌, IfOk, IfSome, IfNone, count_by, length, slice_index, slice_set, vec_capacity, Some, None};
+ghost use Rattle.edge_bits.specs.Permanent.{first_projection, zero_slot};
 ghost use Rattle.edge_bits.specs.Reading.{slots_of};
 ghost use Rattle.edge_bits.specs.Words.{IsInRange};
-ghost use Rattle.level_table.specs.Leaves.{Leaves};
-ghost use Rattle.level_table.specs.Tables.{Table};
-ghost use Rattle.node_slots.specs.Indexing.{HasTable, IsLeavesOf, IsPut, IsTableOf, IsTaken, constants_table, no_nodes, projection_table};
 ghost use Rattle.node_slots.specs.Placing.{IsPlaced, HasNoPlace};
-ghost use Rattle.node_slots.specs.Stores.{permanent_word};
+ghost use Rattle.node_slots.specs.Stores.{is_word, permanent_word};
+ghost use Rattle.node_slots.specs.Taking.{ArePacked, AreCounted, AreFree, HasNoZero, IsPut, nodes_of};
 
-use edge_bits::{Edge, Memory, Node, Word, pack, unpack};
-use level_table::{LeafTable, LevelTable};
+use crate::node_counts::NodeCounts;
+use edge_bits::{Edge, FIRST_PROJECTION, Memory, Node, TRUE_SLOT, Word, ZERO_SLOT, pack, unpack};
+use level_table::SlotTable;
 use std::alloc::Global;
 use std::marker::Model;
 
-/// The words of a store's slots, with a unique table for the nodes of each variable and of each element, and one for the leaves (Brace, Rudell and Bryant 1990).
+/// As many variable numbers as a word has room for.
+const VARIABLE_NUMBERS: u32 = 1 << 15;
+
+/// The words of a store's slots with their one unique table (Brace, Rudell and Bryant 1990), and the slots that are free.
 #[derive(Drop)]
 pub struct NodeTable {
-    words: Vec<u64>,
-    // Slots are taken in order: those below it have words, and the others have none.
-    next: usize,
-    variables: Vec<LevelTable>,
-    elements: Vec<LevelTable>,
-    leaves: LeafTable,
+    table: SlotTable,
+    // The slots that were taken and freed: the last one is taken first. The room for all of them is there from the opening on.
+    freed: Vec<u32>,
+    in_use: usize,
+    nodes: NodeCounts,
 }
 
 impl Model for NodeTable {
-    ghost use Rattle.std.specs.Prelude.{length};
-    ghost use Rattle.node_slots.specs.Indexing.{Nodes, IsIndexed};
+    ghost use Rattle.std.specs.Prelude.{ℕ, List, vec_capacity};
+    ghost use Rattle.node_slots.specs.Taking.{IsNodeTable};
 
-    ghost Value = { Nodes };
+    ghost Value = { List ℕ };
 
-    ghost view = { λ t. record { words = t.words.items; variables = length t.variables.items; elements = length t.elements.items } };
+    ghost view = { λ t. t.table.words };
 
-    ghost invariant = { λ t. IsIndexed t.words.items t.next t.variables.items t.elements.items t.leaves };
+    ghost invariant = { λ t. IsNodeTable t.table t.freed.items (vec_capacity t.freed) t.in_use t.nodes };
 }
 
 /// Where a word stands, beyond the slots that are told by their number.
 pub(crate) fn find(words: &[u64], wanted: Word) -> Option<usize>
     ensures found { IfSome result (λ s. slots_of words.now s ≡ Some wanted) }
-    ensures high { IfSome result (λ s. 3 ≤ s) }
+    ensures high { IfSome result (λ s. zero_slot ≤ s) }
     ensures within { IfSome result (λ s. s < length words.now) }
-    ensures absent { IfNone result ((t : ℕ) → 3 ≤ t → slots_of words.now t ≡ Some wanted → ⊥) }
+    ensures absent { IfNone result ((t : ℕ) → zero_slot ≤ t → slots_of words.now t ≡ Some wanted → ⊥) }
 {
     for (slot, bits) in words.iter().enumerate() {
-        if slot > 2 && unpack(*bits) == Some(wanted) {
+        if slot >= ZERO_SLOT as usize && unpack(*bits) == Some(wanted) {
             return Some(slot);
         }
     }
     None
 }
 
-/// Puts a word into the next slot, if there is one more.
-fn put(words: &mut Vec<u64>, next: &mut usize, word: Word) -> Option<usize>
-    requires range { IsInRange word }
-    requires taken { IsTaken words.old.items next.old }
-    ensures some { IfSome result (IsPut words.old.items words.new.items word) }
-    ensures slot { IfSome result (λ s. (s ≡ next.old) × (next.new ≡ next.old + 1)) }
-    ensures none { IfNone result ((next.old ≡ length words.old.items) × (words.new.items ≡ words.old.items) × (next.new ≡ next.old)) }
-    ensures taken { IsTaken words.new.items next.new }
-{
-    if *next == words.len() {
-        return None;
-    }
-    let slot = *next;
-    words[slot] = pack(word);
-    *next += 1;
-    Some(slot)
-}
-
-/// Where a leaf stands by the leaves' table, or comes to stand where a slot is free.
-fn place_leaf(
-    words: &mut Vec<u64>,
-    next: &mut usize,
-    leaves: &mut LeafTable,
-    value: i64,
-) -> Option<usize>
-    requires range { IsInRange (Word.Leaf value) }
-    requires taken { IsTaken words.old.items next.old }
-    requires leaves { IsLeavesOf words.old.items next.old leaves.old }
-    requires few { length words.old.items < 2 ^ 23 }
-    ensures placed { IfSome result (IsPlaced words.old.items words.new.items (Word.Leaf value)) }
-    ensures full { IfNone result (HasNoPlace words.old.items words.new.items (Word.Leaf value)) }
-    ensures taken { IsTaken words.new.items next.new }
-    ensures leaves { IsLeavesOf words.new.items next.new leaves.new }
-    ensures tables { (v : ℕ) (t : Table) → IsTableOf words.old.items next.old v t → IsTableOf words.new.items next.new v t }
-    ensures length { length words.new.items ≡ length words.old.items }
-{
-    if let Some(slot) = leaves.find_value(value) {
-        return Some(slot as usize);
-    }
-    let slot = put(words, next, Word::Leaf(value))?;
-    leaves.insert(value, slot as u32);
-    Some(slot)
-}
-
-/// Where the node stands by the table of this place, that of its variable, or comes to stand where a slot is free.
-fn place_node(
-    words: &mut Vec<u64>,
-    next: &mut usize,
-    tables: &mut [LevelTable],
-    at: usize,
-    node: Node,
-) -> Option<usize>
-    requires range { IsInRange (Word.Inner node) }
-    requires taken { IsTaken words.old.items next.old }
-    requires within { at < length tables.old }
-    requires table { (t : Table) → slice_get tables.old at ≡ Some t → IsTableOf words.old.items next.old node.var t }
-    requires few { length words.old.items < 2 ^ 23 }
-    ensures placed { IfSome result (IsPlaced words.old.items words.new.items (Word.Inner node)) }
-    ensures full { IfNone result (HasNoPlace words.old.items words.new.items (Word.Inner node)) }
-    ensures taken { IsTaken words.new.items next.new }
-    ensures table { (t : Table) → slice_get tables.new at ≡ Some t → IsTableOf words.new.items next.new node.var t }
-    ensures tables { (i : ℕ) → i ≢ at → slice_get tables.new i ≡ slice_get tables.old i }
-    ensures others { (v : ℕ) (t : Table) → v ≢ node.var → IsTableOf words.old.items next.old v t → IsTableOf words.new.items next.new v t }
-    ensures leaves { (t : Leaves) → IsLeavesOf words.old.items next.old t → IsLeavesOf words.new.items next.new t }
-    ensures length { length words.new.items ≡ length words.old.items }
-{
-    if let Some(slot) = tables[at].find(node.hi, node.lo) {
-        return Some(slot as usize);
-    }
-    let slot = put(words, next, Word::Inner(node))?;
-    tables[at].insert(node.hi, node.lo, slot as u32);
-    Some(slot)
-}
-
 /// The word of a permanent slot.
 fn permanent(slot: u32) -> Word
-    requires { slot < 1029 }
+    requires { slot < first_projection + 1024 }
     ensures word { result ≡ permanent_word slot }
     ensures range { IsInRange result }
 {
@@ -135,221 +63,161 @@ fn permanent(slot: u32) -> Word
         0 | 2 | 4 => Word::Leaf(1),
         1 | 3 => Word::Leaf(0),
         _ => Word::Inner(Node {
-            var: (slot - 5) as u16,
-            hi: 0,
-            lo: Edge::new(0, true),
+            var: (slot - FIRST_PROJECTION) as u16,
+            hi: TRUE_SLOT,
+            lo: Edge::truth(false),
         }),
     }
 }
 
-/// So many words, of which the permanent slots have theirs.
-fn opening_words(alloc: Global, vars: u32, limit: u32) -> Result<Vec<u64>, Memory>
+/// Writes the words of the permanent slots into a table without any, and counts their nodes.
+fn append_permanent(table: &mut SlotTable, nodes: &mut NodeCounts, vars: u32)
     requires vars { vars ≤ 1024 }
-    requires limit { 5 + vars ≤ limit }
-    ensures length { IfOk result (λ words. length words.items ≡ limit) }
-    ensures permanent { IfOk result (λ words. (s : ℕ) → s < 5 + vars → slots_of words.items s ≡ Some (permanent_word s)) }
-    ensures free { IfOk result (λ words. (s : ℕ) → 5 + vars ≤ s → slots_of words.items s ≡ None) }
+    requires room { first_projection + vars ≤ length table.old.words }
+    requires empty { table.old.taken ≡ 0 }
+    requires free { (s : ℕ) → slice_index table.old.words s ≡ 0 }
+    requires few { length table.old.words < 2 ^ 23 }
+    requires nodes { AreCounted table.old.words nodes.old }
+    ensures nodes { AreCounted table.new.words nodes.new }
+    ensures permanent { (s : ℕ) → s < first_projection + vars → slots_of table.new.words s ≡ Some (permanent_word s) }
+    ensures free { (s : ℕ) → first_projection + vars ≤ s → slice_index table.new.words s ≡ 0 }
+    ensures taken { table.new.taken ≡ first_projection + vars }
+    ensures length { length table.new.words ≡ length table.old.words }
+    ensures packed { ArePacked table.new.words }
 {
-    let mut words = vec![in alloc; 0u64; limit as usize]?;
-    for slot in 0..5 + vars {
-        words[slot as usize] = pack(permanent(slot));
-    }
-    Ok(words)
-}
-
-/// A table without entries, with room for so many.
-fn empty_table(alloc: Global, limit: u32) -> Result<LevelTable, Memory>
-    ensures { IfOk result (λ t. t ≡ no_nodes limit) }
-{
-    let mut table = LevelTable::new(alloc)?;
-    table.reserve(limit)?;
-    Ok(table)
-}
-
-/// Puts the one node of a variable without others into its table: the projection, in this slot.
-fn add_projection(table: &mut LevelTable, slot: u32)
-    requires empty { table.old.entries ≡ [] }
-    requires room { 1 ≤ table.old.spare }
-    ensures { table.new ≡ projection_table table.old.spare slot }
-{
-    table.insert(0, Edge::new(0, true), slot);
-}
-
-/// The tables of so many variables, with their projections.
-fn variable_tables(alloc: Global, vars: u32, limit: u32) -> Result<Vec<LevelTable>, Memory>
-    requires vars { vars ≤ 1024 }
-    requires limit { 5 + vars ≤ limit }
-    ensures length { IfOk result (λ tables. length tables.items ≡ vars) }
-    ensures tables { IfOk result (λ tables. (i : ℕ) (t : Table) → slice_get tables.items i ≡ Some t → t ≡ projection_table limit (5 + i)) }
-{
-    let mut tables = Vec::new(alloc);
-    for v in 0..vars {
-        let mut table = empty_table(alloc, limit)?;
-        add_projection(&mut table, 5 + v);
-        tables.push(table)?;
-    }
-    Ok(tables)
-}
-
-/// The tables of so many elements.
-fn element_tables(alloc: Global, elements: u32, limit: u32) -> Result<Vec<LevelTable>, Memory>
-    ensures length { IfOk result (λ tables. length tables.items ≡ elements) }
-    ensures tables { IfOk result (λ tables. (i : ℕ) (t : Table) → slice_get tables.items i ≡ Some t → t ≡ no_nodes limit) }
-{
-    let mut tables = Vec::new(alloc);
-    'tables: while tables.len() < elements as usize {
-        let table = empty_table(alloc, limit)?;
-        tables.push(table)?;
-    }
-    Ok(tables)
-}
-
-/// Puts the leaves of the constants 0 and 1 into their table.
-fn add_constants(leaves: &mut LeafTable)
-    requires empty { leaves.old.entries ≡ [] }
-    requires room { 2 ≤ leaves.old.spare }
-    ensures { leaves.new ≡ constants_table leaves.old.spare }
-{
-    leaves.insert(0, 3);
-    leaves.insert(1, 4);
-}
-
-/// The leaves' table with the constants, with room for so many.
-fn leaf_table(alloc: Global, limit: u32) -> Result<LeafTable, Memory>
-    requires limit { 2 ≤ limit }
-    ensures { IfOk result (λ t. t ≡ constants_table limit) }
-{
-    let mut leaves = LeafTable::new(alloc)?;
-    leaves.reserve(limit)?;
-    add_constants(&mut leaves);
-    Ok(leaves)
-}
-
-/// Empties the leaves' table, but for the constants.
-fn clear_leaves(leaves: &mut LeafTable)
-    requires room { 2 ≤ leaves.old.spare + length leaves.old.entries }
-    ensures { leaves.new ≡ constants_table (leaves.old.spare + length leaves.old.entries) }
-{
-    leaves.clear();
-    add_constants(leaves);
-}
-
-/// Frees the slots from this one on.
-fn free_from(words: &mut Vec<u64>, from: usize)
-    ensures kept { (s : ℕ) → s < from → slots_of words.new.items s ≡ slots_of words.old.items s }
-    ensures free { (s : ℕ) → from ≤ s → slots_of words.new.items s ≡ None }
-    ensures length { length words.new.items ≡ length words.old.items }
-{
-    for slot in from..words.len() {
-        words[slot] = 0;
+    for slot in 0..FIRST_PROJECTION + vars {
+        let word = permanent(slot);
+        table.append(pack(word));
+        nodes.add(word);
     }
 }
 
-/// Empties the tables of the variables, but for their projections.
-fn clear_variables(tables: &mut [LevelTable])
-    requires few { length tables.old ≤ 1024 }
-    requires room { (i : ℕ) (t : Table) → slice_get tables.old i ≡ Some t → 1 ≤ t.spare + length t.entries }
-    ensures tables { (i : ℕ) (t : Table) → slice_get tables.old i ≡ Some t → slice_get tables.new i ≡ Some (projection_table (t.spare + length t.entries) (5 + i)) }
+/// Puts bits that are not 0 into the slot that was freed last, or else into the first that was never taken, if there is one.
+fn put(table: &mut SlotTable, freed: &mut Vec<u32>, bits: u64) -> Option<u32>
+    requires bits { 0 < bits }
+    requires free { AreFree table.old.words table.old.taken freed.old.items }
+    ensures put { IfSome result (IsPut table.old.words table.new.words bits) }
+    ensures full { IfNone result (HasNoZero table.old.words) }
+    ensures same { IfNone result (table.new ≡ table.old) }
+    ensures kept { IfNone result (freed.new.items ≡ freed.old.items) }
+    ensures free { AreFree table.new.words table.new.taken freed.new.items }
+    ensures count { IfSome result (λ _. length freed.new.items + table.old.taken + 1 ≡ length freed.old.items + table.new.taken) }
+    ensures room { vec_capacity freed.new ≡ vec_capacity freed.old }
 {
-    for v in 0..tables.len() {
-        tables[v].clear();
-        add_projection(&mut tables[v], 5 + v as u32);
+    if let Some(slot) = freed.pop() {
+        table.fill(slot, bits);
+        return Some(slot);
     }
-}
-
-/// Empties the tables of the elements.
-fn clear_elements(tables: &mut [LevelTable])
-    ensures tables { (i : ℕ) (t : Table) → slice_get tables.old i ≡ Some t → slice_get tables.new i ≡ Some (no_nodes (t.spare + length t.entries)) }
-{
-    for e in 0..tables.len() {
-        tables[e].clear();
+    if table.taken() == table.slots() {
+        return None;
     }
+    Some(table.append(bits))
 }
 
 impl NodeTable {
-    /// So many slots, of which the permanent ones have their words, and the room for all of them in each table.
-    pub fn new(alloc: Global, vars: u32, elements: u32, limit: u32) -> Result<NodeTable, Memory>
+    /// So many slots, of which the permanent ones have their words. Room for the others is taken and not written to.
+    pub fn new(alloc: Global, vars: u32, limit: u32) -> Result<NodeTable, Memory>
         requires vars { vars ≤ 1024 }
-        requires least { 5 + vars ≤ limit }
+        requires least { first_projection + vars ≤ limit }
         requires most { limit ≤ 8388607 }
-        ensures slots_are { IfOk result (λ nodes. length nodes.words ≡ limit) }
-        ensures permanent { IfOk result (λ nodes. (s : ℕ) → s < 5 + vars → slots_of nodes.words s ≡ Some (permanent_word s)) }
-        ensures free { IfOk result (λ nodes. (s : ℕ) → 5 + vars ≤ s → slots_of nodes.words s ≡ None) }
-        ensures variables { IfOk result (λ nodes. nodes.variables ≡ vars) }
-        ensures elements { IfOk result (λ nodes. nodes.elements ≡ elements) }
+        ensures slots_are { IfOk result (λ words. length words ≡ limit) }
+        ensures permanent { IfOk result (λ words. (s : ℕ) → s < first_projection + vars → slots_of words s ≡ Some (permanent_word s)) }
+        ensures free { IfOk result (λ words. (s : ℕ) → first_projection + vars ≤ s → slots_of words s ≡ None) }
     {
-        let words = opening_words(alloc, vars, limit)?;
-        let variables = variable_tables(alloc, vars, limit)?;
-        let elements = element_tables(alloc, elements, limit)?;
-        let leaves = leaf_table(alloc, limit)?;
+        let mut table = SlotTable::new(alloc, limit)?;
+        let freed = Vec::with_capacity(alloc, limit as usize)?;
+        let mut nodes = NodeCounts::new(alloc, VARIABLE_NUMBERS)?;
+        append_permanent(&mut table, &mut nodes, vars);
         Ok(NodeTable {
-            words,
-            next: 5 + vars as usize,
-            variables,
-            elements,
-            leaves,
+            table,
+            freed,
+            in_use: FIRST_PROJECTION as usize + vars as usize,
+            nodes,
         })
     }
 
-    /// The words of all slots.
-    pub fn words(&self) -> &[u64]
-        ensures { result.now ≡ self.now.words }
+    /// The number of slots, free or not.
+    pub fn limit(&self) -> u32
+        ensures limit { result ≡ length self.now }
+        ensures few { result < 2 ^ 23 }
     {
-        &self.words
+        self.table.slots()
+    }
+
+    /// The number of slots that have a word.
+    pub fn in_use(&self) -> usize
+        ensures count { result ≡ count_by is_word self.now }
+        ensures within { result < 2 ^ 23 }
+    {
+        self.in_use
+    }
+
+    /// The bits of a slot, 0 where it is free.
+    pub fn word(&self, slot: u32) -> u64
+        ensures { result ≡ slice_index self.now slot }
+    {
+        self.table.word(slot)
+    }
+
+    /// The words of all slots up to the last that was ever taken.
+    pub fn words(&self) -> &[u64]
+        ensures within { length result.now ≤ length self.now }
+        ensures few { length result.now < 2 ^ 23 }
+        ensures words { (s : ℕ) → slice_index result.now s ≡ slice_index self.now s }
+    {
+        self.table.words()
     }
 
     /// The slot where a word stands, or comes to stand where a slot is free.
-    pub fn place(&mut self, word: Word) -> Option<usize>
+    pub fn place(&mut self, word: Word) -> Option<u32>
         requires range { IsInRange word }
-        requires table { HasTable self.old word }
-        ensures placed { IfSome result (IsPlaced self.old.words self.new.words word) }
-        ensures full { IfNone result (HasNoPlace self.old.words self.new.words word) }
-        ensures variables { self.new.variables ≡ self.old.variables }
-        ensures elements { self.new.elements ≡ self.old.elements }
+        ensures placed { IfSome result (IsPlaced self.old self.new word) }
+        ensures full { IfNone result (HasNoPlace self.old self.new word) }
     {
-        match word {
-            Word::Leaf(value) => {
-                place_leaf(&mut self.words, &mut self.next, &mut self.leaves, value)
-            }
-            Word::Inner(node) => {
-                let number = node.var as usize;
-                if number < 16384 {
-                    place_node(
-                        &mut self.words,
-                        &mut self.next,
-                        &mut self.variables,
-                        number,
-                        node,
-                    )
-                } else {
-                    let element = number - 16384;
-                    place_node(
-                        &mut self.words,
-                        &mut self.next,
-                        &mut self.elements,
-                        element,
-                        node,
-                    )
-                }
-            }
+        let bits = pack(word);
+        if let Some(slot) = self.table.find(bits) {
+            return Some(slot);
         }
+        let slot = put(&mut self.table, &mut self.freed, bits)?;
+        self.in_use += 1;
+        self.nodes.add(word);
+        Some(slot)
     }
 
-    /// Frees all slots from this one on, the first that is not permanent.
-    pub fn clear(&mut self)
-        requires room { 5 + self.old.variables ≤ length self.old.words }
-        requires permanent { (s : ℕ) → s < 5 + self.old.variables → slots_of self.old.words s ≡ Some (permanent_word s) }
-        ensures kept { (s : ℕ) → s < 5 + self.old.variables → slots_of self.new.words s ≡ slots_of self.old.words s }
-        ensures free { (s : ℕ) → 5 + self.old.variables ≤ s → slots_of self.new.words s ≡ None }
-        ensures length { length self.new.words ≡ length self.old.words }
-        ensures variables { self.new.variables ≡ self.old.variables }
-        ensures elements { self.new.elements ≡ self.old.elements }
+    /// Frees a slot that has a word: it is the next that is taken.
+    pub fn free(&mut self, slot: u32)
+        requires { slots_of self.old slot ≡ None → ⊥ }
+        ensures { self.new ≡ slice_set self.old slot 0 }
     {
-        let permanent = 5 + self.variables.len();
-        free_from(&mut self.words, permanent);
-        clear_variables(&mut self.variables);
-        clear_elements(&mut self.elements);
-        clear_leaves(&mut self.leaves);
-        self.next = permanent;
+        let Some(word) = unpack(self.table.word(slot)) else {
+            unreachable!()
+        };
+        self.nodes.remove(word);
+        self.table.erase(slot);
+        self.freed.push_reserved(slot);
+        self.in_use -= 1;
+    }
+
+    /// The number of nodes of a variable, and of element e by 16,384 + e.
+    pub fn nodes_of(&self, var: u32) -> u32
+        requires { var < 2 ^ 15 }
+        ensures { result ≡ nodes_of self.now var }
+    {
+        self.nodes.of(var)
+    }
+
+    /// Frees all slots but the permanent ones, of so many variables.
+    pub fn clear(&mut self, vars: u32)
+        requires vars { vars ≤ 1024 }
+        requires room { first_projection + vars ≤ length self.old }
+        ensures permanent { (s : ℕ) → s < first_projection + vars → slots_of self.new s ≡ Some (permanent_word s) }
+        ensures free { (s : ℕ) → first_projection + vars ≤ s → slots_of self.new s ≡ None }
+        ensures length { length self.new ≡ length self.old }
+    {
+        self.table.clear();
+        self.freed.truncate(0);
+        self.nodes.clear();
+        append_permanent(&mut self.table, &mut self.nodes, vars);
+        self.in_use = FIRST_PROJECTION as usize + vars as usize;
     }
 }

@@ -1,13 +1,19 @@
-//! A store of diagrams in one vector of words, with a unique table for each variable and element, and one for the leaves.
+//! A store of diagrams in one vector of words, with one unique table for all nodes and leaves.
 
-ghost use Rattle.std.specs.Prelude.{◌≡◌, ℕ, ◌+◌, ◌-◌, ◌<◌, ◌≤◌, ◌^◌, ◌↔◌, ◌⊎◌, min, IfOk, IfSome, IfNone, IsErrOf, IsOkAnd, IsTrue, OnOk, count_by, length, Some, None, true};
+ghost use Rattle.std.specs.Prelude.{◌≡◌, ℕ, ◌+◌, ◌-◌, ◌<◌, ◌≤◌, ◌^◌, ◌↔◌, ◌⊎◌, min, IfOk, IfSome, IfNone, IsErrOf, IsOkAnd, IsTrue, OnOk, length, slice_index, MatchBool, ◌≢◌, Some, None, true, false};
 ghost use Rattle.std.specs.List.{range_with_len};
+ghost use Rattle.edge_bits.specs.Permanent.{first_projection};
 ghost use Rattle.edge_bits.specs.Reading.{slots_of};
-ghost use Rattle.node_slots.specs.Stores.{is_word};
+ghost use Rattle.edge_bits.specs.Words.{unpack_of};
+ghost use Rattle.node_slots.specs.Stores.{IsNext};
 ghost use Rattle.node_slots.specs.Placing.{IsChild, HasNoChild, opened_of};
 
+use crate::count_table::CountTable;
 use crate::node_table::{NodeTable, find};
-use edge_bits::{Edge, Kind, Memory, Node, Word, unpack};
+use edge_bits::{
+    EMPTY_SLOT, Edge, FIRST_ELEMENT, FIRST_PROJECTION, Kind, Memory, Node, Word, unpack,
+};
+use handle_count::{lower, next_generation, raise};
 use node_store::binary::flip_if;
 use node_store::{Grow, Key, Opened, Stack, Stop};
 use std::alloc::Global;
@@ -20,27 +26,27 @@ pub enum Refused {
     Leaf(i64),
 }
 
-/// A store in one vector of words. It finds a node by the unique table of its variable, and a leaf by that of the leaves; its computed table is empty.
+/// A store in one vector of words. It finds a node or a leaf by its word in one unique table; its computed table is empty.
 #[derive(Drop)]
 pub struct PlainStore {
     alloc: Global,
     variable_levels: Vec<u32>,
     element_levels: Vec<u32>,
     nodes: NodeTable,
+    counts: CountTable,
     fulls: u64,
     due: Option<Refused>,
     scratch: Option<Stack>,
 }
 
 impl Model for PlainStore {
-    ghost use Rattle.node_slots.specs.Stores.{Plain};
-    ghost use Rattle.node_slots.specs.Indexing.{IsPlain};
+    ghost use Rattle.node_slots.specs.Stores.{Plain, IsStore};
 
     ghost Value = { Plain };
 
-    ghost view = { λ s. record { variable_levels = s.variable_levels.items; element_levels = s.element_levels.items; words = s.nodes.words; fulls = s.fulls; due = s.due } };
+    ghost view = { λ s. record { variable_levels = s.variable_levels.items; element_levels = s.element_levels.items; words = s.nodes; counts = s.counts; fulls = s.fulls; due = s.due } };
 
-    ghost invariant = { λ s. IsPlain (record { variable_levels = s.variable_levels.items; element_levels = s.element_levels.items; words = s.nodes.words; fulls = s.fulls; due = s.due }) s.nodes };
+    ghost invariant = { λ s. IsStore (record { variable_levels = s.variable_levels.items; element_levels = s.element_levels.items; words = s.nodes; counts = s.counts; fulls = s.fulls; due = s.due }) };
 }
 
 /// The child that a node would be, if it would be one.
@@ -48,9 +54,9 @@ fn only_child(var: u32, hi: Edge, lo: Edge) -> Option<Edge>
     ensures child { IfSome result (IsChild var hi lo) }
     ensures none { IfNone result (HasNoChild var hi lo) }
 {
-    if var < 16384 {
+    if var < FIRST_ELEMENT {
         if hi == lo { Some(hi) } else { None }
-    } else if hi.index == 1 {
+    } else if hi.index == EMPTY_SLOT {
         Some(lo)
     } else {
         None
@@ -89,8 +95,8 @@ impl Grow for PlainStore {
     ghost use Rattle.function_laws.specs.Values.{constant};
     ghost use Rattle.function_laws.specs.Kinds.{function_of, AddFunction};
     ghost use Rattle.node_store.specs.Views.{Denotes, Grown, Rose, CanMake, node_values};
-    ghost use Rattle.node_slots.specs.Stores.{plain_view};
-    ghost use Rattle.node_slots.specs.Placing.{HasNoFree, IsUnknown, IsUnknownNode};
+    ghost use Rattle.node_slots.specs.Stores.{HasNoFree, IsUnknown, plain_view};
+    ghost use Rattle.node_slots.specs.Placing.{IsUnknownNode};
 
     ghost view = { plain_view };
 
@@ -103,7 +109,7 @@ impl Grow for PlainStore {
     }
 
     fn open(&mut self, edge: Edge) -> Opened {
-        match unpack(self.nodes.words()[edge.index as usize]) {
+        match unpack(self.nodes.word(edge.index)) {
             Some(word) => opened(word, edge.complement),
             None => unreachable!(),
         }
@@ -133,7 +139,7 @@ impl Grow for PlainStore {
             lo: flip_if(lo, hi.complement),
         };
         match self.nodes.place(Word::Inner(node)) {
-            Some(slot) => Ok(Edge::new(slot as u32, hi.complement)),
+            Some(slot) => Ok(Edge::new(slot, hi.complement)),
             None => {
                 self.fulls = risen(fulls);
                 self.due = Some(Refused::Node(var, hi, lo));
@@ -157,7 +163,7 @@ impl Grow for PlainStore {
         ensures uncounted { OnOk result ((plain_view self.new).fulls ≡ (plain_view self.old).fulls) }
     {
         match self.nodes.place(Word::Leaf(value)) {
-            Some(slot) => Ok(Edge::new(slot as u32, false)),
+            Some(slot) => Ok(Edge::new(slot, false)),
             None => {
                 self.fulls = risen(self.fulls);
                 self.due = Some(Refused::Leaf(value));
@@ -167,10 +173,10 @@ impl Grow for PlainStore {
     }
 
     fn level(&mut self, var: u32) -> u32 {
-        if var < 16384 {
+        if var < FIRST_ELEMENT {
             self.variable_levels[var as usize]
         } else {
-            self.element_levels[(var - 16384) as usize]
+            self.element_levels[(var - FIRST_ELEMENT) as usize]
         }
     }
 
@@ -206,12 +212,42 @@ fn ascending(alloc: Global, count: u32) -> Result<Vec<u32>, Memory>
     Ok(levels)
 }
 
-/// How many of the bits are a word's.
-fn count_words(words: &[u64]) -> usize
-    ensures count { result ≡ count_by is_word words.now }
-    ensures within { result ≤ length words.now }
+/// Whether the bits are those of a node that names the slot.
+fn names(bits: u64, slot: u32) -> bool
+    ensures no { result ≡ false → (node : Node) → unpack_of bits ≡ Some (Word.Inner node) → (node.hi ≢ slot) × (node.lo.index ≢ slot) }
+    ensures yes { IsTrue result → (node : Node) × (unpack_of bits ≡ Some (Word.Inner node)) × ((node.hi ≡ slot) ⊎ (node.lo.index ≡ slot)) }
 {
-    words.iter().filter(|bits| unpack(**bits).is_some()).count()
+    match unpack(bits) {
+        Some(Word::Inner(node)) => node.hi == slot || node.lo.index == slot,
+        _ => false,
+    }
+}
+
+/// Lets the next generation of a slot begin, if its bits are a word's.
+fn advance(counts: &mut CountTable, slot: u32, bits: u64)
+    requires { slot < length counts.old }
+    ensures as_many { length counts.new ≡ length counts.old }
+    ensures advanced { (word : Word) → unpack_of bits ≡ Some word → IsNext (slice_index counts.old slot) (slice_index counts.new slot) }
+    ensures free { unpack_of bits ≡ None → slice_index counts.new slot ≡ slice_index counts.old slot }
+    ensures others { (s : ℕ) → (s ≡ slot → ⊥) → slice_index counts.new s ≡ slice_index counts.old s }
+{
+    if unpack(bits).is_some() {
+        let word = counts.word(slot);
+        counts.write(slot, next_generation(word));
+    }
+}
+
+/// Lets the next generation of each slot with a word begin, from this slot on.
+fn advance_from(counts: &mut CountTable, nodes: &NodeTable, from: u32)
+    requires as_many { length counts.old ≡ length nodes.now }
+    ensures as_many { length counts.new ≡ length counts.old }
+    ensures advanced { (s : ℕ) (word : Word) → from ≤ s → slots_of nodes.now s ≡ Some word → IsNext (slice_index counts.old s) (slice_index counts.new s) }
+    ensures others { (s : ℕ) → (s < from) ⊎ (slots_of nodes.now s ≡ None) → slice_index counts.new s ≡ slice_index counts.old s }
+{
+    let words = nodes.words();
+    for slot in from as usize..words.len() {
+        advance(counts, slot as u32, words[slot]);
+    }
 }
 
 impl PlainStore {
@@ -220,9 +256,11 @@ impl PlainStore {
     ghost use Rattle.edge_bits.specs.declared.edges.Edge.{Edge};
     ghost use Rattle.edge_bits.specs.declared.edges.Kind.TheVariants.{Bdd, Add, Zdd};
     ghost use Rattle.edge_bits.specs.Reading.{DenotesBdd, DenotesAdd, DenotesZdd};
-    ghost use Rattle.node_store.specs.Views.{AreTwo, Denotes, values_at};
+    ghost use Rattle.node_store.specs.Views.{AreTwo, Denotes, IsVariable, values_at};
     ghost use Rattle.function_laws.specs.Kinds.{Denoted};
-    ghost use Rattle.node_slots.specs.Stores.{plain_view, in_use, IsOpening, IsCleared};
+    ghost use Rattle.node_slots.specs.Stores.{plain_view, count_at, generation_at, in_use, slots, IsOpening, IsCleared, IsUnknown};
+    ghost use Rattle.node_slots.specs.Counts.{IsFreed, IsRecounted, IsUnnamed};
+    ghost use Rattle.node_slots.specs.Taking.{nodes_of};
 
     /// A store of so many variables and elements, at most 1,024 each, with so many slots: 5 and one for each variable at least, 8,388,607 at most. Both orders are 0, 1, 2, ..
     pub fn new(alloc: Global, vars: u32, elements: u32, limit: u32) -> Result<PlainStore, Memory>
@@ -234,12 +272,14 @@ impl PlainStore {
     {
         let variable_levels = ascending(alloc, vars)?;
         let element_levels = ascending(alloc, elements)?;
-        let nodes = NodeTable::new(alloc, vars, elements, limit)?;
+        let nodes = NodeTable::new(alloc, vars, limit)?;
+        let counts = CountTable::new(alloc, limit)?;
         Ok(PlainStore {
             alloc,
             variable_levels,
             element_levels,
             nodes,
+            counts,
             fulls: 0,
             due: None,
             scratch: None,
@@ -266,12 +306,12 @@ impl PlainStore {
     pub fn limit(&self) -> u32
         ensures { result ≡ length self.now.words }
     {
-        self.nodes.words().len() as u32
+        self.nodes.limit()
     }
 
-    /// The words of all slots, out of which the function of an edge is read.
+    /// The words of all slots up to the last that was ever in use, out of which the function of an edge is read.
     pub fn words(&self) -> &[u64]
-        ensures words { result.now ≡ self.now.words }
+        ensures words { (s : ℕ) → slots_of result.now s ≡ slots self.now s }
         ensures bdd { (e : Edge) (f : ℕ → Bool) → Denotes Bdd (plain_view self.now) e f → DenotesBdd (plain_view self.now).vars (slots_of result.now) e f }
         ensures add { (e : Edge) (f : ℕ → ℤ) → Denotes Add (plain_view self.now) e f → DenotesAdd (plain_view self.now).vars (slots_of result.now) e f }
         ensures zdd { (e : Edge) (p : ℕ → Bool) → Denotes Zdd (plain_view self.now) e p → DenotesZdd (plain_view self.now).elements (slots_of result.now) e p }
@@ -288,12 +328,94 @@ impl PlainStore {
         Some(slot as u32)
     }
 
-    /// The number of slots that have a word: all, where a function was refused and nothing was freed since.
+    /// The number of slots that have a word: all, where a function was refused and nothing was freed since, and then no slot has that function.
     pub fn in_use(&self) -> u32
         ensures count { result ≡ in_use self.now }
         ensures full { (f : Denoted) → (plain_view self.now).due ≡ Some f → result ≡ length self.now.words }
+        ensures missing { (f : Denoted) → (plain_view self.now).due ≡ Some f → IsUnknown self.now f }
     {
-        count_words(self.nodes.words()) as u32
+        self.nodes.in_use() as u32
+    }
+
+    /// How many rows, cells and pins hold a slot.
+    pub fn count_of(&self, slot: u32) -> u32
+        ensures { result ≡ count_at self.now slot }
+    {
+        (self.counts.word(slot) % (1 << 32)) as u32
+    }
+
+    /// How often a slot was freed, modulo 2^32.
+    pub fn generation_of(&self, slot: u32) -> u32
+        ensures { result ≡ generation_at self.now slot }
+    {
+        (self.counts.word(slot) >> 32) as u32
+    }
+
+    /// One more row, cell or pin holds the slot, which has a word.
+    pub fn raise(&mut self, slot: u32)
+        requires used { slots self.old slot ≡ None → ⊥ }
+        requires few { count_at self.old slot < 2 ^ 32 - 1 }
+        ensures count { count_at self.new slot ≡ count_at self.old slot + 1 }
+        ensures generation { generation_at self.new slot ≡ generation_at self.old slot }
+        ensures rest { IsRecounted self.old slot self.new }
+    {
+        let word = self.counts.word(slot);
+        self.counts.write(slot, raise(word));
+    }
+
+    /// One row, cell or pin less holds the slot, which has a word.
+    pub fn lower(&mut self, slot: u32)
+        requires used { slots self.old slot ≡ None → ⊥ }
+        requires some { 0 < count_at self.old slot }
+        ensures count { count_at self.new slot + 1 ≡ count_at self.old slot }
+        ensures generation { generation_at self.new slot ≡ generation_at self.old slot }
+        ensures rest { IsRecounted self.old slot self.new }
+    {
+        let word = self.counts.word(slot);
+        self.counts.write(slot, lower(word));
+    }
+
+    /// The number of nodes of a variable, and of element e by 16,384 + e.
+    pub fn nodes_of(&self, var: u32) -> u32
+        requires { (k : Kind) × IsVariable k (plain_view self.now) var }
+        ensures { result ≡ nodes_of self.now.words var }
+    {
+        self.nodes.nodes_of(var)
+    }
+
+    /// Whether a slot has a word.
+    pub fn is_used(&self, slot: u32) -> bool
+        ensures { IsTrue result ↔ (slots self.now slot ≡ None → ⊥) }
+    {
+        unpack(self.nodes.word(slot)).is_some()
+    }
+
+    /// Whether a node names a slot, by a walk over all words.
+    pub fn is_named(&self, slot: u32) -> bool
+        ensures { MatchBool result (IsUnnamed self.now slot → ⊥) (IsUnnamed self.now slot) }
+    {
+        for bits in self.nodes.words() {
+            if names(*bits, slot) {
+                return true;
+            }
+        }
+        false
+    }
+
+    /// Frees a slot that no row, cell or pin holds and no node names: what the other slots denote stays, and the slot is the next that a node takes, in its next generation. Nothing is due then, since the arguments of a refused call may name the slot.
+    pub fn free(&mut self, slot: u32)
+        requires used { slots self.old slot ≡ None → ⊥ }
+        requires not_permanent { first_projection + (plain_view self.old).vars ≤ slot }
+        requires not_held { count_at self.old slot ≡ 0 }
+        requires not_named { IsUnnamed self.old slot }
+        ensures freed { IsFreed self.old slot self.new }
+        ensures content { (s : ℕ) → (s ≡ slot → ⊥) → (plain_view self.new).content s ≡ (plain_view self.old).content s }
+        ensures gone { (plain_view self.new).content slot ≡ None }
+    {
+        self.nodes.free(slot);
+        let word = self.counts.word(slot);
+        self.counts.write(slot, next_generation(word));
+        self.due = None;
     }
 
     /// Frees all slots that are not permanent, and answers how many are in use then: 5 and one for each variable.
@@ -302,10 +424,12 @@ impl PlainStore {
         ensures permanent { result ≡ 5 + (plain_view self.old).vars }
         ensures in_use { result ≡ in_use self.new }
     {
-        let permanent = 5 + self.variable_levels.len();
-        self.nodes.clear();
+        let vars = self.variable_levels.len() as u32;
+        let permanent = FIRST_PROJECTION + vars;
+        advance_from(&mut self.counts, &self.nodes, permanent);
+        self.nodes.clear(vars);
         self.due = None;
-        permanent as u32
+        permanent
     }
 
     /// Whether two edges of one kind denote one function: they are equal then.

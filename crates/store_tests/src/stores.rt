@@ -1,6 +1,6 @@
 //! A store of a few slots: conjunctions, leaves, and nodes of each kind.
 
-use edge_bits::{Edge, Kind, Node};
+use edge_bits::{Edge, FIRST_PROJECTION, Kind, Node};
 use ite_core::and;
 use node_slots::{Grow, Opened, PlainStore, Stop};
 use std::test::Fail;
@@ -68,5 +68,100 @@ fn leaves_and_nodes_of_each_kind(rt: HostRuntime) -> Result<(), Fail> {
     assert!(rt; store.leaf(21) == Ok(leaf));
     assert!(rt; store.leaf(0) == Ok(zero));
     assert!(rt; store.leaf(42) == Err(Stop::Full));
+    Ok(())
+}
+
+/// Raises the count of a slot with a word.
+fn raise(store: &mut PlainStore, slot: u32) {
+    if store.is_used(slot) && store.count_of(slot) < u32::MAX {
+        store.raise(slot);
+    }
+}
+
+/// Lowers the count of a slot with a word.
+fn lower(store: &mut PlainStore, slot: u32) {
+    if store.is_used(slot) && store.count_of(slot) > 0 {
+        store.lower(slot);
+    }
+}
+
+/// Frees a slot, if nothing holds it and no node names it.
+fn free(store: &mut PlainStore, slot: u32) -> bool {
+    let may = store.is_used(slot)
+        && slot >= FIRST_PROJECTION + store.vars()
+        && store.count_of(slot) == 0
+        && !store.is_named(slot);
+    if may {
+        store.free(slot);
+    }
+    may
+}
+
+#[test]
+fn freed_slots_are_taken_again(rt: HostRuntime) -> Result<(), Fail> {
+    let (a, b, c) = (
+        Edge::new(5, false),
+        Edge::new(6, false),
+        Edge::new(7, false),
+    );
+    let mut store = PlainStore::new(rt.alloc(), 3, 0, 10)?;
+    let _levels = store.levels(Kind::Bdd);
+    let Ok(bc) = and(&mut store, b, c) else {
+        return Err(Fail::new("refused with two free slots"));
+    };
+    let Ok(abc) = and(&mut store, a, bc) else {
+        return Err(Fail::new("refused with one free slot"));
+    };
+    assert!(rt; store.leaf(21) == Err(Stop::Full));
+    // A permanent slot, one that a node names and one that is held are not freed.
+    assert!(rt; !free(&mut store, 4));
+    assert!(rt; !free(&mut store, bc.index));
+    raise(&mut store, abc.index);
+    assert_eq!(rt; store.count_of(abc.index), 1);
+    assert!(rt; !free(&mut store, abc.index));
+    lower(&mut store, abc.index);
+    assert!(rt; free(&mut store, abc.index));
+    assert!(rt; free(&mut store, bc.index));
+    assert_eq!(rt; store.in_use(), 8);
+    assert_eq!(rt; store.generation_of(bc.index), 1);
+    assert_eq!(rt; store.generation_of(a.index), 0);
+    assert_eq!(rt; store.find_by_walk(node(1, 7)), None);
+    // The slot that was freed last is taken first.
+    let Ok(leaf) = store.leaf(21) else {
+        return Err(Fail::new("no leaf with two free slots"));
+    };
+    assert_eq!(rt; leaf.index, bc.index);
+    assert!(rt; and(&mut store, b, c) == Ok(abc));
+    assert!(rt; and(&mut store, a, b) == Err(Stop::Full));
+    assert_eq!(rt; store.clear(), 8);
+    assert_eq!(rt; store.generation_of(bc.index), 2);
+    Ok(())
+}
+
+/// The slot of the node of variable 0 over this number and 0.
+fn node_over(store: &mut PlainStore, value: i64) -> Option<u32> {
+    let _levels = store.levels(Kind::Add);
+    if store.vars() == 0 || value < 0 || value > 1 << 45 {
+        return None;
+    }
+    let leaf = store.leaf(value).ok()?;
+    let node = store.make(0, leaf, Edge::number_zero()).ok()?;
+    Some(node.index)
+}
+
+/// As many nodes at one level as there are leaves below them, and a second look at each.
+#[test]
+fn many_nodes_at_one_level(rt: HostRuntime) -> Result<(), Fail> {
+    let mut store = PlainStore::new(rt.alloc(), 1, 0, 100_000)?;
+    for value in 2..20_002 {
+        assert!(rt; node_over(&mut store, 1_048_576 * value).is_some());
+    }
+    assert_eq!(rt; store.in_use(), 40_006);
+    let last = node_over(&mut store, 1_048_576 * 20_001);
+    assert_eq!(rt; last, Some(40_005));
+    for value in 2..20_002 {
+        assert!(rt; node_over(&mut store, 1_048_576 * value) <= last);
+    }
+    assert_eq!(rt; store.in_use(), 40_006);
     Ok(())
 }

@@ -1,12 +1,15 @@
-use Rattle.std.proofs.Common.{arith}
-use Rattle.node_slots.proofs.Tables.{indexed-opening}
+use Rattle.std.proofs.Common.{◌≡◌, ◌+◌, ℕ, length, ap, ◌∙◌, arith}
+use Rattle.std.specs.Prelude.{vec_capacity}
+use Rattle.std.proofs.lemmas.List.{length-replicate}
+use Rattle.node_slots.proofs.Taking.{table_opening}
 use Rattle.node_slots.proofs.node_table.NodeTable.new.Goals as goal
 
 pub invariant_of-result : goal.invariant_of-result
 invariant_of-result c =
-    let w = c.in_ok-words.ensures in
-    indexed-opening c.in_ok-words.words.items c.args.vars c.requires.vars (omega (arith, w.length, c.requires.least)) (omega (arith, w.length, c.requires.most)) w.permanent w.free
-    c.in_ok-variables.variables.items c.in_ok-elements.elements.items c.in_ok-variables.ensures.length
-    (λ i t is. (c.args.limit, c.in_ok-variables.ensures.tables i t is, omega (arith, w.length)))
-    (λ i t is. (c.args.limit, c.in_ok-elements.ensures.tables i t is, omega (arith, w.length)))
-    c.in_ok-leaves.leaves (c.args.limit, c.in_ok-leaves.ensures, omega (arith, w.length))
+    let e = c.append_permanent.ensures in
+    let v = c.in_ok-freed.ensures in
+    let zero : ℕ = 0 in
+    let long : length c.append_permanent.new.table.words ≡ c.args.limit = e.length ∙ ap length c.in_ok-table.ensures.words ∙ length-replicate c.args.limit zero in
+    rw v.items
+    (table_opening c.append_permanent.new.table (5 + c.args.vars) (vec_capacity c.in_ok-freed.freed)
+    (omega (arith, long, c.requires.least)) (omega (arith, long, c.requires.most)) (omega (arith, long, v.capacity)) e.taken e.permanent e.free e.packed _ e.nodes)

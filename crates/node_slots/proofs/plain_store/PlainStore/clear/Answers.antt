@@ -1,24 +1,38 @@
-use Rattle.std.proofs.Common.{◌∙◌, ◌+◌, ap, sym, None, arith}
+use Rattle.std.proofs.Common.{◌≡◌, ◌+◌, length, None, refl, ap, sym, ◌∙◌, subst}
+use Rattle.node_slots.specs.Stores.{IsCleared}
 use Rattle.node_slots.specs.contracts.plain_store.PlainStore.{the_view}
 use Rattle.node_slots.proofs.Counting.{count_cleared}
-use Rattle.node_slots.proofs.Opening.{IsStore-cleared, none_due, permanent_words}
+use Rattle.node_slots.proofs.Opening.{IsStore-cleared, none_due, permanent_kept, with_rest}
 use Rattle.node_slots.proofs.plain_store.PlainStore.clear.Goals as goal
-
-pub clear-requires-clause-permanent : goal.clear-requires-clause-permanent
-clear-requires-clause-permanent c = λ s below. permanent_words (the_view c.self.inside) c.self.invariant.store.permanent s (omega (arith, below, c.self.invariant.variables))
 
 pub invariant_of-self : goal.invariant_of-self
 invariant_of-self c =
+    let p = the_view c.self.inside in
     let e = c.clear.ensures in
-    let from = ap (λ n. 5 + n) c.self.invariant.variables in
-    record {
-      store = IsStore-cleared (the_view c.self.inside) c.self.invariant.store None none_due _ _ _ from e.length e.kept e.free;
-      variables = e.variables ∙ c.self.invariant.variables;
-      elements = e.elements ∙ c.self.invariant.elements;
-    }
+    let vars : 5 + c.len-vars.result ≡ 5 + length p.variable_levels = ap (λ n. 5 + n) (c.len-vars.ensures ∙ c.self.inside.variable_levels.ok.0) in
+    IsStore-cleared p c.self.invariant None none_due c.clear.new.self c.advance_from.new.counts p.fulls (5 + c.len-vars.result) vars e.length c.advance_from.ensures.as_many (permanent_kept p c.self.invariant.permanent c.clear.new.self (5 + c.len-vars.result) vars e.permanent) e.free
 
 pub returns-clause-in_use : goal.returns-clause-in_use
 returns-clause-in_use c =
+    let p = the_view c.self.inside in
     let e = c.clear.ensures in
-    ap (λ n. 5 + n) (c.len-permanent.ensures ∙ c.self.inside.variable_levels.ok.0 ∙ sym c.self.invariant.variables)
-    ∙ sym (count_cleared (the_view c.self.inside) c.self.invariant.store _ _ (ap (λ n. 5 + n) c.self.invariant.variables) e.length e.kept e.free)
+    let vars : 5 + c.len-vars.result ≡ 5 + length p.variable_levels = ap (λ n. 5 + n) (c.len-vars.ensures ∙ c.self.inside.variable_levels.ok.0) in
+    sym (count_cleared p c.self.invariant c.clear.new.self (5 + c.len-vars.result) vars e.length (permanent_kept p c.self.invariant.permanent c.clear.new.self (5 + c.len-vars.result) vars e.permanent) e.free)
+
+pub returns-clause-cleared : goal.returns-clause-cleared
+returns-clause-cleared c =
+    let p = the_view c.self.inside in
+    let e = c.clear.ensures in
+    let vars : 5 + c.len-vars.result ≡ 5 + length p.variable_levels = ap (λ n. 5 + n) (c.len-vars.ensures ∙ c.self.inside.variable_levels.ok.0) in
+    subst (λ q. IsCleared q (with_rest p c.clear.new.self c.advance_from.new.counts p.fulls None)) c.self.view_is
+    (record {
+      variable_levels = refl;
+      element_levels = refl;
+      slots_are = e.length;
+      permanent = rw vars at (permanent_kept p c.self.invariant.permanent c.clear.new.self (5 + c.len-vars.result) vars e.permanent);
+      free = rw vars at e.free;
+      freed = rw vars at c.advance_from.ensures.advanced;
+      others = rw vars at c.advance_from.ensures.others;
+      fulls = refl;
+      due = refl;
+    })

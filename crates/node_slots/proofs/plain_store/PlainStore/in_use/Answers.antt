@@ -1,11 +1,15 @@
-use Rattle.std.proofs.Common.{◌∙◌, ap}
+use Rattle.std.proofs.Common.{◌≡◌, Some, ◌∙◌, ap, subst}
 use Rattle.std.specs.List.{count_by}
-use Rattle.node_slots.specs.Stores.{Plain, is_word}
+use Rattle.function_laws.specs.Kinds.{Denoted}
+use Rattle.node_slots.specs.Stores.{Plain, IsUnknown, is_word, plain_view}
 use Rattle.node_slots.specs.contracts.plain_store.PlainStore.{the_view}
 use Rattle.node_slots.proofs.Counting.{count_full}
 use Rattle.node_slots.proofs.plain_store.PlainStore.in_use.Goals as goal
 
 pub returns-clause-full : goal.returns-clause-full
 returns-clause-full c = λ f due.
-    c.count_words.ensures.count ∙ ap (count_by is_word) (c.words.ensures ∙ ap (λ (p : Plain). p.words) c.self.view_is)
-    ∙ count_full (the_view c.self.inside) c.args.self.now c.self.view_is c.self.invariant.store f due
+    c.in_use.ensures.count ∙ ap (λ (p : Plain). count_by is_word p.words) c.self.view_is
+    ∙ count_full (the_view c.self.inside) c.args.self.now c.self.view_is c.self.invariant f due
+
+pub returns-clause-missing : goal.returns-clause-missing
+returns-clause-missing c = subst (λ p. (f : Denoted) → (plain_view p).due ≡ Some f → IsUnknown p f) c.self.view_is c.self.invariant.missing

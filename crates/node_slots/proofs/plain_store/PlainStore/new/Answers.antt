@@ -1,22 +1,18 @@
-use Rattle.std.proofs.Common.{◌∙◌, length, refl, sym, ap}
-use Rattle.std.proofs.lemmas.List.FromFn.{length-range_with_len}
+use Rattle.std.proofs.Common.{refl}
 use Rattle.node_slots.proofs.Opening.{IsStore-new}
 use Rattle.node_slots.proofs.plain_store.PlainStore.new.Goals as goal
 
 pub invariant_of-result : goal.invariant_of-result
 invariant_of-result c =
     let r = c.requires in let w = c.in_ok-nodes.ensures in
-    record {
-      store = IsStore-new _ c.args.vars c.args.elements c.args.limit r.vars r.elements r.least r.most
-          (record {
-            variable_levels = c.in_ok-variable_levels.ensures;
-            element_levels = c.in_ok-element_levels.ensures;
-            slots_are = w.slots_are;
-            permanent = w.permanent;
-            free = w.free;
-            fulls = refl;
-            due = refl;
-          });
-      variables = w.variables ∙ sym (ap length c.in_ok-variable_levels.ensures ∙ length-range_with_len 0 c.args.vars);
-      elements = w.elements ∙ sym (ap length c.in_ok-element_levels.ensures ∙ length-range_with_len 0 c.args.elements);
-    }
+    IsStore-new _ c.args.vars c.args.elements c.args.limit r.vars r.elements r.least r.most
+    (record {
+      variable_levels = c.in_ok-variable_levels.ensures;
+      element_levels = c.in_ok-element_levels.ensures;
+      slots_are = w.slots_are;
+      permanent = w.permanent;
+      free = w.free;
+      counts = c.in_ok-counts.ensures;
+      fulls = refl;
+      due = refl;
+    })

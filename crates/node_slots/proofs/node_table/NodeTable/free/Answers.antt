@@ -1,0 +1,33 @@
+use Rattle.std.proofs.Common.{◌≡◌, ◌<◌, length, get_or, Some, ap, sym, ◌∙◌, subst, arith}
+use Rattle.std.specs.List.{count_by}
+use Rattle.std.proofs.lemmas.List.{length-set, length_push}
+use Rattle.edge_bits.specs.Words.{unpack_of}
+use Rattle.edge_bits.specs.Reading.{slots_of}
+use Rattle.node_slots.specs.Stores.{is_word}
+use Rattle.node_slots.specs.Taking.{ArePacked, AreCounted}
+use Rattle.node_slots.proofs.Taking.{count_erased, counted_erased, free_erased, packed_erased, taken_word, word_some}
+use Rattle.node_slots.proofs.node_table.NodeTable.free.Goals as goal
+
+pub invariant_of-self : goal.invariant_of-self
+invariant_of-self c =
+    let old = c.self.invariant in
+    let words = c.self.inside.table.words in
+    let slot = c.args.slot in
+    let word = c.in-Some.word in
+    let reads : slots_of words slot ≡ Some word = sym (ap unpack_of c.word.ensures) ∙ sym c.unpack.ensures.value ∙ c.in-Some.is in
+    let below = taken_word words c.self.inside.table.taken c.self.inside.freed.items slot word old.free reads in
+    let within : slot < length words = (let w = old.free.within in omega arith) in
+    let e = c.erase.ensures in
+    let p = c.push_reserved.ensures in
+    let r = c.remove.ensures in
+    let long = ap length e.words ∙ length-set words slot 0 in
+    record {
+      packed = subst ArePacked (sym e.words) (packed_erased words slot within old.packed);
+      free = rw (e.words, e.taken, p.items) (free_erased words c.self.inside.table.taken c.self.inside.freed.items slot below
+          (λ zero. (let some = word_some (get_or words slot 0) word reads in omega arith)) old.free);
+      few = omega (arith, long, old.few);
+      room = omega (arith, long, old.room, p.capacity);
+      counted = (let less = count_erased words slot word within reads in omega (arith, ap (count_by is_word) e.words, less, old.counted));
+      as_many = (let less = count_erased words slot word within reads in omega (arith, ap length p.items, length_push c.self.inside.freed.items slot, e.taken, less, old.counted, old.as_many));
+      nodes = subst (λ ws. AreCounted ws c.remove.new.self) (sym e.words) (counted_erased words c.self.inside.nodes c.remove.new.self slot word within reads old.nodes r.all r.each);
+    }

@@ -1,0 +1,37 @@
+use Rattle.std.proofs.Common.{◌≡◌, ◌≤◌, ◌+◌, suc, length, None, ◌∙◌, ap, sym, subst, arith}
+use Rattle.std.proofs.lemmas.List.{length-set}
+use Rattle.node_slots.specs.Counts.{IsUnnamed}
+use Rattle.node_slots.specs.Stores.{Plain, slots, content_of, longest, plain_view}
+use Rattle.node_slots.specs.contracts.plain_store.PlainStore.{the_view}
+use Rattle.node_slots.proofs.Remaining.{IsStore-freed, content_gone, function_same, used_within}
+use Rattle.node_slots.proofs.plain_store.PlainStore.free.Goals as goal
+
+pub invariant_of-self : goal.invariant_of-self
+invariant_of-self c =
+    let p = the_view c.self.inside in
+    let slot = c.args.slot in
+    let used = subst (λ (q : Plain). slots q slot ≡ None → ⊥) (sym c.self.view_is) c.requires.used in
+    let high = subst (λ (q : Plain). 5 + (plain_view q).vars ≤ slot) (sym c.self.view_is) c.requires.not_permanent in
+    let unnamed = subst (λ q. IsUnnamed q slot) (sym c.self.view_is) c.requires.not_named in
+    rw c.free.ensures
+    (IsStore-freed p slot c.write.new.self (used_within p slot used) (omega (arith, high)) unnamed c.self.invariant high
+    (ap length c.write.ensures ∙ length-set p.counts slot c.next_generation.result ∙ c.self.invariant.counted))
+
+pub returns-clause-content : goal.returns-clause-content
+returns-clause-content c =
+    let p = the_view c.self.inside in
+    let slot = c.args.slot in
+    let used = subst (λ (q : Plain). slots q slot ≡ None → ⊥) (sym c.self.view_is) c.requires.used in
+    let high = subst (λ (q : Plain). 5 + (plain_view q).vars ≤ slot) (sym c.self.view_is) c.requires.not_permanent in
+    let unnamed = subst (λ q. IsUnnamed q slot) (sym c.self.view_is) c.requires.not_named in
+    rw c.free.ensures
+    (λ s ne. function_same p slot c.write.new.self (used_within p slot used) (omega (arith, high)) unnamed (suc (longest p)) s ne ∙ ap (λ q. content_of q s) c.self.view_is)
+
+pub returns-clause-gone : goal.returns-clause-gone
+returns-clause-gone c =
+    let p = the_view c.self.inside in
+    let slot = c.args.slot in
+    let used = subst (λ (q : Plain). slots q slot ≡ None → ⊥) (sym c.self.view_is) c.requires.used in
+    let high = subst (λ (q : Plain). 5 + (plain_view q).vars ≤ slot) (sym c.self.view_is) c.requires.not_permanent in
+    let unnamed = subst (λ q. IsUnnamed q slot) (sym c.self.view_is) c.requires.not_named in
+    rw c.free.ensures (content_gone p slot c.write.new.self (used_within p slot used) (omega (arith, high)) unnamed)
