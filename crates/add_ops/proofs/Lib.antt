@@ -1,4 +1,5 @@
 pub mod LeafLaws
+pub mod ExactLaws
 mod ConversionLaws
 mod TruthLaws
 mod SumLaws

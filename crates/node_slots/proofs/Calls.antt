@@ -8,12 +8,14 @@ use Rattle.edge_bits.specs.declared.words.Node.{Node}
 use Rattle.edge_bits.specs.declared.words.Word.{Word}
 use Rattle.edge_bits.specs.declared.words.Word.TheVariants.{Inner, Leaf}
 use Rattle.edge_bits.specs.Assignments.{bit}
+use Rattle.edge_bits.specs.Permanent.{first_projection}
 use Rattle.edge_bits.specs.Reading.{plain}
+use Rattle.edge_bits.proofs.AssignmentLemmas.{bit-set_other}
 use Rattle.function_laws.specs.Values.{constant, negation, choice, projection}
 use Rattle.function_laws.proofs.ValueLemmas.{everywhere, place_one}
 use Rattle.function_laws.specs.Kinds.{BddFunction, AddFunction, ValueOf, function_of, flipped}
 use Rattle.node_store.specs.Edges.{flip_if}
-use Rattle.node_store.specs.Views.{IsVariable, IsBelow, IsProper, IsInner, IsLeaf, IsLeafOf, logic_one, logic_zero, Opens, Splits, CanMake, Is, Permanent, function_at, values_at, node_values}
+use Rattle.node_store.specs.Views.{IsVariable, IsBelow, IsProper, IsInner, IsLeaf, IsLeafOf, logic_one, logic_zero, Opens, Splits, CanMake, Is, IsProjection, Permanent, function_at, values_at, node_values}
 use Rattle.node_store.specs.ViewLaws.{values_at-is, Is-from, Denotes-flip}
 use Rattle.node_slots.specs.Slots.{word_function, function_at_most}
 use Rattle.node_slots.specs.Stores.{Plain, HasPermanent, projection_node, longest, slots, level_in, content_of, top_in, plain_view, IsNode, IsStore}
@@ -147,11 +149,19 @@ module _ (p : Plain) (st : IsStore p) where
     base = refl;
     add_zero = leaf_content p 3 (pos 0) (omega arith) (st.permanent.constants 3 (omega arith));
     add_one = leaf_content p 4 (pos 1) (omega arith) (st.permanent.constants 4 (omega arith));
-    projections = λ v vn. projection_content p st.permanent v vn.1;
     one_top = refl;
     empty_top = refl;
     base_top = refl;
     add_zero_top = top_word p 3 (Some (Leaf (pos 0))) (omega arith) (st.permanent.constants 3 (omega arith));
     add_one_top = top_word p 4 (Some (Leaf (pos 1))) (omega arith) (st.permanent.constants 4 (omega arith));
-    projection_tops = λ v vn. top_word p (5 + v) (Some (Inner (projection_node v))) (omega arith) (st.permanent.projections v vn.1);
+  }
+
+  pub projection_denotes : (v : ℕ) → IsVariable Bdd (plain_view p) v → IsProjection (plain_view p) v (plain (first_projection + v))
+  projection_denotes v vn = record {
+    denotes = record {
+      is = projection_content p st.permanent v vn.1;
+      beyond = λ u h k b. bit-set_other k u v b (λ same. omega (arith, h, vn.1, same));
+      fits = tt;
+    };
+    top = top_word p (first_projection + v) (Some (Inner (projection_node v))) (omega arith) (st.permanent.projections v vn.1);
   }

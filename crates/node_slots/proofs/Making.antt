@@ -16,7 +16,8 @@ use Rattle.function_laws.proofs.ValueLemmas.{everywhere, place_one, choice-same}
 use Rattle.function_laws.specs.Kinds.{Denoted, BddFunction, AddFunction, ZddFamily, ValueOf, function_of, flipped}
 use Rattle.node_store.specs.KindLaws.{joined-absent}
 use Rattle.node_store.specs.Edges.{flip_if}
-use Rattle.node_store.specs.Views.{View, IsBelow, IsProper, CanMake, Grown, Denotes, empty_edge, function_at, values_at, node_values}
+use Rattle.node_store.specs.Views.{View, IsBelow, IsProper, CanMake, Grown, Denotes, function_at, values_at, node_values, Kept}
+use Rattle.edge_bits.specs.Permanent.{empty_edge}
 use Rattle.node_store.specs.ViewLaws.{values_at-is, Is-from, Denotes-flip, Denotes-node, flipped-not, levels-grown, IsVariable-back}
 use Rattle.node_slots.specs.Slots.{node_of, function_at_most}
 use Rattle.node_slots.specs.Stores.{Plain, slots, content_of, refused_function, plain_view, is_used, ones, IsRegular, IsNode, HasNoFree, IsUnknown, IsStore}
@@ -96,6 +97,10 @@ with_words p ws = record p { words = ws }
 -- the store after a refused call
 abbrev pub after_refusal : Plain → ℕ → Option Refused → Plain
 after_refusal p n d = record p { fulls = n; due = d }
+
+-- a store after its scratch was lent or given back, with room for so many levels
+abbrev pub after_lending : Plain → ℕ → Plain
+after_lending p r = record p { scratch_room = r }
 
 -- what a call that answers an edge leaves
 pub record Stored (k : Kind) (p q : Plain) (e : Edge) (f : ℕ → ValueOf k) : Type 0 where
@@ -299,6 +304,41 @@ module _ (p : Plain) (st : IsStore p) where
       counted = st.counted;
       refused = λ r is t below free. full t below free;
       missing = unknown;
+    }
+
+  -- the scratch was lent or given back
+  module _ (r : ℕ) where
+    pub lent-kept : Kept (plain_view p) (plain_view (after_lending p r))
+    lent-kept = record {
+      grown = record { vars = refl; elements = refl; slots = refl; level = refl; content = λ s f h. h; top = λ s f h. refl; made = λ s h. h; fulls = omega arith; counts = refl; holds = refl; wants = λ h. h };
+      made = refl;
+      fulls = refl;
+      due = refl;
+    }
+
+    IsNode-lent : (k : Kind) (node : Node) → IsNode k p node → IsNode k (after_lending p r) node
+    unfolding lent-kept
+    IsNode-lent k node i = record { can_make = CanMake-grown k lent-kept.grown i.can_make; proper = i.proper; regular = i.regular }
+
+    pub lent-store : IsStore (after_lending p r)
+    lent-store = record {
+      ordered = record {
+        within = λ k v vn. rw (levels-grown k lent-kept.grown) (st.ordered.within k v (IsVariable-back k lent-kept.grown v vn));
+        alone = λ k u v un vn e. st.ordered.alone k u v (IsVariable-back k lent-kept.grown u un) (IsVariable-back k lent-kept.grown v vn) e;
+      };
+      permanent = record { constants = st.permanent.constants; projections = st.permanent.projections };
+      canonical = record {
+        nodes = λ s node is. (let x = st.canonical.nodes s node is in (x.0, IsNode-lent x.0 node x.1));
+        leaves = st.canonical.leaves;
+        apart = st.canonical.apart;
+      };
+      few_variables = st.few_variables;
+      few_elements = st.few_elements;
+      room = st.room;
+      few_words = st.few_words;
+      counted = st.counted;
+      refused = st.refused;
+      missing = st.missing;
     }
 
   -- what is due where a node or a leaf is refused

@@ -1,6 +1,7 @@
 -- A store as its words and its orders, and when it is canonical.
 use Rattle.std.specs.Prelude.{◌%◌, ◌⊎◌, replicate, ◌≡◌, ℕ, zero, suc, ◌+◌, ◌-◌, ◌^◌, ◌<◌, ◌≤◌, nat_lt, nat_le, Bool, true, false, ◌&&◌, if◌then◌else◌, List, length, slice_index, Option, Some, None, ℤ, pos, max}
 use Rattle.std.specs.List.{count_by, range_with_len}
+use Rattle.edge_bits.specs.Permanent.{first_element, true_slot, truth_edge}
 use Rattle.edge_bits.specs.Words.{unpack_of}
 use Rattle.edge_bits.specs.declared.edges.Edge.{Edge}
 use Rattle.edge_bits.specs.declared.edges.Kind.{Kind}
@@ -14,6 +15,7 @@ use Rattle.function_laws.specs.Values.{constant}
 use Rattle.function_laws.specs.Numbers.{is_value}
 use Rattle.function_laws.specs.Kinds.{Denoted, AddFunction, ValueOf, flipped}
 use Rattle.node_store.specs.Views.{View, IsVariable, IsProper, CanMake, function_at, levels, values_at}
+use Rattle.node_store.specs.Stacks.{Scratch, levels_in}
 use Rattle.handle_count.specs.CountWords.{count_of, generation_of}
 use Rattle.node_slots.specs.Slots.{node_of, function_at_most}
 use Rattle.node_slots.specs.declared.plain_store.Refused.{Refused}
@@ -29,13 +31,15 @@ pub record Plain : Type 0 where
   pub fulls : ℕ
   -- the arguments of the call that was refused last
   pub due : Option Refused
+  -- for how many levels the scratch that it lends has room
+  pub scratch_room : ℕ
 
 abbrev pub slots : Plain → ℕ → Option Word
 slots p = slots_of p.words
 
--- the level of a variable, and of an element by 16384 and its number
+-- the level of a variable, and of an element by its number after the first element's
 abbrev pub level_in : Plain → ℕ → ℕ
-level_in p v = if nat_lt v 16384 then slice_index p.variable_levels v else slice_index p.element_levels (element_of v)
+level_in p v = if nat_lt v first_element then slice_index p.variable_levels v else slice_index p.element_levels (element_of v)
 
 -- no path has more words than levels and a leaf
 abbrev pub longest : Plain → ℕ
@@ -67,6 +71,11 @@ count_at p s = count_of (slice_index p.counts s)
 abbrev pub generation_at : Plain → ℕ → ℕ
 generation_at p s = generation_of (slice_index p.counts s)
 
+-- for how many levels a scratch has room, if there is one
+abbrev pub lent_room : Option Scratch → ℕ
+lent_room None = 0
+lent_room (Some scratch) = levels_in scratch
+
 -- the function that a refused call would have stored
 abbrev pub refused_function : (ℕ → Option Denoted) → Option Refused → Option Denoted
 refused_function content None = None
@@ -87,6 +96,7 @@ plain_view p = record {
   count = count_at p;
   is_held = false;
   may_want_memory = false;
+  room = p.scratch_room;
 }
 
 -- the assignment where the first n variables are true, and no other
@@ -119,7 +129,7 @@ constant_value (suc (suc (suc zero))) = pos 0
 constant_value (suc (suc (suc (suc s)))) = pos 1
 
 abbrev pub projection_node : ℕ → Node
-projection_node v = record { var = v; hi = 0; lo = record { index = 0; complement = true } }
+projection_node v = record { var = v; hi = true_slot; lo = truth_edge false }
 
 -- the word of a permanent slot: of the constants 0 to 4, then of the projections
 abbrev pub permanent_word : ℕ → Word

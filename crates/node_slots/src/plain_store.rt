@@ -40,13 +40,13 @@ pub struct PlainStore {
 }
 
 impl Model for PlainStore {
-    ghost use Rattle.node_slots.specs.Stores.{Plain, IsStore};
+    ghost use Rattle.node_slots.specs.Stores.{Plain, IsStore, lent_room};
 
     ghost Value = { Plain };
 
-    ghost view = { λ s. record { variable_levels = s.variable_levels.items; element_levels = s.element_levels.items; words = s.nodes; counts = s.counts; fulls = s.fulls; due = s.due } };
+    ghost view = { λ s. record { variable_levels = s.variable_levels.items; element_levels = s.element_levels.items; words = s.nodes; counts = s.counts; fulls = s.fulls; due = s.due; scratch_room = lent_room s.scratch } };
 
-    ghost invariant = { λ s. IsStore (record { variable_levels = s.variable_levels.items; element_levels = s.element_levels.items; words = s.nodes; counts = s.counts; fulls = s.fulls; due = s.due }) };
+    ghost invariant = { λ s. IsStore (record { variable_levels = s.variable_levels.items; element_levels = s.element_levels.items; words = s.nodes; counts = s.counts; fulls = s.fulls; due = s.due; scratch_room = lent_room s.scratch }) };
 }
 
 /// The child that a node would be, if it would be one.
@@ -119,6 +119,7 @@ impl Grow for PlainStore {
     fn make(&mut self, var: u32, hi: Edge, lo: Edge) -> Result<Edge, Stop>
         requires { (k : Kind) × CanMake k (plain_view self.old) var hi lo }
         ensures grown { Grown (plain_view self.old) (plain_view self.new) }
+        ensures room { (plain_view self.new).room ≡ (plain_view self.old).room }
         ensures ok { (k : Kind) → CanMake k (plain_view self.old) var hi lo → IfOk result (λ e. Denotes k (plain_view self.new) e (node_values k (plain_view self.old) var hi lo)) }
         ensures made { (s : ℕ) → (plain_view self.new).made s ≡ true → ((plain_view self.old).made s ≡ true) ⊎ IsOkAnd result (λ e. e.index ≡ s) }
         ensures memory { IsErrOf result Stop.Memory → (plain_view self.old).may_want_memory ≡ true }
@@ -152,6 +153,7 @@ impl Grow for PlainStore {
     fn leaf(&mut self, value: i64) -> Result<Edge, Stop>
         requires { IsLeafValue value }
         ensures grown { Grown (plain_view self.old) (plain_view self.new) }
+        ensures room { (plain_view self.new).room ≡ (plain_view self.old).room }
         ensures ok { IfOk result (λ e. Denotes Add (plain_view self.new) e (constant value)) }
         ensures made { (s : ℕ) → (plain_view self.new).made s ≡ true → ((plain_view self.old).made s ≡ true) ⊎ IsOkAnd result (λ e. e.index ≡ s) }
         ensures memory { IsErrOf result Stop.Memory → (plain_view self.old).may_want_memory ≡ true }
@@ -178,6 +180,11 @@ impl Grow for PlainStore {
         } else {
             self.element_levels[(var - FIRST_ELEMENT) as usize]
         }
+    }
+
+    fn projection(&mut self, var: u32) -> Edge {
+        prove!((var as usize) < self.variable_levels.len());
+        Edge::new(FIRST_PROJECTION + var, false)
     }
 
     fn memo_get(&mut self, _key: &Key) -> Option<Edge> {

@@ -120,3 +120,13 @@ stored_calls k value v u w r kept first m second made ok memory full due = recor
     by_full (Ok e) more is = cc
     by_full (Err stop.Memory) more is = cc
     by_full (Err stop.Full) more is = more refl
+
+-- what an outcome says that is never out of range
+pub told : (P : Edge → Type 0) (r : Result Edge Stop) → IfOk (halts r) P → IfOk r P
+told P (Ok e) ok = ok
+told P (Err s) ok = tt
+
+pub told_full : (r : Result Edge Stop) → IsErrOf r stop.Full → IsErrOf (halts r) Full
+told_full (Ok e) is = cc
+told_full (Err stop.Memory) is = cc
+told_full (Err stop.Full) is = refl

@@ -20,7 +20,7 @@ pub enum Stop {
 
 /// A store of decision diagrams, as an operator sees it. Others may make nodes in it between two calls. A variable is named by its number, element e by 16,384 + e.
 pub trait Grow {
-    ghost use Rattle.std.specs.Prelude.{◌≡◌, ℕ, ◌<◌, IfOk, IfSome, IsErrOf, IsOkAnd, OnOk, ◌⊎◌, true, Some, []};
+    ghost use Rattle.std.specs.Prelude.{◌≡◌, ℕ, ◌<◌, ◌≤◌, IfOk, IfSome, IsErrOf, IsOkAnd, OnOk, ◌⊎◌, true, Some, []};
     ghost use Rattle.edge_bits.specs.declared.edges.Kind.{Kind};
     ghost use Rattle.edge_bits.specs.declared.edges.Kind.TheVariants.{Add, Bdd};
     ghost use Rattle.edge_bits.specs.Words.{IsLeafValue};
@@ -104,7 +104,7 @@ pub trait Grow {
     fn take_scratch(&mut self) -> Stack
         ensures kept { Kept (view self.old) (view self.new) }
         ensures empty { result.frames ≡ [] }
-        ensures room { levels_in result ≡ (view self.old).room };
+        ensures room { (view self.old).room ≤ levels_in result };
 
     /// Gives the scratch back.
     fn give_scratch(&mut self, stack: Stack)

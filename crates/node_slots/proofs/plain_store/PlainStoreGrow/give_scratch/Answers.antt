@@ -1,0 +1,6 @@
+use Rattle.node_slots.specs.contracts.plain_store.PlainStore.{the_view}
+use Rattle.node_slots.proofs.Making.{lent-store}
+use Rattle.node_slots.proofs.plain_store.PlainStoreGrow.give_scratch.Goals as goal
+
+pub invariant_of-self : goal.invariant_of-self
+invariant_of-self c = lent-store (the_view c.self.inside) c.self.invariant _
