@@ -1,25 +1,25 @@
 -- Cofactors by a variable, step by step.
-use Rattle.std.proofs.Common.{◌≡◌, ◌≢◌, ℕ, ◌+◌, ◌<◌, Bool, true, false, not, cond, ℤ, Option, Some, ◌⊎◌, inl, inr, refl, ap, sym, ◌∙◌, subst, arith}
+use Rattle.std.proofs.Common.{◌≡◌, ◌≢◌, ℕ, ◌<◌, Bool, true, false, not, cond, ℤ, Some, ◌⊎◌, inl, inr, refl, ap, sym, ◌∙◌, subst, arith}
 use Rattle.edge_bits.specs.declared.edges.Edge.{Edge}
 use Rattle.edge_bits.specs.declared.edges.Kind.TheVariants.{Bdd}
-use Rattle.edge_bits.proofs.AssignmentLemmas.{bit-set_other}
-use Rattle.function_laws.specs.Values.{cofactor, choice, projection, negation, IsFree}
+use Rattle.function_laws.specs.Values.{cofactor, choice, projection, IsFree}
 use Rattle.function_laws.proofs.ValueLemmas.{cofactor-free, cofactor-choice_other}
 use Rattle.function_laws.proofs.ComposeLemmas.{IsFree-cofactor_any}
 use Rattle.node_store.specs.Edges.{flip_if}
-use Rattle.function_laws.specs.Kinds.{Denoted, BddFunction}
+use Rattle.function_laws.specs.Kinds.{BddFunction}
 use Rattle.node_store.specs.KindLaws.{part-joined}
-use Rattle.node_store.specs.Views.{View, Denotes, Is, IsBelow, IsVariable, Grown, Permanent, Splits, CanMake, IsInner, IsLeaf, IsKey, bdd_at, node_values}
-use Rattle.node_store.specs.ViewLaws.{Grown-refl, Grown-trans, Denotes-flip, Is-grown, Is-from, IsBelow-inner, IsVariable-grown, Splits-grown, level-grown, top-grown, values_at-grown, values_at-is}
+use Rattle.node_store.specs.Views.{View, Denotes, Is, IsBelow, IsVariable, Grown, Splits, CanMake, IsInner, IsLeaf, IsKey, bdd_at, node_values}
+use Rattle.node_store.specs.ViewLaws.{Grown-trans, Denotes-flip, Is-grown, Is-from, IsBelow-inner, IsVariable-grown, Splits-grown, level-grown, top-grown, values_at-grown, values_at-is}
 use Rattle.node_store.specs.Numbers.{cofactor_number}
-use Rattle.node_store.specs.Memo.{CofactorHolds, literal_edge}
+use Rattle.node_store.specs.Memo.{CofactorHolds, literal}
 use Rattle.node_store.specs.Splits.{Branches}
 use Rattle.node_store.specs.Three.{IsFlipped, IsPartOrComplement}
 use Rattle.node_store.specs.ThreeLaws.{IsPartOrComplement-grown}
-use Rattle.node_store.specs.Work.{IsWork, Adds, Moves}
-use Rattle.node_store.specs.WorkLaws.{IsWork-grown, IsWork-edge, IsWork-due}
+use Rattle.node_store.specs.Work.{IsWork, Moves}
+use Rattle.node_store.specs.WorkLaws.{IsWork-edge, IsWork-due}
 use Rattle.node_store.specs.declared.binary.Branch.{Branch}
 use Rattle.node_store.specs.declared.operator.Task.{Task}
+use Rattle.node_store.proofs.Literals.{same_literal}
 use Rattle.node_store.proofs.ThreeParts.{IsFlipped-answer, IsFlipped-part, IsPartOrComplement-half}
 use Rattle.node_store.proofs.ThreeWork.{part_of_either}
 use Rattle.node_store.proofs.TwoParts.{Lacks-leaf}
@@ -109,32 +109,23 @@ pub regular_answer : (w : View) (f r e : Edge) (x : ℕ) (b : Bool) → r ≡ re
 regular_answer w f r e x b same d a = IsFlipped-answer Bdd f.complement w e (cofactor_at w f x b) (cofactor_at w r x b) (regular_cofactor w f r x b same d) a
 
 -- the key
-pub Denotes-literal : (w : View) → Permanent w → (v : ℕ) → IsVariable Bdd w v → (b : Bool) → Denotes Bdd w (literal_edge v b) (cond b (projection v) (negation (projection v)))
-Denotes-literal w p v vn b = by_bit b
+pub IsKey-literal : (w : View) (f l : Edge) (v : ℕ) (b : Bool) → Denotes Bdd w l (literal v b) → Is Bdd w f → IsKey w (record { op = cofactor_number; f = f; g = l; h = f })
+IsKey-literal w f l v b is d = record { least = omega arith; most = omega arith; f = (Bdd, d); g = (Bdd, Is-from Bdd is); h = (Bdd, d) }
+
+-- the literal from the projection
+pub literal_from : (w : View) (v : ℕ) (b c : Bool) (p e : Edge) → Denotes Bdd w p (projection v) → c ≡ not b → e ≡ flip_if c p → Denotes Bdd w e (literal v b)
+literal_from w v b c p e is flip same = rw (same, flip) (by_bit b)
   where
-    plain : Denotes Bdd w (literal_edge v true) (projection v)
-    plain = record { is = p.projections v vn; beyond = λ u h k c. bit-set_other k u v c (λ e. let n = vn.1 in omega (arith, e)); fits = tt }
+    by_bit : (b : Bool) → Denotes Bdd w (flip_if (not b) p) (literal v b)
+    by_bit true = is
+    by_bit false = Denotes-flip is
 
-    by_bit : (b : Bool) → Denotes Bdd w (literal_edge v b) (cond b (projection v) (negation (projection v)))
-    by_bit true = plain
-    by_bit false = Denotes-flip plain
-
-pub IsKey-literal : (w : View) → Permanent w → (f l : Edge) (v : ℕ) (b : Bool) → l ≡ literal_edge v b → Is Bdd w f → IsVariable Bdd w v → IsKey w (record { op = cofactor_number; f = f; g = l; h = f })
-IsKey-literal w p f l v b same d vn = rw same (record { least = omega arith; most = omega arith; f = (Bdd, d); g = (Bdd, Is-from Bdd (Denotes-literal w p v vn b)); h = (Bdd, d) })
-
-same_bit : (b c : Bool) → not b ≡ not c → c ≡ b
-same_bit true true e = refl
-same_bit true false e = e
-same_bit false true e = e
-same_bit false false e = refl
-
-pub Cofactor-hit : (w : View) (f l : Edge) (v : ℕ) (b : Bool) (e : Edge) → l ≡ literal_edge v b → CofactorHolds w (record { op = cofactor_number; f = f; g = l; h = f }) e → Denotes Bdd w e (cofactor_at w f v b)
+-- what stands under the key
+pub Cofactor-hit : (w : View) (f l : Edge) (v : ℕ) (b : Bool) (e : Edge) → Denotes Bdd w l (literal v b) → CofactorHolds w (record { op = cofactor_number; f = f; g = l; h = f }) e → Denotes Bdd w e (cofactor_at w f v b)
 Cofactor-hit w f l v b e is h =
-    let both : literal_edge v b ≡ literal_edge h.variable h.bit = sym is ∙ h.literal in
-    let index : 5 + v ≡ 5 + h.variable = ap (λ x. x.index) both in
-    let variable : h.variable ≡ v = omega arith in
-    let bit : h.bit ≡ b = same_bit b h.bit (ap (λ x. x.complement) both) in
-    subst (λ c. Denotes Bdd w e (cofactor_at w f v c)) bit (subst (λ x. Denotes Bdd w e (cofactor_at w f x h.bit)) variable h.answer)
+    let both : literal h.variable h.bit ≡ literal v b = sym (values_at-is Bdd h.literal) ∙ values_at-is Bdd is in
+    let named = same_literal h.variable v h.bit b both in
+    subst (λ c. Denotes Bdd w e (cofactor_at w f v c)) named.1 (subst (λ x. Denotes Bdd w e (cofactor_at w f x h.bit)) named.0 h.answer)
 
 -- the two parts
 below_cofactor : (w : View) (x : ℕ) (f : ℕ → Bool) (v : ℕ) (b : Bool) → IsBelow Bdd w x f → IsBelow Bdd w x (cofactor f v b)
@@ -224,14 +215,3 @@ module _ (f : Edge) (v : ℕ) (b : Bool) (l : Edge) where
   pub Cofactor-refused : (u w : View) (t : Task) → CofactorDue f v b l u t → Grown u w → w.due ≡ Some (BddFunction (cofactor_at u t.f v b)) → IsWork w (value_of_cofactor f v b w) w.due
   Cofactor-refused u w t d m is = part_of_either Bdd w (cofactor_at w f v b) (cofactor_at u t.f v b) w.due
       (λ r p. IsWork-due Bdd w (λ F. F ≡ BddFunction r) r (cofactor_at u t.f v b) refl p is) (later u w t d m)
-
--- from the view at the end to that at the start
-module _ (f : Edge) (v : ℕ) (b : Bool) where
-  pub cofactor_back : (u w : View) → Grown u w → HasCofactor u f v → (F : Denoted) → value_of_cofactor f v b w F → value_of_cofactor f v b u F
-  cofactor_back u w m d F is = is ∙ ap BddFunction (cofactor_at-grown v b m d.edge)
-
-  pub Cofactor-due_start : (u w : View) → Grown u w → HasCofactor u f v → (o : Option Denoted) → IsWork w (value_of_cofactor f v b w) o → IsWork w (value_of_cofactor f v b u) o
-  Cofactor-due_start u w m d o i = IsWork-grown (Grown-refl w) (value_of_cofactor f v b w) (value_of_cofactor f v b u) (cofactor_back u w m d) o i
-
-  pub Cofactor-adds_start : (u w : View) → HasCofactor u f v → Moves (λ w. HasCofactor w f v) (value_of_cofactor f v b) u w → Adds (value_of_cofactor f v b u) u w
-  Cofactor-adds_start u w d m s here = elim (m.work d s here) [ inl old ↦ inl old | inr i ↦ inr (Cofactor-due_start u w m.grown d (w.content s) i) ]

@@ -1,5 +1,7 @@
 -- Whether a function implies another, step by step.
-use Rattle.std.proofs.Common.{◌≡◌, ℕ, ◌-◌, Bool, true, false, not, cond, inl, inr, refl, ap, sym, ◌∙◌, arith}
+use Rattle.std.proofs.Common.{◌≡◌, ℕ, ◌-◌, ◌<◌, Bool, true, false, not, cond, inl, inr, refl, ap, sym, ◌∙◌, arith}
+use Rattle.std.proofs.lemmas.Bool.{both_ways}
+use Rattle.edge_bits.specs.Permanent.{truth_edge}
 use Rattle.edge_bits.specs.declared.edges.Edge.{Edge}
 use Rattle.edge_bits.specs.declared.edges.Kind.TheVariants.{Bdd}
 use Rattle.edge_bits.specs.Assignments.{bit, set_bit}
@@ -8,14 +10,12 @@ use Rattle.node_store.specs.KindLaws.{part-joined}
 use Rattle.node_store.specs.Memo.{Implies, Tells}
 use Rattle.node_store.specs.Splits.{Leads}
 use Rattle.node_store.specs.Two.{TwoSplits, two_depth}
-use Rattle.node_store.specs.Views.{View, AreTwo, Grown, IsTop, NotBothLeaves, PartsAt, Permanent, bdd_at, truth_edge}
-use Rattle.node_store.specs.ViewLaws.{Grown-trans, values_at-grown}
-use Rattle.node_store.specs.TwoLaws.{AreTwo-grown}
-use Rattle.node_store.specs.declared.binary.Branch.{Branch}
+use Rattle.node_store.specs.Operands.{HalvesOfTwo}
+use Rattle.node_store.specs.Views.{View, NotBothLeaves, Permanent, bdd_at}
 use Rattle.node_store.specs.declared.operator.Task.{Task}
+use Rattle.node_store.specs.declared.parts.Halves.{Halves}
 use Rattle.node_store.proofs.ThreeParts.{bdd_leaf_index}
-use Rattle.node_store.proofs.TwoParts.{IsTop-grown, PartsAt-grown}
-use Rattle.ite_core.specs.Implications.{ImplicationDue, ImplicationAnswers, IsCompared}
+use Rattle.ite_core.specs.Implications.{ImplicationDue, ImplicationAnswers}
 use Rattle.ite_core.proofs.Terminals.{truth_at}
 
 -- terminal cases
@@ -25,17 +25,13 @@ tells_yes f g h = record { yes = true; is = refl; says = (λ _. h, λ _. refl) }
 pub tells_no : (f g : ℕ → Bool) → (Implies f g → ⊥) → Tells f g (truth_edge false)
 tells_no f g h = record { yes = false; is = refl; says = (λ bad. let no : false ≡ true = bad in cc, λ is. absurd (h is)) }
 
-not_true : (b : Bool) → b ≡ false → b ≡ true → ⊥
-not_true true p q = cc
-not_true false p q = cc
-
 pub equal_tell : (w : View) (f g : Edge) → f ≡ g → Tells (bdd_at w f) (bdd_at w g) (truth_edge true)
 equal_tell w f g same = tells_yes (bdd_at w f) (bdd_at w g) (λ k holds. rw (sym same) holds)
 
 pub false_tells : (w : View) → Permanent w → (f g : Edge) → f.index ≡ 0 → f.complement ≡ true → Tells (bdd_at w f) (bdd_at w g) (truth_edge true)
 false_tells w p f g zero flip =
     let is : bdd_at w f ≡ constant false = truth_at w p f zero ∙ ap (λ c. constant (not c)) flip in
-    tells_yes (bdd_at w f) (bdd_at w g) (λ k holds. absurd (not_true (bdd_at w f k) (ap (λ (x : ℕ → Bool). x k) is) holds))
+    tells_yes (bdd_at w f) (bdd_at w g) (λ k holds. absurd (both_ways (bdd_at w f k) (ap (λ (x : ℕ → Bool). x k) is) holds))
 
 -- the first is true, so that the answer is the second
 pub constant_tells : (w : View) → Permanent w → (f g : Edge) → f.index ≡ 0 → f.complement ≡ false → g.index ≡ 0 → Tells (bdd_at w f) (bdd_at w g) (truth_edge (not g.complement))
@@ -45,7 +41,7 @@ constant_tells w p f g fz plain gz =
   where
     by_value : (b : Bool) → Tells (constant true) (constant b) (truth_edge b)
     by_value true = tells_yes (constant true) (constant true) (λ k holds. refl)
-    by_value false = tells_no (constant true) (constant false) (λ h. not_true false refl (h 0 refl))
+    by_value false = tells_no (constant true) (constant false) (λ h. both_ways false refl (h 0 refl))
 
 pub second_tells : (w : View) → Permanent w → (f g : Edge) → g.index ≡ 0 → g.complement ≡ false → Tells (bdd_at w f) (bdd_at w g) (truth_edge true)
 second_tells w p f g zero plain =
@@ -80,7 +76,7 @@ both_tell f g x f1 f0 g1 g0 p q r s f_is g_is a b ta tb = rw (f_is, g_is) (by_an
       is = tb.is;
       says = (λ holds. to_choice x f1 f0 g1 g0 (says.0 refl) (tb.says.0 holds), λ h. tb.says.1 (from_choice x false f1 f0 g1 g0 p q r s h));
     })
-    by_answer false is says = rw is (tells_no (choice x f1 f0) (choice x g1 g0) (λ h. let no : false ≡ true = says.1 (from_choice x true f1 f0 g1 g0 p q r s h) in not_true false refl no))
+    by_answer false is says = rw is (tells_no (choice x f1 f0) (choice x g1 g0) (λ h. let no : false ≡ true = says.1 (from_choice x true f1 f0 g1 g0 p q r s h) in both_ways false refl no))
 
 pub Implication-joined : (w : View) (t hi lo : Task) (x : ℕ) (a b : Edge) → TwoSplits Bdd w t x hi lo → ImplicationAnswers w hi a → ImplicationAnswers w lo b → ImplicationAnswers w t (cond a.complement a b)
 Implication-joined w t hi lo x a b s ta tb =
@@ -94,10 +90,10 @@ Implication-settled w t hi lo x a flip s ta = rw s.f.is (rw s.g.is (by_answer ta
   where
     by_answer : (yes : Bool) → a ≡ truth_edge yes → (yes ≡ true → Implies (bdd_at w hi.f) (bdd_at w hi.g)) × (Implies (bdd_at w hi.f) (bdd_at w hi.g) → yes ≡ true)
         → Tells (choice x (bdd_at w hi.f) (bdd_at w lo.f)) (choice x (bdd_at w hi.g) (bdd_at w lo.g)) a
-    by_answer true is says = let no : false ≡ true = sym (ap (λ e. e.complement) is) ∙ flip in absurd (not_true false refl no)
+    by_answer true is says = let no : false ≡ true = sym (ap (λ e. e.complement) is) ∙ flip in absurd (both_ways false refl no)
     by_answer false is says = rw is (tells_no (choice x (bdd_at w hi.f) (bdd_at w lo.f)) (choice x (bdd_at w hi.g) (bdd_at w lo.g)) (λ h.
         let no : false ≡ true = says.1 (from_choice x true (bdd_at w hi.f) (bdd_at w lo.f) (bdd_at w hi.g) (bdd_at w lo.g)
-        (s.f.hi_below x s.in_range (omega arith)) (s.f.lo_below x s.in_range (omega arith)) (s.g.hi_below x s.in_range (omega arith)) (s.g.lo_below x s.in_range (omega arith)) h) in not_true false refl no))
+        (s.f.hi_below x s.in_range (omega arith)) (s.f.lo_below x s.in_range (omega arith)) (s.g.hi_below x s.in_range (omega arith)) (s.g.lo_below x s.in_range (omega arith)) h) in both_ways false refl no))
 
 -- what the constant says
 pub told : (f g : ℕ → Bool) (e : Edge) → Tells f g e → (not e.complement ≡ true → Implies f g) × (Implies f g → not e.complement ≡ true)
@@ -107,22 +103,19 @@ told f g e t = by_answer t.yes t.is t.says
     by_answer true is says = rw is says
     by_answer false is says = rw is says
 
--- the parts at the top variable, from view to view
-pub Implication-compared : (w1 w2 w3 : View) (t : Task) (b : Branch) (f1 f0 g1 g0 : Edge) → AreTwo Bdd w1 t.f t.g → b.task ≡ t → IsTop Bdd w1 t.f t.g b.var
-    → Grown w1 w2 → PartsAt Bdd w2 t.f (bdd_at w1 t.f) b.var f1 f0 → Grown w2 w3 → PartsAt Bdd w3 t.g (bdd_at w2 t.g) b.var g1 g0
-    → b.hi.f ≡ f1 → b.hi.g ≡ g1 → b.lo.f ≡ f0 → b.lo.g ≡ g0 → IsCompared w3 t b
-Implication-compared w1 w2 w3 t b f1 f0 g1 g0 two same top1 m2 pf2 m3 pg2 ef1 eg1 ef0 eg0 =
-    let m = Grown-trans m2 m3 in
-    let top = IsTop-grown Bdd m two top1 in
-    let two2 = AreTwo-grown Bdd m2 two in
-    let pf : PartsAt Bdd w3 t.f (bdd_at w3 t.f) b.var b.hi.f b.lo.f = rw (ef1, ef0, values_at-grown Bdd m two.first) (PartsAt-grown Bdd m3 pf2) in
-    let pg : PartsAt Bdd w3 t.g (bdd_at w3 t.g) b.var b.hi.g b.lo.g = rw (eg1, eg0, values_at-grown Bdd m3 two2.second) pg2 in
-    let touches = top.touches in let af = top.above_f in let ag = top.above_g in let within = top.within in
-    let hf = pf.hi_top in let lf = pf.lo_top in let hg = pg.hi_top in let lg = pg.lo_top in
-    let here : two_depth Bdd w3 t ≡ w3.vars - w3.level b.var = elim touches [ inl h ↦ omega arith | inr h ↦ omega arith ] in
+-- the parts at the top variable lie lower
+pub record IsCompared (w : View) (t : Task) (h : Halves) : Type 0 where
+  pub splits : TwoSplits Bdd w t h.top.var h.hi h.lo
+  pub hi_less : two_depth Bdd w h.hi < two_depth Bdd w t
+  pub lo_less : two_depth Bdd w h.lo < two_depth Bdd w t
+
+pub compared : (w : View) (t : Task) (h : Halves) → HalvesOfTwo Bdd w t.f t.g h → IsCompared w t h
+compared w t h halves =
+    let touches = halves.top.touches in let af = halves.top.above_f in let ag = halves.top.above_g in let within = halves.top.within in
+    let hf = halves.f.hi_top in let lf = halves.f.lo_top in let hg = halves.g.hi_top in let lg = halves.g.lo_top in
+    let here : two_depth Bdd w t ≡ w.vars - w.level h.top.var = elim touches [ inl e ↦ omega arith | inr e ↦ omega arith ] in
     record {
-      task = same;
-      splits = record { in_range = top.in_range; f = pf.splits; g = pg.splits };
+      splits = record { in_range = halves.top.in_range; f = halves.f.splits; g = halves.g.splits };
       hi_less = omega arith;
       lo_less = omega arith;
     }

@@ -1,3 +1,4 @@
+pub mod Outcomes
 pub mod Terminals
 pub mod Complements
 pub mod TripleLaws

@@ -1,11 +1,12 @@
 -- The terminal cases of conjunction.
 use Rattle.std.proofs.Common.{◌≡◌, ℕ, ℤ, Bool, true, false, not, ◌&&◌, Some, refl, ap, sym, ◌∙◌, subst}
+use Rattle.std.proofs.Math.Bool.{and-false, and-true}
 use Rattle.edge_bits.specs.declared.edges.Edge.{Edge}
 use Rattle.edge_bits.specs.declared.edges.Kind.TheVariants.{Bdd}
 use Rattle.function_laws.specs.Values.{constant, conjunction}
 use Rattle.function_laws.proofs.ValueLemmas.{everywhere}
 use Rattle.function_laws.specs.Kinds.{BddFunction, place, flipped, values_of}
-use Rattle.node_store.specs.Views.{View, AreTwo, Denotes, Permanent, bdd_at, NotBothLeaves, IsLeafOf, logic_one, logic_zero}
+use Rattle.node_store.specs.Views.{View, AreTwo, Denotes, IsLeaf, IsLeafOf, NotBothLeaves, Permanent, bdd_at, logic_one, logic_zero}
 
 -- slot 0
 pub truth_at : (w : View) → Permanent w → (e : Edge) → e.index ≡ 0 → bdd_at w e ≡ constant (not e.complement)
@@ -18,18 +19,6 @@ truth_at w p e zero = ap (λ s. values_of Bdd (flipped e.complement (w.content s
 same_and : (b : Bool) → b ≡ (b && b)
 same_and true = refl
 same_and false = refl
-
-and_false : (b : Bool) → false ≡ (b && false)
-and_false true = refl
-and_false false = refl
-
-and_true : (b : Bool) → b ≡ (b && true)
-and_true true = refl
-and_true false = refl
-
-and_not : (b : Bool) → false ≡ (b && not b)
-and_not true = refl
-and_not false = refl
 
 Answer : View → Edge → Edge → Edge → Type 0
 Answer w f g e = Denotes Bdd w e (place (λ a b. a && b) (bdd_at w f) (bdd_at w g))
@@ -52,17 +41,26 @@ pub second_true : (w : View) → Permanent w → (f g : Edge) → g.index ≡ 0 
 second_true w p f g zero plain d =
     let is : bdd_at w g ≡ constant true = truth_at w p g zero ∙ ap (λ c. constant (not c)) plain in
     subst (λ x. Denotes Bdd w f (conjunction (bdd_at w f) x)) (sym is)
-    (subst (λ x. Denotes Bdd w f x) (everywhere (bdd_at w f) (conjunction (bdd_at w f) (constant true)) (λ k. and_true (bdd_at w f k))) d.first)
+    (subst (λ x. Denotes Bdd w f x) (everywhere (bdd_at w f) (conjunction (bdd_at w f) (constant true)) (λ k. sym (and-true (bdd_at w f k)))) d.first)
 
 pub second_false : (w : View) → Permanent w → (f g : Edge) → g.index ≡ 0 → g.complement ≡ true → AreTwo Bdd w f g → Denotes Bdd w g (place (λ a b. a && b) (bdd_at w f) (bdd_at w g))
 second_false w p f g zero flip d =
     let is : bdd_at w g ≡ constant false = truth_at w p g zero ∙ ap (λ c. constant (not c)) flip in
     subst (λ x. Denotes Bdd w g (conjunction (bdd_at w f) x)) (sym is)
-    (subst (λ x. Denotes Bdd w g x) (is ∙ everywhere (constant false) (conjunction (bdd_at w f) (constant false)) (λ k. and_false (bdd_at w f k))) d.second)
+    (subst (λ x. Denotes Bdd w g x) (is ∙ everywhere (constant false) (conjunction (bdd_at w f) (constant false)) (λ k. sym (and-false (bdd_at w f k)))) d.second)
+
+leaf_index : (f : Edge) (p : ℕ → Bool) (x : ℤ) → IsLeafOf Bdd f p x → f.index ≡ 0
+leaf_index _ _ _ logic_one = refl
+leaf_index _ _ _ logic_zero = refl
 
 pub not_leaves : (w : View) (f g : Edge) → (f.index ≡ 0 → ⊥) → NotBothLeaves Bdd w f g
-not_leaves w f g ne x y i j = ne (index_zero f (bdd_at w f) x i.leaf)
-  where
-    index_zero : (f : Edge) (F : ℕ → Bool) (x : ℤ) → IsLeafOf Bdd f F x → f.index ≡ 0
-    index_zero _ _ _ logic_one = refl
-    index_zero _ _ _ logic_zero = refl
+not_leaves w f g ne x y i j = ne (leaf_index f (bdd_at w f) x i.leaf)
+
+-- of two constants the first where it is false, else the second
+pub first_leaf_false : (w : View) → Permanent w → (f g : Edge) (x : ℤ) → IsLeaf Bdd w f (bdd_at w f) x → f.complement ≡ true → AreTwo Bdd w f g
+    → Denotes Bdd w f (place (λ a b. a && b) (bdd_at w f) (bdd_at w g))
+first_leaf_false w p f g x i flip d = first_false w p f g (leaf_index f (bdd_at w f) x i.leaf) flip d
+
+pub first_leaf_true : (w : View) → Permanent w → (f g : Edge) (x : ℤ) → IsLeaf Bdd w f (bdd_at w f) x → f.complement ≡ false → AreTwo Bdd w f g
+    → Denotes Bdd w g (place (λ a b. a && b) (bdd_at w f) (bdd_at w g))
+first_leaf_true w p f g x i plain d = first_true w p f g (leaf_index f (bdd_at w f) x i.leaf) plain d

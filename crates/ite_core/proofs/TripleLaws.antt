@@ -2,6 +2,7 @@
 use Rattle.std.proofs.Common.{◌≡◌, ℕ, ◌-◌, ◌≤◌, Bool, true, false, not, ◌&&◌, eqb, cond, Option, Some, ◌⊎◌, inl, inr, refl, ap, sym, ◌∙◌, subst, arith}
 use Rattle.std.specs.Prelude.{min}
 use Rattle.std.proofs.Math.Bool.{beq}
+use Rattle.std.proofs.lemmas.Bool.{and_parts}
 use Rattle.edge_bits.specs.declared.edges.Edge.{Edge}
 use Rattle.edge_bits.specs.declared.edges.Kind.TheVariants.{Bdd}
 use Rattle.function_laws.specs.Values.{constant, negation, if_then_else}
@@ -113,14 +114,9 @@ beq_true true false t = cc
 beq_true false true t = cc
 beq_true false false t = refl
 
-both_true : (b c : Bool) → true ≡ (b && c) → (b ≡ true) × (c ≡ true)
-both_true true true t = (refl, refl)
-both_true true false t = cc
-both_true false c t = cc
-
 pub equal_edges : (g h : Edge) → true ≡ (eqb g.index h.index && beq g.complement h.complement) → g ≡ h
 equal_edges g h t =
-    let both = both_true (eqb g.index h.index) (beq g.complement h.complement) t in
+    let both = and_parts (eqb g.index h.index) (beq g.complement h.complement) (sym t) in
     let index : g.index ≡ h.index = grind (arith, both.0) in
     let complement = beq_true g.complement h.complement (sym both.1) in
     let pair : record { index = g.index; complement = g.complement } ≡ h = rw (index, complement) refl in pair

@@ -4,8 +4,8 @@ use Rattle.edge_bits.specs.declared.edges.Edge.{Edge}
 use Rattle.edge_bits.specs.declared.edges.Kind.TheVariants.{Bdd}
 use Rattle.function_laws.specs.Values.{cofactor}
 use Rattle.function_laws.specs.Kinds.{Denoted, BddFunction}
-use Rattle.node_store.specs.Views.{View, Is, Grown}
-use Rattle.node_store.specs.ViewLaws.{Permanent-grown, Denotes-grown, Is-grown, values_at-grown, Splits-grown, top-grown, IsVariable-grown}
+use Rattle.node_store.specs.Views.{View, Denotes, Is, Grown}
+use Rattle.node_store.specs.ViewLaws.{Permanent-grown, Denotes-grown, Denotes-lasts, Is-grown, values_at-grown, Splits-grown, top-grown, IsVariable-grown}
 use Rattle.node_store.specs.ThreeLaws.{IsPartOrComplement-grown}
 use Rattle.node_store.specs.declared.operator.Task.{Task}
 use Rattle.ite_core.specs.Cofactors.{cofactor_at, HasCofactor, value_of_cofactor, CofactorDue, CofactorAnswers, CofactorSplits, one_depth}
@@ -18,7 +18,7 @@ HasCofactor-grown {v} {w} {f} {x} m d = record { edge = Is-grown Bdd m d.edge; i
 
 pub CofactorDue-stays : (f : Edge) (x : ℕ) (b : Bool) (l : Edge) (v w : View) (t : Task) → Grown v w → CofactorDue f x b l v t → CofactorDue f x b l w t
 CofactorDue-stays f x b l v w t m d = record {
-  literal = d.literal;
+  literal = Denotes-grown Bdd m d.literal;
   permanent = Permanent-grown m d.permanent;
   root = HasCofactor-grown m d.root;
   edge = Is-grown Bdd m d.edge;
@@ -40,3 +40,11 @@ one_depth-stays v w t m d = rw (m.vars, top-grown Bdd m d) refl
 
 pub value_of_cofactor-stays : (f : Edge) (x : ℕ) (b : Bool) (v w : View) (F : Denoted) → Grown v w → HasCofactor v f x → value_of_cofactor f x b v F → value_of_cofactor f x b w F
 value_of_cofactor-stays f x b v w F m d is = is ∙ ap BddFunction (sym (cofactor_at-grown x b m d.edge))
+
+-- a call's answer, and what is told of it, by the operands at its start
+pub cofactor_at-lasts : (f : Edge) (x : ℕ) (b : Bool) (u v w y : View) (e : Edge) → Grown u v → Grown w y → HasCofactor u f x
+    → Denotes Bdd w e (cofactor_at v f x b) → Denotes Bdd y e (cofactor_at u f x b)
+cofactor_at-lasts f x b u v w y e before after d a = Denotes-lasts Bdd after (cofactor_at-grown x b before d.edge) a
+
+pub value_of_cofactor-back : (f : Edge) (x : ℕ) (b : Bool) (v w : View) (F : Denoted) → Grown v w → HasCofactor v f x → value_of_cofactor f x b w F → value_of_cofactor f x b v F
+value_of_cofactor-back f x b v w F m d is = is ∙ ap BddFunction (cofactor_at-grown x b m d.edge)

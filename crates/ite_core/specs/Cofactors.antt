@@ -5,7 +5,7 @@ use Rattle.edge_bits.specs.declared.edges.Kind.TheVariants.{Bdd}
 use Rattle.function_laws.specs.Values.{cofactor}
 use Rattle.function_laws.specs.Kinds.{Denoted, BddFunction}
 use Rattle.node_store.specs.Views.{View, Denotes, Is, IsVariable, Permanent, Splits, bdd_at}
-use Rattle.node_store.specs.Memo.{literal_edge}
+use Rattle.node_store.specs.Memo.{literal}
 use Rattle.node_store.specs.Three.{IsPartOrComplement}
 use Rattle.node_store.specs.declared.operator.Task.{Task}
 use Rattle.ite_core.specs.declared.cofactors.Found.{Found}
@@ -25,7 +25,7 @@ value_of_cofactor f v b w F = F ≡ BddFunction (cofactor_at w f v b)
 
 -- a task of the call with this function, variable and bit, and with their literal
 pub record CofactorDue (f : Edge) (v : ℕ) (b : Bool) (l : Edge) (w : View) (t : Task) : Type 0 where
-  pub literal : l ≡ literal_edge v b
+  pub literal : Denotes Bdd w l (literal v b)
   pub permanent : Permanent w
   pub root : HasCofactor w f v
   pub edge : Is Bdd w t.f

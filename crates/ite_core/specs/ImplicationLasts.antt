@@ -13,10 +13,10 @@ use Rattle.node_store.specs.declared.operator.Task.{Task}
 use Rattle.ite_core.specs.Implications.{Untouched, ImplicationDue, ImplicationAnswers, ImplicationWaits}
 
 pub Untouched-none : (v : State) → Untouched v v
-Untouched-none v = record { kept = Kept-refl v.view; known = refl }
+Untouched-none v = record { kept = Kept-refl v.view; known = refl; marks = refl }
 
 pub Untouched-both : (u v w : State) → Untouched u v → Untouched v w → Untouched u w
-Untouched-both u v w p q = record { kept = Kept-trans p.kept q.kept; known = q.known ∙ p.known }
+Untouched-both u v w p q = record { kept = Kept-trans p.kept q.kept; known = q.known ∙ p.known; marks = q.marks ∙ p.marks }
 
 pub ImplicationDue-stays : (v w : View) (t : Task) → Grown v w → ImplicationDue v t → ImplicationDue w t
 ImplicationDue-stays v w t m d = record { permanent = Permanent-grown m d.permanent; two = AreTwo-grown Bdd m d.two }

@@ -1,20 +1,21 @@
 -- Tasks of two functions of which it is asked whether the first implies the second.
-use Rattle.std.specs.Prelude.{◌≡◌, ◌<◌, Bool, Option, Some, None}
+use Rattle.std.specs.Prelude.{◌≡◌, Bool, Option, Some, None}
+use Rattle.edge_bits.specs.Permanent.{truth_edge}
 use Rattle.edge_bits.specs.declared.edges.Edge.{Edge}
 use Rattle.edge_bits.specs.declared.edges.Kind.TheVariants.{Bdd}
-use Rattle.node_store.specs.Views.{View, AreTwo, Kept, NotBothLeaves, Permanent, bdd_at, truth_edge}
+use Rattle.node_store.specs.Views.{View, AreTwo, Kept, NotBothLeaves, Permanent, bdd_at}
 use Rattle.node_store.specs.States.{State}
 use Rattle.node_store.specs.Memo.{Tells}
 use Rattle.node_store.specs.Splits.{Waiting}
 use Rattle.node_store.specs.Two.{TwoSplits, two_depth}
-use Rattle.node_store.specs.declared.binary.Branch.{Branch}
 use Rattle.node_store.specs.declared.operator.Frame.{Frame}
 use Rattle.node_store.specs.declared.operator.Task.{Task}
 
--- nothing is made, and the call's own answers stay
+-- nothing is made, and the call's own answers and marks stay
 pub record Untouched (old new : State) : Type 0 where
   pub kept : Kept old.view new.view
   pub known : new.answers ≡ old.answers
+  pub marks : new.marks ≡ old.marks
 
 pub record ImplicationDue (w : View) (t : Task) : Type 0 where
   pub permanent : Permanent w
@@ -32,15 +33,3 @@ pub record ImplicationWaits (w : View) (root : Task) (frame : Frame) (child : Ta
 abbrev pub ImplicationTerminal : View → Edge → Edge → Option Bool → Type 0
 ImplicationTerminal w f g (Some b) = Tells (bdd_at w f) (bdd_at w g) (truth_edge b)
 ImplicationTerminal w f g None = NotBothLeaves Bdd w f g
-
--- what is asked for the parts of a task
-pub record CanCompare (w : View) (t : Task) : Type 0 where
-  pub two : AreTwo Bdd w t.f t.g
-  pub inner : NotBothLeaves Bdd w t.f t.g
-
--- the parts of the task at its top variable
-pub record IsCompared (w : View) (t : Task) (b : Branch) : Type 0 where
-  pub task : b.task ≡ t
-  pub splits : TwoSplits Bdd w t b.var b.hi b.lo
-  pub hi_less : two_depth Bdd w b.hi < two_depth Bdd w t
-  pub lo_less : two_depth Bdd w b.lo < two_depth Bdd w t

@@ -1,13 +1,17 @@
 //! Cofactors by a variable.
 
-ghost use Rattle.std.specs.Prelude.{◌≡◌};
+ghost use Rattle.std.specs.Prelude.{◌≡◌, ◌≤◌};
+ghost use Rattle.edge_bits.specs.declared.edges.Kind.TheVariants.{Bdd};
 ghost use Rattle.node_store.specs.Numbers.{cofactor_number};
-ghost use Rattle.node_store.specs.Views.{Kept};
-ghost use Rattle.ite_core.specs.Cofactors.{HasCofactor, IsFound};
+ghost use Rattle.node_store.specs.Operations.{Runs};
+ghost use Rattle.node_store.specs.Views.{Is, IsVariable, Kept, Permanent};
+ghost use Rattle.ite_core.specs.Cofactors.{HasCofactor, IsFound, cofactor_at, value_of_cofactor};
 
-use edge_bits::Edge;
-use node_store::binary::{Apply, Branch, Expansion, flip_if};
+use edge_bits::{Edge, Kind};
+use node_store::binary::{Apply, Binary, Branch, Expansion, flip_if};
+use node_store::evaluate::evaluate;
 use node_store::operator::{Halt, Task};
+use node_store::scratch::Operation;
 use node_store::{Grow, Key, Opened, Stack, numbers};
 
 /// The cofactor of a function, as the evaluator runs it.
@@ -98,6 +102,72 @@ impl<G: Grow> Apply<G> for Instantiation {
     ghost extra_stays = { λ _ _ _ _. refl };
 }
 
+/// A function with a variable set to this bit, on this stack.
+pub(crate) fn instantiate<G: Grow>(
+    store: &mut G,
+    stack: &mut Stack,
+    f: Edge,
+    var: u32,
+    bit: bool,
+) -> Result<Edge, Halt>
+    requires operand { Is Bdd (G.view store.old) f }
+    requires in_range { IsVariable Bdd (G.view store.old) var }
+    requires permanent { Permanent (G.view store.old) }
+    requires room { (G.view store.old).vars ≤ stack.old.free }
+    ensures runs { Runs Bdd (cofactor_at (G.view store.old) f var bit) (value_of_cofactor f var bit (G.view store.old)) (G.view store.old) (G.view store.new) result }
+    ensures stack { stack.new ≡ stack.old }
+{
+    let literal = flip_if(store.projection(var), !bit);
+    let op = Instantiation {
+        f,
+        var,
+        bit,
+        literal,
+    };
+    evaluate(store, stack, &Binary(op), Task::two(f, f))
+}
+
+/// A function, a variable and the bit to which it is set.
+#[derive(Drop)]
+pub(crate) struct Cofactor {
+    pub f: Edge,
+    pub var: u32,
+    pub bit: bool,
+}
+
+impl<G: Grow> Operation<G> for Cofactor {
+    ghost use Rattle.edge_bits.specs.declared.edges.Kind.TheVariants.{Bdd};
+    ghost use Rattle.node_store.specs.Views.{Denotes};
+    ghost use Rattle.ite_core.specs.Cofactors.{HasCofactor, cofactor_at, value_of_cofactor};
+    ghost use Rattle.ite_core.specs.CofactorLasts.{HasCofactor-grown, cofactor_at-lasts, value_of_cofactor-back};
+
+    ghost kind = { Bdd };
+
+    ghost asks = { λ o w. HasCofactor w o.f o.var };
+
+    ghost answers = { λ o v w e. Denotes Bdd w e (cofactor_at v o.f o.var o.bit) };
+
+    ghost overflows = { λ _ _. ⊥ };
+
+    ghost work = { λ o. value_of_cofactor o.f o.var o.bit };
+
+    fn answer_kind(&self) -> Kind {
+        Kind::Bdd
+    }
+
+    fn run(self, store: &mut G, stack: &mut Stack) -> Result<Edge, Halt> {
+        instantiate(store, stack, self.f, self.var, self.bit)
+    }
+
+    ghost asks_stay = { λ o v w m. HasCofactor-grown m };
+
+    ghost answers_last = { λ o. cofactor_at-lasts o.f o.var o.bit };
+
+    ghost overflows_back = { λ o v w m d bad. bad };
+
+    ghost work_back = { λ o. value_of_cofactor-back o.f o.var o.bit };
+}
+
 /// What the top node of a function tells of its cofactor: the answer, or the node's variable and children where that variable stands above the one that is set.
 #[derive(Clone, Copy, PartialEq, Eq, Drop)]
 pub(crate) enum Found {
@@ -105,6 +175,7 @@ pub(crate) enum Found {
     Parts(u32, Edge, Edge),
 }
 
+/// Opens the function.
 fn find<G: Grow>(store: &mut G, f: Edge, var: u32, bit: bool) -> Found
     requires { HasCofactor (G.view store.old) f var }
     ensures kept { Kept (G.view store.old) (G.view store.new) }
@@ -124,6 +195,7 @@ fn find<G: Grow>(store: &mut G, f: Edge, var: u32, bit: bool) -> Found
     Found::Parts(top, hi, lo)
 }
 
+/// The key of a function and a literal.
 fn key_of(f: Edge, literal: Edge) -> Key
     ensures { result ≡ record { op = cofactor_number; f = f; g = literal; h = f } }
 {

@@ -3,12 +3,11 @@
 ghost use Rattle.std.specs.Prelude.{◌≡◌, cond};
 ghost use Rattle.node_store.specs.Numbers.{leq_number};
 ghost use Rattle.node_store.specs.Views.{View, Kept, Permanent};
-ghost use Rattle.ite_core.specs.Implications.{CanCompare, ImplicationAnswers, ImplicationDue, ImplicationTerminal, IsCompared};
+ghost use Rattle.ite_core.specs.Implications.{ImplicationAnswers, ImplicationDue, ImplicationTerminal};
 
-use edge_bits::Edge;
-use node_store::binary::Branch;
-use node_store::operator::{Frame, Halt, Next, Operator, Task, Wait};
-use node_store::parts::{parts, top_of_two};
+use edge_bits::{Edge, TRUE_SLOT};
+use node_store::operator::{Frame, Halt, Next, Operator, Task, Turn, Wait};
+use node_store::parts::{Split, split_two};
 use node_store::{Grow, Key, Stack, numbers};
 
 /// An implication, as the evaluator runs it: its answers are constants. It makes no node.
@@ -41,19 +40,23 @@ impl<G: Grow> Operator<G> for Implication {
 
     fn start(&self, store: &mut G, _stack: &mut Stack, task: Task) -> Result<Next, Halt> {
         if let Some(yes) = terminal(task.f, task.g) {
-            return Ok(Next::Done(Edge::new(0, !yes)));
+            return Ok(Next::Done(Edge::truth(yes)));
         }
         if let Some(edge) = store.memo_get(&key_of(task)) {
             return Ok(Next::Done(edge));
         }
-        let branch = split(store, task);
-        let frame = Frame {
-            task,
-            var: branch.var,
-            flip: false,
-            wait: Wait::First(branch.lo),
-        };
-        Ok(Next::Call(frame, branch.hi))
+        match split_two(store, task.f, task.g) {
+            Split::Leaves(_, _) => unreachable!(),
+            Split::At(halves) => {
+                let frame = Frame {
+                    task,
+                    var: halves.top.var,
+                    flip: false,
+                    wait: Wait::First(halves.lo),
+                };
+                Ok(Next::Call(frame, halves.hi))
+            }
+        }
     }
 
     fn resume(
@@ -62,24 +65,20 @@ impl<G: Grow> Operator<G> for Implication {
         _stack: &mut Stack,
         frame: Frame,
         answer: Edge,
-    ) -> Result<Next, Halt> {
+    ) -> Result<Turn, Halt> {
         match frame.wait {
             Wait::First(later) => {
                 // One part that does not hold settles the answer.
                 if answer.complement {
                     keep(store, frame.task, answer);
-                    return Ok(Next::Done(answer));
+                    return Ok(Turn::Done(answer));
                 }
-                let frame = Frame {
-                    wait: Wait::Second(answer),
-                    ..frame
-                };
-                Ok(Next::Call(frame, later))
+                Ok(Turn::Call(Wait::Second(answer), later))
             }
             Wait::Second(first) => {
                 let edge = both(first, answer);
                 keep(store, frame.task, edge);
-                Ok(Next::Done(edge))
+                Ok(Turn::Done(edge))
             }
             _ => unreachable!(),
         }
@@ -113,16 +112,16 @@ fn terminal(f: Edge, g: Edge) -> Option<bool>
     if f == g {
         return Some(true);
     }
-    if f.index == 0 {
+    if f.index == TRUE_SLOT {
         if f.complement {
             return Some(true);
         }
-        if g.index == 0 {
+        if g.index == TRUE_SLOT {
             return Some(!g.complement);
         }
         return None;
     }
-    if g.index == 0 && !g.complement {
+    if g.index == TRUE_SLOT && !g.complement {
         return Some(true);
     }
     None
@@ -135,26 +134,7 @@ fn both(first: Edge, second: Edge) -> Edge
     if first.complement { first } else { second }
 }
 
-/// The parts of the first two functions of a task, of which one at least is no constant, at the upper one of their top variables.
-pub fn split<G: Grow>(store: &mut G, task: Task) -> Branch
-    requires { CanCompare (G.view store.old) task }
-    ensures kept { Kept (G.view store.old) (G.view store.new) }
-    ensures compared { IsCompared (G.view store.new) task result }
-{
-    let Some(top) = top_of_two(store, task.f, task.g) else {
-        unreachable!();
-    };
-    let (f1, f0) = parts(store, task.f, top.var);
-    let (g1, g0) = parts(store, task.g, top.var);
-    Branch {
-        task,
-        flip: false,
-        var: top.var,
-        hi: Task::two(f1, g1),
-        lo: Task::two(f0, g0),
-    }
-}
-
+/// The key of an implication.
 fn key_of(task: Task) -> Key
     ensures { result ≡ record { op = leq_number; f = task.f; g = task.g; h = task.f } }
 {
@@ -166,6 +146,7 @@ fn key_of(task: Task) -> Key
     }
 }
 
+/// Keeps the answer of a task.
 fn keep<G: Grow>(store: &mut G, task: Task, answer: Edge)
     requires due { ImplicationDue (G.view store.old) task }
     requires answer { ImplicationAnswers (G.view store.old) task answer }

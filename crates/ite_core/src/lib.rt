@@ -2,10 +2,11 @@
 #![tactic(auto)]
 
 mod cofactors;
+mod conjunction;
 mod implication;
 pub mod nested;
 mod operations;
+mod selection;
 mod triples;
 
-pub use implication::split;
 pub use operations::{and, cofactor, ite, leq, not, or, xor};

@@ -6,7 +6,7 @@ ghost use Rattle.node_store.specs.Views.{View, Is, Permanent};
 ghost use Rattle.node_store.specs.Three.{AreThree, IsReduced};
 ghost use Rattle.ite_core.specs.Triples.{StandsFor};
 
-use edge_bits::Edge;
+use edge_bits::{Edge, TRUE_SLOT};
 use node_store::binary::flip_if;
 use node_store::conditional::Reduced;
 use node_store::operator::Task;
@@ -15,7 +15,7 @@ use node_store::operator::Task;
 pub(crate) fn reduce(f: Edge, g: Edge, h: Edge) -> Reduced
     ensures { (w : View) → Permanent w → AreThree Bdd w f g h → IsReduced Bdd w f g h result }
 {
-    if f.index == 0 {
+    if f.index == TRUE_SLOT {
         return Reduced::Answer(if f.complement { h } else { g });
     }
     let then = known_where(f, g);
@@ -24,7 +24,7 @@ pub(crate) fn reduce(f: Edge, g: Edge, h: Edge) -> Reduced
     if then == other {
         return Reduced::Answer(then);
     }
-    if then.index == 0 && other.index == 0 {
+    if then.index == TRUE_SLOT && other.index == TRUE_SLOT {
         return Reduced::Answer(flip_if(f, then.complement));
     }
     in_order(f, then, other)
@@ -35,7 +35,7 @@ fn known_where(f: Edge, g: Edge) -> Edge
     ensures { (w : View) → Permanent w → Is Bdd w f → Is Bdd w g → StandsFor w f g result }
 {
     if g.index == f.index {
-        Edge::new(0, g.complement != f.complement)
+        Edge::truth(g.complement == f.complement)
     } else {
         g
     }
@@ -47,12 +47,13 @@ fn in_order(f: Edge, g: Edge, h: Edge) -> Reduced
     requires apart { g ≡ h → ⊥ }
     ensures { (w : View) → AreThree Bdd w f g h → IsReduced Bdd w f g h result }
 {
-    if g.index == h.index && 0 < g.index && g.index < f.index {
+    if g.index == h.index && TRUE_SLOT < g.index && g.index < f.index {
         return with_regular_condition(g, f, flip_if(f, true));
     }
     with_regular_condition(f, g, h)
 }
 
+/// With the condition regular.
 fn with_regular_condition(f: Edge, g: Edge, h: Edge) -> Reduced
     requires { f.index ≡ 0 → ⊥ }
     ensures { (w : View) → AreThree Bdd w f g h → IsReduced Bdd w f g h result }
@@ -64,6 +65,7 @@ fn with_regular_condition(f: Edge, g: Edge, h: Edge) -> Reduced
     }
 }
 
+/// With the first function regular, and so the answer.
 fn with_regular_answer(f: Edge, g: Edge, h: Edge) -> Reduced
     requires { f.index ≡ 0 → ⊥ }
     ensures { (w : View) → AreThree Bdd w f g h → IsReduced Bdd w f g h result }

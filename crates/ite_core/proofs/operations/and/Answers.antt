@@ -1,5 +1,5 @@
-use Rattle.node_store.specs.HaltLaws.{without_overflow_keeps}
+use Rattle.ite_core.proofs.Outcomes.{Serves-halts}
 use Rattle.ite_core.proofs.operations.and.Goals as goal
 
-pub returns-clause-and : goal.returns-clause-and
-returns-clause-and g c = without_overflow_keeps _ _ _ c.without_overflow.ensures.ok c.call_place_by_place.ensures.answer
+pub returns : goal.returns
+returns g c = Serves-halts c.without_overflow.result c.without_overflow.ensures c.in_scratch.ensures

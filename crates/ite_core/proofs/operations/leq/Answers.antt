@@ -1,4 +1,4 @@
-use Rattle.std.proofs.Common.{◌≡◌, ℕ, Bool, true, sym, Ok, Err, Result, IfOk}
+use Rattle.std.proofs.Common.{◌≡◌, ℕ, Bool, true, sym, inl, inr, arith, Ok, Err, Result, IfOk}
 use Rattle.std.specs.Prelude.{◌↔◌}
 use Rattle.edge_bits.specs.declared.lists.Memory.{Memory}
 use Rattle.edge_bits.specs.declared.edges.Kind.TheVariants.{Bdd}
@@ -14,6 +14,9 @@ pub returns-clause-kept : goal.returns-clause-kept
 returns-clause-kept g c =
     Kept-trans c.take_scratch-stack.ensures.kept (Kept-trans c.levels-levels.ensures.kept (Kept-trans c.leq_with_room-outcome.ensures.kept c.give_scratch.ensures.kept))
 
+pub returns-clause-room : goal.returns-clause-room
+returns-clause-room g c = let a = c.take_scratch-stack.ensures.room in let b = c.leq_with_room-outcome.ensures.room in let d = c.give_scratch.ensures.room in omega arith
+
 same : (f g f2 g2 : ℕ → Bool) → f2 ≡ f → g2 ≡ g → (r : Result Bool Memory) → IfOk r (λ b. (b ≡ true) ↔ Implies f2 g2) → IfOk r (λ b. (b ≡ true) ↔ Implies f g)
 same f g f2 g2 p q (Ok b) is = rw (sym p, sym q) is
 same f g f2 g2 p q (Err e) is = is
@@ -22,3 +25,12 @@ pub returns-clause-leq : goal.returns-clause-leq
 returns-clause-leq g c =
     let m = Grown-trans c.take_scratch-stack.ensures.kept.grown c.levels-levels.ensures.kept.grown in
     same _ _ _ _ (values_at-grown Bdd m c.requires.first) (values_at-grown Bdd m c.requires.second) c.leq_with_room-outcome.result c.leq_with_room-outcome.ensures.leq
+
+pub returns-clause-memory : goal.returns-clause-memory
+returns-clause-memory g c = λ is.
+    let taken = c.take_scratch-stack.ensures in let told = c.levels-levels.ensures in
+    let m = Grown-trans taken.kept.grown told.kept.grown in
+    elim (c.leq_with_room-outcome.ensures.memory is) [
+      | inl short ↦ inl (let a = taken.room in let l = told.levels in let v = m.vars in omega (arith, short))
+      | inr may ↦ inr (m.wants may)
+    ]

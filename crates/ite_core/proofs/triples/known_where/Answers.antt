@@ -6,4 +6,4 @@ pub returns-else-g-f : goal.returns-else-g-f
 returns-else-g-f c = λ w p df dg. StandsFor-itself w c.args.f c.args.g dg
 
 pub returns-then-g-f : goal.returns-then-g-f
-returns-then-g-f c = λ w p df dg. StandsFor-constant w p c.args.f c.args.g c.new.result c.if-g-f.true (c.new.ensures ∙ ap (λ x. record { index = 0; complement = x }) (unlike c.args.g.complement c.args.f.complement)) df dg
+returns-then-g-f c = λ w p df dg. StandsFor-constant w p c.args.f c.args.g c.truth.result c.if-g-f.true (c.truth.ensures ∙ ap (λ x. record { index = 0; complement = x }) (unlike c.args.g.complement c.args.f.complement)) df dg

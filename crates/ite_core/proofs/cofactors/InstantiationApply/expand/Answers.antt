@@ -1,6 +1,6 @@
 use Rattle.std.proofs.Common.{refl}
 use Rattle.edge_bits.specs.declared.edges.Kind.TheVariants.{Bdd}
-use Rattle.node_store.specs.ViewLaws.{Grown-trans, Kept-trans, Is-grown, Permanent-grown, IsVariable-grown}
+use Rattle.node_store.specs.ViewLaws.{Grown-trans, Kept-trans, Denotes-grown, Is-grown}
 use Rattle.node_store.specs.WorkLaws.{Moves-kept}
 use Rattle.ite_core.proofs.CofactorLaws.{regular_is, regular_answer, IsKey-literal, Cofactor-hit, Cofactor-branches}
 use Rattle.ite_core.proofs.cofactors.InstantiationApply.expand.Goals as goal
@@ -16,8 +16,8 @@ returns-in-Answer-clause-expanded g c =
 pub memo_get-requires : goal.memo_get-requires
 memo_get-requires g c =
     let o = c.args.self.now in let e = c.in-Parts.ensures in let m = e.kept.grown in
-    rw c.key_of-key.ensures (IsKey-literal _ (Permanent-grown m c.requires.permanent) c.new-f.result o.literal o.var o.bit c.requires.literal
-    (regular_is _ c.args.task.f _ c.new-f.ensures (Is-grown Bdd m c.requires.edge)) (IsVariable-grown Bdd m o.var c.requires.root.in_range))
+    rw c.key_of-key.ensures (IsKey-literal _ c.new-f.result o.literal o.var o.bit (Denotes-grown Bdd m c.requires.literal)
+    (regular_is _ c.args.task.f _ c.new-f.ensures (Is-grown Bdd m c.requires.edge)))
 
 pub returns-in-Some-clause-moved : goal.returns-in-Some-clause-moved
 returns-in-Some-clause-moved g c = Moves-kept _ _ _ _ (Kept-trans c.in-Parts.ensures.kept c.in-Some.ensures.kept)
@@ -26,7 +26,10 @@ pub returns-in-Some-clause-expanded : goal.returns-in-Some-clause-expanded
 returns-in-Some-clause-expanded g c =
     let o = c.args.self.now in let e = c.in-Some.ensures in let m = Grown-trans c.in-Parts.ensures.kept.grown e.kept.grown in
     let holds = rw c.key_of-key.ensures at e.hit in
-    rw c.flip_if-in-Some.ensures (regular_answer _ c.args.task.f c.new-f.result c.in-Some.edge o.var o.bit c.new-f.ensures (Is-grown Bdd m c.requires.edge) (Cofactor-hit _ c.new-f.result o.literal o.var o.bit c.in-Some.edge c.requires.literal holds))
+    rw c.flip_if-in-Some.ensures (regular_answer _ c.args.task.f c.new-f.result c.in-Some.edge o.var o.bit c.new-f.ensures (Is-grown Bdd m c.requires.edge) (Cofactor-hit _ c.new-f.result o.literal o.var o.bit c.in-Some.edge (Denotes-grown Bdd m c.requires.literal) holds))
+
+pub returns-in-None-clause-moved : goal.returns-in-None-clause-moved
+returns-in-None-clause-moved g c = Moves-kept _ _ _ _ (Kept-trans c.in-Parts.ensures.kept c.in-None.ensures.kept)
 
 pub returns-in-None-clause-expanded : goal.returns-in-None-clause-expanded
 returns-in-None-clause-expanded g c =

@@ -1,0 +1,5 @@
+use Rattle.ite_core.proofs.Outcomes.{Serves-halts}
+use Rattle.ite_core.proofs.nested.ite.Goals as goal
+
+pub returns-clause-runs : goal.returns-clause-runs
+returns-clause-runs g c = Serves-halts c.without_overflow.result c.without_overflow.ensures c.if_then_else.ensures.runs

@@ -1,0 +1,5 @@
+use Rattle.ite_core.proofs.Outcomes.{Serves-halts}
+use Rattle.ite_core.proofs.operations.ite.Goals as goal
+
+pub returns : goal.returns
+returns g c = Serves-halts c.without_overflow.result c.without_overflow.ensures c.in_scratch.ensures
