@@ -166,6 +166,8 @@ module _ (p : Plain) (i bits : ℕ) (word : Word) (within : i < length p.words) 
         projections = λ v lt. extends (5 + v) _ (st.permanent.projections v lt);
       };
       canonical = record { nodes = nodes-more; leaves = leaves-more; apart = apart-more };
+      variables_stand = st.variables_stand;
+      elements_stand = st.elements_stand;
       few_variables = st.few_variables;
       few_elements = st.few_elements;
       room = rw (length-set {A = ℕ}) st.room;

@@ -297,6 +297,8 @@ module _ (p : Plain) (st : IsStore p) where
         leaves = st.canonical.leaves;
         apart = st.canonical.apart;
       };
+      variables_stand = st.variables_stand;
+      elements_stand = st.elements_stand;
       few_variables = st.few_variables;
       few_elements = st.few_elements;
       room = st.room;
@@ -332,6 +334,8 @@ module _ (p : Plain) (st : IsStore p) where
         leaves = st.canonical.leaves;
         apart = st.canonical.apart;
       };
+      variables_stand = st.variables_stand;
+      elements_stand = st.elements_stand;
       few_variables = st.few_variables;
       few_elements = st.few_elements;
       room = st.room;

@@ -20,7 +20,7 @@ use Rattle.function_laws.specs.Families.{empty, base}
 use Rattle.function_laws.specs.Kinds.{Denoted, BddFunction, AddFunction, ZddFamily}
 use Rattle.node_store.specs.Views.{levels, IsVariable}
 use Rattle.node_slots.specs.Slots.{function_at_most}
-use Rattle.node_slots.specs.Stores.{Plain, slots, level_in, longest, content_of, plain_view, projection_node, constant_value, permanent_word, IsNode, IsOrdered, HasPermanent, IsStore, IsOpening}
+use Rattle.node_slots.specs.Stores.{Plain, slots, level_in, longest, content_of, plain_view, projection_node, constant_value, permanent_word, IsNode, IsOrdered, HasPermanent, AreInverse, IsStore, IsOpening}
 use Rattle.node_slots.specs.declared.plain_store.Refused.{Refused}
 use Rattle.node_slots.proofs.Reading.{used, was_refused}
 use Rattle.node_slots.proofs.Calls.{leaf_content, projection_content}
@@ -207,9 +207,12 @@ module _ (p : Plain) (first : HasPermanent p) (free : (s : ℕ) → 5 + length p
     ]
 
     -- the store is canonical
-    pub IsStore-opening : ((r : Refused) → p.due ≡ Some r → ⊥) → length p.element_levels ≤ 1024 → 5 + length p.variable_levels ≤ length p.words → length p.words < 2 ^ 23 → length p.counts ≡ length p.words → IsStore p
-    IsStore-opening none elements room words counts = record {
+    pub IsStore-opening : ((r : Refused) → p.due ≡ Some r → ⊥) → length p.element_levels ≤ 1024 → 5 + length p.variable_levels ≤ length p.words → length p.words < 2 ^ 23 → length p.counts ≡ length p.words
+        → AreInverse p.variable_levels p.variables_at → AreInverse p.element_levels p.elements_at → IsStore p
+    IsStore-opening none elements room words counts variables_stand elements_stand = record {
       ordered = orders;
+      variables_stand = variables_stand;
+      elements_stand = elements_stand;
       permanent = first;
       canonical = record { nodes = nodes; leaves = leaves; apart = apart };
       few_variables = few;
@@ -248,10 +251,21 @@ IsStore-cleared p st d none ws cs n from is count recount kept free =
       projections = λ v lt. kept (5 + v) (omega (arith, is, lt)) ∙ f.projections v lt;
     })
     (λ s le. free s (omega (arith, is, le)))
-    (IsOrdered-same p ws cs n d st.ordered) st.few_variables none st.few_elements (omega arith) (omega arith) (recount ∙ st.counted ∙ sym count)
+    (IsOrdered-same p ws cs n d st.ordered) st.few_variables none st.few_elements (omega arith) (omega arith) (recount ∙ st.counted ∙ sym count) st.variables_stand st.elements_stand
 
 pub none_due : (r : Refused) → None ≡ Some r → ⊥
 none_due r e = cc
+
+-- the order 0, 1, 2, .. is its own inverse
+ascending_inverse : (n : ℕ) → AreInverse (range_with_len 0 n) (range_with_len 0 n)
+ascending_inverse n =
+    let long = length-range_with_len 0 n in
+    record {
+      as_many = refl;
+      each = λ level lt. (
+          let here : slice_index (range_with_len 0 n) level ≡ level = get_or-range_with_len 0 n level 0 (omega arith) ∙ zero-add level in
+          (omega arith, ap (slice_index (range_with_len 0 n)) here ∙ here));
+    }
 
 pub IsStore-new : (p : Plain) (vars elements limit : ℕ) → vars ≤ 1024 → elements ≤ 1024 → 5 + vars ≤ limit → limit ≤ 8388607 → IsOpening vars elements limit p → IsStore p
 IsStore-new p vars elements limit fv fe least most o =
@@ -260,3 +274,4 @@ IsStore-new p vars elements limit fv fe least most o =
     let l = o.slots_are in
     IsStore-opening p (HasPermanent-words p (λ s lt. o.permanent s (omega (arith, n, lt)))) (λ s le. o.free s (omega (arith, n, le)))
     (IsOrdered-ascending p vars elements o.variable_levels o.element_levels) (omega (arith, n)) (λ r is. none_due r (sym o.due ∙ is)) (omega (arith, m)) (omega arith) (omega arith) (ap length o.counts ∙ length-replicate limit zero ∙ sym l)
+    (rw (o.variable_levels, o.variables_at) (ascending_inverse vars)) (rw (o.element_levels, o.elements_at) (ascending_inverse elements))

@@ -1,5 +1,5 @@
 -- A store of which some slots were freed, or count words written.
-use Rattle.std.proofs.Common.{◌≡◌, ◌≢◌, ℕ, zero, suc, ◌+◌, ◌<◌, ◌≤◌, inl, inr, List, length, set, Option, Some, None, refl, ap, sym, ◌∙◌, subst, arith}
+use Rattle.std.proofs.Common.{◌≡◌, ◌≢◌, ℕ, zero, suc, ◌+◌, ◌<◌, ◌≤◌, inl, inr, List, length, get_or, set, Option, Some, None, refl, ap, sym, ◌∙◌, subst, arith}
 use Rattle.std.proofs.lemmas.Bool.{cases_eq, cases_lt}
 use Rattle.std.proofs.lemmas.List.{length-set, get_or_past, get_or-set_same, get_or-set_other}
 use Rattle.edge_bits.specs.declared.edges.Edge.{Edge}
@@ -102,6 +102,8 @@ module _ (p : Plain) (ws cs : List ℕ) (d : Option Refused) where
         leaves = λ s x is. st.canonical.leaves s x (kept s (Leaf x) is);
         apart = λ s t f hs ht. st.canonical.apart s t f (sym (content_same s (present s f hs)) ∙ hs) (sym (content_same t (present t f ht)) ∙ ht);
       };
+      variables_stand = st.variables_stand;
+      elements_stand = st.elements_stand;
       few_variables = st.few_variables;
       few_elements = st.few_elements;
       room = (let r = st.room in omega arith);
@@ -172,3 +174,7 @@ used_within p s used = elim (cases_lt s (length p.words)) [
   | inl lt ↦ lt
   | inr ge ↦ absurd (used (ap unpack_of (get_or_past p.words s 0 ge)))
 ]
+
+-- the count word that was written
+pub count_written : (counts new : List ℕ) (slot word : ℕ) → slot < length counts → new ≡ set counts slot word → get_or new slot 0 ≡ word
+count_written counts new slot word within is = ap (λ cs. get_or cs slot 0) is ∙ get_or-set_same counts slot word 0 within

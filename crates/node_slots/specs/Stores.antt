@@ -25,6 +25,9 @@ pub record Plain : Type 0 where
   -- the level of each variable, and of each element
   pub variable_levels : List ℕ
   pub element_levels : List ℕ
+  -- the variable at each level of the one order, and the element at each level of the other
+  pub variables_at : List ℕ
+  pub elements_at : List ℕ
   -- the 64-bit word of each slot, and its count word
   pub words : List ℕ
   pub counts : List ℕ
@@ -154,8 +157,15 @@ HasNoFree p = (t : ℕ) → t < length p.words → slots p t ≡ None → ⊥
 abbrev pub IsUnknown : Plain → Denoted → Type 0
 IsUnknown p f = (e : Edge) → function_at (plain_view p) e ≡ Some f → ⊥
 
+-- at each level stands what has that level
+pub record AreInverse (levels at : List ℕ) : Type 0 where
+  pub as_many : length at ≡ length levels
+  pub each : (level : ℕ) → level < length at → (slice_index at level < length levels) × (slice_index levels (slice_index at level) ≡ level)
+
 pub record IsStore (p : Plain) : Type 0 where
   pub ordered : IsOrdered p
+  pub variables_stand : AreInverse p.variable_levels p.variables_at
+  pub elements_stand : AreInverse p.element_levels p.elements_at
   pub permanent : HasPermanent p
   pub canonical : IsCanonical p
   pub few_variables : length p.variable_levels ≤ 1024
@@ -179,6 +189,8 @@ in_use p = count_by is_word p.words
 pub record IsOpening (vars elements limit : ℕ) (p : Plain) : Type 0 where
   pub variable_levels : p.variable_levels ≡ range_with_len 0 vars
   pub element_levels : p.element_levels ≡ range_with_len 0 elements
+  pub variables_at : p.variables_at ≡ range_with_len 0 vars
+  pub elements_at : p.elements_at ≡ range_with_len 0 elements
   pub slots_are : length p.words ≡ limit
   pub permanent : (s : ℕ) → s < 5 + vars → slots p s ≡ Some (permanent_word s)
   pub free : (s : ℕ) → 5 + vars ≤ s → slots p s ≡ None
@@ -195,6 +207,8 @@ pub record IsNext (old new : ℕ) : Type 0 where
 pub record IsCleared (old new : Plain) : Type 0 where
   pub variable_levels : new.variable_levels ≡ old.variable_levels
   pub element_levels : new.element_levels ≡ old.element_levels
+  pub variables_at : new.variables_at ≡ old.variables_at
+  pub elements_at : new.elements_at ≡ old.elements_at
   pub slots_are : length new.words ≡ length old.words
   pub permanent : (s : ℕ) → s < 5 + length old.variable_levels → slots new s ≡ slots old s
   pub free : (s : ℕ) → 5 + length old.variable_levels ≤ s → slots new s ≡ None

@@ -32,6 +32,8 @@ pub struct PlainStore {
     alloc: Global,
     variable_levels: Vec<u32>,
     element_levels: Vec<u32>,
+    variables_at: Vec<u32>,
+    elements_at: Vec<u32>,
     nodes: NodeTable,
     counts: CountTable,
     fulls: u64,
@@ -44,9 +46,9 @@ impl Model for PlainStore {
 
     ghost Value = { Plain };
 
-    ghost view = { λ s. record { variable_levels = s.variable_levels.items; element_levels = s.element_levels.items; words = s.nodes; counts = s.counts; fulls = s.fulls; due = s.due; scratch_room = lent_room s.scratch } };
+    ghost view = { λ s. record { variable_levels = s.variable_levels.items; element_levels = s.element_levels.items; variables_at = s.variables_at.items; elements_at = s.elements_at.items; words = s.nodes; counts = s.counts; fulls = s.fulls; due = s.due; scratch_room = lent_room s.scratch } };
 
-    ghost invariant = { λ s. IsStore (record { variable_levels = s.variable_levels.items; element_levels = s.element_levels.items; words = s.nodes; counts = s.counts; fulls = s.fulls; due = s.due; scratch_room = lent_room s.scratch }) };
+    ghost invariant = { λ s. IsStore (record { variable_levels = s.variable_levels.items; element_levels = s.element_levels.items; variables_at = s.variables_at.items; elements_at = s.elements_at.items; words = s.nodes; counts = s.counts; fulls = s.fulls; due = s.due; scratch_room = lent_room s.scratch }) };
 }
 
 /// The child that a node would be, if it would be one.
@@ -279,12 +281,16 @@ impl PlainStore {
     {
         let variable_levels = ascending(alloc, vars)?;
         let element_levels = ascending(alloc, elements)?;
+        let variables_at = ascending(alloc, vars)?;
+        let elements_at = ascending(alloc, elements)?;
         let nodes = NodeTable::new(alloc, vars, limit)?;
         let counts = CountTable::new(alloc, limit)?;
         Ok(PlainStore {
             alloc,
             variable_levels,
             element_levels,
+            variables_at,
+            elements_at,
             nodes,
             counts,
             fulls: 0,
@@ -307,6 +313,24 @@ impl PlainStore {
         ensures few { result ≤ 1024 }
     {
         self.element_levels.len() as u32
+    }
+
+    /// The variable at a level of the order of the variables.
+    pub fn var_at(&self, level: u32) -> u32
+        requires { level < (plain_view self.now).vars }
+        ensures in_range { IsVariable Bdd (plain_view self.now) result }
+        ensures level { (plain_view self.now).level result ≡ level }
+    {
+        self.variables_at[level as usize]
+    }
+
+    /// The element at a level of the order of the elements, as 16,384 and its number.
+    pub fn element_at(&self, level: u32) -> u32
+        requires { level < (plain_view self.now).elements }
+        ensures in_range { IsVariable Zdd (plain_view self.now) result }
+        ensures level { (plain_view self.now).level result ≡ level }
+    {
+        FIRST_ELEMENT + self.elements_at[level as usize]
     }
 
     /// The number of slots.

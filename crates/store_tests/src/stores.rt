@@ -1,6 +1,6 @@
 //! A store of a few slots: conjunctions, leaves, and nodes of each kind.
 
-use edge_bits::{Edge, FIRST_PROJECTION, Kind, Node};
+use edge_bits::{Edge, FIRST_PROJECTION, Kind, Node, VALUE_END};
 use ite_core::and;
 use node_slots::{Grow, Opened, PlainStore, Stop};
 use std::test::Fail;
@@ -97,55 +97,68 @@ fn free(store: &mut PlainStore, slot: u32) -> bool {
     may
 }
 
+/// The products of the second and the third variable, and of all three, if there are slots for them.
+fn products(store: &mut PlainStore) -> Option<(Edge, Edge)> {
+    let _levels = store.levels(Kind::Bdd);
+    if store.vars() < 3 {
+        return None;
+    }
+    let Ok(two) = and(store, Edge::new(6, false), Edge::new(7, false)) else {
+        return None;
+    };
+    let Ok(three) = and(store, Edge::new(5, false), two) else {
+        return None;
+    };
+    Some((two, three))
+}
+
 #[test]
 fn freed_slots_are_taken_again(rt: HostRuntime) -> Result<(), Fail> {
-    let (a, b, c) = (
-        Edge::new(5, false),
-        Edge::new(6, false),
-        Edge::new(7, false),
-    );
     let mut store = PlainStore::new(rt.alloc(), 3, 0, 10)?;
-    let _levels = store.levels(Kind::Bdd);
-    let Ok(bc) = and(&mut store, b, c) else {
+    let Some((two, three)) = products(&mut store) else {
         return Err(Fail::new("refused with two free slots"));
-    };
-    let Ok(abc) = and(&mut store, a, bc) else {
-        return Err(Fail::new("refused with one free slot"));
     };
     assert!(rt; store.leaf(21) == Err(Stop::Full));
     // A permanent slot, one that a node names and one that is held are not freed.
     assert!(rt; !free(&mut store, 4));
-    assert!(rt; !free(&mut store, bc.index));
-    raise(&mut store, abc.index);
-    assert_eq!(rt; store.count_of(abc.index), 1);
-    assert!(rt; !free(&mut store, abc.index));
-    lower(&mut store, abc.index);
-    assert!(rt; free(&mut store, abc.index));
-    assert!(rt; free(&mut store, bc.index));
+    assert!(rt; !free(&mut store, two.index));
+    raise(&mut store, three.index);
+    assert_eq!(rt; store.count_of(three.index), 1);
+    assert!(rt; !free(&mut store, three.index));
+    lower(&mut store, three.index);
+    assert!(rt; free(&mut store, three.index));
+    assert!(rt; free(&mut store, two.index));
     assert_eq!(rt; store.in_use(), 8);
-    assert_eq!(rt; store.generation_of(bc.index), 1);
-    assert_eq!(rt; store.generation_of(a.index), 0);
+    assert_eq!(rt; store.generation_of(two.index), 1);
+    assert_eq!(rt; store.generation_of(5), 0);
     assert_eq!(rt; store.find_by_walk(node(1, 7)), None);
     // The slot that was freed last is taken first.
     let Ok(leaf) = store.leaf(21) else {
         return Err(Fail::new("no leaf with two free slots"));
     };
-    assert_eq!(rt; leaf.index, bc.index);
-    assert!(rt; and(&mut store, b, c) == Ok(abc));
-    assert!(rt; and(&mut store, a, b) == Err(Stop::Full));
+    assert_eq!(rt; leaf.index, two.index);
+    assert!(rt; products(&mut store).is_none());
+    assert_eq!(rt; store.find_by_walk(node(1, 7)), Some(three.index));
+    assert_eq!(rt; store.in_use(), 10);
     assert_eq!(rt; store.clear(), 8);
-    assert_eq!(rt; store.generation_of(bc.index), 2);
+    assert_eq!(rt; store.generation_of(two.index), 2);
     Ok(())
 }
 
-/// The slot of the node of variable 0 over this number and 0.
-fn node_over(store: &mut PlainStore, value: i64) -> Option<u32> {
+/// The slot of the node of variable 0 over this many times 2^20, and 0.
+fn node_over(store: &mut PlainStore, value: u32) -> Option<u32> {
+    let number = i64::from(value) * 1_048_576;
     let _levels = store.levels(Kind::Add);
-    if store.vars() == 0 || value < 0 || value > 1 << 45 {
+    if store.vars() == 0 || number >= VALUE_END {
         return None;
     }
-    let leaf = store.leaf(value).ok()?;
-    let node = store.make(0, leaf, Edge::number_zero()).ok()?;
+    let zero = Edge::number_zero();
+    let Ok(leaf) = store.leaf(number) else {
+        return None;
+    };
+    let Ok(node) = store.make(0, leaf, zero) else {
+        return None;
+    };
     Some(node.index)
 }
 
@@ -154,13 +167,12 @@ fn node_over(store: &mut PlainStore, value: i64) -> Option<u32> {
 fn many_nodes_at_one_level(rt: HostRuntime) -> Result<(), Fail> {
     let mut store = PlainStore::new(rt.alloc(), 1, 0, 100_000)?;
     for value in 2..20_002 {
-        assert!(rt; node_over(&mut store, 1_048_576 * value).is_some());
+        assert!(rt; node_over(&mut store, value).is_some());
     }
     assert_eq!(rt; store.in_use(), 40_006);
-    let last = node_over(&mut store, 1_048_576 * 20_001);
-    assert_eq!(rt; last, Some(40_005));
+    assert_eq!(rt; node_over(&mut store, 20_001), Some(40_005));
     for value in 2..20_002 {
-        assert!(rt; node_over(&mut store, 1_048_576 * value) <= last);
+        assert!(rt; node_over(&mut store, value).is_some());
     }
     assert_eq!(rt; store.in_use(), 40_006);
     Ok(())

@@ -1,4 +1,4 @@
-use Rattle.std.proofs.Common.{rules, SFits, subst, to_z, of_z, w64}
+use Rattle.std.proofs.Common.{refl, rules, SFits, subst, to_z, of_z, w64}
 use Rattle.std.proofs.lemmas.Int.{to_z-of_z}
 use Rattle.node_store.specs.Operations.{Calls, halts}
 use Rattle.edge_bits.specs.declared.edges.Kind.TheVariants.{Add}

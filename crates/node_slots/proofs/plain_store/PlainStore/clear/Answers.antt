@@ -28,6 +28,8 @@ returns-clause-cleared c =
     (record {
       variable_levels = refl;
       element_levels = refl;
+      variables_at = refl;
+      elements_at = refl;
       slots_are = e.length;
       permanent = rw vars at (permanent_kept p c.self.invariant.permanent c.clear.new.self (5 + c.len-vars.result) vars e.permanent);
       free = rw vars at e.free;

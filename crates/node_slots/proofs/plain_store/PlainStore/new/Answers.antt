@@ -9,6 +9,8 @@ invariant_of-result c =
     (record {
       variable_levels = c.in_ok-variable_levels.ensures;
       element_levels = c.in_ok-element_levels.ensures;
+      variables_at = c.in_ok-variables_at.ensures;
+      elements_at = c.in_ok-elements_at.ensures;
       slots_are = w.slots_are;
       permanent = w.permanent;
       free = w.free;

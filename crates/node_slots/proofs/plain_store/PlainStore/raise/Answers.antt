@@ -1,8 +1,9 @@
-use Rattle.std.proofs.Common.{◌≡◌, None, sym, subst, arith, ◌∙◌, ap, length}
+use Rattle.std.proofs.Common.{◌+◌, ◌≡◌, None, sym, subst, arith, ◌∙◌, ap, length}
 use Rattle.std.proofs.lemmas.List.{length-set}
 use Rattle.node_slots.specs.contracts.plain_store.PlainStore.{the_view}
-use Rattle.node_slots.proofs.Remaining.{recounted, used_within}
-use Rattle.node_slots.specs.Stores.{Plain, slots}
+use Rattle.node_slots.proofs.Remaining.{count_written, recounted, used_within}
+use Rattle.node_slots.specs.Stores.{Plain, count_at, slots}
+use Rattle.handle_count.specs.CountWords.{count_of}
 use Rattle.node_slots.proofs.plain_store.PlainStore.raise.Goals as goal
 
 pub invariant_of-self : goal.invariant_of-self
@@ -15,3 +16,11 @@ write-requires c =
     let p = the_view c.self.inside in
     let used = subst (λ (q : Plain). slots q c.args.slot ≡ None → ⊥) (sym c.self.view_is) c.requires.used in
     omega (arith, used_within p c.args.slot used, c.self.invariant.counted)
+
+pub returns-clause-count : goal.returns-clause-count
+returns-clause-count c =
+    let p = the_view c.self.inside in
+    let slot = c.args.slot in
+    let used = subst (λ (q : Plain). slots q slot ≡ None → ⊥) (sym c.self.view_is) c.requires.used in
+    ap count_of (count_written p.counts c.write.new.self slot c.raise.result (omega (arith, used_within p slot used, c.self.invariant.counted)) c.write.ensures)
+    ∙ c.raise.ensures.count ∙ ap (λ w. count_of w + 1) c.word-word.ensures ∙ ap (λ q. count_at q slot + 1) c.self.view_is
