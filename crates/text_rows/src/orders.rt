@@ -32,6 +32,7 @@ fn add_options(text: &mut String, options: &Options) -> Result<(), AllocError> {
     add_patterns(text, &options.patterns)
 }
 
+/// The line of `build`: workers, limit, flags and patterns.
 fn build_told(
     alloc: Global,
     workers: u32,
@@ -43,6 +44,7 @@ fn build_told(
     Ok(text)
 }
 
+/// The line of `load`: its patterns.
 fn load_told(alloc: Global, patterns: &List<List<bool>>) -> Result<String, AllocError> {
     let mut text = String::from_str(alloc, "load")?;
     add_patterns(&mut text, patterns)?;
