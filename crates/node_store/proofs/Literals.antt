@@ -1,6 +1,6 @@
 -- Two literals are one function only where they are of one variable with one sign.
 use Rattle.std.proofs.Common.{◌≡◌, ◌≢◌, ℕ, eqb, Bool, true, false, not, refl, ap, sym, ◌∙◌, arith}
-use Rattle.edge_bits.specs.Assignments.{bit, set_bit}
+use Rattle.edge_bits.specs.Assignments.{set_bit}
 use Rattle.edge_bits.proofs.AssignmentLemmas.{bit-set_other, bit-set_same}
 use Rattle.function_laws.specs.Values.{negation, projection}
 use Rattle.node_store.specs.Memo.{literal}
