@@ -1,7 +1,7 @@
 -- Leaves of ADDs.
-use Rattle.std.proofs.Common.{◌≡◌, ℕ, ℤ, pos, Bool, true, false, cond, Option, Some, ◌⊎◌, inl, inr, Result, Ok, Err, refl, ap, sym, ◌∙◌, subst, arith, SFits, of_z, to_z, w64}
+use Rattle.std.proofs.Common.{◌≡◌, ℕ, ℤ, pos, Bool, true, false, cond, Option, Some, Result, refl, ap, sym, ◌∙◌, subst, arith, SFits, of_z, to_z, w64}
 use Rattle.std.specs.Int.{w128}
-use Rattle.std.specs.Prelude.{◌+ℤ◌, ◌-ℤ◌, ◌*ℤ◌, if◌then◌else◌, int_le, IfOk, IsErrOf, IsOkAnd}
+use Rattle.std.specs.Prelude.{◌+ℤ◌, ◌-ℤ◌, ◌*ℤ◌, if◌then◌else◌, int_le, IfOk}
 use Rattle.std.proofs.lemmas.Int.{ints, to_z-of_z}
 use Rattle.edge_bits.specs.Permanent.{one_edge, zero_edge}
 use Rattle.edge_bits.specs.declared.edges.Edge.{Edge}
@@ -9,16 +9,10 @@ use Rattle.edge_bits.specs.declared.edges.Kind.TheVariants.{Add}
 use Rattle.function_laws.specs.Values.{constant}
 use Rattle.function_laws.specs.Numbers.{is_value}
 use Rattle.function_laws.specs.Kinds.{Denoted, AddFunction}
-use Rattle.node_store.specs.Views.{View, AreTwo, Denotes, Grown, Rose, add_at, IsLeaf, IsLeafOf as IsLeafWith, number, Permanent}
-use Rattle.node_store.specs.Work.{Adds, whole}
-use Rattle.node_store.specs.WorkLaws.{IsWork-due, Moves-made}
-use Rattle.node_store.specs.declared.grow.Stop.{Stop}
-use Rattle.node_store.specs.declared.grow.Stop.TheVariants as stop
+use Rattle.node_store.specs.Views.{View, AreTwo, Denotes, add_at, IsLeaf, IsLeafOf as IsLeafWith, number, Permanent}
 use Rattle.node_store.specs.declared.operator.Halt.{Halt}
-use Rattle.node_store.specs.declared.operator.Halt.TheVariants as halt
-use Rattle.node_store.specs.Operations.{Calls, halts}
-use Rattle.node_store.specs.Two.{Overflows, place_at}
-use Rattle.add_ops.specs.Leaves.{AreLeaves, value_of_constant}
+use Rattle.node_store.specs.Two.{place_at}
+use Rattle.add_ops.specs.Leaves.{AreLeaves}
 
 leaf_values : (e : Edge) (f : ℕ → ℤ) (x : ℤ) → IsLeafWith Add e f x → f ≡ constant x
 leaf_values _ _ _ (number e x) = refl

@@ -2,29 +2,15 @@
 use Rattle.std.proofs.Common.{◌≡◌, ℕ, ◌+◌, ◌<◌, ◌≤◌, false, ℤ, pos, refl, sym, arith, subst}
 use Rattle.edge_bits.specs.declared.edges.Edge.{Edge}
 use Rattle.edge_bits.specs.declared.edges.Kind.TheVariants.{Bdd, Add, Zdd}
-use Rattle.edge_bits.proofs.AssignmentLemmas.{bit-set_other}
+use Rattle.edge_bits.specs.Permanent.{base_edge, empty_edge, first_element, zero_edge}
 use Rattle.function_laws.specs.Families.{base, empty}
-use Rattle.function_laws.specs.Values.{constant, projection}
-use Rattle.node_store.specs.Views.{View, CanMake, Denotes, Grown, Is, IsBelow, Permanent, base_edge, empty_edge, values_at, number, no_member, only_base}
+use Rattle.function_laws.specs.Values.{constant}
+use Rattle.node_store.specs.Views.{View, CanMake, Denotes, Grown, Is, IsBelow, Permanent, values_at, number, no_member, only_base}
 use Rattle.node_store.specs.ViewLaws.{Is-from, Is-grown, values_at-is}
 use Rattle.node_store.proofs.TwoParts.{Lacks-leaf}
 
--- the slot of a projection
-denotes_projection : (w : View) (v : ℕ) → Permanent w → v < w.vars → w.vars ≤ 1024 → Denotes Bdd w (record { index = 5 + v; complement = false }) (projection v)
-denotes_projection w v permanent within few = record {
-  is = permanent.projections v (omega arith, omega arith);
-  beyond = λ u from k b. bit-set_other k u v b (omega arith);
-  fits = tt;
-}
-
-pub is_projection : (w : View) (v : ℕ) (e : Edge) → Permanent w → v < w.vars → w.vars ≤ 1024 → e ≡ record { index = 5 + v; complement = false } → Is Bdd w e
-is_projection w v e permanent within few is = subst (λ (x : Edge). Is Bdd w x) (sym is) (Is-from Bdd (denotes_projection w v permanent within few))
-
-pub grown_on : (w w' : View) (e : Edge) → Grown w w' → Is Bdd w e → Is Bdd w' e
-grown_on w w' e grown is = Is-grown Bdd grown is
-
 -- the leaf of 0
-pub denotes_zero : (w : View) (e : Edge) → Permanent w → e ≡ record { index = 3; complement = false } → Denotes Add w e (constant (pos 0))
+pub denotes_zero : (w : View) (e : Edge) → Permanent w → e ≡ zero_edge → Denotes Add w e (constant (pos 0))
 denotes_zero w e permanent is = subst (λ (x : Edge). Denotes Add w x (constant (pos 0))) (sym is) (record {
   is = permanent.add_zero;
   beyond = λ v from. Lacks-leaf Add e (constant (pos 0)) (pos 0) (number e (pos 0)) v;
@@ -51,9 +37,9 @@ denotes_empty : (w : View) → Permanent w → Denotes Zdd w empty_edge empty
 denotes_empty w permanent = record { is = permanent.empty; beyond = λ v from. Lacks-leaf Zdd empty_edge empty (pos 0) no_member v; fits = tt }
 
 -- the family of the combination of element 0 alone
-pub can_make_single : (w : View) (hi lo : Edge) → Permanent w → 0 < w.elements → hi ≡ base_edge → lo ≡ empty_edge → CanMake Zdd w 16384 hi lo
+pub can_make_single : (w : View) (hi lo : Edge) → Permanent w → 0 < w.elements → hi ≡ base_edge → lo ≡ empty_edge → CanMake Zdd w first_element hi lo
 can_make_single w hi lo permanent some is_hi is_lo =
-    subst (λ (x : Edge). CanMake Zdd w 16384 x lo) (sym is_hi) (subst (λ (x : Edge). CanMake Zdd w 16384 base_edge x) (sym is_lo) (record {
+    subst (λ (x : Edge). CanMake Zdd w first_element x lo) (sym is_hi) (subst (λ (x : Edge). CanMake Zdd w first_element base_edge x) (sym is_lo) (record {
       in_range = (omega arith, omega arith);
       hi_is = Is-from Zdd (denotes_base w permanent);
       lo_is = Is-from Zdd (denotes_empty w permanent);

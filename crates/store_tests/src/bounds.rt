@@ -94,8 +94,8 @@ fn choice_of(store: &mut PlainStore, var: u32, hi: Edge, lo: Edge) -> Result<Edg
     ensures grown { Grown (plain_view store.old) (plain_view store.new) }
     ensures is { IfOk result (Is Add (plain_view store.new)) }
 {
-    let _levels = store.levels(Kind::Add);
-    Ok(add_ops::add_ite(store, Edge::new(5 + var, false), hi, lo)?)
+    let condition = store.projection(var);
+    Ok(add_ops::add_ite(store, condition, hi, lo)?)
 }
 
 /// The leaf of a value.

@@ -1,6 +1,11 @@
 //! A store of a few slots: conjunctions, leaves, and nodes of each kind.
 
-use edge_bits::{Edge, FIRST_PROJECTION, Kind, Node, VALUE_END};
+ghost use Rattle.std.specs.Prelude.{IfSome};
+ghost use Rattle.edge_bits.specs.declared.edges.Kind.TheVariants.{Bdd};
+ghost use Rattle.node_slots.specs.Stores.{plain_view};
+ghost use Rattle.node_store.specs.Three.{AreThree};
+
+use edge_bits::{Edge, FIRST_ELEMENT, FIRST_PROJECTION, Kind, Node, VALUE_END};
 use ite_core::and;
 use node_slots::{Grow, Opened, PlainStore, Stop};
 use std::test::Fail;
@@ -10,20 +15,38 @@ fn node(var: u16, hi: u32) -> Node {
     Node {
         var,
         hi,
-        lo: Edge::new(0, true),
+        lo: Edge::truth(false),
     }
+}
+
+/// The edges of three variables, as functions.
+#[derive(Clone, Copy, Drop)]
+struct Variables {
+    a: Edge,
+    b: Edge,
+    c: Edge,
+}
+
+/// Those of the first three variables, if there are so many.
+fn first_variables(store: &mut PlainStore) -> Option<Variables>
+    ensures { IfSome result (λ p. AreThree Bdd (plain_view store.new) p.a p.b p.c) }
+{
+    if store.vars() < 3 {
+        return None;
+    }
+    let a = store.projection(0);
+    let b = store.projection(1);
+    let c = store.projection(2);
+    Some(Variables { a, b, c })
 }
 
 #[test]
 fn conjunctions_to_the_last_slot(rt: HostRuntime) -> Result<(), Fail> {
-    let (a, b, c) = (
-        Edge::new(5, false),
-        Edge::new(6, false),
-        Edge::new(7, false),
-    );
     // Eight permanent slots, one for b and c, and one for all three.
     let mut store = PlainStore::new(rt.alloc(), 3, 0, 10)?;
-    let _levels = store.levels(Kind::Bdd);
+    let Some(Variables { a, b, c }) = first_variables(&mut store) else {
+        return Err(Fail::new("no three variables"));
+    };
     assert_eq!(rt; store.in_use(), 8);
     let Ok(bc) = and(&mut store, b, c) else {
         return Err(Fail::new("refused with two free slots"));
@@ -45,11 +68,9 @@ fn conjunctions_to_the_last_slot(rt: HostRuntime) -> Result<(), Fail> {
 
 #[test]
 fn leaves_and_nodes_of_each_kind(rt: HostRuntime) -> Result<(), Fail> {
-    let (empty, base, zero) = (
-        Edge::new(1, false),
-        Edge::new(2, false),
-        Edge::new(3, false),
-    );
+    let empty = Edge::empty_family();
+    let base = Edge::base_family();
+    let zero = Edge::number_zero();
     // Six permanent slots, and three for the leaf, the node over it and the family of one combination.
     let mut store = PlainStore::new(rt.alloc(), 1, 1, 9)?;
     let _levels = store.levels(Kind::Add);
@@ -59,12 +80,12 @@ fn leaves_and_nodes_of_each_kind(rt: HostRuntime) -> Result<(), Fail> {
     let Ok(node) = store.make(0, leaf, zero) else {
         return Err(Fail::new("no node with two free slots"));
     };
-    let Ok(single) = store.make(16384, base, empty) else {
+    let Ok(single) = store.make(FIRST_ELEMENT, base, empty) else {
         return Err(Fail::new("no family with one free slot"));
     };
     assert_eq!(rt; store.in_use(), 9);
     assert!(rt; store.open(node) == Opened::Inner(0, leaf, zero));
-    assert!(rt; store.open(single) == Opened::Inner(16384, base, empty));
+    assert!(rt; store.open(single) == Opened::Inner(FIRST_ELEMENT, base, empty));
     assert!(rt; store.leaf(21) == Ok(leaf));
     assert!(rt; store.leaf(0) == Ok(zero));
     assert!(rt; store.leaf(42) == Err(Stop::Full));
@@ -99,14 +120,11 @@ fn free(store: &mut PlainStore, slot: u32) -> bool {
 
 /// The products of the second and the third variable, and of all three, if there are slots for them.
 fn products(store: &mut PlainStore) -> Option<(Edge, Edge)> {
-    let _levels = store.levels(Kind::Bdd);
-    if store.vars() < 3 {
-        return None;
-    }
-    let Ok(two) = and(store, Edge::new(6, false), Edge::new(7, false)) else {
+    let Variables { a, b, c } = first_variables(store)?;
+    let Ok(two) = and(store, b, c) else {
         return None;
     };
-    let Ok(three) = and(store, Edge::new(5, false), two) else {
+    let Ok(three) = and(store, a, two) else {
         return None;
     };
     Some((two, three))
