@@ -1,5 +1,7 @@
 -- What an outcome promises, under other names of what it promises.
-use Rattle.std.proofs.Common.{◌≡◌, ℕ, Bool, inl, inr, ap, sym, ◌∙◌, subst, arith, Result}
+use Rattle.std.proofs.Common.{◌≡◌, ℕ, Bool, true, inl, inr, ap, sym, ◌∙◌, subst, arith, Result, Ok, Err}
+use Rattle.std.specs.Prelude.{IsErrOf}
+use Rattle.node_store.specs.declared.operator.Halt.TheVariants.{Memory}
 use Rattle.std.proofs.lemmas.Result.{IfOk-weaker}
 use Rattle.edge_bits.specs.declared.edges.Edge.{Edge}
 use Rattle.function_laws.specs.Kinds.{Denoted}
@@ -40,3 +42,23 @@ Serves-after m s = record {
   full = λ is few. (let a = s.full is few in let k = m.fulls in omega arith);
   due = s.due;
 }
+
+-- an answer for which nothing was made
+pub Serves-kept : {A : Edge → Type 0} {O : Type 0} {W : Denoted → Type 0} {S : Type 0} {v w : View} (e : Edge) → Kept v w → A e → Serves A O W S (Unit {0}) v w (Ok e)
+Serves-kept e m is = record {
+  grown = m.grown;
+  room = tt;
+  answer = is;
+  overflow = λ bad. absurd (never bad);
+  work = λ i made. inl (ap (λ (x : ℕ → Bool). x i) (sym m.made) ∙ made);
+  memory = λ bad. absurd (never bad);
+  full = λ bad. absurd (never bad);
+  due = λ bad. absurd (never bad);
+}
+  where
+    never : {x : Edge} {halt : Halt} → Ok x ≡ Err halt → ⊥
+    never bad = cc
+
+-- what a run on a scratch that is handed in says of want of memory
+pub Serves-memory : {A : Edge → Type 0} {O : Type 0} {W : Denoted → Type 0} {K : Type 0} {v w : View} (r : Result Edge Halt) → Serves A O W ⊥ K v w r → IsErrOf r Memory → v.may_want_memory ≡ true
+Serves-memory r s is = elim (s.memory is) [ inl bad ↦ absurd bad | inr may ↦ may ]

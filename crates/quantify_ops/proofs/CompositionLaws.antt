@@ -1,30 +1,32 @@
 -- Composition by a variable, step by step.
-use Rattle.std.proofs.Common.{◌≡◌, ◌≢◌, ℕ, ◌+◌, ◌<◌, ◌≤◌, Bool, true, false, cond, ℤ, Option, Some, ◌⊎◌, inl, inr, refl, ap, sym, ◌∙◌, subst, arith}
+use Rattle.std.proofs.Common.{◌≡◌, ◌≢◌, ℕ, ◌<◌, ◌≤◌, Bool, true, false, cond, ℤ, Option, Some, ◌⊎◌, inl, inr, refl, ap, sym, ◌∙◌, subst, arith}
 use Rattle.edge_bits.specs.declared.edges.Edge.{Edge}
 use Rattle.edge_bits.specs.declared.edges.Kind.TheVariants.{Bdd}
-use Rattle.function_laws.specs.Values.{IsFree, choice, cofactor, composed, if_then_else}
+use Rattle.function_laws.specs.Values.{IsFree, choice, cofactor, composed, if_then_else, projection}
 use Rattle.function_laws.proofs.ComposeLemmas.{composed-choice, composed-free, composed-own, IsFree-composed}
 use Rattle.function_laws.proofs.ValueLemmas.{cofactor-choice_false, cofactor-choice_true, cofactor-free, IsFree-choice_other}
 use Rattle.node_store.specs.Edges.{flip_if}
 use Rattle.function_laws.specs.Kinds.{Denoted, BddFunction}
-use Rattle.node_store.specs.Memo.{ComposeHolds, literal_edge}
+use Rattle.node_store.specs.Memo.{ComposeHolds}
 use Rattle.node_store.specs.Numbers.{compose_number}
 use Rattle.node_store.specs.Splits.{Branches}
 use Rattle.node_store.specs.Three.{AreThree, IsFlipped, IsPartOrComplement, value_of_three}
 use Rattle.node_store.specs.ThreeLaws.{IsPartOrComplement-grown}
 use Rattle.node_store.specs.Two.{TwoSplits, two_depth}
 use Rattle.node_store.specs.TwoLaws.{AreTwo-grown}
-use Rattle.node_store.specs.Views.{View, AreTwo, CanMake, Denotes, Grown, Is, IsBelow, IsInner, IsKey, IsLeaf, IsVariable, Permanent, Splits, bdd_at, node_values}
-use Rattle.node_store.specs.ViewLaws.{Grown-refl, Grown-trans, Denotes-flip, Is-from, Is-grown, IsBelow-inner, IsVariable-grown, Splits-grown, level-grown, top-grown, values_at-grown, values_at-is}
+use Rattle.node_store.specs.Views.{View, AreTwo, CanMake, Denotes, Grown, Is, IsBelow, IsInner, IsKey, IsLeaf, IsVariable, Splits, bdd_at, node_values, NotBothLeaves}
+use Rattle.node_store.specs.ViewLaws.{Grown-trans, Denotes-flip, Is-from, Is-grown, IsBelow-inner, IsVariable-grown, Splits-grown, level-grown, top-grown, values_at-grown, values_at-is}
 use Rattle.node_store.specs.Work.{whole, IsWork, Adds, Moves}
-use Rattle.node_store.specs.WorkLaws.{IsWork-due, IsWork-edge, IsWork-grown}
+use Rattle.node_store.specs.WorkLaws.{IsWork-due, IsWork-edge}
 use Rattle.node_store.specs.declared.binary.Branch.{Branch}
 use Rattle.node_store.specs.declared.operator.Task.{Task}
+use Rattle.node_store.specs.declared.parts.Halves.{Halves}
 use Rattle.node_store.proofs.ThreeParts.{IsFlipped-answer, IsFlipped-part, IsPartOrComplement-half}
+use Rattle.node_store.proofs.Literals.{same_variable}
 use Rattle.node_store.proofs.ThreeWork.{part_of_either}
 use Rattle.node_store.proofs.TwoParts.{Lacks-leaf}
-use Rattle.ite_core.proofs.CofactorLaws.{Denotes-literal, regular_is}
-use Rattle.ite_core.specs.Implications.{CanCompare, IsCompared}
+use Rattle.ite_core.proofs.CofactorLaws.{regular_is}
+use Rattle.ite_core.proofs.ImplicationLaws.{IsCompared}
 use Rattle.quantify_ops.specs.Composed.{composed_at, AreComposed, value_of_compose, IsPartOrBelow, ComposeDue, ComposeAnswers, SplitsAround, ComposeSplits, IsAbove, IsFound, IsOwn}
 use Rattle.quantify_ops.specs.declared.composition.Found.{Found}
 use Rattle.quantify_ops.specs.declared.composition.Found.TheVariants.{Free, Own, Above}
@@ -92,15 +94,12 @@ pub free_answer : (w : View) (f g : Edge) (x : ℕ) → Is Bdd w f → IsFree (b
 free_answer w f g x d free = subst (λ h. Denotes Bdd w f h) (sym (composed-free (bdd_at w f) (bdd_at w g) x free)) d
 
 -- the key
-pub IsKey-projection : (w : View) → Permanent w → (f g p : Edge) (x : ℕ) → p ≡ literal_edge x true → AreTwo Bdd w f g → IsVariable Bdd w x → IsKey w (record { op = compose_number; f = f; g = g; h = p })
-IsKey-projection w permanent f g p x same d xn =
-    rw same (record { least = omega arith; most = omega arith; f = (Bdd, d.first); g = (Bdd, d.second); h = (Bdd, Is-from Bdd (Denotes-literal w permanent x xn true)) })
+pub IsKey-projection : (w : View) (f g p : Edge) (x : ℕ) → Denotes Bdd w p (projection x) → AreTwo Bdd w f g → IsKey w (record { op = compose_number; f = f; g = g; h = p })
+IsKey-projection w f g p x is d = record { least = omega arith; most = omega arith; f = (Bdd, d.first); g = (Bdd, d.second); h = (Bdd, Is-from Bdd is) }
 
-pub Compose-hit : (w : View) (f g p : Edge) (x : ℕ) (e : Edge) → p ≡ literal_edge x true → ComposeHolds w (record { op = compose_number; f = f; g = g; h = p }) e → Denotes Bdd w e (composed_at w f x g)
+pub Compose-hit : (w : View) (f g p : Edge) (x : ℕ) (e : Edge) → Denotes Bdd w p (projection x) → ComposeHolds w (record { op = compose_number; f = f; g = g; h = p }) e → Denotes Bdd w e (composed_at w f x g)
 Compose-hit w f g p x e is h =
-    let both : literal_edge x true ≡ literal_edge h.variable true = sym is ∙ h.projection in
-    let index : 5 + x ≡ 5 + h.variable = ap (λ y. y.index) both in
-    let same : h.variable ≡ x = omega arith in
+    let same = same_variable h.variable x (sym (values_at-is Bdd h.projection) ∙ values_at-is Bdd is) in
     subst (λ y. Denotes Bdd w e (composed_at w f y g)) same h.answer
 
 -- what is left where neither is free nor own
@@ -109,14 +108,14 @@ is_above w f v Free is not_free not_own = absurd (not_free refl)
 is_above w f v (Own hi lo) is not_free not_own = absurd (not_own hi lo refl)
 is_above w f v Above is not_free not_own = is
 
+-- the regular task's operands
+pub regular_two : (v w : View) (f g r : Edge) (t : Task) → r ≡ record { index = f.index; complement = false } → t.f ≡ r → t.g ≡ g → AreTwo Bdd v f g → Grown v w → AreTwo Bdd w t.f t.g
+regular_two v w f g r t same sf sg d m = let two = AreTwo-grown Bdd m d in rw (sf, sg) (record { first = regular_is w f r same two.first; second = two.second })
+
 -- not both are leaves where the first depends on a variable
-pub can_compare : (v w : View) (r g : Edge) (t : Task) (x : ℕ) → Grown v w → t.f ≡ r → t.g ≡ g → AreTwo Bdd v r g → IsAbove v r x → CanCompare w t
-can_compare v w r g t x m sf sg d above =
-    let now = IsAbove-grown m d.first above in
-    record {
-      two = rw (sf, sg) (AreTwo-grown Bdd m d);
-      inner = λ y z leaf other. now.depends (subst (λ e. IsFree (bdd_at w e) now.upper) sf (Lacks-leaf Bdd t.f (bdd_at w t.f) y leaf.leaf now.upper));
-    }
+pub inner_above : (v w : View) (r : Edge) (t : Task) (x : ℕ) → Grown v w → t.f ≡ r → Is Bdd v r → IsAbove v r x → NotBothLeaves Bdd w t.f t.g
+inner_above v w r t x m sf d above y z leaf other =
+    let now = IsAbove-grown m d above in now.depends (subst (λ e. IsFree (bdd_at w e) now.upper) sf (Lacks-leaf Bdd t.f (bdd_at w t.f) y leaf.leaf now.upper))
 
 -- the two parts at another variable
 module _ (w : View) (v x : ℕ) (t hi lo : Task) (apart : x ≢ v) (s : TwoSplits Bdd w t x hi lo) where
@@ -191,17 +190,17 @@ module _ (f : Edge) (v : ℕ) (g p : Edge) (w0 w1 w : View) (root : Task) (r : E
       above.depends (subst (λ h. IsFree h above.upper) (sym s.is)
       (IsFree-choice_other (bdd_at w hi) (bdd_at w lo) x above.upper apart (s.hi_below above.upper above.in_range le) (s.lo_below above.upper above.in_range le)))
 
-  pub Compose-above : (b : Branch) (t : Task) → t.f ≡ r → t.g ≡ root.g → IsAbove w1 r v → IsCompared w t b → br.var ≡ b.var → br.hi ≡ b.hi → br.lo ≡ b.lo
+  pub Compose-above : (b : Halves) (t : Task) → t.f ≡ r → t.g ≡ root.g → IsAbove w1 r v → IsCompared w t b → br.var ≡ b.top.var → br.hi ≡ b.hi → br.lo ≡ b.lo
       → Branches (ComposeDue f v g p) (ComposeAnswers v) (λ x t. ⊥) (ComposeSplits f v g) (two_depth Bdd) w root br
   Compose-above b t tf tg above1 c sv sh sl =
       let above = IsAbove-grown m1 is_r0 above1 in
       let here = above.here in let higher = above.higher in
       let le : w.top r.index ≤ w.level v = omega arith in
-      let split_r : Splits Bdd w b.var (bdd_at w r) b.hi.f b.lo.f = subst (λ e. Splits Bdd w b.var (bdd_at w e) b.hi.f b.lo.f) tf c.splits.f in
-      let split_g : Splits Bdd w b.var (bdd_at w root.g) b.hi.g b.lo.g = subst (λ e. Splits Bdd w b.var (bdd_at w e) b.hi.g b.lo.g) tg c.splits.g in
+      let split_r : Splits Bdd w b.top.var (bdd_at w r) b.hi.f b.lo.f = subst (λ e. Splits Bdd w b.top.var (bdd_at w e) b.hi.f b.lo.f) tf c.splits.f in
+      let split_g : Splits Bdd w b.top.var (bdd_at w root.g) b.hi.g b.lo.g = subst (λ e. Splits Bdd w b.top.var (bdd_at w e) b.hi.g b.lo.g) tg c.splits.g in
       let s : TwoSplits Bdd w br.task br.var br.hi br.lo = record { in_range = rw sv c.splits.in_range; f = rw (sf, sv, sh, sl) split_r; g = rw (sg, sv, sh, sl) split_g } in
       let depth : two_depth Bdd w t ≡ two_depth Bdd w root = rw (tf, tg, index) refl in
-      let apart : br.var ≢ v = rw sv (not_own above b.var b.hi.f b.lo.f split_r) in
+      let apart : br.var ≢ v = rw sv (not_own above b.top.var b.hi.f b.lo.f split_r) in
       let hi_two : AreTwo Bdd w br.hi.f br.hi.g = record { first = s.f.hi_is; second = s.g.hi_is } in
       let lo_two : AreTwo Bdd w br.lo.f br.lo.g = record { first = s.f.lo_is; second = s.g.lo_is } in
       record {
@@ -323,17 +322,6 @@ module _ (f : Edge) (v : ℕ) (g p : Edge) (u w : View) (t hi lo : Task) (x : �
 
     pub other_answer : (e : Edge) → Denotes Bdd w e (node_values Bdd u x e0 e1) → ComposeAnswers v w t e
     other_answer e den = answer_now v u w t e (node_values Bdd u x e0 e1) m d.two node_is den
-
--- from the view at the end to that at the start
-module _ (f : Edge) (v : ℕ) (g : Edge) where
-  pub compose_back : (u w : View) → Grown u w → AreComposed u f v g → (F : Denoted) → value_of_compose f v g w F → value_of_compose f v g u F
-  compose_back u w m d F is = is ∙ ap BddFunction (composed_at-grown v m d.two)
-
-  pub Compose-due_start : (u w : View) → Grown u w → AreComposed u f v g → (o : Option Denoted) → IsWork w (value_of_compose f v g w) o → IsWork w (value_of_compose f v g u) o
-  Compose-due_start u w m d o i = IsWork-grown (Grown-refl w) (value_of_compose f v g w) (value_of_compose f v g u) (compose_back u w m d) o i
-
-  pub Compose-adds_start : (u w : View) → AreComposed u f v g → Moves (λ w. AreComposed w f v g) (value_of_compose f v g) u w → Adds (value_of_compose f v g u) u w
-  Compose-adds_start u w d m s here = elim (m.work d s here) [ inl old ↦ inl old | inr i ↦ inr (Compose-due_start u w m.grown d (w.content s) i) ]
 
 -- the answer of the call's own task
 pub root_answer : (u w : View) (f g : Edge) (t : Task) (v : ℕ) (e : Edge) → Grown u w → AreTwo Bdd u f g → t.f ≡ f → t.g ≡ g → ComposeAnswers v w t e → Denotes Bdd w e (composed_at u f v g)

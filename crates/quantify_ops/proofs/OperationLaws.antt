@@ -1,6 +1,6 @@
 -- The values of the quantifiers, and what they store, by the list of variables.
-use Rattle.std.proofs.Common.{◌≡◌, ℕ, Bool, true, List, Option, Some, ◌⊎◌, inl, inr, Result, Ok, Err, IfOk, get_or, refl, sym, ap, ◌∙◌, subst, arith}
-use Rattle.std.specs.List.{All}
+use Rattle.std.proofs.Common.{◌≡◌, ℕ, Bool, true, List, Option, Some, ◌⊎◌, inl, inr, Result, Ok, Err, refl, sym, ap, ◌∙◌, subst, arith}
+use Rattle.edge_bits.specs.Permanent.{truth_edge}
 use Rattle.edge_bits.specs.declared.edges.Edge.{Edge}
 use Rattle.edge_bits.specs.declared.edges.Kind.{Kind}
 use Rattle.edge_bits.specs.declared.edges.Kind.TheVariants.{Bdd, Add, Zdd}
@@ -10,14 +10,17 @@ use Rattle.function_laws.proofs.CubeLemmas.{IsCube-of, IsExists-all, IsExists-sa
 use Rattle.function_laws.proofs.ExistsLemmas.{forall_all-negation}
 use Rattle.node_store.specs.Edges.{flip_if}
 use Rattle.function_laws.specs.Kinds.{Denoted, BddFunction, ValueOf, function_of, values_of, opposite}
-use Rattle.node_store.specs.Views.{View, AreTwo, Denotes, Grown, Is, IsVariable, Permanent, bdd_at, truth_edge}
-use Rattle.node_store.specs.ViewLaws.{Grown-refl, Denotes-flip, Denotes-grown, Denotes-truth, Is-from, IsVariable-grown, values_at-is, values_at-grown}
-use Rattle.node_store.specs.Work.{whole, cut, IsPart, IsWork, Adds, Moves}
+use Rattle.node_store.specs.Views.{View, AreTwo, Denotes, Grown, Is, Permanent, bdd_at}
+use Rattle.node_store.specs.ViewLaws.{Grown-refl, Grown-trans, Denotes-flip, Denotes-grown, Denotes-truth, Is-from, values_at-is, values_at-grown}
+use Rattle.node_store.specs.Work.{whole, cut, IsPart, IsWork}
 use Rattle.node_store.specs.WorkLaws.{IsPart-back, IsPart-not, IsWork-grown}
-use Rattle.node_store.specs.declared.grow.Stop.{Stop}
+use Rattle.node_store.specs.Operations.{Serves}
+use Rattle.node_store.specs.declared.operator.Halt.{Halt}
+use Rattle.node_store.proofs.Running.{IsWork-named}
 use Rattle.node_store.proofs.ComplementWork.{negation-negation, IsWork-negation}
-use Rattle.ite_core.proofs.Complements.{flipped-is}
+use Rattle.ite_core.proofs.Complements.{flipped-is, flipped_outcome}
 use Rattle.quantify_ops.specs.Products.{IsProduct}
+use Rattle.quantify_ops.proofs.ProductLaws.{Adds-both}
 use Rattle.quantify_ops.specs.Quantified.{both_at, HasCube, AreQuantified, IsQuantifiedValue, QuantifiedDue, QuantifiedAnswers}
 use Rattle.quantify_ops.specs.Works.{value_of_and_exists, value_of_exists, value_of_forall, work_of_and_exists, work_of_exists, work_of_forall}
 
@@ -49,8 +52,8 @@ root_answer v w f g c vars e m two d a =
     subst (λ h. Denotes Bdd w e h) (IsExists-same (cube_of vars) (both_at v f g) (bdd_at w e) (exists_all (both_at v f g) vars) is (IsExists-all (both_at v f g) vars)) a.answer
 
 -- what it stores
-value_back : (v w : View) (f g c : Edge) (vars : List ℕ) → Grown v w → AreTwo Bdd v f g → IsProduct v c vars → (F : Denoted) → IsQuantifiedValue f g c w F → value_of_and_exists f g vars v F
-value_back v w f g c vars m two d F i =
+pub quantified_back : (v w : View) (f g c : Edge) (vars : List ℕ) → Grown v w → AreTwo Bdd v f g → IsProduct v c vars → (F : Denoted) → IsQuantifiedValue f g c w F → value_of_and_exists f g vars v F
+quantified_back v w f g c vars m two d F i =
     let part_f = rw (values_at-grown Bdd m two.first) at i.part_f in
     let part_g = rw (values_at-grown Bdd m two.second) at i.part_g in
     let is = rw (values_at-is Bdd (Denotes-grown Bdd m d)) at i.exists in (
@@ -62,18 +65,6 @@ value_back v w f g c vars m two d F i =
         i.is ∙ ap BddFunction (IsExists-same (cube_of vars) (conjunction i.a i.b) i.h (exists_all (conjunction i.a i.b) vars) is (IsExists-all (conjunction i.a i.b) vars)),
       ),
     )
-
-pub root_due_start : (v w : View) (f g c : Edge) (vars : List ℕ) → Grown v w → AreTwo Bdd v f g → IsProduct v c vars → (o : Option Denoted)
-    → IsWork w (IsQuantifiedValue f g c w) o → IsWork w (value_of_and_exists f g vars v) o
-root_due_start v w f g c vars m two d o i = IsWork-grown (Grown-refl w) (IsQuantifiedValue f g c w) (value_of_and_exists f g vars v) (value_back v w f g c vars m two d) o i
-
-pub root_adds : (v w : View) (f g c : Edge) (vars : List ℕ) → AreTwo Bdd v f g → IsProduct v c vars → Moves (λ w. AreQuantified w f g c) (IsQuantifiedValue f g c) v w
-    → Adds (value_of_and_exists f g vars v) v w
-root_adds v w f g c vars two d m s here =
-    elim (m.work (root_quantified v f g c vars two d) s here) [ inl old ↦ inl old | inr i ↦ inr (root_due_start v w f g c vars m.grown two d (w.content s) i) ]
-
-pub Adds-more : (P Q : Denoted → Type 0) → ((F : Denoted) → P F → Q F) → (v w : View) → Adds P v w → Adds Q v w
-Adds-more P Q more v w adds s here = elim (adds s here) [ inl old ↦ inl old | inr i ↦ inr (IsWork-grown (Grown-refl w) P Q more (w.content s) i) ]
 
 -- a conjunction with true
 constant_part : (w : View) (a : ℕ → Bool) → IsPart Bdd w (constant true) a → a ≡ constant true
@@ -132,9 +123,6 @@ module _ (v w : View) (f n : Edge) (vars : List ℕ) (same : n ≡ flip_if true 
       by_kind Add root p (a, (part, other)) q is = cc
       by_kind Zdd root p (a, (part, other)) q is = cc
 
-  pub not_adds : Adds (value_of_exists n vars v) v w → Adds (value_of_forall f vars v) v w
-  not_adds adds s here = elim (adds s here) [ inl old ↦ inl old | inr i ↦ inr (not_due (w.content s) i) ]
-
   -- with the product
   pub not_work : (o : Option Denoted) → IsWork w (work_of_exists n vars v) o → IsWork w (work_of_forall f vars v) o
   not_work o i = by_work i.asked
@@ -144,40 +132,60 @@ module _ (v w : View) (f n : Edge) (vars : List ℕ) (same : n ≡ flip_if true 
           (not_due o (record { kind = i.kind; root = i.root; part = i.part; asked = value; is_part = i.is_part; is = i.is }))
       by_work (inr is) = record { kind = i.kind; root = i.root; part = i.part; asked = inr is; is_part = i.is_part; is = i.is }
 
-  pub not_work_adds : Adds (work_of_exists n vars v) v w → Adds (work_of_forall f vars v) v w
-  not_work_adds adds s here = elim (adds s here) [ inl old ↦ inl old | inr i ↦ inr (not_work (w.content s) i) ]
+-- the outcome of a quantified complement, complemented
+module _ {S K : Type 0} (v w : View) (f n : Edge) (vars : List ℕ) (same : n ≡ flip_if true f) (d : Is Bdd v f) (V W : Denoted → Type 0)
+    (more : (o : Option Denoted) → IsWork w V o → IsWork w W o) where
+  pub Serves-forall : (r : Result Edge Halt)
+      → Serves (λ e. Denotes Bdd w e (exists_all (bdd_at v n) vars)) ⊥ V S K v w r
+      → Serves (λ e. Denotes Bdd w e (forall_all (bdd_at v f) vars)) ⊥ W S K v w (flipped_outcome r)
+  Serves-forall (Ok e) s = record {
+    grown = s.grown;
+    room = s.room;
+    answer = not_answer v w f n e (flip_if true e) vars same refl d s.answer;
+    overflow = λ is. absurd (never is);
+    work = λ i made. elim (s.work i made) [ inl old ↦ inl old | inr is ↦ inr (more (w.content i) is) ];
+    memory = λ is. absurd (never is);
+    full = λ is. absurd (never is);
+    due = λ is. absurd (never is);
+  }
+    where
+      never : {x : Edge} {halt : Halt} → Ok x ≡ Err halt → ⊥
+      never is = cc
+  Serves-forall (Err halt) s = record {
+    grown = s.grown;
+    room = s.room;
+    answer = tt;
+    overflow = s.overflow;
+    work = λ i made. elim (s.work i made) [ inl old ↦ inl old | inr is ↦ inr (more (w.content i) is) ];
+    memory = s.memory;
+    full = s.full;
+    due = λ is. more w.due (s.due is);
+  }
 
--- from a later view
-pub work_back : (v w : View) (f g : Edge) (vars : List ℕ) → Grown v w → AreTwo Bdd v f g → (F : Denoted) → value_of_and_exists f g vars w F → value_of_and_exists f g vars v F
-work_back v w f g vars m two F (a, b, (part_f, part_g, is)) = (
-  a,
-  b,
-  (
-    IsPart-back Bdd m (bdd_at v f) a (subst (λ h. IsPart Bdd w h a) (values_at-grown Bdd m two.first) part_f),
-    IsPart-back Bdd m (bdd_at v g) b (subst (λ h. IsPart Bdd w h b) (values_at-grown Bdd m two.second) part_g),
-    is,
-  ),
-)
+-- a product, and then a run
+pub Serves-then : {A : Edge → Type 0} {W : Denoted → Type 0} {u v w : View} {a b : Result Edge Halt} {B : Edge → Type 0} → Serves B ⊥ W ⊥ (Unit {0}) u v a → Serves A ⊥ W ⊥ (Unit {0}) v w b
+    → Serves A ⊥ W ⊥ (Unit {0}) u w b
+Serves-then {W = W} {u} {v} {w} p q = record {
+  grown = Grown-trans p.grown q.grown;
+  room = tt;
+  answer = q.answer;
+  overflow = q.overflow;
+  work = Adds-both W u v w p.grown q.grown p.work q.work;
+  memory = λ is. elim (q.memory is) [ inl short ↦ inl short | inr may ↦ inr (p.grown.wants may) ];
+  full = λ is few. (let a = q.full is few in let k = p.grown.fulls in omega arith);
+  due = q.due;
+}
 
-pub work_of_and_exists-back : (v w : View) (f g : Edge) (vars : List ℕ) → Grown v w → AreTwo Bdd v f g → (F : Denoted) → work_of_and_exists f g vars w F → work_of_and_exists f g vars v F
-work_of_and_exists-back v w f g vars m two F (inl value) = inl (work_back v w f g vars m two F value)
-work_of_and_exists-back v w f g vars m two F (inr is) = inr is
-
-pub work_of_exists-back : (v w : View) (f : Edge) (vars : List ℕ) → Grown v w → Is Bdd v f → (F : Denoted) → work_of_exists f vars w F → work_of_exists f vars v F
-work_of_exists-back v w f vars m d F (inl (a, (part, is))) =
-    inl (a, (IsPart-back Bdd m (bdd_at v f) a (subst (λ h. IsPart Bdd w h a) (values_at-grown Bdd m d) part), is))
-work_of_exists-back v w f vars m d F (inr is) = inr is
-
-pub both_back : (v w : View) (f g : Edge) (vars : List ℕ) → Grown v w → AreTwo Bdd v f g → exists_all (both_at w f g) vars ≡ exists_all (both_at v f g) vars
-both_back v w f g vars m two = rw (values_at-grown Bdd m two.first, values_at-grown Bdd m two.second) refl
-
-pub one_back : (v w : View) (f : Edge) (vars : List ℕ) → Grown v w → Is Bdd v f → exists_all (bdd_at w f) vars ≡ exists_all (bdd_at v f) vars
-one_back v w f vars m d = ap (λ h. exists_all h vars) (values_at-grown Bdd m d)
-
-pub in_range_lasts : (v w : View) (vars : List ℕ) → Grown v w → All (IsVariable Bdd v) vars → All (IsVariable Bdd w) vars
-in_range_lasts v w vars m h k d below = IsVariable-grown Bdd m (get_or vars k d) (h k d below)
-
--- an answer lasts to the end, and is that of the operands at the start
-pub lasts : (f h : ℕ → Bool) (c d : View) → Grown c d → f ≡ h → (r : Result Edge Stop) → IfOk r (λ e. Denotes Bdd c e f) → IfOk r (λ e. Denotes Bdd d e h)
-lasts f h c d m same (Ok e) is = subst (λ x. Denotes Bdd d e x) same (Denotes-grown Bdd m is)
-lasts f h c d m same (Err e) is = is
+-- no answer, whatever was asked for
+pub Serves-failed : {A B : Edge → Type 0} {V W : Denoted → Type 0} {S K : Type 0} {v w : View} {halt : Halt}
+    → ((f : Denoted) → V f → W f) → Serves A ⊥ V S K v w (Err halt) → Serves B ⊥ W S K v w (Err halt)
+Serves-failed {W = W} {w = w} more s = record {
+  grown = s.grown;
+  room = s.room;
+  answer = tt;
+  overflow = s.overflow;
+  work = λ i made. elim (s.work i made) [ inl old ↦ inl old | inr is ↦ inr (IsWork-named more is) ];
+  memory = s.memory;
+  full = s.full;
+  due = λ is. IsWork-named more (s.due is);
+}

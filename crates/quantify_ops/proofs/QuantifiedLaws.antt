@@ -1,7 +1,8 @@
 -- A quantified conjunction, step by step.
-use Rattle.std.proofs.Common.{◌≡◌, ◌≢◌, ℕ, suc, ◌<◌, ◌≤◌, max, Bool, true, false, not, cond, ◌&&◌, ◌⊎◌, inl, inr, Some, Result, Ok, Err, IfOk, refl, sym, ap, ◌∙◌, subst, arith}
+use Rattle.std.proofs.Common.{◌≡◌, ◌≢◌, ℕ, ℤ, suc, ◌<◌, ◌≤◌, max, Bool, true, false, not, cond, ◌&&◌, ◌⊎◌, inl, inr, Some, Result, Ok, Err, IfOk, refl, sym, ap, ◌∙◌, subst, arith}
 use Rattle.std.specs.Prelude.{IsOkAnd}
 use Rattle.std.proofs.lemmas.Bool.{cases_lt}
+use Rattle.edge_bits.specs.Permanent.{truth_edge}
 use Rattle.edge_bits.specs.declared.edges.Edge.{Edge}
 use Rattle.edge_bits.specs.declared.edges.Kind.TheVariants.{Bdd}
 use Rattle.function_laws.specs.Cubes.{IsCube, IsExists}
@@ -15,15 +16,16 @@ use Rattle.node_store.specs.Numbers.{exists_number, and_exists_number}
 use Rattle.node_store.specs.Splits.{BothAnswered, Leads}
 use Rattle.node_store.specs.Two.{IsOrderOf, TwoSplits, two_depth}
 use Rattle.node_store.specs.TwoLaws.{AreTwo-grown, TwoSplits-stay, two_depth-stays, Two-is, Two-hi_below, Two-lo_below}
-use Rattle.node_store.specs.Views.{View, AreTwo, CanMake, Denotes, Grown, Is, Kept, IsVariable, Permanent, Splits, bdd_at, truth_edge}
-use Rattle.node_store.specs.ViewLaws.{Grown-refl, Grown-trans, Is-from, level-grown, values_at-is, values_at-grown}
+use Rattle.node_store.specs.Views.{AreTwo, CanMake, Denotes, Grown, Is, IsLeaf, IsLeafOf, IsVariable, Kept, NotBothLeaves, Permanent, Splits, View, bdd_at}
+use Rattle.node_store.specs.ViewLaws.{Grown-refl, Grown-trans, Is-from, level-grown, values_at-is, values_at-grown, top-grown}
 use Rattle.node_store.specs.Work.{whole, IsWork, Adds, Moves}
 use Rattle.node_store.specs.WorkLaws.{IsPart-half, IsWork-due, IsWork-grown, Moves-both, Moves-kept, Moves-made}
 use Rattle.node_store.specs.declared.binary.Branch.{Branch}
-use Rattle.node_store.specs.declared.grow.Stop.{Stop}
+use Rattle.node_store.specs.declared.operator.Halt.{Halt}
 use Rattle.node_store.specs.declared.operator.Task.{Task}
+use Rattle.node_store.specs.declared.parts.Halves.{Halves}
 use Rattle.node_store.specs.declared.operator.Wait.TheVariants.{First}
-use Rattle.ite_core.specs.Implications.{IsCompared}
+use Rattle.ite_core.proofs.ImplicationLaws.{IsCompared}
 use Rattle.ite_core.proofs.Terminals.{truth_at}
 use Rattle.quantify_ops.specs.Quantified.{both_at, HasCube, AreQuantified, IsFreeAbove, StandsAbove, IsQuantifiedValue, QuantifiedDue, QuantifiedAnswers, IsLeft, LeftIs, QuantifiedSplits, IsBelowLevel, IsRest, FirstAnswered, IsKeyOf, IsNarrowed, QuantifiedWaits}
 use Rattle.quantify_ops.specs.QuantifiedLasts.{HasCube-grown, IsFreeAbove-grown, StandsAbove-grown, AreQuantified-grown, IsQuantifiedValue-stays, QuantifiedDue-stays, QuantifiedAnswers-stay, QuantifiedSplits-stay}
@@ -147,9 +149,9 @@ IsBelowLevel-grown v w c d level m cube b = record {
 }
 
 -- the same, from view to view
-pub narrowed_from : (f g c : Edge) (v0 v1 v2 v3 v4 : View) (t : Task) (b : Branch) (level : ℕ) (d r : Edge) → QuantifiedDue f g c v0 t → Grown v0 v1 → IsCompared v1 t b
-    → Grown v1 v2 → level ≡ v1.level b.var → Grown v2 v3 → IsBelowLevel v3 t.h d level → Grown v3 v4 → LeftIs v4 d b.var r
-    → IsNarrowed f g c v4 t (record { task = narrow_task f g c v4 t b.hi b.lo b.var d r; flip = false; var = b.var; hi = hi_task f g c v4 t b.hi b.lo b.var d r; lo = lo_task f g c v4 t b.hi b.lo b.var d r })
+pub narrowed_from : (f g c : Edge) (v0 v1 v2 v3 v4 : View) (t : Task) (b : Halves) (level : ℕ) (d r : Edge) → QuantifiedDue f g c v0 t → Grown v0 v1 → IsCompared v1 t b
+    → Grown v1 v2 → level ≡ v1.level b.top.var → Grown v2 v3 → IsBelowLevel v3 t.h d level → Grown v3 v4 → LeftIs v4 d b.top.var r
+    → IsNarrowed f g c v4 t (record { task = narrow_task f g c v4 t b.hi b.lo b.top.var d r; flip = false; var = b.top.var; hi = hi_task f g c v4 t b.hi b.lo b.top.var d r; lo = lo_task f g c v4 t b.hi b.lo b.top.var d r })
 narrowed_from f g c v0 v1 v2 v3 v4 t b level d r due m1 parts m2 is_level m3 below m4 left =
     let m24 = Grown-trans m2 (Grown-trans m3 m4) in
     let two1 = AreTwo-grown Bdd m1 due.operands.two in
@@ -158,8 +160,8 @@ narrowed_from f g c v0 v1 v2 v3 v4 t b level d r due m1 parts m2 is_level m3 bel
     let hi = two_depth-stays Bdd v1 v4 b.hi m24 (record { first = s.f.hi_is; second = s.g.hi_is }) in
     let lo = two_depth-stays Bdd v1 v4 b.lo m24 (record { first = s.f.lo_is; second = s.g.lo_is }) in
     let less = parts.hi_less in let less2 = parts.lo_less in
-    let same : v4.level b.var ≡ level = level-grown m24 b.var ∙ sym is_level in
-    narrowed f g c v4 t b.hi b.lo b.var d r (QuantifiedDue-stays f g c v0 v4 t (Grown-trans m1 m24) due) (TwoSplits-stay Bdd v1 v4 t b.var b.hi b.lo m24 two1 s) (omega arith) (omega arith)
+    let same : v4.level b.top.var ≡ level = level-grown m24 b.top.var ∙ sym is_level in
+    narrowed f g c v4 t b.hi b.lo b.top.var d r (QuantifiedDue-stays f g c v0 v4 t (Grown-trans m1 m24) due) (TwoSplits-stay Bdd v1 v4 t b.top.var b.hi b.lo m24 two1 s) (omega arith) (omega arith)
     (rw same (IsBelowLevel-grown v3 v4 t.h d level m4 (HasCube-grown (Grown-trans m1 (Grown-trans m2 m3)) due.operands.cube) below)) left
 
 -- lasting
@@ -364,12 +366,12 @@ module _ (f g c : Edge) where
     Quantified-made : (e : Edge) → ((s : ℕ) → w.made s ≡ true → (v.made s ≡ true) ⊎ (e.index ≡ s)) → Denotes Bdd w e h → Moves (λ w. AreQuantified w f g c) (IsQuantifiedValue f g c) v w
     Quantified-made e made den = Moves-made Bdd (λ w. AreQuantified w f g c) (IsQuantifiedValue f g c) v w e h h m made (λ roots. later) whole den
 
-    pub Quantified-node : (r : Result Edge Stop) → ((s : ℕ) → w.made s ≡ true → (v.made s ≡ true) ⊎ IsOkAnd r (λ e. e.index ≡ s)) → IfOk r (λ e. Denotes Bdd w e h)
+    pub Quantified-node : (r : Result Edge Halt) → ((s : ℕ) → w.made s ≡ true → (v.made s ≡ true) ⊎ IsOkAnd r (λ e. e.index ≡ s)) → IfOk r (λ e. Denotes Bdd w e h)
         → Moves (λ w. AreQuantified w f g c) (IsQuantifiedValue f g c) v w
     Quantified-node (Ok e) made den = Quantified-made e made den
     Quantified-node (Err e) made den = record { grown = m; work = λ roots s here. elim (made s here) [ inl old ↦ inl old | inr bad ↦ absurd bad ] }
 
-    pub Quantified-answers : (r : Result Edge Stop) → IfOk r (λ e. Denotes Bdd w e h) → IfOk r (QuantifiedAnswers w t)
+    pub Quantified-answers : (r : Result Edge Halt) → IfOk r (λ e. Denotes Bdd w e h) → IfOk r (QuantifiedAnswers w t)
     Quantified-answers (Ok e) den = Quantified-answer e den
     Quantified-answers (Err e) den = den
 
@@ -396,3 +398,14 @@ module _ (f g c : Edge) where
   pub moved_before : (u v w : View) → Moves (λ w. AreQuantified w f g c) (IsQuantifiedValue f g c) u v → Kept v w → Moves (λ w. AreQuantified w f g c) (IsQuantifiedValue f g c) u w
   moved_before u v w p k = Moves-both (λ w. AreQuantified w f g c) (IsQuantifiedValue f g c) (λ v w m d. AreQuantified-grown m d) (IsQuantifiedValue-stays f g c) u v w
       p (Moves-kept (λ w. AreQuantified w f g c) (IsQuantifiedValue f g c) v w k)
+
+-- operands that were not both leaves before
+pub leaves_back : (v w : View) (f g : Edge) (x y : ℤ) → Grown v w → AreTwo Bdd v f g → NotBothLeaves Bdd v f g → IsLeaf Bdd w f (bdd_at w f) x × IsLeaf Bdd w g (bdd_at w g) y → ⊥
+leaves_back v w f g x y m two never leaves = never x y (back f x two.first leaves.0) (back g y two.second leaves.1)
+  where
+    back : (e : Edge) (z : ℤ) → Is Bdd v e → IsLeaf Bdd w e (bdd_at w e) z → IsLeaf Bdd v e (bdd_at v e) z
+    back e z d i = record { leaf = subst (λ h. IsLeafOf Bdd e h z) (values_at-grown Bdd m d) i.leaf; here = sym (top-grown Bdd m d) ∙ i.here ∙ m.vars }
+
+-- nothing was stored
+pub Quantified-none : (f g c : Edge) (v w : View) → Grown v w → ((s : ℕ) → w.made s ≡ true → (v.made s ≡ true) ⊎ ⊥) → Moves (λ w. AreQuantified w f g c) (IsQuantifiedValue f g c) v w
+Quantified-none f g c v w m made = record { grown = m; work = λ roots s here. elim (made s here) [ inl old ↦ inl old | inr bad ↦ absurd bad ] }

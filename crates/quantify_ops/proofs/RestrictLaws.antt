@@ -1,6 +1,8 @@
 -- A restriction, step by step.
-use Rattle.std.proofs.Common.{◌≡◌, ℕ, ◌-◌, ◌<◌, Bool, true, false, not, cond, [], ℤ, Option, Some, ◌⊎◌, inl, inr, Result, Ok, Err, IfOk, refl, sym, ap, ◌∙◌, subst, arith}
+use Rattle.std.proofs.Common.{◌≡◌, ℕ, ◌-◌, ◌<◌, Bool, true, false, not, cond, [], ℤ, Some, ◌⊎◌, inl, inr, refl, sym, ap, ◌∙◌, subst, arith}
+use Rattle.edge_bits.specs.Permanent.{truth_edge}
 use Rattle.edge_bits.specs.declared.edges.Edge.{Edge}
+use Rattle.edge_bits.specs.declared.edges.Kind.{Kind}
 use Rattle.edge_bits.specs.declared.edges.Kind.TheVariants.{Bdd}
 use Rattle.edge_bits.specs.Assignments.{bit}
 use Rattle.function_laws.specs.Restrictions.{IsNowhere, IsRestriction}
@@ -11,14 +13,14 @@ use Rattle.function_laws.proofs.RestrictionLaws.{IsRestriction-branch, IsRestric
 use Rattle.function_laws.proofs.SupportLemmas.{not_not}
 use Rattle.function_laws.proofs.ValueLemmas.{everywhere}
 use Rattle.node_store.specs.Edges.{flip_if}
-use Rattle.function_laws.specs.Kinds.{Denoted, BddFunction}
+use Rattle.function_laws.specs.Kinds.{BddFunction, ValueOf}
 use Rattle.node_store.specs.Memo.{MemoHolds}
 use Rattle.node_store.specs.Splits.{AtSecond, Leads, WaitIs, Waiting}
 use Rattle.node_store.specs.Three.{IsFlipped}
-use Rattle.node_store.specs.Views.{View, AreTwo, CanMake, Denotes, Grown, Is, IsInner, IsKey, IsLeaf, IsLeafOf, PartsAt, Permanent, bdd_at, logic_one, logic_zero, node_values, truth_edge}
-use Rattle.node_store.specs.ViewLaws.{Grown-refl, Grown-trans, Denotes-flip, Denotes-truth, Is-from, Is-grown, IsBelow-inner, level-grown, values_at-is, values_at-grown}
-use Rattle.node_store.specs.Work.{whole, IsPart, IsWork, Adds, Moves}
-use Rattle.node_store.specs.WorkLaws.{IsPart-back, IsPart-half, IsWork-due, IsWork-grown, Moves-made}
+use Rattle.node_store.specs.Views.{View, AreTwo, CanMake, Denotes, Grown, Is, IsInner, IsKey, IsLeaf, IsLeafOf, PartsAt, Permanent, bdd_at, logic_one, logic_zero, node_values}
+use Rattle.node_store.specs.ViewLaws.{Denotes-flip, Denotes-truth, Grown-trans, Is-from, Is-grown, IsBelow-inner, Splits-grown, level-grown, top-grown, values_at-grown, values_at-is}
+use Rattle.node_store.specs.Work.{whole, IsPart, IsWork, Moves}
+use Rattle.node_store.specs.WorkLaws.{IsPart-half, IsWork-due, Moves-made}
 use Rattle.node_store.specs.declared.operator.Frame.{Frame}
 use Rattle.node_store.specs.declared.operator.Task.{Task}
 use Rattle.node_store.specs.declared.operator.Wait.TheVariants.{Only, First, Second}
@@ -403,34 +405,9 @@ root_false v w f c e m p d none same =
 pub root_answer : (v w : View) (f c e : Edge) (t : Task) → Grown v w → AreTwo Bdd v f c → t.f ≡ f → t.g ≡ c → RestrictAnswers w t e → Restricted v w f c e
 root_answer v w f c e t m d sf sg a = root_restricted v w f c e m d a.answer (rw (sf, sg, values_at-grown Bdd m d.first, values_at-grown Bdd m d.second) at a.restriction)
 
--- what it stores, told from an earlier view
-pub work_of_restrict-back : (v w : View) (f c : Edge) → Grown v w → AreTwo Bdd v f c → (F : Denoted) → work_of_restrict f c w F → work_of_restrict f c v F
-work_of_restrict-back v w f c m d F (inl i) = inl (record {
-  a = i.a;
-  b = i.b;
-  r = i.r;
-  vars = i.vars;
-  part_f = elim i.part_f [
-    | inl p ↦ inl (IsPart-back Bdd m (bdd_at v f) i.a (subst (λ h. IsPart Bdd w h i.a) (values_at-grown Bdd m d.first) p))
-    | inr p ↦ inr (IsPart-back Bdd m (negation (bdd_at v f)) i.a (subst (λ h. IsPart Bdd w (negation h) i.a) (values_at-grown Bdd m d.first) p))
-  ];
-  part_c = IsPart-back Bdd m (exists_all (bdd_at v c) i.vars) i.b (subst (λ h. IsPart Bdd w (exists_all h i.vars) i.b) (values_at-grown Bdd m d.second) i.part_c);
-  restriction = i.restriction;
-  is = i.is;
-})
-work_of_restrict-back v w f c m d F (inr (vars, is)) = inr (vars, is ∙ ap (λ g. BddFunction (exists_all g vars)) (values_at-grown Bdd m d.second))
-
-pub restrict_due_start : (v w : View) (f c : Edge) → Grown v w → AreTwo Bdd v f c → (o : Option Denoted) → IsWork w (work_of_restrict f c w) o → IsWork w (work_of_restrict f c v) o
-restrict_due_start v w f c m d o i = IsWork-grown (Grown-refl w) (work_of_restrict f c w) (work_of_restrict f c v) (work_of_restrict-back v w f c m d) o i
-
-pub restrict_adds : (v w : View) (f c : Edge) → AreTwo Bdd v f c → Moves (λ w. AreTwo Bdd w f c) (work_of_restrict f c) v w → Adds (work_of_restrict f c v) v w
-restrict_adds v w f c d m s here = elim (m.work d s here) [ inl old ↦ inl old | inr i ↦ inr (restrict_due_start v w f c m.grown d (w.content s) i) ]
-
--- an answer lasts to the end, and is that of the operands at the start
-pub restricted_lasts : (a b c d : View) (f g : Edge) → Grown a b → AreTwo Bdd a f g → Grown c d → {E : Type 0} → (r : Result Edge E) → IfOk r (λ e. Restricted b c f g e) → IfOk r (λ e. Restricted a d f g e)
-restricted_lasts a b c d f g m two n (Ok e) is = record {
-  answer = Is-grown Bdd n is.answer;
-  restricts = rw (sym m.vars, sym (values_at-grown Bdd m two.first), sym (values_at-grown Bdd m two.second), values_at-grown Bdd n is.answer) is.restricts;
-  restriction = rw (sym (values_at-grown Bdd m two.first), sym (values_at-grown Bdd m two.second), values_at-grown Bdd n is.answer) is.restriction;
-}
-restricted_lasts a b c d f g m two n (Err e) is = is
+-- parts stay parts
+pub PartsAt-grown : (k : Kind) {v w : View} {e hi lo : Edge} {f : ℕ → ValueOf k} {x : ℕ} → Grown v w → PartsAt k v e f x hi lo → PartsAt k w e f x hi lo
+PartsAt-grown k {v} {w} {e} {hi} {lo} {f} {x} m p =
+    let l = level-grown m x in let th = top-grown k m p.splits.hi_is in let tl = top-grown k m p.splits.lo_is in
+    let a = p.hi_top in let b = p.lo_top in
+    record { splits = Splits-grown k m p.splits; hi_top = omega arith; lo_top = omega arith }

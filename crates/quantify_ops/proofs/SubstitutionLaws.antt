@@ -9,30 +9,30 @@ use Rattle.function_laws.specs.Steps.{are_distinct}
 use Rattle.function_laws.specs.Values.{IsFree, composed_at_once, if_then_else, projection}
 use Rattle.function_laws.proofs.ComposeLemmas.{composed_at_once-choice, composed_at_once-free, image, value_or}
 use Rattle.function_laws.specs.Kinds.{Denoted, BddFunction}
-use Rattle.node_store.specs.Splits.{Branches}
+use Rattle.node_store.specs.Splits.{BothAnswered, Branches}
 use Rattle.node_store.specs.Three.{AreThree}
-use Rattle.node_store.specs.Views.{View, Denotes, Grown, Is, IsInner, IsLeaf, IsVariable, Permanent, bdd_at}
+use Rattle.node_store.specs.Views.{View, Denotes, Grown, Is, IsInner, IsLeaf, IsVariable, bdd_at}
 use Rattle.node_store.specs.ViewLaws.{Grown-refl, Grown-trans, Is-from, Is-grown, IsBelow-inner, IsVariable-grown, Splits-grown, top-grown, values_at-grown, values_at-is}
 use Rattle.node_store.specs.Work.{IsWork, Adds, Moves}
-use Rattle.node_store.specs.WorkLaws.{IsPart-back, IsPart-half, IsWork-grown}
+use Rattle.node_store.specs.WorkLaws.{IsPart-half, IsWork-grown}
 use Rattle.node_store.specs.declared.operator.Task.{Task}
 use Rattle.node_store.proofs.TwoParts.{Lacks-leaf}
-use Rattle.ite_core.proofs.CofactorLaws.{Denotes-literal}
 use Rattle.ite_core.specs.Cofactors.{one_depth}
-use Rattle.quantify_ops.specs.Substituted.{function_with, functions_of, IsPair, AreSubstituted, substituted_at, value_of_vector_compose, IsBelowAll, ReachesDownTo, lower_of, SubstituteDue, SubstituteAnswers, SubstituteSplits, image_or, image_edge}
-use Rattle.quantify_ops.specs.SubstitutedLasts.{functions_of-grown, substituted_at-grown, SubstituteDue-stays, value_of_vector_compose-stays}
+use Rattle.quantify_ops.specs.Substituted.{function_with, functions_of, IsPair, AreSubstituted, substituted_at, value_of_vector_compose, IsBelowAll, ReachesDownTo, lower_of, SubstituteDue, SubstituteAnswers, SubstituteSplits, IsImageOr, IsImage}
+use Rattle.quantify_ops.specs.SubstitutedLasts.{SubstituteAnswers-stay, SubstituteDue-stays, SubstituteSplits-stay, substituted_at-grown, value_of_vector_compose-stays}
 
 -- the function that is put for a variable
-image_step : (w : View) (pair : ℕ × Edge) (pairs : List (ℕ × Edge)) (x : ℕ) (c : Bool) → Is Bdd w pair.1 → Denotes Bdd w (image_edge pairs x) (image (functions_of w pairs) x)
-    → Denotes Bdd w (image_or (if c then Some pair else find (λ pair. pair.0 == x) pairs) x)
-    (λ k. value_or (if c then Some (function_with w pair) else find (λ pair. pair.0 == x) (functions_of w pairs)) k (projection x k))
-image_step w pair pairs x true here rest = here
-image_step w pair pairs x false here rest = rest
+image_step : (w : View) (pair : ℕ × Edge) (pairs : List (ℕ × Edge)) (x : ℕ) (c : Bool) (e : Edge) → Is Bdd w pair.1
+    → (IsImageOr w (find (λ pair. pair.0 == x) pairs) x e → Denotes Bdd w e (image (functions_of w pairs) x))
+    → IsImageOr w (if c then Some pair else find (λ pair. pair.0 == x) pairs) x e
+    → Denotes Bdd w e (λ k. value_or (if c then Some (function_with w pair) else find (λ pair. pair.0 == x) (functions_of w pairs)) k (projection x k))
+image_step w pair pairs x true e here rest is = rw is here
+image_step w pair pairs x false e here rest is = rest is
 
-image_is : (w : View) (pairs : List (ℕ × Edge)) (x : ℕ) → Permanent w → All (IsPair w) pairs → IsVariable Bdd w x → Denotes Bdd w (image_edge pairs x) (image (functions_of w pairs) x)
-image_is w [] x permanent all xn = Denotes-literal w permanent x xn true
-image_is w (pair ∷ pairs) x permanent all xn =
-    image_step w pair pairs x (pair.0 == x) (All-head (IsPair w) pair pairs all).1 (image_is w pairs x permanent (All-tail (IsPair w) pair pairs all) xn)
+image_is : (w : View) (pairs : List (ℕ × Edge)) (x : ℕ) (e : Edge) → All (IsPair w) pairs → IsImage w pairs x e → Denotes Bdd w e (image (functions_of w pairs) x)
+image_is w [] x e all is = is
+image_is w (pair ∷ pairs) x e all is =
+    image_step w pair pairs x (pair.0 == x) e (All-head (IsPair w) pair pairs all).1 (image_is w pairs x e (All-tail (IsPair w) pair pairs all)) is
 
 -- where the function depends on no variable of the pairs
 free_pairs : (w : View) (f : ℕ → Bool) (pairs : List (ℕ × Edge)) → All (λ pair. IsFree f pair.0) pairs → composed_at_once f (functions_of w pairs) ≡ f
@@ -100,11 +100,21 @@ names w (pair ∷ pairs) = ap (λ rest. pair.0 ∷ rest) (names w pairs)
 names_distinct : (w : View) (pairs : List (ℕ × Edge)) → are_distinct (map (λ pair. pair.0) pairs) ≡ true → are_distinct (map (λ pair. pair.0) (functions_of w pairs)) ≡ true
 names_distinct w pairs distinct = ap are_distinct (names w pairs) ∙ distinct
 
+-- both answers, later
+pub substitute_at : (f : Edge) (pairs : List (ℕ × Edge)) (lowest : Option ℕ) (v w : View) (t hi lo : Task) (x : ℕ) (e0 e1 : Edge) → Grown v w
+    → BothAnswered (SubstituteDue f pairs lowest) (SubstituteAnswers pairs) SubstituteSplits v t x e0 e1 hi lo → BothAnswered (SubstituteDue f pairs lowest) (SubstituteAnswers pairs) SubstituteSplits w t x e0 e1 hi lo
+substitute_at f pairs lowest v w t hi lo x e0 e1 m p = record {
+  due = SubstituteDue-stays f pairs lowest v w t m p.due;
+  splits = SubstituteSplits-stay v w t x hi lo m p.due.edge p.splits;
+  hi_is = SubstituteAnswers-stay pairs v w hi e0 m p.due.root.each p.splits.splits.hi_is p.hi_is;
+  lo_is = SubstituteAnswers-stay pairs v w lo e1 m p.due.root.each p.splits.splits.lo_is p.lo_is;
+}
+
 -- the answers of both parts
-module _ (f : Edge) (pairs : List (ℕ × Edge)) (lowest : Option ℕ) (w : View) (t hi lo : Task) (x : ℕ) (e0 e1 image_at : Edge) (is_image : image_at ≡ image_edge pairs x)
+module _ (f : Edge) (pairs : List (ℕ × Edge)) (lowest : Option ℕ) (w : View) (t hi lo : Task) (x : ℕ) (e0 e1 image_at : Edge) (is_image : IsImage w pairs x image_at)
     (d : SubstituteDue f pairs lowest w t) (s : SubstituteSplits w t x hi lo) (a0 : SubstituteAnswers pairs w hi e0) (a1 : SubstituteAnswers pairs w lo e1) where
   image_here : Denotes Bdd w image_at (image (functions_of w pairs) x)
-  image_here = rw is_image (image_is w pairs x d.permanent d.root.each s.in_range)
+  image_here = image_is w pairs x image_at d.root.each is_image
 
   pub substitute_three : AreThree Bdd w image_at e0 e1
   substitute_three = record { condition = Is-from Bdd image_here; first = Is-from Bdd a0; second = Is-from Bdd a1 }
@@ -134,23 +144,6 @@ reach_lower w None level pair h = absurd h
 pub reach_own : (w : View) (lowest : Option ℕ) (level : ℕ) (pair : ℕ × Edge) → level ≡ w.level pair.0 → ReachesDownTo w (Some (lower_of lowest level)) pair
 reach_own w (Some first) level pair same = omega arith
 reach_own w None level pair same = omega arith
-
--- from the view at the end to that at the start
-module _ (f : Edge) (pairs : List (ℕ × Edge)) where
-  pub substitute_back : (u w : View) → Grown u w → AreSubstituted u f pairs → (F : Denoted) → value_of_vector_compose f pairs w F → value_of_vector_compose f pairs u F
-  substitute_back u w m d F (a, (part, is)) = (
-    a,
-    (
-      IsPart-back Bdd m (bdd_at u f) a (rw (values_at-grown Bdd m d.edge) at part),
-      is ∙ ap (λ fs. BddFunction (composed_at_once a fs)) (functions_of-grown pairs m d.each),
-    ),
-  )
-
-  pub Substitute-due_start : (u w : View) → Grown u w → AreSubstituted u f pairs → (o : Option Denoted) → IsWork w (value_of_vector_compose f pairs w) o → IsWork w (value_of_vector_compose f pairs u) o
-  Substitute-due_start u w m d o i = IsWork-grown (Grown-refl w) (value_of_vector_compose f pairs w) (value_of_vector_compose f pairs u) (substitute_back u w m d) o i
-
-  pub Substitute-adds_start : (u w : View) → AreSubstituted u f pairs → Moves (λ w. AreSubstituted w f pairs) (value_of_vector_compose f pairs) u w → Adds (value_of_vector_compose f pairs u) u w
-  Substitute-adds_start u w d m s here = elim (m.work d s here) [ inl old ↦ inl old | inr i ↦ inr (Substitute-due_start u w m.grown d (w.content s) i) ]
 
 -- the answer of the call's own task
 pub root_answer : (u w : View) (f : Edge) (pairs : List (ℕ × Edge)) (t : Task) (e : Edge) → Grown u w → AreSubstituted u f pairs → t.f ≡ f → SubstituteAnswers pairs w t e → Denotes Bdd w e (substituted_at u f pairs)

@@ -1,6 +1,7 @@
 -- The support of a function, step by step.
 use Rattle.std.proofs.Common.{◌≡◌, ℕ, ◌≤◌, Bool, true, false, ◌&&◌, ℤ, Option, Some, ◌⊎◌, inl, inr, refl, sym, ap, ◌∙◌, subst, arith}
 use Rattle.std.proofs.lemmas.Bool.{cases_eq}
+use Rattle.edge_bits.specs.Permanent.{truth_edge}
 use Rattle.edge_bits.specs.declared.edges.Edge.{Edge}
 use Rattle.edge_bits.specs.declared.edges.Kind.TheVariants.{Bdd}
 use Rattle.function_laws.specs.Cubes.{IsSupport}
@@ -11,7 +12,7 @@ use Rattle.function_laws.proofs.ValueLemmas.{IsFree-cofactor, IsFree-cofactor_ot
 use Rattle.function_laws.specs.Kinds.{Denoted, BddFunction}
 use Rattle.node_store.specs.Memo.{MemoHolds}
 use Rattle.node_store.specs.Splits.{Branches}
-use Rattle.node_store.specs.Views.{View, CanMake, Denotes, Grown, Is, IsInner, IsKey, IsLeaf, IsVariable, Permanent, bdd_at, node_values, truth_edge}
+use Rattle.node_store.specs.Views.{View, CanMake, Denotes, Grown, Is, IsInner, IsKey, IsLeaf, IsVariable, Permanent, bdd_at, node_values}
 use Rattle.node_store.specs.ViewLaws.{Grown-refl, Grown-trans, Denotes-flip, Denotes-truth, Is-from, Is-grown, Permanent-grown, Splits-grown, IsVariable-back, IsVariable-grown, level-grown, top-grown, values_at-grown, values_at-is}
 use Rattle.node_store.specs.Work.{whole, cut, IsPart, IsWork, Adds, Moves}
 use Rattle.node_store.specs.WorkLaws.{IsPart-back, IsPart-grown, IsPart-half, IsWork-due, IsWork-grown, Moves-both, Moves-made}
@@ -190,17 +191,3 @@ pub root_support : (v w : View) (t : Task) (e : Edge) → Grown v w → Is Bdd v
 root_support v w t e m d a =
     let is = rw (values_at-grown Bdd m d) at a.support in
     subst (λ g. Denotes Bdd w e g) (IsSupport-same (bdd_at v t.f) (bdd_at w e) (support v.vars (bdd_at v t.f)) is (IsSupport-support v.vars (bdd_at v t.f) d.beyond)) a.answer
-
-pub support_due_start : (v w : View) (f : Edge) → Grown v w → Is Bdd v f → (o : Option Denoted) → IsWork w (IsSupportValue f w) o → IsWork w (value_of_support f v) o
-support_due_start v w f m d o i = IsWork-grown (Grown-refl w) (IsSupportValue f w) (value_of_support f v) (support_back v w f m d) o i
-
-pub support_adds : (v w : View) (f : Edge) → Is Bdd v f → Moves (λ w. Is Bdd w f) (IsSupportValue f) v w → Adds (value_of_support f v) v w
-support_adds v w f d m s here = elim (m.work d s here) [ inl old ↦ inl old | inr i ↦ inr (support_due_start v w f m.grown d (w.content s) i) ]
-
--- from a later view, where no variable is added
-pub value_of_support-back : (v w : View) (f : Edge) → Grown v w → Is Bdd v f → (F : Denoted) → value_of_support f w F → value_of_support f v F
-value_of_support-back v w f m d F (a, (part, is)) =
-    (a, (IsPart-back Bdd m (bdd_at v f) a (subst (λ g. IsPart Bdd w g a) (values_at-grown Bdd m d) part), is ∙ ap (λ n. BddFunction (support n a)) m.vars))
-
-pub support_stays : (v w : View) (f : Edge) → Grown v w → Is Bdd v f → support w.vars (bdd_at w f) ≡ support v.vars (bdd_at v f)
-support_stays v w f m d = rw (m.vars, values_at-grown Bdd m d) refl

@@ -1,10 +1,9 @@
 -- Tasks of two functions of which the second is put for a variable of the first.
-use Rattle.std.specs.Prelude.{◌≡◌, ◌≢◌, ℕ, ◌<◌, Bool, true, ◌⊎◌}
+use Rattle.std.specs.Prelude.{◌≡◌, ◌≢◌, ℕ, ◌<◌, Bool, ◌⊎◌}
 use Rattle.edge_bits.specs.declared.edges.Edge.{Edge}
 use Rattle.edge_bits.specs.declared.edges.Kind.TheVariants.{Bdd}
-use Rattle.function_laws.specs.Values.{IsFree, composed}
+use Rattle.function_laws.specs.Values.{IsFree, composed, projection}
 use Rattle.function_laws.specs.Kinds.{Denoted, BddFunction}
-use Rattle.node_store.specs.Memo.{literal_edge}
 use Rattle.node_store.specs.Three.{IsPartOrComplement}
 use Rattle.node_store.specs.Two.{TwoSplits}
 use Rattle.node_store.specs.Views.{View, AreTwo, Denotes, IsVariable, Permanent, Splits, bdd_at}
@@ -30,7 +29,7 @@ IsPartOrBelow f v g w t = IsPartOrComplement Bdd w (composed_at w f v g) (compos
 
 -- a task of the call with these functions and this variable, whose projection is p
 pub record ComposeDue (f : Edge) (v : ℕ) (g p : Edge) (w : View) (t : Task) : Type 0 where
-  pub projection : p ≡ literal_edge v true
+  pub projection : Denotes Bdd w p (projection v)
   pub permanent : Permanent w
   pub root : AreComposed w f v g
   pub two : AreTwo Bdd w t.f t.g

@@ -6,8 +6,8 @@ use Rattle.function_laws.specs.Kinds.{Denoted, BddFunction}
 use Rattle.node_store.specs.Three.{IsPartOrComplement}
 use Rattle.node_store.specs.ThreeLaws.{IsPartOrComplement-grown}
 use Rattle.node_store.specs.TwoLaws.{AreTwo-grown, TwoSplits-stay}
-use Rattle.node_store.specs.Views.{View, AreTwo, Grown}
-use Rattle.node_store.specs.ViewLaws.{Denotes-grown, IsVariable-grown, Permanent-grown, Splits-grown, level-grown, top-grown, values_at-grown}
+use Rattle.node_store.specs.Views.{View, AreTwo, Denotes, Grown}
+use Rattle.node_store.specs.ViewLaws.{Denotes-grown, Denotes-lasts, IsVariable-grown, Permanent-grown, Splits-grown, level-grown, top-grown, values_at-grown}
 use Rattle.node_store.specs.declared.operator.Task.{Task}
 use Rattle.quantify_ops.specs.Composed.{composed_at, AreComposed, value_of_compose, IsPartOrBelow, ComposeDue, ComposeAnswers, SplitsAround, ComposeSplits}
 
@@ -30,7 +30,7 @@ place-stays f x g v w t m d two (inr below) = inr (rw (level-grown m x, top-grow
 
 pub ComposeDue-stays : (f : Edge) (x : ℕ) (g p : Edge) (v w : View) (t : Task) → Grown v w → ComposeDue f x g p v t → ComposeDue f x g p w t
 ComposeDue-stays f x g p v w t m d = record {
-  projection = d.projection;
+  projection = Denotes-grown Bdd m d.projection;
   permanent = Permanent-grown m d.permanent;
   root = AreComposed-grown m d.root;
   two = AreTwo-grown Bdd m d.two;
@@ -53,3 +53,11 @@ ComposeSplits-stay f y g v w t x a b m d two s = record {
   lo_is = AreTwo-grown Bdd m s.lo_is;
   around = around-stays v w t y x a b m two s.around;
 }
+
+-- a call's answer, and what is told of it, by the operands at its start
+pub composed_at-lasts : (f : Edge) (x : ℕ) (g : Edge) (u v w y : View) (e : Edge) → Grown u v → Grown w y → AreComposed u f x g
+    → Denotes Bdd w e (composed_at v f x g) → Denotes Bdd y e (composed_at u f x g)
+composed_at-lasts f x g u v w y e before after d a = Denotes-lasts Bdd after (composed_at-grown x before d.two) a
+
+pub value_of_compose-back : (f : Edge) (x : ℕ) (g : Edge) (v w : View) (F : Denoted) → Grown v w → AreComposed v f x g → value_of_compose f x g w F → value_of_compose f x g v F
+value_of_compose-back f x g v w F m d is = is ∙ ap BddFunction (composed_at-grown x m d.two)

@@ -1,5 +1,6 @@
 pub mod Products
 pub mod Works
+pub mod WorksLasts
 pub mod Quantified
 pub mod QuantifiedLasts
 pub mod Supports

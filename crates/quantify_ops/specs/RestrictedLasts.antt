@@ -1,8 +1,8 @@
 -- What is true of tasks of a restriction stays true while a store grows.
-use Rattle.std.proofs.Common.{ℕ, Bool, true, false, cond, inl, inr, ◌∙◌, ap, sym}
+use Rattle.std.proofs.Common.{ℕ, Bool, true, false, cond, inl, inr, ◌∙◌, ap, sym, subst}
 use Rattle.edge_bits.specs.declared.edges.Edge.{Edge}
 use Rattle.edge_bits.specs.declared.edges.Kind.TheVariants.{Bdd}
-use Rattle.function_laws.specs.Values.{exists_all}
+use Rattle.function_laws.specs.Values.{exists_all, negation}
 use Rattle.ite_core.specs.Cofactors.{one_depth}
 use Rattle.ite_core.specs.CofactorLasts.{one_depth-stays}
 use Rattle.function_laws.specs.Kinds.{Denoted, BddFunction}
@@ -11,10 +11,11 @@ use Rattle.node_store.specs.TwoLaws.{AreTwo-grown, TwoSplits-stay}
 use Rattle.node_store.specs.Views.{View, AreTwo, Grown, Is, bdd_at}
 use Rattle.node_store.specs.ViewLaws.{Grown-trans, Is-grown, Permanent-grown, values_at-grown}
 use Rattle.node_store.specs.Waiting.{Waiting-stays}
-use Rattle.node_store.specs.WorkLaws.{IsPart-grown}
+use Rattle.node_store.specs.Work.{IsPart}
+use Rattle.node_store.specs.WorkLaws.{IsPart-back, IsPart-grown}
 use Rattle.node_store.specs.declared.operator.Frame.{Frame}
 use Rattle.node_store.specs.declared.operator.Task.{Task}
-use Rattle.quantify_ops.specs.Restricted.{IsPartRestricted, work_of_restrict, IsCondition, RestrictDue, RestrictAnswers, RestrictParts, RestrictSplits, OnlyWaits, RestrictWaits}
+use Rattle.quantify_ops.specs.Restricted.{Restricted, IsPartRestricted, work_of_restrict, IsCondition, RestrictDue, RestrictAnswers, RestrictParts, RestrictSplits, OnlyWaits, RestrictWaits}
 
 pub IsPartRestricted-stays : (f c : Edge) (v w : View) (F : Denoted) → Grown v w → AreTwo Bdd v f c → IsPartRestricted f c v F → IsPartRestricted f c w F
 IsPartRestricted-stays f c v w F m d i = record {
@@ -93,3 +94,28 @@ RestrictWaits-stay f c v w t frame u m d (inl q) = inl (OnlyWaits-stay f c v w t
 RestrictWaits-stay f c v w t frame u m d (inr q) = inr (Waiting-stays (RestrictDue f c) RestrictAnswers (λ w t. ⊥) RestrictSplits one_depth (RestrictDue-stays f c)
     (λ v w t e m d. RestrictAnswers-stay v w t e m (operands f c v t d)) (λ v w t x a b m d. RestrictSplits-stay v w t x a b m (operands f c v t d))
     (λ v w t m d. one_depth-stays v w t m d.edge) v w t frame u m d q)
+
+-- what it stores, told from an earlier view
+pub work_of_restrict-back : (v w : View) (f c : Edge) → Grown v w → AreTwo Bdd v f c → (F : Denoted) → work_of_restrict f c w F → work_of_restrict f c v F
+work_of_restrict-back v w f c m d F (inl i) = inl (record {
+  a = i.a;
+  b = i.b;
+  r = i.r;
+  vars = i.vars;
+  part_f = elim i.part_f [
+    | inl p ↦ inl (IsPart-back Bdd m (bdd_at v f) i.a (subst (λ h. IsPart Bdd w h i.a) (values_at-grown Bdd m d.first) p))
+    | inr p ↦ inr (IsPart-back Bdd m (negation (bdd_at v f)) i.a (subst (λ h. IsPart Bdd w (negation h) i.a) (values_at-grown Bdd m d.first) p))
+  ];
+  part_c = IsPart-back Bdd m (exists_all (bdd_at v c) i.vars) i.b (subst (λ h. IsPart Bdd w (exists_all h i.vars) i.b) (values_at-grown Bdd m d.second) i.part_c);
+  restriction = i.restriction;
+  is = i.is;
+})
+work_of_restrict-back v w f c m d F (inr (vars, is)) = inr (vars, is ∙ ap (λ g. BddFunction (exists_all g vars)) (values_at-grown Bdd m d.second))
+
+-- a call's answer, by the operands at its start
+pub Restricted-lasts : (f c : Edge) (u v w x : View) (e : Edge) → Grown u v → Grown w x → AreTwo Bdd u f c → Restricted v w f c e → Restricted u x f c e
+Restricted-lasts f c u v w x e m n two is = record {
+  answer = Is-grown Bdd n is.answer;
+  restricts = rw (sym m.vars, sym (values_at-grown Bdd m two.first), sym (values_at-grown Bdd m two.second), values_at-grown Bdd n is.answer) is.restricts;
+  restriction = rw (sym (values_at-grown Bdd m two.first), sym (values_at-grown Bdd m two.second), values_at-grown Bdd n is.answer) is.restriction;
+}

@@ -4,9 +4,8 @@ use Rattle.std.specs.List.{All}
 use Rattle.edge_bits.specs.declared.edges.Edge.{Edge}
 use Rattle.edge_bits.specs.declared.edges.Kind.TheVariants.{Bdd}
 use Rattle.function_laws.specs.Steps.{are_distinct}
-use Rattle.function_laws.specs.Values.{composed_at_once}
+use Rattle.function_laws.specs.Values.{composed_at_once, projection}
 use Rattle.function_laws.specs.Kinds.{Denoted, BddFunction}
-use Rattle.node_store.specs.Memo.{literal_edge}
 use Rattle.node_store.specs.Views.{View, Denotes, Is, IsVariable, Permanent, Splits, bdd_at}
 use Rattle.node_store.specs.Work.{IsPart}
 use Rattle.node_store.specs.declared.operator.Task.{Task}
@@ -65,9 +64,9 @@ pub record SubstituteSplits (w : View) (t : Task) (x : ℕ) (hi lo : Task) : Typ
   pub splits : Splits Bdd w x (bdd_at w t.f) hi.f lo.f
 
 -- the edge that is put for a variable; for one for which none is put its projection
-abbrev pub image_or : Option (ℕ × Edge) → ℕ → Edge
-image_or (Some pair) x = pair.1
-image_or None x = literal_edge x true
+abbrev pub IsImageOr : View → Option (ℕ × Edge) → ℕ → Edge → Type 0
+IsImageOr w (Some pair) x e = e ≡ pair.1
+IsImageOr w None x e = Denotes Bdd w e (projection x)
 
-abbrev pub image_edge : List (ℕ × Edge) → ℕ → Edge
-image_edge pairs x = image_or (find (λ pair. pair.0 == x) pairs) x
+abbrev pub IsImage : View → List (ℕ × Edge) → ℕ → Edge → Type 0
+IsImage w pairs x e = IsImageOr w (find (λ pair. pair.0 == x) pairs) x e

@@ -6,9 +6,9 @@ use Rattle.edge_bits.specs.declared.edges.Edge.{Edge}
 use Rattle.edge_bits.specs.declared.edges.Kind.TheVariants.{Bdd}
 use Rattle.function_laws.specs.Values.{composed_at_once}
 use Rattle.function_laws.specs.Kinds.{Denoted, BddFunction}
-use Rattle.node_store.specs.Views.{View, Grown, Is, bdd_at}
-use Rattle.node_store.specs.ViewLaws.{Denotes-grown, Is-grown, IsVariable-grown, Permanent-grown, Splits-grown, level-grown, values_at-grown}
-use Rattle.node_store.specs.WorkLaws.{IsPart-grown}
+use Rattle.node_store.specs.Views.{View, Denotes, Grown, Is, bdd_at}
+use Rattle.node_store.specs.ViewLaws.{Denotes-grown, Denotes-lasts, Is-grown, IsVariable-grown, Permanent-grown, Splits-grown, level-grown, values_at-grown}
+use Rattle.node_store.specs.WorkLaws.{IsPart-back, IsPart-grown}
 use Rattle.node_store.specs.declared.operator.Task.{Task}
 use Rattle.quantify_ops.specs.Substituted.{functions_of, IsPair, AreSubstituted, substituted_at, value_of_vector_compose, ReachesDownTo, SubstituteDue, SubstituteAnswers, SubstituteSplits}
 
@@ -54,3 +54,17 @@ SubstituteAnswers-stay pairs v w t e m all d a = rw (substituted_at-grown pairs 
 
 pub SubstituteSplits-stay : (v w : View) (t : Task) (x : ℕ) (a b : Task) → Grown v w → Is Bdd v t.f → SubstituteSplits v t x a b → SubstituteSplits w t x a b
 SubstituteSplits-stay v w t x a b m d s = record { in_range = IsVariable-grown Bdd m x s.in_range; splits = rw (values_at-grown Bdd m d) (Splits-grown Bdd m s.splits) }
+
+-- a call's answer, and what is told of it, by the operands at its start
+pub substituted_at-lasts : (f : Edge) (pairs : List (ℕ × Edge)) (u v w x : View) (e : Edge) → Grown u v → Grown w x → AreSubstituted u f pairs
+    → Denotes Bdd w e (substituted_at v f pairs) → Denotes Bdd x e (substituted_at u f pairs)
+substituted_at-lasts f pairs u v w x e before after d a = Denotes-lasts Bdd after (substituted_at-grown pairs before d.each d.edge) a
+
+pub value_of_vector_compose-back : (f : Edge) (pairs : List (ℕ × Edge)) (v w : View) (F : Denoted) → Grown v w → AreSubstituted v f pairs → value_of_vector_compose f pairs w F → value_of_vector_compose f pairs v F
+value_of_vector_compose-back f pairs v w F m d (a, (part, is)) = (
+  a,
+  (
+    IsPart-back Bdd m (bdd_at v f) a (rw (values_at-grown Bdd m d.edge) at part),
+    is ∙ ap (λ fs. BddFunction (composed_at_once a fs)) (functions_of-grown pairs m d.each),
+  ),
+)

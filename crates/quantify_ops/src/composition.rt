@@ -1,19 +1,22 @@
 //! Composition: a function that is put for a variable of another.
 
-ghost use Rattle.std.specs.Prelude.{◌≡◌};
+ghost use Rattle.std.specs.Prelude.{◌≡◌, ◌≤◌, ◌*◌};
 ghost use Rattle.node_store.specs.Numbers.{compose_number};
+ghost use Rattle.node_store.specs.Operations.{Runs};
 ghost use Rattle.edge_bits.specs.declared.edges.Kind.TheVariants.{Bdd};
 ghost use Rattle.node_store.specs.Splits.{Expanded};
 ghost use Rattle.node_store.specs.Two.{two_depth};
-ghost use Rattle.node_store.specs.Views.{Kept};
+ghost use Rattle.node_store.specs.Views.{AreTwo, IsVariable, Kept, Permanent};
 ghost use Rattle.ite_core.specs.Cofactors.{HasCofactor};
-ghost use Rattle.quantify_ops.specs.Composed.{ComposeAnswers, ComposeDue, ComposeSplits, IsFound};
+ghost use Rattle.quantify_ops.specs.Composed.{ComposeAnswers, ComposeDue, ComposeSplits, IsFound, composed_at, value_of_compose};
 
-use edge_bits::Edge;
+use edge_bits::{Edge, Kind};
 use ite_core::nested::ite;
-use ite_core::split;
-use node_store::binary::{Apply, Branch, Expansion, flip_if};
+use node_store::binary::{Apply, Binary, Branch, Expansion, flip_if};
+use node_store::evaluate::evaluate;
 use node_store::operator::{Halt, Task};
+use node_store::parts::{Split, split_two};
+use node_store::scratch::Operation;
 use node_store::{Grow, Key, Opened, Stack, numbers};
 
 /// The composition of two functions by a variable, as the evaluator runs it.
@@ -119,9 +122,83 @@ impl Composition {
                 lo: Task::two(lo, lo),
             });
         }
-        let branch = split(store, regular);
-        Expansion::Split(Branch { flip, ..branch })
+        match split_two(store, regular.f, regular.g) {
+            Split::Leaves(_, _) => unreachable!(),
+            Split::At(halves) => Expansion::Split(Branch {
+                task: regular,
+                flip,
+                var: halves.top.var,
+                hi: halves.hi,
+                lo: halves.lo,
+            }),
+        }
     }
+}
+
+/// A function with another put for a variable, on this stack.
+pub(crate) fn put<G: Grow>(
+    store: &mut G,
+    stack: &mut Stack,
+    f: Edge,
+    var: u32,
+    g: Edge,
+) -> Result<Edge, Halt>
+    requires operands { AreTwo Bdd (G.view store.old) f g }
+    requires in_range { IsVariable Bdd (G.view store.old) var }
+    requires permanent { Permanent (G.view store.old) }
+    requires room { 2 * (G.view store.old).vars ≤ stack.old.free }
+    ensures runs { Runs Bdd (composed_at (G.view store.old) f var g) (value_of_compose f var g (G.view store.old)) (G.view store.old) (G.view store.new) result }
+    ensures stack { stack.new ≡ stack.old }
+{
+    let projection = store.projection(var);
+    let op = Composition {
+        f,
+        var,
+        g,
+        projection,
+    };
+    evaluate(store, stack, &Binary(op), Task::two(f, g))
+}
+
+/// A function, a variable, and the function that is put for it.
+#[derive(Drop)]
+pub(crate) struct Composed {
+    pub f: Edge,
+    pub var: u32,
+    pub g: Edge,
+}
+
+impl<G: Grow> Operation<G> for Composed {
+    ghost use Rattle.edge_bits.specs.declared.edges.Kind.TheVariants.{Bdd};
+    ghost use Rattle.node_store.specs.Views.{Denotes};
+    ghost use Rattle.quantify_ops.specs.Composed.{AreComposed, composed_at, value_of_compose};
+    ghost use Rattle.quantify_ops.specs.ComposedLasts.{AreComposed-grown, composed_at-lasts, value_of_compose-back};
+
+    ghost kind = { Bdd };
+
+    ghost asks = { λ o w. AreComposed w o.f o.var o.g };
+
+    ghost answers = { λ o v w e. Denotes Bdd w e (composed_at v o.f o.var o.g) };
+
+    ghost overflows = { λ _ _. ⊥ };
+
+    ghost work = { λ o. value_of_compose o.f o.var o.g };
+
+    fn answer_kind(&self) -> Kind {
+        Kind::Bdd
+    }
+
+    fn run(self, store: &mut G, stack: &mut Stack) -> Result<Edge, Halt> {
+        put(store, stack, self.f, self.var, self.g)
+    }
+
+    ghost asks_stay = { λ o v w m. AreComposed-grown m };
+
+    ghost answers_last = { λ o. composed_at-lasts o.f o.var o.g };
+
+    ghost overflows_back = { λ o v w m d bad. bad };
+
+    ghost work_back = { λ o. value_of_compose-back o.f o.var o.g };
 }
 
 /// Where a function stands to a variable: it does not depend on it, its top node is of it, or its top variable stands above it.
@@ -132,6 +209,7 @@ pub(crate) enum Found {
     Above,
 }
 
+/// Opens the function.
 fn find<G: Grow>(store: &mut G, f: Edge, var: u32) -> Found
     requires { HasCofactor (G.view store.old) f var }
     ensures kept { Kept (G.view store.old) (G.view store.new) }
@@ -151,6 +229,7 @@ fn find<G: Grow>(store: &mut G, f: Edge, var: u32) -> Found
     Found::Above
 }
 
+/// The key of a composition.
 fn key_of(task: Task, projection: Edge) -> Key
     ensures { result ≡ record { op = compose_number; f = task.f; g = task.g; h = projection } }
 {

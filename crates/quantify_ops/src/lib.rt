@@ -2,12 +2,12 @@
 #![tactic(auto)]
 
 mod composition;
-mod cubes;
 mod dependence;
 pub mod nested;
 mod operations;
 mod products;
 mod quantification;
+mod quantifiers;
 mod restriction;
 mod substitution;
 

@@ -1,84 +1,131 @@
-//! The product of a list of variables, as an edge.
+//! Products of variables, as edges: that of a list, and what is left of one below a level.
 
-ghost use Rattle.std.specs.Prelude.{◌≡◌, ◌≤◌, IfOk, IsErrOf, map};
+ghost use Rattle.std.specs.Prelude.{◌≡◌, ◌≤◌, Some, length, slice_set};
 ghost use Rattle.std.specs.List.{All};
 ghost use Rattle.edge_bits.specs.declared.edges.Kind.TheVariants.{Bdd};
 ghost use Rattle.function_laws.specs.Cubes.{cube_of};
 ghost use Rattle.function_laws.specs.Kinds.{BddFunction};
-ghost use Rattle.node_store.specs.Views.{Denotes, Grown, IsVariable, Kept, Permanent, Rose};
-ghost use Rattle.node_store.specs.Work.{Adds, IsWork};
-ghost use Rattle.quantify_ops.specs.Products.{IsRanked, variables_of, with_level};
+ghost use Rattle.node_store.specs.Operations.{Runs};
+ghost use Rattle.node_store.specs.Views.{IsVariable, Kept, Permanent, bdd_at};
+ghost use Rattle.quantify_ops.specs.Products.{AreMarks, AreNoMarks, IsMark, marked_product};
+ghost use Rattle.quantify_ops.specs.Quantified.{HasCube, IsBelowLevel, IsFreeAbove, LeftIs, RestIs};
 
-use edge_bits::{Edge, Memory};
-use ite_core::nested::and;
-use node_store::parts::Top;
-use node_store::{Grow, Stack, Stop};
-use std::alloc::Global;
+use edge_bits::{Edge, Kind};
+use node_store::operator::Halt;
+use node_store::parts::look;
+use node_store::{Grow, Opened, Stack};
 
 /// The product of the variables of a list, which may have one twice. Each product that is made on the way is what is left of the whole below some level.
-pub(crate) fn product<G: Grow>(store: &mut G, stack: &mut Stack, vars: &[u32]) -> Result<Edge, Stop>
+pub(crate) fn product<G: Grow>(store: &mut G, stack: &mut Stack, vars: &[u32]) -> Result<Edge, Halt>
     requires in_range { All (IsVariable Bdd (G.view store.old)) vars.now }
-    requires permanent { Permanent (G.view store.old) }
-    requires room { (G.view store.old).vars ≤ stack.old.free }
-    ensures grown { Grown (G.view store.old) (G.view store.new) }
-    ensures product { IfOk result (λ e. Denotes Bdd (G.view store.new) e (cube_of vars.now)) }
-    ensures work { Adds (λ F. F ≡ BddFunction (cube_of vars.now)) (G.view store.old) (G.view store.new) }
-    ensures full { IsErrOf result Stop.Full → Rose (G.view store.old) (G.view store.new) }
-    ensures due { IsErrOf result Stop.Full → IsWork (G.view store.new) (λ F. F ≡ BddFunction (cube_of vars.now)) (G.view store.new).due }
+    requires room { (G.view store.old).vars ≤ length stack.old.marks }
+    ensures runs { Runs Bdd (cube_of vars.now) (λ F. F ≡ BddFunction (cube_of vars.now)) (G.view store.old) (G.view store.new) result }
     ensures frames { stack.new.frames ≡ stack.old.frames }
     ensures free { stack.new.free ≡ stack.old.free }
+    ensures length { length stack.new.marks ≡ length stack.old.marks }
 {
-    match in_order(store, stack.allocator(), vars) {
-        Ok(tops) => multiply(store, stack, tops),
-        Err(_) => Err(Stop::Memory),
-    }
+    let levels = store.levels(Kind::Bdd);
+    stack.clear_marks();
+    mark_all(store, stack, vars);
+    product_of_marks(store, stack, levels)
 }
 
-/// The variables with their levels.
-fn with_levels<G: Grow>(store: &mut G, alloc: Global, vars: &[u32]) -> Result<Vec<Top>, Memory>
-    requires { All (IsVariable Bdd (G.view store.old)) vars.now }
+/// Marks the level of each variable of a list, where no level is marked.
+fn mark_all<G: Grow>(store: &mut G, stack: &mut Stack, vars: &[u32])
+    requires in_range { All (IsVariable Bdd (G.view store.old)) vars.now }
+    requires room { (G.view store.old).vars ≤ length stack.old.marks }
+    requires none { AreNoMarks stack.old.marks }
     ensures kept { Kept (G.view store.old) (G.view store.new) }
-    ensures levels { IfOk result (λ tops. tops.items ≡ map (with_level (G.view store.old)) vars.now) }
+    ensures marks { AreMarks (G.view store.new) stack.new.marks }
+    ensures product { marked_product stack.new.marks ≡ cube_of vars.now }
+    ensures frames { stack.new.frames ≡ stack.old.frames }
+    ensures free { stack.new.free ≡ stack.old.free }
+    ensures length { length stack.new.marks ≡ length stack.old.marks }
 {
-    let mut tops = Vec::new(alloc);
     for var in vars {
-        let level = store.level(*var);
-        tops.push(Top { var: *var, level })?;
+        mark(store, stack, *var);
     }
-    Ok(tops)
 }
 
-/// The variables with their levels, from the first in the order to the last.
-fn in_order<G: Grow>(store: &mut G, alloc: Global, vars: &[u32]) -> Result<Vec<Top>, Memory>
-    requires { All (IsVariable Bdd (G.view store.old)) vars.now }
+/// Marks the level of a variable, which its projection tells.
+fn mark<G: Grow>(store: &mut G, stack: &mut Stack, var: u32)
+    requires in_range { IsVariable Bdd (G.view store.old) var }
+    requires room { (G.view store.old).vars ≤ length stack.old.marks }
     ensures kept { Kept (G.view store.old) (G.view store.new) }
-    ensures ranked { IfOk result (λ tops. IsRanked (G.view store.new) tops.items) }
-    ensures same { IfOk result (λ tops. cube_of (variables_of tops.items) ≡ cube_of vars.now) }
-{
-    let mut tops = with_levels(store, alloc, vars)?;
-    tops.sort_unstable_by_key(|top| top.level);
-    Ok(tops)
-}
-
-/// The product of variables, from the last in the order to the first.
-fn multiply<G: Grow>(store: &mut G, stack: &mut Stack, tops: Vec<Top>) -> Result<Edge, Stop>
-    requires ranked { IsRanked (G.view store.old) tops.items }
-    requires permanent { Permanent (G.view store.old) }
-    requires room { (G.view store.old).vars ≤ stack.old.free }
-    ensures grown { Grown (G.view store.old) (G.view store.new) }
-    ensures product { IfOk result (λ e. Denotes Bdd (G.view store.new) e (cube_of (variables_of tops.items))) }
-    ensures work { Adds (λ F. F ≡ BddFunction (cube_of (variables_of tops.items))) (G.view store.old) (G.view store.new) }
-    ensures full { IsErrOf result Stop.Full → Rose (G.view store.old) (G.view store.new) }
-    ensures due { IsErrOf result Stop.Full → IsWork (G.view store.new) (λ F. F ≡ BddFunction (cube_of (variables_of tops.items))) (G.view store.new).due }
+    ensures marks { stack.new.marks ≡ slice_set stack.old.marks ((G.view store.new).level var) (Some var) }
+    ensures is_mark { IsMark (G.view store.new) ((G.view store.new).level var) var }
     ensures frames { stack.new.frames ≡ stack.old.frames }
     ensures free { stack.new.free ≡ stack.old.free }
 {
-    let mut left = tops;
-    let mut cube = Edge::new(0, false);
-    while let Some(top) = left.pop() {
-        // The slot of the variable's projection.
-        let literal = Edge::new(5 + top.var, false);
-        cube = and(store, stack, literal, cube)?;
+    let projection = store.projection(var);
+    let Some(top) = look(store, projection).top else {
+        unreachable!();
+    };
+    stack.mark(top.level, top.var);
+}
+
+/// The product of the marked variables, from the last in the order to the first.
+fn product_of_marks<G: Grow>(store: &mut G, stack: &Stack, levels: u32) -> Result<Edge, Halt>
+    requires levels { levels ≡ (G.view store.old).vars }
+    requires permanent { Permanent (G.view store.old) }
+    requires room { levels ≤ length stack.now.marks }
+    requires marks { AreMarks (G.view store.old) stack.now.marks }
+    ensures runs { Runs Bdd (marked_product stack.now.marks) (λ F. F ≡ BddFunction (marked_product stack.now.marks)) (G.view store.old) (G.view store.new) result }
+{
+    let zero = Edge::truth(false);
+    let mut cube = Edge::truth(true);
+    let mut level = levels;
+    'levels: while 0 < level {
+        level -= 1;
+        if let Some(var) = stack.marked(level) {
+            cube = store.make(var, cube, zero)?;
+        }
     }
     Ok(cube)
+}
+
+/// What is left of a product below a level.
+pub(crate) fn below<G: Grow>(store: &mut G, cube: Edge, level: u32) -> Edge
+    requires { HasCube (G.view store.old) cube }
+    ensures kept { Kept (G.view store.old) (G.view store.new) }
+    ensures below { IsBelowLevel (G.view store.new) cube result level }
+{
+    let mut rest = cube;
+    'variables: loop {
+        let Opened::Inner(var, hi, _) = store.open(rest) else {
+            return rest;
+        };
+        if store.level(var) >= level {
+            return rest;
+        }
+        rest = hi;
+    }
+}
+
+/// The rest of a product, where the variable is its top; the variables above are not in it.
+pub(crate) fn rest_of<G: Grow>(store: &mut G, cube: Edge, var: u32) -> Option<Edge>
+    requires cube { HasCube (G.view store.old) cube }
+    requires in_range { IsVariable Bdd (G.view store.old) var }
+    requires above { IsFreeAbove (G.view store.old) ((G.view store.old).level var) (bdd_at (G.view store.old) cube) }
+    ensures kept { Kept (G.view store.old) (G.view store.new) }
+    ensures rest { RestIs (G.view store.new) cube var result }
+{
+    let Opened::Inner(top, hi, _) = store.open(cube) else {
+        return None;
+    };
+    if top == var { Some(hi) } else { None }
+}
+
+/// What is left of a product below a variable, above which it has none.
+pub(crate) fn below_variable<G: Grow>(store: &mut G, cube: Edge, var: u32) -> Edge
+    requires cube { HasCube (G.view store.old) cube }
+    requires in_range { IsVariable Bdd (G.view store.old) var }
+    requires above { IsFreeAbove (G.view store.old) ((G.view store.old).level var) (bdd_at (G.view store.old) cube) }
+    ensures kept { Kept (G.view store.old) (G.view store.new) }
+    ensures left { LeftIs (G.view store.new) cube var result }
+{
+    match rest_of(store, cube, var) {
+        Some(rest) => rest,
+        None => cube,
+    }
 }

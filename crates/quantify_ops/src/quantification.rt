@@ -1,20 +1,26 @@
 //! The conjunction of two functions, quantified over the variables of a product: the relational product (Burch, Clarke, McMillan, Dill and Hwang 1990).
 
-ghost use Rattle.std.specs.Prelude.{◌≡◌, ◌≤◌, IfOk, IsErrOf, true};
+ghost use Rattle.std.specs.Prelude.{◌≡◌, ◌≤◌, ◌*◌, IfOk, IsErrOf, List, ℕ, true};
 ghost use Rattle.edge_bits.specs.declared.edges.Kind.TheVariants.{Bdd};
+ghost use Rattle.function_laws.specs.Values.{exists_all};
 ghost use Rattle.node_store.specs.Numbers.{exists_number};
+ghost use Rattle.node_store.specs.Operations.{Runs};
+ghost use Rattle.node_store.specs.Operands.{HalvesOfTwo};
 ghost use Rattle.node_store.specs.Views.{View, AreTwo, Kept, NotBothLeaves, Permanent, Rose};
 ghost use Rattle.node_store.specs.Splits.{CanJoin};
 ghost use Rattle.node_store.specs.Work.{IsWork, Moves};
-ghost use Rattle.quantify_ops.specs.Quantified.{AreQuantified, IsKeyOf, IsKnown, IsNarrowed, IsQuantifiedValue, QuantifiedAnswers, QuantifiedDue, QuantifiedFirst, QuantifiedSplits};
+ghost use Rattle.quantify_ops.specs.Products.{IsProduct};
+ghost use Rattle.quantify_ops.specs.Works.{value_of_and_exists};
+ghost use Rattle.quantify_ops.specs.Quantified.{both_at, AreQuantified, IsKeyOf, IsKnown, IsNarrowed, IsQuantifiedValue, QuantifiedAnswers, QuantifiedDue, QuantifiedFirst, QuantifiedSplits};
 
-use crate::cubes::{below, below_variable, rest_of};
-use edge_bits::Edge;
+use crate::products::{below, below_variable, rest_of};
+use edge_bits::{Edge, TRUE_SLOT};
 use ite_core::nested::{and, or};
-use ite_core::split;
 use node_store::binary::Branch;
-use node_store::operator::{Frame, Halt, Next, Operator, Task, Wait};
-use node_store::{Grow, Key, Stack, Stop, numbers};
+use node_store::evaluate::evaluate;
+use node_store::operator::{Frame, Halt, Next, Operator, Task, Turn, Wait};
+use node_store::parts::{Halves, Split, split_two};
+use node_store::{Grow, Key, Stack, numbers};
 
 /// A quantified conjunction, as the evaluator runs it: each task is two functions and what is left of the product.
 #[derive(Drop)]
@@ -31,7 +37,9 @@ impl<G: Grow> Operator<G> for Quantification {
     ghost use Rattle.node_store.specs.Two.{two_depth};
     ghost use Rattle.node_store.specs.TwoLaws.{two_depth-stays};
     ghost use Rattle.node_store.specs.Work.{IsWork};
-    ghost use Rattle.quantify_ops.specs.Quantified.{AreQuantified, IsQuantifiedValue, QuantifiedDue, QuantifiedAnswers, QuantifiedWaits};
+    ghost use Rattle.quantify_ops.specs.Products.{IsProduct};
+    ghost use Rattle.quantify_ops.specs.Works.{value_of_and_exists};
+    ghost use Rattle.quantify_ops.specs.Quantified.{both_at, AreQuantified, IsQuantifiedValue, QuantifiedDue, QuantifiedAnswers, QuantifiedWaits};
     ghost use Rattle.quantify_ops.specs.QuantifiedLasts.{AreQuantified-grown, IsQuantifiedValue-stays, QuantifiedDue-stays, QuantifiedAnswers-stay, QuantifiedWaits-stay};
 
     ghost moves = { λ o. BinaryMoves (λ w. AreQuantified w o.f o.g o.cube) (IsQuantifiedValue o.f o.g o.cube) };
@@ -52,10 +60,10 @@ impl<G: Grow> Operator<G> for Quantification {
 
     fn start(&self, store: &mut G, stack: &mut Stack, task: Task) -> Result<Next, Halt> {
         if let Some(value) = known(task.f, task.g) {
-            return Ok(Next::Done(Edge::new(0, !value)));
+            return Ok(Next::Done(Edge::truth(value)));
         }
         let branch = self.narrow(store, task);
-        if branch.task.h.index == 0 {
+        if branch.task.h.index == TRUE_SLOT {
             // Nothing is left to quantify.
             return Ok(Next::Done(and(store, stack, task.f, task.g)?));
         }
@@ -77,23 +85,19 @@ impl<G: Grow> Operator<G> for Quantification {
         stack: &mut Stack,
         frame: Frame,
         answer: Edge,
-    ) -> Result<Next, Halt> {
+    ) -> Result<Turn, Halt> {
         match frame.wait {
             Wait::First(later) => {
                 if self.settles(store, frame.task, frame.var, answer) {
                     self.keep(store, frame.task, answer);
-                    return Ok(Next::Done(answer));
+                    return Ok(Turn::Done(answer));
                 }
-                let frame = Frame {
-                    wait: Wait::Second(answer),
-                    ..frame
-                };
-                Ok(Next::Call(frame, later))
+                Ok(Turn::Call(Wait::Second(answer), later))
             }
             Wait::Second(hi) => {
                 let edge = self.join(store, stack, frame.task, frame.var, hi, answer)?;
                 self.keep(store, frame.task, edge);
-                Ok(Next::Done(edge))
+                Ok(Turn::Done(edge))
             }
             _ => unreachable!(),
         }
@@ -128,16 +132,28 @@ impl Quantification {
         ensures kept { Kept (G.view store.old) (G.view store.new) }
         ensures narrowed { IsNarrowed self.now.f self.now.g self.now.cube (G.view store.new) task result }
     {
-        let Branch { var, hi, lo, .. } = split(store, task);
-        let level = store.level(var);
-        let cube = below(store, task.h, level);
-        let rest = below_variable(store, cube, var);
+        let Halves { top, hi, lo } = self.split(store, task);
+        let cube = below(store, task.h, top.level);
+        let rest = below_variable(store, cube, top.var);
         Branch {
             task: Task { h: cube, ..task },
             flip: false,
-            var,
+            var: top.var,
             hi: Task { h: rest, ..hi },
             lo: Task { h: rest, ..lo },
+        }
+    }
+
+    /// The parts of a task's functions at the upper one of their top variables.
+    fn split<G: Grow>(&self, store: &mut G, task: Task) -> Halves
+        requires two { AreTwo Bdd (G.view store.old) task.f task.g }
+        requires inner { NotBothLeaves Bdd (G.view store.old) task.f task.g }
+        ensures kept { Kept (G.view store.old) (G.view store.new) }
+        ensures halves { HalvesOfTwo Bdd (G.view store.new) task.f task.g result }
+    {
+        match split_two(store, task.f, task.g) {
+            Split::Leaves(_, _) => unreachable!(),
+            Split::At(halves) => halves,
         }
     }
 
@@ -147,7 +163,7 @@ impl Quantification {
         ensures kept { Kept (G.view store.old) (G.view store.new) }
         ensures answer { result ≡ true → QuantifiedAnswers (G.view store.new) task first }
     {
-        if first.index != 0 {
+        if first.index != TRUE_SLOT {
             return false;
         }
         if first.complement {
@@ -168,21 +184,20 @@ impl Quantification {
         var: u32,
         hi: Edge,
         lo: Edge,
-    ) -> Result<Edge, Stop>
+    ) -> Result<Edge, Halt>
         requires parts { CanJoin (QuantifiedDue self.now.f self.now.g self.now.cube) QuantifiedAnswers QuantifiedSplits (G.view store.old) task var hi lo }
         requires room { (G.view store.old).vars ≤ stack.old.free }
         ensures moved { Moves (λ w. AreQuantified w self.now.f self.now.g self.now.cube) (IsQuantifiedValue self.now.f self.now.g self.now.cube) (G.view store.old) (G.view store.new) }
         ensures answer { IfOk result (QuantifiedAnswers (G.view store.new) task) }
-        ensures memory { IsErrOf result Stop.Memory → (G.view store.old).may_want_memory ≡ true }
-        ensures due { IsErrOf result Stop.Full → IsWork (G.view store.new) (IsQuantifiedValue self.now.f self.now.g self.now.cube (G.view store.new)) (G.view store.new).due }
-        ensures full { IsErrOf result Stop.Full → Rose (G.view store.old) (G.view store.new) }
-        ensures frames { stack.new.frames ≡ stack.old.frames }
-        ensures free { stack.new.free ≡ stack.old.free }
-        ensures known { stack.new.answers ≡ stack.old.answers }
+        ensures memory { IsErrOf result Halt.Memory → (G.view store.old).may_want_memory ≡ true }
+        ensures due { IsErrOf result Halt.Full → IsWork (G.view store.new) (IsQuantifiedValue self.now.f self.now.g self.now.cube (G.view store.new)) (G.view store.new).due }
+        ensures full { IsErrOf result Halt.Full → Rose (G.view store.old) (G.view store.new) }
+        ensures overflow { IsErrOf result Halt.Overflow → ⊥ }
+        ensures stack { stack.new ≡ stack.old }
     {
         match rest_of(store, task.h, var) {
-            Some(_) => or(store, stack, hi, lo),
-            None => store.make(var, hi, lo),
+            Some(_) => Ok(or(store, stack, hi, lo)?),
+            None => Ok(store.make(var, hi, lo)?),
         }
     }
 
@@ -196,6 +211,26 @@ impl Quantification {
     }
 }
 
+/// The conjunction of two functions, quantified over the variables of a product, on this stack.
+pub(crate) fn quantify<G: Grow>(
+    store: &mut G,
+    stack: &mut Stack,
+    f: Edge,
+    g: Edge,
+    cube: Edge,
+) -> Result<Edge, Halt>
+    requires operands { AreTwo Bdd (G.view store.old) f g }
+    requires cube { (vars : List ℕ) × IsProduct (G.view store.old) cube vars }
+    requires permanent { Permanent (G.view store.old) }
+    requires room { 2 * (G.view store.old).vars ≤ stack.old.free }
+    ensures runs { (vars : List ℕ) → IsProduct (G.view store.old) cube vars → Runs Bdd (exists_all (both_at (G.view store.old) f g) vars) (value_of_and_exists f g vars (G.view store.old)) (G.view store.old) (G.view store.new) result }
+    ensures stack { stack.new ≡ stack.old }
+{
+    let op = Quantification { f, g, cube };
+    let task = Task { f, g, h: cube };
+    evaluate(store, stack, &op, task)
+}
+
 /// The constant that the conjunction of two functions is known to be.
 fn known(f: Edge, g: Edge) -> Option<bool>
     ensures { (w : View) → Permanent w → AreTwo Bdd w f g → IsKnown w f g result }
@@ -204,16 +239,16 @@ fn known(f: Edge, g: Edge) -> Option<bool>
         if f.complement != g.complement {
             return Some(false);
         }
-        return if f.index == 0 {
+        return if f.index == TRUE_SLOT {
             Some(!f.complement)
         } else {
             None
         };
     }
-    if f.index == 0 {
+    if f.index == TRUE_SLOT {
         return if f.complement { Some(false) } else { None };
     }
-    if g.index == 0 {
+    if g.index == TRUE_SLOT {
         return if g.complement { Some(false) } else { None };
     }
     None
@@ -223,7 +258,7 @@ fn known(f: Edge, g: Edge) -> Option<bool>
 fn key_of(task: Task) -> Key
     ensures { (w : View) → Permanent w → AreQuantified w task.f task.g task.h → IsKeyOf w task result }
 {
-    let one = Edge::new(0, false);
+    let one = Edge::truth(true);
     if task.f == task.g {
         return exists_key(task.f, task.h);
     }
@@ -242,6 +277,7 @@ fn key_of(task: Task) -> Key
     }
 }
 
+/// The key of a quantified function.
 fn exists_key(f: Edge, cube: Edge) -> Key
     ensures { result ≡ record { op = exists_number; f = f; g = cube; h = f } }
 {

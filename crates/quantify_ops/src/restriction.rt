@@ -1,20 +1,23 @@
 //! A function restricted to a condition: simpler, and the same where the condition holds (Coudert and Madre 1990).
 
-ghost use Rattle.std.specs.Prelude.{◌≡◌, ◌≤◌, IfOk, IsErrOf, false, true};
+ghost use Rattle.std.specs.Prelude.{◌≡◌, ◌≤◌, ◌*◌, IfOk, IsErrOf, false, true};
 ghost use Rattle.edge_bits.specs.declared.edges.Kind.TheVariants.{Bdd};
 ghost use Rattle.function_laws.specs.Restrictions.{IsNowhere};
+ghost use Rattle.node_store.specs.Operations.{RunsTo};
 ghost use Rattle.node_store.specs.Edges.{flip_if as flipped_edge};
 ghost use Rattle.node_store.specs.Views.{View, AreTwo, Is, Kept, Permanent, Rose, bdd_at};
 ghost use Rattle.node_store.specs.Work.{IsWork, Moves};
 ghost use Rattle.node_store.specs.declared.operator.Task.{Task};
-ghost use Rattle.quantify_ops.specs.Restricted.{CanBranch, IsCondition, IsKnownRestriction, IsLifted, LeadsLevel, RestrictAnswers, RestrictAsks, RestrictDue, restrict_key, work_of_restrict};
+ghost use Rattle.quantify_ops.specs.Restricted.{CanBranch, IsCondition, IsKnownRestriction, IsLifted, LeadsLevel, RestrictAnswers, RestrictAsks, RestrictDue, Restricted, restrict_key, work_of_restrict};
 
-use edge_bits::Edge;
+use edge_bits::{Edge, Kind, TRUE_SLOT};
 use ite_core::nested::or;
 use node_store::binary::flip_if;
-use node_store::operator::{Frame, Halt, Next, Operator, Task, Wait};
+use node_store::evaluate::evaluate;
+use node_store::operator::{Frame, Halt, Next, Operator, Task, Turn, Wait};
 use node_store::parts::parts;
-use node_store::{Grow, Key, Opened, Stack, Stop, numbers};
+use node_store::scratch::Operation;
+use node_store::{Grow, Key, Opened, Stack, numbers};
 
 /// A restriction, as the evaluator runs it: each task is a function and a condition that holds somewhere.
 #[derive(Drop)]
@@ -77,19 +80,13 @@ impl<G: Grow> Operator<G> for Restriction {
         _stack: &mut Stack,
         frame: Frame,
         answer: Edge,
-    ) -> Result<Next, Halt> {
+    ) -> Result<Turn, Halt> {
         match frame.wait {
-            Wait::Only => Ok(Next::Done(self.keep(store, frame, answer))),
-            Wait::First(later) => {
-                let frame = Frame {
-                    wait: Wait::Second(answer),
-                    ..frame
-                };
-                Ok(Next::Call(frame, later))
-            }
+            Wait::Only => Ok(Turn::Done(self.keep(store, frame, answer))),
+            Wait::First(later) => Ok(Turn::Call(Wait::Second(answer), later)),
             Wait::Second(hi) => {
                 let edge = store.make(frame.var, hi, answer)?;
-                Ok(Next::Done(self.keep(store, frame, edge)))
+                Ok(Turn::Done(self.keep(store, frame, edge)))
             }
             _ => unreachable!(),
         }
@@ -124,7 +121,7 @@ impl Restriction {
         stack: &mut Stack,
         condition: Edge,
         level: u32,
-    ) -> Result<Edge, Stop>
+    ) -> Result<Edge, Halt>
         requires permanent { Permanent (G.view store.old) }
         requires roots { AreTwo Bdd (G.view store.old) self.now.f self.now.c }
         requires condition { IsCondition self.now.c (G.view store.old) condition }
@@ -132,12 +129,11 @@ impl Restriction {
         requires room { (G.view store.old).vars ≤ stack.old.free }
         ensures moved { Moves (λ w. AreTwo Bdd w self.now.f self.now.c) (work_of_restrict self.now.f self.now.c) (G.view store.old) (G.view store.new) }
         ensures lifted { IfOk result (λ e. IsLifted self.now.c (G.view store.new) condition e level) }
-        ensures memory { IsErrOf result Stop.Memory → (G.view store.old).may_want_memory ≡ true }
-        ensures due { IsErrOf result Stop.Full → IsWork (G.view store.new) (work_of_restrict self.now.f self.now.c (G.view store.new)) (G.view store.new).due }
-        ensures full { IsErrOf result Stop.Full → Rose (G.view store.old) (G.view store.new) }
-        ensures frames { stack.new.frames ≡ stack.old.frames }
-        ensures free { stack.new.free ≡ stack.old.free }
-        ensures known { stack.new.answers ≡ stack.old.answers }
+        ensures memory { IsErrOf result Halt.Memory → (G.view store.old).may_want_memory ≡ true }
+        ensures due { IsErrOf result Halt.Full → IsWork (G.view store.new) (work_of_restrict self.now.f self.now.c (G.view store.new)) (G.view store.new).due }
+        ensures full { IsErrOf result Halt.Full → Rose (G.view store.old) (G.view store.new) }
+        ensures overflow { IsErrOf result Halt.Overflow → ⊥ }
+        ensures stack { stack.new ≡ stack.old }
     {
         let mut lifted = condition;
         let mut top = store.open(lifted);
@@ -201,8 +197,61 @@ impl Restriction {
     }
 }
 
+/// A function restricted to a condition, on this stack.
+pub(crate) fn simplify<G: Grow>(
+    store: &mut G,
+    stack: &mut Stack,
+    f: Edge,
+    c: Edge,
+) -> Result<Edge, Halt>
+    requires operands { AreTwo Bdd (G.view store.old) f c }
+    requires permanent { Permanent (G.view store.old) }
+    requires room { 2 * (G.view store.old).vars ≤ stack.old.free }
+    ensures runs { RunsTo (Restricted (G.view store.old) (G.view store.new) f c) ⊥ (work_of_restrict f c (G.view store.old)) (G.view store.old) (G.view store.new) result }
+    ensures stack { stack.new ≡ stack.old }
+{
+    if is_false(store, c) {
+        return Ok(Edge::truth(false));
+    }
+    evaluate(store, stack, &Restriction { f, c }, Task::two(f, c))
+}
+
+impl<G: Grow> Operation<G> for Restriction {
+    ghost use Rattle.edge_bits.specs.declared.edges.Kind.TheVariants.{Bdd};
+    ghost use Rattle.node_store.specs.TwoLaws.{AreTwo-grown};
+    ghost use Rattle.node_store.specs.Views.{AreTwo};
+    ghost use Rattle.quantify_ops.specs.Restricted.{Restricted, work_of_restrict};
+    ghost use Rattle.quantify_ops.specs.RestrictedLasts.{Restricted-lasts, work_of_restrict-back};
+
+    ghost kind = { Bdd };
+
+    ghost asks = { λ o w. AreTwo Bdd w o.f o.c };
+
+    ghost answers = { λ o v w. Restricted v w o.f o.c };
+
+    ghost overflows = { λ _ _. ⊥ };
+
+    ghost work = { λ o. work_of_restrict o.f o.c };
+
+    fn answer_kind(&self) -> Kind {
+        Kind::Bdd
+    }
+
+    fn run(self, store: &mut G, stack: &mut Stack) -> Result<Edge, Halt> {
+        simplify(store, stack, self.f, self.c)
+    }
+
+    ghost asks_stay = { λ o v w m d. AreTwo-grown Bdd m d };
+
+    ghost answers_last = { λ o. Restricted-lasts o.f o.c };
+
+    ghost overflows_back = { λ o v w m d bad. bad };
+
+    ghost work_back = { λ o v w h m d. work_of_restrict-back v w o.f o.c m d h };
+}
+
 /// Whether a function is false.
-pub(crate) fn is_false<G: Grow>(store: &mut G, edge: Edge) -> bool
+fn is_false<G: Grow>(store: &mut G, edge: Edge) -> bool
     requires { Is Bdd (G.view store.old) edge }
     ensures kept { Kept (G.view store.old) (G.view store.new) }
     ensures yes { result ≡ true → IsNowhere (bdd_at (G.view store.new) edge) }
@@ -218,16 +267,16 @@ pub(crate) fn is_false<G: Grow>(store: &mut G, edge: Edge) -> bool
 fn known(f: Edge, condition: Edge) -> Option<Edge>
     ensures { (w : View) → Permanent w → AreTwo Bdd w f condition → (IsNowhere (bdd_at w condition) → ⊥) → IsKnownRestriction w (record { f = f; g = condition; h = f }) result }
 {
-    if condition.index == 0 {
+    if condition.index == TRUE_SLOT {
         return Some(f);
     }
     if condition.index == f.index {
-        let one = Edge::new(0, f.complement);
-        return Some(flip_if(one, condition.complement));
+        return Some(Edge::truth(f.complement == condition.complement));
     }
     None
 }
 
+/// The key of a regular function and a condition.
 fn key_of(f: Edge, condition: Edge) -> Key
     ensures { result ≡ restrict_key f condition }
 {

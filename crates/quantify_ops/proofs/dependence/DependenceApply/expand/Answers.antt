@@ -9,7 +9,7 @@ open-requires g c = (Bdd, c.requires.edge)
 pub returns-in_default-clause-expanded : goal.returns-in_default-clause-expanded
 returns-in_default-clause-expanded g c =
     let e = c.in_default.ensures in
-    support_leaf _ _ c.args.task c.new.result _ (Permanent-grown e.kept.grown c.requires.permanent) e.kept.grown c.requires.edge (e.opens Bdd c.requires.edge) c.new.ensures
+    support_leaf _ _ c.args.task c.truth.result _ (Permanent-grown e.kept.grown c.requires.permanent) e.kept.grown c.requires.edge (e.opens Bdd c.requires.edge) c.truth.ensures
 
 pub memo_get-requires : goal.memo_get-requires
 memo_get-requires g c = rw c.key_of.ensures (support_is_key _ c.args.task.f (Is-grown Bdd c.in-Inner.ensures.kept.grown c.requires.edge))

@@ -1,8 +1,10 @@
-use Rattle.std.proofs.Common.{arith}
+use Rattle.std.proofs.Common.{Ok, arith}
 use Rattle.edge_bits.specs.declared.edges.Kind.TheVariants.{Bdd}
 use Rattle.node_store.specs.Splits.{BothAnswered}
 use Rattle.quantify_ops.specs.Quantified.{QuantifiedAnswers, QuantifiedDue, QuantifiedSplits}
-use Rattle.quantify_ops.proofs.QuantifiedLaws.{BothAnswered-grown, quantified_value, choice_value, quantified_node, Quantified-answers, Quantified-node, Quantified-added, Quantified-due, Quantified-refused, moved_after}
+use Rattle.std.proofs.lemmas.Result.{err_from_is_err_and}
+use Rattle.node_store.proofs.Stops.{full_stop}
+use Rattle.quantify_ops.proofs.QuantifiedLaws.{Quantified-none, BothAnswered-grown, quantified_value, choice_value, quantified_node, Quantified-answers, Quantified-node, Quantified-added, Quantified-due, Quantified-refused, moved_after}
 use Rattle.quantify_ops.proofs.quantification.Quantification.join.Goals as goal
 use Rattle.quantify_ops.proofs.quantification.Quantification.join.Goals.{After-rest_of}
 use Rattle.quantify_ops.proofs.quantification.Quantification.join.Given as given
@@ -37,41 +39,62 @@ make-requires g c =
     let p = answered g (goal.at.make-requires g c).After-rest_of in let t = c.requires.parts.0 in
     (Bdd, quantified_node _ c.args.task t.0 t.1 c.args.var p.splits c.args.hi c.args.lo p.hi_is p.lo_is)
 
-pub returns-in-Some-clause-moved : goal.returns-in-Some-clause-moved
-returns-in-Some-clause-moved g c =
-    let o = c.args.self.now in let p = answered g (goal.at.returns-in-Some-clause-moved g c).After-rest_of in let t = c.requires.parts.0 in
+pub returns-in_err-or-in-Some-clause-moved : goal.returns-in_err-or-in-Some-clause-moved
+returns-in_err-or-in-Some-clause-moved g c =
+    let o = c.args.self.now in let p = answered g (goal.at.returns-in_err-or-in-Some-clause-moved g c).After-rest_of in let t = c.requires.parts.0 in
     let value = quantified_value _ c.args.task t.0 t.1 c.args.var p.splits c.args.hi c.args.lo c.in-Some.field-0 c.in-Some.ensures.rest p.hi_is p.lo_is in
-    moved_after o.f o.g o.cube _ _ _ c.in-Some.ensures.kept (Quantified-added o.f o.g o.cube _ _ c.args.task _ p.due c.or.ensures.grown value c.or.ensures.work)
+    let e = c.in_err-or-in-Some.ensures.runs in
+    moved_after o.f o.g o.cube _ _ _ c.rest_of.ensures.kept (Quantified-added o.f o.g o.cube _ _ c.args.task _ p.due e.grown value e.work)
 
-pub returns-in-Some-clause-answer : goal.returns-in-Some-clause-answer
-returns-in-Some-clause-answer g c =
-    let o = c.args.self.now in let p = answered g (goal.at.returns-in-Some-clause-answer g c).After-rest_of in let t = c.requires.parts.0 in
+pub returns-in_ok-or-in-Some-clause-moved : goal.returns-in_ok-or-in-Some-clause-moved
+returns-in_ok-or-in-Some-clause-moved g c =
+    let o = c.args.self.now in let p = answered g (goal.at.returns-in_ok-or-in-Some-clause-moved g c).After-rest_of in let t = c.requires.parts.0 in
     let value = quantified_value _ c.args.task t.0 t.1 c.args.var p.splits c.args.hi c.args.lo c.in-Some.field-0 c.in-Some.ensures.rest p.hi_is p.lo_is in
-    Quantified-answers o.f o.g o.cube _ _ c.args.task _ p.due c.or.ensures.grown value c.or.result c.or.ensures.or
+    let e = c.in_ok-or-in-Some.ensures.runs in
+    moved_after o.f o.g o.cube _ _ _ c.rest_of.ensures.kept (Quantified-added o.f o.g o.cube _ _ c.args.task _ p.due e.grown value e.work)
 
-pub returns-in-Some-clause-due : goal.returns-in-Some-clause-due
-returns-in-Some-clause-due g c = λ is.
-    let o = c.args.self.now in let p = answered g (goal.at.returns-in-Some-clause-due g c).After-rest_of in let t = c.requires.parts.0 in
+pub returns-in_ok-or-in-Some-clause-answer : goal.returns-in_ok-or-in-Some-clause-answer
+returns-in_ok-or-in-Some-clause-answer g c =
+    let o = c.args.self.now in let p = answered g (goal.at.returns-in_ok-or-in-Some-clause-answer g c).After-rest_of in let t = c.requires.parts.0 in
     let value = quantified_value _ c.args.task t.0 t.1 c.args.var p.splits c.args.hi c.args.lo c.in-Some.field-0 c.in-Some.ensures.rest p.hi_is p.lo_is in
-    Quantified-refused o.f o.g o.cube _ _ c.args.task _ p.due c.or.ensures.grown value (c.or.ensures.due is)
+    let e = c.in_ok-or-in-Some.ensures.runs in
+    Quantified-answers o.f o.g o.cube _ _ c.args.task _ p.due e.grown value (Ok c.in_ok-or-in-Some.field-0) e.answer
 
-pub returns-in-None-clause-moved : goal.returns-in-None-clause-moved
-returns-in-None-clause-moved g c =
-    let o = c.args.self.now in let p = answered g (goal.at.returns-in-None-clause-moved g c).After-rest_of in let t = c.requires.parts.0 in
+pub returns-in_err-or-in-Some-clause-due : goal.returns-in_err-or-in-Some-clause-due
+returns-in_err-or-in-Some-clause-due g c =
+    let o = c.args.self.now in let p = answered g (goal.at.returns-in_err-or-in-Some-clause-due g c).After-rest_of in let t = c.requires.parts.0 in
+    let value = quantified_value _ c.args.task t.0 t.1 c.args.var p.splits c.args.hi c.args.lo c.in-Some.field-0 c.in-Some.ensures.rest p.hi_is p.lo_is in
+    let e = c.in_err-or-in-Some.ensures.runs in
+    let q = err_from_is_err_and c.from_residual.result c.from_residual.ensures.1 in rw (q.1, q.2) (λ is. Quantified-refused o.f o.g o.cube _ _ c.args.task _ p.due e.grown value (e.due is))
+
+pub returns-in_ok-make-in-None-clause-moved : goal.returns-in_ok-make-in-None-clause-moved
+returns-in_ok-make-in-None-clause-moved g c =
+    let o = c.args.self.now in let p = answered g (goal.at.returns-in_ok-make-in-None-clause-moved g c).After-rest_of in let t = c.requires.parts.0 in
     let value = choice_value _ c.args.task t.0 t.1 c.args.var p.splits c.args.hi c.args.lo c.in-None.ensures.rest p.hi_is p.lo_is in
     let node = quantified_node _ c.args.task t.0 t.1 c.args.var p.splits c.args.hi c.args.lo p.hi_is p.lo_is in
-    moved_after o.f o.g o.cube _ _ _ c.in-None.ensures.kept (Quantified-node o.f o.g o.cube _ _ c.args.task _ p.due c.make.ensures.grown value c.make.result c.make.ensures.made (c.make.ensures.ok Bdd node))
+    let e = c.in_ok-make-in-None.ensures in
+    moved_after o.f o.g o.cube _ _ _ c.rest_of.ensures.kept (Quantified-node o.f o.g o.cube _ _ c.args.task _ p.due e.grown value (Ok c.in_ok-make-in-None.field-0) e.made (e.ok Bdd node))
 
-pub returns-in-None-clause-answer : goal.returns-in-None-clause-answer
-returns-in-None-clause-answer g c =
-    let o = c.args.self.now in let p = answered g (goal.at.returns-in-None-clause-answer g c).After-rest_of in let t = c.requires.parts.0 in
+pub returns-in_err-make-in-None-clause-moved : goal.returns-in_err-make-in-None-clause-moved
+returns-in_err-make-in-None-clause-moved g c =
+    let o = c.args.self.now in let p = answered g (goal.at.returns-in_err-make-in-None-clause-moved g c).After-rest_of in let t = c.requires.parts.0 in
     let value = choice_value _ c.args.task t.0 t.1 c.args.var p.splits c.args.hi c.args.lo c.in-None.ensures.rest p.hi_is p.lo_is in
     let node = quantified_node _ c.args.task t.0 t.1 c.args.var p.splits c.args.hi c.args.lo p.hi_is p.lo_is in
-    Quantified-answers o.f o.g o.cube _ _ c.args.task _ p.due c.make.ensures.grown value c.make.result (c.make.ensures.ok Bdd node)
+    let e = c.in_err-make-in-None.ensures in
+    moved_after o.f o.g o.cube _ _ _ c.rest_of.ensures.kept (Quantified-none o.f o.g o.cube _ _ e.grown e.made)
 
-pub returns-in-None-clause-due : goal.returns-in-None-clause-due
-returns-in-None-clause-due g c = λ is.
-    let o = c.args.self.now in let p = answered g (goal.at.returns-in-None-clause-due g c).After-rest_of in let t = c.requires.parts.0 in
+pub returns-in_ok-make-in-None-clause-answer : goal.returns-in_ok-make-in-None-clause-answer
+returns-in_ok-make-in-None-clause-answer g c =
+    let o = c.args.self.now in let p = answered g (goal.at.returns-in_ok-make-in-None-clause-answer g c).After-rest_of in let t = c.requires.parts.0 in
     let value = choice_value _ c.args.task t.0 t.1 c.args.var p.splits c.args.hi c.args.lo c.in-None.ensures.rest p.hi_is p.lo_is in
     let node = quantified_node _ c.args.task t.0 t.1 c.args.var p.splits c.args.hi c.args.lo p.hi_is p.lo_is in
-    Quantified-due o.f o.g o.cube _ _ c.args.task _ p.due c.make.ensures.grown value (c.make.ensures.due is Bdd node)
+    let e = c.in_ok-make-in-None.ensures in
+    Quantified-answers o.f o.g o.cube _ _ c.args.task _ p.due e.grown value (Ok c.in_ok-make-in-None.field-0) (e.ok Bdd node)
+
+pub returns-in_err-make-in-None-clause-due : goal.returns-in_err-make-in-None-clause-due
+returns-in_err-make-in-None-clause-due g c =
+    let o = c.args.self.now in let p = answered g (goal.at.returns-in_err-make-in-None-clause-due g c).After-rest_of in let t = c.requires.parts.0 in
+    let value = choice_value _ c.args.task t.0 t.1 c.args.var p.splits c.args.hi c.args.lo c.in-None.ensures.rest p.hi_is p.lo_is in
+    let node = quantified_node _ c.args.task t.0 t.1 c.args.var p.splits c.args.hi c.args.lo p.hi_is p.lo_is in
+    let e = c.in_err-make-in-None.ensures in
+    let q = err_from_is_err_and c.from_residual-in_err-make-in-None.result c.from_residual-in_err-make-in-None.ensures.1 in rw (q.1, q.2) (λ is. Quantified-due o.f o.g o.cube _ _ c.args.task _ p.due e.grown value (e.due (full_stop _ is) Bdd node))

@@ -1,4 +1,4 @@
-use Rattle.std.proofs.Common.{refl}
+use Rattle.std.proofs.Common.{refl, ap}
 use Rattle.node_store.specs.ViewLaws.{Grown-trans, Kept-trans}
 use Rattle.node_store.specs.WorkLaws.{Moves-kept}
 use Rattle.quantify_ops.specs.Quantified.{AreQuantified, IsQuantifiedValue}
@@ -19,7 +19,7 @@ keep-requires-clause-due g c =
 pub returns-then-settles-clause-moved : goal.returns-then-settles-clause-moved
 returns-then-settles-clause-moved g c =
     let o = c.args.self.now in
-    record { moves = Moves-kept (λ w. AreQuantified w o.f o.g o.cube) (IsQuantifiedValue o.f o.g o.cube) _ _ (Kept-trans c.settles.ensures.kept c.keep.ensures); known = refl }
+    record { moves = Moves-kept (λ w. AreQuantified w o.f o.g o.cube) (IsQuantifiedValue o.f o.g o.cube) _ _ (Kept-trans c.settles.ensures.kept c.keep.ensures); known = refl; marks = refl }
 
 pub returns-then-settles-clause-next : goal.returns-then-settles-clause-next
 returns-then-settles-clause-next g c = λ root child due q is.
@@ -57,7 +57,7 @@ keep-requires-in-Second-clause-due g c =
 pub returns-in_ok-edge-in-Second-clause-moved : goal.returns-in_ok-edge-in-Second-clause-moved
 returns-in_ok-edge-in-Second-clause-moved g c =
     let o = c.args.self.now in let e = c.in_ok-edge-in-Second.ensures in
-    record { moves = moved_before o.f o.g o.cube _ _ _ e.moved c.keep-in-Second.ensures; known = e.known }
+    record { moves = moved_before o.f o.g o.cube _ _ _ e.moved c.keep-in-Second.ensures; known = ap (λ s. s.answers) e.stack; marks = ap (λ s. s.marks) e.stack }
 
 pub returns-in_ok-edge-in-Second-clause-next : goal.returns-in_ok-edge-in-Second-clause-next
 returns-in_ok-edge-in-Second-clause-next g c = λ root child due q is.

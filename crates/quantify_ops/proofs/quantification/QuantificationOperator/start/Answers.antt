@@ -1,60 +1,63 @@
-use Rattle.std.proofs.Common.{refl, Ok}
+use Rattle.std.proofs.Common.{refl, ap, Ok, arith}
 use Rattle.std.proofs.lemmas.Result.{err_from_is_err_and}
 use Rattle.node_store.specs.Views.{bdd_at}
 use Rattle.node_store.specs.ViewLaws.{Denotes-truth, Kept-trans, Permanent-grown}
 use Rattle.node_store.specs.WorkLaws.{Moves-kept}
-use Rattle.node_store.proofs.Stops.{full_stop}
+use Rattle.node_store.proofs.Frames.{other_err}
+use Rattle.ite_core.proofs.Outcomes.{Serves-memory}
 use Rattle.function_laws.specs.Cubes.{IsExists}
 use Rattle.quantify_ops.specs.Quantified.{both_at, AreQuantified, IsQuantifiedValue}
 use Rattle.quantify_ops.specs.QuantifiedLasts.{AreQuantified-grown, QuantifiedDue-stays}
 use Rattle.quantify_ops.proofs.QuantifiedLaws.{known_answer, unquantified_value, leads_plain, narrowed_waits, Quantified-answers, Quantified-added, Quantified-refused, moved_after}
 use Rattle.quantify_ops.proofs.quantification.QuantificationOperator.start.Goals as goal
-use Rattle.quantify_ops.proofs.quantification.QuantificationOperator.start.Goals.{Then-branch-eq0}
+use Rattle.quantify_ops.proofs.quantification.QuantificationOperator.start.Goals.{Then-branch-eq-TRUE_SLOT}
 use Rattle.quantify_ops.proofs.quantification.QuantificationOperator.start.Given as given
 
 pub returns-in-Some-clause-next : goal.returns-in-Some-clause-next
 returns-in-Some-clause-next g c =
     let d = c.requires.due in
-    rw c.new.ensures (known_answer _ c.args.task c.in-Some.value _ (rw c.in-Some.is at (c.known.ensures _ d.permanent d.operands.two)) (Denotes-truth _ d.permanent c.in-Some.value))
+    rw c.truth.ensures (known_answer _ c.args.task c.in-Some.value _ (rw c.in-Some.is at (c.known.ensures _ d.permanent d.operands.two)) (Denotes-truth _ d.permanent c.in-Some.value))
 
-value : (g : given.Over) (c : Then-branch-eq0 g)
+value : (g : given.Over) (c : Then-branch-eq-TRUE_SLOT g)
     → let now = g.G.Grow.view c.narrow-branch.new.store in let t = c.narrow-branch.result.task in
     IsExists (bdd_at now t.h) (both_at now t.f t.g) (both_at now c.args.task.f c.args.task.g)
 value g c =
     let n = c.narrow-branch.ensures.narrowed in
-    unquantified_value _ n.branches.due.permanent c.narrow-branch.result.task c.args.task.f c.args.task.g c.if-branch-eq0.true n.same_f n.same_g
+    unquantified_value _ n.branches.due.permanent c.narrow-branch.result.task c.args.task.f c.args.task.g c.if-branch-eq-TRUE_SLOT.true n.same_f n.same_g
 
 pub returns-in_err-and-clause-moved : goal.returns-in_err-and-clause-moved
 returns-in_err-and-clause-moved g c =
     let o = c.args.self.now in let n = c.narrow-branch.ensures.narrowed in let e = c.in_err-and.ensures in
     record {
       moves = moved_after o.f o.g o.cube _ _ _ c.narrow-branch.ensures.kept
-          (Quantified-added o.f o.g o.cube _ _ c.narrow-branch.result.task _ n.branches.due e.grown (value g (goal.at.returns-in_err-and-clause-moved g c).Then-branch-eq0) e.work);
-      known = e.known;
+          (Quantified-added o.f o.g o.cube _ _ c.narrow-branch.result.task _ n.branches.due e.runs.grown (value g (goal.at.returns-in_err-and-clause-moved g c).Then-branch-eq-TRUE_SLOT) e.runs.work);
+      known = ap (λ s. s.answers) e.stack;
+      marks = ap (λ s. s.marks) e.stack;
     }
 
 pub returns-in_err-and-clause-due : goal.returns-in_err-and-clause-due
 returns-in_err-and-clause-due g c =
     let o = c.args.self.now in let n = c.narrow-branch.ensures.narrowed in let e = c.in_err-and.ensures in
-    let v = value g (goal.at.returns-in_err-and-clause-due g c).Then-branch-eq0 in
+    let v = value g (goal.at.returns-in_err-and-clause-due g c).Then-branch-eq-TRUE_SLOT in
     let q = err_from_is_err_and c.from_residual.result c.from_residual.ensures.1 in rw (q.1, q.2) (λ is.
-    Quantified-refused o.f o.g o.cube _ _ c.narrow-branch.result.task _ n.branches.due e.grown v (e.due (full_stop _ is)))
+    Quantified-refused o.f o.g o.cube _ _ c.narrow-branch.result.task _ n.branches.due e.runs.grown v (e.runs.due (other_err _ _ is)))
 
-pub returns-then-branch-eq0-clause-moved : goal.returns-then-branch-eq0-clause-moved
-returns-then-branch-eq0-clause-moved g c =
+pub returns-then-branch-eq-TRUE_SLOT-clause-moved : goal.returns-then-branch-eq-TRUE_SLOT-clause-moved
+returns-then-branch-eq-TRUE_SLOT-clause-moved g c =
     let o = c.args.self.now in let n = c.narrow-branch.ensures.narrowed in let e = c.in_ok-and.ensures in
     record {
       moves = moved_after o.f o.g o.cube _ _ _ c.narrow-branch.ensures.kept
-          (Quantified-added o.f o.g o.cube _ _ c.narrow-branch.result.task _ n.branches.due e.grown (value g (goal.at.returns-then-branch-eq0-clause-moved g c).Then-branch-eq0) e.work);
-      known = e.known;
+          (Quantified-added o.f o.g o.cube _ _ c.narrow-branch.result.task _ n.branches.due e.runs.grown (value g (goal.at.returns-then-branch-eq-TRUE_SLOT-clause-moved g c).Then-branch-eq-TRUE_SLOT) e.runs.work);
+      known = ap (λ s. s.answers) e.stack;
+      marks = ap (λ s. s.marks) e.stack;
     }
 
-pub returns-then-branch-eq0-clause-next : goal.returns-then-branch-eq0-clause-next
-returns-then-branch-eq0-clause-next g c =
+pub returns-then-branch-eq-TRUE_SLOT-clause-next : goal.returns-then-branch-eq-TRUE_SLOT-clause-next
+returns-then-branch-eq-TRUE_SLOT-clause-next g c =
     let o = c.args.self.now in let n = c.narrow-branch.ensures.narrowed in let e = c.in_ok-and.ensures in
-    let v = value g (goal.at.returns-then-branch-eq0-clause-next g c).Then-branch-eq0 in
-    leads_plain _ _ c.args.task c.narrow-branch.result.task _ c.in_ok-and.field-0 n.branches.leads n.plain e.grown
-    (Quantified-answers o.f o.g o.cube _ _ c.narrow-branch.result.task _ n.branches.due e.grown v (Ok c.in_ok-and.field-0) e.and)
+    let v = value g (goal.at.returns-then-branch-eq-TRUE_SLOT-clause-next g c).Then-branch-eq-TRUE_SLOT in
+    leads_plain _ _ c.args.task c.narrow-branch.result.task _ c.in_ok-and.field-0 n.branches.leads n.plain e.runs.grown
+    (Quantified-answers o.f o.g o.cube _ _ c.narrow-branch.result.task _ n.branches.due e.runs.grown v (Ok c.in_ok-and.field-0) e.runs.answer)
 
 pub memo_get-requires : goal.memo_get-requires
 memo_get-requires g c = let d = c.narrow-branch.ensures.narrowed.branches.due in (c.key_of.ensures _ d.permanent d.operands).is_key
@@ -62,7 +65,7 @@ memo_get-requires g c = let d = c.narrow-branch.ensures.narrowed.branches.due in
 pub returns-in-Some-memo_get-clause-moved : goal.returns-in-Some-memo_get-clause-moved
 returns-in-Some-memo_get-clause-moved g c =
     let o = c.args.self.now in
-    record { moves = Moves-kept (λ w. AreQuantified w o.f o.g o.cube) (IsQuantifiedValue o.f o.g o.cube) _ _ (Kept-trans c.narrow-branch.ensures.kept c.in-Some-memo_get.ensures.kept); known = refl }
+    record { moves = Moves-kept (λ w. AreQuantified w o.f o.g o.cube) (IsQuantifiedValue o.f o.g o.cube) _ _ (Kept-trans c.narrow-branch.ensures.kept c.in-Some-memo_get.ensures.kept); known = refl; marks = refl }
 
 pub returns-in-Some-memo_get-clause-next : goal.returns-in-Some-memo_get-clause-next
 returns-in-Some-memo_get-clause-next g c =
@@ -73,7 +76,7 @@ returns-in-Some-memo_get-clause-next g c =
 pub returns-clause-moved : goal.returns-clause-moved
 returns-clause-moved g c =
     let o = c.args.self.now in
-    record { moves = Moves-kept (λ w. AreQuantified w o.f o.g o.cube) (IsQuantifiedValue o.f o.g o.cube) _ _ (Kept-trans c.narrow-branch.ensures.kept c.in_default-memo_get.ensures.kept); known = refl }
+    record { moves = Moves-kept (λ w. AreQuantified w o.f o.g o.cube) (IsQuantifiedValue o.f o.g o.cube) _ _ (Kept-trans c.narrow-branch.ensures.kept c.in_default-memo_get.ensures.kept); known = refl; marks = refl }
 
 pub returns-clause-next : goal.returns-clause-next
 returns-clause-next g c =
@@ -81,3 +84,11 @@ returns-clause-next g c =
     let p = narrowed_waits o.f o.g o.cube _ _ c.args.task c.narrow-branch.result c.in_default-memo_get.ensures.kept.grown
     (QuantifiedDue-stays o.f o.g o.cube _ _ c.args.task c.narrow-branch.ensures.kept.grown c.requires.due) n in
     record { waits = p.0; due = p.1; less = p.2 }
+
+pub returns-in_err-and-clause-memory : goal.returns-in_err-and-clause-memory
+returns-in_err-and-clause-memory g c =
+    let q = err_from_is_err_and c.from_residual.result c.from_residual.ensures.1 in rw (q.1, q.2) (λ is. c.narrow-branch.ensures.kept.grown.wants (Serves-memory _ c.in_err-and.ensures.runs (other_err _ _ is)))
+
+pub returns-in_err-and-clause-full : goal.returns-in_err-and-clause-full
+returns-in_err-and-clause-full g c =
+    let q = err_from_is_err_and c.from_residual.result c.from_residual.ensures.1 in rw (q.1, q.2) (λ is few. (let a = c.in_err-and.ensures.runs.full (other_err _ _ is) few in let k = c.narrow-branch.ensures.kept.fulls in omega arith))

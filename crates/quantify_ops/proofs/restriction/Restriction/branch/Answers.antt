@@ -1,8 +1,8 @@
+use Rattle.std.proofs.Common.{subst}
 use Rattle.edge_bits.specs.declared.edges.Kind.TheVariants.{Bdd}
 use Rattle.node_store.specs.Views.{PartsAt, bdd_at}
 use Rattle.node_store.specs.ViewLaws.{Grown-trans, Is-grown, values_at-grown}
-use Rattle.node_store.proofs.TwoParts.{PartsAt-grown}
-use Rattle.quantify_ops.proofs.RestrictLaws.{asks_else, asks_first, asks_then}
+use Rattle.quantify_ops.proofs.RestrictLaws.{PartsAt-grown, asks_else, asks_first, asks_then}
 use Rattle.quantify_ops.proofs.restriction.Restriction.branch.Goals as goal
 use Rattle.quantify_ops.proofs.restriction.Restriction.branch.Goals.{After-parts}
 use Rattle.quantify_ops.proofs.restriction.Restriction.branch.Given as given
@@ -10,7 +10,9 @@ use Rattle.quantify_ops.proofs.restriction.Restriction.branch.Given as given
 -- the parts of the condition
 parts_at : (g : given.Over) (c : After-parts g) → PartsAt Bdd (g.G.Grow.view c.parts.new.store) c.args.task.g (bdd_at (g.G.Grow.view c.args.store.now) c.args.task.g) c.args.var c.parts.result.0 c.parts.result.1
 parts_at g c =
-    let i = c.requires.inner in c.parts.ensures.parts Bdd (record { edge = c.requires.due.condition.edge; in_range = i.in_range; above = c.requires.above; within = i.within })
+    let i = c.requires.inner in
+    subst (λ f. PartsAt Bdd (g.G.Grow.view c.parts.new.store) c.args.task.g f c.args.var c.parts.result.0 c.parts.result.1) (values_at-grown Bdd c.parts.ensures.kept.grown c.requires.due.condition.edge)
+    (c.parts.ensures.parts Bdd (record { edge = c.requires.due.condition.edge; in_range = i.in_range; above = c.requires.above; within = i.within }))
 
 pub is_false-requires : goal.is_false-requires
 is_false-requires g c = (parts_at g (goal.at.is_false-requires g c).After-parts).splits.hi_is

@@ -4,6 +4,7 @@ use Rattle.edge_bits.specs.declared.edges.Kind.TheVariants.{Bdd}
 use Rattle.node_store.specs.ViewLaws.{Grown-trans, Is-from, Is-grown, Permanent-grown, level-grown}
 use Rattle.node_store.specs.TwoLaws.{AreTwo-grown}
 use Rattle.node_store.specs.Views.{View, AreTwo, Grown, Is, IsInner, bdd_at}
+use Rattle.ite_core.proofs.Outcomes.{Serves-memory}
 use Rattle.quantify_ops.specs.Restricted.{IsCondition, ServesAbove}
 use Rattle.quantify_ops.specs.RestrictedLasts.{IsCondition-grown}
 use Rattle.quantify_ops.proofs.LiftLaws.{IsInner-grown, Restrict-both, Restrict-kept, ServesAbove-grown, lifted_end, opened, step_condition, step_due, step_lower, step_moved, step_serves}
@@ -19,9 +20,7 @@ variables-init g c =
       condition = IsCondition-grown o.c _ _ c.args.condition k.grown c.requires.roots.second i;
       opens = opened _ _ c.args.condition _ k.grown i.edge (c.open-top.ensures.opens Bdd i.edge);
       serves = λ a r free p. p;
-      frames = refl;
-      free = refl;
-      known = refl;
+      stack = refl;
     }
 
 -- the opened condition, after its level is read
@@ -67,20 +66,20 @@ pub returns-in_err-lifted-clause-moved : goal.returns-in_err-lifted-clause-moved
 returns-in_err-lifted-clause-moved g c =
     let o = c.args.self.now in let k = c.level.ensures.kept in let e = c.in_err-lifted.ensures in let at = (goal.at.returns-in_err-lifted-clause-moved g c).In-Inner in
     Restrict-both o.f o.c _ _ _ c.variables.invariant.moved (Restrict-both o.f o.c _ _ _ (Restrict-kept o.f o.c _ _ k)
-    (step_moved o.f o.c _ _ c.variables.lifted c.in-Inner.hi c.in-Inner.lo c.in-Inner.var (AreTwo-grown Bdd k.grown (roots g at)) (condition_at g at _ k.grown) (inner_at g at _ k.grown) e.grown e.work))
+    (step_moved o.f o.c _ _ c.variables.lifted c.in-Inner.hi c.in-Inner.lo c.in-Inner.var (AreTwo-grown Bdd k.grown (roots g at)) (condition_at g at _ k.grown) (inner_at g at _ k.grown) e.runs.grown e.runs.work))
 
 pub returns-in_err-lifted-clause-due : goal.returns-in_err-lifted-clause-due
 returns-in_err-lifted-clause-due g c =
     let o = c.args.self.now in let k = c.level.ensures.kept in let e = c.in_err-lifted.ensures in let at = (goal.at.returns-in_err-lifted-clause-due g c).In-Inner in
     let q = err_from_is_err_and c.from_residual.result c.from_residual.ensures.1 in rw (q.1, q.2) (λ is.
-    step_due o.f o.c _ _ c.variables.lifted c.in-Inner.hi c.in-Inner.lo c.in-Inner.var (AreTwo-grown Bdd k.grown (roots g at)) (condition_at g at _ k.grown) (inner_at g at _ k.grown) e.grown _ (e.due is))
+    step_due o.f o.c _ _ c.variables.lifted c.in-Inner.hi c.in-Inner.lo c.in-Inner.var (AreTwo-grown Bdd k.grown (roots g at)) (condition_at g at _ k.grown) (inner_at g at _ k.grown) e.runs.grown _ (e.runs.due is))
 
 pub variables-smaller : goal.variables-smaller
 variables-smaller g c =
     let o = c.args.self.now in let k = c.level.ensures.kept in let e = c.in_ok-lifted.ensures in let n = c.open-top-in-variables.ensures in
     let at = (goal.at.variables-smaller g c).In-Inner in
-    let less = step_lower o.f o.c _ _ c.variables.lifted c.in-Inner.hi c.in-Inner.lo c.in-Inner.var (AreTwo-grown Bdd k.grown (roots g at)) (condition_at g at _ k.grown) (inner_at g at _ k.grown) e.grown
-    c.in_ok-lifted.lifted e.or _ n.kept.grown c.open-top-in-variables.result (n.opens Bdd (Is-from Bdd e.or)) in
+    let less = step_lower o.f o.c _ _ c.variables.lifted c.in-Inner.hi c.in-Inner.lo c.in-Inner.var (AreTwo-grown Bdd k.grown (roots g at)) (condition_at g at _ k.grown) (inner_at g at _ k.grown) e.runs.grown
+    c.in_ok-lifted.lifted e.runs.answer _ n.kept.grown c.open-top-in-variables.result (n.opens Bdd (Is-from Bdd e.runs.answer)) in
     let vars = k.grown.vars in let level = level-grown k.grown c.in-Inner.var in
     rw c.in-Inner.is (omega arith)
 
@@ -89,18 +88,26 @@ variables-preserved g c =
     let o = c.args.self.now in let k = c.level.ensures.kept in let e = c.in_ok-lifted.ensures in let n = c.open-top-in-variables.ensures in
     let i = c.variables.invariant in let at = (goal.at.variables-preserved g c).In-Inner in
     let root = AreTwo-grown Bdd k.grown (roots g at) in let condition = condition_at g at _ k.grown in let here = inner_at g at _ k.grown in
-    let next = step_condition o.f o.c _ _ c.variables.lifted c.in-Inner.hi c.in-Inner.lo c.in-Inner.var root condition here e.grown c.in_ok-lifted.lifted e.or in
+    let next = step_condition o.f o.c _ _ c.variables.lifted c.in-Inner.hi c.in-Inner.lo c.in-Inner.var root condition here e.runs.grown c.in_ok-lifted.lifted e.runs.answer in
     let higher : (g.G.Grow.view c.level.new.self).level c.in-Inner.var < c.args.level =
     (let test = c.if-level.false in let is = c.level.ensures.level in let same = level-grown k.grown c.in-Inner.var in omega arith) in
     record {
       moved = Restrict-both o.f o.c _ _ _ i.moved (Restrict-both o.f o.c _ _ _ (Restrict-kept o.f o.c _ _ k) (Restrict-both o.f o.c _ _ _
-          (step_moved o.f o.c _ _ c.variables.lifted c.in-Inner.hi c.in-Inner.lo c.in-Inner.var root condition here e.grown e.work) (Restrict-kept o.f o.c _ _ n.kept)));
-      condition = IsCondition-grown o.c _ _ c.in_ok-lifted.lifted n.kept.grown (Is-grown Bdd e.grown root.second) next;
+          (step_moved o.f o.c _ _ c.variables.lifted c.in-Inner.hi c.in-Inner.lo c.in-Inner.var root condition here e.runs.grown e.runs.work) (Restrict-kept o.f o.c _ _ n.kept)));
+      condition = IsCondition-grown o.c _ _ c.in_ok-lifted.lifted n.kept.grown (Is-grown Bdd e.runs.grown root.second) next;
       opens = opened _ _ c.in_ok-lifted.lifted _ n.kept.grown next.edge (n.opens Bdd next.edge);
-      serves = ServesAbove-grown _ _ c.args.level c.in_ok-lifted.lifted c.args.condition n.kept.grown next.edge (start_at g at _ (Grown-trans k.grown e.grown))
-          (step_serves o.f o.c _ _ c.variables.lifted c.in-Inner.hi c.in-Inner.lo c.in-Inner.var root condition here e.grown c.in_ok-lifted.lifted e.or
+      serves = ServesAbove-grown _ _ c.args.level c.in_ok-lifted.lifted c.args.condition n.kept.grown next.edge (start_at g at _ (Grown-trans k.grown e.runs.grown))
+          (step_serves o.f o.c _ _ c.variables.lifted c.in-Inner.hi c.in-Inner.lo c.in-Inner.var root condition here e.runs.grown c.in_ok-lifted.lifted e.runs.answer
           c.args.condition c.args.level higher (start_at g at _ k.grown) (serves_at g at _ k.grown));
-      frames = e.frames ∙ i.frames;
-      free = e.free ∙ i.free;
-      known = e.known ∙ i.known;
+      stack = e.stack ∙ i.stack;
     }
+
+pub returns-in_err-lifted-clause-memory : goal.returns-in_err-lifted-clause-memory
+returns-in_err-lifted-clause-memory g c =
+    let q = err_from_is_err_and c.from_residual.result c.from_residual.ensures.1 in rw (q.1, q.2) (λ is.
+    c.variables.invariant.moved.grown.wants (c.level.ensures.kept.grown.wants (Serves-memory _ c.in_err-lifted.ensures.runs is)))
+
+pub returns-in_err-lifted-clause-full : goal.returns-in_err-lifted-clause-full
+returns-in_err-lifted-clause-full g c =
+    let q = err_from_is_err_and c.from_residual.result c.from_residual.ensures.1 in rw (q.1, q.2) (λ is few.
+    (let a = c.in_err-lifted.ensures.runs.full is few in let k = c.level.ensures.kept.fulls in let m = c.variables.invariant.moved.grown.fulls in omega arith))

@@ -13,9 +13,7 @@ invariant-variables g l =
       condition : IsCondition o.c now l.lifted;
       opens : Opens Bdd now l.lifted (bdd_at now l.lifted) l.top;
       serves : ServesAbove now l.level (bdd_at now l.lifted) (bdd_at now l.fn.condition);
-      frames : l.stack.frames ≡ l.fn.stack.frames;
-      free : l.stack.free ≡ l.fn.stack.free;
-      known : l.stack.answers ≡ l.fn.stack.answers;
+      stack : l.stack ≡ l.fn.stack;
     }
 
 abbrev pub decreases-variables : goal.decreases-variables

@@ -64,7 +64,7 @@ make-requires g c = (Bdd, node g (goal.at.make-requires g c).In-Second)
 
 pub returns-in_err-edge-in-Second-clause-moved : goal.returns-in_err-edge-in-Second-clause-moved
 returns-in_err-edge-in-Second-clause-moved g c =
-    let o = c.args.self.now in let e = c.in_err-edge-in-Second.ensures in record { moves = made_none o.f o.c _ _ e.grown e.made; known = refl }
+    let o = c.args.self.now in let e = c.in_err-edge-in-Second.ensures in record { moves = made_none o.f o.c _ _ e.grown e.made; known = refl; marks = refl }
 
 pub returns-in_err-edge-in-Second-clause-due : goal.returns-in_err-edge-in-Second-clause-due
 returns-in_err-edge-in-Second-clause-due g c =
@@ -88,6 +88,7 @@ returns-in_ok-edge-in-Second-clause-moved g c =
       moves = Restrict-both o.f o.c _ _ _ (made_moved o.f o.c _ _ c.args.frame.task _ (waiting g at).due e.grown (value g at) c.in_ok-edge-in-Second.edge e.made (e.ok Bdd (node g at)))
           (Restrict-kept o.f o.c _ _ c.keep-in-Second.ensures.kept);
       known = refl;
+      marks = refl;
     }
 
 pub returns-in_ok-edge-in-Second-clause-next : goal.returns-in_ok-edge-in-Second-clause-next

@@ -3,7 +3,7 @@ use Rattle.std.proofs.lemmas.Result.{err_from_is_err_and}
 use Rattle.edge_bits.specs.declared.edges.Kind.TheVariants.{Bdd}
 use Rattle.node_store.specs.Views.{View, Grown, IsInner, bdd_at}
 use Rattle.node_store.specs.ViewLaws.{Grown-refl, Grown-trans, Kept-trans, Is-grown}
-use Rattle.node_store.proofs.Stops.{full_stop}
+use Rattle.node_store.proofs.Frames.{other_err}
 use Rattle.node_store.proofs.ThreeParts.{bdd_leaf_index}
 use Rattle.ite_core.proofs.CofactorLaws.{regular_is}
 use Rattle.node_store.specs.declared.operator.Task.{Task}
@@ -50,16 +50,16 @@ lift-requires-clause-within g c =
 pub returns-in_err-condition-clause-moved : goal.returns-in_err-condition-clause-moved
 returns-in_err-condition-clause-moved g c =
     let o = c.args.self.now in let e = c.in_err-condition.ensures in
-    record { moves = Restrict-both o.f o.c _ _ _ (Restrict-kept o.f o.c _ _ c.in-Inner.ensures.kept) (Restrict-both o.f o.c _ _ _ (Restrict-kept o.f o.c _ _ c.level-level.ensures.kept) e.moved); known = e.known }
+    record { moves = Restrict-both o.f o.c _ _ _ (Restrict-kept o.f o.c _ _ c.in-Inner.ensures.kept) (Restrict-both o.f o.c _ _ _ (Restrict-kept o.f o.c _ _ c.level-level.ensures.kept) e.moved); known = ap (λ s. s.answers) e.stack; marks = ap (λ s. s.marks) e.stack }
 
 pub returns-in_err-condition-clause-due : goal.returns-in_err-condition-clause-due
 returns-in_err-condition-clause-due g c =
-    let q = err_from_is_err_and c.from_residual.result c.from_residual.ensures.1 in rw (q.1, q.2) (λ is. c.in_err-condition.ensures.due (full_stop _ is))
+    let q = err_from_is_err_and c.from_residual.result c.from_residual.ensures.1 in rw (q.1, q.2) (λ is. c.in_err-condition.ensures.due (other_err _ _ is))
 
 pub returns-in-Some-clause-moved : goal.returns-in-Some-clause-moved
 returns-in-Some-clause-moved g c =
     let o = c.args.self.now in let e = c.in_ok-condition.ensures in
-    record { moves = Restrict-both o.f o.c _ _ _ (Restrict-kept o.f o.c _ _ c.in-Inner.ensures.kept) (Restrict-both o.f o.c _ _ _ (Restrict-kept o.f o.c _ _ c.level-level.ensures.kept) e.moved); known = e.known }
+    record { moves = Restrict-both o.f o.c _ _ _ (Restrict-kept o.f o.c _ _ c.in-Inner.ensures.kept) (Restrict-both o.f o.c _ _ _ (Restrict-kept o.f o.c _ _ c.level-level.ensures.kept) e.moved); known = ap (λ s. s.answers) e.stack; marks = ap (λ s. s.marks) e.stack }
 
 -- the task of the regular function and the lifted condition, from there on
 module _ (g : given.Over) (c : In_ok-condition g) (w : View) (m : Grown (g.G.Grow.view c.lift.new.store) w) (t : Task) (tf : t.f ≡ c.new-f.result) (tg : t.g ≡ c.in_ok-condition.condition) where
@@ -107,7 +107,8 @@ returns-in-Some-memo_get-clause-moved g c =
     record {
       moves = Restrict-both o.f o.c _ _ _ (Restrict-kept o.f o.c _ _ c.in-Inner.ensures.kept) (Restrict-both o.f o.c _ _ _ (Restrict-kept o.f o.c _ _ c.level-level.ensures.kept)
           (Restrict-both o.f o.c _ _ _ e.moved (Restrict-kept o.f o.c _ _ c.in-Some-memo_get.ensures.kept)));
-      known = e.known;
+      known = ap (λ s. s.answers) e.stack;
+      marks = ap (λ s. s.marks) e.stack;
     }
 
 pub returns-in-Some-memo_get-clause-next : goal.returns-in-Some-memo_get-clause-next
@@ -127,7 +128,8 @@ returns-clause-moved g c =
     record {
       moves = Restrict-both o.f o.c _ _ _ (Restrict-kept o.f o.c _ _ c.in-Inner.ensures.kept) (Restrict-both o.f o.c _ _ _ (Restrict-kept o.f o.c _ _ c.level-level.ensures.kept)
           (Restrict-both o.f o.c _ _ _ e.moved (Restrict-kept o.f o.c _ _ (Kept-trans c.memo_get.ensures.kept c.branch-frame.ensures.kept))));
-      known = e.known;
+      known = ap (λ s. s.answers) e.stack;
+      marks = ap (λ s. s.marks) e.stack;
     }
 
 pub returns-clause-next : goal.returns-clause-next

@@ -1,6 +1,6 @@
 use Rattle.edge_bits.specs.declared.edges.Kind.TheVariants.{Bdd}
 use Rattle.quantify_ops.proofs.CubeEdges.{rest_own, rest_other, rest_leaf}
-use Rattle.quantify_ops.proofs.cubes.rest_of.Goals as goal
+use Rattle.quantify_ops.proofs.products.rest_of.Goals as goal
 
 pub returns-in_default-clause-rest : goal.returns-in_default-clause-rest
 returns-in_default-clause-rest g c = let e = c.in_default.ensures in rest_leaf _ _ c.args.cube c.args.var _ e.kept.grown c.requires.cube (e.opens Bdd c.requires.cube.edge)

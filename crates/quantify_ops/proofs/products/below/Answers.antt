@@ -3,7 +3,7 @@ use Rattle.edge_bits.specs.declared.edges.Kind.TheVariants.{Bdd}
 use Rattle.node_store.specs.ViewLaws.{Kept-refl, Kept-trans, top-grown}
 use Rattle.quantify_ops.specs.QuantifiedLasts.{HasCube-grown}
 use Rattle.quantify_ops.proofs.CubeEdges.{below_step, below_leaf, below_inner}
-use Rattle.quantify_ops.proofs.cubes.below.Goals as goal
+use Rattle.quantify_ops.proofs.products.below.Goals as goal
 
 pub variables-init : goal.variables-init
 variables-init g c = record { kept = Kept-refl _; left = c.requires; stands = λ a h free e. e }

@@ -1,7 +1,7 @@
 use Rattle.std.proofs.Common.{◌-◌}
 use Rattle.node_store.specs.Views.{Kept, bdd_at}
 use Rattle.quantify_ops.specs.Quantified.{HasCube, StandsAbove}
-use Rattle.quantify_ops.proofs.cubes.below.Given as goal
+use Rattle.quantify_ops.proofs.products.below.Given as goal
 
 abbrev pub invariant-variables : goal.invariant-variables
 invariant-variables g l =
