@@ -200,22 +200,6 @@ restrict_refuses w w' rows new a b e d made (Err x) grown stored first second is
     refuses_any w w' rows new (Restrict a b) grown stored (rose (full is)) same refl
     (λ t agrees. (restricts (list_at w e) (list_at w d), outcome-of_restrict w rows a b e d t first second is_e is_d agrees, refl))
 
--- the slot of a projection
-pub projection_denotes : (w w' : View) (v : ℕ) (e : Edge) → Grown w w' → Permanent w' → v < w.vars → w.vars ≤ 1024 → e ≡ record { index = 5 + v; complement = false }
-    → Denotes kinds.Bdd w' e (projection v)
-projection_denotes w w' v e grown permanent within few is =
-    subst (λ (x : Edge). Denotes kinds.Bdd w' x (projection v)) (sym is) (record {
-      is = permanent.projections v (omega arith, omega (arith, grown.vars));
-      beyond = λ u from k b. bit-set_other k u v b (omega (arith, from, grown.vars));
-      fits = tt;
-    })
-
--- the slot of logic one, and its complement
-pub one_denotes : (w' : View) (b : Bool) (e : Edge) → Permanent w' → e ≡ record { index = 0; complement = not b } → Denotes kinds.Bdd w' e (constant b)
-one_denotes w' true e permanent is = subst (λ (x : Edge). Denotes kinds.Bdd w' x (constant true)) (sym is) (record { is = permanent.one; beyond = λ u from k b. refl; fits = tt })
-one_denotes w' false e permanent is =
-    subst (λ (x : Edge). Denotes kinds.Bdd w' x (constant false)) (sym is) (record { is = ap (flipped true) permanent.one; beyond = λ u from k b. refl; fits = tt })
-
 -- the pairs of a composition are of the store
 edge_names : (rows : Rows) (pairs : List (ℕ × Name)) → map (λ pair. pair.0) (map (with_edge rows) pairs) ≡ map (λ pair. pair.0) pairs
 edge_names rows [] = refl

@@ -153,7 +153,7 @@ impl Session {
         ensures grown { Grown (plain_view self.old.store) (plain_view self.new.store) }
     {
         let _levels = self.store.levels(Kind::Bdd);
-        keep(&mut self.rows, Kind::Bdd, Ok(Edge::new(0, false)))
+        keep(&mut self.rows, Kind::Bdd, Ok(Edge::truth(true)))
     }
 
     /// Logic zero, as a new row.
@@ -165,7 +165,7 @@ impl Session {
         ensures grown { Grown (plain_view self.old.store) (plain_view self.new.store) }
     {
         let _levels = self.store.levels(Kind::Bdd);
-        keep(&mut self.rows, Kind::Bdd, Ok(Edge::new(0, true)))
+        keep(&mut self.rows, Kind::Bdd, Ok(Edge::truth(false)))
     }
 
     /// The projection of a variable, as a new row.
@@ -178,8 +178,8 @@ impl Session {
         ensures grown { Grown (plain_view self.old.store) (plain_view self.new.store) }
     {
         let _few = self.store.vars();
-        let _levels = self.store.levels(Kind::Bdd);
-        keep(&mut self.rows, Kind::Bdd, Ok(Edge::new(5 + v, false)))
+        let projection = self.store.projection(v);
+        keep(&mut self.rows, Kind::Bdd, Ok(projection))
     }
 
     /// Whether two rows of one kind have one function.

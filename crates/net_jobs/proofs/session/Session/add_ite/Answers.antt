@@ -6,6 +6,7 @@ use Rattle.node_slots.specs.Stores.{plain_view}
 use Rattle.node_slots.specs.Views.{add_at, bdd_at}
 use Rattle.net_jobs.proofs.AgreementLemmas.{due_of_work, op_adds, op_refuses}
 use Rattle.net_jobs.proofs.NumberLemmas.{outcome-of_add_ite}
+use Rattle.node_store.proofs.Running.{told, told_full}
 use Rattle.net_jobs.proofs.session.Session.add_ite.Goals as goal
 
 pub returns-clause-ok : goal.returns-clause-ok
@@ -13,7 +14,7 @@ returns-clause-ok c =
     let w = plain_view c.args.self.now.store in
     let rows = c.args.self.now.rows.items in
     let value = if_then_else (bdd_at w c.edge_of_bdd-first.result) (add_at w c.edge_of_add-second.result) (add_at w c.edge_of_add-third.result) in
-    op_adds kinds.Add w (plain_view c.add_ite-made.new.store) rows c.settle.new.rows.items (AddIte c.args.f c.args.g c.args.h) c.add_ite-made.result c.settle.result value c.add_ite-made.ensures.grown c.requires.stored c.add_ite-made.ensures.add_ite c.settle.ensures.ok
+    op_adds kinds.Add w (plain_view c.add_ite-made.new.store) rows c.settle.new.rows.items (AddIte c.args.f c.args.g c.args.h) c.add_ite-made.result c.settle.result value c.add_ite-made.ensures.grown c.requires.stored (told _ c.add_ite-made.result c.add_ite-made.ensures.answer) c.settle.ensures.ok
     (λ t agrees. outcome-of_add_ite w rows c.args.f c.args.g c.args.h c.edge_of_bdd-first.result c.edge_of_add-second.result c.edge_of_add-third.result t c.requires.first c.requires.second c.requires.third
     c.edge_of_bdd-first.ensures.has c.edge_of_add-second.ensures.has c.edge_of_add-third.ensures.has agrees)
 
@@ -22,9 +23,9 @@ returns-clause-full c =
     let w = plain_view c.args.self.now.store in
     let rows = c.args.self.now.rows.items in
     let value = if_then_else (bdd_at w c.edge_of_bdd-first.result) (add_at w c.edge_of_add-second.result) (add_at w c.edge_of_add-third.result) in
-    op_refuses kinds.Add w (plain_view c.add_ite-made.new.store) rows c.settle.new.rows.items (AddIte c.args.f c.args.g c.args.h) c.add_ite-made.result c.settle.result value c.add_ite-made.ensures.grown c.requires.stored c.add_ite-made.ensures.full c.settle.ensures.full c.settle.ensures.err refl
+    op_refuses kinds.Add w (plain_view c.add_ite-made.new.store) rows c.settle.new.rows.items (AddIte c.args.f c.args.g c.args.h) c.add_ite-made.result c.settle.result value c.add_ite-made.ensures.grown c.requires.stored (λ is. c.add_ite-made.ensures.full (told_full c.add_ite-made.result is)) c.settle.ensures.full c.settle.ensures.err refl
     (λ t agrees. outcome-of_add_ite w rows c.args.f c.args.g c.args.h c.edge_of_bdd-first.result c.edge_of_add-second.result c.edge_of_add-third.result t c.requires.first c.requires.second c.requires.third
     c.edge_of_bdd-first.ensures.has c.edge_of_add-second.ensures.has c.edge_of_add-third.ensures.has agrees)
 
 pub settle-requires-clause-due : goal.settle-requires-clause-due
-settle-requires-clause-due c = λ e. due_of_work (plain_view c.add_ite-made.new.store) _ (c.add_ite-made.ensures.due e)
+settle-requires-clause-due c = λ e. due_of_work (plain_view c.add_ite-made.new.store) _ (c.add_ite-made.ensures.due (told_full c.add_ite-made.result e))

@@ -6,6 +6,7 @@ use Rattle.node_slots.specs.Stores.{plain_view}
 use Rattle.node_slots.specs.Views.{bdd_at}
 use Rattle.net_jobs.proofs.AgreementLemmas.{due_of_work, op_adds, op_refuses}
 use Rattle.net_jobs.proofs.SessionLemmas.{outcome-of_and}
+use Rattle.node_store.proofs.Running.{told, told_full}
 use Rattle.net_jobs.proofs.session.Session.and.Goals as goal
 
 pub returns-clause-ok : goal.returns-clause-ok
@@ -13,7 +14,7 @@ returns-clause-ok c =
     let w = plain_view c.args.self.now.store in
     let rows = c.args.self.now.rows.items in
     op_adds kinds.Bdd w (plain_view c.and-made.new.store) rows c.settle.new.rows.items (And c.args.f c.args.g) c.and-made.result c.settle.result
-    (conjunction (bdd_at w c.edge_of_bdd-first.result) (bdd_at w c.edge_of_bdd-second.result)) c.and-made.ensures.grown c.requires.stored c.and-made.ensures.and c.settle.ensures.ok
+    (conjunction (bdd_at w c.edge_of_bdd-first.result) (bdd_at w c.edge_of_bdd-second.result)) c.and-made.ensures.grown c.requires.stored (told _ c.and-made.result c.and-made.ensures.answer) c.settle.ensures.ok
     (λ t agrees. outcome-of_and w rows c.args.f c.args.g c.edge_of_bdd-first.result c.edge_of_bdd-second.result t c.requires.first c.requires.second c.edge_of_bdd-first.ensures.has c.edge_of_bdd-second.ensures.has agrees)
 
 pub returns-clause-full : goal.returns-clause-full
@@ -21,8 +22,8 @@ returns-clause-full c =
     let w = plain_view c.args.self.now.store in
     let rows = c.args.self.now.rows.items in
     op_refuses kinds.Bdd w (plain_view c.and-made.new.store) rows c.settle.new.rows.items (And c.args.f c.args.g) c.and-made.result c.settle.result
-    (conjunction (bdd_at w c.edge_of_bdd-first.result) (bdd_at w c.edge_of_bdd-second.result)) c.and-made.ensures.grown c.requires.stored c.and-made.ensures.full c.settle.ensures.full c.settle.ensures.err refl
+    (conjunction (bdd_at w c.edge_of_bdd-first.result) (bdd_at w c.edge_of_bdd-second.result)) c.and-made.ensures.grown c.requires.stored (λ is. c.and-made.ensures.full (told_full c.and-made.result is)) c.settle.ensures.full c.settle.ensures.err refl
     (λ t agrees. outcome-of_and w rows c.args.f c.args.g c.edge_of_bdd-first.result c.edge_of_bdd-second.result t c.requires.first c.requires.second c.edge_of_bdd-first.ensures.has c.edge_of_bdd-second.ensures.has agrees)
 
 pub settle-requires-clause-due : goal.settle-requires-clause-due
-settle-requires-clause-due c = λ e. due_of_work (plain_view c.and-made.new.store) _ (c.and-made.ensures.due e)
+settle-requires-clause-due c = λ e. due_of_work (plain_view c.and-made.new.store) _ (c.and-made.ensures.due (told_full c.and-made.result e))

@@ -7,6 +7,7 @@ use Rattle.node_slots.specs.Stores.{plain_view}
 use Rattle.node_slots.specs.Views.{add_at, Denotes}
 use Rattle.net_jobs.proofs.AgreementLemmas.{due_of_work, op_adds, op_refuses}
 use Rattle.net_jobs.proofs.NumberLemmas.{outcome-of_at_least}
+use Rattle.node_store.proofs.Running.{told, told_full}
 use Rattle.net_jobs.proofs.session.Session.at_least.Goals as goal
 
 pub returns-clause-ok : goal.returns-clause-ok
@@ -16,7 +17,7 @@ returns-clause-ok c =
     let value = reaches (add_at w c.edge_of_add-first.result) c.args.value in
     let fit : SFits w64 c.args.value = search rules in
     op_adds kinds.Bdd w (plain_view c.at_least-made.new.store) rows c.settle.new.rows.items (AtLeast c.args.f c.args.value) c.at_least-made.result c.settle.result value c.at_least-made.ensures.grown c.requires.stored
-    (subst (λ z. IfOk c.at_least-made.result (λ e. Denotes kinds.Bdd (plain_view c.at_least-made.new.store) e (reaches (add_at w c.edge_of_add-first.result) z))) (to_z-of_z w64 c.args.value fit) c.at_least-made.ensures.at_least) c.settle.ensures.ok
+    (subst (λ z. IfOk c.at_least-made.result (λ e. Denotes kinds.Bdd (plain_view c.at_least-made.new.store) e (reaches (add_at w c.edge_of_add-first.result) z))) (to_z-of_z w64 c.args.value fit) (told _ c.at_least-made.result c.at_least-made.ensures.answer)) c.settle.ensures.ok
     (λ t agrees. outcome-of_at_least w rows c.args.f c.edge_of_add-first.result t c.requires.first c.edge_of_add-first.ensures.has agrees c.args.value)
 
 pub returns-clause-full : goal.returns-clause-full
@@ -24,8 +25,8 @@ returns-clause-full c =
     let w = plain_view c.args.self.now.store in
     let rows = c.args.self.now.rows.items in
     let value = reaches (add_at w c.edge_of_add-first.result) c.args.value in
-    op_refuses kinds.Bdd w (plain_view c.at_least-made.new.store) rows c.settle.new.rows.items (AtLeast c.args.f c.args.value) c.at_least-made.result c.settle.result value c.at_least-made.ensures.grown c.requires.stored c.at_least-made.ensures.full c.settle.ensures.full c.settle.ensures.err refl
+    op_refuses kinds.Bdd w (plain_view c.at_least-made.new.store) rows c.settle.new.rows.items (AtLeast c.args.f c.args.value) c.at_least-made.result c.settle.result value c.at_least-made.ensures.grown c.requires.stored (λ is. c.at_least-made.ensures.full (told_full c.at_least-made.result is)) c.settle.ensures.full c.settle.ensures.err refl
     (λ t agrees. outcome-of_at_least w rows c.args.f c.edge_of_add-first.result t c.requires.first c.edge_of_add-first.ensures.has agrees c.args.value)
 
 pub settle-requires-clause-due : goal.settle-requires-clause-due
-settle-requires-clause-due c = λ e. due_of_work (plain_view c.at_least-made.new.store) _ (c.at_least-made.ensures.due e)
+settle-requires-clause-due c = λ e. due_of_work (plain_view c.at_least-made.new.store) _ (c.at_least-made.ensures.due (told_full c.at_least-made.result e))

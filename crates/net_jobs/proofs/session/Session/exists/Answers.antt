@@ -6,6 +6,7 @@ use Rattle.node_slots.specs.Stores.{plain_view}
 use Rattle.node_slots.specs.Views.{bdd_at}
 use Rattle.net_jobs.proofs.AgreementLemmas.{are_variables, due_of_work, op_adds, op_refuses}
 use Rattle.net_jobs.proofs.SessionLemmas.{outcome-of_exists}
+use Rattle.node_store.proofs.Running.{told, told_full}
 use Rattle.net_jobs.proofs.session.Session.exists.Goals as goal
 
 pub returns-clause-ok : goal.returns-clause-ok
@@ -13,7 +14,7 @@ returns-clause-ok c =
     let w = plain_view c.args.self.now.store in
     let rows = c.args.self.now.rows.items in
     op_adds kinds.Bdd w (plain_view c.exists-made.new.store) rows c.settle.new.rows.items (Exists c.args.f c.args.vars.now) c.exists-made.result c.settle.result
-    (exists_all (bdd_at w c.edge_of_bdd-first.result) c.args.vars.now) c.exists-made.ensures.grown c.requires.stored c.exists-made.ensures.exists c.settle.ensures.ok
+    (exists_all (bdd_at w c.edge_of_bdd-first.result) c.args.vars.now) c.exists-made.ensures.grown c.requires.stored (told _ c.exists-made.result c.exists-made.ensures.answer) c.settle.ensures.ok
     (λ t agrees. outcome-of_exists w rows c.args.f c.args.vars.now c.edge_of_bdd-first.result t c.requires.variables c.requires.first c.edge_of_bdd-first.ensures.has agrees)
 
 pub returns-clause-full : goal.returns-clause-full
@@ -21,11 +22,11 @@ returns-clause-full c =
     let w = plain_view c.args.self.now.store in
     let rows = c.args.self.now.rows.items in
     op_refuses kinds.Bdd w (plain_view c.exists-made.new.store) rows c.settle.new.rows.items (Exists c.args.f c.args.vars.now) c.exists-made.result c.settle.result
-    (exists_all (bdd_at w c.edge_of_bdd-first.result) c.args.vars.now) c.exists-made.ensures.grown c.requires.stored c.exists-made.ensures.full c.settle.ensures.full c.settle.ensures.err refl
+    (exists_all (bdd_at w c.edge_of_bdd-first.result) c.args.vars.now) c.exists-made.ensures.grown c.requires.stored (λ is. c.exists-made.ensures.full (told_full c.exists-made.result is)) c.settle.ensures.full c.settle.ensures.err refl
     (λ t agrees. outcome-of_exists w rows c.args.f c.args.vars.now c.edge_of_bdd-first.result t c.requires.variables c.requires.first c.edge_of_bdd-first.ensures.has agrees)
 
 pub settle-requires-clause-due : goal.settle-requires-clause-due
-settle-requires-clause-due c = λ e. due_of_work (plain_view c.exists-made.new.store) _ (c.exists-made.ensures.due e)
+settle-requires-clause-due c = λ e. due_of_work (plain_view c.exists-made.new.store) _ (c.exists-made.ensures.due (told_full c.exists-made.result e))
 
 pub exists-made-requires-clause-in_range : goal.exists-made-requires-clause-in_range
 exists-made-requires-clause-in_range c = are_variables (plain_view c.args.self.now.store) c.args.vars.now (omega (arith, c.vars-few.ensures.vars, c.vars-few.ensures.few)) c.requires.variables

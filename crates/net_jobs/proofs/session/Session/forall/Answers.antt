@@ -6,6 +6,7 @@ use Rattle.node_slots.specs.Stores.{plain_view}
 use Rattle.node_slots.specs.Views.{bdd_at}
 use Rattle.net_jobs.proofs.AgreementLemmas.{are_variables, due_of_work, op_adds, op_refuses}
 use Rattle.net_jobs.proofs.SessionLemmas.{outcome-of_forall}
+use Rattle.node_store.proofs.Running.{told, told_full}
 use Rattle.net_jobs.proofs.session.Session.forall.Goals as goal
 
 pub returns-clause-ok : goal.returns-clause-ok
@@ -13,7 +14,7 @@ returns-clause-ok c =
     let w = plain_view c.args.self.now.store in
     let rows = c.args.self.now.rows.items in
     op_adds kinds.Bdd w (plain_view c.forall-made.new.store) rows c.settle.new.rows.items (Forall c.args.f c.args.vars.now) c.forall-made.result c.settle.result
-    (forall_all (bdd_at w c.edge_of_bdd-first.result) c.args.vars.now) c.forall-made.ensures.grown c.requires.stored c.forall-made.ensures.forall c.settle.ensures.ok
+    (forall_all (bdd_at w c.edge_of_bdd-first.result) c.args.vars.now) c.forall-made.ensures.grown c.requires.stored (told _ c.forall-made.result c.forall-made.ensures.answer) c.settle.ensures.ok
     (λ t agrees. outcome-of_forall w rows c.args.f c.args.vars.now c.edge_of_bdd-first.result t c.requires.variables c.requires.first c.edge_of_bdd-first.ensures.has agrees)
 
 pub returns-clause-full : goal.returns-clause-full
@@ -21,11 +22,11 @@ returns-clause-full c =
     let w = plain_view c.args.self.now.store in
     let rows = c.args.self.now.rows.items in
     op_refuses kinds.Bdd w (plain_view c.forall-made.new.store) rows c.settle.new.rows.items (Forall c.args.f c.args.vars.now) c.forall-made.result c.settle.result
-    (forall_all (bdd_at w c.edge_of_bdd-first.result) c.args.vars.now) c.forall-made.ensures.grown c.requires.stored c.forall-made.ensures.full c.settle.ensures.full c.settle.ensures.err refl
+    (forall_all (bdd_at w c.edge_of_bdd-first.result) c.args.vars.now) c.forall-made.ensures.grown c.requires.stored (λ is. c.forall-made.ensures.full (told_full c.forall-made.result is)) c.settle.ensures.full c.settle.ensures.err refl
     (λ t agrees. outcome-of_forall w rows c.args.f c.args.vars.now c.edge_of_bdd-first.result t c.requires.variables c.requires.first c.edge_of_bdd-first.ensures.has agrees)
 
 pub settle-requires-clause-due : goal.settle-requires-clause-due
-settle-requires-clause-due c = λ e. due_of_work (plain_view c.forall-made.new.store) _ (c.forall-made.ensures.due e)
+settle-requires-clause-due c = λ e. due_of_work (plain_view c.forall-made.new.store) _ (c.forall-made.ensures.due (told_full c.forall-made.result e))
 
 pub forall-made-requires-clause-in_range : goal.forall-made-requires-clause-in_range
 forall-made-requires-clause-in_range c = are_variables (plain_view c.args.self.now.store) c.args.vars.now (omega (arith, c.vars-few.ensures.vars, c.vars-few.ensures.few)) c.requires.variables

@@ -6,6 +6,7 @@ use Rattle.node_slots.specs.Stores.{plain_view}
 use Rattle.node_slots.specs.Views.{add_at}
 use Rattle.net_jobs.proofs.AgreementLemmas.{due_of_work, op_adds, op_refuses}
 use Rattle.net_jobs.proofs.NumberLemmas.{outcome-of_max}
+use Rattle.node_store.proofs.Running.{told, told_full}
 use Rattle.net_jobs.proofs.session.Session.max.Goals as goal
 
 pub returns-clause-ok : goal.returns-clause-ok
@@ -15,7 +16,7 @@ returns-clause-ok c =
     let is_e = c.edge_of_add-first.ensures.has in
     let is_d = c.edge_of_add-second.ensures.has in
     let value = greater_at (add_at w c.edge_of_add-first.result) (add_at w c.edge_of_add-second.result) in
-    op_adds kinds.Add w (plain_view c.max-made.new.store) rows c.settle.new.rows.items (Max c.args.f c.args.g) c.max-made.result c.settle.result value c.max-made.ensures.grown c.requires.stored c.max-made.ensures.max c.settle.ensures.ok
+    op_adds kinds.Add w (plain_view c.max-made.new.store) rows c.settle.new.rows.items (Max c.args.f c.args.g) c.max-made.result c.settle.result value c.max-made.ensures.grown c.requires.stored (told _ c.max-made.result c.max-made.ensures.answer) c.settle.ensures.ok
     (λ t agrees. outcome-of_max w rows c.args.f c.args.g c.edge_of_add-first.result c.edge_of_add-second.result t c.requires.first c.requires.second is_e is_d agrees)
 
 pub returns-clause-full : goal.returns-clause-full
@@ -25,8 +26,8 @@ returns-clause-full c =
     let is_e = c.edge_of_add-first.ensures.has in
     let is_d = c.edge_of_add-second.ensures.has in
     let value = greater_at (add_at w c.edge_of_add-first.result) (add_at w c.edge_of_add-second.result) in
-    op_refuses kinds.Add w (plain_view c.max-made.new.store) rows c.settle.new.rows.items (Max c.args.f c.args.g) c.max-made.result c.settle.result value c.max-made.ensures.grown c.requires.stored c.max-made.ensures.full c.settle.ensures.full c.settle.ensures.err refl
+    op_refuses kinds.Add w (plain_view c.max-made.new.store) rows c.settle.new.rows.items (Max c.args.f c.args.g) c.max-made.result c.settle.result value c.max-made.ensures.grown c.requires.stored (λ is. c.max-made.ensures.full (told_full c.max-made.result is)) c.settle.ensures.full c.settle.ensures.err refl
     (λ t agrees. outcome-of_max w rows c.args.f c.args.g c.edge_of_add-first.result c.edge_of_add-second.result t c.requires.first c.requires.second is_e is_d agrees)
 
 pub settle-requires-clause-due : goal.settle-requires-clause-due
-settle-requires-clause-due c = λ e. due_of_work (plain_view c.max-made.new.store) _ (c.max-made.ensures.due e)
+settle-requires-clause-due c = λ e. due_of_work (plain_view c.max-made.new.store) _ (c.max-made.ensures.due (told_full c.max-made.result e))

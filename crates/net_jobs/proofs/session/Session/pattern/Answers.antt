@@ -6,6 +6,7 @@ use Rattle.node_slots.specs.Stores.{plain_view}
 use Rattle.node_slots.specs.Views.{add_at}
 use Rattle.net_jobs.proofs.AgreementLemmas.{due_of_work, op_adds, op_refuses}
 use Rattle.net_jobs.proofs.NumberLemmas.{outcome-of_pattern}
+use Rattle.node_store.proofs.Running.{told, told_full}
 use Rattle.net_jobs.proofs.session.Session.pattern.Goals as goal
 
 pub returns-clause-ok : goal.returns-clause-ok
@@ -13,7 +14,7 @@ returns-clause-ok c =
     let w = plain_view c.args.self.now.store in
     let rows = c.args.self.now.rows.items in
     let value = pattern_of (add_at w c.edge_of_add-first.result) in
-    op_adds kinds.Bdd w (plain_view c.pattern-made.new.store) rows c.settle.new.rows.items (Pattern c.args.f) c.pattern-made.result c.settle.result value c.pattern-made.ensures.grown c.requires.stored c.pattern-made.ensures.pattern c.settle.ensures.ok
+    op_adds kinds.Bdd w (plain_view c.pattern-made.new.store) rows c.settle.new.rows.items (Pattern c.args.f) c.pattern-made.result c.settle.result value c.pattern-made.ensures.grown c.requires.stored (told _ c.pattern-made.result c.pattern-made.ensures.answer) c.settle.ensures.ok
     (λ t agrees. outcome-of_pattern w rows c.args.f c.edge_of_add-first.result t c.requires.first c.edge_of_add-first.ensures.has agrees)
 
 pub returns-clause-full : goal.returns-clause-full
@@ -21,8 +22,8 @@ returns-clause-full c =
     let w = plain_view c.args.self.now.store in
     let rows = c.args.self.now.rows.items in
     let value = pattern_of (add_at w c.edge_of_add-first.result) in
-    op_refuses kinds.Bdd w (plain_view c.pattern-made.new.store) rows c.settle.new.rows.items (Pattern c.args.f) c.pattern-made.result c.settle.result value c.pattern-made.ensures.grown c.requires.stored c.pattern-made.ensures.full c.settle.ensures.full c.settle.ensures.err refl
+    op_refuses kinds.Bdd w (plain_view c.pattern-made.new.store) rows c.settle.new.rows.items (Pattern c.args.f) c.pattern-made.result c.settle.result value c.pattern-made.ensures.grown c.requires.stored (λ is. c.pattern-made.ensures.full (told_full c.pattern-made.result is)) c.settle.ensures.full c.settle.ensures.err refl
     (λ t agrees. outcome-of_pattern w rows c.args.f c.edge_of_add-first.result t c.requires.first c.edge_of_add-first.ensures.has agrees)
 
 pub settle-requires-clause-due : goal.settle-requires-clause-due
-settle-requires-clause-due c = λ e. due_of_work (plain_view c.pattern-made.new.store) _ (c.pattern-made.ensures.due e)
+settle-requires-clause-due c = λ e. due_of_work (plain_view c.pattern-made.new.store) _ (c.pattern-made.ensures.due (told_full c.pattern-made.result e))

@@ -6,21 +6,22 @@ use Rattle.node_slots.specs.Stores.{plain_view}
 use Rattle.node_slots.specs.Views.{family_at}
 use Rattle.net_jobs.proofs.AgreementLemmas.{due_of_work, op_adds, op_refuses}
 use Rattle.net_jobs.proofs.FamilyLemmas.{outcome-of_subset1}
+use Rattle.node_store.proofs.Running.{told, told_full}
 use Rattle.net_jobs.proofs.session.Session.subset1.Goals as goal
 
 pub returns-clause-ok : goal.returns-clause-ok
 returns-clause-ok c =
     let w = plain_view c.args.self.now.store in
     let rows = c.args.self.now.rows.items in
-    op_adds kinds.Zdd w (plain_view c.subset1-made.new.store) rows c.settle.new.rows.items (Subset1 c.args.p c.args.e) c.subset1-made.result c.settle.result (subset1_of (family_at w c.edge_of_family-first.result) c.args.e) c.subset1-made.ensures.grown c.requires.stored c.subset1-made.ensures.subset1 c.settle.ensures.ok
+    op_adds kinds.Zdd w (plain_view c.subset1-made.new.store) rows c.settle.new.rows.items (Subset1 c.args.p c.args.e) c.subset1-made.result c.settle.result (subset1_of (family_at w c.edge_of_family-first.result) c.args.e) c.subset1-made.ensures.grown c.requires.stored (told _ c.subset1-made.result c.subset1-made.ensures.answer) c.settle.ensures.ok
     (λ t agrees. outcome-of_subset1 w rows c.args.p c.args.e c.edge_of_family-first.result t c.requires.element c.requires.first c.edge_of_family-first.ensures.has agrees)
 
 pub returns-clause-full : goal.returns-clause-full
 returns-clause-full c =
     let w = plain_view c.args.self.now.store in
     let rows = c.args.self.now.rows.items in
-    op_refuses kinds.Zdd w (plain_view c.subset1-made.new.store) rows c.settle.new.rows.items (Subset1 c.args.p c.args.e) c.subset1-made.result c.settle.result (subset1_of (family_at w c.edge_of_family-first.result) c.args.e) c.subset1-made.ensures.grown c.requires.stored c.subset1-made.ensures.full c.settle.ensures.full c.settle.ensures.err refl
+    op_refuses kinds.Zdd w (plain_view c.subset1-made.new.store) rows c.settle.new.rows.items (Subset1 c.args.p c.args.e) c.subset1-made.result c.settle.result (subset1_of (family_at w c.edge_of_family-first.result) c.args.e) c.subset1-made.ensures.grown c.requires.stored (λ is. c.subset1-made.ensures.full (told_full c.subset1-made.result is)) c.settle.ensures.full c.settle.ensures.err refl
     (λ t agrees. outcome-of_subset1 w rows c.args.p c.args.e c.edge_of_family-first.result t c.requires.element c.requires.first c.edge_of_family-first.ensures.has agrees)
 
 pub settle-requires-clause-due : goal.settle-requires-clause-due
-settle-requires-clause-due c = λ e. due_of_work (plain_view c.subset1-made.new.store) _ (c.subset1-made.ensures.due e)
+settle-requires-clause-due c = λ e. due_of_work (plain_view c.subset1-made.new.store) _ (c.subset1-made.ensures.due (told_full c.subset1-made.result e))

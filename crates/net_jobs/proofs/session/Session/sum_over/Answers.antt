@@ -5,6 +5,7 @@ use Rattle.node_slots.specs.Stores.{plain_view}
 use Rattle.node_slots.specs.Views.{add_at}
 use Rattle.net_jobs.proofs.AgreementLemmas.{due_of_work, exact_adds, exact_exceeds, exact_refuses}
 use Rattle.net_jobs.proofs.NumberLemmas.{IsOf-sum, outcome-of_sum_over}
+use Rattle.add_ops.proofs.ExactLaws.{exactly_full, exactly_told, told_overflow}
 use Rattle.net_jobs.proofs.session.Session.sum_over.Goals as goal
 
 pub returns-clause-ok : goal.returns-clause-ok
@@ -12,7 +13,7 @@ returns-clause-ok c =
     let w = plain_view c.args.self.now.store in
     let rows = c.args.self.now.rows.items in
     let value = sum_over_at (add_at w c.edge_of_add-first.result) c.args.v in
-    exact_adds w (plain_view c.sum_over-made.new.store) rows c.settle_exact.new.rows.items (SumOver c.args.f c.args.v) c.sum_over-made.result c.settle_exact.result value c.sum_over-made.ensures.grown c.requires.stored c.sum_over-made.ensures.sum_over c.settle_exact.ensures.ok
+    exact_adds w (plain_view c.sum_over-made.new.store) rows c.settle_exact.new.rows.items (SumOver c.args.f c.args.v) c.sum_over-made.result c.settle_exact.result value c.sum_over-made.ensures.grown c.requires.stored (exactly_told _ c.sum_over-made.result c.sum_over-made.ensures.answer) c.settle_exact.ensures.ok
     (λ t agrees. outcome-of_sum_over w rows c.args.f c.edge_of_add-first.result t c.requires.first c.edge_of_add-first.ensures.has agrees c.args.v c.requires.variable)
 
 pub returns-clause-overflow : goal.returns-clause-overflow
@@ -21,7 +22,7 @@ returns-clause-overflow c =
     let rows = c.args.self.now.rows.items in
     let value = sum_over_at (add_at w c.edge_of_add-first.result) c.args.v in
     let of_value = IsOf-sum w.vars c.args.v (add_at w c.edge_of_add-first.result) c.requires.variable c.edge_of_add-first.ensures.denotes.beyond in
-    exact_exceeds w (plain_view c.sum_over-made.new.store) rows c.settle_exact.new.rows.items (SumOver c.args.f c.args.v) c.sum_over-made.result c.settle_exact.result value c.sum_over-made.ensures.grown c.requires.stored of_value c.sum_over-made.ensures.overflow c.settle_exact.ensures.overflow
+    exact_exceeds w (plain_view c.sum_over-made.new.store) rows c.settle_exact.new.rows.items (SumOver c.args.f c.args.v) c.sum_over-made.result c.settle_exact.result value c.sum_over-made.ensures.grown c.requires.stored of_value (told_overflow _ c.sum_over-made.result c.sum_over-made.ensures.overflow) c.settle_exact.ensures.overflow
     (λ t agrees. outcome-of_sum_over w rows c.args.f c.edge_of_add-first.result t c.requires.first c.edge_of_add-first.ensures.has agrees c.args.v c.requires.variable)
 
 pub returns-clause-full : goal.returns-clause-full
@@ -29,8 +30,8 @@ returns-clause-full c =
     let w = plain_view c.args.self.now.store in
     let rows = c.args.self.now.rows.items in
     let value = sum_over_at (add_at w c.edge_of_add-first.result) c.args.v in
-    exact_refuses w (plain_view c.sum_over-made.new.store) rows c.settle_exact.new.rows.items (SumOver c.args.f c.args.v) c.sum_over-made.result c.settle_exact.result value c.sum_over-made.ensures.grown c.requires.stored c.sum_over-made.ensures.full c.settle_exact.ensures.full c.settle_exact.ensures.err refl
+    exact_refuses w (plain_view c.sum_over-made.new.store) rows c.settle_exact.new.rows.items (SumOver c.args.f c.args.v) c.sum_over-made.result c.settle_exact.result value c.sum_over-made.ensures.grown c.requires.stored (λ is. c.sum_over-made.ensures.full (exactly_full c.sum_over-made.result is)) c.settle_exact.ensures.full c.settle_exact.ensures.err refl
     (λ t agrees. outcome-of_sum_over w rows c.args.f c.edge_of_add-first.result t c.requires.first c.edge_of_add-first.ensures.has agrees c.args.v c.requires.variable)
 
 pub settle_exact-requires-clause-due : goal.settle_exact-requires-clause-due
-settle_exact-requires-clause-due c = λ e. due_of_work (plain_view c.sum_over-made.new.store) _ (c.sum_over-made.ensures.due e)
+settle_exact-requires-clause-due c = λ e. due_of_work (plain_view c.sum_over-made.new.store) _ (c.sum_over-made.ensures.due (exactly_full c.sum_over-made.result e))

@@ -8,6 +8,7 @@ use Rattle.node_slots.specs.Stores.{plain_view}
 use Rattle.quantify_ops.specs.Substituted.{substituted_at}
 use Rattle.net_jobs.proofs.AgreementLemmas.{due_of_work, op_adds, op_refuses}
 use Rattle.net_jobs.proofs.SessionLemmas.{are_substituted, outcome-of_vector_compose}
+use Rattle.node_store.proofs.Running.{told, told_full}
 use Rattle.net_jobs.proofs.session.Session.vector_compose.Goals as goal
 
 pub vector_compose-made-requires : goal.vector_compose-made-requires
@@ -21,7 +22,7 @@ returns-clause-ok c =
     let w = plain_view c.args.self.now.store in
     let rows = c.args.self.now.rows.items in
     op_adds kinds.Bdd w (plain_view c.vector_compose-made.new.store) rows c.settle.new.rows.items (VectorCompose c.args.f c.args.pairs.now) c.vector_compose-made.result c.settle.result
-    (substituted_at w c.edge_of_bdd-first.result c.deref.result.now) c.vector_compose-made.ensures.grown c.requires.stored c.vector_compose-made.ensures.vector_compose c.settle.ensures.ok
+    (substituted_at w c.edge_of_bdd-first.result c.deref.result.now) c.vector_compose-made.ensures.grown c.requires.stored (told _ c.vector_compose-made.result c.vector_compose-made.ensures.answer) c.settle.ensures.ok
     (λ t agrees. outcome-of_vector_compose w rows c.args.f c.args.pairs.now c.edge_of_bdd-first.result t c.requires.variables c.requires.others c.requires.distinct c.requires.first c.edge_of_bdd-first.ensures.has agrees
     ∙ ap (λ es. Some (makes (Bdd (list_of (2 ^ w.vars) (substituted_at w c.edge_of_bdd-first.result es))))) (sym (c.deref.ensures.value ∙ c.in-Ok.ensures)))
 
@@ -30,9 +31,9 @@ returns-clause-full c =
     let w = plain_view c.args.self.now.store in
     let rows = c.args.self.now.rows.items in
     op_refuses kinds.Bdd w (plain_view c.vector_compose-made.new.store) rows c.settle.new.rows.items (VectorCompose c.args.f c.args.pairs.now) c.vector_compose-made.result c.settle.result
-    (substituted_at w c.edge_of_bdd-first.result c.deref.result.now) c.vector_compose-made.ensures.grown c.requires.stored c.vector_compose-made.ensures.full c.settle.ensures.full c.settle.ensures.err refl
+    (substituted_at w c.edge_of_bdd-first.result c.deref.result.now) c.vector_compose-made.ensures.grown c.requires.stored (λ is. c.vector_compose-made.ensures.full (told_full c.vector_compose-made.result is)) c.settle.ensures.full c.settle.ensures.err refl
     (λ t agrees. outcome-of_vector_compose w rows c.args.f c.args.pairs.now c.edge_of_bdd-first.result t c.requires.variables c.requires.others c.requires.distinct c.requires.first c.edge_of_bdd-first.ensures.has agrees
     ∙ ap (λ es. Some (makes (Bdd (list_of (2 ^ w.vars) (substituted_at w c.edge_of_bdd-first.result es))))) (sym (c.deref.ensures.value ∙ c.in-Ok.ensures)))
 
 pub settle-requires-clause-due : goal.settle-requires-clause-due
-settle-requires-clause-due c = λ e. due_of_work (plain_view c.vector_compose-made.new.store) _ (c.vector_compose-made.ensures.due e)
+settle-requires-clause-due c = λ e. due_of_work (plain_view c.vector_compose-made.new.store) _ (c.vector_compose-made.ensures.due (told_full c.vector_compose-made.result e))

@@ -3,8 +3,9 @@ use Rattle.edge_bits.specs.declared.edges.Kind.TheVariants as kinds
 use Rattle.function_laws.specs.declared.history.Call.TheVariants.{Zero}
 use Rattle.function_laws.specs.Values.{constant}
 use Rattle.node_slots.specs.Stores.{plain_view}
+use Rattle.node_store.specs.ViewLaws.{Denotes-truth}
 use Rattle.net_jobs.proofs.AgreementLemmas.{op_adds}
-use Rattle.net_jobs.proofs.SessionLemmas.{one_denotes, outcome-of_zero}
+use Rattle.net_jobs.proofs.SessionLemmas.{outcome-of_zero}
 use Rattle.net_jobs.proofs.session.Session.zero.Goals as goal
 
 pub returns-clause-ok : goal.returns-clause-ok
@@ -12,5 +13,5 @@ returns-clause-ok c =
     let w = plain_view c.args.self.now.store in
     let rows = c.args.self.now.rows.items in
     op_adds kinds.Bdd w (plain_view c.levels-levels.new.self) rows c.keep.new.rows.items Zero _ c.keep.result (constant false) c.levels-levels.ensures.kept.grown c.requires.stored
-    (one_denotes (plain_view c.levels-levels.new.self) false c.new.result c.levels-levels.ensures.permanent c.new.ensures)
+    (rw c.truth.ensures (Denotes-truth (plain_view c.levels-levels.new.self) c.levels-levels.ensures.permanent false))
     c.keep.ensures.ok (λ t agrees. outcome-of_zero w rows t agrees)
