@@ -24,7 +24,6 @@ use Rattle.node_store.specs.WorkLaws.{IsPart-half, IsWork-due, Moves-made}
 use Rattle.node_store.specs.declared.operator.Frame.{Frame}
 use Rattle.node_store.specs.declared.operator.Task.{Task}
 use Rattle.node_store.specs.declared.operator.Wait.TheVariants.{Only, First, Second}
-use Rattle.node_store.proofs.ThreeParts.{IsFlipped-part, IsPartOrComplement-half}
 use Rattle.ite_core.specs.Cofactors.{one_depth}
 use Rattle.ite_core.specs.CofactorLasts.{one_depth-stays}
 use Rattle.ite_core.proofs.CofactorLaws.{regular_flipped, regular_is}

@@ -1,8 +1,8 @@
 -- What is true of tasks of a restriction stays true while a store grows.
-use Rattle.std.proofs.Common.{◌<◌, ℕ, Bool, true, false, cond, inl, inr, ◌∙◌, ap, sym, subst}
+use Rattle.std.proofs.Common.{ℕ, Bool, true, false, cond, inl, inr, ◌∙◌, ap, sym}
 use Rattle.edge_bits.specs.declared.edges.Edge.{Edge}
 use Rattle.edge_bits.specs.declared.edges.Kind.TheVariants.{Bdd}
-use Rattle.function_laws.specs.Values.{IsFree, exists_all}
+use Rattle.function_laws.specs.Values.{exists_all}
 use Rattle.ite_core.specs.Cofactors.{one_depth}
 use Rattle.ite_core.specs.CofactorLasts.{one_depth-stays}
 use Rattle.function_laws.specs.Kinds.{Denoted, BddFunction}
@@ -10,8 +10,7 @@ use Rattle.node_store.specs.TwoLaws.{AreTwo-grown, TwoSplits-stay}
 use Rattle.node_store.specs.Views.{View, AreTwo, Grown, Is, bdd_at}
 use Rattle.node_store.specs.ViewLaws.{Grown-trans, Is-grown, IsVariable-back, IsVariable-grown, Permanent-grown, level-grown, values_at-grown}
 use Rattle.node_store.specs.Waiting.{Waiting-stays}
-use Rattle.node_store.specs.Work.{IsPart}
-use Rattle.node_store.specs.WorkLaws.{IsPart-back, IsPart-grown}
+use Rattle.node_store.specs.WorkLaws.{IsPart-grown}
 use Rattle.node_store.specs.declared.operator.Frame.{Frame}
 use Rattle.node_store.specs.declared.operator.Task.{Task}
 use Rattle.quantify_ops.specs.Restricted.{AreFreeAbove, IsPartOfBoth, both_whole, both_opposite, both_cut, both_lifted, Restricted, IsPartRestricted, work_of_restrict, IsCondition, RestrictDue, RestrictAnswers, RestrictParts, RestrictSplits, OnlyWaits, RestrictWaits}

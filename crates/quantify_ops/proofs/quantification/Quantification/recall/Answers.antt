@@ -1,7 +1,7 @@
 use Rattle.std.proofs.Common.{Option, Some, None}
 use Rattle.std.specs.Prelude.{IfSome}
 use Rattle.edge_bits.specs.declared.edges.Edge.{Edge}
-use Rattle.node_store.specs.ViewLaws.{Kept-refl, Permanent-grown}
+use Rattle.node_store.specs.ViewLaws.{Permanent-grown}
 use Rattle.quantify_ops.specs.QuantifiedLasts.{AreQuantified-grown}
 use Rattle.quantify_ops.proofs.quantification.Quantification.recall.Goals as goal
 
