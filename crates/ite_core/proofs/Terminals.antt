@@ -1,6 +1,6 @@
 -- The terminal cases of conjunction.
 use Rattle.std.proofs.Common.{◌≡◌, ℕ, ℤ, Bool, true, false, not, ◌&&◌, Some, refl, ap, sym, ◌∙◌, subst}
-use Rattle.std.proofs.Math.Bool.{and-false, and-true}
+use Rattle.std.proofs.Math.Bool.{and-false, and-true, and_self}
 use Rattle.edge_bits.specs.declared.edges.Edge.{Edge}
 use Rattle.edge_bits.specs.declared.edges.Kind.TheVariants.{Bdd}
 use Rattle.function_laws.specs.Values.{constant, conjunction}
@@ -16,16 +16,12 @@ truth_at w p e zero = ap (λ s. values_of Bdd (flipped e.complement (w.content s
     by_complement true = refl
     by_complement false = refl
 
-same_and : (b : Bool) → b ≡ (b && b)
-same_and true = refl
-same_and false = refl
-
 Answer : View → Edge → Edge → Edge → Type 0
 Answer w f g e = Denotes Bdd w e (place (λ a b. a && b) (bdd_at w f) (bdd_at w g))
 
 pub equal_operands : (w : View) (f g : Edge) → f ≡ g → AreTwo Bdd w f g → Denotes Bdd w f (place (λ a b. a && b) (bdd_at w f) (bdd_at w g))
 equal_operands w f g same d = subst (λ x. Denotes Bdd w f x)
-    (everywhere (bdd_at w f) (conjunction (bdd_at w f) (bdd_at w f)) (λ k. same_and (bdd_at w f k)) ∙ ap (λ e. conjunction (bdd_at w f) (bdd_at w e)) same) d.first
+    (everywhere (bdd_at w f) (conjunction (bdd_at w f) (bdd_at w f)) (λ k. sym (and_self (bdd_at w f k))) ∙ ap (λ e. conjunction (bdd_at w f) (bdd_at w e)) same) d.first
 
 pub first_true : (w : View) → Permanent w → (f g : Edge) → f.index ≡ 0 → f.complement ≡ false → AreTwo Bdd w f g → Denotes Bdd w g (place (λ a b. a && b) (bdd_at w f) (bdd_at w g))
 first_true w p f g zero plain d =

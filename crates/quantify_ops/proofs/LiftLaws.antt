@@ -11,15 +11,15 @@ use Rattle.function_laws.proofs.RestrictionLaws.{IsFree-exists_other, IsFree-exi
 use Rattle.function_laws.proofs.ValueLemmas.{everywhere, cofactor_comm, exists-choice_same, IsFree-cofactor, IsFree-cofactor_other, IsFree-place}
 use Rattle.function_laws.specs.Kinds.{Denoted, BddFunction}
 use Rattle.node_store.specs.Views.{View, AreTwo, Denotes, Grown, Is, IsInner, Kept, Opens, bdd_at}
-use Rattle.node_store.specs.ViewLaws.{Grown-refl, Grown-trans, Is-from, Splits-grown, IsVariable-back, IsVariable-grown, level-grown, top-grown, values_at-is, values_at-grown}
+use Rattle.node_store.specs.ViewLaws.{Grown-refl, Grown-trans, Is-from, IsBelow-inner, IsVariable-back, IsVariable-grown, Splits-grown, level-grown, top-grown, values_at-grown, values_at-is}
 use Rattle.node_store.specs.TwoLaws.{AreTwo-grown}
 use Rattle.node_store.specs.Work.{whole, cut, IsPart, IsWork, Adds, Moves}
 use Rattle.node_store.specs.WorkLaws.{IsPart-grown, IsWork-grown, Moves-both, Moves-kept}
 use Rattle.node_store.specs.declared.grow.Opened.{Opened}
 use Rattle.node_store.specs.declared.grow.Opened.TheVariants.{Inner, Leaf}
 use Rattle.quantify_ops.specs.QuantifiedLasts.{IsFreeAbove-back}
-use Rattle.quantify_ops.specs.Restricted.{IsCondition, IsLifted, ServesAbove, levels_from, work_of_restrict}
-use Rattle.quantify_ops.specs.RestrictedLasts.{IsCondition-grown, work_of_restrict-stays}
+use Rattle.quantify_ops.specs.Restricted.{IsCondition, IsLifted, IsPartOfBoth, PartsAbove, ServesAbove, both_lifted, levels_from, work_of_restrict}
+use Rattle.quantify_ops.specs.RestrictedLasts.{IsCondition-grown, IsPartOfBoth-back, IsPartOfBoth-grown, work_of_restrict-stays}
 use Rattle.quantify_ops.proofs.ProductLaws.{IsWork-part}
 
 -- an opened edge, later
@@ -115,6 +115,13 @@ module _ (f c : Edge) (v w : View) (d hi lo : Edge) (x : ℕ) (roots : AreTwo Bd
         let back = IsFreeAbove-back level a m free in
         serves a r back (IsRestriction-lifted a (bdd_at v d) r x (back x o.in_range lt) (subst (λ h. IsRestriction a h r) (sym step_is) p)))
 
+    pub step_parts : (start : Edge) (level : ℕ) → v.level x < level → Is Bdd v start → PartsAbove v level (bdd_at v c) (bdd_at v d) (bdd_at v start) → PartsAbove w level (bdd_at w c) (bdd_at w e) (bdd_at w start)
+    step_parts start level lt is parts = rw (values_at-is Bdd den, values_at-grown Bdd m is, values_at-grown Bdd m roots.second) (λ p a free q.
+        let back = IsFreeAbove-back level a m free in
+        IsPartOfBoth-grown v w p (bdd_at v c) a step m (subst (λ h. IsPartOfBoth v p (bdd_at v c) a h) step_is
+        (both_lifted a (bdd_at v d) x o.in_range (λ u un above. (back u un (omega arith), IsBelow-inner Bdd u o above u un (omega arith))) (back x o.in_range lt)
+        (parts p a back (IsPartOfBoth-back v w p (bdd_at v c) a (bdd_at v start) m q)))))
+
     -- the next top variable stands lower
     pub step_lower : (y : View) (n : Grown w y) (top : Opened) → Opens Bdd y e (bdd_at w e) top → levels_from y top < levels_from v (Inner x hi lo)
     step_lower y n (Leaf z) j = let within = o.within in omega arith
@@ -133,14 +140,20 @@ module _ (f c : Edge) (v w : View) (d hi lo : Edge) (x : ℕ) (roots : AreTwo Bd
 pub ServesAbove-grown : (v w : View) (level : ℕ) (d c : Edge) → Grown v w → Is Bdd v d → Is Bdd v c → ServesAbove v level (bdd_at v d) (bdd_at v c) → ServesAbove w level (bdd_at w d) (bdd_at w c)
 ServesAbove-grown v w level d c m dd dc serves = rw (values_at-grown Bdd m dd, values_at-grown Bdd m dc) (λ a r free p. serves a r (IsFreeAbove-back level a m free) p)
 
+pub PartsAbove-grown : (v w : View) (level : ℕ) (root d c : Edge) → Grown v w → Is Bdd v root → Is Bdd v d → Is Bdd v c → PartsAbove v level (bdd_at v root) (bdd_at v d) (bdd_at v c)
+    → PartsAbove w level (bdd_at w root) (bdd_at w d) (bdd_at w c)
+PartsAbove-grown v w level root d c m dr dd dc parts = rw (values_at-grown Bdd m dr, values_at-grown Bdd m dd, values_at-grown Bdd m dc) (λ p a free q.
+    IsPartOfBoth-grown v w p (bdd_at v root) a (bdd_at v d) m (parts p a (IsFreeAbove-back level a m free) (IsPartOfBoth-back v w p (bdd_at v root) a (bdd_at v c) m q)))
+
 pub IsLifted-grown : (c : Edge) (v w : View) (start d : Edge) (level : ℕ) → Grown v w → Is Bdd v c → Is Bdd v start → IsLifted c v start d level → IsLifted c w start d level
 IsLifted-grown c v w start d level m root is l = record {
   now = IsCondition-grown c v w d m root l.now;
   above = let top = top-grown Bdd m l.now.edge in let above = l.above in omega arith;
   serves = ServesAbove-grown v w level d start m l.now.edge is l.serves;
+  parts = PartsAbove-grown v w level c d start m root l.now.edge is l.parts;
 }
 
 pub lifted_end : (c : Edge) (v w : View) (start d hi lo : Edge) (level x : ℕ) → Grown v w → Is Bdd v c → Is Bdd v start → IsCondition c v d → IsInner Bdd v d (bdd_at v d) x hi lo → level ≤ v.level x
-    → ServesAbove v level (bdd_at v d) (bdd_at v start) → IsLifted c w start d level
-lifted_end c v w start d hi lo level x m root is i o le serves =
-    IsLifted-grown c v w start d level m root is (record { now = i; above = let here = o.here in omega arith; serves = serves })
+    → ServesAbove v level (bdd_at v d) (bdd_at v start) → PartsAbove v level (bdd_at v c) (bdd_at v d) (bdd_at v start) → IsLifted c w start d level
+lifted_end c v w start d hi lo level x m root is i o le serves parts =
+    IsLifted-grown c v w start d level m root is (record { now = i; above = let here = o.here in omega arith; serves = serves; parts = parts })

@@ -1,6 +1,6 @@
 -- The product of the variables that are marked, from the last level to the first.
 use Rattle.std.proofs.Common.{◌≡◌, ℕ, zero, suc, ◌+◌, ◌<◌, ◌≤◌, Bool, true, false, ◌&&◌, ℤ, List, [], ◌∷◌, length, drop, replicate, get_or, set, Option, Some, None, Result, Ok, Err, ◌⊎◌, inl, inr, refl, sym, ap, ◌∙◌, subst, arith}
-use Rattle.std.proofs.Math.Bool.{and-true}
+use Rattle.std.proofs.Math.Bool.{and-true, and_self_left}
 use Rattle.edge_bits.specs.declared.edges.Edge.{Edge}
 use Rattle.edge_bits.specs.declared.edges.Kind.{Kind}
 use Rattle.edge_bits.specs.declared.edges.Kind.TheVariants.{Bdd, Add, Zdd}
@@ -135,10 +135,6 @@ pub AreMarks-nothing : (w : View) (marks : List (Option ℕ)) → AreNoMarks mar
 AreMarks-nothing w marks h = λ j v is. absurd (no_mark (sym (h j) ∙ is))
 
 -- one mark more
-twice : (a c : Bool) → (a && c) ≡ (a && (a && c))
-twice true c = refl
-twice false c = refl
-
 swap : (a b c : Bool) → (a && (b && c)) ≡ (b && (a && c))
 swap true true c = refl
 swap true false c = refl
@@ -153,7 +149,7 @@ set-product w base zero v (Some u ∷ marks) h lt k =
     let old = h 0 u refl in
     let same : u ≡ v = k.alone u old.in_range old.here in
     let c = marked_product marks in
-    everywhere (conjunction (projection v) c) (conjunction (projection v) (conjunction (projection v) c)) (λ i. twice (projection v i) (c i))
+    everywhere (conjunction (projection v) c) (conjunction (projection v) (conjunction (projection v) c)) (λ i. sym (and_self_left (projection v i) (c i)))
     ∙ ap (λ x. conjunction (projection v) (conjunction (projection x) c)) (sym same)
 set-product w base (suc j) v (None ∷ marks) h lt k =
     set-product w (suc base) j v marks (MarksFrom-rest w base None marks h) (omega arith) (let same : base + suc j ≡ suc base + j = omega arith in subst (λ l. IsMark w l v) same k)

@@ -2,6 +2,7 @@
 use Rattle.std.proofs.Common.{◌≡◌, ◌≢◌, ℕ, ℤ, suc, ◌<◌, ◌≤◌, max, Bool, true, false, not, cond, ◌&&◌, ◌⊎◌, inl, inr, Some, Result, Ok, Err, IfOk, refl, sym, ap, ◌∙◌, subst, arith}
 use Rattle.std.specs.Prelude.{IsOkAnd}
 use Rattle.std.proofs.lemmas.Bool.{cases_lt}
+use Rattle.std.proofs.Math.Bool.{and-true, and_comm, and_self}
 use Rattle.edge_bits.specs.Permanent.{truth_edge}
 use Rattle.edge_bits.specs.declared.edges.Edge.{Edge}
 use Rattle.edge_bits.specs.declared.edges.Kind.TheVariants.{Bdd}
@@ -209,10 +210,6 @@ narrowed_waits f g c v w t b m due narrow =
     )
 
 -- a conjunction that is known to be constant
-and_same : (b : Bool) → (b && b) ≡ b
-and_same true = refl
-and_same false = refl
-
 pub known_answer : (w : View) (t : Task) (b : Bool) (e : Edge) → both_at w t.f t.g ≡ constant b → Denotes Bdd w e (constant b) → QuantifiedAnswers w t e
 known_answer w t b e is d = record { answer = Is-from Bdd d; exists = rw (is, values_at-is Bdd d) (IsExists-constant (bdd_at w t.h) b) }
 
@@ -229,17 +226,7 @@ key_exists w t f d df same = record {
 }
 
 pub both_same : (w : View) (f g : Edge) → f ≡ g → both_at w f g ≡ bdd_at w f
-both_same w f g same = ap (λ e. both_at w f e) (sym same) ∙ everywhere (both_at w f f) (bdd_at w f) (λ k. and_same (bdd_at w f k))
-
-and_true : (b : Bool) → (b && true) ≡ b
-and_true true = refl
-and_true false = refl
-
-and_comm : (a b : Bool) → (a && b) ≡ (b && a)
-and_comm true true = refl
-and_comm true false = refl
-and_comm false true = refl
-and_comm false false = refl
+both_same w f g same = ap (λ e. both_at w f e) (sym same) ∙ everywhere (both_at w f f) (bdd_at w f) (λ k. and_self (bdd_at w f k))
 
 pub both_first : (w : View) → Permanent w → (f g : Edge) → f ≡ truth_edge true → both_at w f g ≡ bdd_at w g
 both_first w p f g one = ap (λ h. conjunction h (bdd_at w g)) (truth_at w p f (ap (λ e. e.index) one) ∙ ap (λ e. constant (not e.complement)) one)
@@ -247,7 +234,7 @@ both_first w p f g one = ap (λ h. conjunction h (bdd_at w g)) (truth_at w p f (
 pub both_second : (w : View) → Permanent w → (f g : Edge) → g ≡ truth_edge true → both_at w f g ≡ bdd_at w f
 both_second w p f g one =
     ap (λ h. conjunction (bdd_at w f) h) (truth_at w p g (ap (λ e. e.index) one) ∙ ap (λ e. constant (not e.complement)) one)
-    ∙ everywhere (conjunction (bdd_at w f) (constant true)) (bdd_at w f) (λ k. and_true (bdd_at w f k))
+    ∙ everywhere (conjunction (bdd_at w f) (constant true)) (bdd_at w f) (λ k. and-true (bdd_at w f k))
 
 key_and : (w : View) (t : Task) (f g : Edge) → AreQuantified w t.f t.g t.h → AreTwo Bdd w f g → both_at w t.f t.g ≡ both_at w f g → IsKeyOf w t (record { op = and_exists_number; f = f; g = g; h = t.h })
 key_and w t f g d two same = record {

@@ -6,7 +6,7 @@ use Rattle.edge_bits.specs.declared.edges.Kind.{Kind}
 use Rattle.edge_bits.specs.declared.edges.Kind.TheVariants.{Bdd}
 use Rattle.edge_bits.specs.Assignments.{bit}
 use Rattle.function_laws.specs.Restrictions.{IsNowhere, IsRestriction}
-use Rattle.function_laws.specs.Values.{IsFree, constant, exists_all, negation}
+use Rattle.function_laws.specs.Values.{IsFree, choice, cofactor, constant, exists_all, negation}
 use Rattle.function_laws.proofs.BoundedRestriction.{Restricts-from}
 use Rattle.function_laws.proofs.CubeLemmas.{by_bit, choice-at}
 use Rattle.function_laws.proofs.RestrictionLaws.{IsRestriction-branch, IsRestriction-choice, IsRestriction-constant, IsRestriction-everywhere, IsRestriction-not, IsRestriction-nowhere, IsRestriction-same, somewhere-choice}
@@ -17,20 +17,20 @@ use Rattle.function_laws.specs.Kinds.{BddFunction, ValueOf}
 use Rattle.node_store.specs.Memo.{MemoHolds}
 use Rattle.node_store.specs.Splits.{AtSecond, Leads, WaitIs, Waiting}
 use Rattle.node_store.specs.Three.{IsFlipped}
-use Rattle.node_store.specs.Views.{View, AreTwo, CanMake, Denotes, Grown, Is, IsInner, IsKey, IsLeaf, IsLeafOf, PartsAt, Permanent, bdd_at, logic_one, logic_zero, node_values}
-use Rattle.node_store.specs.ViewLaws.{Denotes-flip, Denotes-truth, Grown-trans, Is-from, Is-grown, IsBelow-inner, Splits-grown, level-grown, top-grown, values_at-grown, values_at-is}
+use Rattle.node_store.specs.Views.{AreTwo, CanMake, Denotes, Grown, Is, IsBelow, IsInner, IsKey, IsLeaf, IsLeafOf, IsVariable, PartsAt, Permanent, View, bdd_at, logic_one, logic_zero, node_values}
+use Rattle.node_store.specs.ViewLaws.{Apart-variables, Denotes-flip, Denotes-truth, Grown-trans, Is-from, Is-grown, IsBelow-inner, Splits-grown, level-grown, top-grown, values_at-grown, values_at-is}
 use Rattle.node_store.specs.Work.{whole, IsPart, IsWork, Moves}
 use Rattle.node_store.specs.WorkLaws.{IsPart-half, IsWork-due, Moves-made}
 use Rattle.node_store.specs.declared.operator.Frame.{Frame}
 use Rattle.node_store.specs.declared.operator.Task.{Task}
 use Rattle.node_store.specs.declared.operator.Wait.TheVariants.{Only, First, Second}
-use Rattle.node_store.proofs.ThreeParts.{IsFlipped-part, IsPartOrComplement-half}
 use Rattle.ite_core.specs.Cofactors.{one_depth}
 use Rattle.ite_core.specs.CofactorLasts.{one_depth-stays}
 use Rattle.ite_core.proofs.CofactorLaws.{regular_flipped, regular_is}
 use Rattle.ite_core.proofs.Terminals.{truth_at}
+use Rattle.node_store.specs.KindLaws.{Lacks-joined, part-joined}
 use Rattle.quantify_ops.specs.Quantified.{IsFreeAbove}
-use Rattle.quantify_ops.specs.Restricted.{CanBranch, IsLifted, LeadsLevel, OnlyWaits, RestrictAnswers, RestrictAsks, RestrictDue, RestrictParts, RestrictSplits, RestrictWaits, Restricted, restrict_key, work_of_restrict}
+use Rattle.quantify_ops.specs.Restricted.{CanBranch, IsLifted, IsPartOfBoth, LeadsLevel, OnlyWaits, RestrictAnswers, RestrictAsks, RestrictDue, RestrictParts, RestrictSplits, RestrictWaits, Restricted, both_cut, both_opposite, both_whole, restrict_key, work_of_restrict}
 use Rattle.quantify_ops.specs.RestrictedLasts.{RestrictDue-stays, work_of_restrict-stays}
 use Rattle.quantify_ops.proofs.LiftLaws.{IsInner-grown}
 
@@ -115,6 +115,22 @@ flipped_answer w true f r c e is some d p = (
       (subst (λ g. IsRestriction g c (negation (bdd_at w e))) (everywhere (negation r) f (λ k. ap (λ (h : ℕ → Bool). not (h k)) is ∙ not_not (f k))) (IsRestriction-not r c (bdd_at w e) some p)),
 )
 
+-- parts of both, up to complement, and their halves
+IsPartOfBoth-flipped : (flip : Bool) (w : View) (f c a g b : ℕ → Bool) → IsFlipped Bdd flip a g → IsPartOfBoth w f c a b → IsPartOfBoth w f c g b
+IsPartOfBoth-flipped false w f c a g b is p = subst (λ h. IsPartOfBoth w f c h b) (sym is) p
+IsPartOfBoth-flipped true w f c a g b is p = subst (λ h. IsPartOfBoth w f c h b) (sym is) (both_opposite a b p)
+
+IsPartOfBoth-half : (w : View) (v : ℕ) (f c a ah al b bh bl : ℕ → Bool) (which : Bool) → IsVariable Bdd w v → a ≡ choice v ah al → b ≡ choice v bh bl
+    → IsBelow Bdd w v ah → IsBelow Bdd w v al → IsBelow Bdd w v bh → IsBelow Bdd w v bl → IsPartOfBoth w f c a b → IsPartOfBoth w f c (cond which ah al) (cond which bh bl)
+IsPartOfBoth-half w v f c a ah al b bh bl which vn is_a is_b ah_below al_below bh_below bl_below p =
+    subst (λ x. IsPartOfBoth w f c x (cond which bh bl)) (part-joined Bdd v ah al which (ah_below v vn (omega arith)) (al_below v vn (omega arith)))
+    (subst (λ y. IsPartOfBoth w f c (cofactor (choice v ah al) v which) y) (part-joined Bdd v bh bl which (bh_below v vn (omega arith)) (bl_below v vn (omega arith)))
+    (both_cut (choice v ah al) (choice v bh bl) v which vn (λ u un lt. (free u un lt ah al ah_below al_below, free u un lt bh bl bh_below bl_below))
+    (subst (λ x. IsPartOfBoth w f c x (choice v bh bl)) is_a (subst (λ y. IsPartOfBoth w f c a y) is_b p))))
+  where
+    free : (u : ℕ) → IsVariable Bdd w u → w.level u < w.level v → (h l : ℕ → Bool) → IsBelow Bdd w v h → IsBelow Bdd w v l → IsFree (choice v h l) u
+    free u un lt h l hb lb = Lacks-joined Bdd u v h l (Apart-variables Bdd w u v un vn (λ e. let s = ap w.level e in omega arith)) (hb u un (omega arith)) (lb u un (omega arith))
+
 pub lifted_leads : (f c : Edge) (w : View) (root t : Task) (level : ℕ) → RestrictDue f c w root → t.f ≡ record { index = root.f.index; complement = false } → IsLifted c w root.g t.g level
     → IsFreeAbove w level (bdd_at w t.f) → LeadsLevel w root root.f.complement t
 lifted_leads f c w root t level due regular lifted free =
@@ -132,13 +148,14 @@ lifted_leads f c w root t level due regular lifted free =
       depth = ap (λ (r : Edge). w.vars - w.top r.index) regular;
     }
 
-pub lifted_due : (f c : Edge) (w : View) (root t : Task) (level : ℕ) → RestrictDue f c w root → t.f ≡ record { index = root.f.index; complement = false } → IsLifted c w root.g t.g level → RestrictDue f c w t
-lifted_due f c w root t level due regular lifted = record {
+pub lifted_due : (f c : Edge) (w : View) (root t : Task) (level : ℕ) → RestrictDue f c w root → t.f ≡ record { index = root.f.index; complement = false } → IsLifted c w root.g t.g level
+    → IsFreeAbove w level (bdd_at w t.f) → RestrictDue f c w t
+lifted_due f c w root t level due regular lifted free = record {
   permanent = due.permanent;
   roots = due.roots;
   edge = regular_is w root.f t.f regular due.edge;
-  part = IsFlipped-part Bdd root.f.complement w (bdd_at w f) (bdd_at w root.f) (bdd_at w t.f) (regular_flipped w root.f t.f regular due.edge) due.part;
   condition = lifted.now;
+  parts = lifted.parts (bdd_at w f) (bdd_at w t.f) free (IsPartOfBoth-flipped root.f.complement w (bdd_at w f) (bdd_at w c) (bdd_at w root.f) (bdd_at w t.f) (bdd_at w root.g) (regular_flipped w root.f t.f regular due.edge) due.parts);
 }
 
 -- from the opened function of a task and its lifted condition
@@ -158,12 +175,14 @@ module _ (f c : Edge) (v w1 w : View) (root t : Task) (r d hi lo : Edge) (level 
   level_is : level ≡ w.level x
   level_is = is_level ∙ sym (level-grown m2 x)
 
+  above_free : IsFreeAbove w level (bdd_at w t.f)
+  above_free u un lt = let higher : w.level u < w.level x = (let is = level_is in omega arith) in IsBelow-inner Bdd u inner_later higher u un (omega arith)
+
   pub start_leads : LeadsLevel w root root.f.complement t
-  start_leads = lifted_leads f c w root t level root_later (tf ∙ regular) lifted_task (λ u un lt.
-      let higher : w.level u < w.level x = (let is = level_is in omega arith) in IsBelow-inner Bdd u inner_later higher u un (omega arith))
+  start_leads = lifted_leads f c w root t level root_later (tf ∙ regular) lifted_task above_free
 
   pub start_due : RestrictDue f c w t
-  start_due = lifted_due f c w root t level root_later (tf ∙ regular) lifted_task
+  start_due = lifted_due f c w root t level root_later (tf ∙ regular) lifted_task above_free
 
   pub start_branch : CanBranch f c w t x hi lo
   start_branch = record { due = start_due; inner = inner_later; above = let is = level_is in let above = lifted_task.above in omega arith }
@@ -190,7 +209,8 @@ module _ (f c : Edge) (w : View) (t hi lo : Task) (x : ℕ) (due : RestrictDue f
     permanent = due.permanent;
     roots = due.roots;
     edge = s.two.f.hi_is;
-    part = IsPartOrComplement-half Bdd w x (bdd_at w f) (bdd_at w t.f) (bdd_at w hi.f) (bdd_at w lo.f) true s.two.in_range s.two.f.is s.two.f.hi_below s.two.f.lo_below due.part;
+    parts = IsPartOfBoth-half w x (bdd_at w f) (bdd_at w c) (bdd_at w t.f) (bdd_at w hi.f) (bdd_at w lo.f) (bdd_at w t.g) (bdd_at w hi.g) (bdd_at w lo.g) true s.two.in_range s.two.f.is s.two.g.is
+        s.two.f.hi_below s.two.f.lo_below s.two.g.hi_below s.two.g.lo_below due.parts;
     condition = record {
       edge = s.two.g.hi_is;
       somewhere = some;
@@ -204,7 +224,8 @@ module _ (f c : Edge) (w : View) (t hi lo : Task) (x : ℕ) (due : RestrictDue f
     permanent = due.permanent;
     roots = due.roots;
     edge = s.two.f.lo_is;
-    part = IsPartOrComplement-half Bdd w x (bdd_at w f) (bdd_at w t.f) (bdd_at w hi.f) (bdd_at w lo.f) false s.two.in_range s.two.f.is s.two.f.hi_below s.two.f.lo_below due.part;
+    parts = IsPartOfBoth-half w x (bdd_at w f) (bdd_at w c) (bdd_at w t.f) (bdd_at w hi.f) (bdd_at w lo.f) (bdd_at w t.g) (bdd_at w hi.g) (bdd_at w lo.g) false s.two.in_range s.two.f.is s.two.g.is
+        s.two.f.hi_below s.two.f.lo_below s.two.g.hi_below s.two.g.lo_below due.parts;
     condition = record {
       edge = s.two.g.lo_is;
       somewhere = some;
@@ -345,9 +366,7 @@ restricted_value f c w t r due is = inl (record {
   a = bdd_at w t.f;
   b = bdd_at w t.g;
   r = r;
-  vars = due.condition.vars;
-  part_f = due.part;
-  part_c = due.condition.part;
+  parts = due.parts;
   restriction = is;
   is = refl;
 })
@@ -381,7 +400,7 @@ root_due f c w t p d sf sg some = record {
   permanent = p;
   roots = d;
   edge = rw sf d.first;
-  part = rw sf (inl whole);
+  parts = rw (sf, sg) both_whole;
   condition = rw sg (record {
     edge = d.second;
     somewhere = some;

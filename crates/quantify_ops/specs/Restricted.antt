@@ -5,14 +5,13 @@ use Rattle.edge_bits.specs.declared.edges.Edge.{Edge}
 use Rattle.edge_bits.specs.declared.edges.Kind.TheVariants.{Bdd}
 use Rattle.function_laws.specs.Restricting.{Restricts}
 use Rattle.function_laws.specs.Restrictions.{IsNowhere, IsRestriction}
-use Rattle.function_laws.specs.Values.{exists_all}
+use Rattle.function_laws.specs.Values.{IsFree, cofactor, exists_all, exists_one, negation}
 use Rattle.ite_core.specs.Cofactors.{one_depth}
 use Rattle.function_laws.specs.Kinds.{Denoted, BddFunction}
 use Rattle.node_store.specs.Numbers.{restrict_number}
 use Rattle.node_store.specs.Splits.{Leads, Waiting}
-use Rattle.node_store.specs.Three.{IsPartOrComplement}
 use Rattle.node_store.specs.Two.{TwoSplits}
-use Rattle.node_store.specs.Views.{View, AreTwo, Is, IsInner, Permanent, bdd_at}
+use Rattle.node_store.specs.Views.{View, AreTwo, Is, IsInner, IsVariable, Permanent, bdd_at}
 use Rattle.node_store.specs.Work.{IsPart}
 use Rattle.node_store.specs.declared.grow.Opened.{Opened}
 use Rattle.node_store.specs.declared.grow.Opened.TheVariants.{Inner, Leaf}
@@ -29,14 +28,24 @@ pub record Restricted (v w : View) (f c e : Edge) : Type 0 where
   -- over all assignments
   pub restriction : IsRestriction (bdd_at v f) (bdd_at v c) (bdd_at w e)
 
--- one of the functions that restrict may answer for a part of the function, up to complement, and a part of the condition with some variables quantified
+-- neither function depends on a variable above this one
+abbrev pub AreFreeAbove : View → ℕ → (ℕ → Bool) → (ℕ → Bool) → Type 0
+AreFreeAbove w v a b = (u : ℕ) → IsVariable Bdd w u → w.level u < w.level v → IsFree a u × IsFree b u
+
+-- parts of a function, up to complement, and of a condition: both are cut by the same variables with the same bits, from the top,
+-- and a variable on which the function's part does not depend is quantified in the condition's
+pub data IsPartOfBoth (w : View) (f c : ℕ → Bool) : (ℕ → Bool) → (ℕ → Bool) → Type 0 where
+  both_whole : IsPartOfBoth w f c f c
+  both_opposite : (a b : ℕ → Bool) → IsPartOfBoth w f c a b → IsPartOfBoth w f c (negation a) b
+  both_cut : (a b : ℕ → Bool) (v : ℕ) (bit : Bool) → IsVariable Bdd w v → AreFreeAbove w v a b → IsPartOfBoth w f c a b → IsPartOfBoth w f c (cofactor a v bit) (cofactor b v bit)
+  both_lifted : (a b : ℕ → Bool) (v : ℕ) → IsVariable Bdd w v → AreFreeAbove w v a b → IsFree a v → IsPartOfBoth w f c a b → IsPartOfBoth w f c a (exists_one b v)
+
+-- one of the functions that restrict may answer for such parts of the function and of the condition
 pub record IsPartRestricted (f c : Edge) (w : View) (F : Denoted) : Type 0 where
   pub a : ℕ → Bool
   pub b : ℕ → Bool
   pub r : ℕ → Bool
-  pub vars : List ℕ
-  pub part_f : IsPartOrComplement Bdd w (bdd_at w f) a
-  pub part_c : IsPart Bdd w (exists_all (bdd_at w c) vars) b
+  pub parts : IsPartOfBoth w (bdd_at w f) (bdd_at w c) a b
   pub restriction : IsRestriction a b r
   pub is : F ≡ BddFunction r
 
@@ -56,8 +65,8 @@ pub record RestrictDue (f c : Edge) (w : View) (t : Task) : Type 0 where
   pub permanent : Permanent w
   pub roots : AreTwo Bdd w f c
   pub edge : Is Bdd w t.f
-  pub part : IsPartOrComplement Bdd w (bdd_at w f) (bdd_at w t.f)
   pub condition : IsCondition c w t.g
+  pub parts : IsPartOfBoth w (bdd_at w f) (bdd_at w c) (bdd_at w t.f) (bdd_at w t.g)
 
 pub record RestrictAnswers (w : View) (t : Task) (e : Edge) : Type 0 where
   pub answer : Is Bdd w e
@@ -98,11 +107,16 @@ pub record RestrictAsks (f c : Edge) (w : View) (root : Task) (frame : Frame) (c
 abbrev pub ServesAbove : View → ℕ → (ℕ → Bool) → (ℕ → Bool) → Type 0
 ServesAbove w level d c = (a r : ℕ → Bool) → IsFreeAbove w level a → IsRestriction a d r → IsRestriction a c r
 
+-- where a function that is free of the variables above a level and the one condition are parts, it and the other are
+abbrev pub PartsAbove : View → ℕ → (ℕ → Bool) → (ℕ → Bool) → (ℕ → Bool) → Type 0
+PartsAbove w level root d c = (f a : ℕ → Bool) → IsFreeAbove w level a → IsPartOfBoth w f root a c → IsPartOfBoth w f root a d
+
 -- the condition with the variables above a level quantified
 pub record IsLifted (c : Edge) (w : View) (condition lifted : Edge) (level : ℕ) : Type 0 where
   pub now : IsCondition c w lifted
   pub above : level ≤ w.top lifted.index
   pub serves : ServesAbove w level (bdd_at w lifted) (bdd_at w condition)
+  pub parts : PartsAbove w level (bdd_at w c) (bdd_at w lifted) (bdd_at w condition)
 
 -- how many levels there are from an opened edge's on
 abbrev pub levels_from : View → Opened → ℕ

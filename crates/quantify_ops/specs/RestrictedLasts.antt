@@ -1,30 +1,44 @@
 -- What is true of tasks of a restriction stays true while a store grows.
-use Rattle.std.proofs.Common.{ℕ, Bool, true, false, cond, inl, inr, ◌∙◌, ap, sym, subst}
+use Rattle.std.proofs.Common.{ℕ, Bool, true, false, cond, inl, inr, ◌∙◌, ap, sym}
 use Rattle.edge_bits.specs.declared.edges.Edge.{Edge}
 use Rattle.edge_bits.specs.declared.edges.Kind.TheVariants.{Bdd}
-use Rattle.function_laws.specs.Values.{exists_all, negation}
+use Rattle.function_laws.specs.Values.{exists_all}
 use Rattle.ite_core.specs.Cofactors.{one_depth}
 use Rattle.ite_core.specs.CofactorLasts.{one_depth-stays}
 use Rattle.function_laws.specs.Kinds.{Denoted, BddFunction}
-use Rattle.node_store.specs.ThreeLaws.{IsPartOrComplement-grown}
 use Rattle.node_store.specs.TwoLaws.{AreTwo-grown, TwoSplits-stay}
 use Rattle.node_store.specs.Views.{View, AreTwo, Grown, Is, bdd_at}
-use Rattle.node_store.specs.ViewLaws.{Grown-trans, Is-grown, Permanent-grown, values_at-grown}
+use Rattle.node_store.specs.ViewLaws.{Grown-trans, Is-grown, IsVariable-back, IsVariable-grown, Permanent-grown, level-grown, values_at-grown}
 use Rattle.node_store.specs.Waiting.{Waiting-stays}
-use Rattle.node_store.specs.Work.{IsPart}
-use Rattle.node_store.specs.WorkLaws.{IsPart-back, IsPart-grown}
+use Rattle.node_store.specs.WorkLaws.{IsPart-grown}
 use Rattle.node_store.specs.declared.operator.Frame.{Frame}
 use Rattle.node_store.specs.declared.operator.Task.{Task}
-use Rattle.quantify_ops.specs.Restricted.{Restricted, IsPartRestricted, work_of_restrict, IsCondition, RestrictDue, RestrictAnswers, RestrictParts, RestrictSplits, OnlyWaits, RestrictWaits}
+use Rattle.quantify_ops.specs.Restricted.{AreFreeAbove, IsPartOfBoth, both_whole, both_opposite, both_cut, both_lifted, Restricted, IsPartRestricted, work_of_restrict, IsCondition, RestrictDue, RestrictAnswers, RestrictParts, RestrictSplits, OnlyWaits, RestrictWaits}
+
+AreFreeAbove-grown : (v w : View) (x : ℕ) (a b : ℕ → Bool) → Grown v w → AreFreeAbove v x a b → AreFreeAbove w x a b
+AreFreeAbove-grown v w x a b m free u un lt = free u (IsVariable-back Bdd m u un) (rw (sym (level-grown m u), sym (level-grown m x)) lt)
+
+AreFreeAbove-back : (v w : View) (x : ℕ) (a b : ℕ → Bool) → Grown v w → AreFreeAbove w x a b → AreFreeAbove v x a b
+AreFreeAbove-back v w x a b m free u un lt = free u (IsVariable-grown Bdd m u un) (rw (level-grown m u, level-grown m x) lt)
+
+pub IsPartOfBoth-grown : (v w : View) (f c a b : ℕ → Bool) → Grown v w → IsPartOfBoth v f c a b → IsPartOfBoth w f c a b
+IsPartOfBoth-grown v w f c _ _ m both_whole = both_whole
+IsPartOfBoth-grown v w f c _ _ m (both_opposite a b p) = both_opposite a b (IsPartOfBoth-grown v w f c a b m p)
+IsPartOfBoth-grown v w f c _ _ m (both_cut a b x bit xn above p) = both_cut a b x bit (IsVariable-grown Bdd m x xn) (AreFreeAbove-grown v w x a b m above) (IsPartOfBoth-grown v w f c a b m p)
+IsPartOfBoth-grown v w f c _ _ m (both_lifted a b x xn above free p) = both_lifted a b x (IsVariable-grown Bdd m x xn) (AreFreeAbove-grown v w x a b m above) free (IsPartOfBoth-grown v w f c a b m p)
+
+pub IsPartOfBoth-back : (v w : View) (f c a b : ℕ → Bool) → Grown v w → IsPartOfBoth w f c a b → IsPartOfBoth v f c a b
+IsPartOfBoth-back v w f c _ _ m both_whole = both_whole
+IsPartOfBoth-back v w f c _ _ m (both_opposite a b p) = both_opposite a b (IsPartOfBoth-back v w f c a b m p)
+IsPartOfBoth-back v w f c _ _ m (both_cut a b x bit xn above p) = both_cut a b x bit (IsVariable-back Bdd m x xn) (AreFreeAbove-back v w x a b m above) (IsPartOfBoth-back v w f c a b m p)
+IsPartOfBoth-back v w f c _ _ m (both_lifted a b x xn above free p) = both_lifted a b x (IsVariable-back Bdd m x xn) (AreFreeAbove-back v w x a b m above) free (IsPartOfBoth-back v w f c a b m p)
 
 pub IsPartRestricted-stays : (f c : Edge) (v w : View) (F : Denoted) → Grown v w → AreTwo Bdd v f c → IsPartRestricted f c v F → IsPartRestricted f c w F
 IsPartRestricted-stays f c v w F m d i = record {
   a = i.a;
   b = i.b;
   r = i.r;
-  vars = i.vars;
-  part_f = rw (values_at-grown Bdd m d.first) (IsPartOrComplement-grown Bdd (bdd_at v f) i.a m i.part_f);
-  part_c = rw (values_at-grown Bdd m d.second) (IsPart-grown Bdd m (exists_all (bdd_at v c) i.vars) i.b i.part_c);
+  parts = rw (values_at-grown Bdd m d.first, values_at-grown Bdd m d.second) (IsPartOfBoth-grown v w (bdd_at v f) (bdd_at v c) i.a i.b m i.parts);
   restriction = i.restriction;
   is = i.is;
 }
@@ -46,8 +60,9 @@ RestrictDue-stays f c v w t m d = record {
   permanent = Permanent-grown m d.permanent;
   roots = AreTwo-grown Bdd m d.roots;
   edge = Is-grown Bdd m d.edge;
-  part = rw (values_at-grown Bdd m d.roots.first, values_at-grown Bdd m d.edge) (IsPartOrComplement-grown Bdd (bdd_at v f) (bdd_at v t.f) m d.part);
   condition = IsCondition-grown c v w t.g m d.roots.second d.condition;
+  parts = rw (values_at-grown Bdd m d.roots.first, values_at-grown Bdd m d.roots.second, values_at-grown Bdd m d.edge, values_at-grown Bdd m d.condition.edge)
+      (IsPartOfBoth-grown v w (bdd_at v f) (bdd_at v c) (bdd_at v t.f) (bdd_at v t.g) m d.parts);
 }
 
 pub RestrictAnswers-stay : (v w : View) (t : Task) (e : Edge) → Grown v w → AreTwo Bdd v t.f t.g → RestrictAnswers v t e → RestrictAnswers w t e
@@ -101,12 +116,7 @@ work_of_restrict-back v w f c m d F (inl i) = inl (record {
   a = i.a;
   b = i.b;
   r = i.r;
-  vars = i.vars;
-  part_f = elim i.part_f [
-    | inl p ↦ inl (IsPart-back Bdd m (bdd_at v f) i.a (subst (λ h. IsPart Bdd w h i.a) (values_at-grown Bdd m d.first) p))
-    | inr p ↦ inr (IsPart-back Bdd m (negation (bdd_at v f)) i.a (subst (λ h. IsPart Bdd w (negation h) i.a) (values_at-grown Bdd m d.first) p))
-  ];
-  part_c = IsPart-back Bdd m (exists_all (bdd_at v c) i.vars) i.b (subst (λ h. IsPart Bdd w (exists_all h i.vars) i.b) (values_at-grown Bdd m d.second) i.part_c);
+  parts = IsPartOfBoth-back v w (bdd_at v f) (bdd_at v c) i.a i.b m (rw (values_at-grown Bdd m d.first, values_at-grown Bdd m d.second) at i.parts);
   restriction = i.restriction;
   is = i.is;
 })

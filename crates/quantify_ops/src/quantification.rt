@@ -1,6 +1,6 @@
 //! The conjunction of two functions, quantified over the variables of a product: the relational product (Burch, Clarke, McMillan, Dill and Hwang 1990).
 
-ghost use Rattle.std.specs.Prelude.{◌≡◌, ◌≤◌, ◌*◌, IfOk, IsErrOf, List, ℕ, true};
+ghost use Rattle.std.specs.Prelude.{◌≡◌, ◌≤◌, ◌*◌, IfOk, IfSome, IsErrOf, List, ℕ, true};
 ghost use Rattle.edge_bits.specs.declared.edges.Kind.TheVariants.{Bdd};
 ghost use Rattle.function_laws.specs.Values.{exists_all};
 ghost use Rattle.node_store.specs.Numbers.{exists_number};
@@ -62,12 +62,15 @@ impl<G: Grow> Operator<G> for Quantification {
         if let Some(value) = known(task.f, task.g) {
             return Ok(Next::Done(Edge::truth(value)));
         }
+        if let Some(edge) = store.memo_get(&key_of(task)) {
+            return Ok(Next::Done(edge));
+        }
         let branch = self.narrow(store, task);
         if branch.task.h.index == TRUE_SLOT {
             // Nothing is left to quantify.
             return Ok(Next::Done(and(store, stack, task.f, task.g)?));
         }
-        if let Some(edge) = store.memo_get(&key_of(branch.task)) {
+        if let Some(edge) = self.recall(store, task, branch.task) {
             return Ok(Next::Done(edge));
         }
         let frame = Frame {
@@ -142,6 +145,19 @@ impl Quantification {
             hi: Task { h: rest, ..hi },
             lo: Task { h: rest, ..lo },
         }
+    }
+
+    /// What is known of a task with what is left of its product, where that is not the whole product, under which it was looked up.
+    fn recall<G: Grow>(&self, store: &mut G, task: Task, narrowed: Task) -> Option<Edge>
+        requires permanent { Permanent (G.view store.old) }
+        requires operands { AreQuantified (G.view store.old) narrowed.f narrowed.g narrowed.h }
+        ensures kept { Kept (G.view store.old) (G.view store.new) }
+        ensures hit { IfSome result (QuantifiedAnswers (G.view store.new) narrowed) }
+    {
+        if narrowed.h == task.h {
+            return None;
+        }
+        store.memo_get(&key_of(narrowed))
     }
 
     /// The parts of a task's functions at the upper one of their top variables.

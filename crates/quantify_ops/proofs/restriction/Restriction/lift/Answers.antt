@@ -5,9 +5,9 @@ use Rattle.node_store.specs.ViewLaws.{Grown-trans, Is-from, Is-grown, Permanent-
 use Rattle.node_store.specs.TwoLaws.{AreTwo-grown}
 use Rattle.node_store.specs.Views.{View, AreTwo, Grown, Is, IsInner, bdd_at}
 use Rattle.ite_core.proofs.Outcomes.{Serves-memory}
-use Rattle.quantify_ops.specs.Restricted.{IsCondition, ServesAbove}
+use Rattle.quantify_ops.specs.Restricted.{IsCondition, PartsAbove, ServesAbove}
 use Rattle.quantify_ops.specs.RestrictedLasts.{IsCondition-grown}
-use Rattle.quantify_ops.proofs.LiftLaws.{IsInner-grown, Restrict-both, Restrict-kept, ServesAbove-grown, lifted_end, opened, step_condition, step_due, step_lower, step_moved, step_serves}
+use Rattle.quantify_ops.proofs.LiftLaws.{IsInner-grown, PartsAbove-grown, Restrict-both, Restrict-kept, ServesAbove-grown, lifted_end, opened, step_condition, step_due, step_lower, step_moved, step_parts, step_serves}
 use Rattle.quantify_ops.proofs.restriction.Restriction.lift.Goals as goal
 use Rattle.quantify_ops.proofs.restriction.Restriction.lift.Goals.{In-Inner}
 use Rattle.quantify_ops.proofs.restriction.Restriction.lift.Given as given
@@ -20,6 +20,7 @@ variables-init g c =
       condition = IsCondition-grown o.c _ _ c.args.condition k.grown c.requires.roots.second i;
       opens = opened _ _ c.args.condition _ k.grown i.edge (c.open-top.ensures.opens Bdd i.edge);
       serves = λ a r free p. p;
+      parts = λ f a free p. p;
       stack = refl;
     }
 
@@ -45,6 +46,10 @@ module _ (g : given.Over) (c : In-Inner g) where
     serves_at = ServesAbove-grown _ w c.args.level c.variables.lifted c.args.condition m c.variables.invariant.condition.edge
         (Is-grown Bdd c.variables.invariant.moved.grown c.requires.condition.edge) c.variables.invariant.serves
 
+    parts_at : PartsAbove w c.args.level (bdd_at w c.args.self.now.c) (bdd_at w c.variables.lifted) (bdd_at w c.args.condition)
+    parts_at = PartsAbove-grown _ w c.args.level c.args.self.now.c c.variables.lifted c.args.condition m roots.second c.variables.invariant.condition.edge
+        (Is-grown Bdd c.variables.invariant.moved.grown c.requires.condition.edge) c.variables.invariant.parts
+
 pub or-requires-clause-operands : goal.or-requires-clause-operands
 or-requires-clause-operands g c =
     let s = (inner_at g (goal.at.or-requires-clause-operands g c).In-Inner _ c.level.ensures.kept.grown).splits in record { first = s.hi_is; second = s.lo_is }
@@ -60,7 +65,7 @@ pub returns-then-level-clause-lifted : goal.returns-then-level-clause-lifted
 returns-then-level-clause-lifted g c =
     let i = c.variables.invariant in let at = (goal.at.returns-then-level-clause-lifted g c).In-Inner in
     lifted_end c.args.self.now.c _ _ c.args.condition c.variables.lifted c.in-Inner.hi c.in-Inner.lo c.args.level c.in-Inner.var c.level.ensures.kept.grown (roots g at).second
-    (Is-grown Bdd i.moved.grown c.requires.condition.edge) i.condition (inner g at) (let test = c.if-level.true in let is = c.level.ensures.level in omega arith) i.serves
+    (Is-grown Bdd i.moved.grown c.requires.condition.edge) i.condition (inner g at) (let test = c.if-level.true in let is = c.level.ensures.level in omega arith) i.serves i.parts
 
 pub returns-in_err-lifted-clause-moved : goal.returns-in_err-lifted-clause-moved
 returns-in_err-lifted-clause-moved g c =
@@ -99,6 +104,9 @@ variables-preserved g c =
       serves = ServesAbove-grown _ _ c.args.level c.in_ok-lifted.lifted c.args.condition n.kept.grown next.edge (start_at g at _ (Grown-trans k.grown e.runs.grown))
           (step_serves o.f o.c _ _ c.variables.lifted c.in-Inner.hi c.in-Inner.lo c.in-Inner.var root condition here e.runs.grown c.in_ok-lifted.lifted e.runs.answer
           c.args.condition c.args.level higher (start_at g at _ k.grown) (serves_at g at _ k.grown));
+      parts = PartsAbove-grown _ _ c.args.level o.c c.in_ok-lifted.lifted c.args.condition n.kept.grown (Is-grown Bdd e.runs.grown root.second) next.edge (start_at g at _ (Grown-trans k.grown e.runs.grown))
+          (step_parts o.f o.c _ _ c.variables.lifted c.in-Inner.hi c.in-Inner.lo c.in-Inner.var root condition here e.runs.grown c.in_ok-lifted.lifted e.runs.answer
+          c.args.condition c.args.level higher (start_at g at _ k.grown) (parts_at g at _ k.grown));
       stack = e.stack ∙ i.stack;
     }
 

@@ -2,7 +2,7 @@ use Rattle.std.proofs.Common.{◌≡◌}
 use Rattle.edge_bits.specs.declared.edges.Kind.TheVariants.{Bdd}
 use Rattle.node_store.specs.Views.{AreTwo, Opens, bdd_at}
 use Rattle.node_store.specs.Work.{Moves}
-use Rattle.quantify_ops.specs.Restricted.{IsCondition, ServesAbove, levels_from, work_of_restrict}
+use Rattle.quantify_ops.specs.Restricted.{IsCondition, PartsAbove, ServesAbove, levels_from, work_of_restrict}
 use Rattle.quantify_ops.proofs.restriction.Restriction.lift.Given as goal
 
 abbrev pub invariant-variables : goal.invariant-variables
@@ -13,6 +13,7 @@ invariant-variables g l =
       condition : IsCondition o.c now l.lifted;
       opens : Opens Bdd now l.lifted (bdd_at now l.lifted) l.top;
       serves : ServesAbove now l.level (bdd_at now l.lifted) (bdd_at now l.fn.condition);
+      parts : PartsAbove now l.level (bdd_at now o.c) (bdd_at now l.lifted) (bdd_at now l.fn.condition);
       stack : l.stack ≡ l.fn.stack;
     }
 
