@@ -1,5 +1,5 @@
 -- The calls of a session on BDDs are steps of each table with which it agrees.
-use Rattle.std.proofs.Common.{inr, ◌≡◌, ℕ, ◌+◌, ◌<◌, ◌≤◌, ◌^◌, Bool, true, false, ◌&&◌, ◌||◌, List, [], ◌∷◌, ◌++◌, length, Some, option_and_then, ◌↔◌, not, get_or, refl, sym, ap, ap₂, ◌∙◌, arith, subst, Result, Ok, Err, IfOk, IsErrOf, OnErr}
+use Rattle.std.proofs.Common.{inr, ◌≡◌, ℕ, ◌<◌, ◌≤◌, ◌^◌, Bool, true, false, ◌&&◌, ◌||◌, List, [], ◌∷◌, ◌++◌, length, Some, option_and_then, ◌↔◌, get_or, refl, sym, ap, ap₂, ◌∙◌, arith, subst, Result, Ok, Err, IfOk, IsErrOf, OnErr}
 use Rattle.std.specs.Prelude.{map, nat_lt, option_map, slice_get}
 use Rattle.std.specs.List.{All, list_all}
 use Rattle.std.proofs.lemmas.Bool.{lt-ltb}
@@ -17,7 +17,6 @@ use Rattle.function_laws.specs.Functions.{and_exists_of, cofactor_of, compose_of
 use Rattle.function_laws.specs.Restricting.{Restricts}
 use Rattle.function_laws.specs.Tables.{Table, Sizes, with_name}
 use Rattle.function_laws.specs.Steps.{are_distinct, bdds_of, makes, restricts, tells, outcome, IsAllowed, as_bdd, with_one, with_two, with_three, when}
-use Rattle.edge_bits.proofs.AssignmentLemmas.{bit-set_other}
 use Rattle.function_laws.proofs.ListLemmas.{length-list_of}
 use Rattle.function_laws.proofs.BridgeLemmas.{and_of-list_of, cofactor_of-list_of, ite_of-list_of, leq_of-list_of, not_of-list_of, place_two-list_of, support_of-list_of, xor_of-list_of}
 use Rattle.function_laws.proofs.BoundedRestriction.{Restricts-list_of}
@@ -26,10 +25,9 @@ use Rattle.function_laws.proofs.ExistsLemmas.{and_exists_of-list_of, exists_of-l
 use Rattle.function_laws.proofs.StepLemmas.{outcome-and, outcome-var}
 use Rattle.node_store.specs.declared.grow.Stop.{Stop}
 use Rattle.node_store.specs.declared.grow.Stop.TheVariants as stop
-use Rattle.function_laws.specs.Kinds.{flipped}
 use Rattle.edge_bits.specs.declared.lists.Memory.{Memory}
 use Rattle.node_slots.specs.Memo.{Implies}
-use Rattle.node_slots.specs.Views.{View, Denotes, Grown, Permanent, Rose, bdd_at}
+use Rattle.node_slots.specs.Views.{View, Grown, Rose, bdd_at}
 use Rattle.net_jobs.specs.Agreement.{Adds, Agrees, AreStored, Has, IsKept, IsLiveOf, IsStepOf, Refuses, Rows, edge_or, name_of, row_of, with_edge}
 use Rattle.quantify_ops.specs.Restricted.{Restricted}
 use Rattle.quantify_ops.specs.Substituted.{AreSubstituted, IsPair, function_with, functions_of, substituted_at}
