@@ -98,7 +98,7 @@ product-lasts p q a b c d e before after two is =
     Denotes-lasts Zdd after (ap₂ (product_at b) (values_at-grown Zdd before two.first) (values_at-grown Zdd before two.second) ∙ portion-grown a b before Whole (family_at a p) (family_at a q)) is
 
 pub product_work-back : (p q : Edge) (a w : View) (F : Denoted) → Grown a w → AreTwo Zdd a p q → product_work p q w F → product_work p q a F
-product_work-back p q a w F m d (r, is, one_or_two) = (r, is, elim one_or_two [ | inl one ↦ inl (parts_back r one) | inr two ↦ inr (both_back two) ])
+product_work-back p q a w F m d (r, is, one_or_two) = (r, is, elim one_or_two [ inl one ↦ inl (parts_back r one) | inr two ↦ inr (both_back two) ])
   where
     parts_back : (r : ℕ → Bool) → IsProductOfParts p q w r → IsProductOfParts p q a r
     parts_back r i = record {

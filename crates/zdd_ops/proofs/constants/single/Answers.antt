@@ -18,7 +18,7 @@ returns g c =
     let v = g.G.Grow.view c.args.store.now in let u = g.G.Grow.view c.levels-levels.new.self in let w = g.G.Grow.view c.make.new.self in
     let l = c.levels-levels.ensures in let e = c.make.ensures in let n = l.kept.grown.elements in
     let can : CanMake Zdd u (first_element + c.args.e) c.base_family.result c.empty_family.result =
-        Single-can u c.args.e c.base_family.result c.empty_family.result (record { few = c.requires.few; in_range = rw n c.requires.in_range }) l.permanent c.base_family.ensures c.empty_family.ensures in
+    Single-can u c.args.e c.base_family.result c.empty_family.result (record { few = c.requires.few; in_range = rw n c.requires.in_range }) l.permanent c.base_family.ensures c.empty_family.ensures in
     stored_calls Zdd (single c.args.e) v u w c.make.result l.kept l.room e.grown e.room e.made
     (Single-made v u w c.args.e c.base_family.result c.empty_family.result c.make.result l.kept l.permanent c.base_family.ensures c.empty_family.ensures (e.ok Zdd can))
     e.memory e.full (λ is. e.due is Zdd can ∙ ap (λ h. Some (ZddFamily h)) (Single-values u c.args.e c.base_family.result c.empty_family.result l.permanent c.base_family.ensures c.empty_family.ensures))

@@ -35,8 +35,11 @@ walk-smaller g c =
 pub walk-preserved-then-bits-var : goal.walk-preserved-then-bits-var
 walk-preserved-then-bits-var g c =
     let i = c.in-Inner.ensures.opens Zdd c.walk.invariant.walked.edge in
-    record { room = c.in-Inner.ensures.room ∙ c.walk.invariant.room; walked = Walked-then _ _ _ c.args.p c.walk.at c.args.bits.now c.walk.left c.walk.invariant.walked c.in-Inner.ensures.kept c.in-Inner.var c.in-Inner.hi c.in-Inner.lo i
-    (element-in _ _ _ c.args.p c.walk.at c.args.bits.now c.walk.left c.walk.invariant.walked c.in-Inner.ensures.kept c.in-Inner.var c.in-Inner.hi c.in-Inner.lo i c.requires.bits) c.if-bits-var.true }
+    record {
+      room = c.in-Inner.ensures.room ∙ c.walk.invariant.room;
+      walked = Walked-then _ _ _ c.args.p c.walk.at c.args.bits.now c.walk.left c.walk.invariant.walked c.in-Inner.ensures.kept c.in-Inner.var c.in-Inner.hi c.in-Inner.lo i
+          (element-in _ _ _ c.args.p c.walk.at c.args.bits.now c.walk.left c.walk.invariant.walked c.in-Inner.ensures.kept c.in-Inner.var c.in-Inner.hi c.in-Inner.lo i c.requires.bits) c.if-bits-var.true;
+    }
 
 pub walk-preserved : goal.walk-preserved
 walk-preserved g c =
