@@ -23,3 +23,6 @@ pub mod Steps
 pub mod Halt
 pub mod Operations
 pub mod Operands
+pub mod Contents
+pub mod Changes
+pub mod Sweeps

@@ -13,7 +13,9 @@ pub mod pointwise;
 pub mod remembering;
 pub mod scratch;
 pub mod stack;
+pub mod whole;
 
 pub use computed_cache::Key;
 pub use grow::{Grow, Opened, Stop};
 pub use stack::Stack;
+pub use whole::{Order, Whole};
