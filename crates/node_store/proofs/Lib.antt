@@ -10,3 +10,15 @@ pub mod ComplementWork
 pub mod ThreeParts
 pub mod ThreeWork
 pub mod Literals
+pub mod SlotLists
+pub mod Parting
+pub mod Ordering
+pub mod Standing
+pub mod SweptSize
+pub mod Rewriting
+pub mod Tops
+pub mod Widths
+pub mod Freeing
+pub mod Adding
+pub mod Exchange
+pub mod ExchangeSound
