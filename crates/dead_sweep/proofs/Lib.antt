@@ -1,0 +1,9 @@
+pub mod DoneSlots
+pub mod Ranks
+pub mod MarkedNodes
+pub mod Advancing
+pub mod Leaves
+pub mod LeafSteps
+pub mod FreedSlots
+pub mod FreedSteps
+pub mod SweepLemmas
