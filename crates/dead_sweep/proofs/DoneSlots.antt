@@ -7,16 +7,14 @@ use Rattle.edge_bits.specs.declared.words.Word.{Word}
 use Rattle.edge_bits.specs.declared.words.Word.TheVariants.{Inner}
 use Rattle.node_store.specs.Contents.{Content, IsPermanent}
 use Rattle.node_store.specs.Changes.{After, put_at, with_mark}
-use Rattle.node_store.specs.Sweeps.{IsReached, always, root, then_child, else_child}
+use Rattle.node_store.specs.Sweeps.{IsReached}
 use Rattle.node_store.proofs.Rewriting.{put_at-same, put_at-other}
 use Rattle.dead_sweep.specs.Marks.{rank_of, IsDone, Marked}
 
 -- more roots reach more
 pub IsReached-more : (w : Content) (p q : ℕ → Bool) → ((s : ℕ) → p s ≡ true → q s ≡ true) → (s : ℕ) → IsReached w p s → IsReached w q s
-IsReached-more w p q more s (always _ h) = always s h
-IsReached-more w p q more s (root _ u h) = root s u (more s h)
-IsReached-more w p q more _ (then_child s node r h) = then_child s node (IsReached-more w p q more s r) h
-IsReached-more w p q more _ (else_child s node r h) = else_child s node (IsReached-more w p q more s r) h
+IsReached-more w p q more s (from, inl permanent, arcs) = (from, inl permanent, arcs)
+IsReached-more w p q more s (from, inr (used, root), arcs) = (from, inr (used, more from root), arcs)
 
 pub put_true : (f : ℕ → Bool) (s t : ℕ) → f t ≡ true → put_at f s true t ≡ true
 put_true f s t h = elim (cases_eq t s) [

@@ -9,7 +9,8 @@ use Rattle.function_laws.specs.declared.orders.Order.{Order}
 use Rattle.function_laws.specs.declared.orders.Order.TheVariants.{Variables, Elements}
 use Rattle.node_store.specs.Contents.{Content, IsSound, IsPermanent}
 use Rattle.node_store.specs.Changes.{After, put_at, with_mark}
-use Rattle.node_store.specs.Sweeps.{IsReached, always, root}
+use Rattle.edge_bits.specs.Reading.{itself}
+use Rattle.node_store.specs.Sweeps.{IsReached}
 use Rattle.node_store.proofs.Rewriting.{put_at-same}
 use Rattle.function_laws.specs.Sizes.{Orders}
 use Rattle.dead_sweep.specs.Marks.{rank_of, rank_at, Marked, is_live_leaf}
@@ -92,8 +93,8 @@ module _ (others : (ℕ → ℕ) → (ℕ → ℕ) → Type 0) (none : (c : ℕ 
   leaf_marked v2 a2 live =
       let marks : v2.marked ≡ put_at v0.marked slot true = a2.marked ∙ ap (λ f. put_at f slot true) a1.marked in
       let reached : IsReached start new_roots slot = elim (or_cases (nat_lt 0 count) (nat_lt slot 5) live) [
-        | inl counted ↦ root slot (Leaf value, word) (put_at-same is_root slot (nat_lt 0 count) ∙ counted)
-        | inr low ↦ always slot (inl (ltb-true slot 5 low))
+        | inl counted ↦ (slot, inr ((Leaf value, word), put_at-same is_root slot (nat_lt 0 count) ∙ counted), itself)
+        | inr low ↦ (slot, inl (inl (ltb-true slot 5 low)), itself)
       ] in
       let own : v2.marked slot ≡ true = ap (λ (f : ℕ → Bool). f slot) marks ∙ put_at-same v0.marked slot true in
       one_more others both zero_stays start v0 is_root rank slot (Leaf value) word here m v1 v1 a1 refl1 count (v1.marked slot) count_is refl v2

@@ -14,7 +14,8 @@ use Rattle.function_laws.specs.Kinds.{BddFunction, ValueOf, function_of}
 use Rattle.node_store.specs.Views.{IsVariable}
 use Rattle.node_store.specs.Contents.{Content, IsSound, IsPermanent, projection_node, view_of}
 use Rattle.node_store.specs.Changes.{After, put_at, with_mark}
-use Rattle.node_store.specs.Sweeps.{IsReached, always, root, then_child, else_child}
+use Rattle.edge_bits.specs.Reading.{itself, then_child, else_child}
+use Rattle.node_store.specs.Sweeps.{IsReached}
 use Rattle.node_store.proofs.Rewriting.{put_at-same}
 use Rattle.dead_sweep.specs.Marks.{rank_of, IsDone, Marked, is_live, is_projection_of}
 use Rattle.dead_sweep.proofs.DoneSlots.{IsReached-more, put_true, put_back, same_after, one_more, more, not_done}
@@ -132,14 +133,14 @@ module _ (others : (ℕ → ℕ) → (ℕ → ℕ) → Type 0)
 
     slot_reached : is_live count marked hi lo ≡ true → IsReached start new_roots slot
     slot_reached live = elim (or_cases (nat_lt 0 count) (marked || is_projection_of hi lo) live) [
-      | inl counted ↦ root slot (Inner node, word) (put_at-same is_root slot (nat_lt 0 count) ∙ counted)
+      | inl counted ↦ (slot, inr ((Inner node, word), put_at-same is_root slot (nat_lt 0 count) ∙ counted), itself)
       | inr rest ↦ elim (or_cases marked (is_projection_of hi lo) rest) [
         | inl is_marked ↦ IsReached-more start is_root new_roots (more others both zero_stays start v0 is_root rank slot (Inner node) word here m v1 v2 a1 a2 count marked count_is marked_is) slot
             (m.reached slot (ap (λ (f : ℕ → Bool). f slot) (sym a1.marked) ∙ sym marked_is ∙ is_marked))
         | inr p ↦ (
             let q = projection_back hi lo p in
-            always slot (projection_is start sound slot node word (sym (ap (λ (e : Edge). e.index) hi_is) ∙ q.0) (sym (ap (λ (e : Edge). e.index) lo_is) ∙ q.1)
-            (sym (ap (λ (e : Edge). e.complement) lo_is) ∙ q.2)))
+            (slot, inl (projection_is start sound slot node word (sym (ap (λ (e : Edge). e.index) hi_is) ∙ q.0) (sym (ap (λ (e : Edge). e.index) lo_is) ∙ q.1)
+            (sym (ap (λ (e : Edge). e.complement) lo_is) ∙ q.2)), itself))
       ]
     ]
 
@@ -167,8 +168,8 @@ module _ (others : (ℕ → ℕ) → (ℕ → ℕ) → Type 0)
         (λ s h. elim (mark_from s h) [
           | inr h ↦ inl h
           | inl (inl e) ↦ inr (subst (IsReached start new_roots) (sym e) (slot_reached live))
-          | inl (inr (inl e)) ↦ inr (subst (IsReached start new_roots) (sym e) (then_child slot node (slot_reached live) word))
-          | inl (inr (inr e)) ↦ inr (subst (IsReached start new_roots) (sym e) (else_child slot node (slot_reached live) word))
+          | inl (inr (inl e)) ↦ inr (subst (IsReached start new_roots) (sym e) (let r = slot_reached live in (r.0, r.1, then_child slot node r.2 word)))
+          | inl (inr (inr e)) ↦ inr (subst (IsReached start new_roots) (sym e) (let r = slot_reached live in (r.0, r.1, else_child slot node r.2 word)))
         ])
         (λ other e _. let c : Inner node ≡ Inner other = e in subst (λ n. (v5.marked n.hi ≡ true) × (v5.marked n.lo.index ≡ true)) (same_node node other c) (high, low))
         (λ _. own)

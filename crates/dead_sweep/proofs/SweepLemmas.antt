@@ -6,7 +6,8 @@ use Rattle.edge_bits.specs.declared.words.Word.TheVariants.{Inner, Leaf}
 use Rattle.function_laws.specs.Kinds.{Denoted}
 use Rattle.node_store.specs.Contents.{Content, IsSound, IsUsed, IsPermanent, used_slots, is_used}
 use Rattle.node_store.specs.Changes.{After, next_generation}
-use Rattle.node_store.specs.Sweeps.{IsReached, always, root, then_child, else_child, functions_of, value_list, root_functions, full_size}
+use Rattle.edge_bits.specs.Reading.{IsReached as LeadsTo, itself, then_child, else_child}
+use Rattle.node_store.specs.Sweeps.{IsStart, IsReached, functions_of, value_list, root_functions, full_size}
 use Rattle.dead_sweep.specs.declared.sweeping.Swept.{Swept}
 use Rattle.dead_sweep.specs.Swept.{IsSwept}
 use Rattle.node_store.proofs.SweptSize.{swept_size}
@@ -17,14 +18,17 @@ use Rattle.dead_sweep.proofs.Ranks.{children_used}
 
 -- what is reached hangs on words and orders alone, and on the words of what is reached
 reached_same : (v w : Content) (is_root : ℕ → Bool) → w.orders ≡ v.orders → ((s : ℕ) → IsReached v is_root s → w.word s ≡ v.word s) → (s : ℕ) → IsReached v is_root s → IsReached w is_root s
-reached_same v w is_root eo kept s r = go s r
+reached_same v w is_root eo kept s (from, start, arcs) = (from, start_same start, arcs_same s arcs)
   where
-    go : (s : ℕ) → IsReached v is_root s → IsReached w is_root s
-    go s (always _ (inl lt)) = always s (inl lt)
-    go s (always _ (inr (x, lt, h))) = always s (inr (x, subst (λ o. x < length o.variables) (sym eo) lt, kept s (always s (inr (x, lt, h))) ∙ h))
-    go s (root _ u h) = root s (u.0, kept s (root s u h) ∙ u.1) h
-    go _ (then_child s node r h) = then_child s node (go s r) (kept s r ∙ h)
-    go _ (else_child s node r h) = else_child s node (go s r) (kept s r ∙ h)
+    start_same : IsStart v is_root from → IsStart w is_root from
+    start_same (inl (inl lt)) = inl (inl lt)
+    start_same (inl (inr (x, lt, h))) = inl (inr (x, subst (λ o. x < length o.variables) (sym eo) lt, kept from (from, start, itself) ∙ h))
+    start_same (inr (u, h)) = inr ((u.0, kept from (from, start, itself) ∙ u.1), h)
+
+    arcs_same : (s : ℕ) → LeadsTo v.word from s → LeadsTo w.word from s
+    arcs_same _ itself = itself
+    arcs_same _ (then_child s node r h) = then_child s node (arcs_same s r) (kept s (from, start, r) ∙ h)
+    arcs_same _ (else_child s node r h) = else_child s node (arcs_same s r) (kept s (from, start, r) ∙ h)
 
 functions_same : (f g : ℕ → Option Denoted) (ss : List ℕ) → ((s : ℕ) → f s ≡ g s) → functions_of f ss ≡ functions_of g ss
 unfolding functions_of
@@ -128,14 +132,20 @@ module _ (others : (ℕ → ℕ) → (ℕ → ℕ) → Type 0) (none : (c : ℕ 
 
   -- what is reached is marked
   marked_reached : (s : ℕ) → IsReached v1 is_root s → v3.marked s ≡ true
-  marked_reached s (always _ p) = let u = permanent_used s p in m.permanent s u.0 u.1 (done s u.0 u.1) p
+  marked_reached s (from, start, arcs) = by_arcs s arcs
     where
       permanent_used : (s : ℕ) → IsPermanent v1 s → IsUsed v1 s
       permanent_used s (inl lt) = (Leaf _, sound.constants s lt)
       permanent_used s (inr (x, lt, h)) = (Inner _, h)
-  marked_reached s (root _ u h) = m.roots s u.0 u.1 (done s u.0 u.1) h
-  marked_reached _ (then_child s node r h) = (m.closed s node h (done s (Inner node) h) (marked_reached s r)).0
-  marked_reached _ (else_child s node r h) = (m.closed s node h (done s (Inner node) h) (marked_reached s r)).1
+
+      marked_start : (s : ℕ) → IsStart v1 is_root s → v3.marked s ≡ true
+      marked_start s (inl p) = let u = permanent_used s p in m.permanent s u.0 u.1 (done s u.0 u.1) p
+      marked_start s (inr (u, h)) = m.roots s u.0 u.1 (done s u.0 u.1) h
+
+      by_arcs : (s : ℕ) → LeadsTo v1.word from s → v3.marked s ≡ true
+      by_arcs _ itself = marked_start from start
+      by_arcs _ (then_child s node r h) = (m.closed s node h (done s (Inner node) h) (by_arcs s r)).0
+      by_arcs _ (else_child s node r h) = (m.closed s node h (done s (Inner node) h) (by_arcs s r)).1
 
 module _ (others : (ℕ → ℕ) → (ℕ → ℕ) → Type 0) (none : (c : ℕ → ℕ) → others c c)
     (both : (a b c : ℕ → ℕ) → others a b → others b c → others a c)
@@ -176,11 +186,11 @@ module _ (others : (ℕ → ℕ) → (ℕ → ℕ) → Type 0) (none : (c : ℕ 
   orders60 = a6.orders ∙ b5.orders ∙ f.orders ∙ m.same.orders ∙ a1.orders
 
   reached_used : (s : ℕ) → IsReached v1 is_root s → IsUsed v1 s
-  reached_used s (always _ (inl lt)) = (Leaf _, a1.sound.constants s lt)
-  reached_used s (always _ (inr (x, lt, h))) = (Inner _, h)
-  reached_used s (root _ u h) = u
-  reached_used _ (then_child s node r h) = (children_used v1 a1.sound settled1 s node h).0
-  reached_used _ (else_child s node r h) = (children_used v1 a1.sound settled1 s node h).1
+  reached_used _ (from, inl (inl lt), itself) = (Leaf _, a1.sound.constants from lt)
+  reached_used _ (from, inl (inr (x, lt, h)), itself) = (Inner _, h)
+  reached_used _ (from, inr (u, h), itself) = u
+  reached_used _ (from, start, then_child s node r h) = (children_used v1 a1.sound settled1 s node h).0
+  reached_used _ (from, start, else_child s node r h) = (children_used v1 a1.sound settled1 s node h).1
 
   forth : (s : ℕ) → IsReached v0 is_root s → IsReached v1 is_root s
   forth s r = reached_same v0 v1 is_root a1.orders (λ t _. ap (λ (x : ℕ → Option Word). x t) a1.word) s r
@@ -291,7 +301,7 @@ module _ (others : (ℕ → ℕ) → (ℕ → ℕ) → Type 0) (none : (c : ℕ 
       by_word : (o : Option Word) → v0.word s ≡ o → v6.function s ≡ v0.function s
       by_word None e = no_function v6 a6.sound (stays_free s e).0 (v6.function s) refl
           ∙ sym (no_function v1 a1.sound (ap (λ (x : ℕ → Option Word). x s) a1.word ∙ e) (v1.function s) refl) ∙ ap (λ x. x s) a1.function
-      by_word (Some y) e = (kept_reached s (root s (y, e) h)).1
+      by_word (Some y) e = (kept_reached s (s, inr ((y, e), h), itself)).1
 
   pub swept : (swept : Swept) → swept.in_use ≡ used_slots v4 → swept.freed + used_slots v4 ≡ used_slots v1 → IsSwept others v0 v6 swept
   swept numbers in_use freed = record {

@@ -1,5 +1,5 @@
 -- A new node in a free slot leaves a sound store, in the middle of a swap too. Its then child is not complemented.
-use Rattle.std.proofs.Common.{◌≡◌, ◌≢◌, ℕ, ◌<◌, ◌⊎◌, inl, inr, Bool, true, false, not, cond, length, Some, None, refl, sym, ap, ◌∙◌, subst, arith}
+use Rattle.std.proofs.Common.{◌≡◌, ◌≢◌, ℕ, ◌<◌, ◌⊎◌, inl, inr, Bool, true, false, cond, length, Some, None, refl, sym, ap, ◌∙◌, subst, arith}
 use Rattle.std.proofs.lemmas.Bool.{cases_eq}
 use Rattle.edge_bits.specs.Assignments.{bit}
 use Rattle.edge_bits.specs.declared.edges.Edge.{Edge}

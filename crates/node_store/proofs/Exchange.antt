@@ -1,4 +1,4 @@
--- Two neighbours of an order exchanged leave an order, and a sound store where no upper node depends on the lower variable.
+-- Two neighbours of an order exchanged leave an order.
 use Rattle.std.proofs.Common.{◌≡◌, ◌≢◌, ℕ, zero, suc, ◌+◌, ◌<◌, inl, inr, Bool, true, false, cond, List, [], ◌∷◌, length, eqb, eqb-true, eq-eqb, refl, sym, ap, ◌∙◌, subst, arith}
 use Rattle.std.specs.Prelude.{slice_index, ◌==◌}
 use Rattle.std.specs.List.{swap}
@@ -6,7 +6,6 @@ use Rattle.std.proofs.lemmas.Bool.{cases_eq}
 use Rattle.std.proofs.lemmas.List.Edits.{swapped_from_swap, length-swap}
 use Rattle.function_laws.specs.SiftedOrders.{place_of}
 use Rattle.node_store.specs.Contents.{IsOrder}
-use Rattle.node_store.specs.Changes.{exchanged}
 
 place_once : (xs : List ℕ) (i : ℕ) → i < length xs → ((j : ℕ) → j < i → slice_index xs j ≡ slice_index xs i → ⊥) → place_of (slice_index xs i) xs ≡ i
 place_once [] i lt first = absurd (omega arith)

@@ -108,7 +108,7 @@ module _ (w : Content) (sound : IsSound w) (which : Order) (l : ℕ) (can : CanE
   half_is : (u z : ℕ) → IsHalf w u z → (u ≡ var_at w which l) × (z ≡ var_at w which (l + 1))
   unfolding upper_of lower_of
   half_is u z h = elim can.half [
-    | inl none ↦ (let c : None ≡ Some (record { upper = u; lower = z }) = sym none ∙ h in cc)
+    | inl none ↦ (let c : ◌≡◌ {A = Option Pair} None (Some (record { upper = u; lower = z })) = sym none ∙ h in cc)
     | inr same ↦ (ap upper_of (sym h ∙ same), ap lower_of (sym h ∙ same))
   ]
 

@@ -1,4 +1,4 @@
--- A function's variable and parts are told by the function, whatever its kind (as in node_slots).
+-- A function's variable and parts are told by the function, whatever its kind.
 use Rattle.std.proofs.Common.{◌≡◌, ◌≢◌, ℕ, ◌<◌, inl, inr, Bool, true, false, not, ◌&&◌, Some, refl, ap, sym, ◌∙◌, subst, arith}
 use Rattle.std.proofs.lemmas.Bool.{cases_lt}
 use Rattle.edge_bits.specs.declared.edges.Kind.{Kind}

@@ -153,11 +153,11 @@ module _ (w : Content) (sound : IsSound w) (k : Kind) (s v : ℕ) (hi lo : Edge)
   half_before : (u x : ℕ) → IsHalf w u x → IsHalf new u x
   half_before u x h = elim can.half [
     | inl (next, state) ↦ elim state [
-      | inl none ↦ (let c : None ≡ Some (record { upper = u; lower = x }) = sym none ∙ h in cc)
+      | inl none ↦ (let c : ◌≡◌ {A = Option Pair} None (Some (record { upper = u; lower = x })) = sym none ∙ h in cc)
       | inr same ↦ half_pair ∙ ap Some (pair_down w can.node.var v next) ∙ sym same ∙ h
     ]
     | inr (next, state) ↦ elim state [
-      | inl none ↦ (let c : None ≡ Some (record { upper = u; lower = x }) = sym none ∙ h in cc)
+      | inl none ↦ (let c : ◌≡◌ {A = Option Pair} None (Some (record { upper = u; lower = x })) = sym none ∙ h in cc)
       | inr same ↦ half_pair ∙ ap Some (pair_up w can.node.var v next) ∙ sym same ∙ h
     ]
   ]
@@ -179,7 +179,7 @@ module _ (w : Content) (sound : IsSound w) (k : Kind) (s v : ℕ) (hi lo : Edge)
       older less state = elim (sound.ordered s can.node j f can.was is u hu less) [
         | inl lacks ↦ inl lacks
         | inr h ↦ elim state [
-          | inl none ↦ (let c : None ≡ Some (record { upper = u; lower = can.node.var }) = sym none ∙ h in cc)
+          | inl none ↦ (let c : ◌≡◌ {A = Option Pair} None (Some (record { upper = u; lower = can.node.var })) = sym none ∙ h in cc)
           | inr same ↦ (
               let c : ◌≡◌ {A = Option Pair} (Some (record { upper = can.node.var; lower = v })) (Some (record { upper = u; lower = can.node.var })) = sym same ∙ h in
               let e : can.node.var ≡ u = same_upper (record { upper = can.node.var; lower = v }) (record { upper = u; lower = can.node.var }) c in
@@ -191,7 +191,7 @@ module _ (w : Content) (sound : IsSound w) (k : Kind) (s v : ℕ) (hi lo : Edge)
       above less next state = elim (sound.ordered s can.node j f can.was is u hu less) [
         | inl lacks ↦ inl lacks
         | inr h ↦ elim state [
-          | inl none ↦ (let c : None ≡ Some (record { upper = u; lower = can.node.var }) = sym none ∙ h in cc)
+          | inl none ↦ (let c : ◌≡◌ {A = Option Pair} None (Some (record { upper = u; lower = can.node.var })) = sym none ∙ h in cc)
           | inr same ↦ (
               let c : ◌≡◌ {A = Option Pair} (Some (record { upper = v; lower = can.node.var })) (Some (record { upper = u; lower = can.node.var })) = sym same ∙ h in
               let e : v ≡ u = same_upper (record { upper = v; lower = can.node.var }) (record { upper = u; lower = can.node.var }) c in

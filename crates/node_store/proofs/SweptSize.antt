@@ -16,14 +16,15 @@ use Rattle.function_laws.specs.Values.{constant, projection, negation}
 use Rattle.function_laws.specs.Families.{empty, base, IsWithout}
 use Rattle.function_laws.proofs.ValueLemmas.{everywhere}
 use Rattle.function_laws.specs.Kinds.{Denoted, BddFunction, AddFunction, ZddFamily, ValueOf, function_of, joined_at, flipped, opposite}
-use Rattle.function_laws.specs.Sizes.{Orders, order_of, part_of, parts, all_parts, is_one, size, permanent}
+use Rattle.function_laws.specs.Sizes.{Orders, order_of, part_of, parts, all_parts, is_one, permanent}
 use Rattle.function_laws.specs.SiftedOrders.{place_of}
 use Rattle.function_laws.proofs.DistinctLemmas.{In, In-left, In-right, In-append, counted}
 use Rattle.function_laws.proofs.PartLaws.{whole_part}
 use Rattle.function_laws.proofs.OneFunctions.{is_one-refl, is_one-sym, is_one-trans, is_one-opposite}
 use Rattle.function_laws.proofs.LackingParts.{Free, part-opposite, opposite-opposite, Free-opposite, Free-part, Free-more, part_of_free, then_part_free, order_of-part, order_of-parts, part_there}
 use Rattle.node_store.specs.Contents.{Content, IsSound, IsUsed, IsPermanent, IsOrder, projection_node, used_slots}
-use Rattle.node_store.specs.Sweeps.{IsReached, always, root, then_child, else_child, functions_of, root_functions, full_size}
+use Rattle.edge_bits.specs.Reading.{IsReached as LeadsTo, itself, then_child, else_child}
+use Rattle.node_store.specs.Sweeps.{IsStart, IsReached, functions_of, root_functions, full_size}
 use Rattle.node_store.proofs.SlotLists.{In-functions, functions-In, In-range, range-In, slots_apart, slots_counted}
 use Rattle.node_store.proofs.Ordering.{above_from}
 use Rattle.node_store.proofs.Standing.{UpTo, Stands, stands}
@@ -196,17 +197,23 @@ module _ (w : Content) (sound : IsSound w) (settled : w.half ≡ None) where
         let same : Some (BddFunction (projection v)) ≡ Some f = sym (projection_denotes s v word) ∙ e in
         has_permanent f (subst (λ x. In x (permanent (length w.orders.variables))) (injective (BddFunction (projection v)) f same) (projection_in (length w.orders.variables) v lt))
 
+    start_shown : (s : ℕ) → IsStart w is_root s → (f : Denoted) → w.function s ≡ Some f → Shown fs f
+    start_shown s (inl p) f e = shown_root fs f (permanent_in s f p e)
+    start_shown s (inr (u, r)) f e = shown_root fs f (has_roots s f r e)
+
+    leads_shown : (from : ℕ) → IsStart w is_root from → (s : ℕ) → LeadsTo w.word from s → (f : Denoted) → w.function s ≡ Some f → Shown fs f
+    leads_shown from start _ itself f e = start_shown from start f e
+    leads_shown from start _ (then_child s node r word) f e =
+        let d = sound.denotes s (Inner node, word) in
+        let st = stands w sound settled s node d.0 word d.1 in
+        shown_up_to fs (part_of d.0 st.var true) f node.hi (shown_part fs node d.0 true st (leads_shown from start s r d.0 d.1)) (inl st.then_is) e
+    leads_shown from start _ (else_child s node r word) f e =
+        let d = sound.denotes s (Inner node, word) in
+        let st = stands w sound settled s node d.0 word d.1 in
+        shown_up_to fs (part_of d.0 st.var false) f node.lo.index (shown_part fs node d.0 false st (leads_shown from start s r d.0 d.1)) st.else_is e
+
     reached_shown : (s : ℕ) → IsReached w is_root s → (f : Denoted) → w.function s ≡ Some f → Shown fs f
-    reached_shown s (always _ p) f e = shown_root fs f (permanent_in s f p e)
-    reached_shown s (root _ u r) f e = shown_root fs f (has_roots s f r e)
-    reached_shown _ (then_child s node r word) f e =
-        let d = sound.denotes s (Inner node, word) in
-        let st = stands w sound settled s node d.0 word d.1 in
-        shown_up_to fs (part_of d.0 st.var true) f node.hi (shown_part fs node d.0 true st (reached_shown s r d.0 d.1)) (inl st.then_is) e
-    reached_shown _ (else_child s node r word) f e =
-        let d = sound.denotes s (Inner node, word) in
-        let st = stands w sound settled s node d.0 word d.1 in
-        shown_up_to fs (part_of d.0 st.var false) f node.lo.index (shown_part fs node d.0 false st (reached_shown s r d.0 d.1)) st.else_is e
+    reached_shown s (from, start, arcs) f e = leads_shown from start s arcs f e
 
   -- some slot denotes the function or its opposite
   abbrev pub Known : Denoted → Type 0

@@ -12,7 +12,7 @@ use Rattle.function_laws.specs.declared.orders.Order.TheVariants.{Variables, Ele
 use Rattle.function_laws.specs.Sizes.{order_of, in_order, all_parts, is_one, distinct, topmost, is_variable, depends_on, width}
 use Rattle.function_laws.proofs.DistinctLemmas.{In, Apart, as_long, In-distinct, Apart-distinct, Matched-distinct}
 use Rattle.function_laws.proofs.OneFunctions.{is_one-refl, is_one-sym, is_one-trans}
-use Rattle.function_laws.proofs.LackingParts.{Free, own}
+use Rattle.function_laws.proofs.LackingParts.{Free}
 use Rattle.node_store.specs.Contents.{Content, IsSound, IsUsed, number_of, nodes_of, is_node_of}
 use Rattle.node_store.specs.Sweeps.{IsReached, functions_of}
 use Rattle.node_store.proofs.SlotLists.{In-functions, functions-In, In-range, within_orders, slot_once, apart_with}

@@ -1,7 +1,6 @@
 -- What a call on a whole store does to it.
 use Rattle.std.specs.Prelude.{◌≡◌, ◌≢◌, ℕ, suc, ◌+◌, ◌%◌, ◌^◌, ◌<◌, ◌≤◌, ◌==◌, Bool, true, false, ◌⊎◌, if◌then◌else◌, length, Option, Some, None, MatchOption}
 use Rattle.std.specs.List.{swap}
-use Rattle.edge_bits.specs.Reading.{plain}
 use Rattle.edge_bits.specs.declared.edges.Edge.{Edge}
 use Rattle.edge_bits.specs.declared.edges.Kind.{Kind}
 use Rattle.edge_bits.specs.declared.words.Node.{Node}

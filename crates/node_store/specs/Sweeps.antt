@@ -1,18 +1,17 @@
 -- What a sweep keeps, and how many slots that is.
-use Rattle.std.specs.Prelude.{◌≡◌, ℕ, Bool, true, List, [], ◌∷◌, ◌++◌, length, Option, Some, None}
+use Rattle.std.specs.Prelude.{◌≡◌, ◌⊎◌, ℕ, Bool, true, List, [], ◌∷◌, ◌++◌, length, Option, Some, None}
 use Rattle.std.specs.List.{filter, range_with_len}
-use Rattle.edge_bits.specs.declared.words.Node.{Node}
-use Rattle.edge_bits.specs.declared.words.Word.TheVariants.{Inner}
+use Rattle.edge_bits.specs.Reading.{IsReached as LeadsTo}
 use Rattle.function_laws.specs.Kinds.{Denoted}
 use Rattle.function_laws.specs.Sizes.{Orders, size, permanent}
 use Rattle.node_store.specs.Contents.{Content, IsUsed, IsPermanent}
 
 -- arcs lead to the slot from a permanent one or a root
-pub data IsReached (w : Content) (is_root : ℕ → Bool) : ℕ → Type 0 where
-  always : (s : ℕ) → IsPermanent w s → IsReached w is_root s
-  root : (s : ℕ) → IsUsed w s → is_root s ≡ true → IsReached w is_root s
-  then_child : (s : ℕ) (node : Node) → IsReached w is_root s → w.word s ≡ Some (Inner node) → IsReached w is_root node.hi
-  else_child : (s : ℕ) (node : Node) → IsReached w is_root s → w.word s ≡ Some (Inner node) → IsReached w is_root node.lo.index
+abbrev pub IsStart : Content → (ℕ → Bool) → ℕ → Type 0
+IsStart w is_root s = IsPermanent w s ⊎ (IsUsed w s × (is_root s ≡ true))
+
+abbrev pub IsReached : Content → (ℕ → Bool) → ℕ → Type 0
+IsReached w is_root s = (from : ℕ) × IsStart w is_root from × LeadsTo w.word from s
 
 -- the functions of some slots, by rising slot
 abbrev pub value_list : Option Denoted → List Denoted
