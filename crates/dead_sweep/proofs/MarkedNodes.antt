@@ -138,9 +138,12 @@ module _ (others : (ℕ → ℕ) → (ℕ → ℕ) → Type 0)
         | inl is_marked ↦ IsReached-more start is_root new_roots (more others both zero_stays start v0 is_root rank slot (Inner node) word here m v1 v2 a1 a2 count marked count_is marked_is) slot
             (m.reached slot (ap (λ (f : ℕ → Bool). f slot) (sym a1.marked) ∙ sym marked_is ∙ is_marked))
         | inr p ↦ (
-            let q = projection_back hi lo p in
-            (slot, inl (projection_is start sound slot node word (sym (ap (λ (e : Edge). e.index) hi_is) ∙ q.0) (sym (ap (λ (e : Edge). e.index) lo_is) ∙ q.1)
-            (sym (ap (λ (e : Edge). e.complement) lo_is) ∙ q.2)), itself))
+            let q = projection_back hi lo p in (
+              slot,
+              inl (projection_is start sound slot node word (sym (ap (λ (e : Edge). e.index) hi_is) ∙ q.0) (sym (ap (λ (e : Edge). e.index) lo_is) ∙ q.1)
+                  (sym (ap (λ (e : Edge). e.complement) lo_is) ∙ q.2)),
+              itself,
+            ))
       ]
     ]
 
