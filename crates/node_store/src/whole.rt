@@ -58,7 +58,7 @@ pub trait Whole {
 
     /// How many hold a slot: rows and cells, and one if it is pinned.
     fn count_of(&mut self, slot: u32) -> u32
-        requires { IsUsed (view self.old) slot }
+        requires { slot < (view self.old).limit }
         ensures after { After others (view self.old) (view self.new) }
         ensures count { result ≡ (view self.new).count slot + (if (view self.new).pinned slot then 1 else 0) };
 

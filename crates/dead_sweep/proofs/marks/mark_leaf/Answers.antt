@@ -3,6 +3,9 @@ use Rattle.node_store.specs.Changes.{put_at}
 use Rattle.dead_sweep.proofs.Leaves.{leaf_skipped, leaf_marked}
 use Rattle.dead_sweep.proofs.marks.mark_leaf.Goals as goal
 
+pub count_of-count-requires : goal.count_of-count-requires
+count_of-count-requires g c = c.requires.sound.within c.args.slot c.requires.used
+
 pub mark-requires : goal.mark-requires
 mark-requires g c = subst (λ x. c.args.slot < x) (sym c.count_of-count.ensures.after.limit) (c.requires.sound.within c.args.slot c.requires.used)
 

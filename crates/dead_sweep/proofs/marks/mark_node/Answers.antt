@@ -4,6 +4,9 @@ use Rattle.dead_sweep.proofs.DoneSlots.{three_marks}
 use Rattle.dead_sweep.proofs.MarkedNodes.{skipped, marked_more}
 use Rattle.dead_sweep.proofs.marks.mark_node.Goals as goal
 
+pub count_of-count-requires : goal.count_of-count-requires
+count_of-count-requires g c = c.requires.sound.within c.args.slot c.requires.slot
+
 pub is_marked-marked-requires : goal.is_marked-marked-requires
 is_marked-marked-requires g c =
     subst (λ x. c.args.slot < x) (sym c.count_of-count.ensures.after.limit) (c.requires.sound.within c.args.slot c.requires.slot)
