@@ -4,9 +4,9 @@ use crate::grow::Opened;
 pub use edge_bits::Edge;
 pub use function_laws::Order;
 
-/// A store of decision diagrams in the hands of one holder: nobody else makes, changes or frees a node. Others may change counts between its calls, but a count that was 0 stays 0.
+/// A store of decision diagrams in the hands of one holder, who sweeps it (Brace, Rudell and Bryant 1990) and reorders it (Rudell 1993): nobody else makes, changes or frees a node. Others may change counts between its calls, but a count that was 0 stays 0.
 ///
-/// A variable is named by its number, element e by 16,384 + e.
+/// A variable is named by its number, element e by 16,384 + e. Slots are below 8,388,607, and an order has at most 16,384 levels, the first at the top. No call takes memory or refuses anything.
 pub trait Whole {
     ghost use Rattle.std.specs.Prelude.{◌≡◌, ℕ, ◌+◌, ◌<◌, length, if◌then◌else◌, true, false, Some, None};
     ghost use Rattle.edge_bits.specs.declared.edges.Kind.{Kind};
@@ -39,13 +39,13 @@ pub trait Whole {
         ensures after { After others (view self.old) (view self.new) }
         ensures nodes { result ≡ nodes_of (view self.old) (number_at (view self.old) order level) };
 
-    /// The least slot from this one on with a node of a level.
+    /// The least slot from this one on with a node of a level, or none. A loop that asks from 0 on, and then from behind each answer, should take time in proportion to the level's nodes while a sweep is on.
     fn next_of(&mut self, order: Order, level: u32, from: u32) -> Option<u32>
         requires { level < length (in_order (view self.old).orders order) }
         ensures after { After others (view self.old) (view self.new) }
         ensures next { IsLeastFrom (view self.old) (λ s. is_node_of (number_at (view self.old) order level) ((view self.old).word s) ≡ true) from result };
 
-    /// The least slot from this one on with a leaf.
+    /// The least slot from this one on with a leaf, or none.
     fn next_leaf(&mut self, from: u32) -> Option<u32>
         ensures after { After others (view self.old) (view self.new) }
         ensures next { IsLeastFrom (view self.old) (λ s. is_leaf ((view self.old).word s) ≡ true) from result };
@@ -56,7 +56,7 @@ pub trait Whole {
         ensures after { After others (view self.old) (view self.new) }
         ensures opens { (word : Word) → (view self.old).word edge.index ≡ Some word → result ≡ opened_of word edge.complement };
 
-    /// How many hold a slot: rows and cells, and one if it is pinned.
+    /// How many hold a slot: rows and cells, and one more if it is pinned. Nothing holds a free slot.
     fn count_of(&mut self, slot: u32) -> u32
         requires { slot < (view self.old).limit }
         ensures after { After others (view self.old) (view self.new) }
@@ -77,33 +77,33 @@ pub trait Whole {
         ensures after { After others (view self.old) (view self.new) }
         ensures limit { result ≡ (view self.old).limit };
 
-    /// Puts another node of the same function into a slot.
+    /// Puts another node of the same function into a slot, a step of a swap. The slot holds a node that is not permanent, of a variable next to this one in the order, and no swap but that of these two is half made. The children are in use and of the slot's kind, do not depend on the variable, and are not such that the node is one of them; the then child is not complemented.
     fn rewrite(&mut self, slot: u32, var: u32, hi: Edge, lo: Edge)
         requires { (k : Kind) × CanRewrite k (view self.old) slot var hi lo }
         ensures { After others (rewritten (view self.old) slot var hi lo) (view self.new) };
 
-    /// The edge of a node, which is stored if it is not there.
+    /// The edge of a node, which is stored if it is not there. A slot is free, or some edge denotes the node. The children denote functions below the variable, and no slot of another variable denotes the node's function, or its complement.
     fn add(&mut self, var: u32, hi: Edge, lo: Edge) -> Edge
         requires { (k : Kind) × CanAdd k (view self.old) var hi lo × HasRoomFor k (view self.old) var hi lo }
         ensures { (k : Kind) → CanAdd k (view self.old) var hi lo → Added others k (view self.old) (view self.new) var hi lo result };
 
-    /// Begins a sweep. No slot is marked then.
+    /// Begins a sweep, where none is on and no swap is half made. No slot is marked then.
     fn sweep_in(&mut self)
         requires idle { (view self.old).sweeping ≡ false }
         requires whole { (view self.old).half ≡ None }
         ensures { After others (record (view self.old) { sweeping = true; marked = λ s. false }) (view self.new) };
 
-    /// Ends a sweep.
+    /// Ends the sweep that is on.
     fn sweep_out(&mut self)
         requires { (view self.old).sweeping ≡ true }
         ensures { After others (record (view self.old) { sweeping = false }) (view self.new) };
 
-    /// Frees a slot.
+    /// Frees a slot, and its next generation begins, modulo 2^32. A sweep is on. The slot is in use and not permanent, nothing holds it, and no node names it.
     fn free(&mut self, slot: u32)
         requires { CanFree (view self.old) slot }
         ensures { After others (without (view self.old) slot) (view self.new) };
 
-    /// Exchanges the variables of a level and the next.
+    /// Exchanges the variables of a level and the next, the end of a swap. No function of a node of the upper one depends on the lower one, and no other swap is half made.
     fn exchange(&mut self, order: Order, level: u32)
         requires { CanExchange (view self.old) order level }
         ensures { After others (record (view self.old) { orders = exchanged (view self.old).orders order level; half = None }) (view self.new) };
@@ -124,7 +124,7 @@ pub trait Whole {
         ensures after { After others (view self.old) (view self.new) }
         ensures marked { result ≡ (view self.old).marked slot };
 
-    /// Holds a slot as a handle does.
+    /// Holds a slot in use, which is not pinned, as a handle does.
     fn pin(&mut self, slot: u32)
         requires used { IsUsed (view self.old) slot }
         requires unpinned { (view self.old).pinned slot ≡ false }
