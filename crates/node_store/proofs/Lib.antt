@@ -22,3 +22,4 @@ pub mod Freeing
 pub mod Adding
 pub mod Exchange
 pub mod ExchangeSound
+pub mod Marking
