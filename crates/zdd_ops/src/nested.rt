@@ -9,7 +9,7 @@ ghost use Rattle.node_store.specs.Two.{value_of_two};
 ghost use Rattle.zdd_ops.specs.Products.{product_at, product_work};
 ghost use Rattle.zdd_ops.specs.Quotients.{quotient_at, quotient_work};
 
-use crate::products::{Multiplication, Portion, portion_task};
+use crate::products::Multiplication;
 use crate::quotients::Division;
 use crate::sets::{Meeting, Removing, Uniting};
 use edge_bits::Edge;
@@ -52,20 +52,16 @@ pub fn diff<G: Grow>(store: &mut G, stack: &mut Stack, p: Edge, q: Edge) -> Resu
     without_overflow(place_by_place(store, stack, Removing, p, q))
 }
 
-/// The unions of a member of the one family and one of the other. It asks for four times as many free frames as there are elements: three for the parts of a product at an element, and one for a union within.
+/// The unions of a member of the one family and one of the other. It asks for twice as many free frames as there are elements: one for the parts of a product at an element, and one for a union within.
 pub fn product<G: Grow>(store: &mut G, stack: &mut Stack, p: Edge, q: Edge) -> Result<Edge, Stop>
     requires operands { AreTwo Zdd (G.view store.old) p q }
     requires permanent { Permanent (G.view store.old) }
-    requires room { 4 * (G.view store.old).elements ≤ stack.old.free }
+    requires room { 2 * (G.view store.old).elements ≤ stack.old.free }
     ensures runs { Runs Zdd (product_at (G.view store.old) (family_at (G.view store.old) p) (family_at (G.view store.old) q)) (product_work p q (G.view store.old)) (G.view store.old) (G.view store.new) (halts result) }
     ensures stack { stack.new ≡ stack.old }
 {
-    without_overflow(evaluate(
-        store,
-        stack,
-        &Binary(Multiplication { p, q }),
-        portion_task(p, q, Portion::Whole),
-    ))
+    let op = Multiplication { p, q };
+    without_overflow(evaluate(store, stack, &op, Task::two(p, q)))
 }
 
 /// The combinations that are disjoint from each member of the second family and give with it a member of the first; none where the second is empty. It asks for twice as many free frames as there are elements.

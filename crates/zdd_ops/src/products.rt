@@ -1,160 +1,184 @@
 //! Products of families, as the evaluator runs them.
 
-ghost use Rattle.std.specs.Prelude.{◌≡◌, ◌≤◌};
-ghost use Rattle.edge_bits.specs.Permanent.{first_element};
+ghost use Rattle.std.specs.Prelude.{◌≡◌, ◌≤◌, IfOk, IsErrOf, false, true};
+ghost use Rattle.edge_bits.specs.declared.edges.Edge.{Edge as EdgeOf};
 ghost use Rattle.edge_bits.specs.declared.edges.Kind.TheVariants.{Zdd};
-ghost use Rattle.node_store.specs.Views.{View, AreTwo, Kept, Permanent};
-ghost use Rattle.zdd_ops.specs.Products.{AreParts, CanPartBoth, IsAt, IsElementOf, IsPartedTask, IsProductTerminal, IsTask, edge_for, portion_in, product_key};
+ghost use Rattle.node_store.specs.Views.{View, AreTwo, Denotes, IsTop, Kept, Permanent, Rose, family_at};
+ghost use Rattle.node_store.specs.Work.{IsWork, Moves};
+ghost use Rattle.zdd_ops.specs.Products.{AreQuarters, IsProductTerminal, IsQuarter, ProductAnswers, ProductDue, product_at, product_key, product_work, with_element};
 
 use crate::nested::{product, union};
 use edge_bits::{BASE_SLOT, EMPTY_SLOT, Edge, Kind};
-use node_store::binary::{Apply, Branch, Expansion};
-use node_store::operator::{Halt, Task};
+use node_store::operator::{Frame, Halt, Next, Operator, Task, Turn, Wait};
 use node_store::parts::{Split, parts, split_two};
 use node_store::scratch::Operation;
 use node_store::{Grow, Key, Stack, numbers};
 
-/// What a task asks of the product of its two families.
-#[derive(Clone, Copy, PartialEq, Eq, Drop)]
-pub(crate) enum Portion {
-    /// All of it.
-    Whole,
-    /// The members with the element of this variable number, without it.
-    Then(u32),
-    /// Of these, the unions of which the first family's member has the element.
-    First(u32),
-}
-
-impl Portion {
-    /// How a task says it, in the edge that it has to spare: an element's variable number is never 0.
-    pub fn edge(self) -> Edge
-        ensures { result ≡ edge_for self }
-    {
-        match self {
-            Portion::Whole => Edge::new(0, false),
-            Portion::Then(var) => Edge::new(var, true),
-            Portion::First(var) => Edge::new(var, false),
-        }
-    }
-
-    /// What the spare edge of a task says.
-    pub fn of(edge: Edge) -> Portion
-        ensures { result ≡ portion_in edge }
-    {
-        if edge.complement {
-            Portion::Then(edge.index)
-        } else if edge.index == 0 {
-            Portion::Whole
-        } else {
-            Portion::First(edge.index)
-        }
-    }
-}
-
-/// A product of two families.
+/// A product of two families. A task splits at the first element of both in four: a part of the first family times a part of the second, each with the element or without it.
 #[derive(Drop)]
 pub(crate) struct Multiplication {
     pub p: Edge,
     pub q: Edge,
 }
 
-impl<G: Grow> Apply<G> for Multiplication {
+/// The answers of a task's four parts: of the members with the element or of those without it, in the first family and in the second.
+#[derive(Clone, Copy, PartialEq, Eq, Drop)]
+struct Quarters {
+    then_then: Edge,
+    then_else: Edge,
+    else_then: Edge,
+    else_else: Edge,
+}
+
+impl<G: Grow> Operator<G> for Multiplication {
     ghost use Rattle.std.specs.Prelude.{refl};
     ghost use Rattle.edge_bits.specs.declared.edges.Kind.TheVariants.{Zdd};
-    ghost use Rattle.node_store.specs.TwoLaws.{AreTwo-grown};
+    ghost use Rattle.node_store.specs.BinaryLaws.{BinaryMoves, BinaryMoves-none, BinaryMoves-both};
+    ghost use Rattle.node_store.specs.Two.{two_depth};
+    ghost use Rattle.node_store.specs.TwoLaws.{AreTwo-grown, two_depth-stays};
     ghost use Rattle.node_store.specs.Views.{AreTwo};
-    ghost use Rattle.zdd_ops.specs.Products.{ProductAnswers, ProductDue, ProductSplits, product_depth, product_work};
-    ghost use Rattle.zdd_ops.specs.ProductLasts.{ProductAnswers-stay, ProductDue-stays, ProductSplits-stay, product_depth-stays, product_work-stays};
+    ghost use Rattle.node_store.specs.Work.{IsWork};
+    ghost use Rattle.zdd_ops.specs.Products.{ProductAnswers, ProductDue, ProductWaits, product_work};
+    ghost use Rattle.zdd_ops.specs.ProductLasts.{ProductAnswers-stay, ProductDue-stays, ProductWaits-stay, product_work-stays};
 
-    ghost roots = { λ o w. AreTwo Zdd w o.p o.q };
+    ghost moves = { λ o. BinaryMoves (λ w. AreTwo Zdd w o.p o.q) (product_work o.p o.q) };
 
-    ghost work = { λ o. product_work o.p o.q };
+    ghost due = { λ o w. ProductDue o.p o.q w.view };
 
-    ghost due = { λ o. ProductDue o.p o.q };
-
-    ghost answers = { λ _. ProductAnswers };
+    ghost answers = { λ _ w. ProductAnswers w.view };
 
     ghost overflows = { λ _ _ _. ⊥ };
 
-    ghost splits = { λ _. ProductSplits };
+    ghost waits = { λ o w. ProductWaits o.p o.q w.view };
 
-    ghost depth = { λ _. product_depth };
+    ghost refused = { λ o w. IsWork w.view (product_work o.p o.q w.view) w.view.due };
 
-    ghost extra = { λ _ w. w.elements };
+    ghost depth = { λ _ w. two_depth Zdd w.view };
 
-    fn expand(&self, store: &mut G, task: Task) -> Result<Expansion, Halt> {
-        match Portion::of(task.h) {
-            Portion::Whole => {
-                if let Some(edge) = terminal(task.f, task.g) {
-                    return Ok(Expansion::Done(edge));
-                }
-                if let Some(edge) = store.memo_get(&key_of(task.f, task.g)) {
-                    return Ok(Expansion::Done(edge));
-                }
-                match split_two(store, task.f, task.g) {
-                    Split::Leaves(_, _) => unreachable!(),
-                    Split::At(halves) => Ok(Expansion::Split(divide(
-                        store,
-                        task,
-                        Portion::Whole,
-                        halves.top.var,
-                    ))),
-                }
+    ghost extra = { λ _ w. w.view.elements };
+
+    fn start(&self, store: &mut G, _stack: &mut Stack, task: Task) -> Result<Next, Halt> {
+        if let Some(edge) = terminal(task.f, task.g) {
+            return Ok(Next::Done(edge));
+        }
+        if let Some(edge) = store.memo_get(&key_of(task.f, task.g)) {
+            return Ok(Next::Done(edge));
+        }
+        match split_two(store, task.f, task.g) {
+            Split::Leaves(_, _) => unreachable!(),
+            Split::At(halves) => {
+                let frame = Frame {
+                    task,
+                    var: halves.top.var,
+                    flip: false,
+                    wait: Wait::First(Task::two(halves.hi.f, halves.lo.g)),
+                };
+                Ok(Next::Call(frame, halves.hi))
             }
-            Portion::Then(var) => Ok(Expansion::Split(divide(
-                store,
-                task,
-                Portion::Then(var),
-                var,
-            ))),
-            Portion::First(var) => Ok(Expansion::Split(divide(
-                store,
-                task,
-                Portion::First(var),
-                var,
-            ))),
         }
     }
 
-    fn join(
+    fn resume(
+        &self,
+        store: &mut G,
+        stack: &mut Stack,
+        frame: Frame,
+        answer: Edge,
+    ) -> Result<Turn, Halt> {
+        match frame.wait {
+            Wait::First(later) => Ok(Turn::Call(Wait::Second(answer), later)),
+            Wait::Second(then_then) => {
+                let child = without_first(store, frame.task, frame.var, true);
+                Ok(Turn::Call(Wait::Third(then_then, answer), child))
+            }
+            Wait::Third(then_then, then_else) => {
+                let child = without_first(store, frame.task, frame.var, false);
+                let wait = Wait::Fourth(then_then, then_else, answer);
+                Ok(Turn::Call(wait, child))
+            }
+            Wait::Fourth(then_then, then_else, else_then) => {
+                let quarters = Quarters {
+                    then_then,
+                    then_else,
+                    else_then,
+                    else_else: answer,
+                };
+                let edge = self.join(store, stack, frame.task, frame.var, quarters)?;
+                Ok(Turn::Done(edge))
+            }
+            Wait::Only => unreachable!(),
+        }
+    }
+
+    ghost moves_none = { λ o. BinaryMoves-none (λ w. AreTwo Zdd w o.p o.q) (product_work o.p o.q) };
+
+    ghost moves_both = { λ o. BinaryMoves-both (λ w. AreTwo Zdd w o.p o.q) (product_work o.p o.q) (λ v w m d. AreTwo-grown Zdd m d) (product_work-stays o.p o.q) };
+
+    ghost moves_fulls = { λ o v w m. m.moves.grown.fulls };
+
+    ghost moves_wants = { λ o v w m. m.moves.grown.wants };
+
+    ghost due_stays = { λ o v w t m. ProductDue-stays o.p o.q v.view w.view t m.moves.grown };
+
+    ghost answers_stay = { λ o v w t e m d. ProductAnswers-stay v.view w.view t e m.moves.grown d.two };
+
+    ghost waits_stay = { λ o v w t f u m d. ProductWaits-stay o.p o.q v.view w.view t f u m.moves.grown d };
+
+    ghost depth_stays = { λ o v w t m d. two_depth-stays Zdd v.view w.view t m.moves.grown d.two };
+
+    ghost overflow_rises = { λ o w t f u d waits bad. bad };
+
+    ghost extra_stays = { λ o v w m. m.moves.grown.elements };
+}
+
+impl Multiplication {
+    /// The answer of a task from those of its parts, which is kept.
+    fn join<G: Grow>(
         &self,
         store: &mut G,
         stack: &mut Stack,
         task: Task,
         var: u32,
-        hi: Edge,
-        lo: Edge,
-    ) -> Result<Edge, Halt> {
-        match Portion::of(task.h) {
-            Portion::Whole => Ok(store.make(var, hi, lo)?),
-            _ => Ok(union(store, stack, hi, lo)?),
-        }
+        quarters: Quarters,
+    ) -> Result<Edge, Halt>
+        requires parts { AreQuarters self.now.p self.now.q (G.view store.old) task var quarters }
+        requires room { (G.view store.old).elements ≤ stack.old.free }
+        ensures moved { Moves (λ w. AreTwo Zdd w self.now.p self.now.q) (product_work self.now.p self.now.q) (G.view store.old) (G.view store.new) }
+        ensures answer { IfOk result (ProductAnswers (G.view store.new) task) }
+        ensures memory { IsErrOf result Halt.Memory → (G.view store.old).may_want_memory ≡ true }
+        ensures due { IsErrOf result Halt.Full → IsWork (G.view store.new) (product_work self.now.p self.now.q (G.view store.new)) (G.view store.new).due }
+        ensures full { IsErrOf result Halt.Full → Rose (G.view store.old) (G.view store.new) }
+        ensures overflow { IsErrOf result Halt.Overflow → ⊥ }
+        ensures stack { stack.new ≡ stack.old }
+    {
+        let with = self.unite(store, stack, task, var, quarters)?;
+        let edge = store.make(var, with, quarters.else_else)?;
+        store.memo_put(key_of(task.f, task.g), edge);
+        Ok(edge)
     }
 
-    fn key(&self, task: Task) -> Option<Key> {
-        match Portion::of(task.h) {
-            Portion::Whole => Some(key_of(task.f, task.g)),
-            _ => None,
-        }
+    /// The members of a task's product with the element, without it: they come from three of its parts.
+    fn unite<G: Grow>(
+        &self,
+        store: &mut G,
+        stack: &mut Stack,
+        task: Task,
+        var: u32,
+        quarters: Quarters,
+    ) -> Result<Edge, Halt>
+        requires parts { AreQuarters self.now.p self.now.q (G.view store.old) task var quarters }
+        requires room { (G.view store.old).elements ≤ stack.old.free }
+        ensures moved { Moves (λ w. AreTwo Zdd w self.now.p self.now.q) (product_work self.now.p self.now.q) (G.view store.old) (G.view store.new) }
+        ensures answer { IfOk result (λ e. Denotes Zdd (G.view store.new) e (with_element (G.view store.old) task var)) }
+        ensures memory { IsErrOf result Halt.Memory → (G.view store.old).may_want_memory ≡ true }
+        ensures due { IsErrOf result Halt.Full → IsWork (G.view store.new) (product_work self.now.p self.now.q (G.view store.new)) (G.view store.new).due }
+        ensures full { IsErrOf result Halt.Full → Rose (G.view store.old) (G.view store.new) }
+        ensures overflow { IsErrOf result Halt.Overflow → ⊥ }
+        ensures stack { stack.new ≡ stack.old }
+    {
+        let first = union(store, stack, quarters.then_then, quarters.then_else)?;
+        Ok(union(store, stack, first, quarters.else_then)?)
     }
-
-    ghost roots_stay = { λ o v w m d. AreTwo-grown Zdd m d };
-
-    ghost work_stays = { λ o. product_work-stays o.p o.q };
-
-    ghost due_stays = { λ o. ProductDue-stays o.p o.q };
-
-    ghost answers_stay = { λ o v w t e m d. ProductAnswers-stay v w t e m d.two };
-
-    ghost splits_stay = { λ o v w t x a b m d. ProductSplits-stay v w t x a b m d.two };
-
-    ghost depth_stays = { λ o v w t m d. product_depth-stays v w t m d.two d.at };
-
-    ghost overflow_hi = { λ o w t x a b d s bad. bad };
-
-    ghost overflow_lo = { λ o w t x a b d s bad. bad };
-
-    ghost extra_stays = { λ o v w m. m.elements };
 }
 
 impl<G: Grow> Operation<G> for Multiplication {
@@ -223,63 +247,18 @@ fn key_of(f: Edge, g: Edge) -> Key
     }
 }
 
-/// The two tasks in which a portion of a product splits at an element, from the parts of both families: with the element, and without it.
-fn tasks(
-    portion: Portion,
-    task: Task,
-    var: u32,
-    first: (Edge, Edge),
-    second: (Edge, Edge),
-) -> (Task, Task)
-    requires element { first_element ≤ var }
-    requires here { IsAt portion var }
-    ensures { AreParts portion var task first.0 first.1 second.0 second.1 result.0 result.1 }
-{
-    let (f1, f0) = first;
-    let (g1, g0) = second;
-    match portion {
-        Portion::Whole => (
-            portion_task(task.f, task.g, Portion::Then(var)),
-            portion_task(f0, g0, Portion::Whole),
-        ),
-        Portion::Then(_) => (
-            portion_task(task.f, task.g, Portion::First(var)),
-            portion_task(f0, g1, Portion::Whole),
-        ),
-        Portion::First(_) => (
-            portion_task(f1, g1, Portion::Whole),
-            portion_task(f1, g0, Portion::Whole),
-        ),
-    }
-}
-
-/// The task of a portion of a product.
-pub(crate) fn portion_task(f: Edge, g: Edge, portion: Portion) -> Task
-    requires { IsElementOf portion }
-    ensures { IsTask f g portion result }
-{
-    Task {
-        f,
-        g,
-        h: portion.edge(),
-    }
-}
-
-/// A portion of a product, split at an element.
-fn divide<G: Grow>(store: &mut G, task: Task, portion: Portion, var: u32) -> Branch
-    requires parts { CanPartBoth (G.view store.old) task var }
-    requires here { IsAt portion var }
+/// The task of the members of the first family without an element, and of the second family's members with it or without it.
+fn without_first<G: Grow>(store: &mut G, task: Task, var: u32, with_second: bool) -> Task
+    requires two { AreTwo Zdd (G.view store.old) task.f task.g }
+    requires top { IsTop Zdd (G.view store.old) task.f task.g var }
     ensures kept { Kept (G.view store.old) (G.view store.new) }
-    ensures parted { IsPartedTask (G.view store.new) task var portion result }
+    ensures part { (p q : EdgeOf) → ProductDue p q (G.view store.old) task → IsQuarter p q (G.view store.new) task var false with_second result }
 {
-    let first = parts(store, task.f, var);
-    let second = parts(store, task.g, var);
-    let (hi, lo) = tasks(portion, task, var, first, second);
-    Branch {
-        task,
-        flip: false,
-        var,
-        hi,
-        lo,
+    let (_, f0) = parts(store, task.f, var);
+    let (g1, g0) = parts(store, task.g, var);
+    if with_second {
+        Task::two(f0, g1)
+    } else {
+        Task::two(f0, g0)
     }
 }

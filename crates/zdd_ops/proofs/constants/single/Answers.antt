@@ -1,4 +1,4 @@
-use Rattle.std.proofs.Common.{◌+◌, ap, sym, ◌∙◌, Some}
+use Rattle.std.proofs.Common.{◌+◌, ap, ◌∙◌, Some}
 use Rattle.edge_bits.specs.Permanent.{first_element}
 use Rattle.edge_bits.specs.declared.edges.Kind.TheVariants.{Zdd}
 use Rattle.function_laws.specs.Families.{single}
