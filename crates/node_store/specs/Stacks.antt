@@ -15,6 +15,6 @@ pub record Scratch : Type 0 where
 abbrev pub room_of : Scratch → ℕ
 room_of s = length s.frames + s.free
 
--- for how many levels there is room: four frames and a mark a level
+-- for how many levels there is room: two frames and a mark a level
 abbrev pub levels_in : Scratch → ℕ
-levels_in s = min (s.free / 4) (length s.marks)
+levels_in s = min (s.free / 2) (length s.marks)

@@ -62,7 +62,7 @@ impl Stack {
         self.frames.len()
     }
 
-    /// Makes room for a run over so many levels: four frames more and a mark for each. Its room never gets less.
+    /// Makes room for a run over so many levels: two frames more and a mark for each. Its room never gets less.
     pub fn prepare(&mut self, levels: u32) -> Result<(), Memory>
         ensures ok { OnOk result (levels ≤ levels_in self.new) }
         ensures succeeds { levels ≤ levels_in self.old → IsOk result }
@@ -70,7 +70,7 @@ impl Stack {
         ensures frames { self.new.frames ≡ self.old.frames }
         ensures answers { self.new.answers ≡ self.old.answers }
     {
-        self.frames.reserve(4 * levels as usize)?;
+        self.frames.reserve(2 * levels as usize)?;
         if self.marks.len() < levels as usize {
             self.marks.resize(levels as usize, None)?;
         }
