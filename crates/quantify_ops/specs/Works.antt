@@ -3,7 +3,6 @@ use Rattle.std.specs.Prelude.{◌≡◌, ℕ, Bool, List, ◌⊎◌}
 use Rattle.std.specs.List.{All}
 use Rattle.edge_bits.specs.declared.edges.Edge.{Edge}
 use Rattle.edge_bits.specs.declared.edges.Kind.TheVariants.{Bdd}
-use Rattle.edge_bits.specs.declared.edges.Kind.TheVariants.{Bdd}
 use Rattle.function_laws.specs.Cubes.{cube_of}
 use Rattle.function_laws.specs.Values.{conjunction, exists_all, forall_all, support}
 use Rattle.function_laws.specs.Kinds.{Denoted, BddFunction}
@@ -39,6 +38,6 @@ work_of_forall f vars w F = value_of_forall f vars w F ⊎ (F ≡ BddFunction (c
 abbrev pub work_of_and_exists : Edge → Edge → List ℕ → View → Denoted → Type 0
 work_of_and_exists f g vars w F = value_of_and_exists f g vars w F ⊎ (F ≡ BddFunction (cube_of vars))
 
--- the support, also of any part of the function in its place
+-- what a support stores: its value
 abbrev pub value_of_support : Edge → View → Denoted → Type 0
-value_of_support f w F = (a : ℕ → Bool) × (IsPart Bdd w (bdd_at w f) a × (F ≡ BddFunction (support w.vars a)))
+value_of_support f w F = F ≡ BddFunction (support w.vars (bdd_at w f))

@@ -65,7 +65,5 @@ work_of_exists-back v w f vars m d F (inl (a, (part, is))) =
     inl (a, (IsPart-back Bdd m (bdd_at v f) a (subst (λ h. IsPart Bdd w h a) (values_at-grown Bdd m d) part), is))
 work_of_exists-back v w f vars m d F (inr is) = inr is
 
--- no variable is added
 pub value_of_support-back : (v w : View) (f : Edge) → Grown v w → Is Bdd v f → (F : Denoted) → value_of_support f w F → value_of_support f v F
-value_of_support-back v w f m d F (a, (part, is)) =
-    (a, (IsPart-back Bdd m (bdd_at v f) a (subst (λ g. IsPart Bdd w g a) (values_at-grown Bdd m d) part), is ∙ ap (λ n. BddFunction (support n a)) m.vars))
+value_of_support-back v w f m d F is = is ∙ ap BddFunction (support_stays v w f m d)

@@ -1,115 +1,155 @@
-//! The product of the variables on which a function depends.
+//! The product of the variables on which a function depends, which a walk over its nodes marks.
 
-ghost use Rattle.std.specs.Prelude.{◌≡◌, ◌≤◌, ◌*◌};
+ghost use Rattle.std.specs.Prelude.{◌≡◌, ◌≤◌, IfOk, IsErrOf, length, true};
 ghost use Rattle.edge_bits.specs.declared.edges.Kind.TheVariants.{Bdd};
+ghost use Rattle.function_laws.specs.Cubes.{IsSupport};
 ghost use Rattle.function_laws.specs.Values.{support as support_of};
 ghost use Rattle.node_store.specs.Operations.{Runs};
-ghost use Rattle.node_store.specs.Views.{Is, Permanent, bdd_at};
-ghost use Rattle.quantify_ops.specs.Supports.{support_key};
+ghost use Rattle.node_store.specs.Remembering.{IsBlank};
+ghost use Rattle.node_store.specs.Stacks.{levels_in};
+ghost use Rattle.node_store.specs.Views.{Is, Kept, Permanent, bdd_at};
+ghost use Rattle.quantify_ops.specs.Products.{AreMarks, marked_product};
+ghost use Rattle.quantify_ops.specs.Supports.{regular_edge, support_key};
 ghost use Rattle.quantify_ops.specs.Works.{value_of_support};
 
+use crate::products::product_of_marks;
 use edge_bits::{Edge, Kind};
-use ite_core::nested::and;
-use node_store::binary::{Apply, Binary, Branch, Expansion};
 use node_store::evaluate::evaluate;
-use node_store::operator::{Halt, Task};
+use node_store::operator::{Frame, Halt, Next, Operator, Task, Turn, Wait};
 use node_store::scratch::Operation;
 use node_store::{Grow, Key, Opened, Stack, numbers};
 
-/// The support of a function, as the evaluator runs it.
+/// The walk over a function, as the evaluator runs it: each task is a node's function with no complement. Its answer is any edge; what counts is that each variable of the function is marked.
 #[derive(Drop)]
 pub(crate) struct Dependence {
     pub f: Edge,
 }
 
-impl<G: Grow> Apply<G> for Dependence {
+impl<G: Grow> Operator<G> for Dependence {
     ghost use Rattle.std.specs.Prelude.{refl};
-    ghost use Rattle.edge_bits.specs.declared.edges.Kind.TheVariants.{Bdd};
-    ghost use Rattle.node_store.specs.Views.{Is};
-    ghost use Rattle.node_store.specs.ViewLaws.{Is-grown};
     ghost use Rattle.ite_core.specs.Cofactors.{one_depth};
     ghost use Rattle.ite_core.specs.CofactorLasts.{one_depth-stays};
-    ghost use Rattle.quantify_ops.specs.Supports.{IsSupportValue, SupportDue, SupportAnswers, SupportSplits};
-    ghost use Rattle.quantify_ops.specs.SupportLasts.{IsSupportValue-stays, SupportDue-stays, SupportAnswers-stay, SupportSplits-stay};
+    ghost use Rattle.quantify_ops.specs.Supports.{WalkAnswers, WalkDue, WalkMoves, WalkWaits};
+    ghost use Rattle.quantify_ops.specs.SupportLasts.{WalkAnswers-stay, WalkDue-stays, WalkMoves-none, WalkMoves-both, WalkWaits-stay};
 
-    ghost roots = { λ o w. Is Bdd w o.f };
+    ghost moves = { λ o. WalkMoves o.f };
 
-    ghost work = { λ o. IsSupportValue o.f };
+    ghost due = { λ o. WalkDue o.f };
 
-    ghost due = { λ o. SupportDue o.f };
-
-    ghost answers = { λ _. SupportAnswers };
+    ghost answers = { λ _. WalkAnswers };
 
     ghost overflows = { λ _ _ _. ⊥ };
 
-    ghost splits = { λ _. SupportSplits };
+    ghost waits = { λ o. WalkWaits o.f };
 
-    ghost depth = { λ _. one_depth };
+    ghost refused = { λ _ _. ⊥ };
 
-    ghost extra = { λ _ w. w.vars };
+    ghost depth = { λ _ w. one_depth w.view };
 
-    fn expand(&self, store: &mut G, task: Task) -> Result<Expansion, Halt> {
-        let Opened::Inner(var, hi, lo) = store.open(task.f) else {
-            return Ok(Expansion::Done(Edge::truth(true)));
-        };
-        if let Some(edge) = store.memo_get(&key_of(task.f)) {
-            return Ok(Expansion::Done(edge));
+    ghost extra = { λ _ _. 0 };
+
+    fn start(&self, store: &mut G, stack: &mut Stack, task: Task) -> Result<Next, Halt> {
+        if let Some(edge) = stack.recall(task) {
+            return Ok(Next::Done(edge));
         }
-        Ok(Expansion::Split(Branch {
+        let Opened::Inner(var, hi, lo) = store.open(task.f) else {
+            return Ok(Next::Done(task.f));
+        };
+        let level = store.level(var);
+        stack.mark(level, var);
+        let frame = Frame {
             task,
-            flip: false,
             var,
-            hi: Task::two(hi, hi),
-            lo: Task::two(lo, lo),
-        }))
+            flip: false,
+            wait: Wait::First(regular_task(lo)),
+        };
+        Ok(Next::Call(frame, regular_task(hi)))
     }
 
-    fn join(
+    fn resume(
         &self,
-        store: &mut G,
+        _store: &mut G,
         stack: &mut Stack,
-        _task: Task,
-        var: u32,
-        hi: Edge,
-        lo: Edge,
-    ) -> Result<Edge, Halt> {
-        let below = and(store, stack, hi, lo)?;
-        let zero = Edge::truth(false);
-        Ok(store.make(var, below, zero)?)
+        frame: Frame,
+        answer: Edge,
+    ) -> Result<Turn, Halt> {
+        match frame.wait {
+            Wait::First(later) => Ok(Turn::Call(Wait::Second(answer), later)),
+            Wait::Second(_) => {
+                stack.remember(frame.task, answer);
+                Ok(Turn::Done(answer))
+            }
+            _ => unreachable!(),
+        }
     }
 
-    fn key(&self, task: Task) -> Option<Key> {
-        Some(key_of(task.f))
-    }
+    ghost moves_none = { λ o. WalkMoves-none o.f };
 
-    ghost roots_stay = { λ o v w m d. Is-grown Bdd m d };
+    ghost moves_both = { λ o. WalkMoves-both o.f };
 
-    ghost work_stays = { λ o. IsSupportValue-stays o.f };
+    ghost moves_fulls = { λ o v w m. m.kept.grown.fulls };
 
-    ghost due_stays = { λ o. SupportDue-stays o.f };
+    ghost moves_wants = { λ o v w m. m.kept.grown.wants };
 
-    ghost answers_stay = { λ o v w t e m d. SupportAnswers-stay v w t e m d.edge };
+    ghost due_stays = { λ o. WalkDue-stays o.f };
 
-    ghost splits_stay = { λ o v w t x a b m d. SupportSplits-stay v w t x a b m d.edge };
+    ghost answers_stay = { λ o v w t e m d. WalkAnswers-stay o.f v w t e m d };
 
-    ghost depth_stays = { λ o v w t m d. one_depth-stays v w t m d.edge };
+    ghost waits_stay = { λ o. WalkWaits-stay o.f };
 
-    ghost overflow_hi = { λ o w t x a b d s bad. bad };
+    ghost depth_stays = { λ o v w t m d. one_depth-stays v.view w.view t m.kept.grown d.edge };
 
-    ghost overflow_lo = { λ o w t x a b d s bad. bad };
+    ghost overflow_rises = { λ o w t f u d waits bad. bad };
 
-    ghost extra_stays = { λ o v w m. m.vars };
+    ghost extra_stays = { λ o v w m. refl };
 }
 
-/// The product of the variables on which a function depends, on this stack.
+/// The task of a function or its complement.
+fn regular_task(f: Edge) -> Task
+    ensures { result.f ≡ regular_edge f }
+{
+    let f = Edge::new(f.index, false);
+    Task::two(f, f)
+}
+
+/// Marks the levels of the variables on which a function depends, and no others. The table of answers has to be blank.
+fn mark_support<G: Grow>(store: &mut G, stack: &mut Stack, f: Edge) -> Result<Edge, Halt>
+    requires operand { Is Bdd (G.view store.old) f }
+    requires room { (G.view store.old).vars ≤ levels_in stack.old }
+    requires blank { IsBlank stack.old.answers }
+    ensures kept { Kept (G.view store.old) (G.view store.new) }
+    ensures marks { IfOk result (λ _. AreMarks (G.view store.new) stack.new.marks) }
+    ensures support { IfOk result (λ _. IsSupport (bdd_at (G.view store.old) f) (marked_product stack.new.marks)) }
+    ensures memory { IsErrOf result Halt.Memory → (G.view store.old).may_want_memory ≡ true }
+    ensures full { IsErrOf result Halt.Full → ⊥ }
+    ensures overflow { IsErrOf result Halt.Overflow → ⊥ }
+    ensures frames { stack.new.frames ≡ stack.old.frames }
+    ensures free { stack.new.free ≡ stack.old.free }
+    ensures length { length stack.new.marks ≡ length stack.old.marks }
+{
+    stack.clear_marks();
+    evaluate(store, stack, &Dependence { f }, regular_task(f))
+}
+
+/// The product of the variables on which a function depends, on this stack, whose marks and blank table it uses.
 pub(crate) fn collect<G: Grow>(store: &mut G, stack: &mut Stack, f: Edge) -> Result<Edge, Halt>
     requires operand { Is Bdd (G.view store.old) f }
-    requires permanent { Permanent (G.view store.old) }
-    requires room { 2 * (G.view store.old).vars ≤ stack.old.free }
+    requires room { (G.view store.old).vars ≤ levels_in stack.old }
+    requires blank { IsBlank stack.old.answers }
     ensures runs { Runs Bdd (support_of (G.view store.old).vars (bdd_at (G.view store.old) f)) (value_of_support f (G.view store.old)) (G.view store.old) (G.view store.new) result }
-    ensures stack { stack.new ≡ stack.old }
+    ensures frames { stack.new.frames ≡ stack.old.frames }
+    ensures free { stack.new.free ≡ stack.old.free }
+    ensures length { length stack.new.marks ≡ length stack.old.marks }
 {
-    evaluate(store, stack, &Binary(Dependence { f }), Task::two(f, f))
+    let key = key_of(f);
+    if let Some(edge) = store.memo_get(&key) {
+        return Ok(edge);
+    }
+    let _reached = mark_support(store, stack, f)?;
+    let levels = store.levels(Kind::Bdd);
+    let cube = product_of_marks(store, stack, levels)?;
+    store.memo_put(key, cube);
+    Ok(cube)
 }
 
 impl<G: Grow> Operation<G> for Dependence {

@@ -1,9 +1,10 @@
-//! The operations on a stack that is handed in, the quantifiers over a product of variables, for runs within other operators. They ask for twice as many free frames as there are variables: for tasks of their own, and for those of an operation within.
+//! The operations on a stack that is handed in, the quantifiers over a product of variables, for runs within other operators. Most ask for twice as many free frames as there are variables: for tasks of their own, and for those of an operation within.
 
-ghost use Rattle.std.specs.Prelude.{◌≡◌, ◌*◌, ◌≤◌, List, ℕ};
+ghost use Rattle.std.specs.Prelude.{◌≡◌, ◌*◌, ◌≤◌, List, ℕ, length};
 ghost use Rattle.edge_bits.specs.declared.edges.Kind.TheVariants.{Bdd};
 ghost use Rattle.function_laws.specs.Values.{exists_all, forall_all, support as support_of};
 ghost use Rattle.node_store.specs.Operations.{Runs, RunsTo, halts};
+ghost use Rattle.node_store.specs.Stacks.{levels_in};
 ghost use Rattle.node_store.specs.Views.{AreTwo, Is, IsVariable, Permanent, bdd_at};
 ghost use Rattle.quantify_ops.specs.Composed.{composed_at, value_of_compose};
 ghost use Rattle.quantify_ops.specs.Products.{IsProduct};
@@ -65,14 +66,16 @@ pub fn forall<G: Grow>(store: &mut G, stack: &mut Stack, f: Edge, cube: Edge) ->
     Ok(flip_if(some, true))
 }
 
-/// The product of the variables on which a function depends.
+/// The product of the variables on which a function depends. It takes the marks and the table of answers.
 pub fn support<G: Grow>(store: &mut G, stack: &mut Stack, f: Edge) -> Result<Edge, Stop>
     requires operand { Is Bdd (G.view store.old) f }
-    requires permanent { Permanent (G.view store.old) }
-    requires room { 2 * (G.view store.old).vars ≤ stack.old.free }
+    requires room { (G.view store.old).vars ≤ levels_in stack.old }
     ensures runs { Runs Bdd (support_of (G.view store.old).vars (bdd_at (G.view store.old) f)) (value_of_support f (G.view store.old)) (G.view store.old) (G.view store.new) (halts result) }
-    ensures stack { stack.new ≡ stack.old }
+    ensures frames { stack.new.frames ≡ stack.old.frames }
+    ensures free { stack.new.free ≡ stack.old.free }
+    ensures length { length stack.new.marks ≡ length stack.old.marks }
 {
+    stack.clear_table();
     without_overflow(collect(store, stack, f))
 }
 

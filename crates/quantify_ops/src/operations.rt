@@ -51,7 +51,7 @@ pub fn and_exists<G: Grow>(store: &mut G, f: Edge, g: Edge, vars: &[u32]) -> Res
     without_overflow(in_scratch(store, AndExists { f, g, vars }))
 }
 
-/// The product of the variables on which a function depends. What it stores are parts, by the first variables of the order and up to complement, of the support and of those of any such parts of the function.
+/// The product of the variables on which a function depends. What it stores are parts of that product, by the first variables of the order and up to complement.
 pub fn support<G: Grow>(store: &mut G, f: Edge) -> Result<Edge, Stop>
     requires { Is Bdd (G.view store.old) f }
     ensures { Calls Bdd (support_of (G.view store.old).vars (bdd_at (G.view store.old) f)) (value_of_support f (G.view store.old)) (G.view store.old) (G.view store.new) (halts result) }

@@ -65,7 +65,11 @@ fn mark<G: Grow>(store: &mut G, stack: &mut Stack, var: u32)
 }
 
 /// The product of the marked variables, from the last in the order to the first.
-fn product_of_marks<G: Grow>(store: &mut G, stack: &Stack, levels: u32) -> Result<Edge, Halt>
+pub(crate) fn product_of_marks<G: Grow>(
+    store: &mut G,
+    stack: &Stack,
+    levels: u32,
+) -> Result<Edge, Halt>
     requires levels { levels ≡ (G.view store.old).vars }
     requires permanent { Permanent (G.view store.old) }
     requires room { levels ≤ length stack.now.marks }
