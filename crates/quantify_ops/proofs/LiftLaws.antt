@@ -1,4 +1,4 @@
--- The condition of a restriction, with the variables above a level quantified one by one.
+-- The condition of a restriction, with its top variable quantified.
 use Rattle.std.proofs.Common.{◌≡◌, ◌≢◌, ℕ, ◌<◌, ◌≤◌, Bool, true, false, ◌||◌, List, [], ◌∷◌, ◌++◌, Option, inl, inr, sym, ap, ap₂, ◌∙◌, subst, arith}
 use Rattle.std.proofs.lemmas.Bool.{cases_eq, cases_lt}
 use Rattle.edge_bits.specs.declared.edges.Edge.{Edge}
@@ -11,14 +11,14 @@ use Rattle.function_laws.proofs.RestrictionLaws.{IsFree-exists_other, IsFree-exi
 use Rattle.function_laws.proofs.ValueLemmas.{everywhere, cofactor_comm, exists-choice_same, IsFree-cofactor, IsFree-cofactor_other, IsFree-place}
 use Rattle.function_laws.specs.Kinds.{Denoted, BddFunction}
 use Rattle.node_store.specs.Views.{View, AreTwo, Denotes, Grown, Is, IsInner, Kept, Opens, bdd_at}
-use Rattle.node_store.specs.ViewLaws.{Grown-refl, Grown-trans, Is-from, IsBelow-inner, IsVariable-back, IsVariable-grown, Splits-grown, level-grown, top-grown, values_at-grown, values_at-is}
+use Rattle.node_store.specs.ViewLaws.{Grown-refl, Grown-trans, Is-from, Is-grown, IsBelow-inner, IsVariable-back, IsVariable-grown, Splits-grown, level-grown, top-grown, values_at-grown, values_at-is}
 use Rattle.node_store.specs.TwoLaws.{AreTwo-grown}
 use Rattle.node_store.specs.Work.{whole, cut, IsPart, IsWork, Adds, Moves}
 use Rattle.node_store.specs.WorkLaws.{IsPart-grown, IsWork-grown, Moves-both, Moves-kept}
 use Rattle.node_store.specs.declared.grow.Opened.{Opened}
 use Rattle.node_store.specs.declared.grow.Opened.TheVariants.{Inner, Leaf}
 use Rattle.quantify_ops.specs.QuantifiedLasts.{IsFreeAbove-back}
-use Rattle.quantify_ops.specs.Restricted.{IsCondition, IsLifted, IsPartOfBoth, PartsAbove, ServesAbove, both_lifted, levels_from, work_of_restrict}
+use Rattle.quantify_ops.specs.Restricted.{IsCondition, IsLifted, IsPartOfBoth, PartsAbove, ServesAbove, both_lifted, work_of_restrict}
 use Rattle.quantify_ops.specs.RestrictedLasts.{IsCondition-grown, IsPartOfBoth-back, IsPartOfBoth-grown, work_of_restrict-stays}
 use Rattle.quantify_ops.proofs.ProductLaws.{IsWork-part}
 
@@ -70,7 +70,16 @@ Restrict-both f c u v w p q = Moves-both (λ w. AreTwo Bdd w f c) (work_of_restr
 pub Restrict-kept : (f c : Edge) (v w : View) → Kept v w → Moves (λ w. AreTwo Bdd w f c) (work_of_restrict f c) v w
 Restrict-kept f c v w k = Moves-kept (λ w. AreTwo Bdd w f c) (work_of_restrict f c) v w k
 
--- a turn of the walk down a condition: its top variable is quantified
+-- what holds above a level, later
+pub ServesAbove-grown : (v w : View) (level : ℕ) (d c : Edge) → Grown v w → Is Bdd v d → Is Bdd v c → ServesAbove v level (bdd_at v d) (bdd_at v c) → ServesAbove w level (bdd_at w d) (bdd_at w c)
+ServesAbove-grown v w level d c m dd dc serves = rw (values_at-grown Bdd m dd, values_at-grown Bdd m dc) (λ a r free p. serves a r (IsFreeAbove-back level a m free) p)
+
+pub PartsAbove-grown : (v w : View) (level : ℕ) (root d c : Edge) → Grown v w → Is Bdd v root → Is Bdd v d → Is Bdd v c → PartsAbove v level (bdd_at v root) (bdd_at v d) (bdd_at v c)
+    → PartsAbove w level (bdd_at w root) (bdd_at w d) (bdd_at w c)
+PartsAbove-grown v w level root d c m dr dd dc parts = rw (values_at-grown Bdd m dr, values_at-grown Bdd m dd, values_at-grown Bdd m dc) (λ p a free q.
+    IsPartOfBoth-grown v w p (bdd_at v root) a (bdd_at v d) m (parts p a (IsFreeAbove-back level a m free) (IsPartOfBoth-back v w p (bdd_at v root) a (bdd_at v c) m q)))
+
+-- the top variable of a condition is quantified
 module _ (f c : Edge) (v w : View) (d hi lo : Edge) (x : ℕ) (roots : AreTwo Bdd v f c) (i : IsCondition c v d) (o : IsInner Bdd v d (bdd_at v d) x hi lo) (m : Grown v w) where
   abbrev step : ℕ → Bool
   step = disjunction (bdd_at v hi) (bdd_at v lo)
@@ -123,10 +132,10 @@ module _ (f c : Edge) (v w : View) (d hi lo : Edge) (x : ℕ) (roots : AreTwo Bd
         (parts p a back (IsPartOfBoth-back v w p (bdd_at v c) a (bdd_at v start) m q)))))
 
     -- the next top variable stands lower
-    pub step_lower : (y : View) (n : Grown w y) (top : Opened) → Opens Bdd y e (bdd_at w e) top → levels_from y top < levels_from v (Inner x hi lo)
-    step_lower y n (Leaf z) j = let within = o.within in omega arith
+    pub step_lower : (y : View) (n : Grown w y) (top : Opened) → Opens Bdd y e (bdd_at w e) top → v.level x < y.top e.index
+    step_lower y n (Leaf z) j = let here = j.here in let within = o.within in let vars = m.vars in let vars2 = n.vars in omega arith
     step_lower y n (Inner u a b) j = elim (cases_lt (v.level x) (y.level u)) [
-      | inl lt ↦ let within = j.within in let vars = m.vars in let vars2 = n.vars in omega arith
+      | inl lt ↦ let here = j.here in omega arith
       | inr le ↦
           let all = Grown-trans m n in
           let un = IsVariable-back Bdd all u j.in_range in
@@ -136,24 +145,27 @@ module _ (f c : Edge) (v w : View) (d hi lo : Edge) (x : ℕ) (roots : AreTwo Bd
           (subst (λ h. IsFree h u) (sym (values_at-is Bdd den) ∙ j.splits.is) free)))
     ]
 
--- its end
-pub ServesAbove-grown : (v w : View) (level : ℕ) (d c : Edge) → Grown v w → Is Bdd v d → Is Bdd v c → ServesAbove v level (bdd_at v d) (bdd_at v c) → ServesAbove w level (bdd_at w d) (bdd_at w c)
-ServesAbove-grown v w level d c m dd dc serves = rw (values_at-grown Bdd m dd, values_at-grown Bdd m dc) (λ a r free p. serves a r (IsFreeAbove-back level a m free) p)
-
-pub PartsAbove-grown : (v w : View) (level : ℕ) (root d c : Edge) → Grown v w → Is Bdd v root → Is Bdd v d → Is Bdd v c → PartsAbove v level (bdd_at v root) (bdd_at v d) (bdd_at v c)
-    → PartsAbove w level (bdd_at w root) (bdd_at w d) (bdd_at w c)
-PartsAbove-grown v w level root d c m dr dd dc parts = rw (values_at-grown Bdd m dr, values_at-grown Bdd m dd, values_at-grown Bdd m dc) (λ p a free q.
-    IsPartOfBoth-grown v w p (bdd_at v root) a (bdd_at v d) m (parts p a (IsFreeAbove-back level a m free) (IsPartOfBoth-back v w p (bdd_at v root) a (bdd_at v c) m q)))
+    -- the lifted condition, once its top is known
+    pub step_lifted : (y : View) (n : Grown w y) (top : Opened) (level : ℕ) → Opens Bdd y e (bdd_at w e) top → v.level x < level → IsLifted c y d e level
+    step_lifted y n top level j lt =
+        let start = Is-grown Bdd m i.edge in
+        let next = step_condition in
+        let root = Is-grown Bdd m roots.second in
+        let lower = step_lower y n top j in
+        let there = top-grown Bdd (Grown-trans m n) i.edge in let here = o.here in
+        record {
+          now = IsCondition-grown c w y e n root next;
+          above = omega arith;
+          lower = omega arith;
+          serves = ServesAbove-grown w y level e d n next.edge start (step_serves d level lt i.edge (λ a r free p. p));
+          parts = PartsAbove-grown w y level c e d n root next.edge start (step_parts d level lt i.edge (λ p a free q. q));
+        }
 
 pub IsLifted-grown : (c : Edge) (v w : View) (start d : Edge) (level : ℕ) → Grown v w → Is Bdd v c → Is Bdd v start → IsLifted c v start d level → IsLifted c w start d level
 IsLifted-grown c v w start d level m root is l = record {
   now = IsCondition-grown c v w d m root l.now;
-  above = let top = top-grown Bdd m l.now.edge in let above = l.above in omega arith;
+  above = let first = top-grown Bdd m is in let above = l.above in omega arith;
+  lower = let first = top-grown Bdd m is in let second = top-grown Bdd m l.now.edge in let lower = l.lower in omega arith;
   serves = ServesAbove-grown v w level d start m l.now.edge is l.serves;
   parts = PartsAbove-grown v w level c d start m root l.now.edge is l.parts;
 }
-
-pub lifted_end : (c : Edge) (v w : View) (start d hi lo : Edge) (level x : ℕ) → Grown v w → Is Bdd v c → Is Bdd v start → IsCondition c v d → IsInner Bdd v d (bdd_at v d) x hi lo → level ≤ v.level x
-    → ServesAbove v level (bdd_at v d) (bdd_at v start) → PartsAbove v level (bdd_at v c) (bdd_at v d) (bdd_at v start) → IsLifted c w start d level
-lifted_end c v w start d hi lo level x m root is i o le serves parts =
-    IsLifted-grown c v w start d level m root is (record { now = i; above = let here = o.here in omega arith; serves = serves; parts = parts })

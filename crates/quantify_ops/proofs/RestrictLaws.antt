@@ -1,5 +1,5 @@
 -- A restriction, step by step.
-use Rattle.std.proofs.Common.{◌≡◌, ℕ, ◌-◌, ◌<◌, Bool, true, false, not, cond, [], ℤ, Some, ◌⊎◌, inl, inr, refl, sym, ap, ◌∙◌, subst, arith}
+use Rattle.std.proofs.Common.{◌≡◌, ℕ, ◌-◌, ◌<◌, ◌≤◌, min, Bool, true, false, not, cond, [], ℤ, Some, ◌⊎◌, inl, inr, refl, sym, ap, ap₂, ◌∙◌, subst, arith}
 use Rattle.edge_bits.specs.Permanent.{truth_edge}
 use Rattle.edge_bits.specs.declared.edges.Edge.{Edge}
 use Rattle.edge_bits.specs.declared.edges.Kind.{Kind}
@@ -17,21 +17,21 @@ use Rattle.function_laws.specs.Kinds.{BddFunction, ValueOf}
 use Rattle.node_store.specs.Memo.{MemoHolds}
 use Rattle.node_store.specs.Splits.{AtSecond, Leads, WaitIs, Waiting}
 use Rattle.node_store.specs.Three.{IsFlipped}
+use Rattle.node_store.specs.Two.{two_depth}
+use Rattle.node_store.specs.TwoLaws.{two_depth-stays}
 use Rattle.node_store.specs.Views.{AreTwo, CanMake, Denotes, Grown, Is, IsBelow, IsInner, IsKey, IsLeaf, IsLeafOf, IsVariable, PartsAt, Permanent, View, bdd_at, logic_one, logic_zero, node_values}
-use Rattle.node_store.specs.ViewLaws.{Apart-variables, Denotes-flip, Denotes-truth, Grown-trans, Is-from, Is-grown, IsBelow-inner, Splits-grown, level-grown, top-grown, values_at-grown, values_at-is}
+use Rattle.node_store.specs.ViewLaws.{Apart-variables, Denotes-flip, Denotes-truth, Grown-refl, Grown-trans, Is-from, Is-grown, IsBelow-inner, Splits-grown, level-grown, top-grown, values_at-grown, values_at-is}
 use Rattle.node_store.specs.Work.{whole, IsPart, IsWork, Moves}
 use Rattle.node_store.specs.WorkLaws.{IsPart-half, IsWork-due, Moves-made}
 use Rattle.node_store.specs.declared.operator.Frame.{Frame}
 use Rattle.node_store.specs.declared.operator.Task.{Task}
 use Rattle.node_store.specs.declared.operator.Wait.TheVariants.{Only, First, Second}
-use Rattle.ite_core.specs.Cofactors.{one_depth}
-use Rattle.ite_core.specs.CofactorLasts.{one_depth-stays}
 use Rattle.ite_core.proofs.CofactorLaws.{regular_flipped, regular_is}
 use Rattle.ite_core.proofs.Terminals.{truth_at}
 use Rattle.node_store.specs.KindLaws.{Lacks-joined, part-joined}
 use Rattle.quantify_ops.specs.Quantified.{IsFreeAbove}
 use Rattle.quantify_ops.specs.Restricted.{CanBranch, IsLifted, IsPartOfBoth, LeadsLevel, OnlyWaits, RestrictAnswers, RestrictAsks, RestrictDue, RestrictParts, RestrictSplits, RestrictWaits, Restricted, both_cut, both_opposite, both_whole, restrict_key, work_of_restrict}
-use Rattle.quantify_ops.specs.RestrictedLasts.{RestrictDue-stays, work_of_restrict-stays}
+use Rattle.quantify_ops.specs.RestrictedLasts.{RestrictDue-stays, RestrictParts-stay, operands, work_of_restrict-stays}
 use Rattle.quantify_ops.proofs.LiftLaws.{IsInner-grown}
 
 -- what opening a condition tells
@@ -131,61 +131,78 @@ IsPartOfBoth-half w v f c a ah al b bh bl which vn is_a is_b ah_below al_below b
     free : (u : ℕ) → IsVariable Bdd w u → w.level u < w.level v → (h l : ℕ → Bool) → IsBelow Bdd w v h → IsBelow Bdd w v l → IsFree (choice v h l) u
     free u un lt h l hb lb = Lacks-joined Bdd u v h l (Apart-variables Bdd w u v un vn (λ e. let s = ap w.level e in omega arith)) (hb u un (omega arith)) (lb u un (omega arith))
 
-pub lifted_leads : (f c : Edge) (w : View) (root t : Task) (level : ℕ) → RestrictDue f c w root → t.f ≡ record { index = root.f.index; complement = false } → IsLifted c w root.g t.g level
-    → IsFreeAbove w level (bdd_at w t.f) → LeadsLevel w root root.f.complement t
-lifted_leads f c w root t level due regular lifted free =
-    let d = regular_is w root.f t.f regular due.edge in
-    record {
-      edge = due.edge;
-      leads = record {
-        gives = λ x e late a.
-            let p = rw (values_at-grown Bdd late d, values_at-grown Bdd late lifted.now.edge) at a.restriction in
-            let q = flipped_answer x root.f.complement (bdd_at w root.f) (bdd_at w t.f) (bdd_at w root.g) e (regular_flipped w root.f t.f regular due.edge) due.condition.somewhere a.answer
-            (lifted.serves (bdd_at w t.f) (bdd_at x e) free p) in
-            record { answer = q.0; restriction = rw (values_at-grown Bdd late due.edge, values_at-grown Bdd late due.condition.edge) q.1 };
-        over = λ x late bad. bad;
-      };
-      depth = ap (λ (r : Edge). w.vars - w.top r.index) regular;
-    }
-
-pub lifted_due : (f c : Edge) (w : View) (root t : Task) (level : ℕ) → RestrictDue f c w root → t.f ≡ record { index = root.f.index; complement = false } → IsLifted c w root.g t.g level
-    → IsFreeAbove w level (bdd_at w t.f) → RestrictDue f c w t
-lifted_due f c w root t level due regular lifted free = record {
-  permanent = due.permanent;
-  roots = due.roots;
-  edge = regular_is w root.f t.f regular due.edge;
-  condition = lifted.now;
-  parts = lifted.parts (bdd_at w f) (bdd_at w t.f) free (IsPartOfBoth-flipped root.f.complement w (bdd_at w f) (bdd_at w c) (bdd_at w root.f) (bdd_at w t.f) (bdd_at w root.g) (regular_flipped w root.f t.f regular due.edge) due.parts);
-}
-
--- from the opened function of a task and its lifted condition
-module _ (f c : Edge) (v w1 w : View) (root t : Task) (r d hi lo : Edge) (level x : ℕ) (due : RestrictDue f c v root) (regular : r ≡ record { index = root.f.index; complement = false }) (m1 : Grown v w1)
-    (i : IsInner Bdd w1 r (bdd_at v r) x hi lo) (m2 : Grown w1 w) (lifted : IsLifted c w root.g d level) (is_level : level ≡ w1.level x) (tf : t.f ≡ r) (tg : t.g ≡ d) where
+-- from the opened function of a task, and its condition
+module _ (f c : Edge) (v w1 w : View) (root t : Task) (r hi lo : Edge) (x : ℕ) (due : RestrictDue f c v root) (regular : r ≡ record { index = root.f.index; complement = false }) (m1 : Grown v w1)
+    (i : IsInner Bdd w1 r (bdd_at v r) x hi lo) (m2 : Grown w1 w) (tf : t.f ≡ r) (tg : t.g ≡ root.g) where
   root_later : RestrictDue f c w root
   root_later = RestrictDue-stays f c v w root (Grown-trans m1 m2) due
+
+  regular_later : Is Bdd w t.f
+  regular_later = regular_is w root.f t.f (tf ∙ regular) root_later.edge
 
   inner_later : IsInner Bdd w t.f (bdd_at w t.f) x hi lo
   inner_later =
       let is = regular_is v root.f r regular due.edge in
       rw tf (IsInner-grown w1 w r hi lo x m2 (Is-grown Bdd m1 is) (subst (λ g. IsInner Bdd w1 r g x hi lo) (sym (values_at-grown Bdd m1 is)) i))
 
-  lifted_task : IsLifted c w root.g t.g level
-  lifted_task = rw tg lifted
-
-  level_is : level ≡ w.level x
-  level_is = is_level ∙ sym (level-grown m2 x)
-
-  above_free : IsFreeAbove w level (bdd_at w t.f)
-  above_free u un lt = let higher : w.level u < w.level x = (let is = level_is in omega arith) in IsBelow-inner Bdd u inner_later higher u un (omega arith)
+  above_free : (level : ℕ) → level ≡ w.level x → IsFreeAbove w level (bdd_at w t.f)
+  above_free level is u un lt = let higher : w.level u < w.level x = omega arith in IsBelow-inner Bdd u inner_later higher u un (omega arith)
 
   pub start_leads : LeadsLevel w root root.f.complement t
-  start_leads = lifted_leads f c w root t level root_later (tf ∙ regular) lifted_task above_free
+  start_leads = record {
+    operands = operands f c w root root_later;
+    leads = record {
+      gives = λ y e late a.
+          let p = rw (tg, values_at-grown Bdd late regular_later, values_at-grown Bdd late root_later.condition.edge) at a.restriction in
+          let q = flipped_answer y root.f.complement (bdd_at w root.f) (bdd_at w t.f) (bdd_at w root.g) e (regular_flipped w root.f t.f (tf ∙ regular) root_later.edge) root_later.condition.somewhere a.answer p in
+          record { answer = q.0; restriction = rw (values_at-grown Bdd late root_later.edge, values_at-grown Bdd late root_later.condition.edge) q.1 };
+      over = λ y late bad. bad;
+    };
+    depth = ap₂ (λ (a b : Edge). w.vars - min (w.top a.index) (w.top b.index)) (tf ∙ regular) tg;
+  }
 
   pub start_due : RestrictDue f c w t
-  start_due = lifted_due f c w root t level root_later (tf ∙ regular) lifted_task above_free
+  start_due = record {
+    permanent = root_later.permanent;
+    roots = root_later.roots;
+    edge = regular_later;
+    condition = rw tg root_later.condition;
+    parts = rw tg (IsPartOfBoth-flipped root.f.complement w (bdd_at w f) (bdd_at w c) (bdd_at w root.f) (bdd_at w t.f) (bdd_at w root.g) (regular_flipped w root.f t.f (tf ∙ regular) root_later.edge) root_later.parts);
+  }
 
-  pub start_branch : CanBranch f c w t x hi lo
-  start_branch = record { due = start_due; inner = inner_later; above = let is = level_is in let above = lifted_task.above in omega arith }
+  pub start_branch : w.level x ≤ w.top t.g.index → CanBranch f c w t x hi lo
+  start_branch above = record { due = start_due; inner = inner_later; above = above }
+
+  -- the same function under the lifted condition
+  module _ (b : Task) (e : Edge) (level y : ℕ) (bf : b.f ≡ t.f) (bg : b.g ≡ e) (is_level : level ≡ w.level x) (lifted : IsLifted c w t.g e level) where
+    lifted_passes : Leads RestrictAnswers (λ w t. ⊥) w t false b
+    lifted_passes = record {
+      gives = λ z a late p.
+          let q = rw (bf, bg, values_at-grown Bdd late regular_later, values_at-grown Bdd late lifted.now.edge) at p.restriction in record {
+            answer = p.answer;
+            restriction = rw (values_at-grown Bdd late regular_later, values_at-grown Bdd late start_due.condition.edge) (lifted.serves (bdd_at w t.f) (bdd_at z a) (above_free level is_level) q);
+          };
+      over = λ z late bad. bad;
+    }
+
+    lifted_due : RestrictDue f c w b
+    lifted_due = record {
+      permanent = root_later.permanent;
+      roots = root_later.roots;
+      edge = rw bf regular_later;
+      condition = rw bg lifted.now;
+      parts = rw (bf, bg) (lifted.parts (bdd_at w f) (bdd_at w t.f) (above_free level is_level) start_due.parts);
+    }
+
+    lifted_less : two_depth Bdd w b < two_depth Bdd w root
+    lifted_less = let depth = start_leads.depth in let here = inner_later.here in let within = inner_later.within in let above = lifted.above in let lower = lifted.lower in rw (sym depth, bf, bg) (omega arith)
+
+    pub start_lifts : RestrictAsks f c w root (record { task = t; var = y; flip = root.f.complement; wait = Only }) b
+    start_lifts = record {
+      waits = inl (record { only = refl; due = start_due; leads = start_leads.leads; passes = lifted_passes });
+      due = lifted_due;
+      less = lifted_less;
+    }
 
 -- the branches of a task
 module _ (f c : Edge) (w : View) (t hi lo : Task) (x : ℕ) (due : RestrictDue f c w t) (s : RestrictParts w t x hi lo) where
@@ -263,12 +280,25 @@ module _ (f c : Edge) (w : View) (t hi lo : Task) (x : ℕ) (due : RestrictDue f
         (IsRestriction-choice x (bdd_at w hi.f) (bdd_at w lo.f) (bdd_at w hi.g) (bdd_at w lo.g) (bdd_at w a) (bdd_at w b) (free_f true) (free_f false) (free_g true) (free_g false)
         s.apart some1 some0 is_a.restriction is_b.restriction)
 
--- the frame that waits
-only_answers : (f c : Edge) (w : View) (t child other : Task) (x : ℕ) (b : Bool) (e : Edge) → RestrictDue f c w t → RestrictParts w t x (cond b child other) (cond b other child) → IsNowhere (bdd_at w other.g)
-    → RestrictAnswers w child e → RestrictAnswers w t e
-only_answers f c w t child other x true e due s none a = hi_answers f c w t child other x due s e none a
-only_answers f c w t child other x false e due s none a = lo_answers f c w t other child x due s e none a
+-- from here on
+only_passes : (f c : Edge) (w : View) (t child other : Task) (x : ℕ) (b : Bool) → RestrictDue f c w t → RestrictParts w t x (cond b child other) (cond b other child) → IsNowhere (bdd_at w other.g)
+    → Leads RestrictAnswers (λ w t. ⊥) w t false child
+only_passes f c w t child other x b due s none = record {
+  gives = λ y e late a. only_answers f c y t child other x b e (RestrictDue-stays f c w y t late due)
+      (RestrictParts-stay w y t x (cond b child other) (cond b other child) late (operands f c w t due) s) (rw (values_at-grown Bdd late (other_is b s)) none) a;
+  over = λ y late bad. bad;
+}
+  where
+    other_is : (b : Bool) → RestrictParts w t x (cond b child other) (cond b other child) → Is Bdd w other.g
+    other_is true s = s.two.g.lo_is
+    other_is false s = s.two.g.hi_is
 
+    only_answers : (f c : Edge) (w : View) (t child other : Task) (x : ℕ) (b : Bool) (e : Edge) → RestrictDue f c w t → RestrictParts w t x (cond b child other) (cond b other child) → IsNowhere (bdd_at w other.g)
+        → RestrictAnswers w child e → RestrictAnswers w t e
+    only_answers f c w t child other x true e due s none a = hi_answers f c w t child other x due s e none a
+    only_answers f c w t child other x false e due s none a = lo_answers f c w t other child x due s e none a
+
+-- the frame that waits
 only_waits : (f c : Edge) (w : View) (root : Task) (frame : Frame) (child : Task) → frame.wait ≡ Only → RestrictWaits f c w root frame child → OnlyWaits f c w root frame child
 only_waits f c w root frame child is (inl q) = q
 only_waits f c w root frame child is (inr q) = absurd (rw is at q.wait)
@@ -277,27 +307,26 @@ pub only_due : (f c : Edge) (w : View) (root : Task) (frame : Frame) (child : Ta
 only_due f c w root frame child is q = (only_waits f c w root frame child is q).due
 
 pub only_answer : (f c : Edge) (w : View) (root : Task) (frame : Frame) (child : Task) (e : Edge) → frame.wait ≡ Only → RestrictWaits f c w root frame child → RestrictAnswers w child e → RestrictAnswers w frame.task e
-only_answer f c w root frame child e is q a =
-    let o = only_waits f c w root frame child is q in only_answers f c w frame.task child o.other frame.var o.is_then e o.due o.parts o.nowhere a
+only_answer f c w root frame child e is q a = (only_waits f c w root frame child is q).passes.gives w e (Grown-refl w) a
 
 pub only_leads : (f c : Edge) (w x : View) (root : Task) (frame : Frame) (child : Task) (e : Edge) → frame.wait ≡ Only → RestrictWaits f c w root frame child → Grown w x → RestrictAnswers x frame.task e
     → RestrictAnswers x root (flip_if frame.flip e)
 only_leads f c w x root frame child e is q m a = (only_waits f c w root frame child is q).leads.gives x e m a
 
 pub first_waits : (f c : Edge) (w : View) (root : Task) (frame : Frame) (child later : Task) → frame.wait ≡ First later → RestrictWaits f c w root frame child
-    → Waiting (RestrictDue f c) RestrictAnswers (λ w t. ⊥) RestrictSplits one_depth w root frame child
+    → Waiting (RestrictDue f c) RestrictAnswers (λ w t. ⊥) RestrictSplits (two_depth Bdd) w root frame child
 first_waits f c w root frame child later is (inl q) = let bad : Only ≡ First later = sym q.only ∙ is in cc
 first_waits f c w root frame child later is (inr q) = q
 
 pub second_waits : (f c : Edge) (w : View) (root : Task) (frame : Frame) (child : Task) (hi : Edge) → frame.wait ≡ Second hi → RestrictWaits f c w root frame child
-    → Waiting (RestrictDue f c) RestrictAnswers (λ w t. ⊥) RestrictSplits one_depth w root frame child
+    → Waiting (RestrictDue f c) RestrictAnswers (λ w t. ⊥) RestrictSplits (two_depth Bdd) w root frame child
 second_waits f c w root frame child hi is (inl q) = let bad : Only ≡ Second hi = sym q.only ∙ is in cc
 second_waits f c w root frame child hi is (inr q) = q
 
 pub second_parts : (f c : Edge) (w : View) (root : Task) (frame : Frame) (child : Task) (hi : Edge) → frame.wait ≡ Second hi → RestrictWaits f c w root frame child
     → (hi_task : Task) × AtSecond (RestrictDue f c) RestrictAnswers RestrictSplits w frame hi child hi_task
 second_parts f c w root frame child hi is q =
-    subst (λ s. WaitIs (RestrictDue f c) RestrictAnswers RestrictSplits one_depth w root frame child s) is (second_waits f c w root frame child hi is q).wait
+    subst (λ s. WaitIs (RestrictDue f c) RestrictAnswers RestrictSplits (two_depth Bdd) w root frame child s) is (second_waits f c w root frame child hi is q).wait
 
 -- the branch that is asked for first
 module _ (f c : Edge) (v w : View) (root t a b : Task) (x : ℕ) (flip : Bool) (hi lo c1 c0 : Edge) (m : Grown v w) (can : CanBranch f c v t x hi lo) (split : PartsAt Bdd w t.g (bdd_at v t.g) x c1 c0)
@@ -321,25 +350,32 @@ module _ (f c : Edge) (v w : View) (root t a b : Task) (x : ℕ) (flip : Bool) (
   leads_later : Leads RestrictAnswers (λ w t. ⊥) w root flip t
   leads_later = record { gives = λ y e late is. leads.leads.gives y e (Grown-trans m late) is; over = λ y late bad. bad }
 
-  depth_is : one_depth w root ≡ w.vars - w.level x
-  depth_is = let here = inner.here in let depth = leads.depth in one_depth-stays v w root m leads.edge ∙ sym depth ∙ sym (one_depth-stays v w t m can.due.edge) ∙ ap (λ n. w.vars - n) here
+  root_depth : two_depth Bdd w root ≡ w.vars - min (w.top t.f.index) (w.top t.g.index)
+  root_depth = two_depth-stays Bdd v w root m leads.operands ∙ sym leads.depth ∙ sym (two_depth-stays Bdd v w t m (operands f c v t can.due))
 
-  hi_less : one_depth w a < one_depth w root
-  hi_less = let is = depth_is in let lower = inner.hi_top in let within = inner.within in rw af (omega arith)
+  above : w.level x ≤ w.top t.g.index
+  above = let first = level-grown m x in let second = top-grown Bdd m can.due.condition.edge in let was = can.above in omega arith
 
-  lo_less : one_depth w b < one_depth w root
-  lo_less = let is = depth_is in let lower = inner.lo_top in let within = inner.within in rw bf (omega arith)
+  hi_less : two_depth Bdd w a < two_depth Bdd w root
+  hi_less =
+      let here = inner.here in let lower = inner.hi_top in let within = inner.within in let also = split.hi_top in let at_most = above in
+      rw (root_depth, af, ag) (omega arith)
+
+  lo_less : two_depth Bdd w b < two_depth Bdd w root
+  lo_less =
+      let here = inner.here in let lower = inner.lo_top in let within = inner.within in let also = split.lo_top in let at_most = above in
+      rw (root_depth, bf, bg) (omega arith)
 
   pub asks_else : IsNowhere (bdd_at w a.g) → RestrictAsks f c w root (record { task = t; var = x; flip = flip; wait = Only }) b
   asks_else none = record {
-    waits = inl (record { only = refl; due = due; leads = leads_later; is_then = false; other = a; parts = parts; nowhere = none });
+    waits = inl (record { only = refl; due = due; leads = leads_later; passes = only_passes f c w t b a x false due parts none });
     due = lo_due f c w t a b x due parts (not_both f c w t a b x due parts none);
     less = lo_less;
   }
 
   pub asks_then : IsNowhere (bdd_at w b.g) → RestrictAsks f c w root (record { task = t; var = x; flip = flip; wait = Only }) a
   asks_then none = record {
-    waits = inl (record { only = refl; due = due; leads = leads_later; is_then = true; other = b; parts = parts; nowhere = none });
+    waits = inl (record { only = refl; due = due; leads = leads_later; passes = only_passes f c w t a b x true due parts none });
     due = hi_due f c w t a b x due parts (λ none1. not_both f c w t a b x due parts none1 none);
     less = hi_less;
   }

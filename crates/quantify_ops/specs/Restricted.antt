@@ -1,20 +1,17 @@
 -- Tasks of a function and a condition under which it is restricted (Coudert and Madre 1990).
-use Rattle.std.specs.Prelude.{◌≡◌, ◌≢◌, ℕ, ◌^◌, ◌-◌, ◌<◌, ◌≤◌, Bool, cond, List, ◌⊎◌, Option, Some, None}
+use Rattle.std.specs.Prelude.{◌≡◌, ◌≢◌, ℕ, ◌^◌, ◌<◌, ◌≤◌, Bool, false, List, ◌⊎◌, Option, Some, None}
 use Rattle.computed_cache.specs.declared.Key.{Key}
 use Rattle.edge_bits.specs.declared.edges.Edge.{Edge}
 use Rattle.edge_bits.specs.declared.edges.Kind.TheVariants.{Bdd}
 use Rattle.function_laws.specs.Restricting.{Restricts}
 use Rattle.function_laws.specs.Restrictions.{IsNowhere, IsRestriction}
 use Rattle.function_laws.specs.Values.{IsFree, cofactor, exists_all, exists_one, negation}
-use Rattle.ite_core.specs.Cofactors.{one_depth}
 use Rattle.function_laws.specs.Kinds.{Denoted, BddFunction}
 use Rattle.node_store.specs.Numbers.{restrict_number}
 use Rattle.node_store.specs.Splits.{Leads, Waiting}
-use Rattle.node_store.specs.Two.{TwoSplits}
+use Rattle.node_store.specs.Two.{TwoSplits, two_depth}
 use Rattle.node_store.specs.Views.{View, AreTwo, Is, IsInner, IsVariable, Permanent, bdd_at}
 use Rattle.node_store.specs.Work.{IsPart}
-use Rattle.node_store.specs.declared.grow.Opened.{Opened}
-use Rattle.node_store.specs.declared.grow.Opened.TheVariants.{Inner, Leaf}
 use Rattle.node_store.specs.declared.operator.Frame.{Frame}
 use Rattle.node_store.specs.declared.operator.Task.{Task}
 use Rattle.node_store.specs.declared.operator.Wait.TheVariants.{Only}
@@ -83,25 +80,23 @@ pub record RestrictSplits (w : View) (t : Task) (x : ℕ) (hi lo : Task) : Type 
   pub hi_somewhere : IsNowhere (bdd_at w hi.g) → ⊥
   pub lo_somewhere : IsNowhere (bdd_at w lo.g) → ⊥
 
--- one branch is computed, since the condition of the other holds nowhere
+-- the answers of one other task are answers of the frame's: of one branch, since the condition of the other holds nowhere, or of the same
+-- function under the condition with its top variable quantified
 pub record OnlyWaits (f c : Edge) (w : View) (root : Task) (frame : Frame) (child : Task) : Type 0 where
   pub only : frame.wait ≡ Only
   pub due : RestrictDue f c w frame.task
   pub leads : Leads RestrictAnswers (λ w t. ⊥) w root frame.flip frame.task
-  pub is_then : Bool
-  pub other : Task
-  pub parts : RestrictParts w frame.task frame.var (cond is_then child other) (cond is_then other child)
-  pub nowhere : IsNowhere (bdd_at w other.g)
+  pub passes : Leads RestrictAnswers (λ w t. ⊥) w frame.task false child
 
 -- a frame that waits for the answer of the one branch, or of one of both
 abbrev pub RestrictWaits : Edge → Edge → View → Task → Frame → Task → Type 0
-RestrictWaits f c w root frame child = OnlyWaits f c w root frame child ⊎ Waiting (RestrictDue f c) RestrictAnswers (λ w t. ⊥) RestrictSplits one_depth w root frame child
+RestrictWaits f c w root frame child = OnlyWaits f c w root frame child ⊎ Waiting (RestrictDue f c) RestrictAnswers (λ w t. ⊥) RestrictSplits (two_depth Bdd) w root frame child
 
 -- a frame asks for a task below the one that it was made for
 pub record RestrictAsks (f c : Edge) (w : View) (root : Task) (frame : Frame) (child : Task) : Type 0 where
   pub waits : RestrictWaits f c w root frame child
   pub due : RestrictDue f c w child
-  pub less : one_depth w child < one_depth w root
+  pub less : two_depth Bdd w child < two_depth Bdd w root
 
 -- for functions that are free of the variables above a level, what restrict may answer under the one condition it may answer under the other
 abbrev pub ServesAbove : View → ℕ → (ℕ → Bool) → (ℕ → Bool) → Type 0
@@ -111,17 +106,18 @@ ServesAbove w level d c = (a r : ℕ → Bool) → IsFreeAbove w level a → IsR
 abbrev pub PartsAbove : View → ℕ → (ℕ → Bool) → (ℕ → Bool) → (ℕ → Bool) → Type 0
 PartsAbove w level root d c = (f a : ℕ → Bool) → IsFreeAbove w level a → IsPartOfBoth w f root a c → IsPartOfBoth w f root a d
 
--- the condition with the variables above a level quantified
+-- the condition with its top variable quantified, which stands above a level
 pub record IsLifted (c : Edge) (w : View) (condition lifted : Edge) (level : ℕ) : Type 0 where
   pub now : IsCondition c w lifted
-  pub above : level ≤ w.top lifted.index
+  pub above : w.top condition.index < level
+  pub lower : w.top condition.index < w.top lifted.index
   pub serves : ServesAbove w level (bdd_at w lifted) (bdd_at w condition)
   pub parts : PartsAbove w level (bdd_at w c) (bdd_at w lifted) (bdd_at w condition)
 
--- how many levels there are from an opened edge's on
-abbrev pub levels_from : View → Opened → ℕ
-levels_from w (Inner v hi lo) = w.vars - w.level v
-levels_from w (Leaf x) = 0
+-- the lifted condition, or none where the condition's top is not above the level
+abbrev pub LiftIs : Edge → View → Edge → ℕ → Option Edge → Type 0
+LiftIs c w condition level (Some lifted) = IsLifted c w condition lifted level
+LiftIs c w condition level None = level ≤ w.top condition.index
 
 -- the answer in a terminal case
 abbrev pub IsKnownRestriction : View → Task → Option Edge → Type 0
@@ -136,9 +132,9 @@ pub record CanBranch (f c : Edge) (w : View) (t : Task) (x : ℕ) (hi lo : Edge)
 
 -- answers of a task lead to answers of another one of the same depth
 pub record LeadsLevel (w : View) (root : Task) (flip : Bool) (t : Task) : Type 0 where
-  pub edge : Is Bdd w root.f
+  pub operands : AreTwo Bdd w root.f root.g
   pub leads : Leads RestrictAnswers (λ w t. ⊥) w root flip t
-  pub depth : one_depth w t ≡ one_depth w root
+  pub depth : two_depth Bdd w t ≡ two_depth Bdd w root
 
 -- the key of a regular function and a condition
 abbrev pub restrict_key : Edge → Edge → Key

@@ -1,12 +1,11 @@
 -- What is true of tasks of a restriction stays true while a store grows.
-use Rattle.std.proofs.Common.{ℕ, Bool, true, false, cond, inl, inr, ◌∙◌, ap, sym}
+use Rattle.std.proofs.Common.{ℕ, Bool, inl, inr, ◌∙◌, ap, sym}
 use Rattle.edge_bits.specs.declared.edges.Edge.{Edge}
 use Rattle.edge_bits.specs.declared.edges.Kind.TheVariants.{Bdd}
 use Rattle.function_laws.specs.Values.{exists_all}
-use Rattle.ite_core.specs.Cofactors.{one_depth}
-use Rattle.ite_core.specs.CofactorLasts.{one_depth-stays}
 use Rattle.function_laws.specs.Kinds.{Denoted, BddFunction}
-use Rattle.node_store.specs.TwoLaws.{AreTwo-grown, TwoSplits-stay}
+use Rattle.node_store.specs.Two.{two_depth}
+use Rattle.node_store.specs.TwoLaws.{AreTwo-grown, TwoSplits-stay, two_depth-stays}
 use Rattle.node_store.specs.Views.{View, AreTwo, Grown, Is, bdd_at}
 use Rattle.node_store.specs.ViewLaws.{Grown-trans, Is-grown, IsVariable-back, IsVariable-grown, Permanent-grown, level-grown, values_at-grown}
 use Rattle.node_store.specs.Waiting.{Waiting-stays}
@@ -88,27 +87,19 @@ RestrictSplits-stay v w t x a b m d s = record {
   lo_somewhere = rw (values_at-grown Bdd m s.parts.two.g.lo_is) s.lo_somewhere;
 }
 
--- the condition of a branch that isn't taken
-other_is : (w : View) (t : Task) (x : ℕ) (child other : Task) (b : Bool) → RestrictParts w t x (cond b child other) (cond b other child) → Is Bdd w other.g
-other_is w t x child other true s = s.two.g.lo_is
-other_is w t x child other false s = s.two.g.hi_is
-
 pub OnlyWaits-stay : (f c : Edge) (v w : View) (t : Task) (frame : Frame) (u : Task) → Grown v w → OnlyWaits f c v t frame u → OnlyWaits f c w t frame u
 OnlyWaits-stay f c v w t frame u m q = record {
   only = q.only;
   due = RestrictDue-stays f c v w frame.task m q.due;
   leads = record { gives = λ x e late a. q.leads.gives x e (Grown-trans m late) a; over = λ x late bad. bad };
-  is_then = q.is_then;
-  other = q.other;
-  parts = RestrictParts-stay v w frame.task frame.var (cond q.is_then u q.other) (cond q.is_then q.other u) m (operands f c v frame.task q.due) q.parts;
-  nowhere = rw (values_at-grown Bdd m (other_is v frame.task frame.var u q.other q.is_then q.parts)) q.nowhere;
+  passes = record { gives = λ x e late a. q.passes.gives x e (Grown-trans m late) a; over = λ x late bad. bad };
 }
 
 pub RestrictWaits-stay : (f c : Edge) (v w : View) (t : Task) (frame : Frame) (u : Task) → Grown v w → RestrictDue f c v t → RestrictWaits f c v t frame u → RestrictWaits f c w t frame u
 RestrictWaits-stay f c v w t frame u m d (inl q) = inl (OnlyWaits-stay f c v w t frame u m q)
-RestrictWaits-stay f c v w t frame u m d (inr q) = inr (Waiting-stays (RestrictDue f c) RestrictAnswers (λ w t. ⊥) RestrictSplits one_depth (RestrictDue-stays f c)
+RestrictWaits-stay f c v w t frame u m d (inr q) = inr (Waiting-stays (RestrictDue f c) RestrictAnswers (λ w t. ⊥) RestrictSplits (two_depth Bdd) (RestrictDue-stays f c)
     (λ v w t e m d. RestrictAnswers-stay v w t e m (operands f c v t d)) (λ v w t x a b m d. RestrictSplits-stay v w t x a b m (operands f c v t d))
-    (λ v w t m d. one_depth-stays v w t m d.edge) v w t frame u m d q)
+    (λ v w t m d. two_depth-stays Bdd v w t m (operands f c v t d)) v w t frame u m d q)
 
 -- what it stores, told from an earlier view
 pub work_of_restrict-back : (v w : View) (f c : Edge) → Grown v w → AreTwo Bdd v f c → (F : Denoted) → work_of_restrict f c w F → work_of_restrict f c v F

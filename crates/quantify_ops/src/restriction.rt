@@ -8,7 +8,7 @@ ghost use Rattle.node_store.specs.Edges.{flip_if as flipped_edge};
 ghost use Rattle.node_store.specs.Views.{View, AreTwo, Is, Kept, Permanent, Rose, bdd_at};
 ghost use Rattle.node_store.specs.Work.{IsWork, Moves};
 ghost use Rattle.node_store.specs.declared.operator.Task.{Task};
-ghost use Rattle.quantify_ops.specs.Restricted.{CanBranch, IsCondition, IsKnownRestriction, IsLifted, LeadsLevel, RestrictAnswers, RestrictAsks, RestrictDue, Restricted, restrict_key, work_of_restrict};
+ghost use Rattle.quantify_ops.specs.Restricted.{CanBranch, IsCondition, IsKnownRestriction, LeadsLevel, LiftIs, RestrictAnswers, RestrictAsks, RestrictDue, Restricted, restrict_key, work_of_restrict};
 
 use edge_bits::{Edge, Kind, TRUE_SLOT};
 use ite_core::nested::or;
@@ -30,11 +30,10 @@ impl<G: Grow> Operator<G> for Restriction {
     ghost use Rattle.std.specs.Prelude.{refl};
     ghost use Rattle.edge_bits.specs.declared.edges.Kind.TheVariants.{Bdd};
     ghost use Rattle.node_store.specs.BinaryLaws.{BinaryMoves, BinaryMoves-none, BinaryMoves-both};
-    ghost use Rattle.node_store.specs.TwoLaws.{AreTwo-grown};
+    ghost use Rattle.node_store.specs.Two.{two_depth};
+    ghost use Rattle.node_store.specs.TwoLaws.{AreTwo-grown, two_depth-stays};
     ghost use Rattle.node_store.specs.Views.{AreTwo};
     ghost use Rattle.node_store.specs.Work.{IsWork};
-    ghost use Rattle.ite_core.specs.Cofactors.{one_depth};
-    ghost use Rattle.ite_core.specs.CofactorLasts.{one_depth-stays};
     ghost use Rattle.quantify_ops.specs.Restricted.{RestrictAnswers, RestrictDue, RestrictWaits, work_of_restrict};
     ghost use Rattle.quantify_ops.specs.RestrictedLasts.{RestrictAnswers-stay, RestrictDue-stays, RestrictWaits-stay, operands, work_of_restrict-stays};
 
@@ -50,7 +49,7 @@ impl<G: Grow> Operator<G> for Restriction {
 
     ghost refused = { λ o w. IsWork w.view (work_of_restrict o.f o.c w.view) w.view.due };
 
-    ghost depth = { λ _ w. one_depth w.view };
+    ghost depth = { λ _ w. two_depth Bdd w.view };
 
     ghost extra = { λ _ w. w.view.vars };
 
@@ -61,17 +60,25 @@ impl<G: Grow> Operator<G> for Restriction {
         let Opened::Inner(var, hi, lo) = store.open(f) else {
             return Ok(Next::Done(task.f));
         };
+        if let Some(edge) = known(f, task.g) {
+            return Ok(Next::Done(flip_if(edge, flip)));
+        }
+        if let Some(edge) = store.memo_get(&key_of(f, task.g)) {
+            return Ok(Next::Done(flip_if(edge, flip)));
+        }
+        let regular = Task::two(f, task.g);
         let level = store.level(var);
-        let condition = self.lift(store, stack, task.g, level)?;
-        if let Some(edge) = known(f, condition) {
-            return Ok(Next::Done(flip_if(edge, flip)));
-        }
-        if let Some(edge) = store.memo_get(&key_of(f, condition)) {
-            return Ok(Next::Done(flip_if(edge, flip)));
-        }
-        let lifted = Task::two(f, condition);
-        let (frame, child) = self.branch(store, lifted, flip, var, hi, lo);
-        Ok(Next::Call(frame, child))
+        let Some(condition) = self.lift(store, stack, task.g, level)? else {
+            let (frame, child) = self.branch(store, regular, flip, var, hi, lo);
+            return Ok(Next::Call(frame, child));
+        };
+        let frame = Frame {
+            task: regular,
+            var,
+            flip,
+            wait: Wait::Only,
+        };
+        Ok(Next::Call(frame, Task::two(f, condition)))
     }
 
     fn resume(
@@ -106,7 +113,7 @@ impl<G: Grow> Operator<G> for Restriction {
 
     ghost waits_stay = { λ o v w t f u m. RestrictWaits-stay o.f o.c v.view w.view t f u m.moves.grown };
 
-    ghost depth_stays = { λ o v w t m d. one_depth-stays v.view w.view t m.moves.grown d.edge };
+    ghost depth_stays = { λ o v w t m d. two_depth-stays Bdd v.view w.view t m.moves.grown (operands o.f o.c v.view t d) };
 
     ghost overflow_rises = { λ o w t f u d waits bad. bad };
 
@@ -114,39 +121,37 @@ impl<G: Grow> Operator<G> for Restriction {
 }
 
 impl Restriction {
-    /// The condition with the variables above a level quantified.
+    /// The condition with its top variable quantified, if that stands above a level.
     fn lift<G: Grow>(
         &self,
         store: &mut G,
         stack: &mut Stack,
         condition: Edge,
         level: u32,
-    ) -> Result<Edge, Halt>
+    ) -> Result<Option<Edge>, Halt>
         requires permanent { Permanent (G.view store.old) }
         requires roots { AreTwo Bdd (G.view store.old) self.now.f self.now.c }
         requires condition { IsCondition self.now.c (G.view store.old) condition }
         requires within { level ≤ (G.view store.old).vars }
         requires room { (G.view store.old).vars ≤ stack.old.free }
         ensures moved { Moves (λ w. AreTwo Bdd w self.now.f self.now.c) (work_of_restrict self.now.f self.now.c) (G.view store.old) (G.view store.new) }
-        ensures lifted { IfOk result (λ e. IsLifted self.now.c (G.view store.new) condition e level) }
+        ensures lifted { IfOk result (LiftIs self.now.c (G.view store.new) condition level) }
         ensures memory { IsErrOf result Halt.Memory → (G.view store.old).may_want_memory ≡ true }
         ensures due { IsErrOf result Halt.Full → IsWork (G.view store.new) (work_of_restrict self.now.f self.now.c (G.view store.new)) (G.view store.new).due }
         ensures full { IsErrOf result Halt.Full → Rose (G.view store.old) (G.view store.new) }
         ensures overflow { IsErrOf result Halt.Overflow → ⊥ }
         ensures stack { stack.new ≡ stack.old }
     {
-        let mut lifted = condition;
-        let mut top = store.open(lifted);
-        'variables: loop {
-            let Opened::Inner(var, hi, lo) = top else {
-                return Ok(lifted);
-            };
-            if store.level(var) >= level {
-                return Ok(lifted);
-            }
-            lifted = or(store, stack, hi, lo)?;
-            top = store.open(lifted);
+        let Opened::Inner(var, hi, lo) = store.open(condition) else {
+            return Ok(None);
+        };
+        if store.level(var) >= level {
+            return Ok(None);
         }
+        let lifted = or(store, stack, hi, lo)?;
+        // Its top variable stands lower, which only its node tells.
+        let _top = store.open(lifted);
+        Ok(Some(lifted))
     }
 
     /// The frame of a task and the branch for which it waits first: the one that is taken alone, or the then branch.

@@ -6,7 +6,7 @@ use Rattle.node_store.specs.Splits.{Waiting}
 use Rattle.node_store.specs.Views.{CanMake, bdd_at, node_values}
 use Rattle.node_store.specs.ViewLaws.{Grown-trans}
 use Rattle.node_store.proofs.Stops.{full_stop}
-use Rattle.ite_core.specs.Cofactors.{one_depth}
+use Rattle.node_store.specs.Two.{two_depth}
 use Rattle.quantify_ops.specs.Restricted.{RestrictAnswers, RestrictDue, RestrictSplits}
 use Rattle.quantify_ops.specs.RestrictedLasts.{RestrictAnswers-stay, RestrictDue-stays, operands}
 use Rattle.quantify_ops.proofs.LiftLaws.{Restrict-both, Restrict-kept}
@@ -43,7 +43,7 @@ returns-in-First-clause-next g c = λ root child due q is.
     }
 
 -- the second of two
-waiting : (g : given.Over) (c : In-Second g) → Waiting (RestrictDue c.args.self.now.f c.args.self.now.c) RestrictAnswers (λ w t. ⊥) RestrictSplits one_depth (g.G.Grow.view c.args.store.now)
+waiting : (g : given.Over) (c : In-Second g) → Waiting (RestrictDue c.args.self.now.f c.args.self.now.c) RestrictAnswers (λ w t. ⊥) RestrictSplits (two_depth Bdd) (g.G.Grow.view c.args.store.now)
     c.requires.waits.0.0 c.args.frame c.requires.waits.0.1
 waiting g c =
     let o = c.args.self.now in let p = c.requires.waits in second_waits o.f o.c _ p.0.0 c.args.frame p.0.1 c.in-Second.hi c.in-Second.is p.1.waits
