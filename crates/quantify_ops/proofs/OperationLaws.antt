@@ -19,19 +19,19 @@ use Rattle.node_store.specs.declared.operator.Halt.{Halt}
 use Rattle.node_store.proofs.Running.{IsWork-named}
 use Rattle.node_store.proofs.ComplementWork.{negation-negation, IsWork-negation}
 use Rattle.ite_core.proofs.Complements.{flipped-is, flipped_outcome}
-use Rattle.quantify_ops.specs.Products.{IsProduct}
+use Rattle.quantify_ops.specs.Products.{IsCubeOf}
 use Rattle.quantify_ops.proofs.ProductLaws.{Adds-both}
 use Rattle.quantify_ops.specs.Quantified.{both_at, HasCube, AreQuantified, IsQuantifiedValue, QuantifiedDue, QuantifiedAnswers}
 use Rattle.quantify_ops.specs.Works.{value_of_and_exists, value_of_exists, value_of_forall, work_of_and_exists, work_of_exists, work_of_forall}
 
 -- the call's own task
-HasCube-product : (w : View) (c : Edge) (vars : List ℕ) → IsProduct w c vars → HasCube w c
+HasCube-product : (w : View) (c : Edge) (vars : List ℕ) → IsCubeOf w c vars → HasCube w c
 HasCube-product w c vars d = record { edge = Is-from Bdd d; cube = subst IsCube (sym (values_at-is Bdd d)) (IsCube-of vars) }
 
-pub root_quantified : (w : View) (f g c : Edge) (vars : List ℕ) → AreTwo Bdd w f g → IsProduct w c vars → AreQuantified w f g c
+pub root_quantified : (w : View) (f g c : Edge) (vars : List ℕ) → AreTwo Bdd w f g → IsCubeOf w c vars → AreQuantified w f g c
 root_quantified w f g c vars two d = record { two = two; cube = HasCube-product w c vars d }
 
-pub root_due : (w : View) (f g c : Edge) (vars : List ℕ) → Permanent w → AreTwo Bdd w f g → IsProduct w c vars → QuantifiedDue f g c w (record { f = f; g = g; h = c })
+pub root_due : (w : View) (f g c : Edge) (vars : List ℕ) → Permanent w → AreTwo Bdd w f g → IsCubeOf w c vars → QuantifiedDue f g c w (record { f = f; g = g; h = c })
 root_due w f g c vars p two d = record {
   permanent = p;
   roots = root_quantified w f g c vars two d;
@@ -45,14 +45,14 @@ root_due w f g c vars p two d = record {
 }
 
 -- its answer
-pub root_answer : (v w : View) (f g c : Edge) (vars : List ℕ) (e : Edge) → Grown v w → AreTwo Bdd v f g → IsProduct v c vars → QuantifiedAnswers w (record { f = f; g = g; h = c }) e
+pub root_answer : (v w : View) (f g c : Edge) (vars : List ℕ) (e : Edge) → Grown v w → AreTwo Bdd v f g → IsCubeOf v c vars → QuantifiedAnswers w (record { f = f; g = g; h = c }) e
     → Denotes Bdd w e (exists_all (both_at v f g) vars)
 root_answer v w f g c vars e m two d a =
     let is = rw (values_at-is Bdd (Denotes-grown Bdd m d), values_at-grown Bdd m two.first, values_at-grown Bdd m two.second) at a.exists in
     subst (λ h. Denotes Bdd w e h) (IsExists-same (cube_of vars) (both_at v f g) (bdd_at w e) (exists_all (both_at v f g) vars) is (IsExists-all (both_at v f g) vars)) a.answer
 
 -- what it stores
-pub quantified_back : (v w : View) (f g c : Edge) (vars : List ℕ) → Grown v w → AreTwo Bdd v f g → IsProduct v c vars → (F : Denoted) → IsQuantifiedValue f g c w F → value_of_and_exists f g vars v F
+pub quantified_back : (v w : View) (f g c : Edge) (vars : List ℕ) → Grown v w → AreTwo Bdd v f g → IsCubeOf v c vars → (F : Denoted) → IsQuantifiedValue f g c w F → value_of_and_exists f g vars v F
 quantified_back v w f g c vars m two d F i =
     let part_f = rw (values_at-grown Bdd m two.first) at i.part_f in
     let part_g = rw (values_at-grown Bdd m two.second) at i.part_g in

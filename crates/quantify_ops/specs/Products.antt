@@ -6,9 +6,9 @@ use Rattle.function_laws.specs.Cubes.{cube_of}
 use Rattle.function_laws.specs.Values.{conjunction, constant, projection}
 use Rattle.node_store.specs.Views.{View, Denotes, IsVariable}
 
--- the edge denotes the product of the variables
-abbrev pub IsProduct : View → Edge → List ℕ → Type 0
-IsProduct w e vars = Denotes Bdd w e (cube_of vars)
+-- the edge denotes the cube of the variables, their product
+abbrev pub IsCubeOf : View → Edge → List ℕ → Type 0
+IsCubeOf w e vars = Denotes Bdd w e (cube_of vars)
 
 -- the product of the variables that are marked
 abbrev pub marked_product : List (Option ℕ) → ℕ → Bool

@@ -7,7 +7,7 @@ ghost use Rattle.node_store.specs.Operations.{Runs, RunsTo, halts};
 ghost use Rattle.node_store.specs.Stacks.{levels_in};
 ghost use Rattle.node_store.specs.Views.{AreTwo, Is, IsVariable, Permanent, bdd_at};
 ghost use Rattle.quantify_ops.specs.Composed.{composed_at, value_of_compose};
-ghost use Rattle.quantify_ops.specs.Products.{IsProduct};
+ghost use Rattle.quantify_ops.specs.Products.{IsCubeOf};
 ghost use Rattle.quantify_ops.specs.Quantified.{both_at};
 ghost use Rattle.quantify_ops.specs.Restricted.{Restricted, work_of_restrict};
 ghost use Rattle.quantify_ops.specs.Works.{value_of_and_exists, value_of_exists, value_of_forall, value_of_support};
@@ -30,10 +30,10 @@ pub fn and_exists<G: Grow>(
     cube: Edge,
 ) -> Result<Edge, Stop>
     requires operands { AreTwo Bdd (G.view store.old) f g }
-    requires cube { (vars : List ℕ) × IsProduct (G.view store.old) cube vars }
+    requires cube { (vars : List ℕ) × IsCubeOf (G.view store.old) cube vars }
     requires permanent { Permanent (G.view store.old) }
     requires room { 2 * (G.view store.old).vars ≤ stack.old.free }
-    ensures runs { (vars : List ℕ) → IsProduct (G.view store.old) cube vars → Runs Bdd (exists_all (both_at (G.view store.old) f g) vars) (value_of_and_exists f g vars (G.view store.old)) (G.view store.old) (G.view store.new) (halts result) }
+    ensures runs { (vars : List ℕ) → IsCubeOf (G.view store.old) cube vars → Runs Bdd (exists_all (both_at (G.view store.old) f g) vars) (value_of_and_exists f g vars (G.view store.old)) (G.view store.old) (G.view store.new) (halts result) }
     ensures stack { stack.new ≡ stack.old }
 {
     without_overflow(quantify(store, stack, f, g, cube))
@@ -42,10 +42,10 @@ pub fn and_exists<G: Grow>(
 /// The function that holds where a function can be made to hold by the variables of a product.
 pub fn exists<G: Grow>(store: &mut G, stack: &mut Stack, f: Edge, cube: Edge) -> Result<Edge, Stop>
     requires operand { Is Bdd (G.view store.old) f }
-    requires cube { (vars : List ℕ) × IsProduct (G.view store.old) cube vars }
+    requires cube { (vars : List ℕ) × IsCubeOf (G.view store.old) cube vars }
     requires permanent { Permanent (G.view store.old) }
     requires room { 2 * (G.view store.old).vars ≤ stack.old.free }
-    ensures runs { (vars : List ℕ) → IsProduct (G.view store.old) cube vars → Runs Bdd (exists_all (bdd_at (G.view store.old) f) vars) (value_of_exists f vars (G.view store.old)) (G.view store.old) (G.view store.new) (halts result) }
+    ensures runs { (vars : List ℕ) → IsCubeOf (G.view store.old) cube vars → Runs Bdd (exists_all (bdd_at (G.view store.old) f) vars) (value_of_exists f vars (G.view store.old)) (G.view store.old) (G.view store.new) (halts result) }
     ensures stack { stack.new ≡ stack.old }
 {
     let one = Edge::truth(true);
@@ -55,10 +55,10 @@ pub fn exists<G: Grow>(store: &mut G, stack: &mut Stack, f: Edge, cube: Edge) ->
 /// The function that holds where a function holds at all values of the variables of a product.
 pub fn forall<G: Grow>(store: &mut G, stack: &mut Stack, f: Edge, cube: Edge) -> Result<Edge, Stop>
     requires operand { Is Bdd (G.view store.old) f }
-    requires cube { (vars : List ℕ) × IsProduct (G.view store.old) cube vars }
+    requires cube { (vars : List ℕ) × IsCubeOf (G.view store.old) cube vars }
     requires permanent { Permanent (G.view store.old) }
     requires room { 2 * (G.view store.old).vars ≤ stack.old.free }
-    ensures runs { (vars : List ℕ) → IsProduct (G.view store.old) cube vars → Runs Bdd (forall_all (bdd_at (G.view store.old) f) vars) (value_of_forall f vars (G.view store.old)) (G.view store.old) (G.view store.new) (halts result) }
+    ensures runs { (vars : List ℕ) → IsCubeOf (G.view store.old) cube vars → Runs Bdd (forall_all (bdd_at (G.view store.old) f) vars) (value_of_forall f vars (G.view store.old)) (G.view store.old) (G.view store.new) (halts result) }
     ensures stack { stack.new ≡ stack.old }
 {
     let not_f = flip_if(f, true);

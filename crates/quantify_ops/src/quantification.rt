@@ -9,7 +9,7 @@ ghost use Rattle.node_store.specs.Operands.{HalvesOfTwo};
 ghost use Rattle.node_store.specs.Views.{View, AreTwo, Kept, NotBothLeaves, Permanent, Rose};
 ghost use Rattle.node_store.specs.Splits.{CanJoin};
 ghost use Rattle.node_store.specs.Work.{IsWork, Moves};
-ghost use Rattle.quantify_ops.specs.Products.{IsProduct};
+ghost use Rattle.quantify_ops.specs.Products.{IsCubeOf};
 ghost use Rattle.quantify_ops.specs.Works.{value_of_and_exists};
 ghost use Rattle.quantify_ops.specs.Quantified.{both_at, AreQuantified, IsKeyOf, IsKnown, IsNarrowed, IsQuantifiedValue, QuantifiedAnswers, QuantifiedDue, QuantifiedFirst, QuantifiedSplits};
 
@@ -37,7 +37,7 @@ impl<G: Grow> Operator<G> for Quantification {
     ghost use Rattle.node_store.specs.Two.{two_depth};
     ghost use Rattle.node_store.specs.TwoLaws.{two_depth-stays};
     ghost use Rattle.node_store.specs.Work.{IsWork};
-    ghost use Rattle.quantify_ops.specs.Products.{IsProduct};
+    ghost use Rattle.quantify_ops.specs.Products.{IsCubeOf};
     ghost use Rattle.quantify_ops.specs.Works.{value_of_and_exists};
     ghost use Rattle.quantify_ops.specs.Quantified.{both_at, AreQuantified, IsQuantifiedValue, QuantifiedDue, QuantifiedAnswers, QuantifiedWaits};
     ghost use Rattle.quantify_ops.specs.QuantifiedLasts.{AreQuantified-grown, IsQuantifiedValue-stays, QuantifiedDue-stays, QuantifiedAnswers-stay, QuantifiedWaits-stay};
@@ -236,10 +236,10 @@ pub(crate) fn quantify<G: Grow>(
     cube: Edge,
 ) -> Result<Edge, Halt>
     requires operands { AreTwo Bdd (G.view store.old) f g }
-    requires cube { (vars : List ℕ) × IsProduct (G.view store.old) cube vars }
+    requires cube { (vars : List ℕ) × IsCubeOf (G.view store.old) cube vars }
     requires permanent { Permanent (G.view store.old) }
     requires room { 2 * (G.view store.old).vars ≤ stack.old.free }
-    ensures runs { (vars : List ℕ) → IsProduct (G.view store.old) cube vars → Runs Bdd (exists_all (both_at (G.view store.old) f g) vars) (value_of_and_exists f g vars (G.view store.old)) (G.view store.old) (G.view store.new) result }
+    ensures runs { (vars : List ℕ) → IsCubeOf (G.view store.old) cube vars → Runs Bdd (exists_all (both_at (G.view store.old) f g) vars) (value_of_and_exists f g vars (G.view store.old)) (G.view store.old) (G.view store.new) result }
     ensures stack { stack.new ≡ stack.old }
 {
     let op = Quantification { f, g, cube };
