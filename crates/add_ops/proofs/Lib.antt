@@ -3,3 +3,4 @@ pub mod ExactLaws
 mod ConversionLaws
 mod TruthLaws
 mod SumLaws
+pub mod OutcomeLaws

@@ -32,9 +32,10 @@ use Rattle.function_laws.specs.Kinds.{Fits, Denoted, ValueOf}
 use Rattle.node_store.specs.Two.{Overflows}
 use Rattle.node_store.specs.Work.{IsWork}
 use Rattle.node_store.specs.ViewLaws.{Is-from, Is-grown, values_at-grown, values_at-is}
+use Rattle.node_store.specs.Listed.{listed, listed_at}
 use Rattle.node_slots.specs.Views.{View, Denotes, Grown, Is, IsVariable, Rose, values_at}
 use Rattle.net_jobs.specs.declared.session.Row.{Row}
-use Rattle.net_jobs.specs.Agreement.{Adds, Agrees, AreStored, Exceeds, Has, IsDue, IsKept, IsLiveOf, IsStepOf, Refuses, Rows, edge_or, listed, listed_at, name_of, row_of, sizes_for}
+use Rattle.net_jobs.specs.Agreement.{Adds, Agrees, AreStored, Exceeds, Has, IsDue, IsKept, IsLiveOf, IsStepOf, Refuses, Rows, edge_or, name_of, row_of, sizes_for}
 use Rattle.net_jobs.proofs.ListLemmas.{slice_get-push, slice_get-set}
 
 -- the names of two rows
@@ -222,14 +223,6 @@ variables_of w rows t agrees = ap (λ (z : Sizes). z.variables) agrees.sizes_are
 
 pub elements_of : (w : View) (rows : Rows) (t : Table) → Agrees w rows t → t.sizes.elements ≡ w.elements
 elements_of w rows t agrees = ap (λ (z : Sizes). z.elements) agrees.sizes_are
-
--- the variables are in the table's range
-pub variable_in_range : (w : View) (rows : Rows) (v : ℕ) (t : Table) → v < w.vars → Agrees w rows t → nat_lt v t.sizes.variables ≡ true
-variable_in_range w rows v t within agrees = lt-ltb v t.sizes.variables (omega (arith, within, variables_of w rows t agrees))
-
-pub all_in_range : (w : View) (rows : Rows) (vs : List ℕ) (t : Table) → All (λ v. v < w.vars) vs → Agrees w rows t → list_all (λ v. nat_lt v t.sizes.variables) vs ≡ true
-all_in_range w rows vs t vars agrees =
-    list_all-from_AllPass (λ v. nat_lt v t.sizes.variables) vs (λ k d below. variable_in_range w rows (get_or vs k d) t (vars k d below) agrees)
 
 -- what a live name stands for
 pub live_at : (k : Kind) (w : View) (rows : Rows) (t : Table) (a : Name) (e : Edge) → Agrees w rows t → IsLiveOf k rows a → Has k rows a.row e → t.live 0 a ≡ Some (listed_at k w e)

@@ -13,4 +13,3 @@ pub mod SizeLemmas
 pub mod StandsLemmas
 pub mod WalkingLemmas
 pub mod WordLemmas
-pub mod FamilyLemmas

@@ -31,97 +31,17 @@ use Rattle.node_slots.specs.Views.{View, Grown, Rose, bdd_at}
 use Rattle.net_jobs.specs.Agreement.{Adds, Agrees, AreStored, Has, IsKept, IsLiveOf, IsStepOf, Refuses, Rows, edge_or, name_of, row_of, with_edge}
 use Rattle.quantify_ops.specs.Restricted.{Restricted}
 use Rattle.quantify_ops.specs.Substituted.{AreSubstituted, IsPair, function_with, functions_of, substituted_at}
-use Rattle.net_jobs.proofs.AgreementLemmas.{agrees-grown, agrees_push, all_in_range, has_edge, live_at, refuses_any, variable_in_range, variables_of}
+use Rattle.ite_core.proofs.OutcomeLaws.{outcome-leq}
+use Rattle.quantify_ops.proofs.OutcomeLaws.{outcome-restrict}
+use Rattle.net_jobs.proofs.AgreementLemmas.{agrees-grown, agrees_push, has_edge, live_at, refuses_any}
 
 -- the whole list of a BDD's values
 abbrev list_at : View → Edge → List Bool
 list_at w e = list_of (2 ^ w.vars) (bdd_at w e)
 
 module _ (w : View) (rows : Rows) where
-  pub outcome-of_var : (v : ℕ) (t : Table) → v < w.vars → Agrees w rows t → outcome t 0 (Var v) ≡ Some (makes (Bdd (list_of (2 ^ w.vars) (projection v))))
-  outcome-of_var v t within agrees =
-      let size = variables_of w rows t agrees in
-      outcome-var t 0 v (subst (λ m. v < m) (sym size) within) ∙ ap (λ m. Some (makes (Bdd (list_of (2 ^ m) (projection v))))) size
-
-  pub outcome-of_and : (a b : Name) (e d : Edge) (t : Table) → IsLiveOf kinds.Bdd rows a → IsLiveOf kinds.Bdd rows b → Has kinds.Bdd rows a.row e → Has kinds.Bdd rows b.row d → Agrees w rows t
-      → outcome t 0 (And a b) ≡ Some (makes (Bdd (list_of (2 ^ w.vars) (conjunction (bdd_at w e) (bdd_at w d)))))
-  outcome-of_and a b e d t first second is_e is_d agrees =
-      outcome-and t 0 a b (list_at w e) (list_at w d) (live_at kinds.Bdd w rows t a e agrees first is_e) (live_at kinds.Bdd w rows t b d agrees second is_d)
-      ∙ ap (λ f. Some (makes (Bdd f))) (and_of-list_of (2 ^ w.vars) (bdd_at w e) (bdd_at w d))
-
-  pub outcome-of_one : (t : Table) → Agrees w rows t → outcome t 0 One ≡ Some (makes (Bdd (list_of (2 ^ w.vars) (constant true))))
-  outcome-of_one t agrees = ap (λ (z : Sizes). Some (makes (Bdd (list_of (2 ^ z.variables) (constant true))))) agrees.sizes_are
-
-  pub outcome-of_zero : (t : Table) → Agrees w rows t → outcome t 0 Zero ≡ Some (makes (Bdd (list_of (2 ^ w.vars) (constant false))))
-  outcome-of_zero t agrees = ap (λ (z : Sizes). Some (makes (Bdd (list_of (2 ^ z.variables) (constant false))))) agrees.sizes_are
-
-  pub outcome-of_not : (a : Name) (e : Edge) (t : Table) → IsLiveOf kinds.Bdd rows a → Has kinds.Bdd rows a.row e → Agrees w rows t
-      → outcome t 0 (Not a) ≡ Some (makes (Bdd (list_of (2 ^ w.vars) (negation (bdd_at w e)))))
-  outcome-of_not a e t first is_e agrees =
-      ap (λ x. with_one (as_bdd x) (λ f. makes (Bdd (not_of f)))) (live_at kinds.Bdd w rows t a e agrees first is_e)
-      ∙ ap (λ f. Some (makes (Bdd f))) (not_of-list_of (2 ^ w.vars) (bdd_at w e))
-
-  pub outcome-of_or : (a b : Name) (e d : Edge) (t : Table) → IsLiveOf kinds.Bdd rows a → IsLiveOf kinds.Bdd rows b → Has kinds.Bdd rows a.row e → Has kinds.Bdd rows b.row d → Agrees w rows t
-      → outcome t 0 (Or a b) ≡ Some (makes (Bdd (list_of (2 ^ w.vars) (disjunction (bdd_at w e) (bdd_at w d)))))
-  outcome-of_or a b e d t first second is_e is_d agrees =
-      ap₂ (λ x y. with_two (as_bdd x) (as_bdd y) (λ f g. makes (Bdd (or_of f g)))) (live_at kinds.Bdd w rows t a e agrees first is_e) (live_at kinds.Bdd w rows t b d agrees second is_d)
-      ∙ ap (λ f. Some (makes (Bdd f))) (place_two-list_of (λ p q. p || q) (2 ^ w.vars) (bdd_at w e) (bdd_at w d))
-
-  pub outcome-of_ite : (a b c : Name) (e d i : Edge) (t : Table) → IsLiveOf kinds.Bdd rows a → IsLiveOf kinds.Bdd rows b → IsLiveOf kinds.Bdd rows c → Has kinds.Bdd rows a.row e → Has kinds.Bdd rows b.row d → Has kinds.Bdd rows c.row i
-      → Agrees w rows t → outcome t 0 (Ite a b c) ≡ Some (makes (Bdd (list_of (2 ^ w.vars) (if_then_else (bdd_at w e) (bdd_at w d) (bdd_at w i)))))
-  outcome-of_ite a b c e d i t first second third is_e is_d is_i agrees =
-      ap₂ (λ x y. with_three (as_bdd x) (as_bdd y) (as_bdd (t.live 0 c)) (λ f g h. makes (Bdd (ite_of f g h)))) (live_at kinds.Bdd w rows t a e agrees first is_e) (live_at kinds.Bdd w rows t b d agrees second is_d)
-      ∙ ap (λ z. with_three (Some (list_at w e)) (Some (list_at w d)) (as_bdd z) (λ f g h. makes (Bdd (ite_of f g h)))) (live_at kinds.Bdd w rows t c i agrees third is_i)
-      ∙ ap (λ f. Some (makes (Bdd f))) (ite_of-list_of (2 ^ w.vars) (bdd_at w e) (bdd_at w d) (bdd_at w i))
-
-  pub outcome-of_xor : (a b : Name) (e d : Edge) (t : Table) → IsLiveOf kinds.Bdd rows a → IsLiveOf kinds.Bdd rows b → Has kinds.Bdd rows a.row e → Has kinds.Bdd rows b.row d → Agrees w rows t
-      → outcome t 0 (Xor a b) ≡ Some (makes (Bdd (list_of (2 ^ w.vars) (exclusive (bdd_at w e) (bdd_at w d)))))
-  outcome-of_xor a b e d t first second is_e is_d agrees =
-      ap₂ (λ x y. with_two (as_bdd x) (as_bdd y) (λ f g. makes (Bdd (xor_of f g)))) (live_at kinds.Bdd w rows t a e agrees first is_e) (live_at kinds.Bdd w rows t b d agrees second is_d)
-      ∙ ap (λ f. Some (makes (Bdd f))) (xor_of-list_of (2 ^ w.vars) (bdd_at w e) (bdd_at w d))
-
-  pub outcome-of_cofactor : (a : Name) (v : ℕ) (b : Bool) (e : Edge) (t : Table) → v < w.vars → IsLiveOf kinds.Bdd rows a → Has kinds.Bdd rows a.row e → Agrees w rows t
-      → outcome t 0 (Cofactor a v b) ≡ Some (makes (Bdd (list_of (2 ^ w.vars) (cofactor (bdd_at w e) v b))))
-  outcome-of_cofactor a v b e t within first is_e agrees =
-      ap₂ (λ c x. when c (with_one (as_bdd x) (λ f. makes (Bdd (cofactor_of f v b)))))
-      (variable_in_range w rows v t within agrees) (live_at kinds.Bdd w rows t a e agrees first is_e)
-      ∙ ap (λ f. Some (makes (Bdd f))) (cofactor_of-list_of w.vars v b (bdd_at w e) within)
-
-  pub outcome-of_exists : (a : Name) (vs : List ℕ) (e : Edge) (t : Table) → All (λ v. v < w.vars) vs → IsLiveOf kinds.Bdd rows a → Has kinds.Bdd rows a.row e → Agrees w rows t
-      → outcome t 0 (Exists a vs) ≡ Some (makes (Bdd (list_of (2 ^ w.vars) (exists_all (bdd_at w e) vs))))
-  outcome-of_exists a vs e t vars first is_e agrees =
-      ap₂ (λ c x. when c (with_one (as_bdd x) (λ f. makes (Bdd (exists_of f vs))))) (all_in_range w rows vs t vars agrees) (live_at kinds.Bdd w rows t a e agrees first is_e)
-      ∙ ap (λ f. Some (makes (Bdd f))) (exists_of-list_of w.vars (bdd_at w e) vs vars)
-
-  pub outcome-of_forall : (a : Name) (vs : List ℕ) (e : Edge) (t : Table) → All (λ v. v < w.vars) vs → IsLiveOf kinds.Bdd rows a → Has kinds.Bdd rows a.row e → Agrees w rows t
-      → outcome t 0 (Forall a vs) ≡ Some (makes (Bdd (list_of (2 ^ w.vars) (forall_all (bdd_at w e) vs))))
-  outcome-of_forall a vs e t vars first is_e agrees =
-      ap₂ (λ c x. when c (with_one (as_bdd x) (λ f. makes (Bdd (forall_of f vs))))) (all_in_range w rows vs t vars agrees) (live_at kinds.Bdd w rows t a e agrees first is_e)
-      ∙ ap (λ f. Some (makes (Bdd f))) (forall_of-list_of w.vars (bdd_at w e) vs vars)
-
-  pub outcome-of_and_exists : (a b : Name) (vs : List ℕ) (e d : Edge) (t : Table) → All (λ v. v < w.vars) vs → IsLiveOf kinds.Bdd rows a → IsLiveOf kinds.Bdd rows b → Has kinds.Bdd rows a.row e → Has kinds.Bdd rows b.row d
-      → Agrees w rows t → outcome t 0 (AndExists a b vs) ≡ Some (makes (Bdd (list_of (2 ^ w.vars) (exists_all (conjunction (bdd_at w e) (bdd_at w d)) vs))))
-  outcome-of_and_exists a b vs e d t vars first second is_e is_d agrees =
-      ap₂ (λ c x. when c (with_two (as_bdd x) (as_bdd (t.live 0 b)) (λ f g. makes (Bdd (and_exists_of f g vs))))) (all_in_range w rows vs t vars agrees) (live_at kinds.Bdd w rows t a e agrees first is_e)
-      ∙ ap (λ y. with_two (Some (list_at w e)) (as_bdd y) (λ f g. makes (Bdd (and_exists_of f g vs)))) (live_at kinds.Bdd w rows t b d agrees second is_d)
-      ∙ ap (λ f. Some (makes (Bdd f))) (and_exists_of-list_of w.vars (bdd_at w e) (bdd_at w d) vs vars)
-
-  pub outcome-of_support : (a : Name) (e : Edge) (t : Table) → IsLiveOf kinds.Bdd rows a → Has kinds.Bdd rows a.row e → Agrees w rows t
-      → outcome t 0 (Support a) ≡ Some (makes (Bdd (list_of (2 ^ w.vars) (support w.vars (bdd_at w e)))))
-  outcome-of_support a e t first is_e agrees =
-      ap₂ (λ n x. with_one (as_bdd x) (λ f. makes (Bdd (support_of n f)))) (variables_of w rows t agrees) (live_at kinds.Bdd w rows t a e agrees first is_e)
-      ∙ ap (λ f. Some (makes (Bdd f))) (support_of-list_of w.vars (bdd_at w e))
-
-  pub outcome-of_compose : (a : Name) (v : ℕ) (b : Name) (e d : Edge) (t : Table) → v < w.vars → IsLiveOf kinds.Bdd rows a → IsLiveOf kinds.Bdd rows b → Has kinds.Bdd rows a.row e → Has kinds.Bdd rows b.row d → Agrees w rows t
-      → outcome t 0 (Compose a v b) ≡ Some (makes (Bdd (list_of (2 ^ w.vars) (composed (bdd_at w e) v (bdd_at w d)))))
-  outcome-of_compose a v b e d t within first second is_e is_d agrees =
-      ap₂ (λ c x. when c (with_two (as_bdd x) (as_bdd (t.live 0 b)) (λ f g. makes (Bdd (compose_of f v g)))))
-      (variable_in_range w rows v t within agrees) (live_at kinds.Bdd w rows t a e agrees first is_e)
-      ∙ ap (λ y. with_two (Some (list_at w e)) (as_bdd y) (λ f g. makes (Bdd (compose_of f v g)))) (live_at kinds.Bdd w rows t b d agrees second is_d)
-      ∙ ap (λ f. Some (makes (Bdd f))) (compose_of-list_of w.vars v (bdd_at w e) (bdd_at w d) within)
-
   -- what the names of the pairs stand for
-  live_pairs : (pairs : List (ℕ × Name)) (t : Table) → All (λ pair. IsLiveOf kinds.Bdd rows pair.1) pairs → Agrees w rows t
+  pub live_pairs : (pairs : List (ℕ × Name)) (t : Table) → All (λ pair. IsLiveOf kinds.Bdd rows pair.1) pairs → Agrees w rows t
       → bdds_of (t.live 0) pairs ≡ Some (map (listed (2 ^ w.vars)) (functions_of w (map (with_edge rows) pairs)))
   live_pairs [] t all agrees = refl
   live_pairs (pair ∷ pairs) t all agrees =
@@ -129,26 +49,8 @@ module _ (w : View) (rows : Rows) where
       ap₂ (λ x o. option_and_then (λ f. option_map (λ rest. (pair.0, f) ∷ rest) o) (as_bdd x))
       (live_at kinds.Bdd w rows t pair.1 (edge_or (slice_get rows pair.1.row)) agrees live (has_edge kinds.Bdd rows pair.1.row live.1)) (live_pairs pairs t (All-tail (λ pair. IsLiveOf kinds.Bdd rows pair.1) pair pairs all) agrees)
 
-  pairs_in_range : (pairs : List (ℕ × Name)) (t : Table) → All (λ pair. pair.0 < w.vars) pairs → Agrees w rows t → list_all (λ pair. nat_lt pair.0 t.sizes.variables) pairs ≡ true
-  pairs_in_range pairs t vars agrees =
-      list_all-from_AllPass (λ pair. nat_lt pair.0 t.sizes.variables) pairs
-      (λ k d below. lt-ltb (get_or pairs k d).0 t.sizes.variables (omega (arith, vars k d below, variables_of w rows t agrees)))
-
-  pub outcome-of_vector_compose : (a : Name) (pairs : List (ℕ × Name)) (e : Edge) (t : Table) → All (λ pair. pair.0 < w.vars) pairs → All (λ pair. IsLiveOf kinds.Bdd rows pair.1) pairs
-      → are_distinct (map (λ pair. pair.0) pairs) ≡ true → IsLiveOf kinds.Bdd rows a → Has kinds.Bdd rows a.row e → Agrees w rows t
-      → outcome t 0 (VectorCompose a pairs) ≡ Some (makes (Bdd (list_of (2 ^ w.vars) (substituted_at w e (map (with_edge rows) pairs)))))
-  outcome-of_vector_compose a pairs e t vars live distinct first is_e agrees =
-      let fs = functions_of w (map (with_edge rows) pairs) in
-      ap₂ (λ c x. when c (with_two (as_bdd x) (bdds_of (t.live 0) pairs) (λ f gs. makes (Bdd (vector_compose_of f gs)))))
-      (ap₂ (λ b c. b && c) (pairs_in_range pairs t vars agrees) distinct) (live_at kinds.Bdd w rows t a e agrees first is_e)
-      ∙ ap (λ o. with_two (Some (list_at w e)) o (λ f gs. makes (Bdd (vector_compose_of f gs)))) (live_pairs pairs t live agrees)
-      ∙ ap (λ f. Some (makes (Bdd f))) (vector_compose_of-list_of w.vars (bdd_at w e) fs
-      (All-map (λ pair. pair.0 < w.vars) (function_with w) (map (with_edge rows) pairs) (All-map (λ pair. pair.0 < w.vars) (with_edge rows) pairs vars)))
-
-  pub outcome-of_restrict : (a b : Name) (e d : Edge) (t : Table) → IsLiveOf kinds.Bdd rows a → IsLiveOf kinds.Bdd rows b → Has kinds.Bdd rows a.row e → Has kinds.Bdd rows b.row d → Agrees w rows t
-      → outcome t 0 (Restrict a b) ≡ Some (restricts (list_at w e) (list_at w d))
-  outcome-of_restrict a b e d t first second is_e is_d agrees =
-      ap₂ (λ x y. with_two (as_bdd x) (as_bdd y) restricts) (live_at kinds.Bdd w rows t a e agrees first is_e) (live_at kinds.Bdd w rows t b d agrees second is_d)
+  pub edges_within : (pairs : List (ℕ × Name)) → All (λ pair. pair.0 < w.vars) pairs → All (λ pair. pair.0 < w.vars) (map (with_edge rows) pairs)
+  edges_within pairs vars = All-map (λ pair. pair.0 < w.vars) (with_edge rows) pairs vars
 
   -- what restrict chose is told by the reply
   pub chooses : (w' : View) (new : Rows) (a b name : Name) (e d x : Edge) → Grown w w' → AreStored w rows → IsLiveOf kinds.Bdd rows a → IsLiveOf kinds.Bdd rows b → Has kinds.Bdd rows a.row e → Has kinds.Bdd rows b.row d
@@ -165,7 +67,7 @@ module _ (w : View) (rows : Rows) where
         let says : Restricts (length (list_at w e)) (truth (list_at w e)) (truth (list_at w d)) (truth (list_at w' x)) =
         subst (λ g. Restricts (length (list_at w e)) (truth (list_at w e)) (truth (list_at w d)) (truth g)) (sym list) (Restricts-list_of w.vars (bdd_at w e) (bdd_at w d) (bdd_at w' x) chosen.restricts) in
         let allowed : IsAllowed t 0 (Restrict a b) (Chose made (list_at w' x)) =
-        (restricts (list_at w e) (list_at w d), outcome-of_restrict a b e d t first second is_e is_d agrees, (agrees.not_given (length rows) (omega arith), long, says)) in (
+        (restricts (list_at w e) (list_at w d), outcome-restrict w t.sizes t.cells (t.live 0) a b e d (live_at kinds.Bdd w rows t a e agrees first is_e) (live_at kinds.Bdd w rows t b d agrees second is_d), (agrees.not_given (length rows) (omega arith), long, says)) in (
           subst (λ (r : Name). IsAllowed t 0 (Restrict a b) (Chose r (list_at w' x))) (sym is_name) allowed,
           subst (λ (r : Name). Agrees w' new (with_name t 0 r (Bdd (list_at w' x)))) (sym is_name)
               (subst (λ (u : Rows). Agrees w' u (with_name t 0 made (Bdd (list_at w' x)))) (sym is_new) (agrees_push w' rows t kinds.Bdd x (agrees-grown w w' rows t grown stored agrees))),
@@ -178,7 +80,7 @@ module _ (w : View) (rows : Rows) where
   step-leq w' a b e d (Err x) grown stored first second is_e is_d is_told = tt
   step-leq w' a b e d (Ok told) grown stored first second is_e is_d is_told = λ t agrees.
       let out : outcome t 0 (Leq a b) ≡ Some (tells (leq_of (list_at w e) (list_at w d))) =
-      ap₂ (λ x y. with_two (as_bdd x) (as_bdd y) (λ f g. tells (leq_of f g))) (live_at kinds.Bdd w rows t a e agrees first is_e) (live_at kinds.Bdd w rows t b d agrees second is_d) in (
+      outcome-leq w t.sizes t.cells (t.live 0) a b e d (live_at kinds.Bdd w rows t a e agrees first is_e) (live_at kinds.Bdd w rows t b d agrees second is_d) in (
         (tells (leq_of (list_at w e) (list_at w d)), out, leq_of-list_of w.vars (bdd_at w e) (bdd_at w d) told (stored a.row kinds.Bdd e is_e).beyond (stored b.row kinds.Bdd d is_d).beyond is_told),
         agrees-grown w w' rows t grown stored agrees,
       )
@@ -196,7 +98,7 @@ pub restrict_refuses : (w w' : View) (rows new : Rows) (a b : Name) (e d : Edge)
 restrict_refuses w w' rows new a b e d made (Ok name) grown stored first second is_e is_d rose full same is = cc
 restrict_refuses w w' rows new a b e d made (Err x) grown stored first second is_e is_d rose full same is =
     refuses_any w w' rows new (Restrict a b) grown stored (rose (full is)) same refl
-    (λ t agrees. (restricts (list_at w e) (list_at w d), outcome-of_restrict w rows a b e d t first second is_e is_d agrees, refl))
+    (λ t agrees. (restricts (list_at w e) (list_at w d), outcome-restrict w t.sizes t.cells (t.live 0) a b e d (live_at kinds.Bdd w rows t a e agrees first is_e) (live_at kinds.Bdd w rows t b d agrees second is_d), refl))
 
 -- the pairs of a composition are of the store
 edge_names : (rows : Rows) (pairs : List (ℕ × Name)) → map (λ pair. pair.0) (map (with_edge rows) pairs) ≡ map (λ pair. pair.0) pairs

@@ -6,7 +6,8 @@ use Rattle.edge_bits.specs.declared.edges.Kind.TheVariants.{Bdd, Add, Zdd}
 use Rattle.edge_bits.specs.Assignments.{bit}
 use Rattle.function_laws.specs.Kinds.{ValueOf}
 use Rattle.node_slots.specs.Views.{View, Is, IsInner, IsLeaf, IsLeafOf, IsVariable, levels, logic_one, logic_zero, node_values, number, values_at}
-use Rattle.net_jobs.specs.Walking.{IsOnVariables, number_of}
+use Rattle.node_store.specs.Listed.{number_of}
+use Rattle.net_jobs.specs.Walking.{IsOnVariables}
 
 -- the arc that a bit chooses has the value of the node
 choice-taken : (k : Kind) (b : View) (hi lo : Edge) (v x : ℕ) → IsOnVariables k → bit x v ≡ true → node_values k b v hi lo x ≡ values_at k b hi x

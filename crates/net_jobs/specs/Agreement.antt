@@ -1,5 +1,5 @@
 -- When a session of rows agrees with a table of functions, and which of its calls are steps of the table.
-use Rattle.std.specs.Prelude.{◌≡◌, ℕ, ◌≤◌, ◌^◌, Bool, true, false, List, [], ◌∷◌, ◌++◌, ◌⊎◌, length, Option, Some, None, slice_get}
+use Rattle.std.specs.Prelude.{◌≡◌, ℕ, ◌≤◌, Bool, true, false, List, [], ◌∷◌, ◌++◌, ◌⊎◌, length, Option, Some, None, slice_get}
 use Rattle.edge_bits.specs.declared.edges.Edge.{Edge}
 use Rattle.edge_bits.specs.declared.edges.Kind.{Kind}
 use Rattle.edge_bits.specs.declared.edges.Kind.TheVariants as kinds
@@ -7,14 +7,12 @@ use Rattle.function_laws.specs.declared.history.Name.{Name}
 use Rattle.function_laws.specs.declared.history.Call.{Call}
 use Rattle.function_laws.specs.declared.history.Reply.{Reply}
 use Rattle.function_laws.specs.declared.history.Reply.TheVariants.{Made, Chose, Full, Overflow}
-use Rattle.function_laws.specs.declared.history.Function.{Function}
-use Rattle.function_laws.specs.declared.history.Function.TheVariants.{Bdd, Add, Zdd}
-use Rattle.function_laws.specs.Lists.{list_of}
 use Rattle.function_laws.specs.Tables.{Table, Sizes}
 use Rattle.function_laws.specs.Steps.{IsAllowed, after}
-use Rattle.function_laws.specs.Kinds.{Denoted, ValueOf}
+use Rattle.function_laws.specs.Kinds.{Denoted}
+use Rattle.node_store.specs.Listed.{listed_at}
 use Rattle.node_slots.specs.Stores.{Plain, in_use}
-use Rattle.node_slots.specs.Views.{View, Is, Rose, values_at}
+use Rattle.node_slots.specs.Views.{View, Is, Rose}
 use Rattle.net_jobs.specs.declared.session.Row.{Row}
 
 -- The rows of a session: the kind and the edge of each row, and nothing where the row was dropped.
@@ -69,16 +67,6 @@ AreStored w rows = (row : ℕ) (k : Kind) (e : Edge) → Has k rows row e → Is
 -- n variables and m elements
 abbrev pub sizes_for : ℕ → ℕ → Sizes
 sizes_for n m = record { variables = n; elements = m; most_variables = n; most_elements = m }
-
--- the whole list of a function's values: for each assignment of the store's variables, or for each combination of its elements
-abbrev pub listed : (k : Kind) → View → (ℕ → ValueOf k) → Function
-listed kinds.Bdd w f = Bdd (list_of (2 ^ w.vars) f)
-listed kinds.Add w f = Add (list_of (2 ^ w.vars) f)
-listed kinds.Zdd w p = Zdd (list_of (2 ^ w.elements) p)
-
--- what an edge of this kind denotes, as a whole list
-abbrev pub listed_at : Kind → View → Edge → Function
-listed_at k w e = listed k w (values_at k w e)
 
 -- The table has the store's numbers of variables and elements, each row's function under its name in session 0, and no
 -- further name was given.

@@ -4,7 +4,8 @@ ghost use Rattle.std.specs.Prelude.{◌≡◌, length, if◌then◌else◌};
 ghost use Rattle.edge_bits.specs.declared.edges.Kind.{Kind};
 ghost use Rattle.function_laws.specs.Values.{assignment_of};
 ghost use Rattle.node_slots.specs.Views.{Kept, values_at};
-ghost use Rattle.net_jobs.specs.Walking.{CanWalk, number_of};
+ghost use Rattle.node_store.specs.Listed.{number_of};
+ghost use Rattle.net_jobs.specs.Walking.{CanWalk};
 
 use edge_bits::Edge;
 use node_slots::{Grow, Opened};

@@ -23,3 +23,5 @@ pub mod Adding
 pub mod Exchange
 pub mod ExchangeSound
 pub mod Marking
+pub mod ListedLaws
+pub mod Outcomes

@@ -26,3 +26,4 @@ pub mod Operands
 pub mod Contents
 pub mod Changes
 pub mod Sweeps
+pub mod Listed

@@ -7,3 +7,4 @@ pub mod CompositionLaws
 pub mod SubstitutionLaws
 pub mod LiftLaws
 pub mod RestrictLaws
+pub mod OutcomeLaws

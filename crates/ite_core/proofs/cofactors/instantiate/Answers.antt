@@ -6,7 +6,7 @@ use Rattle.node_store.proofs.Running.{runs, same_answer, same_scratch}
 use Rattle.ite_core.specs.Cofactors.{HasCofactor}
 use Rattle.ite_core.specs.CofactorLasts.{HasCofactor-grown, cofactor_at-grown, value_of_cofactor-back}
 use Rattle.ite_core.proofs.CofactorLaws.{literal_from}
-use Rattle.ite_core.proofs.Outcomes.{Serves-after}
+use Rattle.node_store.proofs.Running.{Serves-after}
 use Rattle.ite_core.proofs.cofactors.instantiate.Goals as goal
 
 pub evaluate-requires-clause-due : goal.evaluate-requires-clause-due

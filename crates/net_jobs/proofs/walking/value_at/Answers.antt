@@ -4,7 +4,8 @@ use Rattle.edge_bits.specs.declared.edges.Kind.{Kind}
 use Rattle.function_laws.specs.Values.{assignment_of}
 use Rattle.node_slots.specs.Views.{Is, values_at}
 use Rattle.node_store.specs.ViewLaws.{Kept-refl, Kept-trans, top-grown}
-use Rattle.net_jobs.specs.Walking.{CanWalk, number_of}
+use Rattle.node_store.specs.Listed.{number_of}
+use Rattle.net_jobs.specs.Walking.{CanWalk}
 use Rattle.function_laws.proofs.BitLists.{bit-assignment_of}
 use Rattle.net_jobs.proofs.WalkingLemmas.{walk-inner, walk-leaf, walk-levels, walk-top, walk-within}
 use Rattle.net_jobs.proofs.walking.value_at.Goals as goal

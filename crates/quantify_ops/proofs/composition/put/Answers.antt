@@ -5,7 +5,7 @@ use Rattle.node_store.specs.ViewLaws.{Grown-trans, IsVariable-grown, Permanent-g
 use Rattle.node_store.specs.TwoLaws.{AreTwo-grown}
 use Rattle.node_store.specs.Work.{whole}
 use Rattle.node_store.proofs.Running.{runs, same_scratch}
-use Rattle.ite_core.proofs.Outcomes.{Serves-after}
+use Rattle.node_store.proofs.Running.{Serves-after}
 use Rattle.quantify_ops.specs.Composed.{AreComposed}
 use Rattle.quantify_ops.specs.ComposedLasts.{AreComposed-grown, value_of_compose-back}
 use Rattle.quantify_ops.proofs.CompositionLaws.{root_answer}

@@ -6,7 +6,7 @@ use Rattle.function_laws.specs.Kinds.{BddFunction}
 use Rattle.function_laws.specs.Values.{support}
 use Rattle.node_store.specs.Views.{Denotes, Kept, bdd_at}
 use Rattle.node_store.specs.ViewLaws.{Denotes-grown, Grown-trans, Is-grown, Kept-trans, values_at-grown}
-use Rattle.ite_core.proofs.Outcomes.{Serves-after, Serves-kept, Serves-named}
+use Rattle.node_store.proofs.Running.{Serves-after, Serves-kept, Serves-named}
 use Rattle.quantify_ops.specs.Products.{marked_product}
 use Rattle.quantify_ops.proofs.OperationLaws.{Serves-failed, Serves-then}
 use Rattle.quantify_ops.proofs.ProductLaws.{AreMarks-grown}

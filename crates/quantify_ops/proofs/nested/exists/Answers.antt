@@ -1,7 +1,7 @@
 use Rattle.std.proofs.Common.{ℕ, Bool, subst}
 use Rattle.edge_bits.specs.declared.edges.Kind.TheVariants.{Bdd}
 use Rattle.node_store.specs.Views.{Denotes}
-use Rattle.ite_core.proofs.Outcomes.{Serves-named}
+use Rattle.node_store.proofs.Running.{Serves-named}
 use Rattle.quantify_ops.proofs.OperationLaws.{with_true, true_and, true_value}
 use Rattle.quantify_ops.proofs.nested.exists.Goals as goal
 

@@ -1,4 +1,4 @@
-use Rattle.ite_core.proofs.Outcomes.{Serves-halts}
+use Rattle.node_store.proofs.Running.{Serves-halts}
 use Rattle.quantify_ops.proofs.operations.vector_compose.Goals as goal
 
 pub returns : goal.returns

@@ -3,7 +3,7 @@ use Rattle.edge_bits.specs.declared.edges.Kind.TheVariants.{Bdd}
 use Rattle.function_laws.specs.Kinds.{BddFunction}
 use Rattle.node_store.specs.Operations.{Runs}
 use Rattle.node_store.specs.ViewLaws.{Kept-trans, Permanent-grown}
-use Rattle.ite_core.proofs.Outcomes.{Serves-after}
+use Rattle.node_store.proofs.Running.{Serves-after}
 use Rattle.quantify_ops.proofs.ProductLaws.{none_marked}
 use Rattle.quantify_ops.specs.WorksLasts.{in_range_lasts}
 use Rattle.quantify_ops.proofs.products.product.Goals as goal

@@ -5,7 +5,7 @@ use Rattle.node_store.specs.Views.{Denotes}
 use Rattle.node_store.specs.ViewLaws.{Permanent-grown}
 use Rattle.node_store.specs.TwoLaws.{AreTwo-grown}
 use Rattle.quantify_ops.specs.WorksLasts.{both_back, work_back}
-use Rattle.ite_core.proofs.Outcomes.{Serves-named}
+use Rattle.node_store.proofs.Running.{Serves-named}
 use Rattle.quantify_ops.proofs.OperationLaws.{Serves-failed, Serves-then}
 use Rattle.quantify_ops.proofs.quantifiers.over_product.Goals as goal
 

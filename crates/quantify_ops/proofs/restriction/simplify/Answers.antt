@@ -3,7 +3,7 @@ use Rattle.edge_bits.specs.declared.edges.Kind.TheVariants.{Bdd}
 use Rattle.node_store.specs.ViewLaws.{Grown-trans, Permanent-grown}
 use Rattle.node_store.specs.TwoLaws.{AreTwo-grown}
 use Rattle.node_store.proofs.Running.{runs, same_scratch}
-use Rattle.ite_core.proofs.Outcomes.{Serves-after, Serves-kept}
+use Rattle.node_store.proofs.Running.{Serves-after, Serves-kept}
 use Rattle.quantify_ops.specs.RestrictedLasts.{work_of_restrict-back}
 use Rattle.quantify_ops.proofs.RestrictLaws.{root_answer, root_due, root_false}
 use Rattle.quantify_ops.proofs.restriction.simplify.Goals as goal

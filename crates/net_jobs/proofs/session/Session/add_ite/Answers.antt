@@ -4,8 +4,8 @@ use Rattle.function_laws.specs.declared.history.Call.TheVariants.{AddIte}
 use Rattle.function_laws.specs.Values.{if_then_else}
 use Rattle.node_slots.specs.Stores.{plain_view}
 use Rattle.node_slots.specs.Views.{add_at, bdd_at}
-use Rattle.net_jobs.proofs.AgreementLemmas.{due_of_work, op_adds, op_refuses}
-use Rattle.net_jobs.proofs.NumberLemmas.{outcome-of_add_ite}
+use Rattle.add_ops.proofs.OutcomeLaws.{outcome-add_ite}
+use Rattle.net_jobs.proofs.AgreementLemmas.{due_of_work, live_at, op_adds, op_refuses}
 use Rattle.node_store.proofs.Running.{told, told_full}
 use Rattle.net_jobs.proofs.session.Session.add_ite.Goals as goal
 
@@ -15,8 +15,7 @@ returns-clause-ok c =
     let rows = c.args.self.now.rows.items in
     let value = if_then_else (bdd_at w c.edge_of_bdd-first.result) (add_at w c.edge_of_add-second.result) (add_at w c.edge_of_add-third.result) in
     op_adds kinds.Add w (plain_view c.add_ite-made.new.store) rows c.settle.new.rows.items (AddIte c.args.f c.args.g c.args.h) c.add_ite-made.result c.settle.result value c.add_ite-made.ensures.grown c.requires.stored (told _ c.add_ite-made.result c.add_ite-made.ensures.answer) c.settle.ensures.ok
-    (λ t agrees. outcome-of_add_ite w rows c.args.f c.args.g c.args.h c.edge_of_bdd-first.result c.edge_of_add-second.result c.edge_of_add-third.result t c.requires.first c.requires.second c.requires.third
-    c.edge_of_bdd-first.ensures.has c.edge_of_add-second.ensures.has c.edge_of_add-third.ensures.has agrees)
+    (λ t agrees. outcome-add_ite w t.sizes t.cells (t.live 0) c.args.f c.args.g c.args.h c.edge_of_bdd-first.result c.edge_of_add-second.result c.edge_of_add-third.result (live_at kinds.Bdd w rows t c.args.f c.edge_of_bdd-first.result agrees c.requires.first c.edge_of_bdd-first.ensures.has) (live_at kinds.Add w rows t c.args.g c.edge_of_add-second.result agrees c.requires.second c.edge_of_add-second.ensures.has) (live_at kinds.Add w rows t c.args.h c.edge_of_add-third.result agrees c.requires.third c.edge_of_add-third.ensures.has))
 
 pub returns-clause-full : goal.returns-clause-full
 returns-clause-full c =
@@ -24,8 +23,7 @@ returns-clause-full c =
     let rows = c.args.self.now.rows.items in
     let value = if_then_else (bdd_at w c.edge_of_bdd-first.result) (add_at w c.edge_of_add-second.result) (add_at w c.edge_of_add-third.result) in
     op_refuses kinds.Add w (plain_view c.add_ite-made.new.store) rows c.settle.new.rows.items (AddIte c.args.f c.args.g c.args.h) c.add_ite-made.result c.settle.result value c.add_ite-made.ensures.grown c.requires.stored (λ is. c.add_ite-made.ensures.full (told_full c.add_ite-made.result is)) c.settle.ensures.full c.settle.ensures.err refl
-    (λ t agrees. outcome-of_add_ite w rows c.args.f c.args.g c.args.h c.edge_of_bdd-first.result c.edge_of_add-second.result c.edge_of_add-third.result t c.requires.first c.requires.second c.requires.third
-    c.edge_of_bdd-first.ensures.has c.edge_of_add-second.ensures.has c.edge_of_add-third.ensures.has agrees)
+    (λ t agrees. outcome-add_ite w t.sizes t.cells (t.live 0) c.args.f c.args.g c.args.h c.edge_of_bdd-first.result c.edge_of_add-second.result c.edge_of_add-third.result (live_at kinds.Bdd w rows t c.args.f c.edge_of_bdd-first.result agrees c.requires.first c.edge_of_bdd-first.ensures.has) (live_at kinds.Add w rows t c.args.g c.edge_of_add-second.result agrees c.requires.second c.edge_of_add-second.ensures.has) (live_at kinds.Add w rows t c.args.h c.edge_of_add-third.result agrees c.requires.third c.edge_of_add-third.ensures.has))
 
 pub settle-requires-clause-due : goal.settle-requires-clause-due
 settle-requires-clause-due c = λ e. due_of_work (plain_view c.add_ite-made.new.store) _ (c.add_ite-made.ensures.due (told_full c.add_ite-made.result e))

@@ -4,8 +4,8 @@ use Rattle.function_laws.specs.declared.history.Call.TheVariants.{Change}
 use Rattle.function_laws.specs.Families.{change as change_of}
 use Rattle.node_slots.specs.Stores.{plain_view}
 use Rattle.node_slots.specs.Views.{family_at}
-use Rattle.net_jobs.proofs.AgreementLemmas.{due_of_work, op_adds, op_refuses}
-use Rattle.net_jobs.proofs.FamilyLemmas.{outcome-of_change}
+use Rattle.zdd_ops.proofs.OutcomeLaws.{outcome-change}
+use Rattle.net_jobs.proofs.AgreementLemmas.{due_of_work, elements_of, live_at, op_adds, op_refuses}
 use Rattle.node_store.proofs.Running.{told, told_full}
 use Rattle.net_jobs.proofs.session.Session.change.Goals as goal
 
@@ -14,14 +14,14 @@ returns-clause-ok c =
     let w = plain_view c.args.self.now.store in
     let rows = c.args.self.now.rows.items in
     op_adds kinds.Zdd w (plain_view c.change-made.new.store) rows c.settle.new.rows.items (Change c.args.p c.args.e) c.change-made.result c.settle.result (change_of (family_at w c.edge_of_family-first.result) c.args.e) c.change-made.ensures.grown c.requires.stored (told _ c.change-made.result c.change-made.ensures.answer) c.settle.ensures.ok
-    (λ t agrees. outcome-of_change w rows c.args.p c.args.e c.edge_of_family-first.result t c.requires.element c.requires.first c.edge_of_family-first.ensures.has agrees)
+    (λ t agrees. outcome-change w t.sizes t.cells (t.live 0) (elements_of w rows t agrees) c.args.p c.args.e c.edge_of_family-first.result c.requires.element (live_at kinds.Zdd w rows t c.args.p c.edge_of_family-first.result agrees c.requires.first c.edge_of_family-first.ensures.has))
 
 pub returns-clause-full : goal.returns-clause-full
 returns-clause-full c =
     let w = plain_view c.args.self.now.store in
     let rows = c.args.self.now.rows.items in
     op_refuses kinds.Zdd w (plain_view c.change-made.new.store) rows c.settle.new.rows.items (Change c.args.p c.args.e) c.change-made.result c.settle.result (change_of (family_at w c.edge_of_family-first.result) c.args.e) c.change-made.ensures.grown c.requires.stored (λ is. c.change-made.ensures.full (told_full c.change-made.result is)) c.settle.ensures.full c.settle.ensures.err refl
-    (λ t agrees. outcome-of_change w rows c.args.p c.args.e c.edge_of_family-first.result t c.requires.element c.requires.first c.edge_of_family-first.ensures.has agrees)
+    (λ t agrees. outcome-change w t.sizes t.cells (t.live 0) (elements_of w rows t agrees) c.args.p c.args.e c.edge_of_family-first.result c.requires.element (live_at kinds.Zdd w rows t c.args.p c.edge_of_family-first.result agrees c.requires.first c.edge_of_family-first.ensures.has))
 
 pub settle-requires-clause-due : goal.settle-requires-clause-due
 settle-requires-clause-due c = λ e. due_of_work (plain_view c.change-made.new.store) _ (c.change-made.ensures.due (told_full c.change-made.result e))

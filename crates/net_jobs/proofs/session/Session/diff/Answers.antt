@@ -4,8 +4,8 @@ use Rattle.function_laws.specs.declared.history.Call.TheVariants.{Diff}
 use Rattle.function_laws.specs.Families.{diff as diff_of}
 use Rattle.node_slots.specs.Stores.{plain_view}
 use Rattle.node_slots.specs.Views.{family_at}
-use Rattle.net_jobs.proofs.AgreementLemmas.{due_of_work, op_adds, op_refuses}
-use Rattle.net_jobs.proofs.FamilyLemmas.{outcome-of_diff}
+use Rattle.zdd_ops.proofs.OutcomeLaws.{outcome-diff}
+use Rattle.net_jobs.proofs.AgreementLemmas.{due_of_work, live_at, op_adds, op_refuses}
 use Rattle.node_store.proofs.Running.{told, told_full}
 use Rattle.net_jobs.proofs.session.Session.diff.Goals as goal
 
@@ -14,14 +14,14 @@ returns-clause-ok c =
     let w = plain_view c.args.self.now.store in
     let rows = c.args.self.now.rows.items in
     op_adds kinds.Zdd w (plain_view c.diff-made.new.store) rows c.settle.new.rows.items (Diff c.args.p c.args.q) c.diff-made.result c.settle.result (diff_of (family_at w c.edge_of_family-first.result) (family_at w c.edge_of_family-second.result)) c.diff-made.ensures.grown c.requires.stored (told _ c.diff-made.result c.diff-made.ensures.answer) c.settle.ensures.ok
-    (λ t agrees. outcome-of_diff w rows c.args.p c.args.q c.edge_of_family-first.result c.edge_of_family-second.result t c.requires.first c.requires.second c.edge_of_family-first.ensures.has c.edge_of_family-second.ensures.has agrees)
+    (λ t agrees. outcome-diff w t.sizes t.cells (t.live 0) c.args.p c.args.q c.edge_of_family-first.result c.edge_of_family-second.result (live_at kinds.Zdd w rows t c.args.p c.edge_of_family-first.result agrees c.requires.first c.edge_of_family-first.ensures.has) (live_at kinds.Zdd w rows t c.args.q c.edge_of_family-second.result agrees c.requires.second c.edge_of_family-second.ensures.has))
 
 pub returns-clause-full : goal.returns-clause-full
 returns-clause-full c =
     let w = plain_view c.args.self.now.store in
     let rows = c.args.self.now.rows.items in
     op_refuses kinds.Zdd w (plain_view c.diff-made.new.store) rows c.settle.new.rows.items (Diff c.args.p c.args.q) c.diff-made.result c.settle.result (diff_of (family_at w c.edge_of_family-first.result) (family_at w c.edge_of_family-second.result)) c.diff-made.ensures.grown c.requires.stored (λ is. c.diff-made.ensures.full (told_full c.diff-made.result is)) c.settle.ensures.full c.settle.ensures.err refl
-    (λ t agrees. outcome-of_diff w rows c.args.p c.args.q c.edge_of_family-first.result c.edge_of_family-second.result t c.requires.first c.requires.second c.edge_of_family-first.ensures.has c.edge_of_family-second.ensures.has agrees)
+    (λ t agrees. outcome-diff w t.sizes t.cells (t.live 0) c.args.p c.args.q c.edge_of_family-first.result c.edge_of_family-second.result (live_at kinds.Zdd w rows t c.args.p c.edge_of_family-first.result agrees c.requires.first c.edge_of_family-first.ensures.has) (live_at kinds.Zdd w rows t c.args.q c.edge_of_family-second.result agrees c.requires.second c.edge_of_family-second.ensures.has))
 
 pub settle-requires-clause-due : goal.settle-requires-clause-due
 settle-requires-clause-due c = λ e. due_of_work (plain_view c.diff-made.new.store) _ (c.diff-made.ensures.due (told_full c.diff-made.result e))

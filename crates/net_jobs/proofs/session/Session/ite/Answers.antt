@@ -4,8 +4,8 @@ use Rattle.function_laws.specs.declared.history.Call.TheVariants.{Ite}
 use Rattle.function_laws.specs.Values.{if_then_else}
 use Rattle.node_slots.specs.Stores.{plain_view}
 use Rattle.node_slots.specs.Views.{bdd_at}
-use Rattle.net_jobs.proofs.AgreementLemmas.{due_of_work, op_adds, op_refuses}
-use Rattle.net_jobs.proofs.SessionLemmas.{outcome-of_ite}
+use Rattle.ite_core.proofs.OutcomeLaws.{outcome-ite}
+use Rattle.net_jobs.proofs.AgreementLemmas.{due_of_work, live_at, op_adds, op_refuses}
 use Rattle.node_store.proofs.Running.{told, told_full}
 use Rattle.net_jobs.proofs.session.Session.ite.Goals as goal
 
@@ -15,8 +15,7 @@ returns-clause-ok c =
     let rows = c.args.self.now.rows.items in
     op_adds kinds.Bdd w (plain_view c.ite-made.new.store) rows c.settle.new.rows.items (Ite c.args.f c.args.g c.args.h) c.ite-made.result c.settle.result
     (if_then_else (bdd_at w c.edge_of_bdd-first.result) (bdd_at w c.edge_of_bdd-second.result) (bdd_at w c.edge_of_bdd-third.result)) c.ite-made.ensures.grown c.requires.stored (told _ c.ite-made.result c.ite-made.ensures.answer) c.settle.ensures.ok
-    (λ t agrees. outcome-of_ite w rows c.args.f c.args.g c.args.h c.edge_of_bdd-first.result c.edge_of_bdd-second.result c.edge_of_bdd-third.result t
-    c.requires.first c.requires.second c.requires.third c.edge_of_bdd-first.ensures.has c.edge_of_bdd-second.ensures.has c.edge_of_bdd-third.ensures.has agrees)
+    (λ t agrees. outcome-ite w t.sizes t.cells (t.live 0) c.args.f c.args.g c.args.h c.edge_of_bdd-first.result c.edge_of_bdd-second.result c.edge_of_bdd-third.result (live_at kinds.Bdd w rows t c.args.f c.edge_of_bdd-first.result agrees c.requires.first c.edge_of_bdd-first.ensures.has) (live_at kinds.Bdd w rows t c.args.g c.edge_of_bdd-second.result agrees c.requires.second c.edge_of_bdd-second.ensures.has) (live_at kinds.Bdd w rows t c.args.h c.edge_of_bdd-third.result agrees c.requires.third c.edge_of_bdd-third.ensures.has))
 
 pub returns-clause-full : goal.returns-clause-full
 returns-clause-full c =
@@ -24,8 +23,7 @@ returns-clause-full c =
     let rows = c.args.self.now.rows.items in
     op_refuses kinds.Bdd w (plain_view c.ite-made.new.store) rows c.settle.new.rows.items (Ite c.args.f c.args.g c.args.h) c.ite-made.result c.settle.result
     (if_then_else (bdd_at w c.edge_of_bdd-first.result) (bdd_at w c.edge_of_bdd-second.result) (bdd_at w c.edge_of_bdd-third.result)) c.ite-made.ensures.grown c.requires.stored (λ is. c.ite-made.ensures.full (told_full c.ite-made.result is)) c.settle.ensures.full c.settle.ensures.err refl
-    (λ t agrees. outcome-of_ite w rows c.args.f c.args.g c.args.h c.edge_of_bdd-first.result c.edge_of_bdd-second.result c.edge_of_bdd-third.result t
-    c.requires.first c.requires.second c.requires.third c.edge_of_bdd-first.ensures.has c.edge_of_bdd-second.ensures.has c.edge_of_bdd-third.ensures.has agrees)
+    (λ t agrees. outcome-ite w t.sizes t.cells (t.live 0) c.args.f c.args.g c.args.h c.edge_of_bdd-first.result c.edge_of_bdd-second.result c.edge_of_bdd-third.result (live_at kinds.Bdd w rows t c.args.f c.edge_of_bdd-first.result agrees c.requires.first c.edge_of_bdd-first.ensures.has) (live_at kinds.Bdd w rows t c.args.g c.edge_of_bdd-second.result agrees c.requires.second c.edge_of_bdd-second.ensures.has) (live_at kinds.Bdd w rows t c.args.h c.edge_of_bdd-third.result agrees c.requires.third c.edge_of_bdd-third.ensures.has))
 
 pub settle-requires-clause-due : goal.settle-requires-clause-due
 settle-requires-clause-due c = λ e. due_of_work (plain_view c.ite-made.new.store) _ (c.ite-made.ensures.due (told_full c.ite-made.result e))

@@ -4,8 +4,8 @@ use Rattle.function_laws.specs.declared.history.Call.TheVariants.{Max}
 use Rattle.function_laws.specs.Numbers.{greater as greater_at}
 use Rattle.node_slots.specs.Stores.{plain_view}
 use Rattle.node_slots.specs.Views.{add_at}
-use Rattle.net_jobs.proofs.AgreementLemmas.{due_of_work, op_adds, op_refuses}
-use Rattle.net_jobs.proofs.NumberLemmas.{outcome-of_max}
+use Rattle.add_ops.proofs.OutcomeLaws.{outcome-max}
+use Rattle.net_jobs.proofs.AgreementLemmas.{due_of_work, live_at, op_adds, op_refuses}
 use Rattle.node_store.proofs.Running.{told, told_full}
 use Rattle.net_jobs.proofs.session.Session.max.Goals as goal
 
@@ -17,7 +17,7 @@ returns-clause-ok c =
     let is_d = c.edge_of_add-second.ensures.has in
     let value = greater_at (add_at w c.edge_of_add-first.result) (add_at w c.edge_of_add-second.result) in
     op_adds kinds.Add w (plain_view c.max-made.new.store) rows c.settle.new.rows.items (Max c.args.f c.args.g) c.max-made.result c.settle.result value c.max-made.ensures.grown c.requires.stored (told _ c.max-made.result c.max-made.ensures.answer) c.settle.ensures.ok
-    (λ t agrees. outcome-of_max w rows c.args.f c.args.g c.edge_of_add-first.result c.edge_of_add-second.result t c.requires.first c.requires.second is_e is_d agrees)
+    (λ t agrees. outcome-max w t.sizes t.cells (t.live 0) c.args.f c.args.g c.edge_of_add-first.result c.edge_of_add-second.result (live_at kinds.Add w rows t c.args.f c.edge_of_add-first.result agrees c.requires.first is_e) (live_at kinds.Add w rows t c.args.g c.edge_of_add-second.result agrees c.requires.second is_d))
 
 pub returns-clause-full : goal.returns-clause-full
 returns-clause-full c =
@@ -27,7 +27,7 @@ returns-clause-full c =
     let is_d = c.edge_of_add-second.ensures.has in
     let value = greater_at (add_at w c.edge_of_add-first.result) (add_at w c.edge_of_add-second.result) in
     op_refuses kinds.Add w (plain_view c.max-made.new.store) rows c.settle.new.rows.items (Max c.args.f c.args.g) c.max-made.result c.settle.result value c.max-made.ensures.grown c.requires.stored (λ is. c.max-made.ensures.full (told_full c.max-made.result is)) c.settle.ensures.full c.settle.ensures.err refl
-    (λ t agrees. outcome-of_max w rows c.args.f c.args.g c.edge_of_add-first.result c.edge_of_add-second.result t c.requires.first c.requires.second is_e is_d agrees)
+    (λ t agrees. outcome-max w t.sizes t.cells (t.live 0) c.args.f c.args.g c.edge_of_add-first.result c.edge_of_add-second.result (live_at kinds.Add w rows t c.args.f c.edge_of_add-first.result agrees c.requires.first is_e) (live_at kinds.Add w rows t c.args.g c.edge_of_add-second.result agrees c.requires.second is_d))
 
 pub settle-requires-clause-due : goal.settle-requires-clause-due
 settle-requires-clause-due c = λ e. due_of_work (plain_view c.max-made.new.store) _ (c.max-made.ensures.due (told_full c.max-made.result e))

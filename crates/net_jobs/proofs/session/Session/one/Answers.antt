@@ -4,8 +4,8 @@ use Rattle.function_laws.specs.declared.history.Call.TheVariants.{One}
 use Rattle.function_laws.specs.Values.{constant}
 use Rattle.node_slots.specs.Stores.{plain_view}
 use Rattle.node_store.specs.ViewLaws.{Denotes-truth}
-use Rattle.net_jobs.proofs.AgreementLemmas.{op_adds}
-use Rattle.net_jobs.proofs.SessionLemmas.{outcome-of_one}
+use Rattle.ite_core.proofs.OutcomeLaws.{outcome-one}
+use Rattle.net_jobs.proofs.AgreementLemmas.{op_adds, variables_of}
 use Rattle.net_jobs.proofs.session.Session.one.Goals as goal
 
 pub returns-clause-ok : goal.returns-clause-ok
@@ -14,4 +14,4 @@ returns-clause-ok c =
     let rows = c.args.self.now.rows.items in
     op_adds kinds.Bdd w (plain_view c.levels-levels.new.self) rows c.keep.new.rows.items One _ c.keep.result (constant true) c.levels-levels.ensures.kept.grown c.requires.stored
     (rw c.truth.ensures (Denotes-truth (plain_view c.levels-levels.new.self) c.levels-levels.ensures.permanent true))
-    c.keep.ensures.ok (λ t agrees. outcome-of_one w rows t agrees)
+    c.keep.ensures.ok (λ t agrees. outcome-one w t.sizes t.cells (t.live 0) (variables_of w rows t agrees))

@@ -4,8 +4,8 @@ use Rattle.function_laws.specs.declared.history.Call.TheVariants.{Or}
 use Rattle.function_laws.specs.Values.{disjunction}
 use Rattle.node_slots.specs.Stores.{plain_view}
 use Rattle.node_slots.specs.Views.{bdd_at}
-use Rattle.net_jobs.proofs.AgreementLemmas.{due_of_work, op_adds, op_refuses}
-use Rattle.net_jobs.proofs.SessionLemmas.{outcome-of_or}
+use Rattle.ite_core.proofs.OutcomeLaws.{outcome-or}
+use Rattle.net_jobs.proofs.AgreementLemmas.{due_of_work, live_at, op_adds, op_refuses}
 use Rattle.node_store.proofs.Running.{told, told_full}
 use Rattle.net_jobs.proofs.session.Session.or.Goals as goal
 
@@ -15,7 +15,7 @@ returns-clause-ok c =
     let rows = c.args.self.now.rows.items in
     op_adds kinds.Bdd w (plain_view c.or-made.new.store) rows c.settle.new.rows.items (Or c.args.f c.args.g) c.or-made.result c.settle.result
     (disjunction (bdd_at w c.edge_of_bdd-first.result) (bdd_at w c.edge_of_bdd-second.result)) c.or-made.ensures.grown c.requires.stored (told _ c.or-made.result c.or-made.ensures.answer) c.settle.ensures.ok
-    (λ t agrees. outcome-of_or w rows c.args.f c.args.g c.edge_of_bdd-first.result c.edge_of_bdd-second.result t c.requires.first c.requires.second c.edge_of_bdd-first.ensures.has c.edge_of_bdd-second.ensures.has agrees)
+    (λ t agrees. outcome-or w t.sizes t.cells (t.live 0) c.args.f c.args.g c.edge_of_bdd-first.result c.edge_of_bdd-second.result (live_at kinds.Bdd w rows t c.args.f c.edge_of_bdd-first.result agrees c.requires.first c.edge_of_bdd-first.ensures.has) (live_at kinds.Bdd w rows t c.args.g c.edge_of_bdd-second.result agrees c.requires.second c.edge_of_bdd-second.ensures.has))
 
 pub returns-clause-full : goal.returns-clause-full
 returns-clause-full c =
@@ -23,7 +23,7 @@ returns-clause-full c =
     let rows = c.args.self.now.rows.items in
     op_refuses kinds.Bdd w (plain_view c.or-made.new.store) rows c.settle.new.rows.items (Or c.args.f c.args.g) c.or-made.result c.settle.result
     (disjunction (bdd_at w c.edge_of_bdd-first.result) (bdd_at w c.edge_of_bdd-second.result)) c.or-made.ensures.grown c.requires.stored (λ is. c.or-made.ensures.full (told_full c.or-made.result is)) c.settle.ensures.full c.settle.ensures.err refl
-    (λ t agrees. outcome-of_or w rows c.args.f c.args.g c.edge_of_bdd-first.result c.edge_of_bdd-second.result t c.requires.first c.requires.second c.edge_of_bdd-first.ensures.has c.edge_of_bdd-second.ensures.has agrees)
+    (λ t agrees. outcome-or w t.sizes t.cells (t.live 0) c.args.f c.args.g c.edge_of_bdd-first.result c.edge_of_bdd-second.result (live_at kinds.Bdd w rows t c.args.f c.edge_of_bdd-first.result agrees c.requires.first c.edge_of_bdd-first.ensures.has) (live_at kinds.Bdd w rows t c.args.g c.edge_of_bdd-second.result agrees c.requires.second c.edge_of_bdd-second.ensures.has))
 
 pub settle-requires-clause-due : goal.settle-requires-clause-due
 settle-requires-clause-due c = λ e. due_of_work (plain_view c.or-made.new.store) _ (c.or-made.ensures.due (told_full c.or-made.result e))

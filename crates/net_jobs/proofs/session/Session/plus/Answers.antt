@@ -3,8 +3,9 @@ use Rattle.function_laws.specs.declared.history.Call.TheVariants.{Plus}
 use Rattle.function_laws.specs.Numbers.{plus as plus_at}
 use Rattle.node_slots.specs.Stores.{plain_view}
 use Rattle.node_slots.specs.Views.{add_at}
-use Rattle.net_jobs.proofs.AgreementLemmas.{due_of_work, exact_adds, exact_exceeds, exact_refuses}
-use Rattle.net_jobs.proofs.NumberLemmas.{IsOf-place, outcome-of_plus}
+use Rattle.add_ops.proofs.OutcomeLaws.{outcome-plus}
+use Rattle.net_jobs.proofs.AgreementLemmas.{due_of_work, exact_adds, exact_exceeds, exact_refuses, live_at}
+use Rattle.net_jobs.proofs.NumberLemmas.{IsOf-place}
 use Rattle.add_ops.proofs.ExactLaws.{exactly_full, exactly_told, told_overflow}
 use Rattle.net_jobs.proofs.session.Session.plus.Goals as goal
 
@@ -16,7 +17,7 @@ returns-clause-ok c =
     let is_d = c.edge_of_add-second.ensures.has in
     let value = plus_at (add_at w c.edge_of_add-first.result) (add_at w c.edge_of_add-second.result) in
     exact_adds w (plain_view c.plus-made.new.store) rows c.settle_exact.new.rows.items (Plus c.args.f c.args.g) c.plus-made.result c.settle_exact.result value c.plus-made.ensures.grown c.requires.stored (exactly_told _ c.plus-made.result c.plus-made.ensures.answer) c.settle_exact.ensures.ok
-    (λ t agrees. outcome-of_plus w rows c.args.f c.args.g c.edge_of_add-first.result c.edge_of_add-second.result t c.requires.first c.requires.second is_e is_d agrees)
+    (λ t agrees. outcome-plus w t.sizes t.cells (t.live 0) c.args.f c.args.g c.edge_of_add-first.result c.edge_of_add-second.result (live_at kinds.Add w rows t c.args.f c.edge_of_add-first.result agrees c.requires.first is_e) (live_at kinds.Add w rows t c.args.g c.edge_of_add-second.result agrees c.requires.second is_d))
 
 pub returns-clause-overflow : goal.returns-clause-overflow
 returns-clause-overflow c =
@@ -28,7 +29,7 @@ returns-clause-overflow c =
     let of_value = IsOf-place (λ x y. x +ℤ y) w.vars (add_at w c.edge_of_add-first.result) (add_at w c.edge_of_add-second.result)
     c.edge_of_add-first.ensures.denotes.beyond c.edge_of_add-second.ensures.denotes.beyond in
     exact_exceeds w (plain_view c.plus-made.new.store) rows c.settle_exact.new.rows.items (Plus c.args.f c.args.g) c.plus-made.result c.settle_exact.result value c.plus-made.ensures.grown c.requires.stored of_value (told_overflow _ c.plus-made.result c.plus-made.ensures.overflow) c.settle_exact.ensures.overflow
-    (λ t agrees. outcome-of_plus w rows c.args.f c.args.g c.edge_of_add-first.result c.edge_of_add-second.result t c.requires.first c.requires.second is_e is_d agrees)
+    (λ t agrees. outcome-plus w t.sizes t.cells (t.live 0) c.args.f c.args.g c.edge_of_add-first.result c.edge_of_add-second.result (live_at kinds.Add w rows t c.args.f c.edge_of_add-first.result agrees c.requires.first is_e) (live_at kinds.Add w rows t c.args.g c.edge_of_add-second.result agrees c.requires.second is_d))
 
 pub returns-clause-full : goal.returns-clause-full
 returns-clause-full c =
@@ -38,7 +39,7 @@ returns-clause-full c =
     let is_d = c.edge_of_add-second.ensures.has in
     let value = plus_at (add_at w c.edge_of_add-first.result) (add_at w c.edge_of_add-second.result) in
     exact_refuses w (plain_view c.plus-made.new.store) rows c.settle_exact.new.rows.items (Plus c.args.f c.args.g) c.plus-made.result c.settle_exact.result value c.plus-made.ensures.grown c.requires.stored (λ is. c.plus-made.ensures.full (exactly_full c.plus-made.result is)) c.settle_exact.ensures.full c.settle_exact.ensures.err refl
-    (λ t agrees. outcome-of_plus w rows c.args.f c.args.g c.edge_of_add-first.result c.edge_of_add-second.result t c.requires.first c.requires.second is_e is_d agrees)
+    (λ t agrees. outcome-plus w t.sizes t.cells (t.live 0) c.args.f c.args.g c.edge_of_add-first.result c.edge_of_add-second.result (live_at kinds.Add w rows t c.args.f c.edge_of_add-first.result agrees c.requires.first is_e) (live_at kinds.Add w rows t c.args.g c.edge_of_add-second.result agrees c.requires.second is_d))
 
 pub settle_exact-requires-clause-due : goal.settle_exact-requires-clause-due
 settle_exact-requires-clause-due c = λ e. due_of_work (plain_view c.plus-made.new.store) _ (c.plus-made.ensures.due (exactly_full c.plus-made.result e))

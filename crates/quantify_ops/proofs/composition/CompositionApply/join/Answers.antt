@@ -1,7 +1,7 @@
 use Rattle.std.proofs.lemmas.Result.{err_from_is_err_and}
 use Rattle.edge_bits.specs.declared.edges.Kind.TheVariants.{Bdd}
 use Rattle.node_store.proofs.Stops.{full_stop}
-use Rattle.ite_core.proofs.Outcomes.{Serves-memory}
+use Rattle.node_store.proofs.Running.{Serves-memory}
 use Rattle.quantify_ops.proofs.CompositionLaws.{own_moved, own_refused, own_answer, other_node, other_moved, other_refused, other_answer}
 use Rattle.quantify_ops.proofs.composition.CompositionApply.join.Goals as goal
 

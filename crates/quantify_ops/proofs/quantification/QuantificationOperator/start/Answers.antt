@@ -6,7 +6,7 @@ use Rattle.node_store.specs.TwoLaws.{AreTwo-grown}
 use Rattle.node_store.specs.ViewLaws.{Denotes-truth, Grown-trans, Kept-trans, Permanent-grown}
 use Rattle.node_store.specs.WorkLaws.{Moves-kept}
 use Rattle.node_store.proofs.Frames.{other_err}
-use Rattle.ite_core.proofs.Outcomes.{Serves-memory}
+use Rattle.node_store.proofs.Running.{Serves-memory}
 use Rattle.function_laws.specs.Cubes.{IsExists}
 use Rattle.quantify_ops.specs.Quantified.{both_at, AreQuantified, IsQuantifiedValue}
 use Rattle.quantify_ops.specs.QuantifiedLasts.{AreQuantified-grown, QuantifiedDue-stays}

@@ -5,7 +5,7 @@ use Rattle.node_store.specs.ViewLaws.{Grown-trans, Is-from, Is-grown, Kept-trans
 use Rattle.node_store.specs.TwoLaws.{AreTwo-grown}
 use Rattle.node_store.specs.Views.{View, AreTwo, Grown, IsInner, bdd_at}
 use Rattle.node_store.proofs.Frames.{other_err}
-use Rattle.ite_core.proofs.Outcomes.{Serves-memory}
+use Rattle.node_store.proofs.Running.{Serves-memory}
 use Rattle.quantify_ops.specs.Restricted.{IsCondition}
 use Rattle.quantify_ops.specs.RestrictedLasts.{IsCondition-grown}
 use Rattle.quantify_ops.proofs.LiftLaws.{IsInner-grown, Restrict-both, Restrict-kept, step_due, step_lifted, step_moved}

@@ -2,7 +2,7 @@ use Rattle.std.proofs.Common.{subst, ℕ, Bool}
 use Rattle.edge_bits.specs.declared.edges.Kind.TheVariants.{Bdd}
 use Rattle.node_store.specs.Views.{Denotes}
 use Rattle.node_store.specs.ViewLaws.{Permanent-grown}
-use Rattle.ite_core.proofs.Outcomes.{Serves-after, Serves-named}
+use Rattle.node_store.proofs.Running.{Serves-after, Serves-named}
 use Rattle.quantify_ops.specs.SubstitutedLasts.{AreSubstituted-grown, substituted_at-grown, value_of_vector_compose-back}
 use Rattle.quantify_ops.proofs.substitution.SubstitutedOperation.run.Goals as goal
 

@@ -1,7 +1,7 @@
 use Rattle.std.proofs.Common.{arith}
 use Rattle.std.proofs.lemmas.Result.{err_from_is_err_and}
 use Rattle.node_store.specs.WorkLaws.{Moves-both, Moves-kept}
-use Rattle.ite_core.proofs.Outcomes.{Serves-memory}
+use Rattle.node_store.proofs.Running.{Serves-memory}
 use Rattle.quantify_ops.specs.Substituted.{AreSubstituted, value_of_vector_compose}
 use Rattle.quantify_ops.specs.SubstitutedLasts.{AreSubstituted-grown, value_of_vector_compose-stays}
 use Rattle.quantify_ops.proofs.SubstitutionLaws.{substitute_at, substitute_three, substitute_due, substitute_moved, substitute_answer}
