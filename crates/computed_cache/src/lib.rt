@@ -1,7 +1,11 @@
-//! The computed table of recursive operators (Brace, Rudell and Bryant 1990): what its entries are kept under.
+//! The computed table of recursive operators (Brace, Rudell and Bryant 1990): answers that were found before, each under its operation and operands. It is lossy: an answer takes the place of another.
 #![tactic(auto)]
 
+mod entries;
+mod memo;
+
 use edge_bits::Edge;
+pub use memo::Memo;
 
 /// What an answer is kept under: the operation's number, 1 to 62, and its three operands.
 #[derive(Debug, Clone, Copy, PartialEq, Eq)]

@@ -16,6 +16,7 @@ use Rattle.function_laws.specs.Kinds.{Denoted, AddFunction, function_of, joined_
 use Rattle.node_store.specs.Views.{View, IsBelow, CanMake, Grown, values_at, node_values, IsLeafOf, number}
 use Rattle.node_store.specs.ViewLaws.{Is-grown, values_at-grown, IsBelow-grown, IsVariable-grown, IsVariable-back, levels-grown}
 use Rattle.node_store.proofs.TwoParts.{Lacks-leaf}
+use Rattle.node_store.proofs.MemoLaws.{Carries-grown, MemoHolds-carried}
 use Rattle.node_slots.specs.Slots.{word_function, function_at_most}
 use Rattle.node_slots.specs.Stores.{Plain, slots, longest, content_of, top_of_word, top_in, plain_view, is_used, IsNode, IsStore}
 use Rattle.node_slots.proofs.Reading.{was_refused, at_word, function-more, used}
@@ -175,6 +176,7 @@ module _ (p : Plain) (i bits : ℕ) (word : Word) (within : i < length p.words) 
       counted = st.counted ∙ sym (length-set p.words i bits);
       refused = λ r is t below none. absurd (st.refused r is i within free);
       missing = λ f due. absurd (let r = was_refused (content_of (written p i bits)) p.due f due in st.refused r.0 r.1 i within free);
+      remembered = λ j kept h. MemoHolds-carried (Carries-grown written-grown) kept.key kept.edge tt tt tt tt (st.remembered j kept h);
     }
 
 -- a slot of the function of a node holds the node

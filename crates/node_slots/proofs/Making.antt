@@ -19,6 +19,7 @@ use Rattle.node_store.specs.Edges.{flip_if}
 use Rattle.node_store.specs.Views.{View, IsBelow, IsProper, CanMake, Grown, Denotes, function_at, values_at, node_values, Kept}
 use Rattle.edge_bits.specs.Permanent.{empty_edge}
 use Rattle.node_store.specs.ViewLaws.{values_at-is, Is-from, Denotes-flip, Denotes-node, flipped-not, levels-grown, IsVariable-back}
+use Rattle.node_store.proofs.MemoLaws.{Carries-grown, MemoHolds-carried}
 use Rattle.node_slots.specs.Slots.{node_of, function_at_most}
 use Rattle.node_slots.specs.Stores.{Plain, slots, content_of, refused_function, plain_view, is_used, ones, IsRegular, IsNode, HasNoFree, IsUnknown, IsStore}
 use Rattle.node_slots.specs.Placing.{IsPlaced, IsUnknownNode, IsChild, HasNoChild}
@@ -306,6 +307,7 @@ module _ (p : Plain) (st : IsStore p) where
       counted = st.counted;
       refused = λ r is t below free. full t below free;
       missing = unknown;
+      remembered = λ j kept h. MemoHolds-carried (Carries-grown refused-grown) kept.key kept.edge tt tt tt tt (st.remembered j kept h);
     }
 
   -- the scratch was lent or given back
@@ -343,6 +345,7 @@ module _ (p : Plain) (st : IsStore p) where
       counted = st.counted;
       refused = st.refused;
       missing = st.missing;
+      remembered = λ j kept h. MemoHolds-carried (Carries-grown lent-kept.grown) kept.key kept.edge tt tt tt tt (st.remembered j kept h);
     }
 
   -- what is due where a node or a leaf is refused

@@ -19,6 +19,7 @@ use Rattle.function_laws.specs.Numbers.{is_value, is_zero}
 use Rattle.function_laws.specs.Families.{empty, base}
 use Rattle.function_laws.specs.Kinds.{Denoted, BddFunction, AddFunction, ZddFamily}
 use Rattle.node_store.specs.Views.{levels, IsVariable}
+use Rattle.computed_cache.specs.Entries.{Kept, kept_at}
 use Rattle.node_slots.specs.Slots.{function_at_most}
 use Rattle.node_slots.specs.Stores.{Plain, slots, level_in, longest, content_of, plain_view, projection_node, constant_value, permanent_word, IsNode, IsOrdered, HasPermanent, AreInverse, IsStore, IsOpening}
 use Rattle.node_slots.specs.declared.plain_store.Refused.{Refused}
@@ -208,8 +209,8 @@ module _ (p : Plain) (first : HasPermanent p) (free : (s : ℕ) → 5 + length p
 
     -- the store is canonical
     pub IsStore-opening : ((r : Refused) → p.due ≡ Some r → ⊥) → length p.element_levels ≤ 1024 → 5 + length p.variable_levels ≤ length p.words → length p.words < 2 ^ 23 → length p.counts ≡ length p.words
-        → AreInverse p.variable_levels p.variables_at → AreInverse p.element_levels p.elements_at → IsStore p
-    IsStore-opening none elements room words counts variables_stand elements_stand = record {
+        → AreInverse p.variable_levels p.variables_at → AreInverse p.element_levels p.elements_at → ((i : ℕ) → kept_at p.memo i ≡ None) → IsStore p
+    IsStore-opening none elements room words counts variables_stand elements_stand empty = record {
       ordered = orders;
       variables_stand = variables_stand;
       elements_stand = elements_stand;
@@ -222,36 +223,37 @@ module _ (p : Plain) (first : HasPermanent p) (free : (s : ℕ) → 5 + length p
       counted = counts;
       refused = λ r is t below free. none r is;
       missing = λ f due. absurd (let r = was_refused (content_of p) p.due f due in none r.0 r.1);
+      remembered = λ i kept h. absurd (let bad : None ≡ Some kept = sym (empty i) ∙ h in never_some kept bad);
     }
 
 -- a store of which the slots from the permanent ones on were freed
-abbrev pub with_rest : Plain → List ℕ → List ℕ → ℕ → Option Refused → Plain
-with_rest p ws cs n d = record p { words = ws; counts = cs; fulls = n; due = d }
+abbrev pub with_rest : Plain → List ℕ → List ℕ → ℕ → Option Refused → List ℕ → Plain
+with_rest p ws cs n d memo = record p { words = ws; counts = cs; fulls = n; due = d; memo = memo }
 
-IsOrdered-same : (p : Plain) (ws cs : List ℕ) (n : ℕ) (d : Option Refused) → IsOrdered p → IsOrdered (with_rest p ws cs n d)
-IsOrdered-same p ws cs n d o = record { within = within; alone = alone }
+IsOrdered-same : (p : Plain) (ws cs memo : List ℕ) (n : ℕ) (d : Option Refused) → IsOrdered p → IsOrdered (with_rest p ws cs n d memo)
+IsOrdered-same p ws cs memo n d o = record { within = within; alone = alone }
   where
-    within : (k : Kind) (v : ℕ) → IsVariable k (plain_view (with_rest p ws cs n d)) v → level_in p v < levels k (plain_view (with_rest p ws cs n d))
+    within : (k : Kind) (v : ℕ) → IsVariable k (plain_view (with_rest p ws cs n d memo)) v → level_in p v < levels k (plain_view (with_rest p ws cs n d memo))
     within Bdd v h = o.within Bdd v h
     within Add v h = o.within Add v h
     within Zdd v h = o.within Zdd v h
 
-    alone : (k : Kind) (u v : ℕ) → IsVariable k (plain_view (with_rest p ws cs n d)) u → IsVariable k (plain_view (with_rest p ws cs n d)) v → level_in p u ≡ level_in p v → u ≡ v
+    alone : (k : Kind) (u v : ℕ) → IsVariable k (plain_view (with_rest p ws cs n d memo)) u → IsVariable k (plain_view (with_rest p ws cs n d memo)) v → level_in p u ≡ level_in p v → u ≡ v
     alone Bdd u v = o.alone Bdd u v
     alone Add u v = o.alone Add u v
     alone Zdd u v = o.alone Zdd u v
 
-pub IsStore-cleared : (p : Plain) → IsStore p → (d : Option Refused) → ((r : Refused) → d ≡ Some r → ⊥) → (ws cs : List ℕ) (n : ℕ) (from : ℕ) → from ≡ 5 + length p.variable_levels → length ws ≡ length p.words → length cs ≡ length p.counts
-    → ((s : ℕ) → s < from → slots_of ws s ≡ slots p s) → ((s : ℕ) → from ≤ s → slots_of ws s ≡ None) → IsStore (with_rest p ws cs n d)
-IsStore-cleared p st d none ws cs n from is count recount kept free =
+pub IsStore-cleared : (p : Plain) → IsStore p → (d : Option Refused) → ((r : Refused) → d ≡ Some r → ⊥) → (ws cs memo : List ℕ) (n : ℕ) (from : ℕ) → ((i : ℕ) → kept_at memo i ≡ None) → from ≡ 5 + length p.variable_levels → length ws ≡ length p.words → length cs ≡ length p.counts
+    → ((s : ℕ) → s < from → slots_of ws s ≡ slots p s) → ((s : ℕ) → from ≤ s → slots_of ws s ≡ None) → IsStore (with_rest p ws cs n d memo)
+IsStore-cleared p st d none ws cs memo n from empty is count recount kept free =
     let f = st.permanent in let r = st.room in let w = st.few_words in
-    IsStore-opening (with_rest p ws cs n d)
+    IsStore-opening (with_rest p ws cs n d memo)
     (record {
       constants = λ s lt. kept s (omega (arith, is)) ∙ f.constants s lt;
       projections = λ v lt. kept (5 + v) (omega (arith, is, lt)) ∙ f.projections v lt;
     })
     (λ s le. free s (omega (arith, is, le)))
-    (IsOrdered-same p ws cs n d st.ordered) st.few_variables none st.few_elements (omega arith) (omega arith) (recount ∙ st.counted ∙ sym count) st.variables_stand st.elements_stand
+    (IsOrdered-same p ws cs memo n d st.ordered) st.few_variables none st.few_elements (omega arith) (omega arith) (recount ∙ st.counted ∙ sym count) st.variables_stand st.elements_stand empty
 
 pub none_due : (r : Refused) → None ≡ Some r → ⊥
 none_due r e = cc
@@ -274,4 +276,4 @@ IsStore-new p vars elements limit fv fe least most o =
     let l = o.slots_are in
     IsStore-opening p (HasPermanent-words p (λ s lt. o.permanent s (omega (arith, n, lt)))) (λ s le. o.free s (omega (arith, n, le)))
     (IsOrdered-ascending p vars elements o.variable_levels o.element_levels) (omega (arith, n)) (λ r is. none_due r (sym o.due ∙ is)) (omega (arith, m)) (omega arith) (omega arith) (ap length o.counts ∙ length-replicate limit zero ∙ sym l)
-    (rw (o.variable_levels, o.variables_at) (ascending_inverse vars)) (rw (o.element_levels, o.elements_at) (ascending_inverse elements))
+    (rw (o.variable_levels, o.variables_at) (ascending_inverse vars)) (rw (o.element_levels, o.elements_at) (ascending_inverse elements)) o.memo

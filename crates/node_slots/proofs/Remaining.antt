@@ -1,6 +1,7 @@
 -- A store of which some slots were freed, or count words written.
-use Rattle.std.proofs.Common.{◌≡◌, ◌≢◌, ℕ, zero, suc, ◌+◌, ◌<◌, ◌≤◌, inl, inr, List, length, get_or, set, Option, Some, None, refl, ap, sym, ◌∙◌, subst, arith}
-use Rattle.std.proofs.lemmas.Bool.{cases_eq, cases_lt}
+use Rattle.std.proofs.Common.{◌≡◌, ◌≢◌, ℕ, zero, suc, ◌+◌, ◌<◌, ◌≤◌, ◌==◌, ◌||◌, Bool, true, false, inl, inr, List, length, get_or, set, Option, Some, None, refl, ap, sym, ◌∙◌, subst, arith}
+use Rattle.std.specs.Prelude.{if◌then◌else◌}
+use Rattle.std.proofs.lemmas.Bool.{cases_eq, cases_lt, eq-eqb}
 use Rattle.std.proofs.lemmas.List.{length-set, get_or_past, get_or-set_same, get_or-set_other}
 use Rattle.edge_bits.specs.declared.edges.Edge.{Edge}
 use Rattle.edge_bits.specs.declared.edges.Kind.{Kind}
@@ -12,19 +13,21 @@ use Rattle.edge_bits.specs.Words.{unpack_of}
 use Rattle.edge_bits.specs.Reading.{plain}
 use Rattle.function_laws.specs.Kinds.{Denoted, ValueOf, values_of, flipped}
 use Rattle.node_store.specs.Views.{levels, IsVariable, IsBeyond, IsBelow, CanMake, Denotes, Is, values_at}
+use Rattle.computed_cache.specs.Entries.{Kept, kept_at, names, without}
+use Rattle.node_store.proofs.MemoLaws.{MemoHolds-carried}
 use Rattle.node_slots.specs.Slots.{node_of, word_function, function_at_most}
 use Rattle.node_slots.specs.Stores.{Plain, slots, longest, content_of, plain_view, HasNoFree, IsUnknown, IsNode, IsStore}
 use Rattle.node_slots.specs.Counts.{IsUnnamed}
 use Rattle.node_slots.specs.declared.plain_store.Refused.{Refused}
 use Rattle.node_slots.proofs.Reading.{at_word}
 
--- the store with other words and count words, and another call refused
-abbrev pub changed : Plain → List ℕ → List ℕ → Option Refused → Plain
-changed p ws cs d = record p { words = ws; counts = cs; due = d }
+-- the store with other words, count words and entries of the computed table, and another call refused
+abbrev pub changed : Plain → List ℕ → List ℕ → Option Refused → List ℕ → Plain
+changed p ws cs d memo = record p { words = ws; counts = cs; due = d; memo = memo }
 
-module _ (p : Plain) (ws cs : List ℕ) (d : Option Refused) where
+module _ (p : Plain) (ws cs : List ℕ) (d : Option Refused) (memo : List ℕ) where
   abbrev q : Plain
-  q = changed p ws cs d
+  q = changed p ws cs d memo
 
   variable : (k : Kind) (v : ℕ) → IsVariable k (plain_view q) v → IsVariable k (plain_view p) v
   variable Bdd v h = h
@@ -87,8 +90,9 @@ module _ (p : Plain) (ws cs : List ℕ) (d : Option Refused) where
         → ((s : ℕ) (f : Denoted) → content_of q s ≡ Some f → Stays s)
         → ((s : ℕ) → s < 5 + length p.variable_levels → slots q s ≡ slots p s)
         → length ws ≡ length p.words → length cs ≡ length p.words
-        → ((r : Refused) → d ≡ Some r → HasNoFree q) → ((f : Denoted) → (plain_view q).due ≡ Some f → IsUnknown q f) → IsStore q
-    IsStore-remaining st kept named present first words counts refused missing = record {
+        → ((r : Refused) → d ≡ Some r → HasNoFree q) → ((f : Denoted) → (plain_view q).due ≡ Some f → IsUnknown q f)
+        → ((i : ℕ) (kept : Kept) → kept_at memo i ≡ Some kept → (kept_at p.memo i ≡ Some kept) × Stays kept.key.f.index × Stays kept.key.g.index × Stays kept.key.h.index × Stays kept.edge.index) → IsStore q
+    IsStore-remaining st kept named present first words counts refused missing entries = record {
       ordered = record {
         within = λ k v vn. rw (levels_same k) (st.ordered.within k v (variable k v vn));
         alone = λ k u v un vn. st.ordered.alone k u v (variable k u un) (variable k v vn);
@@ -111,16 +115,50 @@ module _ (p : Plain) (ws cs : List ℕ) (d : Option Refused) where
       counted = counts ∙ sym words;
       refused = refused;
       missing = missing;
+      remembered = λ i entry h. (
+          let e = entries i entry h in
+          MemoHolds-carried (record { vars = refl; elements = refl; content = λ s f stays is. content_same s stays ∙ is }) entry.key entry.edge e.1 e.2 e.3 e.4 (st.remembered i entry e.0));
     }
 
 -- a store with other count words
 pub recounted : (p : Plain) → IsStore p → (cs : List ℕ) → length cs ≡ length p.words → IsStore (record p { counts = cs })
-recounted p st cs count = IsStore-remaining p p.words cs p.due (λ s. Unit {0}) (λ m s _. refl) st (λ s word is. is) (λ s node is. (tt, tt)) (λ s f h. tt) (λ s lt. refl) refl count st.refused st.missing
+recounted p st cs count =
+    IsStore-remaining p p.words cs p.due p.memo (λ s. Unit {0}) (λ m s _. refl) st (λ s word is. is) (λ s node is. (tt, tt)) (λ s f h. tt) (λ s lt. refl) refl count st.refused st.missing (λ i entry h. (h, tt, tt, tt, tt))
+
+-- an entry that was not dropped does not name the slot
+not_forgotten : (slot : ℕ) (o : Option Kept) (entry : Kept) → without slot o ≡ Some entry
+    → (o ≡ Some entry) × (entry.key.f.index ≢ slot) × (entry.key.g.index ≢ slot) × (entry.key.h.index ≢ slot) × (entry.edge.index ≢ slot)
+not_forgotten slot None entry h = cc
+not_forgotten slot (Some kept) entry h = by_name (names slot kept) refl
+  where
+    four : (a b c d : Bool) → (a || b || c || d) ≡ false → (a ≡ false) × (b ≡ false) × (c ≡ false) × (d ≡ false)
+    four true b c d e = cc
+    four false true c d e = cc
+    four false false true d e = cc
+    four false false false true e = cc
+    four false false false false e = (refl, refl, refl, refl)
+
+    apart : (i : ℕ) → (i == slot) ≡ false → i ≢ slot
+    apart i no same = let yes = eq-eqb i slot same in let bad : true ≡ false = sym yes ∙ no in cc
+
+    by_name : (b : Bool) → names slot kept ≡ b
+        → (Some kept ≡ Some entry) × (entry.key.f.index ≢ slot) × (entry.key.g.index ≢ slot) × (entry.key.h.index ≢ slot) × (entry.edge.index ≢ slot)
+    by_name true named = let bad : None ≡ Some entry = ap (λ b. if b then None else Some kept) (sym named) ∙ h in cc
+    by_name false named =
+        let same : Some kept ≡ Some entry = ap (λ b. if b then None else Some kept) (sym named) ∙ h in
+        let one : kept ≡ entry = cc in
+        let n = four (kept.key.f.index == slot) (kept.key.g.index == slot) (kept.key.h.index == slot) (kept.edge.index == slot) named in (
+          same,
+          subst (λ (x : Kept). x.key.f.index ≢ slot) one (apart kept.key.f.index n.0),
+          subst (λ (x : Kept). x.key.g.index ≢ slot) one (apart kept.key.g.index n.1),
+          subst (λ (x : Kept). x.key.h.index ≢ slot) one (apart kept.key.h.index n.2),
+          subst (λ (x : Kept). x.edge.index ≢ slot) one (apart kept.edge.index n.3),
+        )
 
 -- a slot that no node names is freed
-module _ (p : Plain) (slot : ℕ) (cs : List ℕ) (within : slot < length p.words) (high : 3 ≤ slot) (unnamed : IsUnnamed p slot) where
+module _ (p : Plain) (slot : ℕ) (cs memo : List ℕ) (within : slot < length p.words) (high : 3 ≤ slot) (unnamed : IsUnnamed p slot) where
   abbrev pub freed : Plain
-  freed = changed p (set p.words slot 0) cs None
+  freed = changed p (set p.words slot 0) cs None memo
 
   pub slot_gone : slots freed slot ≡ None
   slot_gone = ap unpack_of (get_or-set_same p.words slot 0 0 within)
@@ -154,13 +192,13 @@ module _ (p : Plain) (slot : ℕ) (cs : List ℕ) (within : slot < length p.word
   pub content_gone : content_of freed slot ≡ None
   content_gone = at_word (slots freed) (longest p) slot high ∙ ap (word_function (function_at_most (slots freed) (longest p))) slot_gone
 
-  pub IsStore-freed : IsStore p → 5 + length p.variable_levels ≤ slot → length cs ≡ length p.words → IsStore freed
-  IsStore-freed st permanent count =
-      IsStore-remaining p (set p.words slot 0) cs None (λ s. s ≢ slot) function_same st kept
+  pub IsStore-freed : IsStore p → 5 + length p.variable_levels ≤ slot → length cs ≡ length p.words → ((i : ℕ) → kept_at memo i ≡ without slot (kept_at p.memo i)) → IsStore freed
+  IsStore-freed st permanent count forgotten =
+      IsStore-remaining p (set p.words slot 0) cs None memo (λ s. s ≢ slot) function_same st kept
       (λ s node is. unnamed s node (kept s (Inner node) is))
       (λ s f h same. (let e : None ≡ Some f = sym content_gone ∙ ap (content_of freed) (sym same) ∙ h in cc))
       (λ s lt. slot_other s (omega (arith, lt, permanent)))
-      (length-set p.words slot 0) count (λ r is. cc) (λ f due. cc)
+      (length-set p.words slot 0) count (λ r is. cc) (λ f due. cc) (λ i entry h. not_forgotten slot (kept_at p.memo i) entry (sym (forgotten i) ∙ h))
     where
       kept : (s : ℕ) (word : Word) → slots freed s ≡ Some word → slots p s ≡ Some word
       kept s word is = elim (cases_eq s slot) [

@@ -2,6 +2,7 @@
 use Rattle.std.specs.Prelude.{◌%◌, ◌⊎◌, replicate, ◌≡◌, ℕ, zero, suc, ◌+◌, ◌-◌, ◌^◌, ◌<◌, ◌≤◌, nat_lt, nat_le, Bool, true, false, ◌&&◌, if◌then◌else◌, List, length, slice_index, Option, Some, None, ℤ, pos, max}
 use Rattle.std.specs.List.{count_by, range_with_len}
 use Rattle.edge_bits.specs.Permanent.{first_element, true_slot, truth_edge}
+use Rattle.computed_cache.specs.Entries.{Kept, kept_at}
 use Rattle.edge_bits.specs.Words.{unpack_of}
 use Rattle.edge_bits.specs.declared.edges.Edge.{Edge}
 use Rattle.edge_bits.specs.declared.edges.Kind.{Kind}
@@ -14,6 +15,7 @@ use Rattle.edge_bits.specs.Reading.{slots_of, element_of, plain}
 use Rattle.function_laws.specs.Values.{constant}
 use Rattle.function_laws.specs.Numbers.{is_value}
 use Rattle.function_laws.specs.Kinds.{Denoted, AddFunction, ValueOf, flipped}
+use Rattle.node_store.specs.Memo.{MemoHolds}
 use Rattle.node_store.specs.Views.{View, IsVariable, IsProper, CanMake, function_at, levels, values_at}
 use Rattle.node_store.specs.Stacks.{Scratch, levels_in}
 use Rattle.handle_count.specs.CountWords.{count_of, generation_of}
@@ -34,6 +36,8 @@ pub record Plain : Type 0 where
   pub fulls : ℕ
   -- the arguments of the call that was refused last
   pub due : Option Refused
+  -- the words of the computed table
+  pub memo : List ℕ
   -- for how many levels the scratch that it lends has room
   pub scratch_room : ℕ
 
@@ -157,6 +161,10 @@ HasNoFree p = (t : ℕ) → t < length p.words → slots p t ≡ None → ⊥
 abbrev pub IsUnknown : Plain → Denoted → Type 0
 IsUnknown p f = (e : Edge) → function_at (plain_view p) e ≡ Some f → ⊥
 
+-- each answer that is kept under a key stands in the operation's relation
+abbrev pub AreRemembered : View → List ℕ → Type 0
+AreRemembered w memo = (i : ℕ) (kept : Kept) → kept_at memo i ≡ Some kept → MemoHolds w kept.key kept.edge
+
 -- at each level stands what has that level
 pub record AreInverse (levels at : List ℕ) : Type 0 where
   pub as_many : length at ≡ length levels
@@ -176,6 +184,7 @@ pub record IsStore (p : Plain) : Type 0 where
   -- where a call was refused and nothing was freed since, each slot has a word, and no edge denotes what was due
   pub refused : (r : Refused) → p.due ≡ Some r → HasNoFree p
   pub missing : (f : Denoted) → (plain_view p).due ≡ Some f → IsUnknown p f
+  pub remembered : AreRemembered (plain_view p) p.memo
 
 -- whether the bits are a word's
 abbrev pub is_word : ℕ → Bool
@@ -197,6 +206,7 @@ pub record IsOpening (vars elements limit : ℕ) (p : Plain) : Type 0 where
   pub counts : p.counts ≡ replicate limit 0
   pub fulls : p.fulls ≡ 0
   pub due : p.due ≡ None
+  pub memo : (i : ℕ) → kept_at p.memo i ≡ None
 
 -- the count word of the next generation of a slot
 pub record IsNext (old new : ℕ) : Type 0 where
@@ -216,3 +226,4 @@ pub record IsCleared (old new : Plain) : Type 0 where
   pub others : (s : ℕ) → (s < 5 + length old.variable_levels) ⊎ (slots old s ≡ None) → slice_index new.counts s ≡ slice_index old.counts s
   pub fulls : new.fulls ≡ old.fulls
   pub due : new.due ≡ None
+  pub memo : (i : ℕ) → kept_at new.memo i ≡ None

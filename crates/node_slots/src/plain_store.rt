@@ -10,6 +10,7 @@ ghost use Rattle.node_slots.specs.Placing.{IsChild, HasNoChild, opened_of};
 
 use crate::count_table::CountTable;
 use crate::node_table::{NodeTable, find};
+use computed_cache::Memo;
 use edge_bits::{
     EMPTY_SLOT, Edge, FIRST_ELEMENT, FIRST_PROJECTION, Kind, Memory, Node, Word, unpack,
 };
@@ -26,7 +27,10 @@ pub enum Refused {
     Leaf(i64),
 }
 
-/// A store in one vector of words. It finds a node or a leaf by its word in one unique table; its computed table is empty.
+/// As many answers as a store remembers across operations.
+const REMEMBERED: u32 = 65_536;
+
+/// A store in one vector of words. It finds a node or a leaf by its word in one unique table, and remembers answers of operations in a computed table.
 #[derive(Drop)]
 pub struct PlainStore {
     alloc: Global,
@@ -38,6 +42,7 @@ pub struct PlainStore {
     counts: CountTable,
     fulls: u64,
     due: Option<Refused>,
+    memo: Memo,
     scratch: Option<Stack>,
 }
 
@@ -46,9 +51,9 @@ impl Model for PlainStore {
 
     ghost Value = { Plain };
 
-    ghost view = { λ s. record { variable_levels = s.variable_levels.items; element_levels = s.element_levels.items; variables_at = s.variables_at.items; elements_at = s.elements_at.items; words = s.nodes; counts = s.counts; fulls = s.fulls; due = s.due; scratch_room = lent_room s.scratch } };
+    ghost view = { λ s. record { variable_levels = s.variable_levels.items; element_levels = s.element_levels.items; variables_at = s.variables_at.items; elements_at = s.elements_at.items; words = s.nodes; counts = s.counts; fulls = s.fulls; due = s.due; memo = s.memo; scratch_room = lent_room s.scratch } };
 
-    ghost invariant = { λ s. IsStore (record { variable_levels = s.variable_levels.items; element_levels = s.element_levels.items; variables_at = s.variables_at.items; elements_at = s.elements_at.items; words = s.nodes; counts = s.counts; fulls = s.fulls; due = s.due; scratch_room = lent_room s.scratch }) };
+    ghost invariant = { λ s. IsStore (record { variable_levels = s.variable_levels.items; element_levels = s.element_levels.items; variables_at = s.variables_at.items; elements_at = s.elements_at.items; words = s.nodes; counts = s.counts; fulls = s.fulls; due = s.due; memo = s.memo; scratch_room = lent_room s.scratch }) };
 }
 
 /// The child that a node would be, if it would be one.
@@ -96,7 +101,9 @@ impl Grow for PlainStore {
     ghost use Rattle.edge_bits.specs.Words.{IsLeafValue};
     ghost use Rattle.function_laws.specs.Values.{constant};
     ghost use Rattle.function_laws.specs.Kinds.{function_of, AddFunction};
-    ghost use Rattle.node_store.specs.Views.{Denotes, Grown, Rose, CanMake, node_values};
+    ghost use Rattle.computed_cache.specs.Entries.{kept_at, place_of, places};
+    ghost use Rattle.node_store.specs.Memo.{MemoHolds};
+    ghost use Rattle.node_store.specs.Views.{Denotes, Grown, IsKey, Kept, Rose, CanMake, node_values};
     ghost use Rattle.node_slots.specs.Stores.{HasNoFree, IsUnknown, plain_view};
     ghost use Rattle.node_slots.specs.Placing.{IsUnknownNode};
 
@@ -189,11 +196,32 @@ impl Grow for PlainStore {
         Edge::new(FIRST_PROJECTION + var, false)
     }
 
-    fn memo_get(&mut self, _key: &Key) -> Option<Edge> {
-        None
+    /// The answer that is kept under the key. None where the entry at its place has another key, or there is none.
+    fn memo_get(&mut self, key: &Key) -> Option<Edge>
+        requires { IsKey (plain_view self.old) key.now }
+        ensures kept { Kept (plain_view self.old) (plain_view self.new) }
+        ensures room { (plain_view self.new).room ≡ (plain_view self.old).room }
+        ensures hit { IfSome result (λ e. MemoHolds (plain_view self.new) key.now e) }
+        ensures some { IfSome result (λ e. kept_at self.old.memo (place_of key.now (places self.old.memo)) ≡ Some (record { key = key.now; edge = e })) }
+        ensures none { IfNone result ((e : Edge) → kept_at self.old.memo (place_of key.now (places self.old.memo)) ≡ Some (record { key = key.now; edge = e }) → ⊥) }
+        ensures same { self.new ≡ self.old }
+    {
+        self.memo.get(key)
     }
 
-    fn memo_put(&mut self, _key: Key, _edge: Edge) {}
+    /// Keeps an answer under its key: the key's place has it then, and no other entry changes.
+    fn memo_put(&mut self, key: Key, edge: Edge)
+        requires key { IsKey (plain_view self.old) key }
+        requires holds { MemoHolds (plain_view self.old) key edge }
+        ensures kept { Kept (plain_view self.old) (plain_view self.new) }
+        ensures room { (plain_view self.new).room ≡ (plain_view self.old).room }
+        ensures put { kept_at self.new.memo (place_of key (places self.old.memo)) ≡ Some (record { key = key; edge = edge }) }
+        ensures others { (i : ℕ) → (i ≡ place_of key (places self.old.memo) → ⊥) → kept_at self.new.memo i ≡ kept_at self.old.memo i }
+        ensures places { places self.new.memo ≡ places self.old.memo }
+        ensures rest { self.new ≡ record self.old { memo = self.new.memo } }
+    {
+        self.memo.put(key, edge);
+    }
 
     fn take_scratch(&mut self) -> Stack {
         match self.scratch.take() {
@@ -285,6 +313,7 @@ impl PlainStore {
         let elements_at = ascending(alloc, elements)?;
         let nodes = NodeTable::new(alloc, vars, limit)?;
         let counts = CountTable::new(alloc, limit)?;
+        let memo = Memo::new(alloc, REMEMBERED)?;
         Ok(PlainStore {
             alloc,
             variable_levels,
@@ -295,6 +324,7 @@ impl PlainStore {
             counts,
             fulls: 0,
             due: None,
+            memo,
             scratch: None,
         })
     }
@@ -433,7 +463,7 @@ impl PlainStore {
         false
     }
 
-    /// Frees a slot that no row, cell or pin holds and no node names: what the other slots denote stays, and the slot is the next that a node takes, in its next generation. Nothing is due then, since the arguments of a refused call may name the slot.
+    /// Frees a slot that no row, cell or pin holds and no node names: what the other slots denote stays, and the slot is the next that a node takes, in its next generation. No answer is kept of it, and nothing is due then, since the arguments of a refused call may name the slot.
     pub fn free(&mut self, slot: u32)
         requires used { slots self.old slot ≡ None → ⊥ }
         requires not_permanent { first_projection + (plain_view self.old).vars ≤ slot }
@@ -446,6 +476,7 @@ impl PlainStore {
         self.nodes.free(slot);
         let word = self.counts.word(slot);
         self.counts.write(slot, next_generation(word));
+        self.memo.forget(slot);
         self.due = None;
     }
 
@@ -459,6 +490,7 @@ impl PlainStore {
         let permanent = FIRST_PROJECTION + vars;
         advance_from(&mut self.counts, &self.nodes, permanent);
         self.nodes.clear(vars);
+        self.memo.clear();
         self.due = None;
         permanent
     }

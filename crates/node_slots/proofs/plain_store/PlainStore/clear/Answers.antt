@@ -37,4 +37,5 @@ returns-clause-cleared c =
       others = rw vars at c.advance_from.ensures.others;
       fulls = refl;
       due = refl;
+      memo = c.clear-2.ensures.empty;
     })

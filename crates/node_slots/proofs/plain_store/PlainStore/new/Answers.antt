@@ -17,4 +17,5 @@ invariant_of-result c =
       counts = c.in_ok-counts.ensures;
       fulls = refl;
       due = refl;
+      memo = c.in_ok-memo.ensures.empty;
     })
