@@ -35,7 +35,7 @@ use Rattle.node_store.specs.ViewLaws.{Is-from, Is-grown, values_at-grown, values
 use Rattle.node_store.specs.Listed.{listed, listed_at}
 use Rattle.node_slots.specs.Views.{View, Denotes, Grown, Is, IsVariable, Rose, values_at}
 use Rattle.net_jobs.specs.declared.session.Row.{Row}
-use Rattle.net_jobs.specs.Agreement.{Adds, Agrees, AreStored, Exceeds, Has, IsDue, IsKept, IsLiveOf, IsStepOf, Refuses, Rows, edge_or, name_of, row_of, sizes_for}
+use Rattle.net_jobs.specs.Agreement.{AddsRow, Agrees, AreStored, Exceeds, Has, IsDue, IsKept, IsLiveOf, IsStepOf, Refuses, Rows, edge_or, name_of, row_of, sizes_for}
 use Rattle.net_jobs.proofs.ListLemmas.{slice_get-push, slice_get-set}
 
 -- the names of two rows
@@ -122,7 +122,7 @@ out_of_range n f of_f x out = by_test (all_below (2 ^ n) (λ k. is_value (f k)))
 -- a call whose outcome is what an edge denotes adds a row
 pub adds : (k : Kind) (w w' : View) (rows new : Rows) (call : Call) (name : Name) (e : Edge) → Grown w w' → AreStored w rows → Is k w' e
     → name ≡ name_of (length rows) → new ≡ rows ++ Some (row_of k e) ∷ []
-    → ((t : Table) → Agrees w rows t → outcome t 0 call ≡ Some (makes (listed_at k w' e))) → Adds k w rows w' new call name
+    → ((t : Table) → Agrees w rows t → outcome t 0 call ≡ Some (makes (listed_at k w' e))) → AddsRow k w rows w' new call name
 adds k w w' rows new call name e grown stored is is_name is_new is_outcome = record {
   name_is = is_name;
   row = (e, is_new, is);
@@ -166,7 +166,7 @@ exceeds w w' rows new call grown stored same is_outcome = record {
 pub op_adds : (k : Kind) (w w' : View) (rows new : Rows) (call : Call) (made : Result Edge Stop) (result : Result Name Stop) (f : ℕ → ValueOf k) → Grown w w' → AreStored w rows
     → IfOk made (λ e. Denotes k w' e f) → IfOk result (λ name. (e : Edge) × (made ≡ Ok e) × IsKept k e rows new name)
     → ((t : Table) → Agrees w rows t → outcome t 0 call ≡ Some (makes (listed k w f)))
-    → IfOk result (λ name. Adds k w rows w' new call name)
+    → IfOk result (λ name. AddsRow k w rows w' new call name)
 op_adds k w w' rows new call made (Err e) f grown stored denotes kept is_outcome = tt
 op_adds k w w' rows new call made (Ok name) f grown stored denotes kept is_outcome =
     let is = subst (λ (r : Result Edge Stop). IfOk r (λ e. Denotes k w' e f)) kept.1 denotes in
@@ -186,7 +186,7 @@ op_refuses k w w' rows new call made (Err x) f grown stored rose full same may i
 pub exact_adds : (w w' : View) (rows new : Rows) (call : Call) (made : Result (Result Edge Overflow) Stop) (result : Result (Result Name Overflow) Stop) (f : ℕ → ℤ) → Grown w w' → AreStored w rows
     → IfOk made (λ told. IfOk told (λ e. Denotes kinds.Add w' e f)) → IfOk result (λ told. IfOk told (λ name. (e : Edge) × (made ≡ Ok (Ok e)) × IsKept kinds.Add e rows new name))
     → ((t : Table) → Agrees w rows t → outcome t 0 call ≡ Some (in_range (exactly (list_of (2 ^ w.vars) f))))
-    → IfOk result (λ told. IfOk told (λ name. Adds kinds.Add w rows w' new call name))
+    → IfOk result (λ told. IfOk told (λ name. AddsRow kinds.Add w rows w' new call name))
 exact_adds w w' rows new call made (Err x) f grown stored denotes kept is_outcome = tt
 exact_adds w w' rows new call made (Ok (Err x)) f grown stored denotes kept is_outcome = tt
 exact_adds w w' rows new call made (Ok (Ok name)) f grown stored denotes kept is_outcome =

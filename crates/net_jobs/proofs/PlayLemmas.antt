@@ -28,7 +28,7 @@ use Rattle.net_jobs.specs.declared.playing.Answer.{Answer}
 use Rattle.net_jobs.specs.declared.session.Row.{Row}
 use Rattle.net_jobs.specs.declared.session.Session.{Session}
 use Rattle.node_slots.specs.Stores.{plain_view}
-use Rattle.net_jobs.specs.Agreement.{Adds, AreStored, Exceeds, GivesName, IsLiveOf, IsStepOf, Refuses, Rows, row_of}
+use Rattle.net_jobs.specs.Agreement.{AddsRow, AreStored, Exceeds, GivesName, IsLiveOf, IsStepOf, Refuses, Rows, row_of}
 use Rattle.net_jobs.specs.Playing.{GrowsOrLeft, IsAnswered, IsHeldAs, RowsAfter, RowsGoOn, call_with, is_about_families, is_about_numbers, made_kind, makes, may_exceed, rows_left, with_name}
 use Rattle.net_jobs.proofs.ListLemmas.{slice_get-push, slice_get-set}
 use Rattle.net_jobs.proofs.AgreementLemmas.{stored-grown}
@@ -61,7 +61,7 @@ told_name : (answer : LawReply) (name : Name) → GivesName answer name → (tol
 told_name answer name (inl made) = (ap told_of made, ap given_by made)
 told_name answer name (inr chosen) = (ap told_of chosen.1, ap given_by chosen.1)
 
-pub answered-made : (w w' : View) (old new : Rows) (act : Act) (name : Name) → makes act ≡ true → Grown w w' → AreStored w old → Adds (made_kind act) w old w' new (call_with act) name
+pub answered-made : (w w' : View) (old new : Rows) (act : Act) (name : Name) → makes act ≡ true → Grown w w' → AreStored w old → AddsRow (made_kind act) w old w' new (call_with act) name
     → IsAnswered w old w' new act (record { reply = reply.Done; made = true })
 answered-made w w' old new act name made grown stored adds = record {
   reply = adds.reply;
@@ -135,11 +135,11 @@ makes_default act not_drop not_same not_leq not_eval = refl
 
 -- the call that was made is the command's
 pub adds_as : {E : Type 0} (old new : Session) {act other : Act} (call : Call) (result : Result Name E) → act ≡ other → call ≡ call_with other
-    → IfOk result (λ name. Adds (made_kind other) (plain_view old.store) old.rows.items (plain_view new.store) new.rows.items call name)
-    → IfOk result (λ name. Adds (made_kind act) (plain_view old.store) old.rows.items (plain_view new.store) new.rows.items (call_with act) name)
+    → IfOk result (λ name. AddsRow (made_kind other) (plain_view old.store) old.rows.items (plain_view new.store) new.rows.items call name)
+    → IfOk result (λ name. AddsRow (made_kind act) (plain_view old.store) old.rows.items (plain_view new.store) new.rows.items (call_with act) name)
 adds_as old new {act} {other} call result is called adds =
-    subst (λ (a : Act). IfOk result (λ name. Adds (made_kind a) (plain_view old.store) old.rows.items (plain_view new.store) new.rows.items (call_with a) name)) (sym is)
-    (subst (λ (c : Call). IfOk result (λ name. Adds (made_kind other) (plain_view old.store) old.rows.items (plain_view new.store) new.rows.items c name)) called adds)
+    subst (λ (a : Act). IfOk result (λ name. AddsRow (made_kind a) (plain_view old.store) old.rows.items (plain_view new.store) new.rows.items (call_with a) name)) (sym is)
+    (subst (λ (c : Call). IfOk result (λ name. AddsRow (made_kind other) (plain_view old.store) old.rows.items (plain_view new.store) new.rows.items c name)) called adds)
 
 pub refuses_as : (old new : Session) {act other : Act} (call : Call) → act ≡ other → call ≡ call_with other
     → Refuses (plain_view old.store) old.rows.items (plain_view new.store) new.rows.items call
@@ -155,8 +155,8 @@ exceeds_as old new {act} {other} call is called exceeds =
 
 -- the same of what may be answered with overflow
 pub exact_adds_as : (old new : Session) {act other : Act} (call : Call) (result : Result (Result Name AddOverflow) Stop) → act ≡ other → call ≡ call_with other
-    → IfOk result (λ told. IfOk told (λ name. Adds (made_kind other) (plain_view old.store) old.rows.items (plain_view new.store) new.rows.items call name))
-    → IfOk result (λ told. IfOk told (λ name. Adds (made_kind act) (plain_view old.store) old.rows.items (plain_view new.store) new.rows.items (call_with act) name))
+    → IfOk result (λ told. IfOk told (λ name. AddsRow (made_kind other) (plain_view old.store) old.rows.items (plain_view new.store) new.rows.items call name))
+    → IfOk result (λ told. IfOk told (λ name. AddsRow (made_kind act) (plain_view old.store) old.rows.items (plain_view new.store) new.rows.items (call_with act) name))
 exact_adds_as old new call (Err x) is called adds = tt
 exact_adds_as old new call (Ok told) is called adds = adds_as old new call told is called adds
 
@@ -183,7 +183,7 @@ pair_distinct pairs distinct = ap are_distinct (names pairs) ∙ distinct
 
 -- a command that makes a row, and what it is answered
 pub answered-operated : (w w' : View) (old new : Rows) (act : Act) (made : Result Name Stop) (result : Result Answer Memory) → makes act ≡ true → Grown w w' → AreStored w old
-    → IfOk made (λ name. Adds (made_kind act) w old w' new (call_with act) name) → (IsErrOf made stop.Full → Refuses w old w' new (call_with act))
+    → IfOk made (λ name. AddsRow (made_kind act) w old w' new (call_with act) name) → (IsErrOf made stop.Full → Refuses w old w' new (call_with act))
     → IfOk result (λ answer. MatchResult made (λ _. answer ≡ record { reply = reply.Done; made = true }) (λ x. (x ≡ stop.Full) × (answer ≡ record { reply = reply.Full; made = false })))
     → IfOk result (λ answer. IsAnswered w old w' new act answer)
 answered-operated w w' old new act made (Err x) makes_one grown stored adds refuses is = tt
@@ -193,7 +193,7 @@ answered-operated w w' old new act (Err x) (Ok answer) makes_one grown stored ad
     subst (λ (a : Answer). IsAnswered w old w' new act a) (sym is.1) (answered-full w w' old new act makes_one grown stored (refuses (ap Err is.0)))
 
 pub answered-exact : (w w' : View) (old new : Rows) (act : Act) (made : Result (Result Name AddOverflow) Stop) (result : Result Answer Memory) → may_exceed act ≡ true → Grown w w' → AreStored w old
-    → IfOk made (λ told. IfOk told (λ name. Adds (made_kind act) w old w' new (call_with act) name)) → IfOk made (λ told. IfErr told (λ _. Exceeds w old w' new (call_with act)))
+    → IfOk made (λ told. IfOk told (λ name. AddsRow (made_kind act) w old w' new (call_with act) name)) → IfOk made (λ told. IfErr told (λ _. Exceeds w old w' new (call_with act)))
     → (IsErrOf made stop.Full → Refuses w old w' new (call_with act))
     → IfOk result (λ answer. MatchResult made
     (λ told. MatchResult told (λ _. answer ≡ record { reply = reply.Done; made = true }) (λ _. answer ≡ record { reply = reply.Overflow; made = false }))

@@ -28,7 +28,7 @@ use Rattle.node_store.specs.declared.grow.Stop.TheVariants as stop
 use Rattle.edge_bits.specs.declared.lists.Memory.{Memory}
 use Rattle.node_slots.specs.Memo.{Implies}
 use Rattle.node_slots.specs.Views.{View, Grown, Rose, bdd_at}
-use Rattle.net_jobs.specs.Agreement.{Adds, Agrees, AreStored, Has, IsKept, IsLiveOf, IsStepOf, Refuses, Rows, edge_or, name_of, row_of, with_edge}
+use Rattle.net_jobs.specs.Agreement.{AddsRow, Agrees, AreStored, Has, IsKept, IsLiveOf, IsStepOf, Refuses, Rows, edge_or, name_of, row_of, with_edge}
 use Rattle.quantify_ops.specs.Restricted.{Restricted}
 use Rattle.quantify_ops.specs.Substituted.{AreSubstituted, IsPair, function_with, functions_of, substituted_at}
 use Rattle.ite_core.proofs.OutcomeLaws.{outcome-leq}
@@ -54,7 +54,7 @@ module _ (w : View) (rows : Rows) where
 
   -- what restrict chose is told by the reply
   pub chooses : (w' : View) (new : Rows) (a b name : Name) (e d x : Edge) → Grown w w' → AreStored w rows → IsLiveOf kinds.Bdd rows a → IsLiveOf kinds.Bdd rows b → Has kinds.Bdd rows a.row e → Has kinds.Bdd rows b.row d
-      → Restricted w w' e d x → name ≡ name_of (length rows) → new ≡ rows ++ Some (row_of kinds.Bdd x) ∷ [] → Adds kinds.Bdd w rows w' new (Restrict a b) name
+      → Restricted w w' e d x → name ≡ name_of (length rows) → new ≡ rows ++ Some (row_of kinds.Bdd x) ∷ [] → AddsRow kinds.Bdd w rows w' new (Restrict a b) name
   chooses w' new a b name e d x grown stored first second is_e is_d chosen is_name is_new = record {
     name_is = is_name;
     row = (x, is_new, chosen.answer);
@@ -87,7 +87,7 @@ module _ (w : View) (rows : Rows) where
 
 -- restrict made an edge
 pub restrict_adds : (w w' : View) (rows new : Rows) (a b : Name) (e d : Edge) (made : Result Edge Stop) (result : Result Name Stop) → Grown w w' → AreStored w rows → IsLiveOf kinds.Bdd rows a → IsLiveOf kinds.Bdd rows b
-    → Has kinds.Bdd rows a.row e → Has kinds.Bdd rows b.row d → IfOk made (λ x. Restricted w w' e d x) → IfOk result (λ name. (x : Edge) × (made ≡ Ok x) × IsKept kinds.Bdd x rows new name) → IfOk result (λ name. Adds kinds.Bdd w rows w' new (Restrict a b) name)
+    → Has kinds.Bdd rows a.row e → Has kinds.Bdd rows b.row d → IfOk made (λ x. Restricted w w' e d x) → IfOk result (λ name. (x : Edge) × (made ≡ Ok x) × IsKept kinds.Bdd x rows new name) → IfOk result (λ name. AddsRow kinds.Bdd w rows w' new (Restrict a b) name)
 restrict_adds w w' rows new a b e d made (Err x) grown stored first second is_e is_d chosen kept = tt
 restrict_adds w w' rows new a b e d made (Ok name) grown stored first second is_e is_d chosen kept =
     chooses w rows w' new a b name e d kept.0 grown stored first second is_e is_d (subst (λ (r : Result Edge Stop). IfOk r (λ x. Restricted w w' e d x)) kept.1 chosen) kept.2.0 kept.2.1

@@ -86,7 +86,7 @@ abbrev pub GivesName : Reply → Name → Type 0
 GivesName reply name = (reply ≡ Made name) ⊎ ((f : List Bool) × (reply ≡ Chose name f))
 
 -- The call made a row of this kind and with this name at the end of the rows, and it is a step with a reply that gives the name.
-pub record Adds (k : Kind) (w : View) (rows : Rows) (w' : View) (rows' : Rows) (call : Call) (name : Name) : Type 0 where
+pub record AddsRow (k : Kind) (w : View) (rows : Rows) (w' : View) (rows' : Rows) (call : Call) (name : Name) : Type 0 where
   pub name_is : name ≡ name_of (length rows)
   pub row : (e : Edge) × (rows' ≡ rows ++ Some (row_of k e) ∷ []) × Is k w' e
   pub reply : Reply

@@ -5,7 +5,7 @@ ghost use Rattle.edge_bits.specs.declared.edges.Kind.TheVariants as kinds;
 ghost use Rattle.function_laws.specs.declared.history.Call.TheVariants as calls;
 ghost use Rattle.node_slots.specs.Stores.{plain_view};
 ghost use Rattle.node_slots.specs.Views.{Grown};
-ghost use Rattle.net_jobs.specs.Agreement.{Adds, AreStored, IsFilled, IsLiveOf, Refuses};
+ghost use Rattle.net_jobs.specs.Agreement.{AddsRow, AreStored, IsFilled, IsLiveOf, Refuses};
 
 use crate::session::{Session, keep, settle};
 use edge_bits::Kind;
@@ -17,7 +17,7 @@ impl Session {
     pub fn empty(&mut self) -> Result<Name, Stop>
         requires stored { AreStored (plain_view self.old.store) self.old.rows.items }
         requires room { vec_len self.old.rows < 2 ^ 32 }
-        ensures ok { IfOk result (λ name. Adds kinds.Zdd (plain_view self.old.store) self.old.rows.items (plain_view self.new.store) self.new.rows.items calls.Empty name) }
+        ensures ok { IfOk result (λ name. AddsRow kinds.Zdd (plain_view self.old.store) self.old.rows.items (plain_view self.new.store) self.new.rows.items calls.Empty name) }
         ensures full { IsErrOf result Stop.Full → ⊥ }
         ensures grown { Grown (plain_view self.old.store) (plain_view self.new.store) }
     {
@@ -29,7 +29,7 @@ impl Session {
     pub fn base(&mut self) -> Result<Name, Stop>
         requires stored { AreStored (plain_view self.old.store) self.old.rows.items }
         requires room { vec_len self.old.rows < 2 ^ 32 }
-        ensures ok { IfOk result (λ name. Adds kinds.Zdd (plain_view self.old.store) self.old.rows.items (plain_view self.new.store) self.new.rows.items calls.Base name) }
+        ensures ok { IfOk result (λ name. AddsRow kinds.Zdd (plain_view self.old.store) self.old.rows.items (plain_view self.new.store) self.new.rows.items calls.Base name) }
         ensures full { IsErrOf result Stop.Full → ⊥ }
         ensures grown { Grown (plain_view self.old.store) (plain_view self.new.store) }
     {
@@ -42,7 +42,7 @@ impl Session {
         requires stored { AreStored (plain_view self.old.store) self.old.rows.items }
         requires element { e < (plain_view self.old.store).elements }
         requires room { vec_len self.old.rows < 2 ^ 32 }
-        ensures ok { IfOk result (λ name. Adds kinds.Zdd (plain_view self.old.store) self.old.rows.items (plain_view self.new.store) self.new.rows.items (calls.Single e) name) }
+        ensures ok { IfOk result (λ name. AddsRow kinds.Zdd (plain_view self.old.store) self.old.rows.items (plain_view self.new.store) self.new.rows.items (calls.Single e) name) }
         ensures full { IsErrOf result Stop.Full → Refuses (plain_view self.old.store) self.old.rows.items (plain_view self.new.store) self.new.rows.items (calls.Single e) }
         ensures filled { IsErrOf result Stop.Full → IsFilled self.new.store }
         ensures grown { Grown (plain_view self.old.store) (plain_view self.new.store) }
@@ -58,7 +58,7 @@ impl Session {
         requires first { IsLiveOf kinds.Zdd self.old.rows.items p }
         requires second { IsLiveOf kinds.Zdd self.old.rows.items q }
         requires room { vec_len self.old.rows < 2 ^ 32 }
-        ensures ok { IfOk result (λ name. Adds kinds.Zdd (plain_view self.old.store) self.old.rows.items (plain_view self.new.store) self.new.rows.items (calls.Union p q) name) }
+        ensures ok { IfOk result (λ name. AddsRow kinds.Zdd (plain_view self.old.store) self.old.rows.items (plain_view self.new.store) self.new.rows.items (calls.Union p q) name) }
         ensures full { IsErrOf result Stop.Full → Refuses (plain_view self.old.store) self.old.rows.items (plain_view self.new.store) self.new.rows.items (calls.Union p q) }
         ensures filled { IsErrOf result Stop.Full → IsFilled self.new.store }
         ensures grown { Grown (plain_view self.old.store) (plain_view self.new.store) }
@@ -75,7 +75,7 @@ impl Session {
         requires first { IsLiveOf kinds.Zdd self.old.rows.items p }
         requires second { IsLiveOf kinds.Zdd self.old.rows.items q }
         requires room { vec_len self.old.rows < 2 ^ 32 }
-        ensures ok { IfOk result (λ name. Adds kinds.Zdd (plain_view self.old.store) self.old.rows.items (plain_view self.new.store) self.new.rows.items (calls.Meet p q) name) }
+        ensures ok { IfOk result (λ name. AddsRow kinds.Zdd (plain_view self.old.store) self.old.rows.items (plain_view self.new.store) self.new.rows.items (calls.Meet p q) name) }
         ensures full { IsErrOf result Stop.Full → Refuses (plain_view self.old.store) self.old.rows.items (plain_view self.new.store) self.new.rows.items (calls.Meet p q) }
         ensures filled { IsErrOf result Stop.Full → IsFilled self.new.store }
         ensures grown { Grown (plain_view self.old.store) (plain_view self.new.store) }
@@ -92,7 +92,7 @@ impl Session {
         requires first { IsLiveOf kinds.Zdd self.old.rows.items p }
         requires second { IsLiveOf kinds.Zdd self.old.rows.items q }
         requires room { vec_len self.old.rows < 2 ^ 32 }
-        ensures ok { IfOk result (λ name. Adds kinds.Zdd (plain_view self.old.store) self.old.rows.items (plain_view self.new.store) self.new.rows.items (calls.Diff p q) name) }
+        ensures ok { IfOk result (λ name. AddsRow kinds.Zdd (plain_view self.old.store) self.old.rows.items (plain_view self.new.store) self.new.rows.items (calls.Diff p q) name) }
         ensures full { IsErrOf result Stop.Full → Refuses (plain_view self.old.store) self.old.rows.items (plain_view self.new.store) self.new.rows.items (calls.Diff p q) }
         ensures filled { IsErrOf result Stop.Full → IsFilled self.new.store }
         ensures grown { Grown (plain_view self.old.store) (plain_view self.new.store) }
@@ -109,7 +109,7 @@ impl Session {
         requires first { IsLiveOf kinds.Zdd self.old.rows.items p }
         requires second { IsLiveOf kinds.Zdd self.old.rows.items q }
         requires room { vec_len self.old.rows < 2 ^ 32 }
-        ensures ok { IfOk result (λ name. Adds kinds.Zdd (plain_view self.old.store) self.old.rows.items (plain_view self.new.store) self.new.rows.items (calls.Product p q) name) }
+        ensures ok { IfOk result (λ name. AddsRow kinds.Zdd (plain_view self.old.store) self.old.rows.items (plain_view self.new.store) self.new.rows.items (calls.Product p q) name) }
         ensures full { IsErrOf result Stop.Full → Refuses (plain_view self.old.store) self.old.rows.items (plain_view self.new.store) self.new.rows.items (calls.Product p q) }
         ensures filled { IsErrOf result Stop.Full → IsFilled self.new.store }
         ensures grown { Grown (plain_view self.old.store) (plain_view self.new.store) }
@@ -126,7 +126,7 @@ impl Session {
         requires first { IsLiveOf kinds.Zdd self.old.rows.items p }
         requires second { IsLiveOf kinds.Zdd self.old.rows.items q }
         requires room { vec_len self.old.rows < 2 ^ 32 }
-        ensures ok { IfOk result (λ name. Adds kinds.Zdd (plain_view self.old.store) self.old.rows.items (plain_view self.new.store) self.new.rows.items (calls.Quotient p q) name) }
+        ensures ok { IfOk result (λ name. AddsRow kinds.Zdd (plain_view self.old.store) self.old.rows.items (plain_view self.new.store) self.new.rows.items (calls.Quotient p q) name) }
         ensures full { IsErrOf result Stop.Full → Refuses (plain_view self.old.store) self.old.rows.items (plain_view self.new.store) self.new.rows.items (calls.Quotient p q) }
         ensures filled { IsErrOf result Stop.Full → IsFilled self.new.store }
         ensures grown { Grown (plain_view self.old.store) (plain_view self.new.store) }
@@ -143,7 +143,7 @@ impl Session {
         requires first { IsLiveOf kinds.Zdd self.old.rows.items p }
         requires element { e < (plain_view self.old.store).elements }
         requires room { vec_len self.old.rows < 2 ^ 32 }
-        ensures ok { IfOk result (λ name. Adds kinds.Zdd (plain_view self.old.store) self.old.rows.items (plain_view self.new.store) self.new.rows.items (calls.Subset1 p e) name) }
+        ensures ok { IfOk result (λ name. AddsRow kinds.Zdd (plain_view self.old.store) self.old.rows.items (plain_view self.new.store) self.new.rows.items (calls.Subset1 p e) name) }
         ensures full { IsErrOf result Stop.Full → Refuses (plain_view self.old.store) self.old.rows.items (plain_view self.new.store) self.new.rows.items (calls.Subset1 p e) }
         ensures filled { IsErrOf result Stop.Full → IsFilled self.new.store }
         ensures grown { Grown (plain_view self.old.store) (plain_view self.new.store) }
@@ -160,7 +160,7 @@ impl Session {
         requires first { IsLiveOf kinds.Zdd self.old.rows.items p }
         requires element { e < (plain_view self.old.store).elements }
         requires room { vec_len self.old.rows < 2 ^ 32 }
-        ensures ok { IfOk result (λ name. Adds kinds.Zdd (plain_view self.old.store) self.old.rows.items (plain_view self.new.store) self.new.rows.items (calls.Subset0 p e) name) }
+        ensures ok { IfOk result (λ name. AddsRow kinds.Zdd (plain_view self.old.store) self.old.rows.items (plain_view self.new.store) self.new.rows.items (calls.Subset0 p e) name) }
         ensures full { IsErrOf result Stop.Full → Refuses (plain_view self.old.store) self.old.rows.items (plain_view self.new.store) self.new.rows.items (calls.Subset0 p e) }
         ensures filled { IsErrOf result Stop.Full → IsFilled self.new.store }
         ensures grown { Grown (plain_view self.old.store) (plain_view self.new.store) }
@@ -177,7 +177,7 @@ impl Session {
         requires first { IsLiveOf kinds.Zdd self.old.rows.items p }
         requires element { e < (plain_view self.old.store).elements }
         requires room { vec_len self.old.rows < 2 ^ 32 }
-        ensures ok { IfOk result (λ name. Adds kinds.Zdd (plain_view self.old.store) self.old.rows.items (plain_view self.new.store) self.new.rows.items (calls.Change p e) name) }
+        ensures ok { IfOk result (λ name. AddsRow kinds.Zdd (plain_view self.old.store) self.old.rows.items (plain_view self.new.store) self.new.rows.items (calls.Change p e) name) }
         ensures full { IsErrOf result Stop.Full → Refuses (plain_view self.old.store) self.old.rows.items (plain_view self.new.store) self.new.rows.items (calls.Change p e) }
         ensures filled { IsErrOf result Stop.Full → IsFilled self.new.store }
         ensures grown { Grown (plain_view self.old.store) (plain_view self.new.store) }

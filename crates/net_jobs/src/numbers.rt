@@ -6,7 +6,7 @@ ghost use Rattle.edge_bits.specs.declared.edges.Kind.TheVariants as kinds;
 ghost use Rattle.function_laws.specs.declared.history.Call.TheVariants as calls;
 ghost use Rattle.node_slots.specs.Stores.{plain_view};
 ghost use Rattle.node_slots.specs.Views.{Grown};
-ghost use Rattle.net_jobs.specs.Agreement.{Adds, AreStored, Exceeds, IsFilled, IsLiveOf, Refuses};
+ghost use Rattle.net_jobs.specs.Agreement.{AddsRow, AreStored, Exceeds, IsFilled, IsLiveOf, Refuses};
 
 use crate::session::{Session, settle, settle_exact};
 use add_ops::Overflow;
@@ -20,7 +20,7 @@ impl Session {
         requires stored { AreStored (plain_view self.old.store) self.old.rows.items }
         requires value { IsLeafValue value }
         requires room { vec_len self.old.rows < 2 ^ 32 }
-        ensures ok { IfOk result (λ name. Adds kinds.Add (plain_view self.old.store) self.old.rows.items (plain_view self.new.store) self.new.rows.items (calls.Constant value) name) }
+        ensures ok { IfOk result (λ name. AddsRow kinds.Add (plain_view self.old.store) self.old.rows.items (plain_view self.new.store) self.new.rows.items (calls.Constant value) name) }
         ensures full { IsErrOf result Stop.Full → Refuses (plain_view self.old.store) self.old.rows.items (plain_view self.new.store) self.new.rows.items (calls.Constant value) }
         ensures filled { IsErrOf result Stop.Full → IsFilled self.new.store }
         ensures grown { Grown (plain_view self.old.store) (plain_view self.new.store) }
@@ -35,7 +35,7 @@ impl Session {
         requires first { IsLiveOf kinds.Add self.old.rows.items f }
         requires second { IsLiveOf kinds.Add self.old.rows.items g }
         requires room { vec_len self.old.rows < 2 ^ 32 }
-        ensures ok { IfOk result (λ told. IfOk told (λ name. Adds kinds.Add (plain_view self.old.store) self.old.rows.items (plain_view self.new.store) self.new.rows.items (calls.Plus f g) name)) }
+        ensures ok { IfOk result (λ told. IfOk told (λ name. AddsRow kinds.Add (plain_view self.old.store) self.old.rows.items (plain_view self.new.store) self.new.rows.items (calls.Plus f g) name)) }
         ensures overflow { IfOk result (λ told. IfErr told (λ _. Exceeds (plain_view self.old.store) self.old.rows.items (plain_view self.new.store) self.new.rows.items (calls.Plus f g))) }
         ensures full { IsErrOf result Stop.Full → Refuses (plain_view self.old.store) self.old.rows.items (plain_view self.new.store) self.new.rows.items (calls.Plus f g) }
         ensures filled { IsErrOf result Stop.Full → IsFilled self.new.store }
@@ -53,7 +53,7 @@ impl Session {
         requires first { IsLiveOf kinds.Add self.old.rows.items f }
         requires second { IsLiveOf kinds.Add self.old.rows.items g }
         requires room { vec_len self.old.rows < 2 ^ 32 }
-        ensures ok { IfOk result (λ told. IfOk told (λ name. Adds kinds.Add (plain_view self.old.store) self.old.rows.items (plain_view self.new.store) self.new.rows.items (calls.Minus f g) name)) }
+        ensures ok { IfOk result (λ told. IfOk told (λ name. AddsRow kinds.Add (plain_view self.old.store) self.old.rows.items (plain_view self.new.store) self.new.rows.items (calls.Minus f g) name)) }
         ensures overflow { IfOk result (λ told. IfErr told (λ _. Exceeds (plain_view self.old.store) self.old.rows.items (plain_view self.new.store) self.new.rows.items (calls.Minus f g))) }
         ensures full { IsErrOf result Stop.Full → Refuses (plain_view self.old.store) self.old.rows.items (plain_view self.new.store) self.new.rows.items (calls.Minus f g) }
         ensures filled { IsErrOf result Stop.Full → IsFilled self.new.store }
@@ -71,7 +71,7 @@ impl Session {
         requires first { IsLiveOf kinds.Add self.old.rows.items f }
         requires second { IsLiveOf kinds.Add self.old.rows.items g }
         requires room { vec_len self.old.rows < 2 ^ 32 }
-        ensures ok { IfOk result (λ told. IfOk told (λ name. Adds kinds.Add (plain_view self.old.store) self.old.rows.items (plain_view self.new.store) self.new.rows.items (calls.Times f g) name)) }
+        ensures ok { IfOk result (λ told. IfOk told (λ name. AddsRow kinds.Add (plain_view self.old.store) self.old.rows.items (plain_view self.new.store) self.new.rows.items (calls.Times f g) name)) }
         ensures overflow { IfOk result (λ told. IfErr told (λ _. Exceeds (plain_view self.old.store) self.old.rows.items (plain_view self.new.store) self.new.rows.items (calls.Times f g))) }
         ensures full { IsErrOf result Stop.Full → Refuses (plain_view self.old.store) self.old.rows.items (plain_view self.new.store) self.new.rows.items (calls.Times f g) }
         ensures filled { IsErrOf result Stop.Full → IsFilled self.new.store }
@@ -89,7 +89,7 @@ impl Session {
         requires first { IsLiveOf kinds.Add self.old.rows.items f }
         requires second { IsLiveOf kinds.Add self.old.rows.items g }
         requires room { vec_len self.old.rows < 2 ^ 32 }
-        ensures ok { IfOk result (λ name. Adds kinds.Add (plain_view self.old.store) self.old.rows.items (plain_view self.new.store) self.new.rows.items (calls.Min f g) name) }
+        ensures ok { IfOk result (λ name. AddsRow kinds.Add (plain_view self.old.store) self.old.rows.items (plain_view self.new.store) self.new.rows.items (calls.Min f g) name) }
         ensures full { IsErrOf result Stop.Full → Refuses (plain_view self.old.store) self.old.rows.items (plain_view self.new.store) self.new.rows.items (calls.Min f g) }
         ensures filled { IsErrOf result Stop.Full → IsFilled self.new.store }
         ensures grown { Grown (plain_view self.old.store) (plain_view self.new.store) }
@@ -106,7 +106,7 @@ impl Session {
         requires first { IsLiveOf kinds.Add self.old.rows.items f }
         requires second { IsLiveOf kinds.Add self.old.rows.items g }
         requires room { vec_len self.old.rows < 2 ^ 32 }
-        ensures ok { IfOk result (λ name. Adds kinds.Add (plain_view self.old.store) self.old.rows.items (plain_view self.new.store) self.new.rows.items (calls.Max f g) name) }
+        ensures ok { IfOk result (λ name. AddsRow kinds.Add (plain_view self.old.store) self.old.rows.items (plain_view self.new.store) self.new.rows.items (calls.Max f g) name) }
         ensures full { IsErrOf result Stop.Full → Refuses (plain_view self.old.store) self.old.rows.items (plain_view self.new.store) self.new.rows.items (calls.Max f g) }
         ensures filled { IsErrOf result Stop.Full → IsFilled self.new.store }
         ensures grown { Grown (plain_view self.old.store) (plain_view self.new.store) }
@@ -123,7 +123,7 @@ impl Session {
         requires first { IsLiveOf kinds.Add self.old.rows.items f }
         requires second { IsLiveOf kinds.Add self.old.rows.items g }
         requires room { vec_len self.old.rows < 2 ^ 32 }
-        ensures ok { IfOk result (λ name. Adds kinds.Add (plain_view self.old.store) self.old.rows.items (plain_view self.new.store) self.new.rows.items (calls.Threshold f g) name) }
+        ensures ok { IfOk result (λ name. AddsRow kinds.Add (plain_view self.old.store) self.old.rows.items (plain_view self.new.store) self.new.rows.items (calls.Threshold f g) name) }
         ensures full { IsErrOf result Stop.Full → Refuses (plain_view self.old.store) self.old.rows.items (plain_view self.new.store) self.new.rows.items (calls.Threshold f g) }
         ensures filled { IsErrOf result Stop.Full → IsFilled self.new.store }
         ensures grown { Grown (plain_view self.old.store) (plain_view self.new.store) }
@@ -139,7 +139,7 @@ impl Session {
         requires stored { AreStored (plain_view self.old.store) self.old.rows.items }
         requires first { IsLiveOf kinds.Bdd self.old.rows.items f }
         requires room { vec_len self.old.rows < 2 ^ 32 }
-        ensures ok { IfOk result (λ name. Adds kinds.Add (plain_view self.old.store) self.old.rows.items (plain_view self.new.store) self.new.rows.items (calls.FromBdd f) name) }
+        ensures ok { IfOk result (λ name. AddsRow kinds.Add (plain_view self.old.store) self.old.rows.items (plain_view self.new.store) self.new.rows.items (calls.FromBdd f) name) }
         ensures full { IsErrOf result Stop.Full → Refuses (plain_view self.old.store) self.old.rows.items (plain_view self.new.store) self.new.rows.items (calls.FromBdd f) }
         ensures filled { IsErrOf result Stop.Full → IsFilled self.new.store }
         ensures grown { Grown (plain_view self.old.store) (plain_view self.new.store) }
@@ -156,7 +156,7 @@ impl Session {
         requires second { IsLiveOf kinds.Add self.old.rows.items g }
         requires third { IsLiveOf kinds.Add self.old.rows.items h }
         requires room { vec_len self.old.rows < 2 ^ 32 }
-        ensures ok { IfOk result (λ name. Adds kinds.Add (plain_view self.old.store) self.old.rows.items (plain_view self.new.store) self.new.rows.items (calls.AddIte f g h) name) }
+        ensures ok { IfOk result (λ name. AddsRow kinds.Add (plain_view self.old.store) self.old.rows.items (plain_view self.new.store) self.new.rows.items (calls.AddIte f g h) name) }
         ensures full { IsErrOf result Stop.Full → Refuses (plain_view self.old.store) self.old.rows.items (plain_view self.new.store) self.new.rows.items (calls.AddIte f g h) }
         ensures filled { IsErrOf result Stop.Full → IsFilled self.new.store }
         ensures grown { Grown (plain_view self.old.store) (plain_view self.new.store) }
@@ -174,7 +174,7 @@ impl Session {
         requires first { IsLiveOf kinds.Add self.old.rows.items f }
         requires variable { v < (plain_view self.old.store).vars }
         requires room { vec_len self.old.rows < 2 ^ 32 }
-        ensures ok { IfOk result (λ told. IfOk told (λ name. Adds kinds.Add (plain_view self.old.store) self.old.rows.items (plain_view self.new.store) self.new.rows.items (calls.SumOver f v) name)) }
+        ensures ok { IfOk result (λ told. IfOk told (λ name. AddsRow kinds.Add (plain_view self.old.store) self.old.rows.items (plain_view self.new.store) self.new.rows.items (calls.SumOver f v) name)) }
         ensures overflow { IfOk result (λ told. IfErr told (λ _. Exceeds (plain_view self.old.store) self.old.rows.items (plain_view self.new.store) self.new.rows.items (calls.SumOver f v))) }
         ensures full { IsErrOf result Stop.Full → Refuses (plain_view self.old.store) self.old.rows.items (plain_view self.new.store) self.new.rows.items (calls.SumOver f v) }
         ensures filled { IsErrOf result Stop.Full → IsFilled self.new.store }
@@ -191,7 +191,7 @@ impl Session {
         requires stored { AreStored (plain_view self.old.store) self.old.rows.items }
         requires first { IsLiveOf kinds.Add self.old.rows.items f }
         requires room { vec_len self.old.rows < 2 ^ 32 }
-        ensures ok { IfOk result (λ name. Adds kinds.Bdd (plain_view self.old.store) self.old.rows.items (plain_view self.new.store) self.new.rows.items (calls.AtLeast f value) name) }
+        ensures ok { IfOk result (λ name. AddsRow kinds.Bdd (plain_view self.old.store) self.old.rows.items (plain_view self.new.store) self.new.rows.items (calls.AtLeast f value) name) }
         ensures full { IsErrOf result Stop.Full → Refuses (plain_view self.old.store) self.old.rows.items (plain_view self.new.store) self.new.rows.items (calls.AtLeast f value) }
         ensures filled { IsErrOf result Stop.Full → IsFilled self.new.store }
         ensures grown { Grown (plain_view self.old.store) (plain_view self.new.store) }
@@ -206,7 +206,7 @@ impl Session {
         requires stored { AreStored (plain_view self.old.store) self.old.rows.items }
         requires first { IsLiveOf kinds.Add self.old.rows.items f }
         requires room { vec_len self.old.rows < 2 ^ 32 }
-        ensures ok { IfOk result (λ name. Adds kinds.Bdd (plain_view self.old.store) self.old.rows.items (plain_view self.new.store) self.new.rows.items (calls.Pattern f) name) }
+        ensures ok { IfOk result (λ name. AddsRow kinds.Bdd (plain_view self.old.store) self.old.rows.items (plain_view self.new.store) self.new.rows.items (calls.Pattern f) name) }
         ensures full { IsErrOf result Stop.Full → Refuses (plain_view self.old.store) self.old.rows.items (plain_view self.new.store) self.new.rows.items (calls.Pattern f) }
         ensures filled { IsErrOf result Stop.Full → IsFilled self.new.store }
         ensures grown { Grown (plain_view self.old.store) (plain_view self.new.store) }

@@ -6,7 +6,7 @@ ghost use Rattle.function_laws.specs.declared.history.Call.TheVariants as calls;
 ghost use Rattle.function_laws.specs.Steps.{are_distinct};
 ghost use Rattle.node_slots.specs.Stores.{plain_view};
 ghost use Rattle.node_slots.specs.Views.{Grown};
-ghost use Rattle.net_jobs.specs.Agreement.{Adds, AreStored, IsFilled, IsLiveOf, Refuses, with_edge};
+ghost use Rattle.net_jobs.specs.Agreement.{AddsRow, AreStored, IsFilled, IsLiveOf, Refuses, with_edge};
 
 use crate::session::{Session, keep, settle};
 use edge_bits::{Edge, Kind, Memory};
@@ -19,7 +19,7 @@ impl Session {
         requires stored { AreStored (plain_view self.old.store) self.old.rows.items }
         requires first { IsLiveOf kinds.Bdd self.old.rows.items f }
         requires room { vec_len self.old.rows < 2 ^ 32 }
-        ensures ok { IfOk result (λ name. Adds kinds.Bdd (plain_view self.old.store) self.old.rows.items (plain_view self.new.store) self.new.rows.items (calls.Not f) name) }
+        ensures ok { IfOk result (λ name. AddsRow kinds.Bdd (plain_view self.old.store) self.old.rows.items (plain_view self.new.store) self.new.rows.items (calls.Not f) name) }
         ensures full { IsErrOf result Stop.Full → ⊥ }
         ensures grown { Grown (plain_view self.old.store) (plain_view self.new.store) }
     {
@@ -34,7 +34,7 @@ impl Session {
         requires first { IsLiveOf kinds.Bdd self.old.rows.items f }
         requires second { IsLiveOf kinds.Bdd self.old.rows.items g }
         requires room { vec_len self.old.rows < 2 ^ 32 }
-        ensures ok { IfOk result (λ name. Adds kinds.Bdd (plain_view self.old.store) self.old.rows.items (plain_view self.new.store) self.new.rows.items (calls.And f g) name) }
+        ensures ok { IfOk result (λ name. AddsRow kinds.Bdd (plain_view self.old.store) self.old.rows.items (plain_view self.new.store) self.new.rows.items (calls.And f g) name) }
         ensures full { IsErrOf result Stop.Full → Refuses (plain_view self.old.store) self.old.rows.items (plain_view self.new.store) self.new.rows.items (calls.And f g) }
         ensures filled { IsErrOf result Stop.Full → IsFilled self.new.store }
         ensures grown { Grown (plain_view self.old.store) (plain_view self.new.store) }
@@ -51,7 +51,7 @@ impl Session {
         requires first { IsLiveOf kinds.Bdd self.old.rows.items f }
         requires second { IsLiveOf kinds.Bdd self.old.rows.items g }
         requires room { vec_len self.old.rows < 2 ^ 32 }
-        ensures ok { IfOk result (λ name. Adds kinds.Bdd (plain_view self.old.store) self.old.rows.items (plain_view self.new.store) self.new.rows.items (calls.Or f g) name) }
+        ensures ok { IfOk result (λ name. AddsRow kinds.Bdd (plain_view self.old.store) self.old.rows.items (plain_view self.new.store) self.new.rows.items (calls.Or f g) name) }
         ensures full { IsErrOf result Stop.Full → Refuses (plain_view self.old.store) self.old.rows.items (plain_view self.new.store) self.new.rows.items (calls.Or f g) }
         ensures filled { IsErrOf result Stop.Full → IsFilled self.new.store }
         ensures grown { Grown (plain_view self.old.store) (plain_view self.new.store) }
@@ -68,7 +68,7 @@ impl Session {
         requires first { IsLiveOf kinds.Bdd self.old.rows.items f }
         requires second { IsLiveOf kinds.Bdd self.old.rows.items g }
         requires room { vec_len self.old.rows < 2 ^ 32 }
-        ensures ok { IfOk result (λ name. Adds kinds.Bdd (plain_view self.old.store) self.old.rows.items (plain_view self.new.store) self.new.rows.items (calls.Xor f g) name) }
+        ensures ok { IfOk result (λ name. AddsRow kinds.Bdd (plain_view self.old.store) self.old.rows.items (plain_view self.new.store) self.new.rows.items (calls.Xor f g) name) }
         ensures full { IsErrOf result Stop.Full → Refuses (plain_view self.old.store) self.old.rows.items (plain_view self.new.store) self.new.rows.items (calls.Xor f g) }
         ensures filled { IsErrOf result Stop.Full → IsFilled self.new.store }
         ensures grown { Grown (plain_view self.old.store) (plain_view self.new.store) }
@@ -86,7 +86,7 @@ impl Session {
         requires second { IsLiveOf kinds.Bdd self.old.rows.items g }
         requires third { IsLiveOf kinds.Bdd self.old.rows.items h }
         requires room { vec_len self.old.rows < 2 ^ 32 }
-        ensures ok { IfOk result (λ name. Adds kinds.Bdd (plain_view self.old.store) self.old.rows.items (plain_view self.new.store) self.new.rows.items (calls.Ite f g h) name) }
+        ensures ok { IfOk result (λ name. AddsRow kinds.Bdd (plain_view self.old.store) self.old.rows.items (plain_view self.new.store) self.new.rows.items (calls.Ite f g h) name) }
         ensures full { IsErrOf result Stop.Full → Refuses (plain_view self.old.store) self.old.rows.items (plain_view self.new.store) self.new.rows.items (calls.Ite f g h) }
         ensures filled { IsErrOf result Stop.Full → IsFilled self.new.store }
         ensures grown { Grown (plain_view self.old.store) (plain_view self.new.store) }
@@ -104,7 +104,7 @@ impl Session {
         requires first { IsLiveOf kinds.Bdd self.old.rows.items f }
         requires variable { v < (plain_view self.old.store).vars }
         requires room { vec_len self.old.rows < 2 ^ 32 }
-        ensures ok { IfOk result (λ name. Adds kinds.Bdd (plain_view self.old.store) self.old.rows.items (plain_view self.new.store) self.new.rows.items (calls.Cofactor f v bit) name) }
+        ensures ok { IfOk result (λ name. AddsRow kinds.Bdd (plain_view self.old.store) self.old.rows.items (plain_view self.new.store) self.new.rows.items (calls.Cofactor f v bit) name) }
         ensures full { IsErrOf result Stop.Full → Refuses (plain_view self.old.store) self.old.rows.items (plain_view self.new.store) self.new.rows.items (calls.Cofactor f v bit) }
         ensures filled { IsErrOf result Stop.Full → IsFilled self.new.store }
         ensures grown { Grown (plain_view self.old.store) (plain_view self.new.store) }
@@ -121,7 +121,7 @@ impl Session {
         requires first { IsLiveOf kinds.Bdd self.old.rows.items f }
         requires variables { All (λ v. v < (plain_view self.old.store).vars) vars.now }
         requires room { vec_len self.old.rows < 2 ^ 32 }
-        ensures ok { IfOk result (λ name. Adds kinds.Bdd (plain_view self.old.store) self.old.rows.items (plain_view self.new.store) self.new.rows.items (calls.Exists f vars.now) name) }
+        ensures ok { IfOk result (λ name. AddsRow kinds.Bdd (plain_view self.old.store) self.old.rows.items (plain_view self.new.store) self.new.rows.items (calls.Exists f vars.now) name) }
         ensures full { IsErrOf result Stop.Full → Refuses (plain_view self.old.store) self.old.rows.items (plain_view self.new.store) self.new.rows.items (calls.Exists f vars.now) }
         ensures filled { IsErrOf result Stop.Full → IsFilled self.new.store }
         ensures grown { Grown (plain_view self.old.store) (plain_view self.new.store) }
@@ -138,7 +138,7 @@ impl Session {
         requires first { IsLiveOf kinds.Bdd self.old.rows.items f }
         requires variables { All (λ v. v < (plain_view self.old.store).vars) vars.now }
         requires room { vec_len self.old.rows < 2 ^ 32 }
-        ensures ok { IfOk result (λ name. Adds kinds.Bdd (plain_view self.old.store) self.old.rows.items (plain_view self.new.store) self.new.rows.items (calls.Forall f vars.now) name) }
+        ensures ok { IfOk result (λ name. AddsRow kinds.Bdd (plain_view self.old.store) self.old.rows.items (plain_view self.new.store) self.new.rows.items (calls.Forall f vars.now) name) }
         ensures full { IsErrOf result Stop.Full → Refuses (plain_view self.old.store) self.old.rows.items (plain_view self.new.store) self.new.rows.items (calls.Forall f vars.now) }
         ensures filled { IsErrOf result Stop.Full → IsFilled self.new.store }
         ensures grown { Grown (plain_view self.old.store) (plain_view self.new.store) }
@@ -156,7 +156,7 @@ impl Session {
         requires second { IsLiveOf kinds.Bdd self.old.rows.items g }
         requires variables { All (λ v. v < (plain_view self.old.store).vars) vars.now }
         requires room { vec_len self.old.rows < 2 ^ 32 }
-        ensures ok { IfOk result (λ name. Adds kinds.Bdd (plain_view self.old.store) self.old.rows.items (plain_view self.new.store) self.new.rows.items (calls.AndExists f g vars.now) name) }
+        ensures ok { IfOk result (λ name. AddsRow kinds.Bdd (plain_view self.old.store) self.old.rows.items (plain_view self.new.store) self.new.rows.items (calls.AndExists f g vars.now) name) }
         ensures full { IsErrOf result Stop.Full → Refuses (plain_view self.old.store) self.old.rows.items (plain_view self.new.store) self.new.rows.items (calls.AndExists f g vars.now) }
         ensures filled { IsErrOf result Stop.Full → IsFilled self.new.store }
         ensures grown { Grown (plain_view self.old.store) (plain_view self.new.store) }
@@ -173,7 +173,7 @@ impl Session {
         requires stored { AreStored (plain_view self.old.store) self.old.rows.items }
         requires first { IsLiveOf kinds.Bdd self.old.rows.items f }
         requires room { vec_len self.old.rows < 2 ^ 32 }
-        ensures ok { IfOk result (λ name. Adds kinds.Bdd (plain_view self.old.store) self.old.rows.items (plain_view self.new.store) self.new.rows.items (calls.Support f) name) }
+        ensures ok { IfOk result (λ name. AddsRow kinds.Bdd (plain_view self.old.store) self.old.rows.items (plain_view self.new.store) self.new.rows.items (calls.Support f) name) }
         ensures full { IsErrOf result Stop.Full → Refuses (plain_view self.old.store) self.old.rows.items (plain_view self.new.store) self.new.rows.items (calls.Support f) }
         ensures filled { IsErrOf result Stop.Full → IsFilled self.new.store }
         ensures grown { Grown (plain_view self.old.store) (plain_view self.new.store) }
@@ -190,7 +190,7 @@ impl Session {
         requires second { IsLiveOf kinds.Bdd self.old.rows.items g }
         requires variable { v < (plain_view self.old.store).vars }
         requires room { vec_len self.old.rows < 2 ^ 32 }
-        ensures ok { IfOk result (λ name. Adds kinds.Bdd (plain_view self.old.store) self.old.rows.items (plain_view self.new.store) self.new.rows.items (calls.Compose f v g) name) }
+        ensures ok { IfOk result (λ name. AddsRow kinds.Bdd (plain_view self.old.store) self.old.rows.items (plain_view self.new.store) self.new.rows.items (calls.Compose f v g) name) }
         ensures full { IsErrOf result Stop.Full → Refuses (plain_view self.old.store) self.old.rows.items (plain_view self.new.store) self.new.rows.items (calls.Compose f v g) }
         ensures filled { IsErrOf result Stop.Full → IsFilled self.new.store }
         ensures grown { Grown (plain_view self.old.store) (plain_view self.new.store) }
@@ -210,7 +210,7 @@ impl Session {
         requires others { All (λ pair. IsLiveOf kinds.Bdd self.old.rows.items pair.1) pairs.now }
         requires distinct { are_distinct (map (λ pair. pair.0) pairs.now) ≡ true }
         requires room { vec_len self.old.rows < 2 ^ 32 }
-        ensures ok { IfOk result (λ name. Adds kinds.Bdd (plain_view self.old.store) self.old.rows.items (plain_view self.new.store) self.new.rows.items (calls.VectorCompose f pairs.now) name) }
+        ensures ok { IfOk result (λ name. AddsRow kinds.Bdd (plain_view self.old.store) self.old.rows.items (plain_view self.new.store) self.new.rows.items (calls.VectorCompose f pairs.now) name) }
         ensures full { IsErrOf result Stop.Full → Refuses (plain_view self.old.store) self.old.rows.items (plain_view self.new.store) self.new.rows.items (calls.VectorCompose f pairs.now) }
         ensures filled { IsErrOf result Stop.Full → IsFilled self.new.store }
         ensures grown { Grown (plain_view self.old.store) (plain_view self.new.store) }
@@ -244,7 +244,7 @@ impl Session {
         requires first { IsLiveOf kinds.Bdd self.old.rows.items f }
         requires second { IsLiveOf kinds.Bdd self.old.rows.items g }
         requires room { vec_len self.old.rows < 2 ^ 32 }
-        ensures ok { IfOk result (λ name. Adds kinds.Bdd (plain_view self.old.store) self.old.rows.items (plain_view self.new.store) self.new.rows.items (calls.Restrict f g) name) }
+        ensures ok { IfOk result (λ name. AddsRow kinds.Bdd (plain_view self.old.store) self.old.rows.items (plain_view self.new.store) self.new.rows.items (calls.Restrict f g) name) }
         ensures full { IsErrOf result Stop.Full → Refuses (plain_view self.old.store) self.old.rows.items (plain_view self.new.store) self.new.rows.items (calls.Restrict f g) }
         ensures filled { IsErrOf result Stop.Full → IsFilled self.new.store }
         ensures grown { Grown (plain_view self.old.store) (plain_view self.new.store) }

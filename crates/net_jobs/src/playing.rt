@@ -8,7 +8,7 @@ ghost use Rattle.job_text.specs.Histories.{HistoryLine, drop_of, left_of, line_t
 ghost use Rattle.function_laws.specs.declared.history.Reply.TheVariants as laws;
 ghost use Rattle.node_slots.specs.Stores.{IsOpening, Plain, plain_view};
 ghost use Rattle.node_slots.specs.Views.{Grown};
-ghost use Rattle.net_jobs.specs.Agreement.{Adds, AreStored, Exceeds, IsFilled, Refuses, is_dropped, name_of};
+ghost use Rattle.net_jobs.specs.Agreement.{AddsRow, AreStored, Exceeds, IsFilled, Refuses, is_dropped, name_of};
 ghost use Rattle.net_jobs.specs.Playing.{CanCall, DropsOne, DropsTheRest, IsAnswered, PlaysOver, RowsGoOn, SaysOne, SaysThrough, StandsAt, assigned_after, call_with, counts_at, is_about_families, is_about_numbers, made_kind, makes, may_exceed, sizes_at, target_at, with_name};
 
 use crate::gate::Gate;
@@ -97,7 +97,7 @@ fn vector_compose(session: &mut Session, a: u32, pairs: &[(u32, u32)]) -> Result
     requires can { CanCall (counts_at session.old.store) session.old.rows.items (acts.VectorCompose a pairs.now) }
     requires stored { AreStored (plain_view session.old.store) session.old.rows.items }
     requires room { vec_len session.old.rows < 2 ^ 32 }
-    ensures ok { IfOk result (λ name. Adds kinds.Bdd (plain_view session.old.store) session.old.rows.items (plain_view session.new.store) session.new.rows.items (call_with (acts.VectorCompose a pairs.now)) name) }
+    ensures ok { IfOk result (λ name. AddsRow kinds.Bdd (plain_view session.old.store) session.old.rows.items (plain_view session.new.store) session.new.rows.items (call_with (acts.VectorCompose a pairs.now)) name) }
     ensures full { IsErrOf result Stop.Full → Refuses (plain_view session.old.store) session.old.rows.items (plain_view session.new.store) session.new.rows.items (call_with (acts.VectorCompose a pairs.now)) }
     ensures filled { IsErrOf result Stop.Full → IsFilled session.new.store }
     ensures grown { Grown (plain_view session.old.store) (plain_view session.new.store) }
@@ -115,7 +115,7 @@ fn operate_on_numbers(session: &mut Session, act: &Act) -> Result<Name, Stop>
     requires in_range { may_exceed act.now ≡ false }
     requires stored { AreStored (plain_view session.old.store) session.old.rows.items }
     requires room { vec_len session.old.rows < 2 ^ 32 }
-    ensures ok { IfOk result (λ name. Adds (made_kind act.now) (plain_view session.old.store) session.old.rows.items (plain_view session.new.store) session.new.rows.items (call_with act.now) name) }
+    ensures ok { IfOk result (λ name. AddsRow (made_kind act.now) (plain_view session.old.store) session.old.rows.items (plain_view session.new.store) session.new.rows.items (call_with act.now) name) }
     ensures full { IsErrOf result Stop.Full → Refuses (plain_view session.old.store) session.old.rows.items (plain_view session.new.store) session.new.rows.items (call_with act.now) }
     ensures filled { IsErrOf result Stop.Full → IsFilled session.new.store }
     ensures grown { Grown (plain_view session.old.store) (plain_view session.new.store) }
@@ -139,7 +139,7 @@ fn operate_on_families(session: &mut Session, act: &Act) -> Result<Name, Stop>
     requires families { is_about_families act.now ≡ true }
     requires stored { AreStored (plain_view session.old.store) session.old.rows.items }
     requires room { vec_len session.old.rows < 2 ^ 32 }
-    ensures ok { IfOk result (λ name. Adds (made_kind act.now) (plain_view session.old.store) session.old.rows.items (plain_view session.new.store) session.new.rows.items (call_with act.now) name) }
+    ensures ok { IfOk result (λ name. AddsRow (made_kind act.now) (plain_view session.old.store) session.old.rows.items (plain_view session.new.store) session.new.rows.items (call_with act.now) name) }
     ensures full { IsErrOf result Stop.Full → Refuses (plain_view session.old.store) session.old.rows.items (plain_view session.new.store) session.new.rows.items (call_with act.now) }
     ensures filled { IsErrOf result Stop.Full → IsFilled session.new.store }
     ensures grown { Grown (plain_view session.old.store) (plain_view session.new.store) }
@@ -166,7 +166,7 @@ fn operate_exactly(session: &mut Session, act: &Act) -> Result<Result<Name, Over
     requires exact { may_exceed act.now ≡ true }
     requires stored { AreStored (plain_view session.old.store) session.old.rows.items }
     requires room { vec_len session.old.rows < 2 ^ 32 }
-    ensures ok { IfOk result (λ told. IfOk told (λ name. Adds (made_kind act.now) (plain_view session.old.store) session.old.rows.items (plain_view session.new.store) session.new.rows.items (call_with act.now) name)) }
+    ensures ok { IfOk result (λ told. IfOk told (λ name. AddsRow (made_kind act.now) (plain_view session.old.store) session.old.rows.items (plain_view session.new.store) session.new.rows.items (call_with act.now) name)) }
     ensures overflow { IfOk result (λ told. IfErr told (λ _. Exceeds (plain_view session.old.store) session.old.rows.items (plain_view session.new.store) session.new.rows.items (call_with act.now))) }
     ensures full { IsErrOf result Stop.Full → Refuses (plain_view session.old.store) session.old.rows.items (plain_view session.new.store) session.new.rows.items (call_with act.now) }
     ensures filled { IsErrOf result Stop.Full → IsFilled session.new.store }
@@ -189,7 +189,7 @@ fn operate(session: &mut Session, act: &Act) -> Result<Name, Stop>
     requires no_family { is_about_families act.now ≡ false }
     requires stored { AreStored (plain_view session.old.store) session.old.rows.items }
     requires room { vec_len session.old.rows < 2 ^ 32 }
-    ensures ok { IfOk result (λ name. Adds (made_kind act.now) (plain_view session.old.store) session.old.rows.items (plain_view session.new.store) session.new.rows.items (call_with act.now) name) }
+    ensures ok { IfOk result (λ name. AddsRow (made_kind act.now) (plain_view session.old.store) session.old.rows.items (plain_view session.new.store) session.new.rows.items (call_with act.now) name) }
     ensures full { IsErrOf result Stop.Full → Refuses (plain_view session.old.store) session.old.rows.items (plain_view session.new.store) session.new.rows.items (call_with act.now) }
     ensures filled { IsErrOf result Stop.Full → IsFilled session.new.store }
     ensures grown { Grown (plain_view session.old.store) (plain_view session.new.store) }

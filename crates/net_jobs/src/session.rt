@@ -9,7 +9,7 @@ ghost use Rattle.function_laws.specs.declared.history.Call.TheVariants as calls;
 ghost use Rattle.function_laws.specs.declared.history.Reply.TheVariants as replies;
 ghost use Rattle.node_slots.specs.Stores.{plain_view};
 ghost use Rattle.node_slots.specs.Views.{Grown, Is, Kept, levels as levels_of};
-ghost use Rattle.net_jobs.specs.Agreement.{Adds, AreAlike, AreStored, Has, IsDue, IsFilled, IsKept, IsLive, IsLiveOf, IsStepOf, is_dropped};
+ghost use Rattle.net_jobs.specs.Agreement.{AddsRow, AreAlike, AreStored, Has, IsDue, IsFilled, IsKept, IsLive, IsLiveOf, IsStepOf, is_dropped};
 
 use crate::walking::value_at;
 use add_ops::Overflow;
@@ -148,7 +148,7 @@ impl Session {
     pub fn one(&mut self) -> Result<Name, Stop>
         requires stored { AreStored (plain_view self.old.store) self.old.rows.items }
         requires room { vec_len self.old.rows < 2 ^ 32 }
-        ensures ok { IfOk result (λ name. Adds kinds.Bdd (plain_view self.old.store) self.old.rows.items (plain_view self.new.store) self.new.rows.items calls.One name) }
+        ensures ok { IfOk result (λ name. AddsRow kinds.Bdd (plain_view self.old.store) self.old.rows.items (plain_view self.new.store) self.new.rows.items calls.One name) }
         ensures full { IsErrOf result Stop.Full → ⊥ }
         ensures grown { Grown (plain_view self.old.store) (plain_view self.new.store) }
     {
@@ -160,7 +160,7 @@ impl Session {
     pub fn zero(&mut self) -> Result<Name, Stop>
         requires stored { AreStored (plain_view self.old.store) self.old.rows.items }
         requires room { vec_len self.old.rows < 2 ^ 32 }
-        ensures ok { IfOk result (λ name. Adds kinds.Bdd (plain_view self.old.store) self.old.rows.items (plain_view self.new.store) self.new.rows.items calls.Zero name) }
+        ensures ok { IfOk result (λ name. AddsRow kinds.Bdd (plain_view self.old.store) self.old.rows.items (plain_view self.new.store) self.new.rows.items calls.Zero name) }
         ensures full { IsErrOf result Stop.Full → ⊥ }
         ensures grown { Grown (plain_view self.old.store) (plain_view self.new.store) }
     {
@@ -173,7 +173,7 @@ impl Session {
         requires variable { v < (plain_view self.old.store).vars }
         requires stored { AreStored (plain_view self.old.store) self.old.rows.items }
         requires room { vec_len self.old.rows < 2 ^ 32 }
-        ensures ok { IfOk result (λ name. Adds kinds.Bdd (plain_view self.old.store) self.old.rows.items (plain_view self.new.store) self.new.rows.items (calls.Var v) name) }
+        ensures ok { IfOk result (λ name. AddsRow kinds.Bdd (plain_view self.old.store) self.old.rows.items (plain_view self.new.store) self.new.rows.items (calls.Var v) name) }
         ensures full { IsErrOf result Stop.Full → ⊥ }
         ensures grown { Grown (plain_view self.old.store) (plain_view self.new.store) }
     {

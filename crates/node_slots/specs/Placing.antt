@@ -4,6 +4,7 @@ use Rattle.edge_bits.specs.declared.edges.Edge.{Edge}
 use Rattle.edge_bits.specs.declared.edges.Kind.{Kind}
 use Rattle.edge_bits.specs.declared.words.Word.{Word}
 use Rattle.edge_bits.specs.declared.words.Word.TheVariants.{Inner, Leaf}
+use Rattle.edge_bits.specs.Permanent.{empty_slot, first_element}
 use Rattle.edge_bits.specs.Words.{unpack_of}
 use Rattle.edge_bits.specs.Reading.{slots_of, plain}
 use Rattle.function_laws.specs.Kinds.{function_of}
@@ -42,11 +43,11 @@ IsUnknownNode p v hi lo = (k : Kind) → CanMake k (plain_view p) v hi lo → Is
 
 -- the child that a node would be
 abbrev pub IsChild : ℕ → Edge → Edge → Edge → Type 0
-IsChild v hi lo e = ((v < 16384) × (hi ≡ lo) × (e ≡ hi)) ⊎ ((16384 ≤ v) × (hi.index ≡ 1) × (e ≡ lo))
+IsChild v hi lo e = ((v < first_element) × (hi ≡ lo) × (e ≡ hi)) ⊎ ((first_element ≤ v) × (hi.index ≡ empty_slot) × (e ≡ lo))
 
 pub record HasNoChild (v : ℕ) (hi lo : Edge) : Type 0 where
-  pub differ : v < 16384 → hi ≡ lo → ⊥
-  pub member : 16384 ≤ v → hi.index ≡ 1 → ⊥
+  pub differ : v < first_element → hi ≡ lo → ⊥
+  pub member : first_element ≤ v → hi.index ≡ empty_slot → ⊥
 
 -- a word, with the complement of the edge to it pushed to both children
 abbrev pub opened_of : Word → Bool → Opened

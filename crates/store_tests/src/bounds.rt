@@ -113,7 +113,7 @@ fn leaf_of(store: &mut PlainStore, value: i64) -> Result<Edge, Fail>
 fn values_are_at_least_what_is_below_the_range(rt: HostRuntime) -> Result<(), Fail> {
     let mut functions = Functions::new(rt.alloc())?;
     for number in 0..FUNCTIONS {
-        let everywhere = Edge::new(0, false);
+        let everywhere = Edge::truth(true);
         assert_eq!(rt;
             functions.at_least(values_of(number), i64::MIN)?,
             everywhere,
@@ -127,7 +127,7 @@ fn values_are_at_least_what_is_below_the_range(rt: HostRuntime) -> Result<(), Fa
 fn no_value_is_at_least_what_is_above_the_range(rt: HostRuntime) -> Result<(), Fail> {
     let mut functions = Functions::new(rt.alloc())?;
     for number in 0..FUNCTIONS {
-        let nowhere = Edge::new(0, true);
+        let nowhere = Edge::truth(false);
         assert_eq!(rt;
             functions.at_least(values_of(number), i64::MAX)?,
             nowhere,
