@@ -2,6 +2,7 @@
 use Rattle.std.proofs.Common.{◌≡◌, ℕ, zero, suc, eqb, ◌-◌, ◌<◌, ◌≤◌, true, false, inl, inr, ℤ, refl, ap, sym, ◌∙◌, subst, arith}
 use Rattle.std.specs.Prelude.{nat_lt}
 use Rattle.std.proofs.lemmas.Nat.Bits.{bit_at-zero}
+use Rattle.edge_bits.specs.Permanent.{first_element}
 use Rattle.edge_bits.specs.declared.edges.Edge.{Edge}
 use Rattle.edge_bits.specs.declared.edges.Kind.{Kind}
 use Rattle.edge_bits.specs.declared.edges.Kind.TheVariants.{Bdd, Add, Zdd}
@@ -91,14 +92,14 @@ Lacks-leaf _ _ _ _ only_base v = base-without (element_of v)
 
 -- the then part of a function that lacks the variable
 pub absent-is : (k : Kind) (w : View) → Permanent w → (v : ℕ) (e : Edge) → IsVariable k w v → Is k w e → Denotes k w (absent_edge v e) (absent_part k (values_at k w e))
-absent-is Bdd w p v e vn d = let low : nat_lt v 16384 ≡ true = grind (arith, vn.0) in rw low d
-absent-is Add w p v e vn d = let low : nat_lt v 16384 ≡ true = grind (arith, vn.0) in rw low d
-absent-is Zdd w p v e vn d = let high : nat_lt v 16384 ≡ false = grind (arith, vn.0) in rw high (Denotes-empty w p)
+absent-is Bdd w p v e vn d = let low : nat_lt v first_element ≡ true = grind (arith, vn.0) in rw low d
+absent-is Add w p v e vn d = let low : nat_lt v first_element ≡ true = grind (arith, vn.0) in rw low d
+absent-is Zdd w p v e vn d = let high : nat_lt v first_element ≡ false = grind (arith, vn.0) in rw high (Denotes-empty w p)
 
 pub absent-top : (k : Kind) (w : View) → Permanent w → (v : ℕ) (e : Edge) → IsVariable k w v → w.level v < levels k w → w.level v < w.top e.index → w.level v < w.top (absent_edge v e).index
-absent-top Bdd w p v e vn lt h = let low : nat_lt v 16384 ≡ true = grind (arith, vn.0) in rw low h
-absent-top Add w p v e vn lt h = let low : nat_lt v 16384 ≡ true = grind (arith, vn.0) in rw low h
-absent-top Zdd w p v e vn lt h = let high : nat_lt v 16384 ≡ false = grind (arith, vn.0) in rw (high, p.empty_top) lt
+absent-top Bdd w p v e vn lt h = let low : nat_lt v first_element ≡ true = grind (arith, vn.0) in rw low h
+absent-top Add w p v e vn lt h = let low : nat_lt v first_element ≡ true = grind (arith, vn.0) in rw low h
+absent-top Zdd w p v e vn lt h = let high : nat_lt v first_element ≡ false = grind (arith, vn.0) in rw (high, p.empty_top) lt
 
 PartsAt-absent : (k : Kind) (w : View) → Permanent w → (v : ℕ) (e : Edge) (f : ℕ → ValueOf k) → IsVariable k w v → Is k w e → values_at k w e ≡ f → IsBelow k w v f
     → w.level v < levels k w → w.level v < w.top e.index → PartsAt k w e f v (absent_edge v e) e
