@@ -7,6 +7,7 @@ pub mod Adding
 pub mod Calls
 pub mod Making
 pub mod Answering
+pub mod Remembering
 pub mod Opening
 pub mod Denoting
 pub mod Counting

@@ -21,7 +21,7 @@ use Rattle.edge_bits.specs.Permanent.{empty_edge}
 use Rattle.node_store.specs.ViewLaws.{values_at-is, Is-from, Denotes-flip, Denotes-node, flipped-not, levels-grown, IsVariable-back}
 use Rattle.node_store.proofs.MemoLaws.{Carries-grown, MemoHolds-carried}
 use Rattle.node_slots.specs.Slots.{node_of, function_at_most}
-use Rattle.node_slots.specs.Stores.{Plain, slots, content_of, refused_function, plain_view, is_used, ones, IsRegular, IsNode, HasNoFree, IsUnknown, IsStore}
+use Rattle.node_slots.specs.Stores.{Plain, slots, content_of, refused_function, plain_view, is_used, ones, IsRegular, IsNode, HasNoFree, IsUnknown, AreRemembered, IsStore}
 use Rattle.node_slots.specs.Placing.{IsPlaced, IsUnknownNode, IsChild, HasNoChild}
 use Rattle.node_slots.specs.declared.plain_store.Refused.{Refused}
 use Rattle.node_slots.specs.declared.plain_store.Refused.TheVariants as refused
@@ -99,9 +99,9 @@ with_words p ws = record p { words = ws }
 abbrev pub after_refusal : Plain → ℕ → Option Refused → Plain
 after_refusal p n d = record p { fulls = n; due = d }
 
--- a store after its scratch was lent or given back, with room for so many levels
-abbrev pub after_lending : Plain → ℕ → Plain
-after_lending p r = record p { scratch_room = r }
+-- a store after its scratch was lent or given back, with room for so many levels, or an answer was remembered
+abbrev pub after_lending : Plain → ℕ → List ℕ → Plain
+after_lending p r memo = record p { scratch_room = r; memo = memo }
 
 -- what a call that answers an edge leaves
 pub record Stored (k : Kind) (p q : Plain) (e : Edge) (f : ℕ → ValueOf k) : Type 0 where
@@ -310,9 +310,9 @@ module _ (p : Plain) (st : IsStore p) where
       remembered = λ j kept h. MemoHolds-carried (Carries-grown refused-grown) kept.key kept.edge tt tt tt tt (st.remembered j kept h);
     }
 
-  -- the scratch was lent or given back
-  module _ (r : ℕ) where
-    pub lent-kept : Kept (plain_view p) (plain_view (after_lending p r))
+  -- the scratch was lent or given back, or an answer was remembered
+  module _ (r : ℕ) (memo : List ℕ) where
+    pub lent-kept : Kept (plain_view p) (plain_view (after_lending p r memo))
     lent-kept = record {
       grown = record { vars = refl; elements = refl; slots = refl; level = refl; content = λ s f h. h; top = λ s f h. refl; made = λ s h. h; fulls = omega arith; counts = refl; holds = refl; wants = λ h. h };
       made = refl;
@@ -320,12 +320,12 @@ module _ (p : Plain) (st : IsStore p) where
       due = refl;
     }
 
-    IsNode-lent : (k : Kind) (node : Node) → IsNode k p node → IsNode k (after_lending p r) node
+    IsNode-lent : (k : Kind) (node : Node) → IsNode k p node → IsNode k (after_lending p r memo) node
     unfolding lent-kept
     IsNode-lent k node i = record { can_make = CanMake-grown k lent-kept.grown i.can_make; proper = i.proper; regular = i.regular }
 
-    pub lent-store : IsStore (after_lending p r)
-    lent-store = record {
+    pub lent-store : AreRemembered (plain_view p) memo → IsStore (after_lending p r memo)
+    lent-store remembered = record {
       ordered = record {
         within = λ k v vn. rw (levels-grown k lent-kept.grown) (st.ordered.within k v (IsVariable-back k lent-kept.grown v vn));
         alone = λ k u v un vn e. st.ordered.alone k u v (IsVariable-back k lent-kept.grown u un) (IsVariable-back k lent-kept.grown v vn) e;
@@ -345,7 +345,7 @@ module _ (p : Plain) (st : IsStore p) where
       counted = st.counted;
       refused = st.refused;
       missing = st.missing;
-      remembered = λ j kept h. MemoHolds-carried (Carries-grown lent-kept.grown) kept.key kept.edge tt tt tt tt (st.remembered j kept h);
+      remembered = λ j kept h. MemoHolds-carried (Carries-grown lent-kept.grown) kept.key kept.edge tt tt tt tt (remembered j kept h);
     }
 
   -- what is due where a node or a leaf is refused

@@ -207,6 +207,9 @@ module _ (p : Plain) (first : HasPermanent p) (free : (s : ℕ) → 5 + length p
           subst (λ n. (k : Kind) × IsNode k p n) same (Bdd, projection_kept (s - 5) w.0))
     ]
 
+    never_some : (kept : Kept) → None ≡ Some kept → ⊥
+    never_some kept e = cc
+
     -- the store is canonical
     pub IsStore-opening : ((r : Refused) → p.due ≡ Some r → ⊥) → length p.element_levels ≤ 1024 → 5 + length p.variable_levels ≤ length p.words → length p.words < 2 ^ 23 → length p.counts ≡ length p.words
         → AreInverse p.variable_levels p.variables_at → AreInverse p.element_levels p.elements_at → ((i : ℕ) → kept_at p.memo i ≡ None) → IsStore p

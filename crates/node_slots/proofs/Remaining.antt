@@ -139,7 +139,7 @@ not_forgotten slot (Some kept) entry h = by_name (names slot kept) refl
     four false false false false e = (refl, refl, refl, refl)
 
     apart : (i : ℕ) → (i == slot) ≡ false → i ≢ slot
-    apart i no same = let yes = eq-eqb i slot same in let bad : true ≡ false = sym yes ∙ no in cc
+    apart i differ same = let yes = eq-eqb i slot same in let bad : true ≡ false = sym yes ∙ differ in cc
 
     by_name : (b : Bool) → names slot kept ≡ b
         → (Some kept ≡ Some entry) × (entry.key.f.index ≢ slot) × (entry.key.g.index ≢ slot) × (entry.key.h.index ≢ slot) × (entry.edge.index ≢ slot)

@@ -10,7 +10,7 @@ invariant_of-self c =
     let p = the_view c.self.inside in
     let e = c.clear.ensures in
     let vars : 5 + c.len-vars.result ≡ 5 + length p.variable_levels = ap (λ n. 5 + n) (c.len-vars.ensures ∙ c.self.inside.variable_levels.ok.0) in
-    IsStore-cleared p c.self.invariant None none_due c.clear.new.self c.advance_from.new.counts p.fulls (5 + c.len-vars.result) vars e.length c.advance_from.ensures.as_many (permanent_kept p c.self.invariant.permanent c.clear.new.self (5 + c.len-vars.result) vars e.permanent) e.free
+    IsStore-cleared p c.self.invariant None none_due c.clear.new.self c.advance_from.new.counts c.clear-2.new.self p.fulls (5 + c.len-vars.result) c.clear-2.ensures.empty vars e.length c.advance_from.ensures.as_many (permanent_kept p c.self.invariant.permanent c.clear.new.self (5 + c.len-vars.result) vars e.permanent) e.free
 
 pub returns-clause-in_use : goal.returns-clause-in_use
 returns-clause-in_use c =
@@ -24,7 +24,7 @@ returns-clause-cleared c =
     let p = the_view c.self.inside in
     let e = c.clear.ensures in
     let vars : 5 + c.len-vars.result ≡ 5 + length p.variable_levels = ap (λ n. 5 + n) (c.len-vars.ensures ∙ c.self.inside.variable_levels.ok.0) in
-    subst (λ q. IsCleared q (with_rest p c.clear.new.self c.advance_from.new.counts p.fulls None)) c.self.view_is
+    subst (λ q. IsCleared q (with_rest p c.clear.new.self c.advance_from.new.counts p.fulls None c.clear-2.new.self)) c.self.view_is
     (record {
       variable_levels = refl;
       element_levels = refl;

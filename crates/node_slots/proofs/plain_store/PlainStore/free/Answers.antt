@@ -14,8 +14,8 @@ invariant_of-self c =
     let high = subst (λ (q : Plain). 5 + (plain_view q).vars ≤ slot) (sym c.self.view_is) c.requires.not_permanent in
     let unnamed = subst (λ q. IsUnnamed q slot) (sym c.self.view_is) c.requires.not_named in
     rw c.free.ensures
-    (IsStore-freed p slot c.write.new.self (used_within p slot used) (omega (arith, high)) unnamed c.self.invariant high
-    (ap length c.write.ensures ∙ length-set p.counts slot c.next_generation.result ∙ c.self.invariant.counted))
+    (IsStore-freed p slot c.write.new.self c.forget.new.self (used_within p slot used) (omega (arith, high)) unnamed c.self.invariant high
+    (ap length c.write.ensures ∙ length-set p.counts slot c.next_generation.result ∙ c.self.invariant.counted) c.forget.ensures.forgotten)
 
 pub returns-clause-content : goal.returns-clause-content
 returns-clause-content c =
@@ -25,7 +25,7 @@ returns-clause-content c =
     let high = subst (λ (q : Plain). 5 + (plain_view q).vars ≤ slot) (sym c.self.view_is) c.requires.not_permanent in
     let unnamed = subst (λ q. IsUnnamed q slot) (sym c.self.view_is) c.requires.not_named in
     rw c.free.ensures
-    (λ s ne. function_same p slot c.write.new.self (used_within p slot used) (omega (arith, high)) unnamed (suc (longest p)) s ne ∙ ap (λ q. content_of q s) c.self.view_is)
+    (λ s ne. function_same p slot c.write.new.self c.forget.new.self (used_within p slot used) (omega (arith, high)) unnamed (suc (longest p)) s ne ∙ ap (λ q. content_of q s) c.self.view_is)
 
 pub returns-clause-gone : goal.returns-clause-gone
 returns-clause-gone c =
@@ -34,4 +34,4 @@ returns-clause-gone c =
     let used = subst (λ (q : Plain). slots q slot ≡ None → ⊥) (sym c.self.view_is) c.requires.used in
     let high = subst (λ (q : Plain). 5 + (plain_view q).vars ≤ slot) (sym c.self.view_is) c.requires.not_permanent in
     let unnamed = subst (λ q. IsUnnamed q slot) (sym c.self.view_is) c.requires.not_named in
-    rw c.free.ensures (content_gone p slot c.write.new.self (used_within p slot used) (omega (arith, high)) unnamed)
+    rw c.free.ensures (content_gone p slot c.write.new.self c.forget.new.self (used_within p slot used) (omega (arith, high)) unnamed)

@@ -3,4 +3,4 @@ use Rattle.node_slots.proofs.Making.{lent-store}
 use Rattle.node_slots.proofs.plain_store.PlainStoreGrow.give_scratch.Goals as goal
 
 pub invariant_of-self : goal.invariant_of-self
-invariant_of-self c = lent-store (the_view c.self.inside) c.self.invariant _
+invariant_of-self c = let p = the_view c.self.inside in lent-store p c.self.invariant _ p.memo c.self.invariant.remembered
