@@ -18,9 +18,10 @@ use Rattle.node_store.specs.ViewLaws.{Is-grown, values_at-grown, IsBelow-grown, 
 use Rattle.node_store.proofs.TwoParts.{Lacks-leaf}
 use Rattle.node_store.proofs.MemoLaws.{Carries-grown, MemoHolds-carried}
 use Rattle.node_slots.specs.Slots.{word_function, function_at_most}
-use Rattle.node_slots.specs.Stores.{Plain, slots, longest, content_of, top_of_word, top_in, plain_view, is_used, IsNode, IsStore}
+use Rattle.node_store.specs.Contents.{is_used}
+use Rattle.node_slots.specs.Stores.{Plain, slots, longest, content_of, top_of_word, top_in, plain_view, IsNode, IsStore}
 use Rattle.node_slots.proofs.Reading.{was_refused, at_word, function-more, used}
-use Rattle.node_slots.proofs.Parting.{depends, top_once, same_parts}
+use Rattle.node_store.proofs.Parting.{depends, top_once, same_parts}
 use Rattle.node_slots.proofs.Solving.{content_node}
 use Rattle.node_slots.proofs.Canonical.{leaf_or_node, same_edge}
 

@@ -26,7 +26,7 @@ use Rattle.node_slots.specs.declared.plain_store.Refused.{Refused}
 use Rattle.node_slots.specs.declared.plain_store.Refused.TheVariants as refused
 use Rattle.node_slots.proofs.Reading.{in_words}
 use Rattle.node_slots.proofs.Canonical.{leaf_or_node, edge_is, same_edge}
-use Rattle.node_slots.proofs.Parting.{unflip}
+use Rattle.node_slots.proofs.Flips.{unflip}
 use Rattle.node_slots.proofs.Making.{child_denotes, due_node, refused-grown, Stored, node_with, with_words, new_node, node_placed, leaf_placed, unknown_nodes, unknown_leaf}
 
 -- the word of an edge that denotes something

@@ -14,7 +14,8 @@ use Rattle.node_store.specs.KindLaws.{part-joined}
 use Rattle.node_slots.specs.Slots.{node_of, word_function, function_at_most}
 use Rattle.node_slots.specs.Solutions.{IsSolution, IsSolved}
 use Rattle.node_slots.proofs.Reading.{at_word, node_of-functions}
-use Rattle.node_slots.proofs.Parting.{depends, same_kind, same_values, unflip}
+use Rattle.node_store.proofs.Parting.{depends, same_kind, same_values}
+use Rattle.node_slots.proofs.Flips.{unflip}
 
 in? : (u : ℕ) (xs : List ℕ) → In u xs ⊎ (In u xs → ⊥)
 in? u [] = inr (λ h. h)

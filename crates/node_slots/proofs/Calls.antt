@@ -18,10 +18,12 @@ use Rattle.node_store.specs.Edges.{flip_if}
 use Rattle.node_store.specs.Views.{IsVariable, IsBelow, IsProper, IsInner, IsLeaf, IsLeafOf, logic_one, logic_zero, Opens, Splits, CanMake, Is, IsProjection, Permanent, function_at, values_at, node_values}
 use Rattle.node_store.specs.ViewLaws.{values_at-is, Is-from, Denotes-flip}
 use Rattle.node_slots.specs.Slots.{word_function, function_at_most}
-use Rattle.node_slots.specs.Stores.{Plain, HasPermanent, projection_node, longest, slots, level_in, content_of, top_in, plain_view, IsNode, IsStore}
-use Rattle.node_slots.specs.Placing.{opened_of}
+use Rattle.node_store.specs.Contents.{projection_node}
+use Rattle.node_slots.specs.Stores.{Plain, HasPermanent, longest, slots, level_in, content_of, top_in, plain_view, IsNode, IsStore}
+use Rattle.node_store.specs.Contents.{opened_of}
 use Rattle.node_slots.proofs.Reading.{at_word}
-use Rattle.node_slots.proofs.Parting.{same_values, unflip, not-injective}
+use Rattle.node_store.proofs.Parting.{same_values}
+use Rattle.node_slots.proofs.Flips.{unflip, not-injective}
 use Rattle.node_slots.proofs.Canonical.{inner_high, top_word, LeafSlot, leaf_or_node, regular_slot, lower_slot}
 
 some_values : (k : Kind) (f g : ℕ → ValueOf k) → Some (function_of k f) ≡ Some (function_of k g) → f ≡ g

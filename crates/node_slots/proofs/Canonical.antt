@@ -17,7 +17,8 @@ use Rattle.node_store.specs.Views.{levels, IsVariable, IsBelow, function_at, val
 use Rattle.node_slots.specs.Slots.{word_function, function_at_most}
 use Rattle.node_slots.specs.Stores.{Plain, slots, level_in, longest, content_of, top_of_word, top_in, plain_view, ones, IsRegular, IsNode, IsOrdered, HasPermanent, IsCanonical}
 use Rattle.node_slots.proofs.Reading.{at_word, used}
-use Rattle.node_slots.proofs.Parting.{same_kind, same_values, lower, bit-ones, not-injective}
+use Rattle.node_store.proofs.Parting.{same_kind, same_values, lower}
+use Rattle.node_slots.proofs.Flips.{bit-ones, not-injective}
 use Rattle.node_slots.proofs.Solving.{content_node}
 
 pub inner_high : (p : Plain) → HasPermanent p → (s : ℕ) (node : Node) → slots p s ≡ Some (Inner node) → 5 ≤ s

@@ -8,7 +8,8 @@ use Rattle.edge_bits.specs.Reading.{slots_of}
 use Rattle.edge_bits.specs.declared.words.Word.{Word}
 use Rattle.function_laws.specs.Kinds.{Denoted}
 use Rattle.node_slots.proofs.Reading.{was_refused}
-use Rattle.node_slots.specs.Stores.{Plain, slots, is_used, is_word, plain_view, HasPermanent, IsStore}
+use Rattle.node_store.specs.Contents.{is_used}
+use Rattle.node_slots.specs.Stores.{Plain, slots, is_word, plain_view, HasPermanent, IsStore}
 
 count_first : (p : ℕ → Bool) (ws : List ℕ) (n : ℕ) → n ≤ length ws → ((t : ℕ) → t < n → p (get_or ws t 0) ≡ true) → count_by p (take n ws) ≡ n
 count_first p ws zero le each = refl

@@ -16,7 +16,7 @@ use Rattle.node_store.specs.Views.{levels, Denotes}
 use Rattle.node_slots.specs.Slots.{node_of, word_function, function_at_most}
 use Rattle.node_slots.specs.Stores.{Plain, slots, content_of, plain_view, HasPermanent, IsStore}
 use Rattle.node_slots.proofs.Reading.{at_word, used, node_of-some}
-use Rattle.node_slots.proofs.Parting.{same_kind, same_values}
+use Rattle.node_store.proofs.Parting.{same_kind, same_values}
 use Rattle.node_slots.proofs.Solving.{by_levels}
 
 -- the children of a node of the kind

@@ -1,5 +1,5 @@
 pub mod Reading
-pub mod Parting
+pub mod Flips
 pub mod Bridge
 pub mod Solving
 pub mod Canonical

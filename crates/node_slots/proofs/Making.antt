@@ -21,14 +21,15 @@ use Rattle.edge_bits.specs.Permanent.{empty_edge}
 use Rattle.node_store.specs.ViewLaws.{values_at-is, Is-from, Denotes-flip, Denotes-node, flipped-not, levels-grown, IsVariable-back}
 use Rattle.node_store.proofs.MemoLaws.{Carries-grown, MemoHolds-carried}
 use Rattle.node_slots.specs.Slots.{node_of, function_at_most}
-use Rattle.node_slots.specs.Stores.{Plain, slots, content_of, refused_function, plain_view, is_used, ones, IsRegular, IsNode, HasNoFree, IsUnknown, AreRemembered, IsStore}
+use Rattle.node_store.specs.Contents.{is_used}
+use Rattle.node_slots.specs.Stores.{Plain, slots, content_of, refused_function, plain_view, ones, IsRegular, IsNode, HasNoFree, IsUnknown, AreRemembered, IsStore}
 use Rattle.node_slots.specs.Placing.{IsPlaced, IsUnknownNode, IsChild, HasNoChild}
 use Rattle.node_slots.specs.declared.plain_store.Refused.{Refused}
 use Rattle.node_slots.specs.declared.plain_store.Refused.TheVariants as refused
 use Rattle.node_slots.proofs.Reading.{node_of-functions}
 use Rattle.node_slots.proofs.Solving.{content_node, node-more}
 use Rattle.node_slots.proofs.Canonical.{inner_high, regular_slot, regular-joined, same_edge, not_both}
-use Rattle.node_slots.proofs.Parting.{not-injective, unflip}
+use Rattle.node_slots.proofs.Flips.{not-injective, unflip}
 use Rattle.node_slots.proofs.Adding.{CanMake-grown, written, extends, slot-here, written-grown, IsStore-written, slot_of_node, slot_of_leaf}
 use Rattle.node_slots.proofs.Calls.{node_kept, leaf_content}
 

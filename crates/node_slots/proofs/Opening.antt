@@ -21,7 +21,8 @@ use Rattle.function_laws.specs.Kinds.{Denoted, BddFunction, AddFunction, ZddFami
 use Rattle.node_store.specs.Views.{levels, IsVariable}
 use Rattle.computed_cache.specs.Entries.{Kept, kept_at}
 use Rattle.node_slots.specs.Slots.{function_at_most}
-use Rattle.node_slots.specs.Stores.{Plain, slots, level_in, longest, content_of, plain_view, projection_node, constant_value, permanent_word, IsNode, IsOrdered, HasPermanent, AreInverse, IsStore, IsOpening}
+use Rattle.node_store.specs.Contents.{projection_node, constant_value}
+use Rattle.node_slots.specs.Stores.{Plain, slots, level_in, longest, content_of, plain_view, permanent_word, IsNode, IsOrdered, HasPermanent, AreInverse, IsStore, IsOpening}
 use Rattle.node_slots.specs.declared.plain_store.Refused.{Refused}
 use Rattle.node_slots.proofs.Reading.{used, was_refused}
 use Rattle.node_slots.proofs.Calls.{leaf_content, projection_content}

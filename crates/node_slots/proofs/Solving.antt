@@ -17,7 +17,7 @@ use Rattle.node_slots.specs.Slots.{node_of, word_function, function_at_most}
 use Rattle.node_slots.specs.Solutions.{IsSolution, IsSolved}
 use Rattle.node_slots.specs.Stores.{Plain, slots, longest, content_of, plain_view, IsNode, IsCanonical}
 use Rattle.node_slots.proofs.Reading.{Extends, at_word, flipped-more, function-more, node_of-functions, node_of-some, used}
-use Rattle.node_slots.proofs.Parting.{unflip}
+use Rattle.node_slots.proofs.Flips.{unflip}
 use Rattle.node_slots.proofs.Bridge.{denoted-by, in-without, without, without-less}
 
 -- the numbers of a kind's variables

@@ -8,7 +8,8 @@ use Rattle.edge_bits.specs.declared.words.Word.{Word}
 use Rattle.edge_bits.specs.Words.{pack_of, unpack_of}
 use Rattle.edge_bits.specs.Reading.{slots_of}
 use Rattle.level_table.specs.Slotted.{Slotted}
-use Rattle.node_slots.specs.Stores.{is_word, is_used, permanent_word}
+use Rattle.node_store.specs.Contents.{is_used}
+use Rattle.node_slots.specs.Stores.{is_word, permanent_word}
 use Rattle.node_slots.proofs.Counting.{count_prefix}
 use Rattle.node_slots.specs.Taking.{ArePacked, AreCounted, is_node_in, is_node_of, nodes_of, AreFree, IsFreeOrPacked, IsNodeTable}
 

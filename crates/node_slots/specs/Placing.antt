@@ -1,17 +1,13 @@
--- Where a word comes to stand, and how a word opens.
-use Rattle.std.specs.Prelude.{◌≡◌, ℕ, ◌<◌, ◌≤◌, Bool, if◌then◌else◌, List, length, slice_set, Some, None, pos, ◌⊎◌}
+-- Where a word comes to stand.
+use Rattle.std.specs.Prelude.{◌≡◌, ℕ, ◌<◌, ◌≤◌, List, length, slice_set, Some, None, ◌⊎◌}
 use Rattle.edge_bits.specs.declared.edges.Edge.{Edge}
 use Rattle.edge_bits.specs.declared.edges.Kind.{Kind}
 use Rattle.edge_bits.specs.declared.words.Word.{Word}
-use Rattle.edge_bits.specs.declared.words.Word.TheVariants.{Inner, Leaf}
 use Rattle.edge_bits.specs.Permanent.{empty_slot, first_element}
 use Rattle.edge_bits.specs.Words.{unpack_of}
-use Rattle.edge_bits.specs.Reading.{slots_of, plain}
+use Rattle.edge_bits.specs.Reading.{slots_of}
 use Rattle.function_laws.specs.Kinds.{function_of}
-use Rattle.node_store.specs.Edges.{flip_if}
 use Rattle.node_store.specs.Views.{CanMake, node_values}
-use Rattle.node_store.specs.declared.grow.Opened.{Opened}
-use Rattle.node_store.specs.declared.grow.Opened.TheVariants as opened
 use Rattle.node_slots.specs.Stores.{Plain, IsUnknown, plain_view}
 
 -- the word stood there
@@ -48,8 +44,3 @@ IsChild v hi lo e = ((v < first_element) × (hi ≡ lo) × (e ≡ hi)) ⊎ ((fir
 pub record HasNoChild (v : ℕ) (hi lo : Edge) : Type 0 where
   pub differ : v < first_element → hi ≡ lo → ⊥
   pub member : first_element ≤ v → hi.index ≡ empty_slot → ⊥
-
--- a word, with the complement of the edge to it pushed to both children
-abbrev pub opened_of : Word → Bool → Opened
-opened_of (Leaf x) c = opened.Leaf (if c then pos 0 else x)
-opened_of (Inner node) c = opened.Inner node.var (flip_if c (plain node.hi)) (flip_if c node.lo)

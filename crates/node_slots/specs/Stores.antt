@@ -1,7 +1,7 @@
 -- A store as its words and its orders, and when it is canonical.
-use Rattle.std.specs.Prelude.{◌%◌, ◌⊎◌, replicate, ◌≡◌, ℕ, zero, suc, ◌+◌, ◌-◌, ◌^◌, ◌<◌, ◌≤◌, nat_lt, nat_le, Bool, true, false, ◌&&◌, if◌then◌else◌, List, length, slice_index, Option, Some, None, ℤ, pos, max}
+use Rattle.std.specs.Prelude.{◌%◌, ◌⊎◌, replicate, ◌≡◌, ℕ, zero, suc, ◌+◌, ◌-◌, ◌^◌, ◌<◌, ◌≤◌, nat_lt, nat_le, Bool, true, false, ◌&&◌, if◌then◌else◌, List, length, slice_index, Option, Some, None, ℤ, max}
 use Rattle.std.specs.List.{count_by, range_with_len}
-use Rattle.edge_bits.specs.Permanent.{first_element, true_slot, truth_edge}
+use Rattle.edge_bits.specs.Permanent.{first_element}
 use Rattle.computed_cache.specs.Entries.{Kept, kept_at}
 use Rattle.edge_bits.specs.Words.{unpack_of}
 use Rattle.edge_bits.specs.declared.edges.Edge.{Edge}
@@ -15,6 +15,7 @@ use Rattle.edge_bits.specs.Reading.{slots_of, element_of, plain}
 use Rattle.function_laws.specs.Values.{constant}
 use Rattle.function_laws.specs.Numbers.{is_value}
 use Rattle.function_laws.specs.Kinds.{Denoted, AddFunction, ValueOf, flipped}
+use Rattle.node_store.specs.Contents.{is_used, constant_value, projection_node}
 use Rattle.node_store.specs.Memo.{MemoHolds}
 use Rattle.node_store.specs.Views.{View, IsVariable, IsProper, CanMake, function_at, levels, values_at}
 use Rattle.node_store.specs.Stacks.{Scratch, levels_in}
@@ -66,10 +67,6 @@ top_in p zero = length p.variable_levels
 top_in p (suc zero) = length p.element_levels
 top_in p (suc (suc zero)) = length p.element_levels
 top_in p (suc (suc (suc s))) = top_of_word p (slots p (suc (suc (suc s))))
-
-abbrev pub is_used : Option Word → Bool
-is_used None = false
-is_used (Some word) = true
 
 -- how many rows, cells and pins hold a slot, and how often it was freed, modulo 2^32
 abbrev pub count_at : Plain → ℕ → ℕ
@@ -127,16 +124,6 @@ pub record IsNode (k : Kind) (p : Plain) (node : Node) : Type 0 where
 pub record IsOrdered (p : Plain) : Type 0 where
   pub within : (k : Kind) (v : ℕ) → IsVariable k (plain_view p) v → level_in p v < levels k (plain_view p)
   pub alone : (k : Kind) (u v : ℕ) → IsVariable k (plain_view p) u → IsVariable k (plain_view p) v → level_in p u ≡ level_in p v → u ≡ v
-
-abbrev pub constant_value : ℕ → ℤ
-constant_value zero = pos 1
-constant_value (suc zero) = pos 0
-constant_value (suc (suc zero)) = pos 1
-constant_value (suc (suc (suc zero))) = pos 0
-constant_value (suc (suc (suc (suc s)))) = pos 1
-
-abbrev pub projection_node : ℕ → Node
-projection_node v = record { var = v; hi = true_slot; lo = truth_edge false }
 
 -- the word of a permanent slot: of the constants 0 to 4, then of the projections
 abbrev pub permanent_word : ℕ → Word

@@ -6,7 +6,8 @@ ghost use Rattle.edge_bits.specs.Permanent.{first_projection};
 ghost use Rattle.edge_bits.specs.Reading.{slots_of};
 ghost use Rattle.edge_bits.specs.Words.{unpack_of};
 ghost use Rattle.node_slots.specs.Stores.{IsNext};
-ghost use Rattle.node_slots.specs.Placing.{IsChild, HasNoChild, opened_of};
+ghost use Rattle.node_slots.specs.Placing.{IsChild, HasNoChild};
+ghost use Rattle.node_store.specs.Contents.{opened_of};
 
 use crate::count_table::CountTable;
 use crate::node_table::{NodeTable, find};
