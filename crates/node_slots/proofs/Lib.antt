@@ -13,3 +13,6 @@ pub mod Denoting
 pub mod Counting
 pub mod Taking
 pub mod Remaining
+pub mod Ones
+pub mod Orders
+pub mod Settling

@@ -91,7 +91,7 @@ IsOrdered-ascending p n m lv le = record { within = within; alone = alone }
 never : true ≡ false → ⊥
 never e = cc
 
-bit-zero : (e : ℕ) → bit 0 e ≡ false
+pub bit-zero : (e : ℕ) → bit 0 e ≡ false
 bit-zero e = ap (λ (n : ℕ). eqb n 1) (bit_at-zero e)
 
 projection-apart : (u v : ℕ) → projection u ≡ projection v → u ≡ v

@@ -4,6 +4,7 @@ pub mod Placing
 pub mod Taking
 pub mod Counts
 pub mod Solutions
+pub mod Wholes
 pub use Rattle.node_store.specs.Views
 pub use Rattle.node_store.specs.Memo
 pub use Rattle.node_store.specs.Work
