@@ -1,5 +1,5 @@
 -- The top variables of products, and what is left below them.
-use Rattle.std.proofs.Common.{◌≡◌, ℕ, ◌<◌, ◌≤◌, inl, inr, ℤ, refl, sym, ◌∙◌, subst, arith}
+use Rattle.std.proofs.Common.{◌≡◌, ◌≢◌, ℕ, ap, ◌<◌, ◌≤◌, inl, inr, ℤ, refl, sym, ◌∙◌, subst, arith}
 use Rattle.std.proofs.lemmas.Bool.{cases_order}
 use Rattle.edge_bits.specs.declared.edges.Edge.{Edge}
 use Rattle.edge_bits.specs.declared.edges.Kind.TheVariants.{Bdd}
@@ -9,8 +9,9 @@ use Rattle.function_laws.proofs.CubeLemmas.{times-depends, top-times, top-rest, 
 use Rattle.node_store.specs.Views.{View, Grown, IsInner, IsLeaf, IsVariable, bdd_at}
 use Rattle.node_store.specs.ViewLaws.{Grown-trans, IsBelow-inner, IsVariable-back, IsVariable-grown, level-grown, values_at-grown}
 use Rattle.node_store.proofs.TwoParts.{Lacks-leaf}
-use Rattle.quantify_ops.specs.Quantified.{HasCube, IsBelowLevel, IsFreeAbove, IsRest, StandsAbove}
-use Rattle.quantify_ops.specs.QuantifiedLasts.{HasCube-grown, IsFreeAbove-back, IsFreeAbove-grown, StandsAbove-grown}
+use Rattle.quantify_ops.specs.Quantified.{HasCube, IsFreeAbove, IsLeftAbove, IsLeftBelow, IsRest, StandsAbove}
+use Rattle.quantify_ops.specs.QuantifiedLasts.{HasCube-grown, IsFreeAbove-back}
+use Rattle.quantify_ops.proofs.SupportLaws.{opened_later}
 
 -- the variable is the top one
 pub rest_own : (v w : View) (c hi lo : Edge) (x top : ℕ) → Grown v w → HasCube v c → top ≡ x → IsInner Bdd w c (bdd_at v c) top hi lo → IsRest w c x hi
@@ -43,7 +44,7 @@ rest_other v w c hi lo x top m d xn above apart i = elim (cases_order (w.level t
 pub rest_leaf : (v w : View) (c : Edge) (x : ℕ) (z : ℤ) → Grown v w → HasCube v c → IsLeaf Bdd w c (bdd_at v c) z → IsFree (bdd_at w c) x
 rest_leaf v w c x z m d i = subst (λ f. IsFree f x) (sym (values_at-grown Bdd m d.edge)) (Lacks-leaf Bdd c (bdd_at v c) z i.leaf x)
 
--- a turn of the walk down a product
+-- a step down a product
 pub below_step : (v w1 w2 : View) (c d hi lo : Edge) (top level : ℕ) → Grown v w1 → Grown w1 w2 → HasCube v c → HasCube v d → StandsAbove v level (bdd_at v d) (bdd_at v c)
     → IsInner Bdd w1 d (bdd_at v d) top hi lo → w1.level top < level → HasCube w2 hi × StandsAbove w2 level (bdd_at w2 hi) (bdd_at w2 c)
 below_step v w1 w2 c d hi lo top level m1 m2 dc dd stands i lt =
@@ -59,20 +60,51 @@ below_step v w1 w2 c d hi lo top level m1 m2 dc dd stands i lt =
           subst (λ f. IsExists f a h) (sym (values_at-grown Bdd m dc.edge)) (stands a h here e3),
     )
 
--- its end
-below_done : (v w : View) (c d : Edge) (level : ℕ) → Grown v w → HasCube v c → HasCube v d → StandsAbove v level (bdd_at v d) (bdd_at v c) → IsFreeAbove w level (bdd_at v d) → IsBelowLevel w c d level
-below_done v w c d level m dc dd stands free = record {
-  left = HasCube-grown m dd;
-  above = rw (values_at-grown Bdd m dd.edge) free;
-  stands = rw (values_at-grown Bdd m dd.edge, values_at-grown Bdd m dc.edge) (StandsAbove-grown level (bdd_at v d) (bdd_at v c) m stands);
-}
+-- what is left of a product that was opened
+module _ (v w1 w2 : View) (c hi lo : Edge) (x top : ℕ) (m : Grown v w1) (n : Grown w1 w2) (d : HasCube v c) (i : IsInner Bdd w1 c (bdd_at v c) top hi lo) where
+  now : IsInner Bdd w2 c (bdd_at v c) top hi lo
+  now = opened_later v w1 w2 c hi lo top m n d.edge i
 
-pub below_leaf : (v w : View) (c d : Edge) (level : ℕ) (z : ℤ) → Grown v w → HasCube v c → HasCube v d → StandsAbove v level (bdd_at v d) (bdd_at v c)
-    → IsLeaf Bdd w d (bdd_at v d) z → IsBelowLevel w c d level
-below_leaf v w c d level z m dc dd stands i = below_done v w c d level m dc dd stands (λ u un lt. Lacks-leaf Bdd d (bdd_at v d) z i.leaf u)
+  all : Grown v w2
+  all = Grown-trans m n
 
-pub below_inner : (v w1 w2 : View) (c d hi lo : Edge) (top level : ℕ) → Grown v w1 → Grown w1 w2 → HasCube v c → HasCube v d → StandsAbove v level (bdd_at v d) (bdd_at v c)
-    → IsInner Bdd w1 d (bdd_at v d) top hi lo → level ≤ w1.level top → IsBelowLevel w2 c d level
-below_inner v w1 w2 c d hi lo top level m1 m2 dc dd stands i le =
-    below_done v w2 c d level (Grown-trans m1 m2) dc dd stands
-    (IsFreeAbove-grown level (bdd_at v d) m2 (λ u un lt. let higher : w1.level u < w1.level top = omega arith in IsBelow-inner Bdd u i higher u un (omega arith)))
+  free_from_top : (u : ℕ) → IsVariable Bdd w2 u → w2.level u < w2.level top → IsFree (bdd_at w2 c) u
+  free_from_top u un lt = subst (λ f. IsFree f u) (sym (values_at-grown Bdd all d.edge)) (IsBelow-inner Bdd u now lt u un (omega arith))
+
+  pub left_own : top ≡ x → IsLeftBelow w2 c x hi
+  left_own same =
+      let r = rest_own v w2 c hi lo x top all d same now in
+      let level = ap w2.level same in let here = now.here in let lower = now.hi_top in
+      record {
+        left = r.left;
+        step = inl r.is;
+        above = λ u un lt. free_from_top u un (omega arith);
+        from = omega arith;
+        lower = omega arith;
+      }
+
+  pub left_above : w2.level top < w2.level x → IsLeftAbove w2 c x hi
+  left_above lt =
+      let level = level-grown n top in
+      let step = below_step v w1 w2 c c hi lo top (w2.level x) m n d d (λ a h free e. e) i (omega arith) in
+      let here = now.here in let lower = now.hi_top in
+      record { left = step.0; stands = step.1; above = omega arith; lower = omega arith }
+
+  pub left_below : IsVariable Bdd w2 x → (top ≡ x → ⊥) → w2.level x ≤ w2.level top → IsLeftBelow w2 c x c
+  left_below xn apart le =
+      let other : w2.level x ≢ w2.level top = λ same. apart (sym (now.alone x xn same)) in
+      let lt : w2.level x < w2.level top = omega (arith, other, le) in
+      let here = now.here in
+      record {
+        left = HasCube-grown all d;
+        step = inr (refl, free_from_top x xn lt);
+        above = λ u un higher. free_from_top u un (omega arith);
+        from = omega arith;
+        lower = omega arith;
+      }
+
+pub left_leaf : (v w : View) (c : Edge) (x : ℕ) (z : ℤ) → Grown v w → HasCube v c → w.level x < w.vars → IsLeaf Bdd w c (bdd_at v c) z → IsLeftBelow w c x c
+left_leaf v w c x z m d within i =
+    let free : (u : ℕ) → IsFree (bdd_at w c) u = λ u. subst (λ f. IsFree f u) (sym (values_at-grown Bdd m d.edge)) (Lacks-leaf Bdd c (bdd_at v c) z i.leaf u) in
+    let here = i.here in
+    record { left = HasCube-grown m d; step = inr (refl, free x); above = λ u un lt. free u; from = omega arith; lower = omega arith }

@@ -1,5 +1,5 @@
 -- A quantified conjunction, step by step.
-use Rattle.std.proofs.Common.{◌≡◌, ◌≢◌, ℕ, ℤ, suc, ◌<◌, ◌≤◌, max, Bool, true, false, not, cond, ◌&&◌, ◌⊎◌, inl, inr, Some, Result, Ok, Err, IfOk, refl, sym, ap, ◌∙◌, subst, arith}
+use Rattle.std.proofs.Common.{◌≡◌, ◌≢◌, ℕ, ℤ, suc, ◌-◌, ◌<◌, ◌≤◌, max, Bool, true, false, not, cond, ◌&&◌, ◌⊎◌, inl, inr, Some, Result, Ok, Err, IfOk, refl, sym, ap, ◌∙◌, subst, arith}
 use Rattle.std.specs.Prelude.{IsOkAnd}
 use Rattle.std.proofs.lemmas.Bool.{cases_lt}
 use Rattle.std.proofs.Math.Bool.{and-true, and_comm, and_self}
@@ -15,21 +15,24 @@ use Rattle.function_laws.specs.Kinds.{Denoted, BddFunction}
 use Rattle.node_store.specs.KindLaws.{Lacks-joined}
 use Rattle.node_store.specs.Numbers.{exists_number, and_exists_number}
 use Rattle.node_store.specs.Splits.{BothAnswered, Leads}
-use Rattle.node_store.specs.Two.{IsOrderOf, TwoSplits, two_depth}
-use Rattle.node_store.specs.TwoLaws.{AreTwo-grown, TwoSplits-stay, two_depth-stays, Two-is, Two-hi_below, Two-lo_below}
-use Rattle.node_store.specs.Views.{AreTwo, CanMake, Denotes, Grown, Is, IsLeaf, IsLeafOf, IsVariable, Kept, NotBothLeaves, Permanent, Splits, View, bdd_at}
-use Rattle.node_store.specs.ViewLaws.{Grown-refl, Grown-trans, Is-from, level-grown, values_at-is, values_at-grown, top-grown}
+use Rattle.node_store.specs.Operands.{HalvesOfTwo}
+use Rattle.node_store.specs.Three.{three_depth}
+use Rattle.node_store.specs.Two.{IsOrderOf, TwoSplits}
+use Rattle.node_store.specs.TwoLaws.{Two-is, Two-hi_below, Two-lo_below}
+use Rattle.node_store.proofs.TwoParts.{PartsAt-grown}
+use Rattle.node_store.specs.Views.{AreTwo, CanMake, Denotes, Grown, Is, IsLeaf, IsLeafOf, IsVariable, Kept, NotBothLeaves, PartsAt, Permanent, Splits, View, bdd_at}
+use Rattle.node_store.specs.ViewLaws.{Grown-refl, Is-from, IsVariable-grown, level-grown, values_at-is, values_at-grown, top-grown}
 use Rattle.node_store.specs.Work.{whole, IsWork, Adds, Moves}
 use Rattle.node_store.specs.WorkLaws.{IsPart-half, IsWork-due, IsWork-grown, Moves-both, Moves-kept, Moves-made}
-use Rattle.node_store.specs.declared.binary.Branch.{Branch}
+use Rattle.node_store.specs.declared.operator.Frame.{Frame}
 use Rattle.node_store.specs.declared.operator.Halt.{Halt}
 use Rattle.node_store.specs.declared.operator.Task.{Task}
 use Rattle.node_store.specs.declared.parts.Halves.{Halves}
-use Rattle.node_store.specs.declared.operator.Wait.TheVariants.{First}
-use Rattle.ite_core.proofs.ImplicationLaws.{IsCompared}
+use Rattle.node_store.specs.declared.operator.Wait.{Wait}
+use Rattle.node_store.specs.declared.operator.Wait.TheVariants.{First, Only, Second}
 use Rattle.ite_core.proofs.Terminals.{truth_at}
-use Rattle.quantify_ops.specs.Quantified.{both_at, HasCube, AreQuantified, IsFreeAbove, StandsAbove, IsQuantifiedValue, QuantifiedDue, QuantifiedAnswers, IsLeft, LeftIs, QuantifiedSplits, IsBelowLevel, IsRest, FirstAnswered, IsKeyOf, IsNarrowed, QuantifiedWaits}
-use Rattle.quantify_ops.specs.QuantifiedLasts.{HasCube-grown, IsFreeAbove-grown, StandsAbove-grown, AreQuantified-grown, IsQuantifiedValue-stays, QuantifiedDue-stays, QuantifiedAnswers-stay, QuantifiedSplits-stay}
+use Rattle.quantify_ops.specs.Quantified.{both_at, AreQuantified, IsFreeAbove, StandsAbove, IsQuantifiedValue, QuantifiedDue, QuantifiedAnswers, IsLeft, IsLeftAbove, IsLeftBelow, QuantifiedSplits, IsRest, FirstAnswered, IsKeyOf, IsSkip, IsSplit, PartWaits, QuantifiedWaits, SkipWaits}
+use Rattle.quantify_ops.specs.QuantifiedLasts.{AreQuantified-grown, IsQuantifiedValue-stays, QuantifiedDue-stays, QuantifiedAnswers-stay, QuantifiedSplits-stay}
 
 -- a function that splits at a variable is free of those above
 free_above : (w : View) (x : ℕ) (f : ℕ → Bool) (hi lo : Edge) → IsVariable Bdd w x → Splits Bdd w x f hi lo → (u : ℕ) → IsVariable Bdd w u → w.level u < w.level x → IsFree f u
@@ -70,144 +73,126 @@ left_part w level x c d e xn q p step a h free is =
       | inr same ↦ subst (λ f. IsExists f a h) (sym same.0) is
     ])
 
--- a task below the top variable of its functions, and its parts
-module _ (f g c : Edge) (w : View) (t hi lo : Task) (x : ℕ) (d r : Edge) where
-  abbrev pub narrow_task : Task
-  narrow_task = record { f = t.f; g = t.g; h = d }
+-- the parts of a task, and the same task without the product's top variable
+module _ (f g c : Edge) (w : View) (t : Task) (b : Halves) (r : Edge) (due : QuantifiedDue f g c w t) (h : HalvesOfTwo Bdd w t.f t.g b) where
+  abbrev x : ℕ
+  x = b.top.var
 
-  abbrev pub hi_task : Task
-  hi_task = record { f = hi.f; g = hi.g; h = r }
+  hi_task : Task
+  hi_task = record { f = b.hi.f; g = b.hi.g; h = r }
 
-  abbrev pub lo_task : Task
-  lo_task = record { f = lo.f; g = lo.g; h = r }
+  lo_task : Task
+  lo_task = record { f = b.lo.f; g = b.lo.g; h = r }
 
-  pub narrowed : QuantifiedDue f g c w t → TwoSplits Bdd w t x hi lo → two_depth Bdd w hi < two_depth Bdd w t → two_depth Bdd w lo < two_depth Bdd w t
-      → IsBelowLevel w t.h d (w.level x) → LeftIs w d x r → IsNarrowed f g c w t (record { task = narrow_task; flip = false; var = x; hi = hi_task; lo = lo_task })
-  narrowed due s hi_less lo_less below left =
-      let leads_same = left_top w due.level (w.level x) (bdd_at w c) (bdd_at w t.h) (bdd_at w d) due.left below.stands in
-      let left_same = left_part w due.level x (bdd_at w c) (bdd_at w d) (bdd_at w r) s.in_range left.left.cube leads_same left.step in
-      let free_f = top_free w x due.level (bdd_at w t.f) hi.f lo.f s.in_range s.f due.free_f in
-      let free_g = top_free w x due.level (bdd_at w t.g) hi.g lo.g s.in_range s.g due.free_g in
+  above_both : IsFreeAbove w (w.level x) (both_at w t.f t.g)
+  above_both = both_free w (w.level x) t.f t.g (free_above w x (bdd_at w t.f) b.hi.f b.lo.f h.top.in_range h.f.splits) (free_above w x (bdd_at w t.g) b.hi.g b.lo.g h.top.in_range h.g.splits)
+
+  pub step_split : IsLeftBelow w t.h x r → IsSplit f g c w t (record { task = t; flip = false; var = x; hi = record { f = b.hi.f; g = b.hi.g; h = r }; lo = record { f = b.lo.f; g = b.lo.g; h = r } })
+  step_split left =
+      let s : TwoSplits Bdd w t x b.hi b.lo = record { in_range = h.top.in_range; f = h.f.splits; g = h.g.splits } in
+      let leads_same : StandsAbove w (max due.level (w.level x)) (bdd_at w t.h) (bdd_at w c) = left_top w due.level (w.level x) (bdd_at w c) (bdd_at w t.h) (bdd_at w t.h) due.left (λ a h free is. is) in
+      let left_same = left_part w due.level x (bdd_at w c) (bdd_at w t.h) (bdd_at w r) s.in_range left.left.cube leads_same left.step in
+      let touches = h.top.touches in let af = h.top.above_f in let ag = h.top.above_g in let within = h.top.within in
+      let hf = h.f.hi_top in let lf = h.f.lo_top in let hg = h.g.hi_top in let lg = h.g.lo_top in let from = left.from in let lower = left.lower in
+      let here : three_depth Bdd w t ≡ w.vars - w.level x = elim touches [ inl e ↦ omega arith | inr e ↦ omega arith ] in
       record {
         branches = record {
-          due = record {
-            permanent = due.permanent;
-            roots = due.roots;
-            operands = record { two = due.operands.two; cube = below.left };
-            part_f = due.part_f;
-            part_g = due.part_g;
-            level = max due.level (w.level x);
-            free_f = free_f;
-            free_g = free_g;
-            left = leads_same;
-          };
-          leads = record {
-            gives = λ y e late a.
-                let is = rw (values_at-grown Bdd late due.operands.two.first, values_at-grown Bdd late due.operands.two.second, values_at-grown Bdd late below.left.edge) at a.exists in
-                record {
-                  answer = a.answer;
-                  exists = rw (values_at-grown Bdd late due.operands.cube.edge, values_at-grown Bdd late due.operands.two.first, values_at-grown Bdd late due.operands.two.second)
-                      (below.stands (both_at w t.f t.g) (bdd_at y e) (both_free w (w.level x) t.f t.g (free_above w x (bdd_at w t.f) hi.f lo.f s.in_range s.f) (free_above w x (bdd_at w t.g) hi.g lo.g s.in_range s.g)) is);
-                };
-            over = λ y m bad. bad;
-          };
-          splits = record { two = record { in_range = s.in_range; f = s.f; g = s.g }; above = below.above; left = left.left; step = left.step; same = refl };
+          due = due;
+          leads = record { gives = λ y e late a. a; over = λ y late bad. bad };
+          splits = record { two = record { in_range = s.in_range; f = s.f; g = s.g }; above = left.above; left = left.left; step = left.step; same = refl };
           hi_due = record {
             permanent = due.permanent;
             roots = due.roots;
             operands = record { two = record { first = s.f.hi_is; second = s.g.hi_is }; cube = left.left };
-            part_f = IsPart-half Bdd w x (bdd_at w f) (bdd_at w t.f) (bdd_at w hi.f) (bdd_at w lo.f) true s.in_range s.f.is s.f.hi_below s.f.lo_below due.part_f;
-            part_g = IsPart-half Bdd w x (bdd_at w g) (bdd_at w t.g) (bdd_at w hi.g) (bdd_at w lo.g) true s.in_range s.g.is s.g.hi_below s.g.lo_below due.part_g;
+            part_f = IsPart-half Bdd w x (bdd_at w f) (bdd_at w t.f) (bdd_at w b.hi.f) (bdd_at w b.lo.f) true s.in_range s.f.is s.f.hi_below s.f.lo_below due.part_f;
+            part_g = IsPart-half Bdd w x (bdd_at w g) (bdd_at w t.g) (bdd_at w b.hi.g) (bdd_at w b.lo.g) true s.in_range s.g.is s.g.hi_below s.g.lo_below due.part_g;
             level = max due.level (suc (w.level x));
-            free_f = half_free w x due.level (bdd_at w t.f) hi.f lo.f true s.in_range s.f due.free_f;
-            free_g = half_free w x due.level (bdd_at w t.g) hi.g lo.g true s.in_range s.g due.free_g;
+            free_f = half_free w x due.level (bdd_at w t.f) b.hi.f b.lo.f true s.in_range s.f due.free_f;
+            free_g = half_free w x due.level (bdd_at w t.g) b.hi.g b.lo.g true s.in_range s.g due.free_g;
             left = left_same;
           };
           lo_due = record {
             permanent = due.permanent;
             roots = due.roots;
             operands = record { two = record { first = s.f.lo_is; second = s.g.lo_is }; cube = left.left };
-            part_f = IsPart-half Bdd w x (bdd_at w f) (bdd_at w t.f) (bdd_at w hi.f) (bdd_at w lo.f) false s.in_range s.f.is s.f.hi_below s.f.lo_below due.part_f;
-            part_g = IsPart-half Bdd w x (bdd_at w g) (bdd_at w t.g) (bdd_at w hi.g) (bdd_at w lo.g) false s.in_range s.g.is s.g.hi_below s.g.lo_below due.part_g;
+            part_f = IsPart-half Bdd w x (bdd_at w f) (bdd_at w t.f) (bdd_at w b.hi.f) (bdd_at w b.lo.f) false s.in_range s.f.is s.f.hi_below s.f.lo_below due.part_f;
+            part_g = IsPart-half Bdd w x (bdd_at w g) (bdd_at w t.g) (bdd_at w b.hi.g) (bdd_at w b.lo.g) false s.in_range s.g.is s.g.hi_below s.g.lo_below due.part_g;
             level = max due.level (suc (w.level x));
-            free_f = half_free w x due.level (bdd_at w t.f) hi.f lo.f false s.in_range s.f due.free_f;
-            free_g = half_free w x due.level (bdd_at w t.g) hi.g lo.g false s.in_range s.g due.free_g;
+            free_f = half_free w x due.level (bdd_at w t.f) b.hi.f b.lo.f false s.in_range s.f due.free_f;
+            free_g = half_free w x due.level (bdd_at w t.g) b.hi.g b.lo.g false s.in_range s.g due.free_g;
             left = left_same;
           };
-          hi_less = hi_less;
-          lo_less = lo_less;
+          hi_less = omega arith;
+          lo_less = omega arith;
         };
         plain = refl;
-        same_f = refl;
-        same_g = refl;
       }
 
-IsBelowLevel-grown : (v w : View) (c d : Edge) (level : ℕ) → Grown v w → HasCube v c → IsBelowLevel v c d level → IsBelowLevel w c d level
-IsBelowLevel-grown v w c d level m cube b = record {
-  left = HasCube-grown m b.left;
-  above = rw (values_at-grown Bdd m b.left.edge) (IsFreeAbove-grown level (bdd_at v d) m b.above);
-  stands = rw (values_at-grown Bdd m b.left.edge, values_at-grown Bdd m cube.edge) (StandsAbove-grown level (bdd_at v d) (bdd_at v c) m b.stands);
-}
+  pub step_skip : IsLeftAbove w t.h x r → IsSkip f g c w t (record { f = t.f; g = t.g; h = r })
+  step_skip left =
+      let touches = h.top.touches in let af = h.top.above_f in let ag = h.top.above_g in let within = h.top.within in let above = left.above in let lower = left.lower in
+      record {
+        passes = record {
+          gives = λ y e late a.
+              let is = rw (values_at-grown Bdd late due.operands.two.first, values_at-grown Bdd late due.operands.two.second, values_at-grown Bdd late left.left.edge) at a.exists in
+              record {
+                answer = a.answer;
+                exists = rw (values_at-grown Bdd late due.operands.cube.edge, values_at-grown Bdd late due.operands.two.first, values_at-grown Bdd late due.operands.two.second)
+                    (left.stands (both_at w t.f t.g) (bdd_at y e) above_both is);
+              };
+          over = λ y m bad. bad;
+        };
+        due = record {
+          permanent = due.permanent;
+          roots = due.roots;
+          operands = record { two = due.operands.two; cube = left.left };
+          part_f = due.part_f;
+          part_g = due.part_g;
+          level = max due.level (w.level x);
+          free_f = top_free w x due.level (bdd_at w t.f) b.hi.f b.lo.f h.top.in_range h.f.splits due.free_f;
+          free_g = top_free w x due.level (bdd_at w t.g) b.hi.g b.lo.g h.top.in_range h.g.splits due.free_g;
+          left = left_top w due.level (w.level x) (bdd_at w c) (bdd_at w t.h) (bdd_at w r) due.left left.stands;
+        };
+        less = omega arith;
+      }
 
--- the same, from view to view
-pub narrowed_from : (f g c : Edge) (v0 v1 v2 v3 v4 : View) (t : Task) (b : Halves) (level : ℕ) (d r : Edge) → QuantifiedDue f g c v0 t → Grown v0 v1 → IsCompared v1 t b
-    → Grown v1 v2 → level ≡ v1.level b.top.var → Grown v2 v3 → IsBelowLevel v3 t.h d level → Grown v3 v4 → LeftIs v4 d b.top.var r
-    → IsNarrowed f g c v4 t (record { task = narrow_task f g c v4 t b.hi b.lo b.top.var d r; flip = false; var = b.top.var; hi = hi_task f g c v4 t b.hi b.lo b.top.var d r; lo = lo_task f g c v4 t b.hi b.lo b.top.var d r })
-narrowed_from f g c v0 v1 v2 v3 v4 t b level d r due m1 parts m2 is_level m3 below m4 left =
-    let m24 = Grown-trans m2 (Grown-trans m3 m4) in
-    let two1 = AreTwo-grown Bdd m1 due.operands.two in
-    let s = parts.splits in
-    let here = two_depth-stays Bdd v1 v4 t m24 two1 in
-    let hi = two_depth-stays Bdd v1 v4 b.hi m24 (record { first = s.f.hi_is; second = s.g.hi_is }) in
-    let lo = two_depth-stays Bdd v1 v4 b.lo m24 (record { first = s.f.lo_is; second = s.g.lo_is }) in
-    let less = parts.hi_less in let less2 = parts.lo_less in
-    let same : v4.level b.top.var ≡ level = level-grown m24 b.top.var ∙ sym is_level in
-    narrowed f g c v4 t b.hi b.lo b.top.var d r (QuantifiedDue-stays f g c v0 v4 t (Grown-trans m1 m24) due) (TwoSplits-stay Bdd v1 v4 t b.top.var b.hi b.lo m24 two1 s) (omega arith) (omega arith)
-    (rw same (IsBelowLevel-grown v3 v4 t.h d level m4 (HasCube-grown (Grown-trans m1 (Grown-trans m2 m3)) due.operands.cube) below)) left
-
--- lasting
-IsNarrowed-grown : (f g c : Edge) (v w : View) (t : Task) (b : Branch) → Grown v w → QuantifiedDue f g c v t → IsNarrowed f g c v t b → IsNarrowed f g c w t b
-IsNarrowed-grown f g c v w t b m due n =
-    let p = n.branches in
-    let here = two_depth-stays Bdd v w t m due.operands.two in
-    let hi = two_depth-stays Bdd v w b.hi m p.hi_due.operands.two in
-    let lo = two_depth-stays Bdd v w b.lo m p.lo_due.operands.two in
-    let less = p.hi_less in let less2 = p.lo_less in
+-- the parts of two functions, later
+pub halves_later : (v w : View) (f g : Edge) (b : Halves) → Grown v w → AreTwo Bdd v f g → HalvesOfTwo Bdd v f g b → HalvesOfTwo Bdd w f g b
+halves_later v w f g b m d h =
+    let x = b.top.var in
+    let level = level-grown m x in let top_f = top-grown Bdd m d.first in let top_g = top-grown Bdd m d.second in let vars = m.vars in
+    let within = h.top.within in let af = h.top.above_f in let ag = h.top.above_g in
     record {
-      branches = record {
-        due = QuantifiedDue-stays f g c v w b.task m p.due;
-        leads = record { gives = λ x e late a. p.leads.gives x e (Grown-trans m late) a; over = λ x late bad. bad };
-        splits = QuantifiedSplits-stay v w b.task b.var b.hi b.lo m p.due.operands p.splits;
-        hi_due = QuantifiedDue-stays f g c v w b.hi m p.hi_due;
-        lo_due = QuantifiedDue-stays f g c v w b.lo m p.lo_due;
-        hi_less = omega arith;
-        lo_less = omega arith;
+      top = record {
+        in_range = IsVariable-grown Bdd m x h.top.in_range;
+        within = omega arith;
+        above_f = omega arith;
+        above_g = omega arith;
+        touches = elim h.top.touches [ inl e ↦ inl (omega arith) | inr e ↦ inr (omega arith) ];
       };
-      plain = n.plain;
-      same_f = n.same_f;
-      same_g = n.same_g;
+      level = h.level ∙ sym level;
+      f = subst (λ (a : ℕ → Bool). PartsAt Bdd w f a x b.hi.f b.lo.f) (sym (values_at-grown Bdd m d.first)) (PartsAt-grown Bdd m h.f);
+      g = subst (λ (a : ℕ → Bool). PartsAt Bdd w g a x b.hi.g b.lo.g) (sym (values_at-grown Bdd m d.second)) (PartsAt-grown Bdd m h.g);
     }
+
+-- which frame waits
+pub part_waits : (f g c : Edge) (w : View) (root : Task) (frame : Frame) (child : Task) → (frame.wait ≡ Only → ⊥) → QuantifiedWaits f g c w root frame child → PartWaits f g c w root frame child
+part_waits f g c w root frame child other (inl q) = absurd (other q.only)
+part_waits f g c w root frame child other (inr q) = q
+
+pub skip_waits : (f g c : Edge) (w : View) (root : Task) (frame : Frame) (child : Task) → frame.wait ≡ Only → QuantifiedWaits f g c w root frame child → SkipWaits w root frame child
+skip_waits f g c w root frame child is (inl q) = q
+skip_waits f g c w root frame child is (inr q) = absurd (rw is at q.waiting.wait)
+
+pub not_first : (wait : Wait) (later : Task) → wait ≡ First later → wait ≡ Only → ⊥
+not_first wait later is only = let bad : First later ≡ Only = sym is ∙ only in cc
+
+pub not_second : (wait : Wait) (hi : Edge) → wait ≡ Second hi → wait ≡ Only → ⊥
+not_second wait hi is only = let bad : Second hi ≡ Only = sym is ∙ only in cc
 
 -- an answer of a task below the top variable is one of the task
 pub leads_plain : (w x : View) (root task : Task) (flip : Bool) (e : Edge) → Leads QuantifiedAnswers (λ w t. ⊥) w root flip task → flip ≡ false → Grown w x → QuantifiedAnswers x task e → QuantifiedAnswers x root e
 leads_plain w x root task flip e leads plain m a = subst (λ c. QuantifiedAnswers x root (flip_if c e)) plain (leads.gives x e m a)
-
--- the frame that waits for the first part
-pub narrowed_waits : (f g c : Edge) (v w : View) (t : Task) (b : Branch) → Grown v w → QuantifiedDue f g c v t → IsNarrowed f g c v t b
-    → QuantifiedWaits f g c w t (record { task = b.task; var = b.var; flip = false; wait = First b.lo }) b.hi × QuantifiedDue f g c w b.hi × (two_depth Bdd w b.hi < two_depth Bdd w t)
-narrowed_waits f g c v w t b m due narrow =
-    let n = IsNarrowed-grown f g c v w t b m due narrow in let p = n.branches in (
-      record {
-        plain = refl;
-        waiting = record {
-          due = p.due;
-          leads = subst (λ flip. Leads QuantifiedAnswers (λ w t. ⊥) w t flip b.task) n.plain p.leads;
-          wait = record { splits = p.splits; hi_due = p.hi_due; lo_due = p.lo_due; lo_less = p.lo_less };
-        };
-      },
-      p.hi_due,
-      p.hi_less,
-    )
 
 -- a conjunction that is known to be constant
 pub known_answer : (w : View) (t : Task) (b : Bool) (e : Edge) → both_at w t.f t.g ≡ constant b → Denotes Bdd w e (constant b) → QuantifiedAnswers w t e

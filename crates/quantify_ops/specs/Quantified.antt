@@ -1,5 +1,5 @@
 -- Tasks of two functions whose conjunction is quantified over the variables of a product, which is the third operand.
-use Rattle.std.specs.Prelude.{◌≡◌, ℕ, ◌<◌, Bool, false, ◌⊎◌, Option, Some, None}
+use Rattle.std.specs.Prelude.{◌≡◌, ℕ, ◌<◌, ◌≤◌, Bool, false, ◌⊎◌, Option, Some, None}
 use Rattle.edge_bits.specs.declared.edges.Edge.{Edge}
 use Rattle.computed_cache.specs.declared.Key.{Key}
 use Rattle.edge_bits.specs.declared.edges.Kind.TheVariants.{Bdd}
@@ -8,12 +8,18 @@ use Rattle.function_laws.specs.Values.{IsFree, conjunction, constant, projection
 use Rattle.function_laws.specs.Kinds.{Denoted, BddFunction}
 use Rattle.node_store.specs.Views.{View, AreTwo, Is, IsKey, IsVariable, NotBothLeaves, Permanent, bdd_at}
 use Rattle.node_store.specs.Memo.{MemoHolds}
-use Rattle.node_store.specs.Splits.{Branches, Waiting}
-use Rattle.node_store.specs.Two.{TwoSplits, two_depth}
+use Rattle.node_store.specs.Splits.{Branches, Leads, Waiting}
+use Rattle.node_store.specs.Three.{three_depth}
+use Rattle.node_store.specs.Two.{TwoSplits}
 use Rattle.node_store.specs.Work.{IsPart}
 use Rattle.node_store.specs.declared.binary.Branch.{Branch}
 use Rattle.node_store.specs.declared.operator.Frame.{Frame}
 use Rattle.node_store.specs.declared.operator.Task.{Task}
+use Rattle.node_store.specs.declared.operator.Wait.TheVariants.{Only}
+use Rattle.quantify_ops.specs.declared.products.Left.{Left}
+use Rattle.quantify_ops.specs.declared.products.Left.TheVariants.{Above, Below}
+use Rattle.quantify_ops.specs.declared.quantification.Step.{Step}
+use Rattle.quantify_ops.specs.declared.quantification.Step.TheVariants.{Skip, Split}
 
 -- what two edges denote, in both places
 abbrev pub both_at : View → Edge → Edge → ℕ → Bool
@@ -79,12 +85,6 @@ abbrev pub IsKnown : View → Edge → Edge → Option Bool → Type 0
 IsKnown w f g (Some b) = both_at w f g ≡ constant b
 IsKnown w f g None = NotBothLeaves Bdd w f g
 
--- what is left of a product below a level
-pub record IsBelowLevel (w : View) (c d : Edge) (level : ℕ) : Type 0 where
-  pub left : HasCube w d
-  pub above : IsFreeAbove w level (bdd_at w d)
-  pub stands : StandsAbove w level (bdd_at w d) (bdd_at w c)
-
 -- what is left of a product below its top variable
 pub record IsRest (w : View) (c : Edge) (x : ℕ) (d : Edge) : Type 0 where
   pub left : HasCube w d
@@ -95,10 +95,24 @@ abbrev pub RestIs : View → Edge → ℕ → Option Edge → Type 0
 RestIs w c x (Some d) = IsRest w c x d
 RestIs w c x None = IsFree (bdd_at w c) x
 
--- what is left below a variable above which there is none
-pub record LeftIs (w : View) (c : Edge) (x : ℕ) (d : Edge) : Type 0 where
+-- what is left of a product below its top variable, which stands above this one
+pub record IsLeftAbove (w : View) (c : Edge) (x : ℕ) (d : Edge) : Type 0 where
+  pub left : HasCube w d
+  pub stands : StandsAbove w (w.level x) (bdd_at w d) (bdd_at w c)
+  pub above : w.top c.index < w.level x
+  pub lower : w.top c.index < w.top d.index
+
+-- what is left of it below this variable, above which it has none
+pub record IsLeftBelow (w : View) (c : Edge) (x : ℕ) (d : Edge) : Type 0 where
   pub left : HasCube w d
   pub step : IsLeft x (bdd_at w c) (bdd_at w d)
+  pub above : IsFreeAbove w (w.level x) (bdd_at w c)
+  pub from : w.level x ≤ w.top c.index
+  pub lower : w.level x < w.top d.index
+
+abbrev pub LeftOf : View → Edge → ℕ → Left → Type 0
+LeftOf w c x (Above d) = IsLeftAbove w c x d
+LeftOf w c x (Below d) = IsLeftBelow w c x d
 
 -- the first part of a task has its answer
 pub record FirstAnswered (f g c : Edge) (w : View) (t : Task) (x : ℕ) (first : Edge) (hi lo : Task) : Type 0 where
@@ -115,14 +129,31 @@ pub record IsKeyOf (w : View) (t : Task) (key : Key) : Type 0 where
   pub keeps : (e : Edge) → QuantifiedAnswers w t e → MemoHolds w key e
   pub hit : (e : Edge) → MemoHolds w key e → QuantifiedAnswers w t e
 
--- a frame that waits for an answer of one of its task's parts
-pub record QuantifiedWaits (f g c : Edge) (w : View) (root : Task) (frame : Frame) (child : Task) : Type 0 where
-  pub plain : frame.flip ≡ false
-  pub waiting : Waiting (QuantifiedDue f g c) QuantifiedAnswers (λ w t. ⊥) QuantifiedSplits (two_depth Bdd) w root frame child
+-- a frame that waits for the answer of another task with the same answers
+pub record SkipWaits (w : View) (root : Task) (frame : Frame) (child : Task) : Type 0 where
+  pub only : frame.wait ≡ Only
+  pub own : frame.task ≡ root
+  pub passes : Leads QuantifiedAnswers (λ w t. ⊥) w root false child
 
--- the task with its product below the top variable, and its parts
-pub record IsNarrowed (f g c : Edge) (w : View) (t : Task) (b : Branch) : Type 0 where
-  pub branches : Branches (QuantifiedDue f g c) QuantifiedAnswers (λ w t. ⊥) QuantifiedSplits (two_depth Bdd) w t b
+-- a frame that waits for an answer of one of its task's parts
+pub record PartWaits (f g c : Edge) (w : View) (root : Task) (frame : Frame) (child : Task) : Type 0 where
+  pub plain : frame.flip ≡ false
+  pub waiting : Waiting (QuantifiedDue f g c) QuantifiedAnswers (λ w t. ⊥) QuantifiedSplits (three_depth Bdd) w root frame child
+
+abbrev pub QuantifiedWaits : Edge → Edge → Edge → View → Task → Frame → Task → Type 0
+QuantifiedWaits f g c w root frame child = SkipWaits w root frame child ⊎ PartWaits f g c w root frame child
+
+-- the task's parts
+pub record IsSplit (f g c : Edge) (w : View) (t : Task) (b : Branch) : Type 0 where
+  pub branches : Branches (QuantifiedDue f g c) QuantifiedAnswers (λ w t. ⊥) QuantifiedSplits (three_depth Bdd) w t b
   pub plain : b.flip ≡ false
-  pub same_f : b.task.f ≡ t.f
-  pub same_g : b.task.g ≡ t.g
+
+-- another task with the same answers
+pub record IsSkip (f g c : Edge) (w : View) (t child : Task) : Type 0 where
+  pub passes : Leads QuantifiedAnswers (λ w t. ⊥) w t false child
+  pub due : QuantifiedDue f g c w child
+  pub less : three_depth Bdd w child < three_depth Bdd w t
+
+abbrev pub IsStep : Edge → Edge → Edge → View → Task → Step → Type 0
+IsStep f g c w t (Skip child) = IsSkip f g c w t child
+IsStep f g c w t (Split b) = IsSplit f g c w t b

@@ -1,17 +1,18 @@
 -- What is true of tasks of a quantified conjunction stays true while a store grows.
-use Rattle.std.proofs.Common.{ℕ, Bool, sym}
+use Rattle.std.proofs.Common.{ℕ, Bool, inl, inr, sym}
 use Rattle.edge_bits.specs.declared.edges.Edge.{Edge}
 use Rattle.edge_bits.specs.declared.edges.Kind.TheVariants.{Bdd}
 use Rattle.function_laws.specs.Kinds.{Denoted}
 use Rattle.node_store.specs.Views.{View, Grown, bdd_at}
-use Rattle.node_store.specs.ViewLaws.{Is-grown, IsVariable-back, IsVariable-grown, Permanent-grown, level-grown, values_at-grown}
-use Rattle.node_store.specs.TwoLaws.{AreTwo-grown, TwoSplits-stay, two_depth-stays}
+use Rattle.node_store.specs.ViewLaws.{Grown-trans, Is-grown, IsVariable-back, IsVariable-grown, Permanent-grown, level-grown, values_at-grown}
+use Rattle.node_store.specs.Three.{AreThree, three_depth}
+use Rattle.node_store.specs.ThreeLaws.{three_depth-stays}
+use Rattle.node_store.specs.TwoLaws.{AreTwo-grown, TwoSplits-stay}
 use Rattle.node_store.specs.WorkLaws.{IsPart-grown}
-use Rattle.node_store.specs.Two.{two_depth}
 use Rattle.node_store.specs.Waiting.{Waiting-stays}
 use Rattle.node_store.specs.declared.operator.Frame.{Frame}
 use Rattle.node_store.specs.declared.operator.Task.{Task}
-use Rattle.quantify_ops.specs.Quantified.{HasCube, AreQuantified, IsFreeAbove, StandsAbove, IsQuantifiedValue, QuantifiedDue, QuantifiedAnswers, QuantifiedSplits, QuantifiedWaits}
+use Rattle.quantify_ops.specs.Quantified.{HasCube, AreQuantified, IsFreeAbove, StandsAbove, IsQuantifiedValue, QuantifiedDue, QuantifiedAnswers, QuantifiedSplits, PartWaits, QuantifiedWaits}
 
 pub HasCube-grown : {v w : View} {c : Edge} → Grown v w → HasCube v c → HasCube w c
 HasCube-grown m d = record { edge = Is-grown Bdd m d.edge; cube = rw (values_at-grown Bdd m d.edge) d.cube }
@@ -67,10 +68,17 @@ QuantifiedSplits-stay v w t x a b m d s = record {
   same = s.same;
 }
 
-pub QuantifiedWaits-stay : (f g c : Edge) (v w : View) (t : Task) (frame : Frame) (u : Task) → Grown v w → QuantifiedDue f g c v t → QuantifiedWaits f g c v t frame u → QuantifiedWaits f g c w t frame u
-QuantifiedWaits-stay f g c v w t frame u m d q = record {
+pub three_operands : (w : View) (t : Task) → AreQuantified w t.f t.g t.h → AreThree Bdd w t.f t.g t.h
+three_operands w t d = record { condition = d.two.first; first = d.two.second; second = d.cube.edge }
+
+pub PartWaits-stay : (f g c : Edge) (v w : View) (t : Task) (frame : Frame) (u : Task) → Grown v w → QuantifiedDue f g c v t → PartWaits f g c v t frame u → PartWaits f g c w t frame u
+PartWaits-stay f g c v w t frame u m d q = record {
   plain = q.plain;
-  waiting = Waiting-stays (QuantifiedDue f g c) QuantifiedAnswers (λ w t. ⊥) QuantifiedSplits (two_depth Bdd) (QuantifiedDue-stays f g c)
+  waiting = Waiting-stays (QuantifiedDue f g c) QuantifiedAnswers (λ w t. ⊥) QuantifiedSplits (three_depth Bdd) (QuantifiedDue-stays f g c)
       (λ v w t e m d. QuantifiedAnswers-stay v w t e m d.operands) (λ v w t x a b m d. QuantifiedSplits-stay v w t x a b m d.operands)
-      (λ v w t m d. two_depth-stays Bdd v w t m d.operands.two) v w t frame u m d q.waiting;
+      (λ v w t m d. three_depth-stays Bdd v w t m (three_operands v t d.operands)) v w t frame u m d q.waiting;
 }
+
+pub QuantifiedWaits-stay : (f g c : Edge) (v w : View) (t : Task) (frame : Frame) (u : Task) → Grown v w → QuantifiedDue f g c v t → QuantifiedWaits f g c v t frame u → QuantifiedWaits f g c w t frame u
+QuantifiedWaits-stay f g c v w t frame u m d (inl q) = inl (record { only = q.only; own = q.own; passes = record { gives = λ x e late a. q.passes.gives x e (Grown-trans m late) a; over = λ x late bad. bad } })
+QuantifiedWaits-stay f g c v w t frame u m d (inr q) = inr (PartWaits-stay f g c v w t frame u m d q)

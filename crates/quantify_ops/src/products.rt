@@ -1,6 +1,6 @@
-//! Products of variables, as edges: that of a list, and what is left of one below a level.
+//! Products of variables, as edges: that of a list, and what is left of one below a variable.
 
-ghost use Rattle.std.specs.Prelude.{◌≡◌, ◌≤◌, Some, length, slice_set};
+ghost use Rattle.std.specs.Prelude.{◌≡◌, ◌<◌, ◌≤◌, Some, length, slice_set};
 ghost use Rattle.std.specs.List.{All};
 ghost use Rattle.edge_bits.specs.declared.edges.Kind.TheVariants.{Bdd};
 ghost use Rattle.function_laws.specs.Cubes.{cube_of};
@@ -8,11 +8,11 @@ ghost use Rattle.function_laws.specs.Kinds.{BddFunction};
 ghost use Rattle.node_store.specs.Operations.{Runs};
 ghost use Rattle.node_store.specs.Views.{IsVariable, Kept, Permanent, bdd_at};
 ghost use Rattle.quantify_ops.specs.Products.{AreMarks, AreNoMarks, IsMark, marked_product};
-ghost use Rattle.quantify_ops.specs.Quantified.{HasCube, IsBelowLevel, IsFreeAbove, LeftIs, RestIs};
+ghost use Rattle.quantify_ops.specs.Quantified.{HasCube, IsFreeAbove, LeftOf, RestIs};
 
 use edge_bits::{Edge, Kind};
 use node_store::operator::Halt;
-use node_store::parts::look;
+use node_store::parts::{Top, look};
 use node_store::{Grow, Opened, Stack};
 
 /// The product of the variables of a list, which may have one twice. Each product that is made on the way is what is left of the whole below some level.
@@ -88,24 +88,6 @@ pub(crate) fn product_of_marks<G: Grow>(
     Ok(cube)
 }
 
-/// What is left of a product below a level.
-pub(crate) fn below<G: Grow>(store: &mut G, cube: Edge, level: u32) -> Edge
-    requires { HasCube (G.view store.old) cube }
-    ensures kept { Kept (G.view store.old) (G.view store.new) }
-    ensures below { IsBelowLevel (G.view store.new) cube result level }
-{
-    let mut rest = cube;
-    'variables: loop {
-        let Opened::Inner(var, hi, _) = store.open(rest) else {
-            return rest;
-        };
-        if store.level(var) >= level {
-            return rest;
-        }
-        rest = hi;
-    }
-}
-
 /// The rest of a product, where the variable is its top; the variables above are not in it.
 pub(crate) fn rest_of<G: Grow>(store: &mut G, cube: Edge, var: u32) -> Option<Edge>
     requires cube { HasCube (G.view store.old) cube }
@@ -120,16 +102,31 @@ pub(crate) fn rest_of<G: Grow>(store: &mut G, cube: Edge, var: u32) -> Option<Ed
     if top == var { Some(hi) } else { None }
 }
 
-/// What is left of a product below a variable, above which it has none.
-pub(crate) fn below_variable<G: Grow>(store: &mut G, cube: Edge, var: u32) -> Edge
+/// What is left of a product below a variable, or below its own top variable, where that stands above.
+#[derive(Drop)]
+pub(crate) enum Left {
+    Above(Edge),
+    Below(Edge),
+}
+
+/// What is left of a product below a variable, or below its own top variable, where that stands above.
+pub(crate) fn left_of<G: Grow>(store: &mut G, cube: Edge, top: Top) -> Left
     requires cube { HasCube (G.view store.old) cube }
-    requires in_range { IsVariable Bdd (G.view store.old) var }
-    requires above { IsFreeAbove (G.view store.old) ((G.view store.old).level var) (bdd_at (G.view store.old) cube) }
+    requires in_range { IsVariable Bdd (G.view store.old) top.var }
+    requires level { top.level ≡ (G.view store.old).level top.var }
+    requires within { top.level < (G.view store.old).vars }
     ensures kept { Kept (G.view store.old) (G.view store.new) }
-    ensures left { LeftIs (G.view store.new) cube var result }
+    ensures left { LeftOf (G.view store.new) cube top.var result }
 {
-    match rest_of(store, cube, var) {
-        Some(rest) => rest,
-        None => cube,
+    let Opened::Inner(var, hi, _) = store.open(cube) else {
+        return Left::Below(cube);
+    };
+    if var == top.var {
+        return Left::Below(hi);
+    }
+    if store.level(var) < top.level {
+        Left::Above(hi)
+    } else {
+        Left::Below(cube)
     }
 }

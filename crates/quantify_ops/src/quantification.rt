@@ -1,6 +1,6 @@
 //! The conjunction of two functions, quantified over the variables of a product: the relational product (Burch, Clarke, McMillan, Dill and Hwang 1990).
 
-ghost use Rattle.std.specs.Prelude.{◌≡◌, ◌≤◌, ◌*◌, IfOk, IfSome, IsErrOf, List, ℕ, true};
+ghost use Rattle.std.specs.Prelude.{◌≡◌, ◌≤◌, ◌*◌, IfOk, IsErrOf, List, ℕ, true};
 ghost use Rattle.edge_bits.specs.declared.edges.Kind.TheVariants.{Bdd};
 ghost use Rattle.function_laws.specs.Values.{exists_all};
 ghost use Rattle.node_store.specs.Numbers.{exists_number};
@@ -11,9 +11,9 @@ ghost use Rattle.node_store.specs.Splits.{CanJoin};
 ghost use Rattle.node_store.specs.Work.{IsWork, Moves};
 ghost use Rattle.quantify_ops.specs.Products.{IsCubeOf};
 ghost use Rattle.quantify_ops.specs.Works.{value_of_and_exists};
-ghost use Rattle.quantify_ops.specs.Quantified.{both_at, AreQuantified, IsKeyOf, IsKnown, IsNarrowed, IsQuantifiedValue, QuantifiedAnswers, QuantifiedDue, QuantifiedFirst, QuantifiedSplits};
+ghost use Rattle.quantify_ops.specs.Quantified.{both_at, AreQuantified, IsKeyOf, IsKnown, IsQuantifiedValue, IsStep, QuantifiedAnswers, QuantifiedDue, QuantifiedFirst, QuantifiedSplits};
 
-use crate::products::{below, below_variable, rest_of};
+use crate::products::{Left, left_of, rest_of};
 use edge_bits::{Edge, TRUE_SLOT};
 use ite_core::nested::{and, or};
 use node_store::binary::Branch;
@@ -30,17 +30,24 @@ pub(crate) struct Quantification {
     pub cube: Edge,
 }
 
+/// The next step of a task: another one with the same answers, or its parts.
+#[derive(Drop)]
+pub(crate) enum Step {
+    Skip(Task),
+    Split(Branch),
+}
+
 impl<G: Grow> Operator<G> for Quantification {
     ghost use Rattle.std.specs.Prelude.{refl};
     ghost use Rattle.edge_bits.specs.declared.edges.Kind.TheVariants.{Bdd};
     ghost use Rattle.node_store.specs.BinaryLaws.{BinaryMoves, BinaryMoves-none, BinaryMoves-both};
-    ghost use Rattle.node_store.specs.Two.{two_depth};
-    ghost use Rattle.node_store.specs.TwoLaws.{two_depth-stays};
+    ghost use Rattle.node_store.specs.Three.{three_depth};
+    ghost use Rattle.node_store.specs.ThreeLaws.{three_depth-stays};
     ghost use Rattle.node_store.specs.Work.{IsWork};
     ghost use Rattle.quantify_ops.specs.Products.{IsCubeOf};
     ghost use Rattle.quantify_ops.specs.Works.{value_of_and_exists};
     ghost use Rattle.quantify_ops.specs.Quantified.{both_at, AreQuantified, IsQuantifiedValue, QuantifiedDue, QuantifiedAnswers, QuantifiedWaits};
-    ghost use Rattle.quantify_ops.specs.QuantifiedLasts.{AreQuantified-grown, IsQuantifiedValue-stays, QuantifiedDue-stays, QuantifiedAnswers-stay, QuantifiedWaits-stay};
+    ghost use Rattle.quantify_ops.specs.QuantifiedLasts.{AreQuantified-grown, IsQuantifiedValue-stays, QuantifiedDue-stays, QuantifiedAnswers-stay, QuantifiedWaits-stay, three_operands};
 
     ghost moves = { λ o. BinaryMoves (λ w. AreQuantified w o.f o.g o.cube) (IsQuantifiedValue o.f o.g o.cube) };
 
@@ -54,7 +61,7 @@ impl<G: Grow> Operator<G> for Quantification {
 
     ghost refused = { λ o w. IsWork w.view (IsQuantifiedValue o.f o.g o.cube w.view) w.view.due };
 
-    ghost depth = { λ _ w. two_depth Bdd w.view };
+    ghost depth = { λ _ w. three_depth Bdd w.view };
 
     ghost extra = { λ _ w. w.view.vars };
 
@@ -65,21 +72,30 @@ impl<G: Grow> Operator<G> for Quantification {
         if let Some(edge) = store.memo_get(&key_of(task)) {
             return Ok(Next::Done(edge));
         }
-        let branch = self.narrow(store, task);
-        if branch.task.h.index == TRUE_SLOT {
+        if task.h.index == TRUE_SLOT {
             // Nothing is left to quantify.
             return Ok(Next::Done(and(store, stack, task.f, task.g)?));
         }
-        if let Some(edge) = self.recall(store, task, branch.task) {
-            return Ok(Next::Done(edge));
+        match self.narrow(store, task) {
+            Step::Skip(child) => {
+                let frame = Frame {
+                    task,
+                    var: 0,
+                    flip: false,
+                    wait: Wait::Only,
+                };
+                Ok(Next::Call(frame, child))
+            }
+            Step::Split(branch) => {
+                let frame = Frame {
+                    task: branch.task,
+                    var: branch.var,
+                    flip: false,
+                    wait: Wait::First(branch.lo),
+                };
+                Ok(Next::Call(frame, branch.hi))
+            }
         }
-        let frame = Frame {
-            task: branch.task,
-            var: branch.var,
-            flip: false,
-            wait: Wait::First(branch.lo),
-        };
-        Ok(Next::Call(frame, branch.hi))
     }
 
     fn resume(
@@ -90,6 +106,10 @@ impl<G: Grow> Operator<G> for Quantification {
         answer: Edge,
     ) -> Result<Turn, Halt> {
         match frame.wait {
+            Wait::Only => {
+                self.keep(store, frame.task, answer);
+                Ok(Turn::Done(answer))
+            }
             Wait::First(later) => {
                 if self.settles(store, frame.task, frame.var, answer) {
                     self.keep(store, frame.task, answer);
@@ -120,7 +140,7 @@ impl<G: Grow> Operator<G> for Quantification {
 
     ghost waits_stay = { λ o v w t f u m d. QuantifiedWaits-stay o.f o.g o.cube v.view w.view t f u m.moves.grown d };
 
-    ghost depth_stays = { λ o v w t m d. two_depth-stays Bdd v.view w.view t m.moves.grown d.operands.two };
+    ghost depth_stays = { λ o v w t m d. three_depth-stays Bdd v.view w.view t m.moves.grown (three_operands v.view t d.operands) };
 
     ghost overflow_rises = { λ o w t f u d waits bad. bad };
 
@@ -128,36 +148,24 @@ impl<G: Grow> Operator<G> for Quantification {
 }
 
 impl Quantification {
-    /// The task with what is left of its product below its top variable, and its parts.
-    fn narrow<G: Grow>(&self, store: &mut G, task: Task) -> Branch
+    /// The parts of a task, or the same task without the product's top variable, where that stands above both functions.
+    fn narrow<G: Grow>(&self, store: &mut G, task: Task) -> Step
         requires due { QuantifiedDue self.now.f self.now.g self.now.cube (G.view store.old) task }
         requires inner { NotBothLeaves Bdd (G.view store.old) task.f task.g }
         ensures kept { Kept (G.view store.old) (G.view store.new) }
-        ensures narrowed { IsNarrowed self.now.f self.now.g self.now.cube (G.view store.new) task result }
+        ensures step { IsStep self.now.f self.now.g self.now.cube (G.view store.new) task result }
     {
         let Halves { top, hi, lo } = self.split(store, task);
-        let cube = below(store, task.h, top.level);
-        let rest = below_variable(store, cube, top.var);
-        Branch {
-            task: Task { h: cube, ..task },
-            flip: false,
-            var: top.var,
-            hi: Task { h: rest, ..hi },
-            lo: Task { h: rest, ..lo },
+        match left_of(store, task.h, top) {
+            Left::Above(rest) => Step::Skip(Task { h: rest, ..task }),
+            Left::Below(rest) => Step::Split(Branch {
+                task,
+                flip: false,
+                var: top.var,
+                hi: Task { h: rest, ..hi },
+                lo: Task { h: rest, ..lo },
+            }),
         }
-    }
-
-    /// What is known of a task with what is left of its product, where that is not the whole product, under which it was looked up.
-    fn recall<G: Grow>(&self, store: &mut G, task: Task, narrowed: Task) -> Option<Edge>
-        requires permanent { Permanent (G.view store.old) }
-        requires operands { AreQuantified (G.view store.old) narrowed.f narrowed.g narrowed.h }
-        ensures kept { Kept (G.view store.old) (G.view store.new) }
-        ensures hit { IfSome result (QuantifiedAnswers (G.view store.new) narrowed) }
-    {
-        if narrowed.h == task.h {
-            return None;
-        }
-        store.memo_get(&key_of(narrowed))
     }
 
     /// The parts of a task's functions at the upper one of their top variables.
