@@ -160,12 +160,3 @@ module _ (f c : Edge) (v w : View) (d hi lo : Edge) (x : ℕ) (roots : AreTwo Bd
           serves = ServesAbove-grown w y level e d n next.edge start (step_serves d level lt i.edge (λ a r free p. p));
           parts = PartsAbove-grown w y level c e d n root next.edge start (step_parts d level lt i.edge (λ p a free q. q));
         }
-
-pub IsLifted-grown : (c : Edge) (v w : View) (start d : Edge) (level : ℕ) → Grown v w → Is Bdd v c → Is Bdd v start → IsLifted c v start d level → IsLifted c w start d level
-IsLifted-grown c v w start d level m root is l = record {
-  now = IsCondition-grown c v w d m root l.now;
-  above = let first = top-grown Bdd m is in let above = l.above in omega arith;
-  lower = let first = top-grown Bdd m is in let second = top-grown Bdd m l.now.edge in let lower = l.lower in omega arith;
-  serves = ServesAbove-grown v w level d start m l.now.edge is l.serves;
-  parts = PartsAbove-grown v w level c d start m root l.now.edge is l.parts;
-}
