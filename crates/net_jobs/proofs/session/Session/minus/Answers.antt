@@ -1,4 +1,5 @@
 use Rattle.std.proofs.Common.{refl, ◌-ℤ◌}
+use Rattle.edge_bits.specs.declared.edges.Kind.TheVariants as kinds
 use Rattle.function_laws.specs.declared.history.Call.TheVariants.{Minus}
 use Rattle.function_laws.specs.Numbers.{minus as minus_at}
 use Rattle.node_slots.specs.Stores.{plain_view}

@@ -1,4 +1,5 @@
 use Rattle.std.proofs.Common.{refl}
+use Rattle.edge_bits.specs.declared.edges.Kind.TheVariants as kinds
 use Rattle.function_laws.specs.declared.history.Call.TheVariants.{SumOver}
 use Rattle.function_laws.specs.Numbers.{sum_over as sum_over_at}
 use Rattle.node_slots.specs.Stores.{plain_view}
