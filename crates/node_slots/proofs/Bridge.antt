@@ -50,7 +50,7 @@ in-without u v (x ∷ xs) ne i = elim (cases_eq x v) [
 ]
 
 -- a child lacks what the node lacks
-child-lacks : (k : Kind) (u v : ℕ) (b : Bool) (high low : ℕ → ValueOf k) → Lacks k high v → Lacks k low v → Lacks k (joined_at k v high low) u → Lacks k (cond b high low) u
+pub child-lacks : (k : Kind) (u v : ℕ) (b : Bool) (high low : ℕ → ValueOf k) → Lacks k high v → Lacks k low v → Lacks k (joined_at k v high low) u → Lacks k (cond b high low) u
 child-lacks k u v b high low hv lv h =
     let f = joined_at k v high low in
     let same : part_of (function_of k f) (own k v) b ≡ function_of k (cond b high low) = part-function k f v b ∙ ap (function_of k) (part-joined k v high low b hv lv) in

@@ -16,3 +16,5 @@ pub mod Remaining
 pub mod Ones
 pub mod Orders
 pub mod Settling
+pub mod WordFunctions
+pub mod Returning

@@ -56,6 +56,13 @@ permanent_words p h s below = elim (cases_lt s 5) [
 pub permanent_kept : (p : Plain) → HasPermanent p → (ws : List ℕ) (n : ℕ) → n ≡ 5 + length p.variable_levels → ((s : ℕ) → s < n → slots_of ws s ≡ Some (permanent_word s)) → (s : ℕ) → s < n → slots_of ws s ≡ slots p s
 permanent_kept p h ws n is permanent s below = permanent s below ∙ sym (permanent_words p h s (omega (arith, below, is)))
 
+pub small_constant : (s : ℕ) → is_value (constant_value s) ≡ true
+small_constant zero = refl
+small_constant (suc zero) = refl
+small_constant (suc (suc zero)) = refl
+small_constant (suc (suc (suc zero))) = refl
+small_constant (suc (suc (suc (suc s)))) = refl
+
 -- both orders are 0, 1, 2, ..
 pub IsOrdered-ascending : (p : Plain) (n m : ℕ) → p.variable_levels ≡ range_with_len 0 n → p.element_levels ≡ range_with_len 0 m → IsOrdered p
 IsOrdered-ascending p n m lv le = record { within = within; alone = alone }
@@ -170,16 +177,9 @@ module _ (p : Plain) (first : HasPermanent p) (free : (s : ℕ) → 5 + length p
   leaves s x is = elim (cases_lt s 5) [
     | inl lt ↦ (
         let e : Some (Leaf (constant_value s)) ≡ Some (Leaf x) = sym (first.constants s lt) ∙ is in
-        subst (λ y. is_value y ≡ true) (let same : constant_value s ≡ x = cc in same) (small s))
+        subst (λ y. is_value y ≡ true) (let same : constant_value s ≡ x = cc in same) (small_constant s))
     | inr le ↦ (let w = high_slot s le (Leaf x) is in let e = w.2 in cc)
   ]
-    where
-      small : (s : ℕ) → is_value (constant_value s) ≡ true
-      small zero = refl
-      small (suc zero) = refl
-      small (suc (suc zero)) = refl
-      small (suc (suc (suc zero))) = refl
-      small (suc (suc (suc (suc s)))) = refl
 
   module _ (orders : IsOrdered p) (few : length p.variable_levels ≤ 1024) where
     projection_kept : (v : ℕ) → v < length p.variable_levels → IsNode Bdd p (projection_node v)

@@ -39,6 +39,28 @@ leaf_denotes w _ _ _ _ (number e x) h fits = record { is = h; beyond = λ v b k 
 leaf_denotes w _ _ _ _ no_member h fits = record { is = h; beyond = λ v b a has. refl; fits = tt }
 leaf_denotes w _ _ _ _ only_base h fits = record { is = h; beyond = λ v b. base-without (element_of v); fits = tt }
 
+-- what its variables are, for operators and for a holder
+module _ (p : Plain) (variables : length p.variables_at ≡ length p.variable_levels) (elements : length p.elements_at ≡ length p.element_levels) where
+  pub variable_back : (k : Kind) (v : ℕ) → IsVariable k (view_of (content_view p)) v → IsVariable k (plain_view p) v
+  variable_back Bdd v h = (h.0, (let a = h.1 in omega (arith, a, variables)))
+  variable_back Add v h = (h.0, (let a = h.1 in omega (arith, a, variables)))
+  variable_back Zdd v h = (h.0, (let a = h.1 in omega (arith, a, elements)))
+
+  pub variable_on : (k : Kind) (v : ℕ) → IsVariable k (plain_view p) v → IsVariable k (view_of (content_view p)) v
+  variable_on Bdd v h = (h.0, (let a = h.1 in omega (arith, a, variables)))
+  variable_on Add v h = (h.0, (let a = h.1 in omega (arith, a, variables)))
+  variable_on Zdd v h = (h.0, (let a = h.1 in omega (arith, a, elements)))
+
+  pub beyond_back : (k : Kind) (v : ℕ) → IsBeyond k (view_of (content_view p)) v → IsBeyond k (plain_view p) v
+  beyond_back Bdd v h = omega (arith, h, variables)
+  beyond_back Add v h = omega (arith, h, variables)
+  beyond_back Zdd v h = omega (arith, h, elements)
+
+  pub beyond_on : (k : Kind) (v : ℕ) → IsBeyond k (plain_view p) v → IsBeyond k (view_of (content_view p)) v
+  beyond_on Bdd v h = omega (arith, h, variables)
+  beyond_on Add v h = omega (arith, h, variables)
+  beyond_on Zdd v h = omega (arith, h, elements)
+
 module _ (p : Plain) (st : IsStore p) where
   -- the two orders
   variable_level : (v : ℕ) → v < 16384 → level_in p v ≡ slice_index p.variable_levels v
@@ -66,21 +88,6 @@ module _ (p : Plain) (st : IsStore p) where
   level_same Bdd v h = rw (lt-ltb v 16384 h.0) (variables_ordered.place v h.1)
   level_same Add v h = rw (lt-ltb v 16384 h.0) (variables_ordered.place v h.1)
   level_same Zdd v h = rw (le-ltb v 16384 h.0) (elements_ordered.place (element_of v) (let a = h.0 in let b = h.1 in omega arith))
-
-  variable_back : (k : Kind) (v : ℕ) → IsVariable k (view_of (content_view p)) v → IsVariable k (plain_view p) v
-  variable_back Bdd v h = (h.0, (let a = h.1 in let l = st.variables_stand.as_many in omega (arith, a, l)))
-  variable_back Add v h = (h.0, (let a = h.1 in let l = st.variables_stand.as_many in omega (arith, a, l)))
-  variable_back Zdd v h = (h.0, (let a = h.1 in let l = st.elements_stand.as_many in omega (arith, a, l)))
-
-  variable_on : (k : Kind) (v : ℕ) → IsVariable k (plain_view p) v → IsVariable k (view_of (content_view p)) v
-  variable_on Bdd v h = (h.0, (let a = h.1 in let l = st.variables_stand.as_many in omega (arith, a, l)))
-  variable_on Add v h = (h.0, (let a = h.1 in let l = st.variables_stand.as_many in omega (arith, a, l)))
-  variable_on Zdd v h = (h.0, (let a = h.1 in let l = st.elements_stand.as_many in omega (arith, a, l)))
-
-  beyond_back : (k : Kind) (v : ℕ) → IsBeyond k (view_of (content_view p)) v → IsBeyond k (plain_view p) v
-  beyond_back Bdd v h = let l = st.variables_stand.as_many in omega (arith, h, l)
-  beyond_back Add v h = let l = st.variables_stand.as_many in omega (arith, h, l)
-  beyond_back Zdd v h = let l = st.elements_stand.as_many in omega (arith, h, l)
 
   -- what a slot denotes is a function of the store's variables
   pub slot_denotes : (k : Kind) (s : ℕ) (f : ℕ → ValueOf k) → content_of p s ≡ Some (function_of k f) → Denotes k (plain_view p) (plain s) f
@@ -127,7 +134,7 @@ module _ (p : Plain) (st : IsStore p) where
         kind = k;
         high = values_at k (plain_view p) (plain node.hi);
         low = values_at k (plain_view p) node.lo;
-        in_range = variable_on k node.var m.in_range;
+        in_range = variable_on p st.variables_stand.as_many st.elements_stand.as_many k node.var m.in_range;
         high_is = m.hi_is.is;
         low_is = m.lo_is.is;
         is = cc;
@@ -173,8 +180,8 @@ module _ (p : Plain) (st : IsStore p) where
     apart = st.canonical.apart;
     regular = λ s f h k each. true_on_ones (length p.variable_levels) f (λ v le. (slot_denotes Bdd s f h).beyond v le) (regular_slot p st.permanent st.canonical Bdd s f h) k
         (λ v lt. each v (let l = st.variables_stand.as_many in omega (arith, lt, l)));
-    of_store = λ s k f h. (let d = slot_denotes k s f h in ((λ v b. d.beyond v (beyond_back k v b)), d.fits));
-    ordered = λ s node k f word h u un lt. inl (let vu = variable_back k u un in lacks_above s node k f word h u vu (λ vn. let a = level_same k u vu in let b = level_same k node.var vn in omega (arith, a, b, lt)));
+    of_store = λ s k f h. (let d = slot_denotes k s f h in ((λ v b. d.beyond v (beyond_back p st.variables_stand.as_many st.elements_stand.as_many k v b)), d.fits));
+    ordered = λ s node k f word h u un lt. inl (let vu = variable_back p st.variables_stand.as_many st.elements_stand.as_many k u un in lacks_above s node k f word h u vu (λ vn. let a = level_same k u vu in let b = level_same k node.var vn in omega (arith, a, b, lt)));
     few_counts = counts.few;
     uncounted = counts.none;
     unpinned = λ s free. refl;

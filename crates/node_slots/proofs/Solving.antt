@@ -12,7 +12,7 @@ use Rattle.edge_bits.specs.Reading.{plain}
 use Rattle.function_laws.specs.Values.{constant}
 use Rattle.function_laws.specs.Kinds.{AddFunction, ValueOf, function_of, Lacks, flipped}
 use Rattle.function_laws.proofs.DistinctLemmas.{In}
-use Rattle.node_store.specs.Views.{levels, IsVariable, values_at, node_values}
+use Rattle.node_store.specs.Views.{View, levels, IsVariable, values_at, node_values}
 use Rattle.node_slots.specs.Slots.{node_of, word_function, function_at_most}
 use Rattle.node_slots.specs.Solutions.{IsSolution, IsSolved}
 use Rattle.node_slots.specs.Stores.{Plain, slots, longest, content_of, plain_view, IsNode, IsCanonical}
@@ -21,16 +21,16 @@ use Rattle.node_slots.proofs.Flips.{unflip}
 use Rattle.node_slots.proofs.Bridge.{denoted-by, in-without, without, without-less}
 
 -- the numbers of a kind's variables
-all_of : Kind → Plain → List ℕ
-all_of Bdd p = range_with_len 0 (length p.variable_levels)
-all_of Add p = range_with_len 0 (length p.variable_levels)
-all_of Zdd p = range_with_len 16384 (length p.element_levels)
+pub all_of : Kind → View → List ℕ
+all_of Bdd w = range_with_len 0 w.vars
+all_of Add w = range_with_len 0 w.vars
+all_of Zdd w = range_with_len 16384 w.elements
 
-length-all : (k : Kind) (p : Plain) → length (all_of k p) ≡ levels k (plain_view p)
+pub length-all : (k : Kind) (w : View) → length (all_of k w) ≡ levels k w
 unfolding all_of
-length-all Bdd p = length-range_with_len 0 (length p.variable_levels)
-length-all Add p = length-range_with_len 0 (length p.variable_levels)
-length-all Zdd p = length-range_with_len 16384 (length p.element_levels)
+length-all Bdd w = length-range_with_len 0 w.vars
+length-all Add w = length-range_with_len 0 w.vars
+length-all Zdd w = length-range_with_len 16384 w.elements
 
 in-range : (a n v : ℕ) → a ≤ v → v < a + n → In v (range_with_len a n)
 in-range a zero v le lt = absurd (omega arith)
@@ -39,11 +39,11 @@ in-range a (suc n) v le lt = elim (cases_eq v a) [
   | inr ne ↦ inr (in-range (a + 1) n v (omega arith) (omega arith))
 ]
 
-in-all : (k : Kind) (p : Plain) (v : ℕ) → IsVariable k (plain_view p) v → In v (all_of k p)
+pub in-all : (k : Kind) (w : View) (v : ℕ) → IsVariable k w v → In v (all_of k w)
 unfolding all_of
-in-all Bdd p v h = in-range 0 (length p.variable_levels) v (omega arith) (omega (arith, h.1))
-in-all Add p v h = in-range 0 (length p.variable_levels) v (omega arith) (omega (arith, h.1))
-in-all Zdd p v h = in-range 16384 (length p.element_levels) v h.0 h.1
+in-all Bdd w v h = in-range 0 w.vars v (omega arith) (omega (arith, h.1))
+in-all Add w v h = in-range 0 w.vars v (omega arith) (omega (arith, h.1))
+in-all Zdd w v h = in-range 16384 w.elements v h.0 h.1
 
 pub levels_short : (p : Plain) (k : Kind) → levels k (plain_view p) ≤ longest p
 levels_short p Bdd = omega arith
@@ -97,22 +97,22 @@ module _ (p : Plain) (sound : IsCanonical p) where
 
   -- what a slot denotes, by paths as long as there are levels
   pub by_levels : (k : Kind) (s : ℕ) (f : ℕ → ValueOf k) → content_of p s ≡ Some (function_of k f) → function_at_most (slots p) (suc (levels k (plain_view p))) s ≡ Some (function_of k f)
-  by_levels k s f h = denoted-by (λ j v. IsVariable j (plain_view p) v) (slots p) (content_of p) solution (levels k (plain_view p)) (all_of k p) (let l = length-all k p in omega arith) s k f h
-      (λ u un none. absurd (none (in-all k p u un)))
+  by_levels k s f h = denoted-by (λ j v. IsVariable j (plain_view p) v) (slots p) (content_of p) solution (levels k (plain_view p)) (all_of k (plain_view p)) (let l = length-all k (plain_view p) in omega arith) s k f h
+      (λ u un none. absurd (none (in-all k (plain_view p) u un)))
 
   -- a function that lacks a variable has paths that are shorter by one
   short : (k : Kind) (v : ℕ) → IsVariable k (plain_view p) v → (s : ℕ) (f : ℕ → ValueOf k) → content_of p s ≡ Some (function_of k f) → Lacks k f v → function_at_most (slots p) (longest p) s ≡ Some (function_of k f)
   short k v vn s f h lacks =
-      let all = in-all k p v vn in
-      let less = without-less v (all_of k p) all in
-      let long = length-all k p in
+      let all = in-all k (plain_view p) v vn in
+      let less = without-less v (all_of k (plain_view p)) all in
+      let long = length-all k (plain_view p) in
       let most = levels_short p k in
       let one_more : suc (longest p - 1) ≡ longest p = omega arith in
       subst (λ m. function_at_most (slots p) m s ≡ Some (function_of k f)) one_more
-      (denoted-by (λ j u. IsVariable j (plain_view p) u) (slots p) (content_of p) solution (longest p - 1) (without v (all_of k p)) (omega arith) s k f h
+      (denoted-by (λ j u. IsVariable j (plain_view p) u) (slots p) (content_of p) solution (longest p - 1) (without v (all_of k (plain_view p))) (omega arith) s k f h
       (λ u un none. elim (cases_eq u v) [
         | inl e ↦ subst (Lacks k f) (sym e) lacks
-        | inr ne ↦ absurd (none (in-without u v (all_of k p) ne (in-all k p u un)))
+        | inr ne ↦ absurd (none (in-without u v (all_of k (plain_view p)) ne (in-all k (plain_view p) u un)))
       ]))
 
   -- what a node denotes where more words stand
