@@ -23,6 +23,7 @@ use Rattle.node_slots.specs.Stores.{Plain, slots, longest, content_of, top_of_wo
 use Rattle.node_slots.proofs.Reading.{was_refused, at_word, function-more, used}
 use Rattle.node_store.proofs.Parting.{depends, top_once, same_parts}
 use Rattle.node_slots.proofs.Solving.{content_node}
+use Rattle.node_slots.proofs.Holding.{written_holds}
 use Rattle.node_slots.proofs.Canonical.{leaf_or_node, same_edge}
 
 pub CanMake-grown : (k : Kind) {a b : View} {v : ℕ} {hi lo : Edge} → Grown a b → CanMake k a v hi lo → CanMake k b v hi lo
@@ -156,6 +157,12 @@ module _ (p : Plain) (i bits : ℕ) (word : Word) (within : i < length p.words) 
       ]
     ]
 
+    was_free : (s : ℕ) → slots (written p i bits) s ≡ None → slots p s ≡ None
+    was_free s none = elim (cases_eq s i) [
+      | inl e ↦ absurd (let x : None ≡ Some word = sym none ∙ ap (slots (written p i bits)) e ∙ slot-here in cc)
+      | inr ne ↦ sym (slot-other s ne) ∙ none
+    ]
+
     -- the store is canonical again
     pub IsStore-written : IsStore (written p i bits)
     IsStore-written = record {
@@ -174,7 +181,7 @@ module _ (p : Plain) (i bits : ℕ) (word : Word) (within : i < length p.words) 
       few_elements = st.few_elements;
       room = rw (length-set {A = ℕ}) st.room;
       few_words = rw (length-set {A = ℕ}) st.few_words;
-      counted = st.counted ∙ sym (length-set p.words i bits);
+      holds = written_holds p st.holds (set p.words i bits) (length-set p.words i bits) was_free;
       refused = λ r is t below none. absurd (st.refused r is i within free);
       missing = λ f due. absurd (let r = was_refused (content_of (written p i bits)) p.due f due in st.refused r.0 r.1 i within free);
       remembered = λ j kept h. MemoHolds-carried (Carries-grown written-grown) kept.key kept.edge tt tt tt tt (st.remembered j kept h);

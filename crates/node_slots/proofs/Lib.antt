@@ -18,3 +18,5 @@ pub mod Orders
 pub mod Settling
 pub mod WordFunctions
 pub mod Returning
+pub mod Holding
+pub mod Flagging

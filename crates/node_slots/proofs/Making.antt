@@ -31,6 +31,7 @@ use Rattle.node_slots.proofs.Solving.{content_node, node-more}
 use Rattle.node_slots.proofs.Canonical.{inner_high, regular_slot, regular-joined, same_edge, not_both}
 use Rattle.node_slots.proofs.Flips.{not-injective, unflip}
 use Rattle.node_slots.proofs.Adding.{CanMake-grown, written, extends, slot-here, written-grown, IsStore-written, slot_of_node, slot_of_leaf}
+use Rattle.node_slots.proofs.Holding.{same_holds}
 use Rattle.node_slots.proofs.Calls.{node_kept, leaf_content}
 
 below-not : (w : View) (v : ℕ) (f : ℕ → Bool) → IsBelow Bdd w v f → IsBelow Bdd w v (negation f)
@@ -305,7 +306,7 @@ module _ (p : Plain) (st : IsStore p) where
       few_elements = st.few_elements;
       room = st.room;
       few_words = st.few_words;
-      counted = st.counted;
+      holds = same_holds p st.holds (after_refusal p n d) refl refl refl refl;
       refused = λ r is t below free. full t below free;
       missing = unknown;
       remembered = λ j kept h. MemoHolds-carried (Carries-grown refused-grown) kept.key kept.edge tt tt tt tt (st.remembered j kept h);
@@ -343,7 +344,7 @@ module _ (p : Plain) (st : IsStore p) where
       few_elements = st.few_elements;
       room = st.room;
       few_words = st.few_words;
-      counted = st.counted;
+      holds = same_holds p st.holds (after_lending p r memo) refl refl refl refl;
       refused = st.refused;
       missing = st.missing;
       remembered = λ j kept h. MemoHolds-carried (Carries-grown lent-kept.grown) kept.key kept.edge tt tt tt tt (remembered j kept h);

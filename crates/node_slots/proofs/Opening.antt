@@ -4,7 +4,6 @@ use Rattle.std.specs.Prelude.{slice_index, if◌then◌else◌}
 use Rattle.std.specs.List.{range_with_len}
 use Rattle.std.proofs.lemmas.Bool.{cases_lt, cases_eq}
 use Rattle.std.proofs.lemmas.Nat.Bits.{bit_at-zero}
-use Rattle.std.proofs.lemmas.List.{length-replicate}
 use Rattle.std.proofs.lemmas.List.FromFn.{get_or-range_with_len, length-range_with_len}
 use Rattle.edge_bits.specs.declared.edges.Kind.{Kind}
 use Rattle.edge_bits.specs.declared.edges.Kind.TheVariants.{Bdd, Add, Zdd}
@@ -22,9 +21,10 @@ use Rattle.node_store.specs.Views.{levels, IsVariable}
 use Rattle.computed_cache.specs.Entries.{Kept, kept_at}
 use Rattle.node_slots.specs.Slots.{function_at_most}
 use Rattle.node_store.specs.Contents.{projection_node, constant_value}
-use Rattle.node_slots.specs.Stores.{Plain, slots, level_in, longest, content_of, plain_view, permanent_word, IsNode, IsOrdered, HasPermanent, AreInverse, IsStore, IsOpening}
+use Rattle.node_slots.specs.Stores.{Plain, slots, level_in, longest, content_of, plain_view, permanent_word, IsNode, IsOrdered, HasPermanent, AreHolds, AreInverse, IsStore, IsOpening}
 use Rattle.node_slots.specs.declared.plain_store.Refused.{Refused}
 use Rattle.node_slots.proofs.Reading.{used, was_refused}
+use Rattle.node_slots.proofs.Holding.{opening_holds}
 use Rattle.node_slots.proofs.Calls.{leaf_content, projection_content}
 
 pub permanent_low : (s : ℕ) → s < 5 → permanent_word s ≡ Leaf (constant_value s)
@@ -212,9 +212,9 @@ module _ (p : Plain) (first : HasPermanent p) (free : (s : ℕ) → 5 + length p
     never_some kept e = cc
 
     -- the store is canonical
-    pub IsStore-opening : ((r : Refused) → p.due ≡ Some r → ⊥) → length p.element_levels ≤ 1024 → 5 + length p.variable_levels ≤ length p.words → length p.words < 2 ^ 23 → length p.counts ≡ length p.words
+    pub IsStore-opening : ((r : Refused) → p.due ≡ Some r → ⊥) → length p.element_levels ≤ 1024 → 5 + length p.variable_levels ≤ length p.words → length p.words < 2 ^ 23 → AreHolds p
         → AreInverse p.variable_levels p.variables_at → AreInverse p.element_levels p.elements_at → ((i : ℕ) → kept_at p.memo i ≡ None) → IsStore p
-    IsStore-opening none elements room words counts variables_stand elements_stand empty = record {
+    IsStore-opening none elements room words holds variables_stand elements_stand empty = record {
       ordered = orders;
       variables_stand = variables_stand;
       elements_stand = elements_stand;
@@ -224,40 +224,44 @@ module _ (p : Plain) (first : HasPermanent p) (free : (s : ℕ) → 5 + length p
       few_elements = elements;
       room = room;
       few_words = words;
-      counted = counts;
+      holds = holds;
       refused = λ r is t below free. none r is;
       missing = λ f due. absurd (let r = was_refused (content_of p) p.due f due in none r.0 r.1);
       remembered = λ i kept h. absurd (let bad : None ≡ Some kept = sym (empty i) ∙ h in never_some kept bad);
     }
 
--- a store of which the slots from the permanent ones on were freed
-abbrev pub with_rest : Plain → List ℕ → List ℕ → ℕ → Option Refused → List ℕ → Plain
-with_rest p ws cs n d memo = record p { words = ws; counts = cs; fulls = n; due = d; memo = memo }
+-- a store of which the slots from the permanent ones on were freed, and all marks and pins taken away
+abbrev pub with_rest : Plain → List ℕ → List ℕ → ℕ → Option Refused → List ℕ → List ℕ → List ℕ → Plain
+with_rest p ws cs n d memo marks pins = record p { words = ws; counts = cs; marks = marks; pins = pins; sweeping = false; fulls = n; due = d; memo = memo }
 
-IsOrdered-same : (p : Plain) (ws cs memo : List ℕ) (n : ℕ) (d : Option Refused) → IsOrdered p → IsOrdered (with_rest p ws cs n d memo)
-IsOrdered-same p ws cs memo n d o = record { within = within; alone = alone }
-  where
-    within : (k : Kind) (v : ℕ) → IsVariable k (plain_view (with_rest p ws cs n d memo)) v → level_in p v < levels k (plain_view (with_rest p ws cs n d memo))
-    within Bdd v h = o.within Bdd v h
-    within Add v h = o.within Add v h
-    within Zdd v h = o.within Zdd v h
+module _ (p : Plain) (ws cs memo marks pins : List ℕ) (n : ℕ) (d : Option Refused) where
+  abbrev q : Plain
+  q = with_rest p ws cs n d memo marks pins
 
-    alone : (k : Kind) (u v : ℕ) → IsVariable k (plain_view (with_rest p ws cs n d memo)) u → IsVariable k (plain_view (with_rest p ws cs n d memo)) v → level_in p u ≡ level_in p v → u ≡ v
-    alone Bdd u v = o.alone Bdd u v
-    alone Add u v = o.alone Add u v
-    alone Zdd u v = o.alone Zdd u v
+  IsOrdered-same : IsOrdered p → IsOrdered q
+  IsOrdered-same o = record { within = within; alone = alone }
+    where
+      within : (k : Kind) (v : ℕ) → IsVariable k (plain_view q) v → level_in p v < levels k (plain_view q)
+      within Bdd v h = o.within Bdd v h
+      within Add v h = o.within Add v h
+      within Zdd v h = o.within Zdd v h
 
-pub IsStore-cleared : (p : Plain) → IsStore p → (d : Option Refused) → ((r : Refused) → d ≡ Some r → ⊥) → (ws cs memo : List ℕ) (n : ℕ) (from : ℕ) → ((i : ℕ) → kept_at memo i ≡ None) → from ≡ 5 + length p.variable_levels → length ws ≡ length p.words → length cs ≡ length p.counts
-    → ((s : ℕ) → s < from → slots_of ws s ≡ slots p s) → ((s : ℕ) → from ≤ s → slots_of ws s ≡ None) → IsStore (with_rest p ws cs n d memo)
-IsStore-cleared p st d none ws cs memo n from empty is count recount kept free =
-    let f = st.permanent in let r = st.room in let w = st.few_words in
-    IsStore-opening (with_rest p ws cs n d memo)
-    (record {
-      constants = λ s lt. kept s (omega (arith, is)) ∙ f.constants s lt;
-      projections = λ v lt. kept (5 + v) (omega (arith, is, lt)) ∙ f.projections v lt;
-    })
-    (λ s le. free s (omega (arith, is, le)))
-    (IsOrdered-same p ws cs memo n d st.ordered) st.few_variables none st.few_elements (omega arith) (omega arith) (recount ∙ st.counted ∙ sym count) st.variables_stand st.elements_stand empty
+      alone : (k : Kind) (u v : ℕ) → IsVariable k (plain_view q) u → IsVariable k (plain_view q) v → level_in p u ≡ level_in p v → u ≡ v
+      alone Bdd u v = o.alone Bdd u v
+      alone Add u v = o.alone Add u v
+      alone Zdd u v = o.alone Zdd u v
+
+  pub IsStore-cleared : IsStore p → ((r : Refused) → d ≡ Some r → ⊥) → (from : ℕ) → ((i : ℕ) → kept_at memo i ≡ None) → from ≡ 5 + length p.variable_levels → length ws ≡ length p.words
+      → AreHolds q → ((s : ℕ) → s < from → slots_of ws s ≡ slots p s) → ((s : ℕ) → from ≤ s → slots_of ws s ≡ None) → IsStore q
+  IsStore-cleared st none from empty is count holds kept free =
+      let f = st.permanent in let r = st.room in let w = st.few_words in
+      IsStore-opening q
+      (record {
+        constants = λ s lt. kept s (omega (arith, is)) ∙ f.constants s lt;
+        projections = λ v lt. kept (5 + v) (omega (arith, is, lt)) ∙ f.projections v lt;
+      })
+      (λ s le. free s (omega (arith, is, le)))
+      (IsOrdered-same st.ordered) st.few_variables none st.few_elements (omega arith) (omega arith) holds st.variables_stand st.elements_stand empty
 
 pub none_due : (r : Refused) → None ≡ Some r → ⊥
 none_due r e = cc
@@ -279,5 +283,5 @@ IsStore-new p vars elements limit fv fe least most o =
     let m = ap length o.element_levels ∙ length-range_with_len 0 elements in
     let l = o.slots_are in
     IsStore-opening p (HasPermanent-words p (λ s lt. o.permanent s (omega (arith, n, lt)))) (λ s le. o.free s (omega (arith, n, le)))
-    (IsOrdered-ascending p vars elements o.variable_levels o.element_levels) (omega (arith, n)) (λ r is. none_due r (sym o.due ∙ is)) (omega (arith, m)) (omega arith) (omega arith) (ap length o.counts ∙ length-replicate limit zero ∙ sym l)
+    (IsOrdered-ascending p vars elements o.variable_levels o.element_levels) (omega (arith, n)) (λ r is. none_due r (sym o.due ∙ is)) (omega (arith, m)) (omega arith) (omega arith) (opening_holds p limit l o.counts o.marks o.pins)
     (rw (o.variable_levels, o.variables_at) (ascending_inverse vars)) (rw (o.element_levels, o.elements_at) (ascending_inverse elements)) o.memo

@@ -1,5 +1,5 @@
 -- A list and its inverse are an order, and where each of it stands.
-use Rattle.std.proofs.Common.{◌≡◌, ℕ, zero, suc, ◌<◌, Bool, true, false, cond, List, [], ◌∷◌, length, eqb, eqb-true, eq-eqb, refl, ap, sym, ◌∙◌, subst, arith}
+use Rattle.std.proofs.Common.{◌≡◌, ℕ, zero, suc, ◌<◌, Bool, true, false, cond, List, [], ◌∷◌, length, eqb, eqb-true, eq-eqb, refl, ap, sym, ◌∙◌, arith}
 use Rattle.std.specs.Prelude.{slice_index}
 use Rattle.function_laws.specs.SiftedOrders.{place_of}
 use Rattle.node_store.specs.Contents.{IsOrder}

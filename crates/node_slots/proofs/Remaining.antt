@@ -16,18 +16,18 @@ use Rattle.node_store.specs.Views.{levels, IsVariable, IsBeyond, IsBelow, CanMak
 use Rattle.computed_cache.specs.Entries.{Kept, kept_at, names, without}
 use Rattle.node_store.proofs.MemoLaws.{MemoHolds-carried}
 use Rattle.node_slots.specs.Slots.{node_of, word_function, function_at_most}
-use Rattle.node_slots.specs.Stores.{Plain, slots, longest, content_of, plain_view, HasNoFree, IsUnknown, IsNode, IsStore}
+use Rattle.node_slots.specs.Stores.{Plain, slots, longest, content_of, plain_view, HasNoFree, IsUnknown, AreHolds, IsNode, IsStore}
 use Rattle.node_slots.specs.Counts.{IsUnnamed}
 use Rattle.node_slots.specs.declared.plain_store.Refused.{Refused}
 use Rattle.node_slots.proofs.Reading.{at_word}
 
--- the store with other words, count words and entries of the computed table, and another call refused
-abbrev pub changed : Plain → List ℕ → List ℕ → Option Refused → List ℕ → Plain
-changed p ws cs d memo = record p { words = ws; counts = cs; due = d; memo = memo }
+-- the store with other words, count words, flags and entries of the computed table, and another call refused
+abbrev pub changed : Plain → List ℕ → List ℕ → List ℕ → List ℕ → Bool → Option Refused → List ℕ → Plain
+changed p ws cs marks pins on d memo = record p { words = ws; counts = cs; marks = marks; pins = pins; sweeping = on; due = d; memo = memo }
 
-module _ (p : Plain) (ws cs : List ℕ) (d : Option Refused) (memo : List ℕ) where
+module _ (p : Plain) (ws cs marks pins : List ℕ) (on : Bool) (d : Option Refused) (memo : List ℕ) where
   abbrev q : Plain
-  q = changed p ws cs d memo
+  q = changed p ws cs marks pins on d memo
 
   variable : (k : Kind) (v : ℕ) → IsVariable k (plain_view q) v → IsVariable k (plain_view p) v
   variable Bdd v h = h
@@ -89,10 +89,10 @@ module _ (p : Plain) (ws cs : List ℕ) (d : Option Refused) (memo : List ℕ) w
         → ((s : ℕ) (node : Node) → slots q s ≡ Some (Inner node) → Stays node.hi × Stays node.lo.index)
         → ((s : ℕ) (f : Denoted) → content_of q s ≡ Some f → Stays s)
         → ((s : ℕ) → s < 5 + length p.variable_levels → slots q s ≡ slots p s)
-        → length ws ≡ length p.words → length cs ≡ length p.words
+        → length ws ≡ length p.words → AreHolds q
         → ((r : Refused) → d ≡ Some r → HasNoFree q) → ((f : Denoted) → (plain_view q).due ≡ Some f → IsUnknown q f)
         → ((i : ℕ) (kept : Kept) → kept_at memo i ≡ Some kept → (kept_at p.memo i ≡ Some kept) × Stays kept.key.f.index × Stays kept.key.g.index × Stays kept.key.h.index × Stays kept.edge.index) → IsStore q
-    IsStore-remaining st kept named present first words counts refused missing entries = record {
+    IsStore-remaining st kept named present first words holds refused missing entries = record {
       ordered = record {
         within = λ k v vn. rw (levels_same k) (st.ordered.within k v (variable k v vn));
         alone = λ k u v un vn. st.ordered.alone k u v (variable k u un) (variable k v vn);
@@ -112,7 +112,7 @@ module _ (p : Plain) (ws cs : List ℕ) (d : Option Refused) (memo : List ℕ) w
       few_elements = st.few_elements;
       room = (let r = st.room in omega arith);
       few_words = (let f = st.few_words in omega arith);
-      counted = counts ∙ sym words;
+      holds = holds;
       refused = refused;
       missing = missing;
       remembered = λ i entry h. (
@@ -120,10 +120,17 @@ module _ (p : Plain) (ws cs : List ℕ) (d : Option Refused) (memo : List ℕ) w
           MemoHolds-carried (record { vars = refl; elements = refl; content = λ s f stays is. content_same s stays ∙ is }) entry.key entry.edge e.1 e.2 e.3 e.4 (st.remembered i entry e.0));
     }
 
--- a store with other count words
-pub recounted : (p : Plain) → IsStore p → (cs : List ℕ) → length cs ≡ length p.words → IsStore (record p { counts = cs })
-recounted p st cs count =
-    IsStore-remaining p p.words cs p.due p.memo (λ s. Unit {0}) (λ m s _. refl) st (λ s word is. is) (λ s node is. (tt, tt)) (λ s f h. tt) (λ s lt. refl) refl count st.refused st.missing (λ i entry h. (h, tt, tt, tt, tt))
+-- a store with other count words and flags
+pub held_store : (p : Plain) → IsStore p → (cs marks pins : List ℕ) (on : Bool) → AreHolds (record p { counts = cs; marks = marks; pins = pins; sweeping = on }) → IsStore (record p { counts = cs; marks = marks; pins = pins; sweeping = on })
+held_store p st cs marks pins on holds =
+    IsStore-remaining p p.words cs marks pins on p.due p.memo (λ s. Unit {0}) (λ m s _. refl) st (λ s word is. is) (λ s node is. (tt, tt)) (λ s f h. tt) (λ s lt. refl) refl holds st.refused st.missing (λ i entry h. (h, tt, tt, tt, tt))
+
+-- a store where a sweep begins, and no answer is remembered
+pub swept_store : (p : Plain) → IsStore p → (marks memo : List ℕ) (on : Bool) → AreHolds (record p { marks = marks; sweeping = on; memo = memo }) → ((i : ℕ) → kept_at memo i ≡ None)
+    → IsStore (record p { marks = marks; sweeping = on; memo = memo })
+swept_store p st marks memo on holds empty =
+    IsStore-remaining p p.words p.counts marks p.pins on p.due memo (λ s. Unit {0}) (λ m s _. refl) st (λ s word is. is) (λ s node is. (tt, tt)) (λ s f h. tt) (λ s lt. refl) refl holds st.refused st.missing
+    (λ i entry h. absurd (let bad : None ≡ Some entry = sym (empty i) ∙ h in cc))
 
 -- an entry that was not dropped does not name the slot
 not_forgotten : (slot : ℕ) (o : Option Kept) (entry : Kept) → without slot o ≡ Some entry
@@ -158,12 +165,12 @@ not_forgotten slot (Some kept) entry h = by_name (names slot kept) refl
 -- a slot that no node names is freed
 module _ (p : Plain) (slot : ℕ) (cs memo : List ℕ) (within : slot < length p.words) (high : 3 ≤ slot) (unnamed : IsUnnamed p slot) where
   abbrev pub freed : Plain
-  freed = changed p (set p.words slot 0) cs None memo
+  freed = changed p (set p.words slot 0) cs p.marks p.pins p.sweeping None memo
 
   pub slot_gone : slots freed slot ≡ None
   slot_gone = ap unpack_of (get_or-set_same p.words slot 0 0 within)
 
-  slot_other : (s : ℕ) → s ≢ slot → slots freed s ≡ slots p s
+  pub slot_other : (s : ℕ) → s ≢ slot → slots freed s ≡ slots p s
   slot_other s ne = ap unpack_of (get_or-set_other p.words slot s 0 0 ne)
 
   word_same : (m s : ℕ) → 3 ≤ s → s ≢ slot → ((t : ℕ) → t ≢ slot → function_at_most (slots freed) m t ≡ function_at_most (slots p) m t)
@@ -192,13 +199,13 @@ module _ (p : Plain) (slot : ℕ) (cs memo : List ℕ) (within : slot < length p
   pub content_gone : content_of freed slot ≡ None
   content_gone = at_word (slots freed) (longest p) slot high ∙ ap (word_function (function_at_most (slots freed) (longest p))) slot_gone
 
-  pub IsStore-freed : IsStore p → 5 + length p.variable_levels ≤ slot → length cs ≡ length p.words → ((i : ℕ) → kept_at memo i ≡ without slot (kept_at p.memo i)) → IsStore freed
-  IsStore-freed st permanent count forgotten =
-      IsStore-remaining p (set p.words slot 0) cs None memo (λ s. s ≢ slot) function_same st kept
+  pub IsStore-freed : IsStore p → 5 + length p.variable_levels ≤ slot → AreHolds freed → ((i : ℕ) → kept_at memo i ≡ without slot (kept_at p.memo i)) → IsStore freed
+  IsStore-freed st permanent holds forgotten =
+      IsStore-remaining p (set p.words slot 0) cs p.marks p.pins p.sweeping None memo (λ s. s ≢ slot) function_same st kept
       (λ s node is. unnamed s node (kept s (Inner node) is))
       (λ s f h same. (let e : None ≡ Some f = sym content_gone ∙ ap (content_of freed) (sym same) ∙ h in cc))
       (λ s lt. slot_other s (omega (arith, lt, permanent)))
-      (length-set p.words slot 0) count (λ r is. cc) (λ f due. cc) (λ i entry h. not_forgotten slot (kept_at p.memo i) entry (sym (forgotten i) ∙ h))
+      (length-set p.words slot 0) holds (λ r is. cc) (λ f due. cc) (λ i entry h. not_forgotten slot (kept_at p.memo i) entry (sym (forgotten i) ∙ h))
     where
       kept : (s : ℕ) (word : Word) → slots freed s ≡ Some word → slots p s ≡ Some word
       kept s word is = elim (cases_eq s slot) [

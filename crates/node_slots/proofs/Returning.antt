@@ -1,8 +1,7 @@
 -- A sound whole store whose swaps are done is canonical, and its words stand in its orders.
-use Rattle.std.proofs.Common.{◌≡◌, ℕ, ◌<◌, ◌≤◌, inl, inr, Bool, true, false, not, cond, ℤ, List, length, Option, Some, None, refl, ap, sym, ◌∙◌, subst, arith}
+use Rattle.std.proofs.Common.{◌≡◌, ℕ, ◌<◌, inl, inr, Bool, true, false, not, cond, ℤ, List, length, Option, Some, None, refl, ap, sym, ◌∙◌, subst, arith}
 use Rattle.std.specs.Prelude.{slice_index}
 use Rattle.std.proofs.lemmas.Bool.{lt-ltb, le-ltb, cases_eq, cases_lt}
-use Rattle.edge_bits.specs.declared.edges.Edge.{Edge}
 use Rattle.edge_bits.specs.declared.edges.Kind.{Kind}
 use Rattle.edge_bits.specs.declared.edges.Kind.TheVariants.{Bdd, Add, Zdd}
 use Rattle.edge_bits.specs.declared.words.Node.{Node}
@@ -12,7 +11,7 @@ use Rattle.function_laws.specs.Values.{negation}
 use Rattle.function_laws.specs.Numbers.{is_value}
 use Rattle.function_laws.specs.SiftedOrders.{place_of}
 use Rattle.function_laws.specs.Kinds.{Denoted, BddFunction, AddFunction, ZddFamily, ValueOf, Fits, Lacks, flipped, function_of, joined_at}
-use Rattle.node_store.specs.Views.{View, CanMake, Denotes, IsBelow, IsBeyond, IsVariable, function_at, levels, values_at}
+use Rattle.node_store.specs.Views.{View, Denotes, IsBelow, IsBeyond, IsVariable, levels}
 use Rattle.node_store.specs.ViewLaws.{Is-from, values_at-is}
 use Rattle.node_store.specs.Contents.{IsNodeOf, IsOrder, IsSound, constant_value, level_of, view_of}
 use Rattle.node_store.proofs.Rewriting.{level_once}

@@ -1,5 +1,5 @@
 -- A store as it is between swaps is a sound whole store.
-use Rattle.std.proofs.Common.{◌≡◌, ◌≢◌, ℕ, zero, suc, ◌+◌, ◌-◌, ◌<◌, ◌≤◌, ◌⊎◌, inl, inr, Bool, true, false, length, Some, None, ℤ, refl, ap, sym, ◌∙◌, subst, arith}
+use Rattle.std.proofs.Common.{◌≡◌, ◌≢◌, ℕ, zero, suc, ◌+◌, ◌-◌, ◌<◌, ◌≤◌, inl, inr, true, false, length, Some, ℤ, refl, ap, sym, ◌∙◌, subst, arith}
 use Rattle.std.specs.Prelude.{slice_index}
 use Rattle.std.proofs.lemmas.Bool.{lt-ltb, le-ltb, ne_eqb}
 use Rattle.edge_bits.specs.declared.edges.Edge.{Edge}
@@ -17,9 +17,9 @@ use Rattle.function_laws.specs.Kinds.{Denoted, BddFunction, AddFunction, ZddFami
 use Rattle.node_store.specs.KindLaws.{Fits-joined, Lacks-joined}
 use Rattle.node_store.specs.Views.{View, Denotes, IsBeyond, IsLeafOf, logic_one, logic_zero, number, no_member, only_base, IsVariable, function_at, values_at, node_values}
 use Rattle.node_store.specs.ViewLaws.{Apart-beyond, Apart-variables}
-use Rattle.node_store.specs.Contents.{IsHalf, IsNodeOf, IsSound, constant_value, level_of, view_of}
+use Rattle.node_store.specs.Contents.{IsNodeOf, IsSound, constant_value, level_of, view_of}
 use Rattle.node_slots.specs.Stores.{Plain, slots, level_in, longest, content_of, plain_view, IsStore}
-use Rattle.node_slots.specs.Wholes.{content_view, AreTrueCounts}
+use Rattle.node_slots.specs.Wholes.{content_view}
 use Rattle.node_slots.proofs.Reading.{in_words, used}
 use Rattle.node_slots.proofs.Solving.{content_node}
 use Rattle.node_slots.proofs.Canonical.{inner_high, leaf_or_node, regular_slot}
@@ -160,8 +160,8 @@ module _ (p : Plain) (st : IsStore p) where
         (m.hi_below u un (omega (arith, lt))) (m.lo_below u un (omega (arith, lt)))))
   ]
 
-  pub settled_sound : AreTrueCounts p → IsSound (content_view p)
-  settled_sound counts = record {
+  pub settled_sound : IsSound (content_view p)
+  settled_sound = record {
     variables = variables_ordered.order;
     elements = elements_ordered.order;
     few_variables = (let l = st.variables_stand.as_many in let f = st.few_variables in omega (arith, l, f));
@@ -182,7 +182,7 @@ module _ (p : Plain) (st : IsStore p) where
         (λ v lt. each v (let l = st.variables_stand.as_many in omega (arith, lt, l)));
     of_store = λ s k f h. (let d = slot_denotes k s f h in ((λ v b. d.beyond v (beyond_back p st.variables_stand.as_many st.elements_stand.as_many k v b)), d.fits));
     ordered = λ s node k f word h u un lt. inl (let vu = variable_back p st.variables_stand.as_many st.elements_stand.as_many k u un in lacks_above s node k f word h u vu (λ vn. let a = level_same k u vu in let b = level_same k node.var vn in omega (arith, a, b, lt)));
-    few_counts = counts.few;
-    uncounted = counts.none;
-    unpinned = λ s free. refl;
+    few_counts = st.holds.few;
+    uncounted = st.holds.uncounted;
+    unpinned = st.holds.unpinned;
   }

@@ -1,10 +1,10 @@
 -- What the words of a sound whole store denote is the map of functions that its holder knows, in the middle of a swap too.
-use Rattle.std.proofs.Common.{◌≡◌, ℕ, zero, suc, ◌<◌, ◌≤◌, true, length, Option, Some, None, refl, sym, ap, ◌∙◌, arith}
+use Rattle.std.proofs.Common.{◌≡◌, ℕ, zero, suc, ◌≤◌, true, length, Option, Some, None, refl, sym, ap, ◌∙◌, arith}
 use Rattle.edge_bits.specs.declared.edges.Kind.{Kind}
 use Rattle.edge_bits.specs.declared.edges.Kind.TheVariants.{Bdd, Add, Zdd}
 use Rattle.edge_bits.specs.declared.words.Node.{Node}
 use Rattle.edge_bits.specs.declared.words.Word.{Word}
-use Rattle.edge_bits.specs.declared.words.Word.TheVariants.{Inner, Leaf}
+use Rattle.edge_bits.specs.declared.words.Word.TheVariants.{Inner}
 use Rattle.function_laws.specs.Values.{constant}
 use Rattle.function_laws.specs.Families.{empty, base}
 use Rattle.function_laws.specs.Kinds.{Denoted, BddFunction, AddFunction, ZddFamily, ValueOf, function_of}

@@ -1,6 +1,6 @@
 -- A store as its words and its orders, and when it is canonical.
-use Rattle.std.specs.Prelude.{◌%◌, ◌⊎◌, replicate, ◌≡◌, ℕ, zero, suc, ◌+◌, ◌-◌, ◌^◌, ◌<◌, ◌≤◌, nat_lt, nat_le, Bool, true, false, ◌&&◌, if◌then◌else◌, List, length, slice_index, Option, Some, None, ℤ, max}
-use Rattle.std.specs.List.{count_by, range_with_len}
+use Rattle.std.specs.Prelude.{◌%◌, ◌⊎◌, replicate, ◌≡◌, ℕ, zero, suc, ◌+◌, ◌-◌, ◌^◌, ◌<◌, ◌≤◌, nat_lt, nat_le, Bool, true, false, ◌&&◌, ◌||◌, ◌==◌, if◌then◌else◌, List, length, slice_index, Option, Some, None, ℤ, max}
+use Rattle.std.specs.List.{count_by, list_any, range_with_len}
 use Rattle.edge_bits.specs.Permanent.{first_element}
 use Rattle.computed_cache.specs.Entries.{Kept, kept_at}
 use Rattle.edge_bits.specs.Words.{unpack_of}
@@ -34,6 +34,10 @@ pub record Plain : Type 0 where
   -- the 64-bit word of each slot, and its count word
   pub words : List ℕ
   pub counts : List ℕ
+  -- the flag of each slot that is marked, and of each that is pinned
+  pub marks : List ℕ
+  pub pins : List ℕ
+  pub sweeping : Bool
   pub fulls : ℕ
   -- the arguments of the call that was refused last
   pub due : Option Refused
@@ -68,7 +72,18 @@ top_in p (suc zero) = length p.element_levels
 top_in p (suc (suc zero)) = length p.element_levels
 top_in p (suc (suc (suc s))) = top_of_word p (slots p (suc (suc (suc s))))
 
--- how many rows, cells and pins hold a slot, and how often it was freed, modulo 2^32
+abbrev pub flag : Bool → ℕ
+flag on = if on then 1 else 0
+
+-- whether a slot's flag is set
+abbrev pub is_set : List ℕ → ℕ → Bool
+is_set flags s = slice_index flags s == 1
+
+-- whether a sweep is on or a slot is pinned
+abbrev pub is_held : Plain → Bool
+is_held p = p.sweeping || list_any (λ bits. bits == 1) p.pins
+
+-- how many rows and cells hold a slot, and how often it was freed, modulo 2^32
 abbrev pub count_at : Plain → ℕ → ℕ
 count_at p s = count_of (slice_index p.counts s)
 
@@ -98,7 +113,7 @@ plain_view p = record {
   fulls = p.fulls;
   due = refused_function (content_of p) p.due;
   count = count_at p;
-  is_held = false;
+  is_held = is_held p;
   may_want_memory = false;
   room = p.scratch_room;
 }
@@ -157,6 +172,15 @@ pub record AreInverse (levels at : List ℕ) : Type 0 where
   pub as_many : length at ≡ length levels
   pub each : (level : ℕ) → level < length at → (slice_index at level < length levels) × (slice_index levels (slice_index at level) ≡ level)
 
+-- A count can rise by one for a pin. A free slot is not counted and not pinned.
+pub record AreHolds (p : Plain) : Type 0 where
+  pub counted : length p.counts ≡ length p.words
+  pub marks_fit : length p.marks ≡ length p.words
+  pub pins_fit : length p.pins ≡ length p.words
+  pub few : (s : ℕ) → count_at p s < 2 ^ 32 - 1
+  pub uncounted : (s : ℕ) → slots p s ≡ None → count_at p s ≡ 0
+  pub unpinned : (s : ℕ) → slots p s ≡ None → is_set p.pins s ≡ false
+
 pub record IsStore (p : Plain) : Type 0 where
   pub ordered : IsOrdered p
   pub variables_stand : AreInverse p.variable_levels p.variables_at
@@ -167,7 +191,7 @@ pub record IsStore (p : Plain) : Type 0 where
   pub few_elements : length p.element_levels ≤ 1024
   pub room : 5 + length p.variable_levels ≤ length p.words
   pub few_words : length p.words < 2 ^ 23
-  pub counted : length p.counts ≡ length p.words
+  pub holds : AreHolds p
   -- where a call was refused and nothing was freed since, each slot has a word, and no edge denotes what was due
   pub refused : (r : Refused) → p.due ≡ Some r → HasNoFree p
   pub missing : (f : Denoted) → (plain_view p).due ≡ Some f → IsUnknown p f
@@ -191,6 +215,9 @@ pub record IsOpening (vars elements limit : ℕ) (p : Plain) : Type 0 where
   pub permanent : (s : ℕ) → s < 5 + vars → slots p s ≡ Some (permanent_word s)
   pub free : (s : ℕ) → 5 + vars ≤ s → slots p s ≡ None
   pub counts : p.counts ≡ replicate limit 0
+  pub marks : p.marks ≡ replicate limit 0
+  pub pins : p.pins ≡ replicate limit 0
+  pub sweeping : p.sweeping ≡ false
   pub fulls : p.fulls ≡ 0
   pub due : p.due ≡ None
   pub memo : (i : ℕ) → kept_at p.memo i ≡ None
@@ -200,7 +227,12 @@ pub record IsNext (old new : ℕ) : Type 0 where
   pub count : count_of new ≡ count_of old
   pub generation : generation_of new ≡ (generation_of old + 1) % 2 ^ 32
 
--- a store after all slots but the permanent ones were freed
+-- the count word of the next generation of a slot that nothing holds
+pub record IsRenewed (old new : ℕ) : Type 0 where
+  pub count : count_of new ≡ 0
+  pub generation : generation_of new ≡ (generation_of old + 1) % 2 ^ 32
+
+-- a store after all slots but the permanent ones were freed, and all marks and pins taken away
 pub record IsCleared (old new : Plain) : Type 0 where
   pub variable_levels : new.variable_levels ≡ old.variable_levels
   pub element_levels : new.element_levels ≡ old.element_levels
@@ -209,8 +241,11 @@ pub record IsCleared (old new : Plain) : Type 0 where
   pub slots_are : length new.words ≡ length old.words
   pub permanent : (s : ℕ) → s < 5 + length old.variable_levels → slots new s ≡ slots old s
   pub free : (s : ℕ) → 5 + length old.variable_levels ≤ s → slots new s ≡ None
-  pub freed : (s : ℕ) (word : Word) → 5 + length old.variable_levels ≤ s → slots old s ≡ Some word → IsNext (slice_index old.counts s) (slice_index new.counts s)
+  pub freed : (s : ℕ) (word : Word) → 5 + length old.variable_levels ≤ s → slots old s ≡ Some word → IsRenewed (slice_index old.counts s) (slice_index new.counts s)
   pub others : (s : ℕ) → (s < 5 + length old.variable_levels) ⊎ (slots old s ≡ None) → slice_index new.counts s ≡ slice_index old.counts s
+  pub unmarked : (s : ℕ) → is_set new.marks s ≡ false
+  pub unpinned : (s : ℕ) → is_set new.pins s ≡ false
+  pub sweeping : new.sweeping ≡ false
   pub fulls : new.fulls ≡ old.fulls
   pub due : new.due ≡ None
   pub memo : (i : ℕ) → kept_at new.memo i ≡ None

@@ -2,6 +2,7 @@
 #![tactic(auto)]
 
 mod count_table;
+mod flag_table;
 mod node_counts;
 mod node_table;
 mod plain_store;

@@ -5,11 +5,13 @@ ghost use Rattle.std.specs.List.{range_with_len};
 ghost use Rattle.edge_bits.specs.Permanent.{first_projection};
 ghost use Rattle.edge_bits.specs.Reading.{slots_of};
 ghost use Rattle.edge_bits.specs.Words.{unpack_of};
-ghost use Rattle.node_slots.specs.Stores.{IsNext};
+ghost use Rattle.node_slots.specs.Stores.{IsRenewed};
+ghost use Rattle.handle_count.specs.CountWords.{count_of, generation_of};
 ghost use Rattle.node_slots.specs.Placing.{IsChild, HasNoChild};
 ghost use Rattle.node_store.specs.Contents.{opened_of};
 
 use crate::count_table::CountTable;
+use crate::flag_table::FlagTable;
 use crate::node_table::{NodeTable, find};
 use computed_cache::Memo;
 use edge_bits::{
@@ -41,6 +43,9 @@ pub struct PlainStore {
     elements_at: Vec<u32>,
     nodes: NodeTable,
     counts: CountTable,
+    marks: FlagTable,
+    pins: FlagTable,
+    sweeping: bool,
     fulls: u64,
     due: Option<Refused>,
     memo: Memo,
@@ -52,9 +57,9 @@ impl Model for PlainStore {
 
     ghost Value = { Plain };
 
-    ghost view = { λ s. record { variable_levels = s.variable_levels.items; element_levels = s.element_levels.items; variables_at = s.variables_at.items; elements_at = s.elements_at.items; words = s.nodes; counts = s.counts; fulls = s.fulls; due = s.due; memo = s.memo; scratch_room = lent_room s.scratch } };
+    ghost view = { λ s. record { variable_levels = s.variable_levels.items; element_levels = s.element_levels.items; variables_at = s.variables_at.items; elements_at = s.elements_at.items; words = s.nodes; counts = s.counts; marks = s.marks; pins = s.pins; sweeping = s.sweeping; fulls = s.fulls; due = s.due; memo = s.memo; scratch_room = lent_room s.scratch } };
 
-    ghost invariant = { λ s. IsStore (record { variable_levels = s.variable_levels.items; element_levels = s.element_levels.items; variables_at = s.variables_at.items; elements_at = s.elements_at.items; words = s.nodes; counts = s.counts; fulls = s.fulls; due = s.due; memo = s.memo; scratch_room = lent_room s.scratch }) };
+    ghost invariant = { λ s. IsStore (record { variable_levels = s.variable_levels.items; element_levels = s.element_levels.items; variables_at = s.variables_at.items; elements_at = s.elements_at.items; words = s.nodes; counts = s.counts; marks = s.marks; pins = s.pins; sweeping = s.sweeping; fulls = s.fulls; due = s.due; memo = s.memo; scratch_room = lent_room s.scratch }) };
 }
 
 /// The child that a node would be, if it would be one.
@@ -261,25 +266,33 @@ fn names(bits: u64, slot: u32) -> bool
     }
 }
 
-/// Lets the next generation of a slot begin, if its bits are a word's.
+/// The count word of a slot that nothing holds any more.
+fn without_count(word: u64) -> u64
+    ensures count { count_of result ≡ 0 }
+    ensures generation { generation_of result ≡ generation_of word }
+{
+    word - word % (1 << 32)
+}
+
+/// Lets the next generation of a slot begin, which nothing holds, if its bits are a word's.
 fn advance(counts: &mut CountTable, slot: u32, bits: u64)
     requires { slot < length counts.old }
     ensures as_many { length counts.new ≡ length counts.old }
-    ensures advanced { (word : Word) → unpack_of bits ≡ Some word → IsNext (slice_index counts.old slot) (slice_index counts.new slot) }
+    ensures advanced { (word : Word) → unpack_of bits ≡ Some word → IsRenewed (slice_index counts.old slot) (slice_index counts.new slot) }
     ensures free { unpack_of bits ≡ None → slice_index counts.new slot ≡ slice_index counts.old slot }
     ensures others { (s : ℕ) → (s ≡ slot → ⊥) → slice_index counts.new s ≡ slice_index counts.old s }
 {
     if unpack(bits).is_some() {
         let word = counts.word(slot);
-        counts.write(slot, next_generation(word));
+        counts.write(slot, next_generation(without_count(word)));
     }
 }
 
-/// Lets the next generation of each slot with a word begin, from this slot on.
+/// Lets the next generation of each slot with a word begin, from this slot on. Nothing holds these slots then.
 fn advance_from(counts: &mut CountTable, nodes: &NodeTable, from: u32)
     requires as_many { length counts.old ≡ length nodes.now }
     ensures as_many { length counts.new ≡ length counts.old }
-    ensures advanced { (s : ℕ) (word : Word) → from ≤ s → slots_of nodes.now s ≡ Some word → IsNext (slice_index counts.old s) (slice_index counts.new s) }
+    ensures advanced { (s : ℕ) (word : Word) → from ≤ s → slots_of nodes.now s ≡ Some word → IsRenewed (slice_index counts.old s) (slice_index counts.new s) }
     ensures others { (s : ℕ) → (s < from) ⊎ (slots_of nodes.now s ≡ None) → slice_index counts.new s ≡ slice_index counts.old s }
 {
     let words = nodes.words();
@@ -296,7 +309,11 @@ impl PlainStore {
     ghost use Rattle.edge_bits.specs.Reading.{DenotesBdd, DenotesAdd, DenotesZdd};
     ghost use Rattle.node_store.specs.Views.{AreTwo, Denotes, IsVariable, values_at};
     ghost use Rattle.function_laws.specs.Kinds.{Denoted};
-    ghost use Rattle.node_slots.specs.Stores.{plain_view, count_at, generation_at, in_use, slots, IsOpening, IsCleared, IsUnknown};
+    ghost use Rattle.computed_cache.specs.Entries.{kept_at};
+    ghost use Rattle.node_store.specs.Contents.{IsSound};
+    ghost use Rattle.node_store.specs.Changes.{with_mark, with_pin};
+    ghost use Rattle.node_slots.specs.Stores.{plain_view, count_at, generation_at, in_use, is_set, slots, IsOpening, IsCleared, IsUnknown};
+    ghost use Rattle.node_slots.specs.Wholes.{content_view};
     ghost use Rattle.node_slots.specs.Counts.{IsFreed, IsRecounted, IsUnnamed};
     ghost use Rattle.node_slots.specs.Taking.{nodes_of};
 
@@ -314,6 +331,8 @@ impl PlainStore {
         let elements_at = ascending(alloc, elements)?;
         let nodes = NodeTable::new(alloc, vars, limit)?;
         let counts = CountTable::new(alloc, limit)?;
+        let marks = FlagTable::new(alloc, limit)?;
+        let pins = FlagTable::new(alloc, limit)?;
         let memo = Memo::new(alloc, REMEMBERED)?;
         Ok(PlainStore {
             alloc,
@@ -323,6 +342,9 @@ impl PlainStore {
             elements_at,
             nodes,
             counts,
+            marks,
+            pins,
+            sweeping: false,
             fulls: 0,
             due: None,
             memo,
@@ -364,9 +386,10 @@ impl PlainStore {
         FIRST_ELEMENT + self.elements_at[level as usize]
     }
 
-    /// The number of slots.
+    /// The number of slots. Between two calls the store is sound, as a holder knows it.
     pub fn limit(&self) -> u32
-        ensures { result ≡ length self.now.words }
+        ensures limit { result ≡ length self.now.words }
+        ensures sound { IsSound (content_view self.now) }
     {
         self.nodes.limit()
     }
@@ -399,7 +422,7 @@ impl PlainStore {
         self.nodes.in_use() as u32
     }
 
-    /// How many rows, cells and pins hold a slot.
+    /// How many rows and cells hold a slot. A pin is not counted.
     pub fn count_of(&self, slot: u32) -> u32
         ensures { result ≡ count_at self.now slot }
     {
@@ -413,10 +436,10 @@ impl PlainStore {
         (self.counts.word(slot) >> 32) as u32
     }
 
-    /// One more row, cell or pin holds the slot, which has a word.
+    /// One more row or cell holds the slot, which has a word.
     pub fn raise(&mut self, slot: u32)
         requires used { slots self.old slot ≡ None → ⊥ }
-        requires few { count_at self.old slot < 2 ^ 32 - 1 }
+        requires few { count_at self.old slot + 1 < 2 ^ 32 - 1 }
         ensures count { count_at self.new slot ≡ count_at self.old slot + 1 }
         ensures generation { generation_at self.new slot ≡ generation_at self.old slot }
         ensures rest { IsRecounted self.old slot self.new }
@@ -425,7 +448,7 @@ impl PlainStore {
         self.counts.write(slot, raise(word));
     }
 
-    /// One row, cell or pin less holds the slot, which has a word.
+    /// One row or cell less holds the slot, which has a word.
     pub fn lower(&mut self, slot: u32)
         requires used { slots self.old slot ≡ None → ⊥ }
         requires some { 0 < count_at self.old slot }
@@ -464,11 +487,68 @@ impl PlainStore {
         false
     }
 
+    /// Whether a slot is marked.
+    pub fn is_marked(&self, slot: u32) -> bool
+        ensures { result ≡ is_set self.now.marks slot }
+    {
+        self.marks.is_set(slot)
+    }
+
+    /// Marks a slot, or takes its mark away.
+    pub fn set_mark(&mut self, slot: u32, on: bool)
+        requires { slot < length self.old.words }
+        ensures content { content_view self.new ≡ with_mark (content_view self.old) slot on }
+        ensures sound { IsSound (content_view self.new) }
+        ensures rest { self.new ≡ record self.old { marks = self.new.marks } }
+    {
+        self.marks.set(slot, on);
+    }
+
+    /// Whether a slot is pinned.
+    pub fn is_pinned(&self, slot: u32) -> bool
+        ensures { result ≡ is_set self.now.pins slot }
+    {
+        self.pins.is_set(slot)
+    }
+
+    /// Pins a slot with a word, or gives its pin up.
+    pub fn set_pin(&mut self, slot: u32, on: bool)
+        requires { slots self.old slot ≡ None → ⊥ }
+        ensures content { content_view self.new ≡ with_pin (content_view self.old) slot on }
+        ensures sound { IsSound (content_view self.new) }
+        ensures rest { self.new ≡ record self.old { pins = self.new.pins } }
+    {
+        self.pins.set(slot, on);
+    }
+
+    /// Begins a sweep, where none is on. No slot is marked then, and no answer is remembered.
+    pub fn begin_sweep(&mut self)
+        requires { self.old.sweeping ≡ false }
+        ensures content { content_view self.new ≡ record (content_view self.old) { sweeping = true; marked = λ _. false } }
+        ensures sound { IsSound (content_view self.new) }
+        ensures memo { (i : ℕ) → kept_at self.new.memo i ≡ None }
+        ensures rest { self.new ≡ record self.old { sweeping = true; marks = self.new.marks; memo = self.new.memo } }
+    {
+        self.marks.clear();
+        self.memo.clear();
+        self.sweeping = true;
+    }
+
+    /// Ends the sweep that is on.
+    pub fn end_sweep(&mut self)
+        requires { self.old.sweeping ≡ true }
+        ensures sound { IsSound (content_view self.new) }
+        ensures rest { self.new ≡ record self.old { sweeping = false } }
+    {
+        self.sweeping = false;
+    }
+
     /// Frees a slot that no row, cell or pin holds and no node names: what the other slots denote stays, and the slot is the next that a node takes, in its next generation. No answer is kept of it, and nothing is due then, since the arguments of a refused call may name the slot.
     pub fn free(&mut self, slot: u32)
         requires used { slots self.old slot ≡ None → ⊥ }
         requires not_permanent { first_projection + (plain_view self.old).vars ≤ slot }
         requires not_held { count_at self.old slot ≡ 0 }
+        requires not_pinned { is_set self.old.pins slot ≡ false }
         requires not_named { IsUnnamed self.old slot }
         ensures freed { IsFreed self.old slot self.new }
         ensures content { (s : ℕ) → (s ≡ slot → ⊥) → (plain_view self.new).content s ≡ (plain_view self.old).content s }
@@ -481,7 +561,7 @@ impl PlainStore {
         self.due = None;
     }
 
-    /// Frees all slots that are not permanent, and answers how many are in use then: 5 and one for each variable.
+    /// Frees all slots that are not permanent, and answers how many are in use then: 5 and one for each variable. No row or cell holds what was freed, no slot is marked or pinned, and no sweep is on.
     pub fn clear(&mut self) -> u32
         ensures cleared { IsCleared self.old self.new }
         ensures permanent { result ≡ 5 + (plain_view self.old).vars }
@@ -491,6 +571,9 @@ impl PlainStore {
         let permanent = FIRST_PROJECTION + vars;
         advance_from(&mut self.counts, &self.nodes, permanent);
         self.nodes.clear(vars);
+        self.marks.clear();
+        self.pins.clear();
+        self.sweeping = false;
         self.memo.clear();
         self.due = None;
         permanent

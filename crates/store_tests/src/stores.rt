@@ -94,7 +94,7 @@ fn leaves_and_nodes_of_each_kind(rt: HostRuntime) -> Result<(), Fail> {
 
 /// Raises the count of a slot with a word.
 fn raise(store: &mut PlainStore, slot: u32) {
-    if store.is_used(slot) && store.count_of(slot) < u32::MAX {
+    if store.is_used(slot) && store.count_of(slot) < u32::MAX - 1 {
         store.raise(slot);
     }
 }
@@ -106,11 +106,26 @@ fn lower(store: &mut PlainStore, slot: u32) {
     }
 }
 
+/// Pins a slot with a word, or gives its pin up.
+fn pin(store: &mut PlainStore, slot: u32, on: bool) {
+    if store.is_used(slot) {
+        store.set_pin(slot, on);
+    }
+}
+
+/// Marks a slot.
+fn mark(store: &mut PlainStore, slot: u32) {
+    if slot < store.limit() {
+        store.set_mark(slot, true);
+    }
+}
+
 /// Frees a slot, if nothing holds it and no node names it.
 fn free(store: &mut PlainStore, slot: u32) -> bool {
     let may = store.is_used(slot)
         && slot >= FIRST_PROJECTION + store.vars()
         && store.count_of(slot) == 0
+        && !store.is_pinned(slot)
         && !store.is_named(slot);
     if may {
         store.free(slot);
@@ -160,6 +175,25 @@ fn freed_slots_are_taken_again(rt: HostRuntime) -> Result<(), Fail> {
     assert_eq!(rt; store.in_use(), 10);
     assert_eq!(rt; store.clear(), 8);
     assert_eq!(rt; store.generation_of(two.index), 2);
+    Ok(())
+}
+
+#[test]
+fn a_pinned_slot_is_not_freed(rt: HostRuntime) -> Result<(), Fail> {
+    let mut store = PlainStore::new(rt.alloc(), 3, 0, 10)?;
+    let Some((two, three)) = products(&mut store) else {
+        return Err(Fail::new("refused with two free slots"));
+    };
+    pin(&mut store, three.index, true);
+    mark(&mut store, two.index);
+    assert!(rt; store.is_pinned(three.index) && !store.is_pinned(two.index));
+    assert!(rt; store.is_marked(two.index) && !store.is_marked(three.index));
+    assert_eq!(rt; store.count_of(three.index), 0);
+    assert!(rt; !free(&mut store, three.index));
+    pin(&mut store, three.index, false);
+    assert!(rt; free(&mut store, three.index));
+    assert_eq!(rt; store.clear(), 8);
+    assert!(rt; !store.is_marked(two.index));
     Ok(())
 }
 

@@ -1,9 +1,11 @@
-use Rattle.std.proofs.Common.{◌≡◌, ◌≤◌, ◌+◌, suc, length, None, ◌∙◌, ap, sym, subst, arith}
+use Rattle.std.proofs.Common.{false, set, ◌≡◌, ◌≤◌, ◌+◌, suc, None, ◌∙◌, ap, sym, subst, arith}
 use Rattle.std.proofs.lemmas.List.{length-set}
 use Rattle.node_slots.specs.Counts.{IsUnnamed}
-use Rattle.node_slots.specs.Stores.{Plain, slots, content_of, longest, plain_view}
+use Rattle.node_slots.specs.Stores.{Plain, slots, count_at, is_set, content_of, longest, plain_view}
 use Rattle.node_slots.specs.contracts.plain_store.PlainStore.{the_view}
-use Rattle.node_slots.proofs.Remaining.{IsStore-freed, content_gone, function_same, used_within}
+use Rattle.node_slots.proofs.Remaining.{IsStore-freed, content_gone, function_same, slot_other, used_within}
+use Rattle.node_slots.proofs.Holding.{freed_holds}
+use Rattle.handle_count.specs.CountWords.{count_of}
 use Rattle.node_slots.proofs.plain_store.PlainStore.free.Goals as goal
 
 pub invariant_of-self : goal.invariant_of-self
@@ -13,9 +15,13 @@ invariant_of-self c =
     let used = subst (λ (q : Plain). slots q slot ≡ None → ⊥) (sym c.self.view_is) c.requires.used in
     let high = subst (λ (q : Plain). 5 + (plain_view q).vars ≤ slot) (sym c.self.view_is) c.requires.not_permanent in
     let unnamed = subst (λ q. IsUnnamed q slot) (sym c.self.view_is) c.requires.not_named in
+    let none = subst (λ (q : Plain). count_at q slot ≡ 0) (sym c.self.view_is) c.requires.not_held in
+    let unpinned = subst (λ (q : Plain). is_set q.pins slot ≡ false) (sym c.self.view_is) c.requires.not_pinned in
     rw c.free.ensures
     (IsStore-freed p slot c.write.new.self c.forget.new.self (used_within p slot used) (omega (arith, high)) unnamed c.self.invariant high
-    (ap length c.write.ensures ∙ length-set p.counts slot c.next_generation.result ∙ c.self.invariant.counted) c.forget.ensures.forgotten)
+    (freed_holds p c.self.invariant.holds slot c.next_generation.result (set p.words slot 0) c.write.new.self c.forget.new.self (used_within p slot used) (length-set p.words slot 0) c.write.ensures
+    (c.next_generation.ensures.count ∙ ap count_of c.word-word.ensures) none unpinned
+    (slot_other p slot c.write.new.self c.forget.new.self (used_within p slot used) (omega (arith, high)) unnamed)) c.forget.ensures.forgotten)
 
 pub returns-clause-content : goal.returns-clause-content
 returns-clause-content c =
