@@ -20,3 +20,4 @@ pub mod WordFunctions
 pub mod Returning
 pub mod Holding
 pub mod Flagging
+pub mod Looking

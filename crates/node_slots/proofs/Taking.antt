@@ -8,10 +8,10 @@ use Rattle.edge_bits.specs.declared.words.Word.{Word}
 use Rattle.edge_bits.specs.Words.{pack_of, unpack_of}
 use Rattle.edge_bits.specs.Reading.{slots_of}
 use Rattle.level_table.specs.Slotted.{Slotted}
-use Rattle.node_store.specs.Contents.{is_used}
+use Rattle.node_store.specs.Contents.{is_node_of as is_node_in, is_used}
 use Rattle.node_slots.specs.Stores.{is_word, permanent_word}
 use Rattle.node_slots.proofs.Counting.{count_prefix}
-use Rattle.node_slots.specs.Taking.{ArePacked, AreCounted, is_node_in, is_node_of, nodes_of, AreFree, IsFreeOrPacked, IsNodeTable}
+use Rattle.node_slots.specs.Taking.{ArePacked, AreCounted, is_node_of, nodes_of, AreFree, IsFreeOrPacked, IsNodeTable}
 
 -- bits of a word are not 0
 pub word_some : (bits : ℕ) (word : Word) → unpack_of bits ≡ Some word → 0 < bits

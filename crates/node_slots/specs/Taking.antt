@@ -1,10 +1,10 @@
 -- Which slots of a store are free, and which of them are taken next.
-use Rattle.std.specs.Prelude.{◌≡◌, ◌≢◌, ℕ, ◌+◌, ◌<◌, ◌≤◌, ◌^◌, ◌⊎◌, ◌==◌, Bool, false, List, length, slice_index, slice_set, Option, Some, None}
+use Rattle.std.specs.Prelude.{◌≡◌, ◌≢◌, ℕ, ◌+◌, ◌<◌, ◌≤◌, ◌^◌, ◌⊎◌, Bool, List, length, slice_index, slice_set, Some}
 use Rattle.std.specs.List.{count_by}
 use Rattle.edge_bits.specs.declared.words.Word.{Word}
-use Rattle.edge_bits.specs.declared.words.Word.TheVariants.{Inner, Leaf}
 use Rattle.edge_bits.specs.Words.{pack_of, unpack_of}
 use Rattle.level_table.specs.Slotted.{Slotted}
+use Rattle.node_store.specs.Contents.{is_node_of as is_node_in}
 use Rattle.node_slots.specs.Stores.{is_word}
 
 -- the bits are 0, or those of a node or a leaf
@@ -23,11 +23,6 @@ pub record AreFree (words : List ℕ) (taken : ℕ) (freed : List ℕ) : Type 0 
   pub all : (s : ℕ) → s < taken → slice_index words s ≡ 0 → (i : ℕ) × (i < length freed) × (slice_index freed i ≡ s)
 
 -- whether the bits are those of a node of this variable, or of an element by 16384 and its number
-abbrev pub is_node_in : ℕ → Option Word → Bool
-is_node_in v None = false
-is_node_in v (Some (Leaf x)) = false
-is_node_in v (Some (Inner node)) = node.var == v
-
 abbrev pub is_node_of : ℕ → ℕ → Bool
 is_node_of v bits = is_node_in v (unpack_of bits)
 

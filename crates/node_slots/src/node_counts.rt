@@ -2,7 +2,7 @@
 
 ghost use Rattle.std.specs.Prelude.{◌≡◌, ℕ, ◌+◌, ◌<◌, ◌^◌, if◌then◌else◌, IfOk, length, slice_index, Some, true};
 ghost use Rattle.edge_bits.specs.Words.{IsInRange};
-ghost use Rattle.node_slots.specs.Taking.{is_node_in};
+ghost use Rattle.node_store.specs.Contents.{is_node_of as is_node_in};
 
 use edge_bits::{Memory, Word};
 use std::alloc::Global;

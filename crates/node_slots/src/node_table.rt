@@ -1,9 +1,10 @@
 //! The words of all slots, by which a node is found, and the slots that are free.
 
-ghost use Rattle.std.specs.Prelude.{◌≡◌, ℕ, ◌+◌, ◌-◌, ◌<◌, ◌≤◌, ◌^◌, IfOk, IfSome, IfNone, count_by, length, slice_index, slice_set, vec_capacity, Some, None};
+ghost use Rattle.std.specs.Prelude.{◌≡◌, ℕ, ◌+◌, ◌-◌, ◌<◌, ◌≤◌, ◌^◌, IfOk, IfSome, IfNone, count_by, length, slice_index, slice_set, vec_capacity, Some, None, true};
 ghost use Rattle.edge_bits.specs.Permanent.{first_projection, zero_slot};
 ghost use Rattle.edge_bits.specs.Reading.{slots_of};
-ghost use Rattle.edge_bits.specs.Words.{IsInRange};
+ghost use Rattle.edge_bits.specs.Words.{IsInRange, unpack_of};
+ghost use Rattle.node_store.specs.Contents.{is_leaf, is_node_of as is_node_in};
 ghost use Rattle.node_slots.specs.Placing.{IsPlaced, HasNoPlace};
 ghost use Rattle.node_slots.specs.Stores.{is_word, permanent_word};
 ghost use Rattle.node_slots.specs.Taking.{ArePacked, AreCounted, AreFree, HasNoZero, IsPut, nodes_of};
@@ -48,6 +49,53 @@ pub(crate) fn find(words: &[u64], wanted: Word) -> Option<usize>
     for (slot, bits) in words.iter().enumerate() {
         if slot >= ZERO_SLOT as usize && unpack(*bits) == Some(wanted) {
             return Some(slot);
+        }
+    }
+    None
+}
+
+/// Whether the bits are those of a node of a variable.
+fn is_node(bits: u64, var: u32) -> bool
+    ensures { result ≡ is_node_in var (unpack_of bits) }
+{
+    match unpack(bits) {
+        Some(Word::Inner(node)) => node.var as u32 == var,
+        _ => false,
+    }
+}
+
+/// Whether the bits are those of a leaf.
+fn is_number(bits: u64) -> bool
+    ensures { result ≡ is_leaf (unpack_of bits) }
+{
+    matches!(unpack(bits), Some(Word::Leaf(_)))
+}
+
+/// The least slot from this one on with a node of a variable, if there is one.
+pub(crate) fn next_node(words: &[u64], var: u32, from: u32) -> Option<u32>
+    requires { length words.now < 2 ^ 32 }
+    ensures found { IfSome result (λ s. (from ≤ s) × (is_node_in var (slots_of words.now s) ≡ true)) }
+    ensures least { IfSome result (λ s. (t : ℕ) → from ≤ t → t < s → is_node_in var (slots_of words.now t) ≡ true → ⊥) }
+    ensures none { IfNone result ((t : ℕ) → from ≤ t → is_node_in var (slots_of words.now t) ≡ true → ⊥) }
+{
+    for slot in from as usize..words.len() {
+        if is_node(words[slot], var) {
+            return Some(slot as u32);
+        }
+    }
+    None
+}
+
+/// The least slot from this one on with a leaf, if there is one.
+pub(crate) fn next_number(words: &[u64], from: u32) -> Option<u32>
+    requires { length words.now < 2 ^ 32 }
+    ensures found { IfSome result (λ s. (from ≤ s) × (is_leaf (slots_of words.now s) ≡ true)) }
+    ensures least { IfSome result (λ s. (t : ℕ) → from ≤ t → t < s → is_leaf (slots_of words.now t) ≡ true → ⊥) }
+    ensures none { IfNone result ((t : ℕ) → from ≤ t → is_leaf (slots_of words.now t) ≡ true → ⊥) }
+{
+    for slot in from as usize..words.len() {
+        if is_number(words[slot]) {
+            return Some(slot as u32);
         }
     }
     None

@@ -12,7 +12,7 @@ ghost use Rattle.node_store.specs.Contents.{opened_of};
 
 use crate::count_table::CountTable;
 use crate::flag_table::FlagTable;
-use crate::node_table::{NodeTable, find};
+use crate::node_table::{NodeTable, find, next_node, next_number};
 use computed_cache::Memo;
 use edge_bits::{
     EMPTY_SLOT, Edge, FIRST_ELEMENT, FIRST_PROJECTION, Kind, Memory, Node, Word, unpack,
@@ -310,8 +310,8 @@ impl PlainStore {
     ghost use Rattle.node_store.specs.Views.{AreTwo, Denotes, IsVariable, values_at};
     ghost use Rattle.function_laws.specs.Kinds.{Denoted};
     ghost use Rattle.computed_cache.specs.Entries.{kept_at};
-    ghost use Rattle.node_store.specs.Contents.{IsSound};
-    ghost use Rattle.node_store.specs.Changes.{with_mark, with_pin};
+    ghost use Rattle.node_store.specs.Contents.{IsSound, is_leaf, is_node_of as is_node_in, nodes_of as nodes_at, used_slots};
+    ghost use Rattle.node_store.specs.Changes.{IsLeastFrom, with_mark, with_pin};
     ghost use Rattle.node_slots.specs.Stores.{plain_view, count_at, generation_at, in_use, is_set, slots, IsOpening, IsCleared, IsUnknown};
     ghost use Rattle.node_slots.specs.Wholes.{content_view};
     ghost use Rattle.node_slots.specs.Counts.{IsFreed, IsRecounted, IsUnnamed};
@@ -416,6 +416,7 @@ impl PlainStore {
     /// The number of slots that have a word: all, where a function was refused and nothing was freed since, and then no slot has that function.
     pub fn in_use(&self) -> u32
         ensures count { result ≡ in_use self.now }
+        ensures of_holder { result ≡ used_slots (content_view self.now) }
         ensures full { (f : Denoted) → (plain_view self.now).due ≡ Some f → result ≡ length self.now.words }
         ensures missing { (f : Denoted) → (plain_view self.now).due ≡ Some f → IsUnknown self.now f }
     {
@@ -463,9 +464,24 @@ impl PlainStore {
     /// The number of nodes of a variable, and of element e by 16,384 + e.
     pub fn nodes_of(&self, var: u32) -> u32
         requires { (k : Kind) × IsVariable k (plain_view self.now) var }
-        ensures { result ≡ nodes_of self.now.words var }
+        ensures nodes { result ≡ nodes_of self.now.words var }
+        ensures of_holder { result ≡ nodes_at (content_view self.now) var }
     {
         self.nodes.nodes_of(var)
+    }
+
+    /// The least slot from this one on with a node of a variable, or none, by a walk over all words from there on. Element e is 16,384 + e.
+    pub fn next_node(&self, var: u32, from: u32) -> Option<u32>
+        ensures { IsLeastFrom (content_view self.now) (λ s. is_node_in var ((content_view self.now).word s) ≡ true) from result }
+    {
+        next_node(self.nodes.words(), var, from)
+    }
+
+    /// The least slot from this one on with a leaf, or none, by a walk over all words from there on.
+    pub fn next_leaf(&self, from: u32) -> Option<u32>
+        ensures { IsLeastFrom (content_view self.now) (λ s. is_leaf ((content_view self.now).word s) ≡ true) from result }
+    {
+        next_number(self.nodes.words(), from)
     }
 
     /// Whether a slot has a word.
