@@ -44,7 +44,7 @@ pub step-eval : (k : Kind) (w w' : View) (rows : Rows) (a : Name) (bits : List B
     → length bits ≡ levels k w → z ≡ number_of k (values_at k w e (assignment_of bits)) → IsStepOf w rows w' rows (Eval a bits) (Value z)
 step-eval k w w' rows a bits e z grown stored live has long is t agrees = (
   value_is_allowed t 0 (Eval a bits) z (outcome-eval w t.sizes t.cells (t.live 0) (variables_of w rows t agrees) (elements_of w rows t agrees) k a bits e long (live_at k w rows t a e agrees live has)
-  ∙ ap (λ x. Some (shows x)) (sym is)),
+      ∙ ap (λ x. Some (shows x)) (sym is)),
   agrees-grown w w' rows t grown stored agrees,
 )
 
