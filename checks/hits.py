@@ -73,7 +73,7 @@ def jobs():
     asks = [f"eval r {bits(64, ones)}" for ones in ([], [0, 2], [0, 2, 1, 3], [0, 1], range(64))]
     yield (
         "product of the even sets of the even and of the odd elements",
-        ["elements 64", "session"] + first + second + [f"r = product {e} {o}"] + asks,
+        ["vars 0", "elements 64", "session"] + first + second + [f"r = product {e} {o}"] + asks,
         [1, 1, 1, 0, 1],
     )
     lines = ["vars 40", "session", "n = num 3", "s0 = num 0"]
