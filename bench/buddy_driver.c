@@ -1,4 +1,4 @@
-/* Plays a program of operations with BuDDy and prints the seconds of the operations alone, a sum over the sizes of the last
+/* Plays a program of operations with BuDDy and prints the seconds of processor time of the operations alone, a sum over the sizes of the last
  * results, and the greatest number of nodes in use.
  *
  * Standard input: the number of variables, the number of registers, and then a line for each operation: a letter, the register that
@@ -15,7 +15,7 @@ struct step {
 
 static double now(void) {
     struct timespec t;
-    clock_gettime(CLOCK_MONOTONIC, &t);
+    clock_gettime(CLOCK_PROCESS_CPUTIME_ID, &t);
     return t.tv_sec + t.tv_nsec * 1e-9;
 }
 
