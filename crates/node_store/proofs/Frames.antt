@@ -1,17 +1,15 @@
 -- How the frames of a run change from step to step.
 use Rattle.std.proofs.Common.{◌≡◌, ℕ, zero, suc, ◌+◌, ◌-◌, ◌*◌, ◌<◌, ◌≤◌, List, [], ◌∷◌, ◌++◌, length, take, drop, Err, IsErrOf, refl, ap, sym, ◌∙◌, subst, arith}
 use Rattle.std.proofs.Math.Nat.{mul-le-mul_left}
-use Rattle.std.proofs.Math.Seq.{take-length}
-use Rattle.std.proofs.lemmas.List.{length-append, length-take, drop_all, take-append-le, drop-append-le}
+use Rattle.std.proofs.lemmas.List.{length-append, length-take, take-append-le, drop-append-le}
 use Rattle.node_store.specs.States.{State}
-use Rattle.node_store.specs.Steps.{left, Asks, NextFor, FewerLeft, Chain, steps_of, steps_left, steps_of_frames, Running, steps_of_run, Answered}
+use Rattle.node_store.specs.Steps.{left, Asks, Chain, steps_of, steps_left, steps_of_frames, Running, steps_of_run, Answered}
 use Rattle.edge_bits.specs.declared.edges.Edge.{Edge}
 use Rattle.node_store.specs.declared.operator.Task.{Task}
 use Rattle.node_store.specs.declared.operator.Wait.{Wait}
 use Rattle.node_store.specs.declared.operator.Wait.TheVariants.{Only, First, Second, Third, Fourth}
 use Rattle.node_store.specs.declared.operator.Frame.{Frame}
-use Rattle.node_store.specs.declared.operator.Next.{Next}
-use Rattle.node_store.specs.declared.operator.Next.TheVariants.{Done, Call}
+use Rattle.node_store.specs.declared.evaluate.Step.TheVariants.{Ask, Answer}
 
 module _ (Due : State → Task → Type 0) (Waits : State → Task → Frame → Task → Type 0) (Depth : State → Task → ℕ) where
   -- a frame more
@@ -92,10 +90,6 @@ module _ (Due : State → Task → Type 0) (Waits : State → Task → Frame →
   Chain-overflows Overflows w height root (f ∷ fs) task rises (mid, (link, rest)) over =
       rises root f mid link.due link.waits (Chain-overflows Overflows w (height - 1) mid fs task rises rest over)
 
-  -- no frame: the task is the root
-  pub Chain-end : (w : State) (height : ℕ) (root : Task) (task : Task) → Chain Due Waits Depth w height root [] task → root ≡ task
-  Chain-end w height root task last = last.same
-
 -- the steps of one frame more
 steps-push : (height : ℕ) (frames : List Frame) (frame : Frame)
     → steps_of_frames height (frames ++ frame ∷ []) ≡ steps_of_frames height frames + steps_left (height - length frames) frame
@@ -138,31 +132,36 @@ steps-resume x m zero h = absurd (omega arith)
 steps-resume x m (suc n) h =
     let k : m ≤ n = omega arith in let le = mul-le-mul_left (x + 1) k in omega (arith, le)
 
--- after a frame is pushed and its task started
-pub steps-called : (height : ℕ) (frames : List Frame) (frame : Frame) (child : Task) (next : Next)
-    → ((f : Frame) (u : Task) → next ≡ Call f u → length frames + 2 ≤ height)
-    → steps_of_run height (frames ++ frame ∷ []) next < steps_of_run height frames (Call frame child)
-steps-called height frames frame child (Done e) high =
+-- an answer in place of a task
+pub steps-answered : (height : ℕ) (frames : List Frame) (task : Task) (answer : Edge)
+    → steps_of_run height frames (Answer answer) < steps_of_run height frames (Ask task)
+steps-answered height frames task answer = let some = some-steps (height - length frames) in omega arith
+
+-- a frame in place of its task
+pub steps-called : (height : ℕ) (frames : List Frame) (task : Task) (frame : Frame) (child : Task) → length frames + 1 ≤ height
+    → steps_of_run height (frames ++ frame ∷ []) (Ask child) < steps_of_run height frames (Ask task)
+steps-called height frames task frame child room =
     let p = steps-push height frames frame in
-    let q = some-steps (height - length frames - 1) in
-    omega arith
-steps-called height frames frame child (Call f u) high =
-    let p = steps-push height frames frame in
-    let h = high f u refl in
     let n = length-append frames (frame ∷ []) in
     let e : height - length (frames ++ frame ∷ []) ≡ height - length frames - 1 = omega (arith, n) in
-    let q = steps-start (height - length frames - 1) (left f.wait) (omega arith) (left-le f.wait) in
+    let q = steps-start (height - length frames) (left frame.wait) (omega arith) (left-le frame.wait) in
     rw e (omega arith)
 
--- after a frame is popped and resumed
-pub steps-done : (height : ℕ) (frames : List Frame) (frame : Frame) (answer : Edge) (next : Next)
-    → FewerLeft frame next
-    → steps_of_run height frames next < steps_of_run height (frames ++ frame ∷ []) (Done answer)
-steps-done height frames frame answer (Done e) fewer = let p = steps-push height frames frame in omega arith
-steps-done height frames frame answer (Call f u) fewer =
+-- the top frame has its answer
+pub steps-done : (height : ℕ) (frames : List Frame) (frame : Frame) (answer edge : Edge)
+    → steps_of_run height frames (Answer edge) < steps_of_run height (frames ++ frame ∷ []) (Answer answer)
+steps-done height frames frame answer edge = let p = steps-push height frames frame in omega arith
+
+-- the top frame waits for something else
+pub steps-turned : (height : ℕ) (frames : List Frame) (frame new : Frame) (answer : Edge) (child : Task) → left new.wait < left frame.wait
+    → steps_of_run height (frames ++ new ∷ []) (Ask child) < steps_of_run height (frames ++ frame ∷ []) (Answer answer)
+steps-turned height frames frame new answer child fewer =
     let p = steps-push height frames frame in
-    let q = steps-resume (steps_of (height - length frames - 1)) (left f.wait) (left frame.wait) fewer in
-    omega arith
+    let r = steps-push height frames new in
+    let n = length-append frames (new ∷ []) in
+    let e : height - length (frames ++ new ∷ []) ≡ height - length frames - 1 = omega (arith, n) in
+    let q = steps-resume (steps_of (height - length frames - 1)) (left new.wait) (left frame.wait) fewer in
+    rw e (omega arith)
 
 module _ (Moves : State → State → Type 0) (Due : State → Task → Type 0) (Answers : State → Task → Edge → Type 0) (Waits : State → Task → Frame → Task → Type 0) (Depth : State → Task → ℕ)
     (due_stays : (v w : State) (t : Task) → Moves v w → Due v t → Due w t)
@@ -174,98 +173,50 @@ module _ (Moves : State → State → Type 0) (Due : State → Task → Type 0) 
   stays v w height root frames task m chain = Chain-stays Due Waits Depth v w height root frames task
       (λ t. due_stays v w t m) (λ t f u. waits_stay v w t f u m) (λ t. depth_stays v w t m) chain
 
-  -- the root was started
-  pub Run-start : (v w : State) (root : Task) (next : Next) → Moves v w → Due v root → NextFor Due Answers Waits Depth w root next
-      → Running Due Answers Waits Depth w (Depth v root) root [] next
-  Run-start v w root next m due step = let same = depth_stays v w root m due in
-      record { task = root; chain = record { same = refl; due = due_stays v w root m due; depth = omega arith }; step = step }
+  -- the task was answered
+  pub Run-answered : (v w : State) (height : ℕ) (root : Task) (frames : List Frame) (task : Task) (answer : Edge)
+      → Chain Due Waits Depth v height root frames task → Moves v w → Answers w task answer
+      → Running Due Answers Waits Depth w height root frames (Answer answer)
+  Run-answered v w height root frames task answer chain m is = (task, (stays v w height root frames task m chain, is))
 
-  pub Run-low : (w : State) (height : ℕ) (root : Task) (frames : List Frame) (next : Next)
-      → Running Due Answers Waits Depth w height root frames next → length frames ≤ height
-  Run-low w height root frames next run = let low = Chain-low Due Waits Depth w height root frames run.task run.chain in omega arith
+  -- a frame was made for the task
+  pub Run-called : (v w : State) (height : ℕ) (root : Task) (frames : List Frame) (task : Task) (frame : Frame) (child : Task)
+      → Chain Due Waits Depth v height root frames task → Moves v w → Asks Due Waits Depth w task frame child
+      → Running Due Answers Waits Depth w height root (frames ++ frame ∷ []) (Ask child)
+  Run-called v w height root frames task frame child chain m asks =
+      Chain-push Due Waits Depth w height root frames task frame child (stays v w height root frames task m chain) asks
 
-  -- a frame fits, and its task is due
-  pub Run-room : (w : State) (height : ℕ) (root : Task) (frames : List Frame) (frame : Frame) (child : Task)
-      → Running Due Answers Waits Depth w height root frames (Call frame child) → length frames + 1 ≤ height
-  Run-room w height root frames frame child run =
-      let low = Chain-low Due Waits Depth w height root frames run.task run.chain in let less = run.step.less in omega arith
-
-  pub Run-due : (w : State) (height : ℕ) (root : Task) (frames : List Frame) (frame : Frame) (child : Task)
-      → Running Due Answers Waits Depth w height root frames (Call frame child) → Due w child
-  Run-due w height root frames frame child run = run.step.due
-
-  -- a frame was pushed, and its task started
-  pub Run-called : (v w : State) (height : ℕ) (root : Task) (frames : List Frame) (frame : Frame) (child : Task) (next : Next)
-      → Running Due Answers Waits Depth v height root frames (Call frame child) → Moves v w → NextFor Due Answers Waits Depth w child next
-      → Running Due Answers Waits Depth w height root (frames ++ frame ∷ []) next
-  Run-called v w height root frames frame child next run m step =
-      record {
-        task = child;
-        chain = stays v w height root (frames ++ frame ∷ []) child m (Chain-push Due Waits Depth v height root frames run.task frame child run.chain run.step);
-        step = step;
-      }
-
-  -- then the steps are fewer
-  pub Run-smaller : (w : State) (height : ℕ) (root : Task) (frames : List Frame) (frame : Frame) (child : Task) (next : Next)
-      → Running Due Answers Waits Depth w height root (frames ++ frame ∷ []) next
-      → steps_of_run height (frames ++ frame ∷ []) next < steps_of_run height frames (Call frame child)
-  Run-smaller w height root frames frame child next run =
-      steps-called height frames frame child next (λ f u e.
-      let again : Running Due Answers Waits Depth w height root (frames ++ frame ∷ []) (Call f u) = subst (λ n. Running Due Answers Waits Depth w height root (frames ++ frame ∷ []) n) e run in
-      let room = Run-room w height root (frames ++ frame ∷ []) f u again in
-      omega (arith, length-append frames (frame ∷ [])))
+  -- there is room for it
+  pub Run-room : (v w : State) (height : ℕ) (root : Task) (frames : List Frame) (task : Task) (frame : Frame) (child : Task)
+      → Chain Due Waits Depth v height root frames task → Moves v w → Asks Due Waits Depth w task frame child → length frames + 1 ≤ height
+  Run-room v w height root frames task frame child chain m asks =
+      let low = Chain-low Due Waits Depth w height root frames task (stays v w height root frames task m chain) in
+      let less = asks.less in omega arith
 
   -- the task that the top frame was made for, and the one that it waited for
   pub Run-pop : (w : State) (height : ℕ) (root : Task) (frames : List Frame) (frame : Frame) (answer : Edge)
-      → Running Due Answers Waits Depth w height root (frames ++ frame ∷ []) (Done answer)
+      → Running Due Answers Waits Depth w height root (frames ++ frame ∷ []) (Answer answer)
       → (p : Task × Task) × (Chain Due Waits Depth w height root frames p.0 × Answered Due Answers Waits w frame answer p.0 p.1)
-  Run-pop w height root frames frame answer run =
-      let below = Chain-pop Due Waits Depth w height root frames frame run.task run.chain in (
-        (below.0, run.task),
+  Run-pop w height root frames frame answer (child, (chain, is)) =
+      let below = Chain-pop Due Waits Depth w height root frames frame child chain in (
+        (below.0, child),
         (
           below.1.0,
-          record { due = Chain-due Due Waits Depth w height root frames below.0 below.1.0; waits = below.1.1; answers = run.step },
+          record { due = Chain-due Due Waits Depth w height root frames below.0 below.1.0; waits = below.1.1; answers = is },
         ),
       )
 
-  -- the frame was popped and resumed
-  pub Run-resumed : (v w : State) (height : ℕ) (root : Task) (frames : List Frame) (task : Task) (next : Next)
-      → Chain Due Waits Depth v height root frames task → Moves v w → NextFor Due Answers Waits Depth w task next
-      → Running Due Answers Waits Depth w height root frames next
-  Run-resumed v w height root frames task next chain m step =
-      record { task = task; chain = stays v w height root frames task m chain; step = step }
-
   -- what overflows on the way
-  pub Run-resumed-overflows : (Overflows : State → Task → Type 0)
+  pub Run-overflows : (Overflows : State → Task → Type 0)
       → ((w : State) (t : Task) (f : Frame) (u : Task) → Due w t → Waits w t f u → Overflows w u → Overflows w t)
       → (v w : State) (height : ℕ) (root : Task) (frames : List Frame) (task : Task)
       → Chain Due Waits Depth v height root frames task → Moves v w → Overflows w task → Overflows w root
-  Run-resumed-overflows Overflows rises v w height root frames task chain m over =
+  Run-overflows Overflows rises v w height root frames task chain m over =
       Chain-overflows Due Waits Depth Overflows w height root frames task (rises w) (stays v w height root frames task m chain) over
-
-  pub Run-called-overflows : (Overflows : State → Task → Type 0)
-      → ((w : State) (t : Task) (f : Frame) (u : Task) → Due w t → Waits w t f u → Overflows w u → Overflows w t)
-      → (v w : State) (height : ℕ) (root : Task) (frames : List Frame) (frame : Frame) (child : Task)
-      → Running Due Answers Waits Depth v height root frames (Call frame child) → Moves v w → Overflows w child → Overflows w root
-  Run-called-overflows Overflows rises v w height root frames frame child run m over =
-      Run-resumed-overflows Overflows rises v w height root (frames ++ frame ∷ []) child
-      (Chain-push Due Waits Depth v height root frames run.task frame child run.chain run.step) m over
-
-  -- the answer of the root
-  pub Run-end : (w : State) (height : ℕ) (root : Task) (answer : Edge)
-      → Running Due Answers Waits Depth w height root [] (Done answer) → Answers w root answer
-  Run-end w height root answer run =
-      subst (λ t. Answers w t answer) (sym (Chain-end Due Waits Depth w height root run.task run.chain)) run.step
 
 -- the old frames are below the new ones
 pub base_le : {A : Type 0} (n : ℕ) (xs old : List A) → take n xs ≡ old → length old ≡ n → n ≤ length xs
 base_le n xs old e l = let k = length-take n xs in let m = ap length e in omega arith
-
-pub drop_none : {A : Type 0} (n : ℕ) (xs : List A) → length xs ≡ n → drop n xs ≡ []
-drop_none n xs e = drop_all n xs (omega arith)
-
-pub take_whole : {A : Type 0} (n : ℕ) (xs : List A) → length xs ≡ n → take n xs ≡ xs
-take_whole n xs e = subst (λ k. take k xs ≡ xs) e (take-length xs)
 
 pub take_push : {A : Type 0} (n : ℕ) (xs ys old : List A) → take n xs ≡ old → length old ≡ n → take n (xs ++ ys) ≡ old
 take_push n xs ys old e l = take-append-le n xs ys (base_le n xs old e l) ∙ e

@@ -10,6 +10,8 @@ use Rattle.node_store.specs.declared.operator.Next.{Next}
 use Rattle.node_store.specs.declared.operator.Next.TheVariants.{Done, Call}
 use Rattle.node_store.specs.declared.operator.Turn.{Turn}
 use Rattle.node_store.specs.declared.operator.Turn.TheVariants as turn
+use Rattle.node_store.specs.declared.evaluate.Step.{Step}
+use Rattle.node_store.specs.declared.evaluate.Step.TheVariants.{Ask, Answer}
 
 -- how many further tasks a frame may ask for
 abbrev pub left : Wait → ℕ
@@ -84,17 +86,15 @@ abbrev pub steps_of_frames : ℕ → List Frame → ℕ
 steps_of_frames height [] = 0
 steps_of_frames height (frame ∷ frames) = steps_left height frame + steps_of_frames (height - 1) frames
 
-abbrev pub steps_of_next : ℕ → Next → ℕ
-steps_of_next height (Done e) = 0
-steps_of_next height (Call frame child) = steps_left height frame + steps_of (height - 1)
+abbrev pub steps_of_step : ℕ → Step → ℕ
+steps_of_step height (Ask task) = steps_of height
+steps_of_step height (Answer e) = 0
 
--- the frames of a run, and its next step
-pub record Running (Due : State → Task → Type 0) (Answers : State → Task → Edge → Type 0) (Waits : State → Task → Frame → Task → Type 0) (Depth : State → Task → ℕ)
-    (w : State) (height : ℕ) (root : Task) (frames : List Frame) (next : Next) : Type 0 where
-  pub task : Task
-  pub chain : Chain Due Waits Depth w height root frames task
-  pub step : NextFor Due Answers Waits Depth w task next
+-- the frames of a run lead to the task that is asked, or to one with that answer
+abbrev pub Running : (State → Task → Type 0) → (State → Task → Edge → Type 0) → (State → Task → Frame → Task → Type 0) → (State → Task → ℕ) → State → ℕ → Task → List Frame → Step → Type 0
+Running due answers waits depth w height root frames (Ask task) = Chain due waits depth w height root frames task
+Running due answers waits depth w height root frames (Answer e) = (task : Task) × (Chain due waits depth w height root frames task × answers w task e)
 
 -- the steps that a run may still take
-abbrev pub steps_of_run : ℕ → List Frame → Next → ℕ
-steps_of_run height frames next = steps_of_frames height frames + steps_of_next (height - length frames) next
+abbrev pub steps_of_run : ℕ → List Frame → Step → ℕ
+steps_of_run height frames step = steps_of_frames height frames + steps_of_step (height - length frames) step

@@ -9,6 +9,13 @@ use crate::grow::{Edge, Grow};
 use crate::operator::{Halt, Next, Operator, Task, Turn};
 use crate::stack::Stack;
 
+/// A task that is to be computed, or the answer of the one that was.
+#[derive(Clone, Copy, PartialEq, Eq, Drop)]
+enum Step {
+    Ask(Task),
+    Answer(Edge),
+}
+
 /// The answer of a task, computed with a stack of its own in place of calls of itself. The frames of the stack stay as they are.
 pub fn evaluate<G: Grow, O: Operator<G>>(
     store: &mut G,
@@ -33,7 +40,8 @@ pub fn evaluate<G: Grow, O: Operator<G>>(
     outcome
 }
 
-/// The same, which leaves frames above the old ones where it stops early.
+/// The same, which leaves frames above the old ones where it stops early. `start` is called at one place, so that a compiler can
+/// build the frame where it stands on the stack.
 fn run<G: Grow, O: Operator<G>>(
     store: &mut G,
     stack: &mut Stack,
@@ -52,14 +60,17 @@ fn run<G: Grow, O: Operator<G>>(
     ensures room { room_of stack.new ≡ room_of stack.old }
 {
     let base = stack.len();
-    let mut next = op.start(store, stack, task)?;
+    let mut step = Step::Ask(task);
     'steps: loop {
-        match next {
-            Next::Call(frame, child) => {
-                stack.push(frame);
-                next = op.start(store, stack, child)?;
-            }
-            Next::Done(edge) => {
+        match step {
+            Step::Ask(task) => match op.start(store, stack, task)? {
+                Next::Done(edge) => step = Step::Answer(edge),
+                Next::Call(frame, child) => {
+                    stack.push(frame);
+                    step = Step::Ask(child);
+                }
+            },
+            Step::Answer(edge) => {
                 if stack.len() == base {
                     return Ok(edge);
                 }
@@ -69,11 +80,11 @@ fn run<G: Grow, O: Operator<G>>(
                 match op.resume(store, stack, frame, edge)? {
                     Turn::Done(edge) => {
                         stack.drop_top();
-                        next = Next::Done(edge);
+                        step = Step::Answer(edge);
                     }
                     Turn::Call(wait, child) => {
                         stack.wait_for(wait);
-                        next = op.start(store, stack, child)?;
+                        step = Step::Ask(child);
                     }
                 }
             }

@@ -13,9 +13,9 @@ invariant-steps g l =
       old : take l.base l.stack.frames ≡ l.fn.stack.frames;
       base : l.base ≡ length l.fn.stack.frames;
       room : room_of l.stack ≡ room_of l.fn.stack;
-      runs : Running (o.due l.op) (o.answers l.op) (o.waits l.op) (o.depth l.op) (state_of (g.G.Grow.view l.store) l.stack) height l.fn.task (drop l.base l.stack.frames) l.next;
+      runs : Running (o.due l.op) (o.answers l.op) (o.waits l.op) (o.depth l.op) (state_of (g.G.Grow.view l.store) l.stack) height l.fn.task (drop l.base l.stack.frames) l.step;
     }
 
 abbrev pub decreases-steps : goal.decreases-steps
 decreases-steps g l =
-    steps_of_run (g.O.Operator.depth l.op (state_of (g.G.Grow.view l.fn.store) l.fn.stack) l.fn.task) (drop l.base l.stack.frames) l.next
+    steps_of_run (g.O.Operator.depth l.op (state_of (g.G.Grow.view l.fn.store) l.fn.stack) l.fn.task) (drop l.base l.stack.frames) l.step
