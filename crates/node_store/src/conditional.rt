@@ -131,6 +131,7 @@ impl<G: Grow, O: IfThenElse> Apply<G> for ThreeOperands<O> {
 }
 
 /// The parts of a task in normal form.
+#[inline(always)]
 fn branch<G: Grow>(store: &mut G, task: Task, flip: bool) -> Branch
     requires { (k : Kind) × CanSplit k (G.view store.old) task }
     ensures kept { Kept (G.view store.old) (G.view store.new) }

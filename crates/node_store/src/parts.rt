@@ -1,4 +1,5 @@
-//! The parts of functions at the upper one of their top variables. Each operand is opened once.
+//! The parts of functions at the upper one of their top variables. Each operand is opened once. The calls of one step are marked for
+//! inlining, so that what was opened need not go through memory.
 
 ghost use Rattle.std.specs.Prelude.{◌≡◌};
 ghost use Rattle.edge_bits.specs.declared.edges.Kind.{Kind};
@@ -43,6 +44,7 @@ pub enum Split {
 }
 
 /// Opens an edge.
+#[inline(always)]
 pub fn look<G: Grow>(store: &mut G, edge: Edge) -> Operand
     requires { (k : Kind) × Is k (G.view store.old) edge }
     ensures kept { Kept (G.view store.old) (G.view store.new) }
@@ -127,6 +129,7 @@ fn leaves(first: Operand, second: Operand) -> Split
 }
 
 /// The parts of two functions at the upper one of their top variables, or two leaves.
+#[inline(always)]
 pub fn split_two<G: Grow>(store: &mut G, f: Edge, g: Edge) -> Split
     requires { (k : Kind) × AreTwo k (G.view store.old) f g }
     ensures kept { Kept (G.view store.old) (G.view store.new) }
@@ -147,6 +150,7 @@ pub fn split_two<G: Grow>(store: &mut G, f: Edge, g: Edge) -> Split
 }
 
 /// The parts of a condition, which is no constant, and of two functions at the upper one of their top variables.
+#[inline(always)]
 pub fn split_three<G: Grow>(store: &mut G, task: Task) -> Halves
     requires { (k : Kind) × CanSplit k (G.view store.old) task }
     ensures kept { Kept (G.view store.old) (G.view store.new) }
