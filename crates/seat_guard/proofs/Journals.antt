@@ -1,5 +1,5 @@
 -- Each change of a seat keeps the part of the journal.
-use Rattle.std.proofs.Common.{◌≡◌, ◌≢◌, ℕ, suc, ◌+◌, ◌^◌, ◌<◌, ◌≤◌, Bool, true, false, List, [], ◌∷◌, ◌++◌, length, set, refl, ap, sym, subst, ◌∙◌, ⊎_elim, arith, length-append, length-set, true≢false}
+use Rattle.std.proofs.Common.{◌≡◌, ◌≢◌, ℕ, suc, ◌+◌, ◌^◌, ◌<◌, ◌≤◌, Bool, true, false, List, [], ◌∷◌, ◌++◌, length, set, refl, ap, sym, subst, ◌∙◌, ⊎_elim, arith, ◌⊎◌, length-append, length-set, true≢false}
 use Rattle.std.specs.Prelude as std
 use mathlib.Core.Logic.{dite}
 use mathlib.Core.Option.{Option, none, some, some-injective, some-ne-none}
@@ -7,23 +7,28 @@ use native.Mathlib.Decide.{ℕ_discrete, dec_lt}
 use lib.ListN.{get_elem?}
 use Rattle.atomic_table.proofs.Lists.{at_snoc, set_else}
 use Rattle.function_laws.specs.declared.history.Name.{Name}
+use Rattle.function_laws.specs.declared.history.Function.{Function}
 use Rattle.function_laws.specs.declared.history.Entry.{Entry}
 use Rattle.function_laws.specs.Tables.{Table, Sizes, opening}
 use Rattle.function_laws.specs.Steps.{IsAllowed, after}
-use Rattle.function_laws.specs.Histories.{IsLegal, table_after}
+use Rattle.function_laws.specs.Histories.{IsLegal, EachFrom, table_after}
 use Rattle.function_laws.proofs.HistoryLemmas.{table_after-push, IsLegal-push}
+use Rattle.function_laws.proofs.OrderLemmas.{EachFrom-append}
 use Rattle.seat_guard.specs.declared.view.Held.{Held}
+use Rattle.seat_guard.specs.declared.view.Row.{Row}
 use Rattle.seat_guard.specs.declared.view.Telling.{Telling}
 use Rattle.seat_guard.specs.declared.view.Gone.{Gone}
 use Rattle.seat_guard.specs.declared.view.Draws.{Draws}
 use Rattle.seat_guard.specs.Views.{told_of, MayTell, stands_for, cell_in, sizes_for, blank, session_of, holding, letting_go, gone_of, with_gone, one_more}
-use Rattle.function_laws.specs.SessionEntries.{entries_of, entry}
+use Rattle.function_laws.specs.SessionEntries.{Each, entries_of, entry}
 use Rattle.function_laws.specs.Sizes.{Orders}
-use Rattle.seat_guard.specs.Journal.{LiveFits, Fits, Journal}
+use Rattle.seat_guard.specs.Journal.{IsLeftRow, LiveFits, Fits, Journal}
+use Rattle.seat_guard.specs.Sifted.{Carries, IsOfOther, IsOfRow, IsOfCell, IsKnown, carried_by}
 use Rattle.seat_guard.specs.Rule.{AllBack, Whole}
 use Rattle.function_laws.proofs.SessionEntryLemmas.{put_at, put_here, put_else, entries_same, entries_other}
 use Rattle.function_laws.proofs.ApartLemmas.{after_apart}
-use Rattle.seat_guard.proofs.RowCounts.{at_end, each_set, off, not_true}
+use Rattle.seat_guard.proofs.RowCounts.{at_end, each_append, each_map, each_set, off, not_true}
+use Rattle.seat_guard.proofs.NameSteps.{given-after, known-left, stand-after}
 
 module _ (place turn : ℕ) (ds : List Draws) (start : Sizes) (log : List Entry) (table : Table) (r : Journal place turn ds start log table) where
   abbrev pub mine : (id : ℕ) (d : Draws) → get_elem? ds id ≡ some d → d.live ≡ true → LiveFits turn log table r.seat id d
@@ -44,9 +49,9 @@ module _ (place turn : ℕ) (ds : List Draws) (start : Sizes) (log : List Entry)
   held_turn i d at h = (mine i d at ((r.each i d at).holder h)).held h
 
   -- the free turn is taken
-  pub takes_it : (id : ℕ) (d : Draws) (cells : List (std.Option Held)) (others : List Held) (now : Orders) → get_elem? ds id ≡ some d → d.live ≡ true → turn ≡ 0 → table.cells ≡ cell_in cells → length cells ≡ 256
+  pub takes_it : (id : ℕ) (d : Draws) (cells : List (std.Option Held)) (others : List Held) (now : Orders) → get_elem? ds id ≡ some d → d.live ≡ true → turn ≡ 0 → table.cells ≡ cell_in cells → length cells ≡ 256 → Each (IsOfOther table d.session) others
       → Journal place (suc d.session) (set ds id (holding d cells others now)) start log table
-  takes_it id d cells others now at live free board len =
+  takes_it id d cells others now at live free board len apart_from =
       let me = mine id d at live in record {
         seat = r.seat;
         legal = r.legal;
@@ -55,9 +60,10 @@ module _ (place turn : ℕ) (ds : List Draws) (start : Sizes) (log : List Entry)
         drawn = r.drawn;
         bounded = r.bounded;
         beyond = r.beyond;
+        carried = r.carried;
         each = each_set (Fits (suc d.session) start log table r.seat) ds id (holding d cells others now)
             (λ j e apart here. let f = r.each j e here in record {
-              live = λ l. let g = f.live l in record { seated = g.seated; below = g.below; mine = g.mine; agrees = g.agrees; held = λ h. absurd (let z = g.held h in omega (arith, z, free)) };
+              live = λ l. let g = f.live l in record { seated = g.seated; below = g.below; mine = g.mine; agrees = g.agrees; held = λ h. absurd (let z = g.held h in omega (arith, z, free)); given = g.given; stand = g.stand; others = g.others };
               closing = f.closing;
               holder = f.holder;
               rowless = f.rowless;
@@ -68,6 +74,9 @@ module _ (place turn : ℕ) (ds : List Draws) (start : Sizes) (log : List Entry)
                 mine = me.mine;
                 agrees = record { sizes_are = me.agrees.sizes_are; live = me.agrees.live; fresh = me.agrees.fresh; cells = λ h. (board, len) };
                 held = λ h. refl;
+                given = me.given;
+                stand = me.stand;
+                others = λ h. apart_from;
               };
               closing = λ c. absurd (true≢false (sym live ∙ ((r.each id d at).closing c).0));
               holder = λ h. live;
@@ -86,6 +95,7 @@ module _ (place turn : ℕ) (ds : List Draws) (start : Sizes) (log : List Entry)
         drawn = r.drawn;
         bounded = r.bounded;
         beyond = r.beyond;
+        carried = r.carried;
         each = each_set (Fits 0 start log table r.seat) ds id (letting_go d)
             (λ j e apart here. let f = r.each j e here in record {
               live = λ l. let g = f.live l in record {
@@ -94,6 +104,9 @@ module _ (place turn : ℕ) (ds : List Draws) (start : Sizes) (log : List Entry)
                 mine = g.mine;
                 agrees = g.agrees;
                 held = λ h. absurd (apart (one_holder j id e d here at h holds));
+                given = g.given;
+                stand = g.stand;
+                others = g.others;
               };
               closing = f.closing;
               holder = f.holder;
@@ -105,6 +118,9 @@ module _ (place turn : ℕ) (ds : List Draws) (start : Sizes) (log : List Entry)
                 mine = me.mine;
                 agrees = record { sizes_are = me.agrees.sizes_are; live = me.agrees.live; fresh = me.agrees.fresh; cells = λ h. absurd (off h) };
                 held = λ h. absurd (off h);
+                given = me.given;
+                stand = me.stand;
+                others = λ h. absurd (off h);
               };
               closing = λ c. absurd (true≢false (sym live ∙ ((r.each id d at).closing c).0));
               holder = λ h. absurd (off h);
@@ -129,6 +145,9 @@ module _ (place turn : ℕ) (ds : List Draws) (start : Sizes) (log : List Entry)
       let other : (p : ℕ) → p ≢ d.session → entries_of p longer ≡ entries_of p log = λ p apart. entries_other log p e (λ is. apart (sym is)) in
       let aside : (p : ℕ) → p ≢ d.session → (u.live p ≡ table.live p) × (u.given p ≡ table.given p) = λ p apart. after_apart table d.session p x.call x.reply may.plain apart in
       let sizes : u.sizes ≡ table.sizes = says.1.sizes_are ∙ sym me.agrees.sizes_are in
+      let known : (f : Function) → IsKnown d f → IsOfRow table f ⊎ IsOfCell table f = known-left d table me.stand (me.others holds) (me.agrees.cells holds).0 in
+      let carries : Carries (table_after (opening start) log) e = subst (λ (t : Table). Carries t e) (sym r.leaves) (each_map (IsKnown d) (λ (f : Function). IsOfRow table f ⊎ IsOfCell table f) known (carried_by x.call) may.carries) in
+      let other_rows : (held : Held) → IsOfOther table d.session held → IsOfOther u d.session held = λ held o. (o.0, o.1, o.2, ap (λ (h : Name → std.Option Function). h o.1) (aside o.0 o.2).0 ∙ o.3) in
       record {
         seat = r.seat;
         legal = IsLegal-push start log e r.legal refl (subst (λ (t : Table). IsAllowed t d.session x.call x.reply) (sym r.leaves) says.0);
@@ -139,6 +158,7 @@ module _ (place turn : ℕ) (ds : List Draws) (start : Sizes) (log : List Entry)
             (λ is. let l : length (entries_of p longer) ≡ length d.entries + 1 = ap (λ (q : ℕ). length (entries_of q longer)) is ∙ (ap length same ∙ length-append d.entries (e ∷ [])) in omega (arith, l, room))
             (λ apart. subst (λ (l : List Entry). length l ≤ 2 ^ 48) (sym (other p apart)) (r.bounded p));
         beyond = λ p le. other p (λ is. let b = me.below in omega (arith, b, is, le)) ∙ r.beyond p le;
+        carried = EachFrom-append Carries (opening start) log (e ∷ []) r.carried (carries, tt);
         each = each_set (Fits turn start longer u r.seat) ds id told
             (λ j f apart here. let fits = r.each j f here in record {
               live = λ l. let g = fits.live l in let away : f.session ≢ d.session = λ is. apart (one_seat j id f d g me is) in record {
@@ -152,6 +172,9 @@ module _ (place turn : ℕ) (ds : List Draws) (start : Sizes) (log : List Entry)
                   cells = λ h. absurd (apart (one_holder j id f d here at h holds));
                 };
                 held = g.held;
+                given = λ name h is. let a = aside f.session away in ap (λ (k : Name → Bool). k name) a.1 ∙ g.given name h (sym (ap (λ (k : Name → std.Option Function). k name) a.0) ∙ is);
+                stand = each_map (λ (row : Row). table.live f.session row.name ≡ std.Some row.held.function) (λ (row : Row). u.live f.session row.name ≡ std.Some row.held.function) (λ row is. ap (λ (k : Name → std.Option Function). k row.name) (aside f.session away).0 ∙ is) f.rows g.stand;
+                others = λ h. absurd (apart (one_holder j id f d here at h holds));
               };
               closing = λ c. let g = fits.closing c in let k = g.2 in (
                 g.0,
@@ -166,6 +189,7 @@ module _ (place turn : ℕ) (ds : List Draws) (start : Sizes) (log : List Entry)
                     no_name = (aside p away).1 ∙ a.no_name;
                   };
                   back = λ i y there. let a = k.back i y there in let away : y.session ≢ d.session = λ is. some-ne-none id (sym me.seated ∙ (ap r.seat (sym is) ∙ a.1)) in (a.0, a.1, other y.session away ∙ a.2, (aside y.session away).0 ∙ a.3);
+                  left = each_map (IsLeftRow table r.seat f.given) (IsLeftRow u r.seat f.given) (λ row a. let away : a.0 ≢ d.session = λ is. some-ne-none id (sym me.seated ∙ (ap r.seat (sym is) ∙ a.2)) in (a.0, a.1, a.2, ap (λ (k : Name → std.Option Function). k row.name) (aside a.0 away).0 ∙ a.3)) f.rows k.left;
                 },
               );
               holder = fits.holder;
@@ -177,6 +201,9 @@ module _ (place turn : ℕ) (ds : List Draws) (start : Sizes) (log : List Entry)
                 mine = same;
                 agrees = record { sizes_are = says.1.sizes_are; live = says.1.live; fresh = says.1.fresh; cells = says.1.cells };
                 held = me.held;
+                given = given-after d x table may.plain says.0 me.given;
+                stand = stand-after d x table may.plain says.0 says.1 me.given me.stand;
+                others = λ h. each_map (IsOfOther table d.session) (IsOfOther u d.session) other_rows d.others (me.others holds);
               };
               closing = λ c. absurd (true≢false (sym live ∙ ((r.each id d at).closing c).0));
               holder = λ h. live;
@@ -197,7 +224,7 @@ module _ (place turn : ℕ) (ds : List Draws) (start : Sizes) (log : List Entry)
       let old : (j : ℕ) (f : Draws) → get_elem? (set ds id (one_more d)) j ≡ some f → Fits turn start log table seat j f =
       each_set (Fits turn start log table seat) ds id (one_more d)
       (λ j f apart here. let g = r.each j f here in record {
-        live = λ l. let h = g.live l in record { seated = put_else r.seat d.given f.session (some n) (aside f.session j h.seated) ∙ h.seated; below = h.below; mine = h.mine; agrees = h.agrees; held = h.held };
+        live = λ l. let h = g.live l in record { seated = put_else r.seat d.given f.session (some n) (aside f.session j h.seated) ∙ h.seated; below = h.below; mine = h.mine; agrees = h.agrees; held = h.held; given = h.given; stand = h.stand; others = h.others };
         closing = λ c. absurd (apart ((g.closing c).1 ∙ sym fits.1));
         holder = g.holder;
         rowless = g.rowless;
@@ -216,6 +243,7 @@ module _ (place turn : ℕ) (ds : List Draws) (start : Sizes) (log : List Entry)
               no_name = a.no_name;
             };
             back = λ i y there. let a = k.back i y there in let below = a.0 in (omega (arith, below), put_else r.seat d.given y.session (some n) (λ e. omega (arith, e, below)) ∙ a.1, a.2, a.3);
+            left = each_map (IsLeftRow table r.seat d.given) (IsLeftRow table seat (suc d.given)) (λ row a. let below = a.1 in (a.0, omega (arith, below), put_else r.seat d.given a.0 (some n) (λ e. omega (arith, e, below)) ∙ a.2, a.3)) d.rows k.left;
           },
         );
         holder = λ h. absurd (true≢false (sym ((r.each id d at).holder h) ∙ fits.0));
@@ -229,6 +257,7 @@ module _ (place turn : ℕ) (ds : List Draws) (start : Sizes) (log : List Entry)
         drawn = r.drawn;
         bounded = r.bounded;
         beyond = r.beyond;
+        carried = r.carried;
         each = λ j f here. ⊎_elim (old j f) (λ (t : (j ≡ length (set ds id (one_more d))) × (session_of d ≡ f)).
             subst (λ (y : ℕ × Draws). Fits turn start log table seat y.0 y.1) (λ i. (sym (t.0 ∙ length-set ds id (one_more d)) i, t.1 i)) (record {
               live = λ l. record {
@@ -237,6 +266,9 @@ module _ (place turn : ℕ) (ds : List Draws) (start : Sizes) (log : List Entry)
                 mine = fresh.no_entry;
                 agrees = record { sizes_are = r.fixed ∙ k.start_is; live = fresh.no_row; fresh = λ name le. ap (λ (h : Name → Bool). h name) fresh.no_name; cells = λ h. absurd (off h) };
                 held = λ h. absurd (off h);
+                given = λ name f is. absurd (let a : std.None ≡ std.Some f = sym (ap (λ (h : Name → std.Option Function). h name) fresh.no_row) ∙ is in cc);
+                stand = tt;
+                others = λ h. absurd (off h);
               };
               closing = λ c. absurd (off c);
               holder = λ h. absurd (off h);
@@ -256,7 +288,7 @@ module _ (place turn : ℕ) (ds : List Draws) (start : Sizes) (log : List Entry)
       let given : e.session < d.given = dite (dec_lt e.session d.given) (λ l. l) (λ le. absurd (some-ne-none other (sym them.seated ∙ (k.later e.session (omega (arith, le))).no_seat))) in
       let none_kept : (p : ℕ) → r.seat p ≡ none → seat p ≡ none = λ p a. dite (ℕ_discrete p e.session) (λ same. ap seat same ∙ put_here r.seat e.session none) (λ no-same. put_else r.seat e.session p none no-same ∙ a) in
       let still : (j : ℕ) (f : Draws) → j ≢ other → (f.live ≡ true → LiveFits turn log table r.seat j f) → f.live ≡ true → LiveFits turn log table seat j f =
-      λ j f off_other g l. let h = g l in record { seated = put_else r.seat e.session f.session none (λ same. off_other (one_seat j other f e h them same)) ∙ h.seated; below = h.below; mine = h.mine; agrees = h.agrees; held = h.held } in
+      λ j f off_other g l. let h = g l in record { seated = put_else r.seat e.session f.session none (λ same. off_other (one_seat j other f e h them same)) ∙ h.seated; below = h.below; mine = h.mine; agrees = h.agrees; held = h.held; given = h.given; stand = h.stand; others = h.others } in
       record {
         seat = seat;
         legal = r.legal;
@@ -265,6 +297,7 @@ module _ (place turn : ℕ) (ds : List Draws) (start : Sizes) (log : List Entry)
         drawn = r.drawn;
         bounded = r.bounded;
         beyond = r.beyond;
+        carried = r.carried;
         each = each_set (Fits turn start log table seat) (set ds id (with_gone d e)) other blank
             (λ j f off_other here. each_set (λ i y. i ≢ other → Fits turn start log table seat i y) ds id (with_gone d e)
             (λ i y off_id here' off_other'. let g = r.each i y here' in record { live = still i y off_other' g.live; closing = λ c. absurd (off_id ((g.closing c).1 ∙ sym fits.1)); holder = g.holder; rowless = g.rowless })
@@ -281,6 +314,9 @@ module _ (place turn : ℕ) (ds : List Draws) (start : Sizes) (log : List Entry)
                       (λ (was : get_elem? d.gone i ≡ some y). let a = k.back i y was in (a.0, none_kept y.session a.1, a.2, a.3))
                       (λ (new : gone_of e ≡ y). subst (λ (z : Gone). (z.session < d.given) × (seat z.session ≡ none) × (entries_of z.session log ≡ z.entries) × (table.live z.session ≡ stands_for z.rows)) new (given, put_here r.seat e.session none, them.mine, them.agrees.live))
                       (at_snoc d.gone (gone_of e) y i lies);
+                  left = each_append (IsLeftRow table seat d.given) d.rows e.rows
+                      (each_map (IsLeftRow table r.seat d.given) (IsLeftRow table seat d.given) (λ row a. (a.0, a.1, none_kept a.0 a.2, a.3)) d.rows k.left)
+                      (each_map (λ (row : Row). table.live e.session row.name ≡ std.Some row.held.function) (IsLeftRow table seat d.given) (λ row is. (e.session, given, put_here r.seat e.session none, is)) e.rows them.stand);
                 },
               );
               holder = (r.each id d at).holder;
@@ -300,8 +336,9 @@ module _ (place turn : ℕ) (ds : List Draws) (start : Sizes) (log : List Entry)
     drawn = r.drawn;
     bounded = r.bounded;
     beyond = r.beyond;
+    carried = r.carried;
     each = λ j e here. let f = r.each j e here in record {
-      live = λ l. let g = f.live l in record { seated = g.seated; below = g.below; mine = g.mine; agrees = g.agrees; held = λ h. absurd (let z = g.held h in omega (arith, z, free)) };
+      live = λ l. let g = f.live l in record { seated = g.seated; below = g.below; mine = g.mine; agrees = g.agrees; held = λ h. absurd (let z = g.held h in omega (arith, z, free)); given = g.given; stand = g.stand; others = g.others };
       closing = f.closing;
       holder = f.holder;
       rowless = f.rowless;
@@ -316,6 +353,7 @@ module _ (place turn : ℕ) (ds : List Draws) (start : Sizes) (log : List Entry)
         log = log;
         legal = subst (λ (z : Sizes). IsLegal z log) k.start_is r.legal;
         count = sym r.drawn;
+        carried = subst (λ (z : Sizes). EachFrom Carries (opening z) log) k.start_is r.carried;
         each = λ i g there. (k.back i g there).2;
         rows = λ i g there. ap (λ (z : Sizes). (table_after (opening z) log).live g.session) start_is ∙ ap (λ (t : Table). t.live g.session) r.leaves ∙ (k.back i g there).3;
         beyond = λ p le. (k.later p le).no_entry;
@@ -332,3 +370,19 @@ module _ (place turn : ℕ) (ds : List Draws) (start : Sizes) (log : List Entry)
       let dead : e.live ≡ false = not_true e.live (λ l. some-ne-none j (sym (mine j e here l).seated ∙ no_seat e.session)) in
       let other : e.closing ≡ false = not_true e.closing (λ c. apart (((r.each j e here).closing c).1 ∙ sym fits.1)) in
       (r.each j e here).rowless dead other
+
+  -- the rows of all other seats are rows of other sessions
+  pub rows_apart : (id : ℕ) (d : Draws) → get_elem? ds id ≡ some d → d.live ≡ true → (j : ℕ) (e : Draws) → j ≢ id → get_elem? ds j ≡ some e → Each (λ (row : Row). IsOfOther table d.session row.held) e.rows
+  rows_apart id d at live j e apart here =
+      let me = mine id d at live in
+      let fits = r.each j e here in
+      of (Each (λ (row : Row). IsOfOther table d.session row.held) e.rows) e.live e.closing
+      (λ l. let g = fits.live l in let away : e.session ≢ d.session = λ is. apart (one_seat j id e d g me is) in
+      each_map (λ (row : Row). table.live e.session row.name ≡ std.Some row.held.function) (λ (row : Row). IsOfOther table d.session row.held) (λ row is. (e.session, row.name, away, is)) e.rows g.stand)
+      (λ c. each_map (IsLeftRow table r.seat e.given) (λ (row : Row). IsOfOther table d.session row.held) (λ row a. (a.0, row.name, (λ is. some-ne-none id (sym me.seated ∙ (ap r.seat (sym is) ∙ a.2))), a.3)) e.rows (fits.closing c).2.left)
+      (λ l c. subst (λ (rows : List Row). Each (λ (row : Row). IsOfOther table d.session row.held) rows) (sym (fits.rowless l c)) tt)
+    where
+      of : (P : Type 0) (live closing : Bool) → (live ≡ true → P) → (closing ≡ true → P) → (live ≡ false → closing ≡ false → P) → P
+      of P true closing a b c = a refl
+      of P false true a b c = b refl
+      of P false false a b c = c refl refl

@@ -16,6 +16,7 @@ use Rattle.function_laws.specs.declared.history.Entry.{Entry}
 use Rattle.function_laws.specs.Tables.{Table, Sizes, opening}
 use Rattle.function_laws.specs.Steps.{after}
 use Rattle.seat_guard.specs.declared.view.Held.{Held}
+use Rattle.seat_guard.specs.declared.view.Row.{Row}
 use Rattle.seat_guard.specs.declared.view.Telling.{Telling}
 use Rattle.seat_guard.specs.declared.view.Gone.{Gone}
 use Rattle.seat_guard.specs.declared.view.Draws.{Draws}
@@ -25,12 +26,15 @@ use Rattle.function_laws.specs.SessionEntries.{Each, entry}
 use Rattle.function_laws.specs.Sizes.{Orders}
 use Rattle.function_laws.specs.EntryOrders.{opening_orders, orders_after, orders_from}
 use Rattle.function_laws.proofs.OrderLemmas.{orders_from-append}
-use Rattle.seat_guard.specs.Journal.{Fits, Journal}
+use Rattle.seat_guard.specs.Sifted.{IsOfOther}
+use Rattle.seat_guard.specs.Journal.{IsLeftRow, Fits, Journal}
 use Rattle.seat_guard.specs.Turn.{IsKeptCell, KeepsRows, Serves, Turn, row_count, cells_count}
 use Rattle.seat_guard.specs.Rule.{Rule, AllBack, ended, took, gave, drew, closed}
 use Rattle.function_laws.proofs.SessionEntryLemmas.{places_low, short}
 use Rattle.seat_guard.proofs.RowCounts.{at_end, each_set, not_true, row_count-append, all_count-set, all_count-same, all_count-append, all_count-only}
-use Rattle.seat_guard.proofs.Journals.{one_holder, held_turn, takes_it, gives_it, draws_it, splits_it, joins_it, turns, whole_of, others_empty}
+use Rattle.seat_guard.proofs.Journals.{one_holder, held_turn, takes_it, gives_it, draws_it, splits_it, joins_it, turns, whole_of, others_empty, rows_apart}
+use Rattle.seat_guard.proofs.Allotments.{allotted-join, allotted-one, allotted-set, allotted-split, cells_count-most, few-after, named-most}
+use Rattle.seat_guard.specs.Allots.{Allotted}
 use Rattle.seat_guard.proofs.Turns.{finds_it, away_with, comes_home, draws_away, IsAsBefore, stays_so}
 
 abbrev St : Type 0 → Type 0
@@ -64,7 +68,8 @@ module _ {S : Type 0} (keeps_it : S → Held → Type 0) (board : S → List (st
       let now_left : Orders = orders_from (opening_orders r.start) r.log in
       let part : Turn keeps_it board counts count orders 0 home (ds_of s.views) r.table now_left = subst (λ (n : ℕ). Turn keeps_it board counts count orders n home (ds_of s.views) r.table now_left) hit r.turn in
       let sizes : r.table.sizes ≡ sizes_for d.vars d.elements = ((j.each id d here).live live).agrees.sizes_are in
-      let t = finds_it keeps_it board counts count orders home (ds_of s.views) r.table now_left id d part here sizes in
+      let t = finds_it keeps_it board counts count orders home (ds_of s.views) r.table now_left id d (IsOfOther r.table d.session) part here sizes
+      (rows_apart (get_or s.words 0 0) (get_or s.words 1 0) (ds_of s.views) r.start r.log r.table j id d here live) in
       let home_of = t.3 in
       let x : S = t.0 in
       let others : List Held = t.1 in
@@ -73,7 +78,7 @@ module _ {S : Type 0} (keeps_it : S → Held → Type 0) (board : S → List (st
       let now : get_or (set s.words 1 (suc d.session)) 1 0 ≡ suc d.session = get_or-set_same s.words 1 (suc d.session) 0 (let l = r.wide in omega (arith, l)) in
       let place : get_or (set s.words 1 (suc d.session)) 0 0 ≡ get_or s.words 0 0 = get_or-set_other s.words 1 0 (suc d.session) 0 (λ e. omega (arith, e)) in
       let views : ds_of (set s.views id w) ≡ set (ds_of s.views) id w.draws = map-set (λ (v : View). v.draws) s.views id w in
-      let journal = takes_it (get_or s.words 0 0) (get_or s.words 1 0) (ds_of s.views) r.start r.log r.table j id d (board x) others (orders x) here live hit home_of.cells_are home_of.as_many in
+      let journal = takes_it (get_or s.words 0 0) (get_or s.words 1 0) (ds_of s.views) r.start r.log r.table j id d (board x) others (orders x) here live hit home_of.cells_are home_of.as_many t.7 in
       let turned = away_with keeps_it board counts count orders (suc d.session) id (get_elem? hs 0) (ds_of s.views) r.table now_left d (board x) others (orders x) home_of.orders_are (λ e. omega (arith, e))
       (λ i f there h. let a = held_turn (get_or s.words 0 0) (get_or s.words 1 0) (ds_of s.views) r.start r.log r.table j i f there h in omega (arith, a, hit)) t.5 here t.6 in
       let rule : TheRule (record { words = set s.words 1 new; homes = hs; views = set s.views id w }) =
@@ -85,12 +90,13 @@ module _ {S : Type 0} (keeps_it : S → Held → Type 0) (board : S → List (st
         table = r.table;
         journal = subst (λ (y : ℕ × ℕ × List Draws). Journal y.0 y.1 y.2 r.start r.log r.table) (λ k. (sym place k, sym now k, sym views k)) journal;
         turn = subst (λ (y : ℕ × List Draws). Turn keeps_it board counts count orders y.0 (get_elem? hs 0) y.1 r.table now_left) (λ k. (sym now k, sym views k)) turned;
+        rows = subst Allotted (sym views) (allotted-set (ds_of s.views) id d w.draws here r.rows refl (r.rows.each id d here));
       }) in (
         w,
         takes 0 (std.Some x),
         t.2,
         subst (λ b. TheRule (stepped s 1 (either b new (get_or s.words 1 0)) id me.1 w (takes 0 (std.Some x)))) (sym (eq-eqb (get_or s.words 1 0) 0 hit)) rule,
-        ((λ _. (x, others, refl, ap (λ l. (0, std.Some x) ∷ l) free, home_of.as_many, t.4)), (λ miss. absurd (miss hit))),
+        ((λ _. (x, others, refl, ap (λ l. (0, std.Some x) ∷ l) free, home_of.as_many, t.4, λ k. let a = home_of.counted k in let b = named-most k (ds_of s.views) r.rows in let c = cells_count-most k (board x) in let l = home_of.as_many in omega (arith, a, b, c, l))), (λ miss. absurd (miss hit))),
       ))
       (λ miss. (
         me.0,
@@ -135,6 +141,7 @@ module _ {S : Type 0} (keeps_it : S → Held → Type 0) (board : S → List (st
           others_counted = λ i f there held. absurd (none_holds i f there held);
           ordered = λ i f there held. absurd (none_holds i f there held);
         };
+        rows = r.rows;
       } in (
         me.0,
         takes 0 (std.Some x),
@@ -198,6 +205,7 @@ module _ {S : Type 0} (keeps_it : S → Held → Type 0) (board : S → List (st
           journal = subst (λ (y : ℕ × ℕ × List Draws). Journal y.0 y.1 y.2 r.start r.log r.table) (λ k. (sym place k, sym now k, sym views k))
               (gives_it (get_or s.words 0 0) (get_or s.words 1 0) (ds_of s.views) r.start r.log r.table j id d here live holds);
           turn = subst (λ (y : ℕ × Option (Option (std.Option S)) × List Draws). Turn keeps_it board counts count orders y.0 y.1 y.2 r.table now_left) (λ k. (sym now k, sym back k, sym views k)) turned;
+          rows = subst Allotted (sym views) (allotted-set (ds_of s.views) id d w.draws here r.rows refl (r.rows.each id d here));
         }),
         (refl, ap (Rattle.atomic_table.specs.Table.rest) has),
       )
@@ -244,6 +252,7 @@ module _ {S : Type 0} (keeps_it : S → Held → Type 0) (board : S → List (st
           journal = subst (λ (y : ℕ × ℕ × List Draws). Journal y.0 y.1 y.2 r.start log u) (λ k. (sym place k, sym turn k, sym views k))
               (draws_it (get_or s.words 0 0) (get_or s.words 1 0) (ds_of s.views) r.start r.log r.table j id d x here holds room may);
           turn = subst (λ (y : ℕ × List Draws × Orders). Turn keeps_it board counts count orders y.0 (get_elem? s.homes 0) y.1 u y.2) (λ k. (sym turn k, sym views k, sym then_left k)) turned;
+          rows = subst Allotted (sym views) (allotted-set (ds_of s.views) id d (told_of d (length r.log) x) here r.rows refl (few-after d x.change live (r.rows.each id d here) may.room));
         },
         (refl, refl, λ k e l. subst (λ (z : List Entry × ℕ). std.All (λ (e : Entry). e.place < z.1) z.0) (λ i. (mine_now.mine i, from_zero (length r.log) (get_or s.words 0 0) is i)) (places_low r.log 0 (opening r.start) d.session j.legal) k e l),
       )
@@ -282,6 +291,7 @@ module _ {S : Type 0} (keeps_it : S → Held → Type 0) (board : S → List (st
             (λ (t : (k ≡ length (set (ds_of s.views) id (one_more d))) × (session_of d ≡ e)). subst (IsAsBefore keeps_it board counts count orders (ds_of s.views) k) t.1 (inr (inl (refl, refl))))
             (at_end (set (ds_of s.views) id (one_more d)) (session_of d) e k there))
             (λ k. let a = all_count-append k (set (ds_of s.views) id (one_more d)) (session_of d) in let b = all_count-same k (ds_of s.views) id d (one_more d) here refl in omega (arith, a, b)));
+        rows = subst Allotted (sym views) (allotted-split (ds_of s.views) id d here is ((j.each id d here).closing is).0 room r.rows);
       }
 
   pub joins : (id : ℕ) (v : View) (other : ℕ) (w : View) → v.draws.closing ≡ true → w.draws.live ≡ true → w.draws.holds ≡ false → Joins TheRule id v other w (viewed (with_gone v.draws w.draws)) (viewed blank)
@@ -313,6 +323,7 @@ module _ {S : Type 0} (keeps_it : S → Held → Type 0) (board : S → List (st
             let a = all_count-set k (ds_of s.views) id d (with_gone d e) here in
             let b = all_count-set k (set (ds_of s.views) id (with_gone d e)) other e blank lies in
             let c = row_count-append k d.rows e.rows in omega (arith, a, b, c)));
+        rows = subst Allotted (sym views) (allotted-join (ds_of s.views) id d other e here at_other lies is ((j.each id d here).closing is).0 live r.rows);
       }
 
   -- an empty board names no slot
@@ -338,6 +349,7 @@ module _ {S : Type 0} (keeps_it : S → Held → Type 0) (board : S → List (st
       drawn = refl;
       bounded = λ p. omega arith;
       beyond = λ p le. refl;
+      carried = tt;
       each = one;
     };
     turn = record {
@@ -346,6 +358,7 @@ module _ {S : Type 0} (keeps_it : S → Held → Type 0) (board : S → List (st
       others_counted = λ i f at h. absurd (true≢false (sym h ∙ only i f at (λ f. f.holds ≡ false) free));
       ordered = λ i f at h. absurd (true≢false (sym h ∙ only i f at (λ f. f.holds ≡ false) free));
     };
+    rows = allotted-one d is dead rows given gone;
   }
     where
       only : (j : ℕ) (e : Draws) → get_elem? (d ∷ []) j ≡ some e → (P : Draws → Type 0) → P d → P e
@@ -363,6 +376,7 @@ module _ {S : Type 0} (keeps_it : S → Held → Type 0) (board : S → List (st
             start_is = refl;
             later = λ p le. record { no_seat = refl; no_entry = refl; no_row = refl; no_name = refl };
             back = λ k g there. absurd (some-ne-none g (sym (sym (ap (λ (l : List Gone). get_elem? l k) gone) ∙ there)));
+            left = subst (λ (l : List Row). Each (IsLeftRow (opening (sizes_for d.vars d.elements)) (λ _. none) d.given) l) (sym rows) tt;
           },
         );
         holder = λ h. absurd (true≢false (sym h ∙ free));

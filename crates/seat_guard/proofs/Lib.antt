@@ -1,4 +1,6 @@
 pub mod RowCounts
+pub mod NameSteps
 pub mod Journals
 pub mod Turns
+pub mod Allotments
 pub mod Keeps

@@ -25,6 +25,20 @@ module _ {A : Type 0} where
   each_append P [] ys a b = b
   each_append P (x ∷ xs) ys a b = (a.0, each_append P xs ys a.1 b)
 
+module _ {A : Type 0} where
+  pub each_map : (P Q : A → Type 0) → ((x : A) → P x → Q x) → (xs : List A) → Each P xs → Each Q xs
+  each_map P Q f [] all = tt
+  each_map P Q f (x ∷ xs) all = (f x all.0, each_map P Q f xs all.1)
+
+  pub each_both : (P Q R : A → Type 0) → ((x : A) → P x → Q x → R x) → (xs : List A) → Each P xs → Each Q xs → Each R xs
+  each_both P Q R f [] ps qs = tt
+  each_both P Q R f (x ∷ xs) ps qs = (f x ps.0 qs.0, each_both P Q R f xs ps.1 qs.1)
+
+  pub each_at : (P : A → Type 0) (xs : List A) (k : ℕ) (x : A) → Each P xs → get_elem? xs k ≡ some x → P x
+  each_at P [] k x all at = absurd (some-ne-none x (sym at))
+  each_at P (y ∷ xs) zero x all at = subst P (some-injective y x at) all.0
+  each_at P (y ∷ xs) (suc k) x all at = each_at P xs k x all.1 at
+
 pub off : false ≡ true → ⊥
 off e = true≢false (sym e)
 
@@ -52,14 +66,9 @@ module _ (P : Held → Type 0) where
   all_held_each [] each = tt
   all_held_each (d ∷ ds) each = all_rows_each d.rows (all_held ds) (each 0 d refl) (all_held_each ds (λ j e at. each (suc j) e at))
 
-  has_at : (others : List Held) (k : ℕ) (held : Held) → Each P others → get_elem? others k ≡ some held → P held
-  has_at [] k held all at = absurd (some-ne-none held (sym at))
-  has_at (x ∷ xs) zero held all at = subst P (some-injective x held at) all.0
-  has_at (x ∷ xs) (suc k) held all at = has_at xs k held all.1 at
-
   pub rows_by_others : (others : List Held) (rows : List Row) → Each P others → Each (λ (row : Row). Has others row.held) rows → Each (λ (row : Row). P row.held) rows
   rows_by_others others [] all within = tt
-  rows_by_others others (row ∷ rows) all within = (has_at others within.0.0 row.held all within.0.1, rows_by_others others rows all within.1)
+  rows_by_others others (row ∷ rows) all within = (each_at P others within.0.0 row.held all within.0.1, rows_by_others others rows all within.1)
 
 has_later : (x : Held) (xs : List Held) (rows : List Row) → Each (λ (row : Row). Has xs row.held) rows → Each (λ (row : Row). Has (x ∷ xs) row.held) rows
 has_later x xs [] a = tt

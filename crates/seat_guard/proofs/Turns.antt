@@ -24,11 +24,12 @@ module _ {S : Type 0} (keeps_it : S → Held → Type 0) (board : S → List (st
   TurnOf = Turn keeps_it board counts count orders
 
   -- what the taker is told of the content
-  pub finds_it : (home : Option (Option (std.Option S))) (ds : List Draws) (t : Table) (now : Orders) (id : ℕ) (d : Draws) → TurnOf 0 home ds t now → get_elem? ds id ≡ some d → t.sizes ≡ sizes_for d.vars d.elements
+  pub finds_it : (home : Option (Option (std.Option S))) (ds : List Draws) (t : Table) (now : Orders) (id : ℕ) (d : Draws) (Q : Held → Type 0) → TurnOf 0 home ds t now → get_elem? ds id ≡ some d → t.sizes ≡ sizes_for d.vars d.elements
+      → ((j : ℕ) (e : Draws) → j ≢ id → get_elem? ds j ≡ some e → Each (λ (row : Row). Q row.held) e.rows)
       → (x : S) × (others : List Held) × (home ≡ some (some (std.Some x))) × IsHome keeps_it board counts count orders x ds t now × Serves keeps_it board counts count orders x (holding d (board x) others (orders x))
       × ((j : ℕ) (e : Draws) → j ≢ id → get_elem? ds j ≡ some e → Each (λ (row : Row). Has others row.held) e.rows)
-      × ((k : ℕ) → row_count k d.rows + held_count k others ≡ all_count k ds)
-  finds_it home ds t now id d part at sizes =
+      × ((k : ℕ) → row_count k d.rows + held_count k others ≡ all_count k ds) × Each Q others
+  finds_it home ds t now id d Q part at sizes all_apart =
       let h = part.home_is refl in
       let x : S = h.0 in
       let others : List Held = all_held (set ds id (no_rows d)) in
@@ -50,6 +51,7 @@ module _ {S : Type 0} (keeps_it : S → Held → Type 0) (board : S → List (st
         },
         (λ j e apart here. all_held_has (set ds id (no_rows d)) j e (set_else ds id j (no_rows d) apart ∙ here)),
         all,
+        all_held_each Q (set ds id (no_rows d)) (each_set (λ j (e : Draws). Each (λ (row : Row). Q row.held) e.rows) ds id (no_rows d) all_apart tt),
       )
 
   -- the turn is away with this seat

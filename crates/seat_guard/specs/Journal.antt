@@ -4,12 +4,15 @@ use Rattle.std.specs.Prelude as std
 use mathlib.Core.Option.{Option, none, some}
 use lib.ListN.{get_elem?}
 use Rattle.function_laws.specs.declared.history.Name.{Name}
+use Rattle.function_laws.specs.declared.history.Function.{Function}
 use Rattle.function_laws.specs.declared.history.Entry.{Entry}
 use Rattle.function_laws.specs.Tables.{Table, Sizes, opening}
-use Rattle.function_laws.specs.Histories.{IsLegal, table_after}
-use Rattle.function_laws.specs.SessionEntries.{entries_of}
+use Rattle.function_laws.specs.Histories.{IsLegal, EachFrom, table_after}
+use Rattle.function_laws.specs.SessionEntries.{Each, entries_of}
+use Rattle.seat_guard.specs.declared.view.Row.{Row}
 use Rattle.seat_guard.specs.declared.view.Gone.{Gone}
 use Rattle.seat_guard.specs.declared.view.Draws.{Draws}
+use Rattle.seat_guard.specs.Sifted.{Carries, IsOfOther}
 use Rattle.seat_guard.specs.Views.{Agrees, sizes_for, stands_for}
 
 -- what the rule says of a live seat, and of the closing one
@@ -19,6 +22,10 @@ pub record LiveFits (turn : ℕ) (log : List Entry) (t : Table) (seat : ℕ → 
   pub mine : entries_of d.session log ≡ d.entries
   pub agrees : Agrees d t
   pub held : d.holds ≡ true → turn ≡ suc d.session
+  -- its names were given, each row's stands for the row's function; with the turn, what it knows of others are functions of other sessions' rows
+  pub given : (name : Name) (f : Function) → t.live d.session name ≡ std.Some f → t.given d.session name ≡ true
+  pub stand : Each (λ (row : Row). t.live d.session row.name ≡ std.Some row.held.function) d.rows
+  pub others : d.holds ≡ true → Each (IsOfOther t d.session) d.others
 
 pub record IsUnused (log : List Entry) (t : Table) (seat : ℕ → Option ℕ) (p : ℕ) : Type 0 where
   pub no_seat : seat p ≡ none
@@ -26,11 +33,16 @@ pub record IsUnused (log : List Entry) (t : Table) (seat : ℕ → Option ℕ) (
   pub no_row : t.live p ≡ (λ (name : Name). std.None)
   pub no_name : t.given p ≡ (λ (name : Name). false)
 
+-- a row that a session left behind
+abbrev pub IsLeftRow : Table → (ℕ → Option ℕ) → ℕ → Row → Type 0
+IsLeftRow t seat given row = (p : ℕ) × (p < given) × (seat p ≡ none) × (t.live p row.name ≡ std.Some row.held.function)
+
 pub record ClosingFits (start : Sizes) (log : List Entry) (t : Table) (seat : ℕ → Option ℕ) (d : Draws) : Type 0 where
   pub few : d.given ≤ 64
   pub start_is : start ≡ sizes_for d.vars d.elements
   pub later : (p : ℕ) → d.given ≤ p → IsUnused log t seat p
   pub back : (k : ℕ) (g : Gone) → get_elem? d.gone k ≡ some g → (g.session < d.given) × (seat g.session ≡ none) × (entries_of g.session log ≡ g.entries) × (t.live g.session ≡ stands_for g.rows)
+  pub left : Each (IsLeftRow t seat d.given) d.rows
 
 pub record Fits (turn : ℕ) (start : Sizes) (log : List Entry) (t : Table) (seat : ℕ → Option ℕ) (id : ℕ) (d : Draws) : Type 0 where
   pub live : d.live ≡ true → LiveFits turn log t seat id d
@@ -38,7 +50,7 @@ pub record Fits (turn : ℕ) (start : Sizes) (log : List Entry) (t : Table) (sea
   pub holder : d.holds ≡ true → d.live ≡ true
   pub rowless : d.live ≡ false → d.closing ≡ false → d.rows ≡ []
 
--- The part of the journal: there is one legal history, whose length is the journal word, and each seat knows its session's entries of it.
+-- The part of the journal: there is one legal history, whose length is the journal word, and each seat knows its session's entries of it. What a sift's entry carries are functions of rows and cells that the entries below it leave.
 pub record Journal (place turn : ℕ) (ds : List Draws) (start : Sizes) (log : List Entry) (table : Table) : Type 0 where
   pub seat : ℕ → Option ℕ
   pub legal : IsLegal start log
@@ -47,4 +59,6 @@ pub record Journal (place turn : ℕ) (ds : List Draws) (start : Sizes) (log : L
   pub drawn : place ≡ length log
   pub bounded : (p : ℕ) → length (entries_of p log) ≤ 2 ^ 48
   pub beyond : (p : ℕ) → 64 ≤ p → entries_of p log ≡ []
+  -- each function that a sift's entry carries is that of a row or a cell which the entries below it leave
+  pub carried : EachFrom Carries (opening start) log
   pub each : (id : ℕ) (d : Draws) → get_elem? ds id ≡ some d → Fits turn start log table seat id d

@@ -1,3 +1,5 @@
+pub mod Sifted
+pub mod Allots
 pub mod Views
 pub mod Journal
 pub mod Turn

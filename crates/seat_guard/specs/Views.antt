@@ -7,7 +7,7 @@ use Rattle.function_laws.specs.declared.history.Reply.{Reply}
 use Rattle.function_laws.specs.declared.history.Reply.TheVariants as replies
 use Rattle.function_laws.specs.Tables.{Table, Sizes, same_name}
 use Rattle.function_laws.specs.Steps.{IsAllowed, after}
-use Rattle.function_laws.specs.SessionEntries.{entry}
+use Rattle.function_laws.specs.SessionEntries.{Each, entry}
 use Rattle.function_laws.specs.Sizes.{Orders}
 use Rattle.function_laws.specs.EntryOrders.{orders_after}
 use Rattle.function_laws.specs.Handovers.{is_numbered}
@@ -20,6 +20,8 @@ use Rattle.seat_guard.specs.declared.view.Gone.{Gone}
 use Rattle.seat_guard.specs.declared.view.Draws.{Draws}
 use Rattle.seat_guard.specs.declared.view.View.{View}
 use Rattle.seat_guard.specs.declared.view.Opening.{Opening}
+use Rattle.seat_guard.specs.Sifted.{IsKnown, carried_by}
+use Rattle.seat_guard.specs.Allots.{HasRoomFor}
 
 -- n variables and m elements
 abbrev pub sizes_for : ℕ → ℕ → Sizes
@@ -85,10 +87,12 @@ told_of d n x = record d {
   due = due_after x.reply x.due d.due;
 }
 
--- the entry is a step from every table that agrees with the seat, and agrees with what the seat knows then
+-- The entry is a step from every table that agrees with the seat, and agrees with what the seat knows then. What it carries are functions of rows and cells. A session has at most 2 ^ 25 rows.
 pub record MayTell (d : Draws) (x : Telling) : Type 0 where
   pub plain : is_numbered x.reply ≡ false
   pub step : (t : Table) → Agrees d t → IsAllowed t d.session x.call x.reply × Agrees (told_of d 0 x) (after t d.session x.call x.reply)
+  pub carries : Each (IsKnown d) (carried_by x.call)
+  pub room : HasRoomFor x.change d.rows
 
 abbrev pub nothing_told : Telling
 nothing_told = record { call = calls.Sweep; reply = replies.Done; change = Nothing; stored = []; due = None }

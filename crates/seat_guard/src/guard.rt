@@ -57,6 +57,7 @@ impl<S: Content> Guard<S> {
         ensures own { IsPassOf self.now pass.new }
         ensures took { (others : List Held) × (known pass.new ≡ holding (known pass.old) (S.board result) others (S.orders result)) × Serves S.keeps S.board S.counts S.count S.orders result (known pass.new) }
         ensures board { length (S.board result) ≡ 256 }
+        ensures few { (k : ℕ) → S.count result k ≤ 2 ^ 31 + 256 }
         ensures hand { in_hand pass.new ≡ (0, None) ∷ [] }
     {
         let backoff = Backoff::new();
