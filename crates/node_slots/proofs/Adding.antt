@@ -85,6 +85,7 @@ module _ (p : Plain) (i bits : ℕ) (word : Word) (within : i < length p.words) 
     made = made-grown;
     fulls = omega arith;
     counts = refl;
+    generations = refl;
     holds = refl;
     wants = λ h. h;
   }

@@ -163,7 +163,7 @@ not_both n g h i = let e : not true ≡ true = ap not (sym h) ∙ i in never e
     never e = cc
 
 -- of two regular functions, which complements make equal
-same_complement : (n : ℕ) (a b : Bool) (o q : Option Denoted) (f : Denoted)
+pub same_complement : (n : ℕ) (a b : Bool) (o q : Option Denoted) (f : Denoted)
     → ((g : ℕ → Bool) → o ≡ Some (BddFunction g) → g (ones n) ≡ true) → ((g : ℕ → Bool) → q ≡ Some (BddFunction g) → g (ones n) ≡ true)
     → flipped a o ≡ Some f → flipped b q ≡ Some f → (a ≡ b) × (o ≡ q)
 same_complement n false false o q f ro rq h i = (refl, h ∙ sym i)

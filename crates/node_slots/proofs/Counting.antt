@@ -46,7 +46,7 @@ count_cleared p st ws from is count kept free =
     (λ t lt. ap is_used (kept t lt) ∙ permanent_used p st.permanent t (omega arith))
     (λ t le. ap is_used (free t le))
 
-used_if : (o : Option Word) → (o ≡ None → ⊥) → is_used o ≡ true
+pub used_if : (o : Option Word) → (o ≡ None → ⊥) → is_used o ≡ true
 used_if None some = absurd (some refl)
 used_if (Some word) some = refl
 

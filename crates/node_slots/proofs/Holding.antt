@@ -9,7 +9,8 @@ use Rattle.function_laws.proofs.ValueLemmas.{everywhere}
 use Rattle.handle_count.specs.CountWords.{count_of}
 use Rattle.node_store.specs.Changes.{put_at}
 use Rattle.node_store.proofs.Rewriting.{put_at-same, put_at-other}
-use Rattle.node_slots.specs.Stores.{Plain, slots, count_at, flag, is_set, AreHolds, IsRenewed}
+use Rattle.slot_notes.specs.Notes.{flag}
+use Rattle.node_slots.specs.Stores.{Plain, slots, count_at, is_set, AreHolds, IsRenewed}
 
 -- a list of zeros is zero everywhere
 zero_at : (n s : ℕ) → get_or (replicate n zero) s zero ≡ zero
@@ -38,7 +39,7 @@ opening_holds p limit words counts marks pins =
     }
 
 -- what is so of the word that was written, and of the others
-at_set : (P : ℕ → Type 0) (xs : List ℕ) (slot x s : ℕ) → slot < length xs → (s ≡ slot → P x) → (s ≢ slot → P (get_or xs s 0)) → P (get_or (set xs slot x) s 0)
+pub at_set : (P : ℕ → Type 0) (xs : List ℕ) (slot x s : ℕ) → slot < length xs → (s ≡ slot → P x) → (s ≢ slot → P (get_or xs s 0)) → P (get_or (set xs slot x) s 0)
 at_set P xs slot x s within here other = elim (cases_eq s slot) [
   | inl e ↦ subst P (sym (ap (λ t. get_or (set xs slot x) t 0) e ∙ get_or-set_same xs slot x 0 within)) (here e)
   | inr ne ↦ subst P (sym (get_or-set_other xs slot s x 0 ne)) (other ne)

@@ -19,5 +19,13 @@ pub mod Settling
 pub mod WordFunctions
 pub mod Returning
 pub mod Holding
-pub mod Flagging
 pub mod Looking
+pub mod HeldLaws
+pub mod HeldMarks
+pub mod HeldReturning
+pub mod HeldFreeing
+pub mod Replacing
+pub mod HeldRewriting
+pub mod Exchanging
+pub mod HeldAdding
+pub mod HeldWalking

@@ -115,13 +115,44 @@ pub record Stored (k : Kind) (p q : Plain) (e : Edge) (f : ℕ → ValueOf k) : 
   -- the edge denoted the function, or a slot was free
   pub refused_not : IsUnknown p (function_of k f) → HasNoFree p → ⊥
 
-family_of : (p : Plain) (c : Bool) (f : ℕ → Bool) → flipped c (content_of p 1) ≡ Some (ZddFamily f) → f ≡ empty
-unfolding function_at_most
-family_of p false f h = cc
-family_of p true f h = cc
+no_members : (c : Bool) (o : Option Denoted) (f : ℕ → Bool) → o ≡ Some (ZddFamily empty) → flipped c o ≡ Some (ZddFamily f) → f ≡ empty
+no_members false o f is h = let e : Some (ZddFamily f) ≡ Some (ZddFamily empty) = sym h ∙ is in cc
+no_members true o f is h = let e : None ≡ Some (ZddFamily f) = ap (flipped true) (sym is) ∙ h in cc
+
+-- a node that is one of its children, where slot 1 is that of the empty family
+pub child_is : (w : View) → w.content 1 ≡ Some (ZddFamily empty) → (k : Kind) (v : ℕ) (hi lo e : Edge) → CanMake k w v hi lo → IsChild v hi lo e → Denotes k w e (node_values k w v hi lo)
+child_is w none k v hi lo e m (inl h) = subst (λ x. Denotes k w x (node_values k w v hi lo)) (sym h.2) (equal k m)
+  where
+    equal : (k : Kind) → CanMake k w v hi lo → Denotes k w hi (node_values k w v hi lo)
+    equal Bdd m = subst (λ x. Denotes Bdd w hi (choice v (values_at Bdd w hi) (values_at Bdd w x))) h.1
+        (subst (λ f. Denotes Bdd w hi f) (sym (choice-same (values_at Bdd w hi) v)) m.hi_is)
+    equal Add m = subst (λ x. Denotes Add w hi (choice v (values_at Add w hi) (values_at Add w x))) h.1
+        (subst (λ f. Denotes Add w hi f) (sym (choice-same (values_at Add w hi) v)) m.hi_is)
+    equal Zdd m = let r = m.in_range.0 in let low = h.0 in absurd (omega arith)
+child_is w none k v hi lo e m (inr h) = subst (λ x. Denotes k w x (node_values k w v hi lo)) (sym h.2) (only_low k m)
+  where
+    only_low : (k : Kind) → CanMake k w v hi lo → Denotes k w lo (node_values k w v hi lo)
+    only_low Bdd m = let r = m.in_range.0 in let high = h.0 in absurd (omega arith)
+    only_low Add m = let r = m.in_range.0 in let high = h.0 in absurd (omega arith)
+    only_low Zdd m =
+        let high = no_members hi.complement (w.content hi.index) (values_at Zdd w hi) (ap w.content h.1 ∙ none) m.hi_is.is in
+        let whole : joined (element_of v) (values_at Zdd w hi) (values_at Zdd w lo) ≡ values_at Zdd w lo = rw high (joined-absent Zdd v (values_at Zdd w lo) (m.lo_below v m.in_range (omega arith))) in
+        subst (λ f. Denotes Zdd w lo f) (sym whole) m.lo_is
+
+-- an edge of a function that is true where the first variables are has no complement
+pub unturned : (n : ℕ) (k : Kind) (c : Bool) (o : Option Denoted) (f : ℕ → ValueOf k) → ((g : ℕ → Bool) → o ≡ Some (BddFunction g) → g (ones n) ≡ true) → IsRegular k n f
+    → flipped c o ≡ Some (function_of k f) → o ≡ Some (function_of k f)
+unturned n k false o f slot r h = h
+unturned n Add true o f slot r h = absurd (no-add o f h)
+unturned n Zdd true o f slot r h = absurd (no-family o f h)
+unturned n Bdd true o f slot r h =
+    let g = unflip Bdd true o f h in
+    let e : Some (BddFunction (negation g.inner)) ≡ Some (BddFunction f) = ap (flipped true) (sym g.is) ∙ h in
+    let same : negation g.inner ≡ f = cc in
+    absurd (not_both n g.inner (slot g.inner g.is) (subst (λ (x : ℕ → Bool). x (ones n) ≡ true) (sym same) r))
 
 Grown-same : (a : View) → Grown a a
-Grown-same a = record { vars = refl; elements = refl; slots = refl; level = refl; content = λ s f h. h; top = λ s f h. refl; made = λ s h. h; fulls = omega arith; counts = refl; holds = refl; wants = λ h. h }
+Grown-same a = record { vars = refl; elements = refl; slots = refl; level = refl; content = λ s f h. h; top = λ s f h. refl; made = λ s h. h; fulls = omega arith; counts = refl; generations = refl; holds = refl; wants = λ h. h }
 
 -- what was due where a node was refused
 pub due_node : (p : Plain) (n : ℕ) (k : Kind) (v : ℕ) (hi lo : Edge) → CanMake k (plain_view p) v hi lo
@@ -199,24 +230,8 @@ module _ (p : Plain) (st : IsStore p) where
 
   -- a node that is one of its children
   pub child_denotes : (k : Kind) (v : ℕ) (hi lo e : Edge) → CanMake k (plain_view p) v hi lo → IsChild v hi lo e → Denotes k (plain_view p) e (node_values k (plain_view p) v hi lo)
-  child_denotes k v hi lo e m (inl h) = subst (λ x. Denotes k (plain_view p) x (node_values k (plain_view p) v hi lo)) (sym h.2) (equal k v hi lo m h.0 h.1)
-    where
-      equal : (k : Kind) (v : ℕ) (hi lo : Edge) → CanMake k (plain_view p) v hi lo → v < 16384 → hi ≡ lo → Denotes k (plain_view p) hi (node_values k (plain_view p) v hi lo)
-      equal Bdd v hi lo m lt same = subst (λ x. Denotes Bdd (plain_view p) hi (choice v (values_at Bdd (plain_view p) hi) (values_at Bdd (plain_view p) x))) same
-          (subst (λ f. Denotes Bdd (plain_view p) hi f) (sym (choice-same (values_at Bdd (plain_view p) hi) v)) m.hi_is)
-      equal Add v hi lo m lt same = subst (λ x. Denotes Add (plain_view p) hi (choice v (values_at Add (plain_view p) hi) (values_at Add (plain_view p) x))) same
-          (subst (λ f. Denotes Add (plain_view p) hi f) (sym (choice-same (values_at Add (plain_view p) hi) v)) m.hi_is)
-      equal Zdd v hi lo m lt same = let r = m.in_range.0 in absurd (omega arith)
-  child_denotes k v hi lo e m (inr h) = subst (λ x. Denotes k (plain_view p) x (node_values k (plain_view p) v hi lo)) (sym h.2) (no_members k v hi lo m h.0 h.1)
-    where
-      no_members : (k : Kind) (v : ℕ) (hi lo : Edge) → CanMake k (plain_view p) v hi lo → 16384 ≤ v → hi.index ≡ 1 → Denotes k (plain_view p) lo (node_values k (plain_view p) v hi lo)
-      no_members Bdd v hi lo m le one = let r = m.in_range.0 in absurd (omega arith)
-      no_members Add v hi lo m le one = let r = m.in_range.0 in absurd (omega arith)
-      no_members Zdd v hi lo m le one =
-          let none : values_at Zdd (plain_view p) hi ≡ empty = family_of p hi.complement (values_at Zdd (plain_view p) hi) (ap (λ s. flipped hi.complement (content_of p s)) (sym one) ∙ m.hi_is.is) in
-          let whole : joined (element_of v) (values_at Zdd (plain_view p) hi) (values_at Zdd (plain_view p) lo) ≡ values_at Zdd (plain_view p) lo =
-          rw none (joined-absent Zdd v (values_at Zdd (plain_view p) lo) (m.lo_below v m.in_range (omega arith))) in
-          subst (λ f. Denotes Zdd (plain_view p) lo f) (sym whole) m.lo_is
+  unfolding function_at_most
+  child_denotes k v hi lo e m child = child_is (plain_view p) refl k v hi lo e m child
 
   -- no slot of the node, and no edge of its function
   unknown_node : (k : Kind) (v : ℕ) (hi lo : Edge) → CanMake k (plain_view p) v hi lo → IsNode k p (node_with v hi lo)
@@ -225,18 +240,9 @@ module _ (p : Plain) (st : IsStore p) where
       let node = node_with v hi lo in
       let f = node_values k (plain_view p) v (plain hi.index) (flip_if hi.complement lo) in
       let regular = regular-joined p st.permanent st.canonical k v (values_at k (plain_view p) (plain hi.index)) (values_at k (plain_view p) (flip_if hi.complement lo)) n.can_make.in_range n.regular in
-      let is = plain_slot k (flip_if hi.complement e).complement e.index f regular ((normal k (plain_view p) v hi lo m).back e h) in
+      let is = unturned (length p.variable_levels) k (flip_if hi.complement e).complement (content_of p e.index) f (λ g. regular_slot p st.permanent st.canonical Bdd e.index g) regular
+      ((normal k (plain_view p) v hi lo m).back e h) in
       let w = slot_of_node p st k node n e.index is in let le = inner_high p st.permanent e.index node w in absent e.index (omega arith) w
-    where
-      plain_slot : (k : Kind) (c : Bool) (s : ℕ) (f : ℕ → ValueOf k) → IsRegular k (length p.variable_levels) f → flipped c (content_of p s) ≡ Some (function_of k f) → content_of p s ≡ Some (function_of k f)
-      plain_slot k false s f r h = h
-      plain_slot Add true s f r h = absurd (no-add (content_of p s) f h)
-      plain_slot Zdd true s f r h = absurd (no-family (content_of p s) f h)
-      plain_slot Bdd true s f r h =
-          let g = unflip Bdd true (content_of p s) f h in
-          let e : Some (BddFunction (negation g.inner)) ≡ Some (BddFunction f) = ap (flipped true) (sym g.is) ∙ h in
-          let same : negation g.inner ≡ f = cc in
-          absurd (not_both (length p.variable_levels) g.inner (regular_slot p st.permanent st.canonical Bdd s g.inner g.is) (subst (λ (x : ℕ → Bool). x (ones (length p.variable_levels)) ≡ true) (sym same) r))
 
   pub unknown_nodes : (v : ℕ) (hi lo : Edge) → HasNoChild v hi lo → ((t : ℕ) → 3 ≤ t → slots p t ≡ Some (Inner (node_with v hi lo)) → ⊥) → IsUnknownNode p v hi lo
   unknown_nodes v hi lo child absent k m = unknown_node k v hi lo m (new_node k v hi lo m child) absent
@@ -278,7 +284,7 @@ module _ (p : Plain) (st : IsStore p) where
   -- a refused call
   module _ (n : ℕ) (d : Option Refused) (more : p.fulls ≤ n) where
     pub refused-grown : Grown (plain_view p) (plain_view (after_refusal p n d))
-    refused-grown = record { vars = refl; elements = refl; slots = refl; level = refl; content = λ s f h. h; top = λ s f h. refl; made = λ s h. h; fulls = more; counts = refl; holds = refl; wants = λ h. h }
+    refused-grown = record { vars = refl; elements = refl; slots = refl; level = refl; content = λ s f h. h; top = λ s f h. refl; made = λ s h. h; fulls = more; counts = refl; generations = refl; holds = refl; wants = λ h. h }
 
     IsNode-refused : (k : Kind) (node : Node) → IsNode k p node → IsNode k (after_refusal p n d) node
     unfolding refused-grown
@@ -316,7 +322,7 @@ module _ (p : Plain) (st : IsStore p) where
   module _ (r : ℕ) (memo : List ℕ) where
     pub lent-kept : Kept (plain_view p) (plain_view (after_lending p r memo))
     lent-kept = record {
-      grown = record { vars = refl; elements = refl; slots = refl; level = refl; content = λ s f h. h; top = λ s f h. refl; made = λ s h. h; fulls = omega arith; counts = refl; holds = refl; wants = λ h. h };
+      grown = record { vars = refl; elements = refl; slots = refl; level = refl; content = λ s f h. h; top = λ s f h. refl; made = λ s h. h; fulls = omega arith; counts = refl; generations = refl; holds = refl; wants = λ h. h };
       made = refl;
       fulls = refl;
       due = refl;

@@ -46,7 +46,7 @@ edge_denotes w k i true f h of_slot = turned k f (w.content i) refl h of_slot
         }
 
 -- the level of what stands in an order
-level_is : (levels at : List ℕ) → AreInverse levels at → IsOrder at → (v : ℕ) → v < length levels → slice_index levels v ≡ place_of v at
+pub level_is : (levels at : List ℕ) → AreInverse levels at → IsOrder at → (v : ℕ) → v < length levels → slice_index levels v ≡ place_of v at
 level_is levels at inverse order v lt =
     let long = inverse.as_many in
     let stands = order.stands v (omega (arith, lt, long)) in

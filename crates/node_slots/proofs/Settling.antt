@@ -28,7 +28,7 @@ use Rattle.node_slots.proofs.Opening.{bit-zero}
 use Rattle.node_slots.proofs.Ones.{true_on_ones}
 use Rattle.node_slots.proofs.Orders.{IsOrderOf, order_of_levels}
 
-base-without : (e : ℕ) → IsWithout base e
+pub base-without : (e : ℕ) → IsWithout base e
 base-without e a has = ne_eqb a 0 (λ none. let never : true ≡ false = sym has ∙ ap (λ x. bit x e) none ∙ bit-zero e in cc)
 
 -- a leaf's function, whatever the store

@@ -5,6 +5,7 @@ pub mod Taking
 pub mod Counts
 pub mod Solutions
 pub mod Wholes
+pub mod Held
 pub use Rattle.node_store.specs.Views
 pub use Rattle.node_store.specs.Memo
 pub use Rattle.node_store.specs.Work

@@ -72,9 +72,6 @@ top_in p (suc zero) = length p.element_levels
 top_in p (suc (suc zero)) = length p.element_levels
 top_in p (suc (suc (suc s))) = top_of_word p (slots p (suc (suc (suc s))))
 
-abbrev pub flag : Bool → ℕ
-flag on = if on then 1 else 0
-
 -- whether a slot's flag is set
 abbrev pub is_set : List ℕ → ℕ → Bool
 is_set flags s = slice_index flags s == 1
@@ -113,6 +110,7 @@ plain_view p = record {
   fulls = p.fulls;
   due = refused_function (content_of p) p.due;
   count = count_at p;
+  generation = generation_at p;
   is_held = is_held p;
   may_want_memory = false;
   room = p.scratch_room;

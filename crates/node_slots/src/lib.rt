@@ -2,10 +2,11 @@
 #![tactic(auto)]
 
 mod count_table;
-mod flag_table;
+mod held_store;
 mod node_counts;
 mod node_table;
 mod plain_store;
 
-pub use node_store::{Grow, Key, Opened, Stack, Stop};
+pub use held_store::HeldStore;
+pub use node_store::{Grow, Key, Opened, Order, Stack, Stop, Whole};
 pub use plain_store::PlainStore;

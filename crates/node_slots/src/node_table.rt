@@ -3,7 +3,7 @@
 ghost use Rattle.std.specs.Prelude.{◌≡◌, ℕ, ◌+◌, ◌-◌, ◌<◌, ◌≤◌, ◌^◌, IfOk, IfSome, IfNone, count_by, length, slice_index, slice_set, vec_capacity, Some, None, true};
 ghost use Rattle.edge_bits.specs.Permanent.{first_projection, zero_slot};
 ghost use Rattle.edge_bits.specs.Reading.{slots_of};
-ghost use Rattle.edge_bits.specs.Words.{IsInRange, unpack_of};
+ghost use Rattle.edge_bits.specs.Words.{IsInRange, pack_of, unpack_of};
 ghost use Rattle.node_store.specs.Contents.{is_leaf, is_node_of as is_node_in};
 ghost use Rattle.node_slots.specs.Placing.{IsPlaced, HasNoPlace};
 ghost use Rattle.node_slots.specs.Stores.{is_word, permanent_word};
@@ -54,36 +54,11 @@ pub(crate) fn find(words: &[u64], wanted: Word) -> Option<usize>
     None
 }
 
-/// Whether the bits are those of a node of a variable.
-fn is_node(bits: u64, var: u32) -> bool
-    ensures { result ≡ is_node_in var (unpack_of bits) }
-{
-    match unpack(bits) {
-        Some(Word::Inner(node)) => node.var as u32 == var,
-        _ => false,
-    }
-}
-
 /// Whether the bits are those of a leaf.
 fn is_number(bits: u64) -> bool
     ensures { result ≡ is_leaf (unpack_of bits) }
 {
     matches!(unpack(bits), Some(Word::Leaf(_)))
-}
-
-/// The least slot from this one on with a node of a variable, if there is one.
-pub(crate) fn next_node(words: &[u64], var: u32, from: u32) -> Option<u32>
-    requires { length words.now < 2 ^ 32 }
-    ensures found { IfSome result (λ s. (from ≤ s) × (is_node_in var (slots_of words.now s) ≡ true)) }
-    ensures least { IfSome result (λ s. (t : ℕ) → from ≤ t → t < s → is_node_in var (slots_of words.now t) ≡ true → ⊥) }
-    ensures none { IfNone result ((t : ℕ) → from ≤ t → is_node_in var (slots_of words.now t) ≡ true → ⊥) }
-{
-    for slot in from as usize..words.len() {
-        if is_node(words[slot], var) {
-            return Some(slot as u32);
-        }
-    }
-    None
 }
 
 /// The least slot from this one on with a leaf, if there is one.
@@ -160,6 +135,17 @@ fn put(table: &mut SlotTable, freed: &mut Vec<u32>, bits: u64) -> Option<u32>
         return None;
     }
     Some(table.append(bits))
+}
+
+/// Writes another word into a slot that was taken. The word is not 0.
+fn overwrite(table: &mut SlotTable, slot: u32, bits: u64)
+    requires bits { 0 < bits }
+    requires taken { slot < table.old.taken }
+    ensures words { table.new.words ≡ slice_set table.old.words slot bits }
+    ensures taken { table.new.taken ≡ table.old.taken }
+{
+    table.erase(slot);
+    table.fill(slot, bits);
 }
 
 impl NodeTable {
@@ -244,6 +230,21 @@ impl NodeTable {
         self.table.erase(slot);
         self.freed.push_reserved(slot);
         self.in_use -= 1;
+    }
+
+    /// Puts another word into a slot that has one.
+    pub fn rewrite(&mut self, slot: u32, word: Word)
+        requires range { IsInRange word }
+        requires used { slots_of self.old slot ≡ None → ⊥ }
+        ensures reads { slots_of self.new slot ≡ Some word }
+        ensures rewritten { self.new ≡ slice_set self.old slot (pack_of word) }
+    {
+        let Some(old) = unpack(self.table.word(slot)) else {
+            unreachable!()
+        };
+        self.nodes.remove(old);
+        overwrite(&mut self.table, slot, pack(word));
+        self.nodes.add(word);
     }
 
     /// The number of nodes of a variable, and of element e by 16,384 + e.

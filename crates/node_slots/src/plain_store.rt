@@ -11,8 +11,8 @@ ghost use Rattle.node_slots.specs.Placing.{IsChild, HasNoChild};
 ghost use Rattle.node_store.specs.Contents.{opened_of};
 
 use crate::count_table::CountTable;
-use crate::flag_table::FlagTable;
-use crate::node_table::{NodeTable, find, next_node, next_number};
+use crate::held_store::HeldStore;
+use crate::node_table::{NodeTable, find};
 use computed_cache::Memo;
 use edge_bits::{
     EMPTY_SLOT, Edge, FIRST_ELEMENT, FIRST_PROJECTION, Kind, Memory, Node, Word, unpack,
@@ -20,6 +20,7 @@ use edge_bits::{
 use handle_count::{lower, next_generation, raise};
 use node_store::binary::flip_if;
 use node_store::{Grow, Key, Opened, Stack, Stop};
+use slot_notes::SlotNotes;
 use std::alloc::Global;
 use std::marker::Model;
 
@@ -43,8 +44,7 @@ pub struct PlainStore {
     elements_at: Vec<u32>,
     nodes: NodeTable,
     counts: CountTable,
-    marks: FlagTable,
-    pins: FlagTable,
+    notes: SlotNotes,
     sweeping: bool,
     fulls: u64,
     due: Option<Refused>,
@@ -57,13 +57,13 @@ impl Model for PlainStore {
 
     ghost Value = { Plain };
 
-    ghost view = { λ s. record { variable_levels = s.variable_levels.items; element_levels = s.element_levels.items; variables_at = s.variables_at.items; elements_at = s.elements_at.items; words = s.nodes; counts = s.counts; marks = s.marks; pins = s.pins; sweeping = s.sweeping; fulls = s.fulls; due = s.due; memo = s.memo; scratch_room = lent_room s.scratch } };
+    ghost view = { λ s. record { variable_levels = s.variable_levels.items; element_levels = s.element_levels.items; variables_at = s.variables_at.items; elements_at = s.elements_at.items; words = s.nodes; counts = s.counts; marks = s.notes.marks; pins = s.notes.pins; sweeping = s.sweeping; fulls = s.fulls; due = s.due; memo = s.memo; scratch_room = lent_room s.scratch } };
 
-    ghost invariant = { λ s. IsStore (record { variable_levels = s.variable_levels.items; element_levels = s.element_levels.items; variables_at = s.variables_at.items; elements_at = s.elements_at.items; words = s.nodes; counts = s.counts; marks = s.marks; pins = s.pins; sweeping = s.sweeping; fulls = s.fulls; due = s.due; memo = s.memo; scratch_room = lent_room s.scratch }) };
+    ghost invariant = { λ s. IsStore (record { variable_levels = s.variable_levels.items; element_levels = s.element_levels.items; variables_at = s.variables_at.items; elements_at = s.elements_at.items; words = s.nodes; counts = s.counts; marks = s.notes.marks; pins = s.notes.pins; sweeping = s.sweeping; fulls = s.fulls; due = s.due; memo = s.memo; scratch_room = lent_room s.scratch }) };
 }
 
 /// The child that a node would be, if it would be one.
-fn only_child(var: u32, hi: Edge, lo: Edge) -> Option<Edge>
+pub(crate) fn only_child(var: u32, hi: Edge, lo: Edge) -> Option<Edge>
     ensures child { IfSome result (IsChild var hi lo) }
     ensures none { IfNone result (HasNoChild var hi lo) }
 {
@@ -76,7 +76,8 @@ fn only_child(var: u32, hi: Edge, lo: Edge) -> Option<Edge>
     }
 }
 
-fn opened(word: Word, complement: bool) -> Opened
+/// A word, with the complement of the edge to it pushed to both children.
+pub(crate) fn opened(word: Word, complement: bool) -> Opened
     ensures { result ≡ opened_of word complement }
 {
     match word {
@@ -312,8 +313,9 @@ impl PlainStore {
     ghost use Rattle.computed_cache.specs.Entries.{kept_at};
     ghost use Rattle.node_store.specs.Contents.{IsSound, is_leaf, is_node_of as is_node_in, nodes_of as nodes_at, used_slots};
     ghost use Rattle.node_store.specs.Changes.{IsLeastFrom, with_mark, with_pin};
-    ghost use Rattle.node_slots.specs.Stores.{plain_view, count_at, generation_at, in_use, is_set, slots, IsOpening, IsCleared, IsUnknown};
+    ghost use Rattle.node_slots.specs.Stores.{IsStore, plain_view, count_at, generation_at, in_use, is_set, slots, IsOpening, IsCleared, IsUnknown};
     ghost use Rattle.node_slots.specs.Wholes.{content_view};
+    ghost use Rattle.node_slots.specs.Held.{held_view};
     ghost use Rattle.node_slots.specs.Counts.{IsFreed, IsRecounted, IsUnnamed};
     ghost use Rattle.node_slots.specs.Taking.{nodes_of};
 
@@ -331,8 +333,7 @@ impl PlainStore {
         let elements_at = ascending(alloc, elements)?;
         let nodes = NodeTable::new(alloc, vars, limit)?;
         let counts = CountTable::new(alloc, limit)?;
-        let marks = FlagTable::new(alloc, limit)?;
-        let pins = FlagTable::new(alloc, limit)?;
+        let notes = SlotNotes::new(alloc, limit)?;
         let memo = Memo::new(alloc, REMEMBERED)?;
         Ok(PlainStore {
             alloc,
@@ -342,8 +343,7 @@ impl PlainStore {
             elements_at,
             nodes,
             counts,
-            marks,
-            pins,
+            notes,
             sweeping: false,
             fulls: 0,
             due: None,
@@ -389,6 +389,7 @@ impl PlainStore {
     /// The number of slots. Between two calls the store is sound, as a holder knows it.
     pub fn limit(&self) -> u32
         ensures limit { result ≡ length self.now.words }
+        ensures store { IsStore self.now }
         ensures sound { IsSound (content_view self.now) }
     {
         self.nodes.limit()
@@ -470,20 +471,6 @@ impl PlainStore {
         self.nodes.nodes_of(var)
     }
 
-    /// The least slot from this one on with a node of a variable, or none, by a walk over all words from there on. Element e is 16,384 + e.
-    pub fn next_node(&self, var: u32, from: u32) -> Option<u32>
-        ensures { IsLeastFrom (content_view self.now) (λ s. is_node_in var ((content_view self.now).word s) ≡ true) from result }
-    {
-        next_node(self.nodes.words(), var, from)
-    }
-
-    /// The least slot from this one on with a leaf, or none, by a walk over all words from there on.
-    pub fn next_leaf(&self, from: u32) -> Option<u32>
-        ensures { IsLeastFrom (content_view self.now) (λ s. is_leaf ((content_view self.now).word s) ≡ true) from result }
-    {
-        next_number(self.nodes.words(), from)
-    }
-
     /// Whether a slot has a word.
     pub fn is_used(&self, slot: u32) -> bool
         ensures { IsTrue result ↔ (slots self.now slot ≡ None → ⊥) }
@@ -503,60 +490,11 @@ impl PlainStore {
         false
     }
 
-    /// Whether a slot is marked.
-    pub fn is_marked(&self, slot: u32) -> bool
-        ensures { result ≡ is_set self.now.marks slot }
-    {
-        self.marks.is_set(slot)
-    }
-
-    /// Marks a slot, or takes its mark away.
-    pub fn set_mark(&mut self, slot: u32, on: bool)
-        requires { slot < length self.old.words }
-        ensures content { content_view self.new ≡ with_mark (content_view self.old) slot on }
-        ensures sound { IsSound (content_view self.new) }
-        ensures rest { self.new ≡ record self.old { marks = self.new.marks } }
-    {
-        self.marks.set(slot, on);
-    }
-
     /// Whether a slot is pinned.
     pub fn is_pinned(&self, slot: u32) -> bool
         ensures { result ≡ is_set self.now.pins slot }
     {
-        self.pins.is_set(slot)
-    }
-
-    /// Pins a slot with a word, or gives its pin up.
-    pub fn set_pin(&mut self, slot: u32, on: bool)
-        requires { slots self.old slot ≡ None → ⊥ }
-        ensures content { content_view self.new ≡ with_pin (content_view self.old) slot on }
-        ensures sound { IsSound (content_view self.new) }
-        ensures rest { self.new ≡ record self.old { pins = self.new.pins } }
-    {
-        self.pins.set(slot, on);
-    }
-
-    /// Begins a sweep, where none is on. No slot is marked then, and no answer is remembered.
-    pub fn begin_sweep(&mut self)
-        requires { self.old.sweeping ≡ false }
-        ensures content { content_view self.new ≡ record (content_view self.old) { sweeping = true; marked = λ _. false } }
-        ensures sound { IsSound (content_view self.new) }
-        ensures memo { (i : ℕ) → kept_at self.new.memo i ≡ None }
-        ensures rest { self.new ≡ record self.old { sweeping = true; marks = self.new.marks; memo = self.new.memo } }
-    {
-        self.marks.clear();
-        self.memo.clear();
-        self.sweeping = true;
-    }
-
-    /// Ends the sweep that is on.
-    pub fn end_sweep(&mut self)
-        requires { self.old.sweeping ≡ true }
-        ensures sound { IsSound (content_view self.new) }
-        ensures rest { self.new ≡ record self.old { sweeping = false } }
-    {
-        self.sweeping = false;
+        self.notes.is_pinned(slot)
     }
 
     /// Frees a slot that no row, cell or pin holds and no node names: what the other slots denote stays, and the slot is the next that a node takes, in its next generation. No answer is kept of it, and nothing is due then, since the arguments of a refused call may name the slot.
@@ -587,8 +525,7 @@ impl PlainStore {
         let permanent = FIRST_PROJECTION + vars;
         advance_from(&mut self.counts, &self.nodes, permanent);
         self.nodes.clear(vars);
-        self.marks.clear();
-        self.pins.clear();
+        self.notes.clear();
         self.sweeping = false;
         self.memo.clear();
         self.due = None;
@@ -603,5 +540,86 @@ impl PlainStore {
         // The words make them so.
         let _ = &self.nodes;
         f == g
+    }
+
+    /// Hands the store over to one holder, who sweeps it or reorders it, and gives it back by `release`. No answer is remembered then, and nothing is due, since slots are freed and variables change their levels.
+    pub fn hold(self) -> HeldStore
+        ensures content { held_view result ≡ content_view self }
+        ensures memo { (i : ℕ) → kept_at result.plain.memo i ≡ None }
+        ensures rest { result ≡ record { plain = record self { due = None; memo = result.plain.memo }; half = None; chain = result.chain } }
+    {
+        let PlainStore {
+            alloc,
+            variable_levels,
+            element_levels,
+            variables_at,
+            elements_at,
+            nodes,
+            counts,
+            mut notes,
+            sweeping,
+            fulls,
+            due: _,
+            mut memo,
+            scratch,
+        } = self;
+        memo.clear();
+        notes.unlink();
+        HeldStore {
+            alloc,
+            variable_levels,
+            element_levels,
+            variables_at,
+            elements_at,
+            nodes,
+            counts,
+            notes,
+            sweeping,
+            fulls,
+            memo,
+            scratch,
+            half: None,
+        }
+    }
+}
+
+impl HeldStore {
+    ghost use Rattle.node_slots.specs.Held.{held_view};
+
+    /// Gives the store back. No swap is half made.
+    pub fn release(self) -> PlainStore
+        requires { (held_view self).half ≡ None }
+        ensures { result ≡ self.plain }
+    {
+        let HeldStore {
+            alloc,
+            variable_levels,
+            element_levels,
+            variables_at,
+            elements_at,
+            nodes,
+            counts,
+            notes,
+            sweeping,
+            fulls,
+            memo,
+            scratch,
+            half: _,
+        } = self;
+        PlainStore {
+            alloc,
+            variable_levels,
+            element_levels,
+            variables_at,
+            elements_at,
+            nodes,
+            counts,
+            notes,
+            sweeping,
+            fulls,
+            due: None,
+            memo,
+            scratch,
+        }
     }
 }

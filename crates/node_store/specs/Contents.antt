@@ -80,6 +80,7 @@ view_of w = record {
   fulls = 0;
   due = None;
   count = λ s. 0;
+  generation = λ s. 0;
   is_held = false;
   may_want_memory = false;
   room = 0;

@@ -13,7 +13,7 @@ use Rattle.node_store.specs.Views.{View, levels, IsVariable, IsBeyond, function_
 use Rattle.node_store.specs.Edges.{flip_if}
 
 pub Grown-refl : (a : View) → Grown a a
-Grown-refl a = record { vars = refl; elements = refl; slots = refl; level = refl; content = λ s f h. h; top = λ s f h. refl; made = λ s h. h; fulls = omega arith; counts = refl; holds = refl; wants = λ h. h }
+Grown-refl a = record { vars = refl; elements = refl; slots = refl; level = refl; content = λ s f h. h; top = λ s f h. refl; made = λ s h. h; fulls = omega arith; counts = refl; generations = refl; holds = refl; wants = λ h. h }
 
 pub Grown-trans : {a b c : View} → Grown a b → Grown b c → Grown a c
 Grown-trans p q = record {
@@ -26,6 +26,7 @@ Grown-trans p q = record {
   made = λ s h. q.made s (p.made s h);
   fulls = omega arith;
   counts = q.counts ∙ p.counts;
+  generations = q.generations ∙ p.generations;
   holds = q.holds ∙ p.holds;
   wants = λ h. p.wants (q.wants h);
 }

@@ -30,6 +30,8 @@ pub record View : Type 0 where
   pub due : Option Denoted
   -- how often rows, cells and pins hold each slot
   pub count : ℕ → ℕ
+  -- how often each slot was freed, modulo 2^32
+  pub generation : ℕ → ℕ
   -- whether a sweep, a half-made swap or a pin is on
   pub is_held : Bool
   -- whether it may want memory
@@ -99,6 +101,7 @@ pub record Grown (old new : View) : Type 0 where
   pub made : (s : ℕ) → old.made s ≡ true → new.made s ≡ true
   pub fulls : old.fulls ≤ new.fulls
   pub counts : new.count ≡ old.count
+  pub generations : new.generation ≡ old.generation
   pub holds : new.is_held ≡ old.is_held
   pub wants : new.may_want_memory ≡ true → old.may_want_memory ≡ true
 

@@ -1,7 +1,8 @@
 -- Edges of a store that a test hands on.
-use Rattle.std.proofs.Common.{◌≡◌, ℕ, ◌+◌, ◌<◌, ◌≤◌, false, ℤ, pos, refl, sym, arith, subst}
+use Rattle.std.proofs.Common.{◌≡◌, ℕ, ◌+◌, ◌<◌, ◌≤◌, false, Option, Some, None, ℤ, pos, refl, sym, arith, subst}
 use Rattle.edge_bits.specs.declared.edges.Edge.{Edge}
 use Rattle.edge_bits.specs.declared.edges.Kind.TheVariants.{Bdd, Add, Zdd}
+use Rattle.edge_bits.specs.declared.words.Word.{Word}
 use Rattle.edge_bits.specs.Permanent.{base_edge, empty_edge, first_element, zero_edge}
 use Rattle.function_laws.specs.Families.{base, empty}
 use Rattle.function_laws.specs.Values.{constant}
@@ -46,3 +47,8 @@ can_make_single w hi lo permanent some is_hi is_lo =
       hi_below = λ u in_range above. rw (values_at-is Zdd (denotes_base w permanent)) (Lacks-leaf Zdd base_edge base (pos 1) only_base u);
       lo_below = λ u in_range above. rw (values_at-is Zdd (denotes_empty w permanent)) (Lacks-leaf Zdd empty_edge empty (pos 0) no_member u);
     }))
+
+-- what is not free has a word
+pub some_word : (o : Option Word) → (o ≡ None → ⊥) → (word : Word) × (o ≡ Some word)
+some_word None used = absurd (used refl)
+some_word (Some word) used = (word, refl)

@@ -7,7 +7,7 @@ ghost use Rattle.node_store.specs.Three.{AreThree};
 
 use edge_bits::{Edge, FIRST_ELEMENT, FIRST_PROJECTION, Kind, Node, VALUE_END};
 use ite_core::and;
-use node_slots::{Grow, Opened, PlainStore, Stop};
+use node_slots::{Grow, Opened, PlainStore, Stop, Whole};
 use std::test::Fail;
 
 /// The node of a product: its else arc leads to logic zero.
@@ -106,18 +106,27 @@ fn lower(store: &mut PlainStore, slot: u32) {
     }
 }
 
-/// Pins a slot with a word, or gives its pin up.
-fn pin(store: &mut PlainStore, slot: u32, on: bool) {
-    if store.is_used(slot) {
-        store.set_pin(slot, on);
+/// Hands the store over to a holder who pins a slot with a word, and gives it back.
+fn pin(store: PlainStore, slot: u32) -> PlainStore {
+    if store.is_pinned(slot) {
+        return store;
     }
+    if store.is_used(slot) {
+        let mut held = store.hold();
+        held.pin(slot);
+        return held.release();
+    }
+    store
 }
 
-/// Marks a slot.
-fn mark(store: &mut PlainStore, slot: u32) {
-    if slot < store.limit() {
-        store.set_mark(slot, true);
+/// The same, where the pin is given up.
+fn unpin(store: PlainStore, slot: u32) -> PlainStore {
+    if !store.is_pinned(slot) {
+        return store;
     }
+    let mut held = store.hold();
+    held.unpin(slot);
+    held.release()
 }
 
 /// Frees a slot, if nothing holds it and no node names it.
@@ -184,16 +193,14 @@ fn a_pinned_slot_is_not_freed(rt: HostRuntime) -> Result<(), Fail> {
     let Some((two, three)) = products(&mut store) else {
         return Err(Fail::new("refused with two free slots"));
     };
-    pin(&mut store, three.index, true);
-    mark(&mut store, two.index);
+    let mut store = pin(store, three.index);
     assert!(rt; store.is_pinned(three.index) && !store.is_pinned(two.index));
-    assert!(rt; store.is_marked(two.index) && !store.is_marked(three.index));
     assert_eq!(rt; store.count_of(three.index), 0);
     assert!(rt; !free(&mut store, three.index));
-    pin(&mut store, three.index, false);
+    let mut store = unpin(store, three.index);
+    assert!(rt; !store.is_pinned(three.index));
     assert!(rt; free(&mut store, three.index));
     assert_eq!(rt; store.clear(), 8);
-    assert!(rt; !store.is_marked(two.index));
     Ok(())
 }
 

@@ -14,9 +14,9 @@ invariant_of-self c =
     let from = 5 + c.len-vars.result in
     let vars : from ≡ 5 + length p.variable_levels = ap (λ n. 5 + n) (c.len-vars.ensures ∙ c.self.inside.variable_levels.ok.0) in
     let kept = permanent_kept p c.self.invariant.permanent c.clear.new.self from vars e.permanent in
-    IsStore-cleared p c.clear.new.self c.advance_from.new.counts c.clear-4.new.self c.clear-2.new.self c.clear-3.new.self p.fulls None c.self.invariant none_due from c.clear-4.ensures.empty vars e.length
+    IsStore-cleared p c.clear.new.self c.advance_from.new.counts c.clear-3.new.self c.clear-2.new.self.marks c.clear-2.new.self.pins p.fulls None c.self.invariant none_due from c.clear-3.ensures.empty vars e.length
     (cleared_holds p c.self.invariant.holds c.clear.new.self c.advance_from.new.counts from kept a.advanced a.others
-    (with_rest p c.clear.new.self c.advance_from.new.counts p.fulls None c.clear-4.new.self c.clear-2.new.self c.clear-3.new.self) refl refl e.length a.as_many c.clear-2.ensures c.clear-3.ensures)
+    (with_rest p c.clear.new.self c.advance_from.new.counts p.fulls None c.clear-3.new.self c.clear-2.new.self.marks c.clear-2.new.self.pins) refl refl e.length a.as_many c.clear-2.ensures.marks c.clear-2.ensures.pins)
     kept e.free
 
 pub returns-clause-in_use : goal.returns-clause-in_use
@@ -31,7 +31,7 @@ returns-clause-cleared c =
     let p = the_view c.self.inside in
     let e = c.clear.ensures in
     let vars : 5 + c.len-vars.result ≡ 5 + length p.variable_levels = ap (λ n. 5 + n) (c.len-vars.ensures ∙ c.self.inside.variable_levels.ok.0) in
-    subst (λ q. IsCleared q (with_rest p c.clear.new.self c.advance_from.new.counts p.fulls None c.clear-4.new.self c.clear-2.new.self c.clear-3.new.self)) c.self.view_is
+    subst (λ q. IsCleared q (with_rest p c.clear.new.self c.advance_from.new.counts p.fulls None c.clear-3.new.self c.clear-2.new.self.marks c.clear-2.new.self.pins)) c.self.view_is
     (record {
       variable_levels = refl;
       element_levels = refl;
@@ -42,10 +42,10 @@ returns-clause-cleared c =
       free = rw vars at e.free;
       freed = rw vars at c.advance_from.ensures.advanced;
       others = rw vars at c.advance_from.ensures.others;
-      unmarked = λ s. no_flag c.clear-2.new.self (length p.marks) s c.clear-2.ensures;
-      unpinned = λ s. no_flag c.clear-3.new.self (length p.pins) s c.clear-3.ensures;
+      unmarked = λ s. no_flag c.clear-2.new.self.marks (length p.marks) s c.clear-2.ensures.marks;
+      unpinned = λ s. no_flag c.clear-2.new.self.pins (length p.pins) s c.clear-2.ensures.pins;
       sweeping = refl;
       fulls = refl;
       due = refl;
-      memo = c.clear-4.ensures.empty;
+      memo = c.clear-3.ensures.empty;
     })

@@ -1,0 +1,12 @@
+use Rattle.edge_bits.specs.declared.edges.Kind.TheVariants.{Add, Bdd}
+use Rattle.node_store.specs.ViewLaws.{Is-from, Is-grown}
+use Rattle.hit_tests.proofs.diagrams.numbers.Goals as goal
+
+pub from_bdd-requires-2 : goal.from_bdd-requires-2
+from_bdd-requires-2 g c = Is-grown Bdd c.from_bdd.ensures.grown c.in_ok-truths.ensures.two.second
+
+pub returns-clause-two : goal.returns-clause-two
+returns-clause-two g c = record {
+  first = Is-grown Add c.from_bdd-2.ensures.grown (Is-from Add c.in_ok-even.ensures.answer);
+  second = Is-from Add c.in_ok-odd.ensures.answer;
+}

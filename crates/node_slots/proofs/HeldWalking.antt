@@ -1,0 +1,72 @@
+-- The next slot of a variable in a held store.
+use Rattle.std.proofs.Common.{◌≡◌, ℕ, ◌<◌, ◌≤◌, Bool, true, false, nat_eq, List, get_or, Option, Some, None, refl, ap, sym, ◌∙◌, subst}
+use Rattle.std.specs.Prelude.{IfNone, IfSome, ◌==◌}
+use Rattle.std.proofs.lemmas.Bool.{eqb-true, eq-eqb}
+use Rattle.edge_bits.specs.declared.words.Node.{Node}
+use Rattle.edge_bits.specs.declared.words.Word.{Word}
+use Rattle.edge_bits.specs.declared.words.Word.TheVariants.{Inner, Leaf}
+use Rattle.edge_bits.specs.Reading.{slots_of}
+use Rattle.edge_bits.specs.Words.{unpack_of}
+use Rattle.function_laws.proofs.ValueLemmas.{everywhere}
+use Rattle.node_store.specs.Contents.{is_node_of}
+use Rattle.node_store.specs.Changes.{After, IsLeastFrom}
+use Rattle.slot_notes.specs.Linked.{HasNode, IsLinkedTo}
+use Rattle.slot_notes.specs.Notes.{Chain, Notes}
+use Rattle.slot_notes.specs.declared.notes.Cursor.{Cursor}
+use Rattle.node_slots.specs.Stores.{slots}
+use Rattle.node_slots.specs.Held.{Alone, Held, IsHeld, held_view}
+use Rattle.node_slots.proofs.HeldLaws.{after_seen}
+use Rattle.node_slots.proofs.HeldMarks.{with_notes}
+
+-- a node of the variable, as a holder and as the notes tell it
+has_node : (word : ℕ → Option Word) (v s : ℕ) → is_node_of v (word s) ≡ true → HasNode word v s
+has_node word v s = by_word (word s) refl
+  where
+    by_word : (o : Option Word) → word s ≡ o → is_node_of v o ≡ true → HasNode word v s
+    by_word None is h = cc
+    by_word (Some (Leaf x)) is h = cc
+    by_word (Some (Inner node)) is h = (node, is, eqb-true node.var v h)
+
+is_node : (word : ℕ → Option Word) (v s : ℕ) → HasNode word v s → is_node_of v (word s) ≡ true
+is_node word v s h = ap (is_node_of v) h.1 ∙ eq-eqb h.0.var v h.2
+
+-- what the notes found is what the holder asks for
+pub least_node : (word : ℕ → Option Word) (w : Held) → word ≡ slots w.plain → (v from : ℕ) (found : Option ℕ)
+    → IfSome found (λ s. (from ≤ s) × HasNode word v s) → IfSome found (λ s. (t : ℕ) → from ≤ t → t < s → HasNode word v t → ⊥) → IfNone found ((t : ℕ) → from ≤ t → HasNode word v t → ⊥)
+    → IsLeastFrom (held_view w) (λ s. is_node_of v ((held_view w).word s) ≡ true) from found
+least_node word w same v from found some least none = subst (λ x. IsLeastFrom (held_view w) (λ s. is_node_of v (x s) ≡ true) from found) same (at found some least none)
+  where
+    at : (o : Option ℕ) → IfSome o (λ s. (from ≤ s) × HasNode word v s) → IfSome o (λ s. (t : ℕ) → from ≤ t → t < s → HasNode word v t → ⊥)
+        → IfNone o ((t : ℕ) → from ≤ t → HasNode word v t → ⊥) → IsLeastFrom (held_view w) (λ s. is_node_of v (word s) ≡ true) from o
+    at None some least none = λ s le h. none s le (has_node word v s h)
+    at (Some s) some least none = (some.0, is_node word v s some.1, λ t le lt h. least t le lt (has_node word v t h))
+
+-- the words that a walk reads
+pub words_read : (q : Held) (ws : List ℕ) → ((s : ℕ) → get_or ws s 0 ≡ get_or q.plain.words s 0) → slots_of ws ≡ slots q.plain
+words_read q ws words = everywhere (slots_of ws) (slots q.plain) (λ s. ap unpack_of (words s))
+
+-- the links move on, and nothing else
+pub walked_held : (q : Held) → IsHeld q → (chain : Chain) (word : ℕ → Option Word) → word ≡ slots q.plain → IsLinkedTo word chain → IsHeld (record q { chain = chain })
+walked_held q is chain word same linked = record {
+  sound = is.sound;
+  variables_stand = is.variables_stand;
+  elements_stand = is.elements_stand;
+  permanent = record { constants = is.permanent.constants; projections = is.permanent.projections };
+  few_variables = is.few_variables;
+  few_elements = is.few_elements;
+  room = is.room;
+  counted = is.counted;
+  marks_fit = is.marks_fit;
+  pins_fit = is.pins_fit;
+  nothing_due = is.nothing_due;
+  forgotten = is.forgotten;
+  linked = subst (λ w. IsLinkedTo w chain) same linked;
+}
+
+module _ (q h : Held) (same : q ≡ h) (is : IsHeld q) (n : Notes) (cursor : Cursor) (e : n ≡ record { marks = q.plain.marks; pins = q.plain.pins; chain = record q.chain { cursor = cursor } })
+    (word : ℕ → Option Word) (words : word ≡ slots q.plain) (linked : IsLinkedTo word n.chain) where
+  pub next_held : IsHeld (with_notes q n)
+  next_held = subst (λ x. IsLinkedTo word x.chain → IsHeld (with_notes q x)) (sym e) (walked_held q is (record q.chain { cursor = cursor }) word words) linked
+
+  pub next_after : After Alone (held_view h) (held_view (with_notes q n))
+  next_after = subst (λ x. After Alone (held_view x) (held_view (with_notes q n))) same (after_seen (held_view q) (held_view (with_notes q n)) (ap (λ x. held_view (with_notes q x)) e) next_held.sound)

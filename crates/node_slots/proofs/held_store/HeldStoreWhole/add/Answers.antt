@@ -1,0 +1,42 @@
+use Rattle.std.proofs.Common.{ℕ, ap, arith}
+use Rattle.edge_bits.specs.declared.edges.Edge.{Edge}
+use Rattle.edge_bits.specs.declared.words.Node.{Node}
+use Rattle.edge_bits.specs.declared.edges.Kind.{Kind}
+use Rattle.node_store.specs.Changes.{CanAdd}
+use Rattle.node_slots.specs.Held.{held_view}
+use Rattle.node_slots.specs.contracts.held_store.HeldStore.{the_view}
+use Rattle.node_slots.proofs.HeldAdding.{Answered, adding, added_fits, child_added, no_place, variable_fits}
+use Rattle.node_slots.proofs.HeldRewriting.{with_words}
+use Rattle.node_slots.proofs.held_store.HeldStoreWhole.add.Goals as goal
+use Rattle.node_slots.proofs.held_store.HeldStoreWhole.add.Goals.{After-new}
+
+-- a node from its fields
+abbrev node_of : ℕ → ℕ → Edge → Node
+node_of v h l = record { var = v; hi = h; lo = l }
+
+pub returns-in-Some : goal.returns-in-Some
+returns-in-Some c = λ k can. child_added (the_view c.self.inside) c.args.self.now c.self.view_is c.self.invariant k c.args.var c.args.hi c.args.lo c.in-Some.child can c.in-Some.ensures.child
+
+pub overflow_cast-node : goal.overflow_cast-node
+overflow_cast-node c =
+    let small = variable_fits (the_view c.self.inside) c.args.self.now c.self.view_is c.self.invariant c.requires.0 c.args.var c.args.hi c.args.lo c.requires.1 in omega arith
+
+pub place-requires : goal.place-requires
+place-requires c = record {
+  range = added_fits (the_view c.self.inside) c.args.self.now c.self.view_is c.self.invariant c.requires.0 c.args.var c.args.hi c.args.lo c.requires.1 c.flip_if.result c.flip_if.ensures;
+}
+
+pub unreachable-requires : goal.unreachable-requires
+unreachable-requires c = no_place (the_view c.self.inside) c.args.self.now c.self.view_is c.self.invariant c.args.var c.args.hi c.args.lo c.requires c.in_default.ensures.none
+    _ (ap (λ e. node_of c.args.var c.args.hi.index e) c.flip_if.ensures) c.place.new.self c.in-None.ensures.full
+
+answered : (c : After-new) → (k : Kind) → CanAdd k (held_view c.args.self.now) c.args.var c.args.hi c.args.lo
+    → Answered k c.args.self.now (with_words (the_view c.self.inside) c.place.new.self (the_view c.self.inside).half) c.args.var c.args.hi c.args.lo c.new.result
+answered c k can = adding (the_view c.self.inside) c.args.self.now c.self.view_is c.self.invariant k c.args.var c.args.hi c.args.lo can c.in_default.ensures.none
+    _ (ap (λ e. node_of c.args.var c.args.hi.index e) c.flip_if.ensures) c.place.new.self c.in-Some-place.slot c.in-Some-place.ensures.placed c.new.result c.new.ensures
+
+pub invariant_of-self : goal.invariant_of-self
+invariant_of-self c = rw c.unlink.ensures (answered c c.requires.0 c.requires.1).held
+
+pub returns : goal.returns
+returns c = λ k can. rw c.unlink.ensures (answered c k can).added

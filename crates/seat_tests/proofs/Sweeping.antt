@@ -1,0 +1,13 @@
+-- A turn in which a sweep is told.
+use Rattle.std.proofs.Common.{refl}
+use Rattle.function_laws.specs.Steps.{is_done}
+use Rattle.seat_guard.specs.declared.view.Draws.{Draws}
+use Rattle.seat_guard.specs.Views.{MayTell, nothing_told}
+
+pub may_sweep : (d : Draws) → MayTell d nothing_told
+may_sweep d = record {
+  plain = refl;
+  step = λ t a. ((is_done, refl, tt), record { sizes_are = a.sizes_are; live = a.live; fresh = a.fresh; cells = a.cells });
+  carries = tt;
+  room = tt;
+}

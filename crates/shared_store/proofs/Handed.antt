@@ -1,0 +1,45 @@
+-- A store that is handed over for a sweep and given back.
+use Rattle.std.proofs.Common.{◌≡◌, ℕ, zero, suc, ◌==◌, Bool, true, false, ◌||◌, List, [], ◌∷◌, get_or, Option, Some, None, refl, ap, sym, subst, ◌∙◌}
+use Rattle.std.specs.List.{list_any}
+use Rattle.node_store.specs.Contents.{Content}
+use Rattle.node_slots.specs.Held.{Alone, Held, held_view, pair_in}
+use Rattle.node_slots.specs.Stores.{Plain, is_held}
+use Rattle.node_slots.specs.Wholes.{content_view}
+use Rattle.node_slots.specs.declared.held_store.HalfSwap.{HalfSwap}
+use Rattle.dead_sweep.specs.declared.sweeping.Swept.{Swept}
+use Rattle.dead_sweep.specs.Swept.{IsSwept}
+
+neither : (a b : Bool) → (a || b) ≡ false → (a ≡ false) × (b ≡ false)
+neither true b e = cc
+neither false b e = (refl, e)
+
+none_set : (pins : List ℕ) → list_any (λ bits. bits == 1) pins ≡ false → (s : ℕ) → (get_or pins s 0 == 1) ≡ false
+none_set [] none s = refl
+none_set (x ∷ pins) none zero = (neither (x == 1) (list_any (λ bits. bits == 1) pins) none).0
+none_set (x ∷ pins) none (suc s) = none_set pins (neither (x == 1) (list_any (λ bits. bits == 1) pins) none).1 s
+
+none_any : (pins : List ℕ) → ((s : ℕ) → (get_or pins s 0 == 1) ≡ false) → list_any (λ bits. bits == 1) pins ≡ false
+none_any [] none = refl
+none_any (x ∷ pins) none = ap (λ b. b || list_any (λ bits. bits == 1) pins) (none zero) ∙ none_any pins (λ s. none (suc s))
+
+pub not_sweeping : (p : Plain) → is_held p ≡ false → p.sweeping ≡ false
+not_sweeping p idle = (neither p.sweeping (list_any (λ bits. bits == 1) p.pins) idle).0
+
+pub half_none : (o : Option HalfSwap) → pair_in o ≡ None → o ≡ None
+half_none None none = refl
+half_none (Some half) none = cc
+
+-- no swap is half made after it, and so what its holder knew is what holds of the store
+pub given_back : (p : Plain) (before after : Held) (swept : Swept) → held_view before ≡ content_view p → IsSwept Alone (held_view before) (held_view after) swept → IsSwept Alone (content_view p) (content_view after.plain) swept
+given_back p before after swept same is =
+    let back : held_view after ≡ content_view after.plain = ap (λ (o : Option HalfSwap). record (content_view after.plain) { half = pair_in o }) (half_none after.half is.half) in
+    subst (λ (c : Content). IsSwept Alone (content_view p) c swept) back (subst (λ (c : Content). IsSwept Alone c (held_view after) swept) same is)
+
+pub still_idle : (p q : Plain) (swept : Swept) → is_held p ≡ false → IsSwept Alone (content_view p) (content_view q) swept → is_held q ≡ false
+still_idle p q swept idle is =
+    let pins = none_set p.pins (neither p.sweeping (list_any (λ bits. bits == 1) p.pins) idle).1 in
+    ap (λ b. b || list_any (λ bits. bits == 1) q.pins) is.sweeping ∙ none_any q.pins (λ s. ap (λ (f : ℕ → Bool). f s) is.pinned ∙ pins s)
+
+-- the same of the store as it was given back
+pub swept_back : (p q : Plain) (before after : Held) (swept : Swept) → held_view before ≡ content_view p → q ≡ after.plain → IsSwept Alone (held_view before) (held_view after) swept → IsSwept Alone (content_view p) (content_view q) swept
+swept_back p q before after swept same back is = subst (λ (x : Plain). IsSwept Alone (content_view p) (content_view x) swept) (sym back) (given_back p before after swept same is)

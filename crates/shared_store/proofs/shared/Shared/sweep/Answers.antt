@@ -1,0 +1,19 @@
+use Rattle.std.proofs.Common.{refl}
+use Rattle.shared_store.proofs.Handed.{still_idle, swept_back}
+use Rattle.shared_store.proofs.Swept.{generations-swept, lasts-swept}
+use Rattle.shared_store.proofs.shared.Shared.sweep.Goals as goal
+
+pub invariant_of-result : goal.invariant_of-result
+invariant_of-result c =
+    let is = swept_back c.args.self.store c.release-store.result c.hold-held.result c.sweep-swept.new.w c.sweep-swept.result c.hold-held.ensures.content c.release-store.ensures c.sweep-swept.ensures in
+    record { as_many = c.args.self.as_many; idle = still_idle c.args.self.store c.release-store.result c.sweep-swept.result c.args.self.idle is }
+
+pub returns-clause-lasts : goal.returns-clause-lasts
+returns-clause-lasts c =
+    let is = swept_back c.args.self.store c.release-store.result c.hold-held.result c.sweep-swept.new.w c.sweep-swept.result c.hold-held.ensures.content c.release-store.ensures c.sweep-swept.ensures in
+    lasts-swept c.args.self _ c.sweep-swept.result c.limit-store.ensures.store c.limit-store-2.ensures.store is refl
+
+pub returns-clause-generations : goal.returns-clause-generations
+returns-clause-generations c =
+    let is = swept_back c.args.self.store c.release-store.result c.hold-held.result c.sweep-swept.new.w c.sweep-swept.result c.hold-held.ensures.content c.release-store.ensures c.sweep-swept.ensures in
+    generations-swept c.args.self.store c.release-store.result c.sweep-swept.result c.limit-store.ensures.store is

@@ -1,0 +1,81 @@
+-- What all sessions share, as the rule of their seats sees it.
+use Rattle.std.specs.Prelude.{◌≡◌, ◌==◌, ℕ, List, length, map, Option, Some, None}
+use Rattle.edge_bits.specs.declared.edges.Kind.{Kind}
+use Rattle.edge_bits.specs.declared.edges.Kind.TheVariants as kinds
+use Rattle.function_laws.specs.declared.history.Function.{Function}
+use Rattle.function_laws.specs.declared.history.Function.TheVariants.{Bdd, Add, Zdd}
+use Rattle.function_laws.specs.EntryOrders.{opening_orders}
+use Rattle.function_laws.specs.SessionEntries.{Each}
+use Rattle.function_laws.specs.Sizes.{Orders}
+use Rattle.node_store.specs.Listed.{listed_at}
+use Rattle.node_store.specs.Views.{View, Is}
+use Rattle.node_slots.specs.Stores.{IsOpening, plain_view, count_at, generation_at}
+use Rattle.seat_guard.specs.declared.view.Held.{Held}
+use Rattle.seat_guard.specs.declared.view.Draws.{Draws}
+use Rattle.seat_guard.specs.Views.{cell_in, sizes_for}
+use Rattle.seat_guard.specs.Turn.{IsKeptCell, Serves, one_if}
+use Rattle.shared_store.specs.declared.shared.Cell.{Cell}
+use Rattle.shared_store.specs.declared.shared.Shared.{Shared}
+
+abbrev pub kind_of : Function → Kind
+kind_of (Bdd f) = kinds.Bdd
+kind_of (Add f) = kinds.Add
+kind_of (Zdd p) = kinds.Zdd
+
+-- the edge denotes the function, as a whole list
+abbrev pub IsHeldIn : View → Held → Type 0
+IsHeldIn w held = Is (kind_of held.function) w held.edge × (listed_at (kind_of held.function) w held.edge ≡ held.function)
+
+-- a cell with what its edge denotes
+abbrev pub held_of : View → Cell → Held
+held_of w cell = record { edge = cell.edge; function = listed_at cell.kind w cell.edge }
+
+abbrev pub held_in : View → Option Cell → Option Held
+held_in w None = None
+held_in w (Some cell) = Some (held_of w cell)
+
+abbrev pub view_of : Shared → View
+view_of x = plain_view x.store
+
+-- what the rule of the seats sees
+
+abbrev pub keeps : Shared → Held → Type 0
+keeps x held = IsHeldIn (view_of x) held
+
+abbrev pub board : Shared → List (Option Held)
+board x = map (held_in (view_of x)) x.cells.items
+
+abbrev pub counts : Shared → ℕ × ℕ
+counts x = ((view_of x).vars, (view_of x).elements)
+
+abbrev pub count : Shared → ℕ → ℕ
+count x k = count_at x.store k
+
+abbrev pub orders : Shared → Orders
+orders x = record { variables = x.store.variables_at; elements = x.store.elements_at }
+
+-- how often what stands in a cell counts the slot k
+abbrev pub count_in : ℕ → Option Cell → ℕ
+count_in k None = 0
+count_in k (Some cell) = one_if (cell.edge.index == k)
+
+abbrev pub count_at_cell : ℕ → Option (Option Cell) → ℕ
+count_at_cell k None = 0
+count_at_cell k (Some found) = count_in k found
+
+abbrev pub generation : Shared → ℕ → ℕ
+generation x k = generation_at x.store k
+
+-- it keeps all that the seat which has the turn knows
+abbrev pub Serving : Shared → Draws → Type 0
+Serving x d = Serves keeps board counts count orders x d
+
+-- A new one, with all that the opening of a table of seats asks for.
+pub record IsNew (vars elements limit : ℕ) (x : Shared) : Type 0 where
+  pub store : IsOpening vars elements limit x.store
+  pub counts_are : counts x ≡ (vars, elements)
+  pub orders_are : orders x ≡ opening_orders (sizes_for vars elements)
+  pub uncounted : (k : ℕ) → count x k ≡ 0
+  pub as_many : length (board x) ≡ 256
+  pub empty : cell_in (board x) ≡ (λ (i : ℕ). None)
+  pub kept : Each (IsKeptCell keeps board counts count orders x) (board x)

@@ -1,0 +1,10 @@
+//! What the sessions of one manager share: the store and the board, whose slots are counted as often as rows and cells name them.
+#![tactic(auto)]
+
+mod board;
+mod counted;
+mod opening;
+mod shared;
+mod sweeping;
+
+pub use shared::{Cell, Shared};

@@ -1,0 +1,51 @@
+//! The opening, and what the rule of the seats sees.
+
+ghost use Rattle.std.specs.Prelude.{◌≡◌, ◌+◌, ◌≤◌, IfOk, None, replicate};
+ghost use Rattle.shared_store.specs.Sharing.{IsNew};
+
+use crate::shared::{Cell, Shared};
+use edge_bits::Memory;
+use node_slots::PlainStore;
+use seat_guard::content::Content;
+use std::alloc::Global;
+
+impl Content for Shared {
+    ghost use Rattle.shared_store.specs.Sharing.{keeps, board, counts, count, orders};
+
+    ghost keeps = { keeps };
+
+    ghost board = { board };
+
+    ghost counts = { counts };
+
+    ghost count = { count };
+
+    ghost orders = { orders };
+}
+
+/// An empty board.
+fn empty_board(alloc: Global) -> Result<Vec<Option<Cell>>, Memory>
+    ensures { IfOk result (λ cells. cells.items ≡ replicate 256 None) }
+{
+    let mut cells = Vec::new(alloc);
+    for _ in 0..256u32 {
+        cells.push(None)?;
+    }
+    Ok(cells)
+}
+
+impl Shared {
+    /// A store of so many variables and elements, at most 1,024 each, with so many slots: 5 and one for each variable at
+    /// least, 8,388,607 at most. The board is empty, nothing is counted, and both orders are 0, 1, 2, ..
+    pub fn new(alloc: Global, vars: u32, elements: u32, limit: u32) -> Result<Shared, Memory>
+        requires vars { vars ≤ 1024 }
+        requires elements { elements ≤ 1024 }
+        requires least { 5 + vars ≤ limit }
+        requires most { limit ≤ 8388607 }
+        ensures { IfOk result (IsNew vars elements limit) }
+    {
+        let store = PlainStore::new(alloc, vars, elements, limit)?;
+        let cells = empty_board(alloc)?;
+        Ok(Shared { store, cells })
+    }
+}

@@ -1,0 +1,24 @@
+//! The store and the board.
+
+ghost use Rattle.std.specs.Prelude.{◌≡◌, length, false};
+ghost use Rattle.node_slots.specs.Stores.{is_held};
+
+use edge_bits::{Edge, Kind};
+use node_slots::PlainStore;
+
+/// What stands in a cell of the board: an edge, and the kind of what it denotes.
+#[derive(Debug, Clone, Copy, PartialEq, Eq)]
+pub struct Cell {
+    pub kind: Kind,
+    pub edge: Edge,
+}
+
+/// The store, and the 256 cells of the board. Between two calls no sweep is on, and no slot is pinned.
+#[derive(Drop)]
+pub struct Shared {
+    pub store: PlainStore,
+    pub cells: Vec<Option<Cell>>,
+    ghost as_many: { length cells.items ≡ 256 },
+    // No sweep is on, and no slot is pinned.
+    ghost idle: { is_held store ≡ false },
+}
