@@ -2,7 +2,6 @@
 
 ghost use Rattle.std.specs.Prelude.{◌≡◌, ◌<◌, IfOk};
 ghost use Rattle.edge_bits.specs.declared.edges.Kind.TheVariants.{Add, Bdd, Zdd};
-ghost use Rattle.node_store.specs.Three.{AreThree};
 ghost use Rattle.node_store.specs.Views.{AreTwo, Grown, Is};
 
 use add_ops::from_bdd;
@@ -65,55 +64,6 @@ pub fn numbers<G: Grow>(store: &mut G) -> Result<Pair, Stop>
     let even = from_bdd(store, truths.even)?;
     let odd = from_bdd(store, truths.odd)?;
     Ok(Pair { even, odd })
-}
-
-/// Three functions of one kind but for the first, which is Boolean.
-#[derive(Clone, Copy, Drop)]
-pub struct Triple {
-    pub condition: Edge,
-    pub first: Edge,
-    pub second: Edge,
-}
-
-/// The parity of the even variables, that of the odd ones, and the last variable.
-pub fn three_truths<G: Grow>(store: &mut G) -> Result<Triple, Stop>
-    requires { (G.view store.old).vars ≡ 64 }
-    ensures { IfOk result (λ t. AreThree Bdd (G.view store.new) t.condition t.first t.second) }
-{
-    let Pair { even, odd } = parities(store)?;
-    let last = store.projection(63);
-    Ok(Triple {
-        condition: even,
-        first: odd,
-        second: last,
-    })
-}
-
-/// The parity of the even variables, and as numbers that of the odd ones and the first again.
-pub fn choice_of_numbers<G: Grow>(store: &mut G) -> Result<Triple, Stop>
-    requires { (G.view store.old).vars ≡ 64 }
-    ensures { IfOk result (λ t. AreThree Add (G.view store.new) t.condition t.first t.second) }
-{
-    let Pair { even, odd } = parities(store)?;
-    let first = from_bdd(store, odd)?;
-    let second = from_bdd(store, even)?;
-    Ok(Triple {
-        condition: even,
-        first,
-        second,
-    })
-}
-
-/// The parity of all 64 variables, and the last variable beside it.
-pub fn whole_parity<G: Grow>(store: &mut G) -> Result<(Edge, Edge), Stop>
-    requires { (G.view store.old).vars ≡ 64 }
-    ensures vars { (G.view store.new).vars ≡ 64 }
-    ensures two { IfOk result (λ p. AreTwo Bdd (G.view store.new) p.0 p.1) }
-{
-    let Pair { even, odd } = parities(store)?;
-    let whole = xor(store, even, odd)?;
-    let last = store.projection(63);
-    Ok((whole, last))
 }
 
 /// The families of all sets of even and of odd size, with one element more.

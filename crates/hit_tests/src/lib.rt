@@ -6,4 +6,6 @@ mod diagrams;
 #[cfg(test)]
 mod families;
 #[cfg(test)]
+mod parities;
+#[cfg(test)]
 mod watched;
