@@ -38,10 +38,10 @@ impl<G: Grow> Pointwise<G> for Addition {
     ghost op = { λ a b. a +ℤ b };
 
     fn terminal(&self, f: Edge, g: Edge) -> Option<Edge> {
-        if f.index == ZERO_SLOT {
+        if f.index() == ZERO_SLOT {
             return Some(g);
         }
-        if g.index == ZERO_SLOT {
+        if g.index() == ZERO_SLOT {
             return Some(f);
         }
         None
@@ -80,7 +80,7 @@ impl<G: Grow> Pointwise<G> for Subtraction {
     ghost op = { λ a b. a -ℤ b };
 
     fn terminal(&self, f: Edge, g: Edge) -> Option<Edge> {
-        if g.index == ZERO_SLOT {
+        if g.index() == ZERO_SLOT {
             return Some(f);
         }
         if f == g {

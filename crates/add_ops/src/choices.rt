@@ -91,7 +91,7 @@ impl<G: Grow> Pointwise<G> for Reaching {
     ghost op = { λ a b. if int_le b a then a else pos 0 };
 
     fn terminal(&self, f: Edge, g: Edge) -> Option<Edge> {
-        if f == g || f.index == ZERO_SLOT {
+        if f == g || f.index() == ZERO_SLOT {
             Some(f)
         } else {
             None

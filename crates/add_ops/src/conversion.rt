@@ -200,8 +200,9 @@ impl<G: Grow, C: Conversion + Drop> Operation<G> for RememberedOperand<C> {
     }
 
     fn run(self, store: &mut G, stack: &mut Stack) -> Result<Edge, Halt> {
-        let task = Task::two(self.0.f, self.0.f);
-        evaluate(store, stack, &Remembering(self.0), task)
+        let RememberedOperand(operand) = self;
+        let task = Task::two(operand.f, operand.f);
+        evaluate(store, stack, &Remembering(operand), task)
     }
 
     ghost asks_stay = { λ o v w m. Is-grown C.source m };

@@ -22,10 +22,10 @@ impl<G: Grow> Pointwise<G> for Multiplication {
     ghost op = { λ a b. a *ℤ b };
 
     fn terminal(&self, f: Edge, g: Edge) -> Option<Edge> {
-        if f.index == ZERO_SLOT || g.index == ONE_SLOT {
+        if f.index() == ZERO_SLOT || g.index() == ONE_SLOT {
             return Some(f);
         }
-        if g.index == ZERO_SLOT || f.index == ONE_SLOT {
+        if g.index() == ZERO_SLOT || f.index() == ONE_SLOT {
             return Some(g);
         }
         None

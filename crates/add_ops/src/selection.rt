@@ -42,10 +42,10 @@ fn reduce(f: Edge, g: Edge, h: Edge) -> Reduced
     if g == h {
         return Reduced::Answer(g);
     }
-    if f.index == TRUE_SLOT {
-        return Reduced::Answer(if f.complement { h } else { g });
+    if f.index() == TRUE_SLOT {
+        return Reduced::Answer(if f.complement() { h } else { g });
     }
-    if f.complement {
+    if f.complement() {
         let task = Task {
             f: flip_if(f, true),
             g: h,

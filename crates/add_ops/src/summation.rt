@@ -77,10 +77,16 @@ impl<G: Grow> Operator<G> for Summation {
         frame: Frame,
         answer: Edge,
     ) -> Result<Turn, Halt> {
-        match frame.wait {
+        let Frame {
+            task,
+            var,
+            wait,
+            ..
+        } = frame;
+        match wait {
             Wait::First(later) => Ok(Turn::Call(Wait::Second(answer), later)),
             Wait::Second(hi) => {
-                let edge = self.join(store, frame.task, frame.var, hi, answer)?;
+                let edge = self.join(store, task, var, hi, answer)?;
                 Ok(Turn::Done(edge))
             }
             _ => unreachable!(),

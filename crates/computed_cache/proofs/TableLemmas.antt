@@ -5,18 +5,19 @@ use Rattle.std.proofs.lemmas.Bool.{cases_eq, cases_lt}
 use Rattle.std.proofs.lemmas.List.{get_or_past, get_or-set_other, get_or-set_same, length-set}
 use Rattle.edge_bits.specs.declared.edges.Edge.{Edge}
 use Rattle.computed_cache.specs.declared.Key.{Key}
-use Rattle.computed_cache.specs.Entries.{IsEntry, IsInRange, Kept, answer_word, edge_in, key_word, kept_at, kept_in, packed_edge, place_at, place_of, places, without}
+use Rattle.edge_bits.specs.Words.{edge_of_word, word_of_edge}
+use Rattle.computed_cache.specs.Entries.{IsEntry, IsInRange, Kept, answer_word, key_word, kept_at, kept_in, place_at, place_of, places, without}
 use Rattle.computed_cache.proofs.WordLemmas.{answer_back, edge_back, kept_is, words_are}
 
-module _ (words : List ℕ) (n p : ℕ) (key : Key) (r : IsInRange key) (twice : length words ≡ 2 * n) (is : p ≡ place_at (key_word key) (packed_edge key.h) n) where
+module _ (words : List ℕ) (n p : ℕ) (key : Key) (r : IsInRange key) (twice : length words ≡ 2 * n) (is : p ≡ place_at (key_word key) (word_of_edge key.h) n) where
   pub at_place : place_of key (places words) ≡ p
-  at_place = ap (place_at (key_word key) (packed_edge key.h)) (let e : length words / 2 ≡ n = omega (arith, twice) in e) ∙ sym is
+  at_place = ap (place_at (key_word key) (word_of_edge key.h)) (let e : length words / 2 ≡ n = omega (arith, twice) in e) ∙ sym is
 
-  pub found : slice_index words (2 * p) ≡ key_word key → slice_index words (2 * p + 1) / 2 ^ 24 ≡ packed_edge key.h
-      → kept_at words (place_of key (places words)) ≡ Some (record { key = key; edge = edge_in (slice_index words (2 * p + 1) % 2 ^ 24) })
+  pub found : slice_index words (2 * p) ≡ key_word key → slice_index words (2 * p + 1) / 2 ^ 24 ≡ word_of_edge key.h
+      → kept_at words (place_of key (places words)) ≡ Some (record { key = key; edge = edge_of_word (slice_index words (2 * p + 1) % 2 ^ 24) })
   found first second = ap (kept_at words) at_place ∙ kept_is key (slice_index words (2 * p)) (slice_index words (2 * p + 1)) r first second
 
-  pub absent : IsEntry (slice_index words (2 * p)) (slice_index words (2 * p + 1)) → (slice_index words (2 * p) ≡ key_word key → slice_index words (2 * p + 1) / 2 ^ 24 ≡ packed_edge key.h → ⊥)
+  pub absent : IsEntry (slice_index words (2 * p)) (slice_index words (2 * p + 1)) → (slice_index words (2 * p) ≡ key_word key → slice_index words (2 * p + 1) / 2 ^ 24 ≡ word_of_edge key.h → ⊥)
       → (e : Edge) → kept_at words (place_of key (places words)) ≡ Some (record { key = key; edge = e }) → ⊥
   absent (inl none) other e here =
       let h : kept_in 0 (slice_index words (2 * p + 1)) ≡ Some (record { key = key; edge = e }) = ap (λ x. kept_in x (slice_index words (2 * p + 1))) (sym none) ∙ sym (ap (kept_at words) at_place) ∙ here in cc
@@ -49,7 +50,7 @@ module _ (words : List ℕ) (n p : ℕ) (key : Key) (r : IsInRange key) (twice :
     pub put_here : kept_at written (place_of key (places words)) ≡ Some (record { key = key; edge = edge })
     put_here =
         let a = answer_back key edge few in
-        let back : edge_in (answer_word key edge % 2 ^ 24) ≡ edge = ap edge_in a.1 ∙ edge_back edge in
+        let back : edge_of_word (answer_word key edge % 2 ^ 24) ≡ edge = ap edge_of_word a.1 ∙ edge_back edge in
         ap (kept_at written) at_place ∙ ap₂ kept_in first_is second_is ∙ kept_is key (key_word key) (answer_word key edge) r refl a.0
         ∙ ap (λ e. Some (let x : Kept = record { key = key; edge = e } in x)) back
 

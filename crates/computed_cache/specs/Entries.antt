@@ -1,6 +1,6 @@
 -- The entries of a computed table, and the two words of each.
-use Rattle.std.specs.Prelude.{◌≡◌, ℕ, ◌+◌, ◌*◌, ◌/◌, ◌%◌, ◌^◌, ◌<◌, ◌⊎◌, ◌==◌, ◌||◌, Bool, true, false, if◌then◌else◌, List, length, slice_index, Option, Some, None}
-use Rattle.edge_bits.specs.Words.{digit}
+use Rattle.std.specs.Prelude.{◌≡◌, ℕ, ◌+◌, ◌*◌, ◌/◌, ◌%◌, ◌^◌, ◌<◌, ◌⊎◌, ◌==◌, ◌||◌, Bool, true, if◌then◌else◌, List, length, slice_index, Option, Some, None}
+use Rattle.edge_bits.specs.Words.{edge_of_word, word_of_edge}
 use Rattle.edge_bits.specs.declared.edges.Edge.{Edge}
 use Rattle.computed_cache.specs.declared.Key.{Key}
 
@@ -17,27 +17,20 @@ pub record IsInRange (key : Key) : Type 0 where
   pub g : key.g.index < 2 ^ 23
   pub h : key.h.index < 2 ^ 23
 
--- 24 bits: 23..1 the slot, 0 the complement
-abbrev pub packed_edge : Edge → ℕ
-packed_edge e = e.index * 2 + digit e.complement
-
-abbrev pub edge_in : ℕ → Edge
-edge_in bits = record { index = bits / 2; complement = bits % 2 == 1 }
-
 -- the first word, 63..58: the operation; 57..34 and 33..10: the edges f and g; it is 0 where there is no entry
 abbrev pub key_word : Key → ℕ
-key_word key = key.op * 2 ^ 58 + packed_edge key.f * 2 ^ 34 + packed_edge key.g * 2 ^ 10
+key_word key = key.op * 2 ^ 58 + word_of_edge key.f * 2 ^ 34 + word_of_edge key.g * 2 ^ 10
 
 -- the second word, 47..24 and 23..0: the edge h and the answer
 abbrev pub answer_word : Key → Edge → ℕ
-answer_word key e = packed_edge key.h * 2 ^ 24 + packed_edge e
+answer_word key e = word_of_edge key.h * 2 ^ 24 + word_of_edge e
 
 abbrev pub key_in : ℕ → ℕ → Key
-key_in first second = record { op = first / 2 ^ 58; f = edge_in (first / 2 ^ 34 % 2 ^ 24); g = edge_in (first / 2 ^ 10 % 2 ^ 24); h = edge_in (second / 2 ^ 24) }
+key_in first second = record { op = first / 2 ^ 58; f = edge_of_word (first / 2 ^ 34 % 2 ^ 24); g = edge_of_word (first / 2 ^ 10 % 2 ^ 24); h = edge_of_word (second / 2 ^ 24) }
 
 -- what two words say
 abbrev pub kept_in : ℕ → ℕ → Option Kept
-kept_in first second = if first == 0 then None else Some (record { key = key_in first second; edge = edge_in (second % 2 ^ 24) })
+kept_in first second = if first == 0 then None else Some (record { key = key_in first second; edge = edge_of_word (second % 2 ^ 24) })
 
 -- which entry stands at a place of the words
 abbrev pub kept_at : List ℕ → ℕ → Option Kept
@@ -57,7 +50,7 @@ place_at first h places = mixed ((first + h * 11400714819323198485 % 2 ^ 64) % 2
 
 -- the one place where an answer under this key may stand
 abbrev pub place_of : Key → ℕ → ℕ
-place_of key places = place_at (key_word key) (packed_edge key.h) places
+place_of key places = place_at (key_word key) (word_of_edge key.h) places
 
 -- whether an entry names a slot
 abbrev pub names : ℕ → Kept → Bool

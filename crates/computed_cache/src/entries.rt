@@ -1,7 +1,8 @@
 //! The two words of an entry, and its place.
 
 ghost use Rattle.std.specs.Prelude.{◌≡◌, ◌/◌, ◌%◌, ◌<◌, ◌^◌, IfSome, IfNone};
-ghost use Rattle.computed_cache.specs.Entries.{IsInRange, answer_word as answer_word_of, edge_in, key_in, key_word as key_word_of, names, packed_edge, place_at};
+ghost use Rattle.edge_bits.specs.Words.{edge_of_word, word_of_edge};
+ghost use Rattle.computed_cache.specs.Entries.{IsInRange, answer_word as answer_word_of, key_in, key_word as key_word_of, names, place_at};
 
 use crate::Key;
 use edge_bits::Edge;
@@ -9,22 +10,18 @@ use edge_bits::Edge;
 /// The 24 bits of an edge: 23 to 1 are its slot, bit 0 is its complement.
 pub(crate) fn pack(edge: Edge) -> u64
     requires { edge.index < 2 ^ 23 }
-    ensures bits { result ≡ packed_edge edge }
+    ensures bits { result ≡ word_of_edge edge }
     ensures few { result < 2 ^ 24 }
 {
-    let complement: u64 = if edge.complement { 1 } else { 0 };
-    ((edge.index as u64) << 1) + complement
+    edge.word() as u64
 }
 
 /// The edge of 24 bits.
 pub(crate) fn unpack(bits: u64) -> Edge
     requires { bits < 2 ^ 24 }
-    ensures { result ≡ edge_in bits }
+    ensures { result ≡ edge_of_word bits }
 {
-    Edge {
-        index: (bits >> 1) as u32,
-        complement: bits & 1 == 1,
-    }
+    Edge::from_word(bits as u32)
 }
 
 /// The first word of an entry: bits 63 to 58 are the operation, 57 to 34 and 33 to 10 the first two operands.
@@ -63,18 +60,18 @@ pub(crate) fn place(first: u64, h: u64, places: usize) -> usize
 /// Whether two words are those of an entry that names a slot.
 pub(crate) fn is_named(first: u64, second: u64, slot: u32) -> bool
     requires { second < 2 ^ 48 }
-    ensures { result ≡ names slot (record { key = key_in first second; edge = edge_in (second % 2 ^ 24) }) }
+    ensures { result ≡ names slot (record { key = key_in first second; edge = edge_of_word (second % 2 ^ 24) }) }
 {
     let f = unpack((first >> 34) & 0xff_ffff);
     let g = unpack((first >> 10) & 0xff_ffff);
     let h = unpack(second >> 24);
     let edge = unpack(second & 0xff_ffff);
-    f.index == slot || g.index == slot || h.index == slot || edge.index == slot
+    f.index() == slot || g.index() == slot || h.index() == slot || edge.index() == slot
 }
 
 /// The answer in an entry's two words, if they have this first word and these bits of a third operand.
 pub(crate) fn answer_in(stored: u64, second: u64, first: u64, h: u64) -> Option<Edge>
-    ensures some { IfSome result (λ e. (stored ≡ first) × (second / 2 ^ 24 ≡ h) × (e ≡ edge_in (second % 2 ^ 24))) }
+    ensures some { IfSome result (λ e. (stored ≡ first) × (second / 2 ^ 24 ≡ h) × (e ≡ edge_of_word (second % 2 ^ 24))) }
     ensures none { IfNone result (stored ≡ first → second / 2 ^ 24 ≡ h → ⊥) }
 {
     if stored == first && second >> 24 == h {

@@ -15,7 +15,8 @@ use node_store::{Opened, Order, Whole};
 fn is_live(count: u32, marked: bool, hi: Edge, lo: Edge) -> bool
     ensures { result ≡ live_of count marked hi lo }
 {
-    count > 0 || (marked || (hi.index == TRUE_SLOT && (lo.index == TRUE_SLOT && lo.complement)))
+    count > 0
+        || (marked || (hi.index() == TRUE_SLOT && (lo.index() == TRUE_SLOT && lo.complement())))
 }
 
 // Marks a node with its children, if it is live.
@@ -31,8 +32,8 @@ fn mark_node<W: Whole>(w: &mut W, slot: u32, hi: Edge, lo: Edge)
     let marked = w.is_marked(slot);
     if is_live(count, marked, hi, lo) {
         w.mark(slot);
-        w.mark(hi.index);
-        w.mark(lo.index);
+        w.mark(hi.index());
+        w.mark(lo.index());
     }
 }
 

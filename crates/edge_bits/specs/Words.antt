@@ -1,5 +1,6 @@
--- The 64 bits of a node word.
+-- The 32 bits of an edge, and the 64 bits of a node word.
 use Rattle.std.specs.Prelude.{ℕ, ◌+◌, ◌-◌, ◌*◌, ◌/◌, ◌%◌, ◌^◌, ◌<◌, ◌==◌, nat_lt, Bool, true, false, if◌then◌else◌, ℤ, pos, negsuc, ◌≤ℤ◌, ◌<ℤ◌, Option, Some, None}
+use Rattle.edge_bits.specs.declared.edges.Edge.{Edge}
 use Rattle.edge_bits.specs.declared.words.Node.{Node}
 use Rattle.edge_bits.specs.declared.words.Word.{Word}
 use Rattle.edge_bits.specs.declared.words.Word.TheVariants.{Inner, Leaf}
@@ -9,6 +10,13 @@ use Rattle.edge_bits.specs.Permanent.{least_value, value_end}
 abbrev pub digit : Bool → ℕ
 digit true = 1
 digit false = 0
+
+-- the edge of a word, and the word of an edge: twice the slot, and 1 more where the arc complements
+abbrev pub edge_of_word : ℕ → Edge
+edge_of_word word = record { index = word / 2; complement = word % 2 == 1 }
+
+abbrev pub word_of_edge : Edge → ℕ
+word_of_edge edge = edge.index * 2 + digit edge.complement
 
 -- a whole number in two's complement of 47 bits, and back
 abbrev pub low_bits : ℤ → ℕ

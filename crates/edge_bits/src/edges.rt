@@ -1,6 +1,8 @@
 //! The kinds of diagram, arcs to nodes, and the node lines of stored diagrams.
 
-ghost use Rattle.std.specs.Prelude.{◌≡◌, not};
+ghost use Rattle.std.specs.Prelude.{◌≡◌, ◌<◌, ◌^◌, false, not};
+
+use std::marker::Model;
 
 /// The three kinds of diagram.
 #[derive(Debug, Clone, Copy, PartialEq, Eq)]
@@ -13,35 +15,78 @@ pub enum Kind {
     Zdd,
 }
 
-/// An arc to a node. In ADDs and ZDDs no arc is complemented.
+/// An arc to a node: one word of 32 bits. In ADDs and ZDDs no arc is complemented.
 #[derive(Debug, Clone, Copy, PartialEq, Eq)]
 pub struct Edge {
-    /// The slot that it leads to, below 2^23.
-    pub index: u32,
-    /// Whether it complements the function there.
-    pub complement: bool,
+    /// Twice the slot, and 1 more where the arc complements.
+    word: u32,
+}
+
+impl Model for Edge {
+    ghost use Rattle.std.proofs.Common.{ap};
+    ghost use Rattle.edge_bits.specs.Edges.{EdgeView};
+
+    ghost Value = { EdgeView };
+
+    ghost use Rattle.edge_bits.specs.Words.{edge_of_word, word_of_edge};
+    ghost use Rattle.edge_bits.specs.EdgeLaws.{word_back};
+
+    ghost view = { λ edge. edge_of_word edge.word };
+
+    ghost inverse = { λ edge. record { word = word_of_edge edge } };
+
+    ghost inverse_ok = { λ fields _. ap (λ word. record { word = word }) (word_back fields.word) };
 }
 
 impl Edge {
-    /// The arc to this slot.
+    ghost use Rattle.edge_bits.specs.Words.{edge_of_word, word_of_edge};
+
+    /// The arc to this slot, which is below 2^31.
     pub fn new(index: u32, complement: bool) -> Edge
+        requires low { index < 2 ^ 31 }
         ensures { result ≡ record { index = index; complement = complement } }
     {
-        Edge { index, complement }
+        Edge {
+            word: 2 * index + complement as u32,
+        }
+    }
+
+    /// The arc of a word.
+    pub fn from_word(word: u32) -> Edge
+        ensures { result ≡ edge_of_word word }
+    {
+        Edge { word }
+    }
+
+    /// The word of the arc: twice the slot, and 1 more where the arc complements.
+    #[tactic(auto, using(crate::specs::EdgeLaws::word_back))]
+    pub fn word(&self) -> u32
+        ensures { result ≡ word_of_edge self.now }
+    {
+        self.word
     }
 
     /// The slot that the arc leads to.
     pub fn index(&self) -> u32
         ensures { result ≡ self.now.index }
     {
-        self.index
+        self.word / 2
     }
 
     /// Whether the arc complements the function there.
     pub fn complement(&self) -> bool
         ensures { result ≡ self.now.complement }
     {
-        self.complement
+        self.word % 2 == 1
+    }
+
+    /// The arc to the same slot that doesn't complement.
+    pub fn regular(&self) -> Edge
+        ensures { result ≡ record self.now { complement = false } }
+    {
+        Edge {
+            word: self.word - self.word % 2,
+        }
     }
 
     /// The arc to the same slot with the other complement.
@@ -49,8 +94,7 @@ impl Edge {
         ensures { result ≡ record self.now { complement = not self.now.complement } }
     {
         Edge {
-            index: self.index,
-            complement: !self.complement,
+            word: self.word ^ 1,
         }
     }
 }

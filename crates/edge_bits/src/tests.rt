@@ -1,8 +1,9 @@
-ghost use Rattle.std.specs.Prelude.{◌≡◌};
+ghost use Rattle.std.specs.Prelude.{◌≡◌, ◌<◌, ◌^◌};
 
 use crate::{Edge, Node, Word, pack, unpack};
 
 fn inner(var: u16, hi: u32, lo: u32, complement: bool) -> Word
+    requires { lo < 2 ^ 31 }
     ensures { result ≡ Word.Inner (record { var = var; hi = hi; lo = record { index = lo; complement = complement } }) }
 {
     Word::Inner(Node {

@@ -35,12 +35,12 @@ pub fn pack(word: Word) -> u64
 {
     match word {
         Word::Inner(node) => {
-            let complement: u64 = if node.lo.complement { 1 << 23 } else { 0 };
+            let complement: u64 = if node.lo.complement() { 1 << 23 } else { 0 };
             (1 << 63)
                 + ((node.var as u64) << 47)
                 + ((node.hi as u64) << 24)
                 + complement
-                + (node.lo.index as u64)
+                + (node.lo.index() as u64)
         }
         Word::Leaf(value) => {
             let low = if value < 0 {
@@ -72,10 +72,7 @@ pub fn unpack(bits: u64) -> Option<Word>
         };
         Some(Word::Leaf(value))
     } else if var < 32768 {
-        let lo = Edge {
-            index: (bits & 0x7f_ffff) as u32,
-            complement: (bits >> 23) & 1 == 1,
-        };
+        let lo = Edge::new((bits & 0x7f_ffff) as u32, (bits >> 23) & 1 == 1);
         Some(Word::Inner(Node {
             var: var as u16,
             hi: ((bits >> 24) & 0x7f_ffff) as u32,

@@ -6,4 +6,4 @@ mod rows;
 
 pub use counts::{lower, next_generation, raise};
 pub use function_laws::Name as H;
-pub use rows::{Held, Rows};
+pub use rows::{Held, Row, Rows};

@@ -1,7 +1,7 @@
 //! The rows of one session.
 
 ghost use Rattle.std.specs.Prelude.{◌≡◌, ◌≢◌, ◌+◌, ◌-◌, ◌<◌, ◌≤◌, ◌^◌, ◌↔◌, max, length, vec_capacity, slice_index_or, option_map, IfOk, OnOk, OnErr, IfSome, IsTrue, IsOk, IsSome, All, Option, Some, None, []};
-ghost use Rattle.handle_count.specs.RowMaps.{AreFree, IsPut, IsWithOne, find_row, held_at};
+ghost use Rattle.handle_count.specs.RowMaps.{AreFree, IsPut, IsWithOne, find_row, held_at, live_from};
 
 use crate::H;
 use edge_bits::{Edge, Kind, Memory};
@@ -21,10 +21,10 @@ pub struct Held {
 
 /// What stands at a place.
 #[derive(Debug, Clone, Copy, PartialEq, Eq)]
-struct Row {
-    generation: u64,
-    kind: Kind,
-    edge: Edge,
+pub struct Row {
+    pub generation: u64,
+    pub kind: Kind,
+    pub edge: Edge,
 }
 
 /// The rows of one session: a finite map from live names to edges. A name is a place and a generation, which is the number of
@@ -213,5 +213,12 @@ impl Rows {
         self.free.push_reserved(h.row);
         self.spare += 1;
         (row.kind, row.edge)
+    }
+
+    /// The places at the end of the session, each with its row if it has one.
+    pub fn into_places(self) -> Vec<Option<Row>>
+        ensures { live_from 0 result.items ≡ self.live }
+    {
+        self.places
     }
 }

@@ -1,9 +1,11 @@
 -- The steps to the normal form of if-then-else.
-use Rattle.std.proofs.Common.{◌≡◌, ℕ, ◌-◌, ◌≤◌, Bool, true, false, not, ◌&&◌, eqb, cond, Option, Some, ◌⊎◌, inl, inr, refl, ap, sym, ◌∙◌, subst, arith}
+use Rattle.std.proofs.Common.{◌≡◌, ℕ, ◌-◌, ◌≤◌, Bool, true, false, not, eqb, cond, Option, Some, ◌⊎◌, inl, inr, refl, ap, sym, ◌∙◌, subst, arith}
 use Rattle.std.specs.Prelude.{min}
 use Rattle.std.proofs.Math.Bool.{beq}
-use Rattle.std.proofs.lemmas.Bool.{and_parts}
+use Rattle.std.proofs.lemmas.Bool.{and_parts, eq-eqb}
 use Rattle.edge_bits.specs.declared.edges.Edge.{Edge}
+use Rattle.edge_bits.specs.Words.{word_of_edge}
+use Rattle.edge_bits.proofs.EdgeLemmas.{words_same}
 use Rattle.edge_bits.specs.declared.edges.Kind.TheVariants.{Bdd}
 use Rattle.function_laws.specs.Values.{constant, negation, if_then_else}
 use Rattle.function_laws.proofs.ValueLemmas.{everywhere}
@@ -114,22 +116,15 @@ beq_true true false t = cc
 beq_true false true t = cc
 beq_true false false t = refl
 
-pub equal_edges : (g h : Edge) → true ≡ (eqb g.index h.index && beq g.complement h.complement) → g ≡ h
+pub equal_edges : (g h : Edge) → true ≡ eqb (word_of_edge g) (word_of_edge h) → g ≡ h
 equal_edges g h t =
-    let both = and_parts (eqb g.index h.index) (beq g.complement h.complement) (sym t) in
+    let both = and_parts (eqb g.index h.index) (beq g.complement h.complement) (sym (t ∙ words_same g h)) in
     let index : g.index ≡ h.index = grind (arith, both.0) in
     let complement = beq_true g.complement h.complement (sym both.1) in
     let pair : record { index = g.index; complement = g.complement } ≡ h = rw (index, complement) refl in pair
 
-pub unequal_edges : (g h : Edge) → false ≡ (eqb g.index h.index && beq g.complement h.complement) → g ≡ h → ⊥
-unequal_edges g h t same = itself (rw same at t)
-  where
-    twice : (b : Bool) → beq b b ≡ true
-    twice true = refl
-    twice false = refl
-
-    itself : false ≡ (eqb h.index h.index && beq h.complement h.complement) → ⊥
-    itself t = let i : eqb h.index h.index ≡ true = grind arith in let no : false ≡ true = t ∙ ap (λ x. x && beq h.complement h.complement) i ∙ twice h.complement in cc
+pub unequal_edges : (g h : Edge) → false ≡ eqb (word_of_edge g) (word_of_edge h) → g ≡ h → ⊥
+unequal_edges g h t same = let no : false ≡ true = t ∙ eq-eqb _ _ (ap word_of_edge same) in cc
 
 pub unlike : (b c : Bool) → not (beq b c) ≡ xor c b
 unlike true true = refl

@@ -47,8 +47,8 @@ impl<G: Grow> Apply<G> for Instantiation {
 
     fn expand(&self, store: &mut G, task: Task) -> Result<Expansion, Halt> {
         // A complement's cofactor is the cofactor's complement.
-        let flip = task.f.complement;
-        let f = Edge::new(task.f.index, false);
+        let flip = task.f.complement();
+        let f = task.f.regular();
         match find(store, f, self.var, self.bit) {
             Found::Answer(edge) => Ok(Expansion::Done(flip_if(edge, flip))),
             Found::Parts(var, hi, lo) => {
@@ -185,7 +185,11 @@ fn find<G: Grow>(store: &mut G, f: Edge, var: u32, bit: bool) -> Found
         return Found::Answer(f);
     };
     if top == var {
-        return Found::Answer(if bit { hi } else { lo });
+        return if bit {
+            Found::Answer(hi)
+        } else {
+            Found::Answer(lo)
+        };
     }
     let level = store.level(var);
     let top_level = store.level(top);

@@ -28,7 +28,7 @@ impl<G: Grow> Pointwise<G> for Conjunction {
 
     fn at_leaves(&self, _store: &mut G, f: Edge, g: Edge, _x: i64, _y: i64) -> Result<Edge, Halt> {
         // The edges of two constants tell it.
-        Ok(if f.complement { f } else { g })
+        if f.complement() { Ok(f) } else { Ok(g) }
     }
 
     fn arrange(&self, f: Edge, g: Edge) -> Task {
@@ -53,14 +53,14 @@ fn terminal(f: Edge, g: Edge) -> Option<Edge>
     if f == g {
         return Some(f);
     }
-    if f.index == g.index {
+    if f.index() == g.index() {
         return Some(Edge::truth(false));
     }
-    if f.index == TRUE_SLOT {
-        return Some(if f.complement { f } else { g });
+    if f.index() == TRUE_SLOT {
+        return Some(if f.complement() { f } else { g });
     }
-    if g.index == TRUE_SLOT {
-        return Some(if g.complement { g } else { f });
+    if g.index() == TRUE_SLOT {
+        return Some(if g.complement() { g } else { f });
     }
     None
 }

@@ -39,17 +39,18 @@ impl<G: Grow> Operator<G> for Implication {
     ghost extra = { λ _ _. 0 };
 
     fn start(&self, store: &mut G, _stack: &mut Stack, task: Task) -> Result<Next, Halt> {
-        if let Some(yes) = terminal(task.f, task.g) {
+        let Task { f, g, h } = task;
+        if let Some(yes) = terminal(f, g) {
             return Ok(Next::Done(Edge::truth(yes)));
         }
-        if let Some(edge) = store.memo_get(&key_of(task)) {
+        if let Some(edge) = store.memo_get(&key_of(Task { f, g, h })) {
             return Ok(Next::Done(edge));
         }
-        match split_two(store, task.f, task.g) {
+        match split_two(store, f, g) {
             Split::Leaves(_, _) => unreachable!(),
             Split::At(halves) => {
                 let frame = Frame {
-                    task,
+                    task: Task { f, g, h },
                     var: halves.top.var,
                     flip: false,
                     wait: Wait::First(halves.lo),
@@ -66,18 +67,19 @@ impl<G: Grow> Operator<G> for Implication {
         frame: Frame,
         answer: Edge,
     ) -> Result<Turn, Halt> {
-        match frame.wait {
+        let Frame { task, wait, .. } = frame;
+        match wait {
             Wait::First(later) => {
                 // One part that does not hold settles the answer.
-                if answer.complement {
-                    keep(store, frame.task, answer);
+                if answer.complement() {
+                    keep(store, task, answer);
                     return Ok(Turn::Done(answer));
                 }
                 Ok(Turn::Call(Wait::Second(answer), later))
             }
             Wait::Second(first) => {
                 let edge = both(first, answer);
-                keep(store, frame.task, edge);
+                keep(store, task, edge);
                 Ok(Turn::Done(edge))
             }
             _ => unreachable!(),
@@ -112,16 +114,16 @@ fn terminal(f: Edge, g: Edge) -> Option<bool>
     if f == g {
         return Some(true);
     }
-    if f.index == TRUE_SLOT {
-        if f.complement {
+    if f.index() == TRUE_SLOT {
+        if f.complement() {
             return Some(true);
         }
-        if g.index == TRUE_SLOT {
-            return Some(!g.complement);
+        if g.index() == TRUE_SLOT {
+            return Some(!g.complement());
         }
         return None;
     }
-    if g.index == TRUE_SLOT && !g.complement {
+    if g.index() == TRUE_SLOT && !g.complement() {
         return Some(true);
     }
     None
@@ -131,7 +133,7 @@ fn terminal(f: Edge, g: Edge) -> Option<bool>
 fn both(first: Edge, second: Edge) -> Edge
     ensures { result ≡ cond first.complement first second }
 {
-    if first.complement { first } else { second }
+    if first.complement() { first } else { second }
 }
 
 /// The key of an implication.

@@ -106,7 +106,7 @@ pub fn leq<G: Grow>(store: &mut G, stack: &mut Stack, f: Edge, g: Edge) -> Resul
     ensures stack { stack.new ≡ stack.old }
 {
     match evaluate(store, stack, &Implication, Task::two(f, g)) {
-        Ok(edge) => Ok(!edge.complement),
+        Ok(edge) => Ok(!edge.complement()),
         Err(Halt::Memory) => Err(Memory),
         Err(Halt::Full) => unreachable!(),
         Err(Halt::Overflow) => unreachable!(),

@@ -15,8 +15,8 @@ use node_store::operator::Task;
 pub(crate) fn reduce(f: Edge, g: Edge, h: Edge) -> Reduced
     ensures { (w : View) → Permanent w → AreThree Bdd w f g h → IsReduced Bdd w f g h result }
 {
-    if f.index == TRUE_SLOT {
-        return Reduced::Answer(if f.complement { h } else { g });
+    if f.index() == TRUE_SLOT {
+        return Reduced::Answer(if f.complement() { h } else { g });
     }
     let then = known_where(f, g);
     let not_f = flip_if(f, true);
@@ -24,8 +24,8 @@ pub(crate) fn reduce(f: Edge, g: Edge, h: Edge) -> Reduced
     if then == other {
         return Reduced::Answer(then);
     }
-    if then.index == TRUE_SLOT && other.index == TRUE_SLOT {
-        return Reduced::Answer(flip_if(f, then.complement));
+    if then.index() == TRUE_SLOT && other.index() == TRUE_SLOT {
+        return Reduced::Answer(flip_if(f, then.complement()));
     }
     in_order(f, then, other)
 }
@@ -34,8 +34,8 @@ pub(crate) fn reduce(f: Edge, g: Edge, h: Edge) -> Reduced
 fn known_where(f: Edge, g: Edge) -> Edge
     ensures { (w : View) → Permanent w → Is Bdd w f → Is Bdd w g → StandsFor w f g result }
 {
-    if g.index == f.index {
-        Edge::truth(g.complement == f.complement)
+    if g.index() == f.index() {
+        Edge::truth(g.complement() == f.complement())
     } else {
         g
     }
@@ -47,7 +47,7 @@ fn in_order(f: Edge, g: Edge, h: Edge) -> Reduced
     requires apart { g ≡ h → ⊥ }
     ensures { (w : View) → AreThree Bdd w f g h → IsReduced Bdd w f g h result }
 {
-    if g.index == h.index && TRUE_SLOT < g.index && g.index < f.index {
+    if g.index() == h.index() && TRUE_SLOT < g.index() && g.index() < f.index() {
         return with_regular_condition(g, f, flip_if(f, true));
     }
     with_regular_condition(f, g, h)
@@ -58,7 +58,7 @@ fn with_regular_condition(f: Edge, g: Edge, h: Edge) -> Reduced
     requires { f.index ≡ 0 → ⊥ }
     ensures { (w : View) → AreThree Bdd w f g h → IsReduced Bdd w f g h result }
 {
-    if f.complement {
+    if f.complement() {
         with_regular_answer(flip_if(f, true), h, g)
     } else {
         with_regular_answer(f, g, h)
@@ -70,7 +70,7 @@ fn with_regular_answer(f: Edge, g: Edge, h: Edge) -> Reduced
     requires { f.index ≡ 0 → ⊥ }
     ensures { (w : View) → AreThree Bdd w f g h → IsReduced Bdd w f g h result }
 {
-    let flip = g.complement;
+    let flip = g.complement();
     let task = Task {
         f,
         g: flip_if(g, flip),

@@ -185,3 +185,10 @@ module _ (hashes links heads : List ℕ) (hash : ℕ) (chains : AreChains hashes
 -- two buckets of one place that is in none of them
 pub same_chains : (at new : ℕ → ℕ) (heads links : List ℕ) → ((k : ℕ) → at k ≡ new k) → IsChained at heads links → IsChained new heads links
 same_chains at new heads links same = subst (λ a. IsChained a heads links) (λ i k. same k i)
+
+-- a place that is put where it is
+pub put-same : (at : ℕ → ℕ) (place b : ℕ) → at place ≡ b → (k : ℕ) → put at place b k ≡ at k
+put-same at place b is k = elim (cases_eq k place) [
+  | inl here ↦ ap (put at place b) here ∙ put-here at place b ∙ sym is ∙ ap at (sym here)
+  | inr ne ↦ put-other at place b k ne
+]

@@ -1,5 +1,5 @@
 -- The slots that are found by their words, and where one is written to.
-use Rattle.std.proofs.Common.{◌≡◌, ℕ, zero, suc, append_assoc, length-append, ◌+◌, ◌-◌, ◌^◌, ◌<◌, ◌≤◌, List, [], ◌∷◌, ◌++◌, length, get_or, set, replicate, inl, inr, sym, ◌∙◌, ap, subst, refl, arith}
+use Rattle.std.proofs.Common.{◌≡◌, ℕ, zero, suc, append_assoc, length-append, ◌+◌, ◌-◌, ◌^◌, ◌<◌, ◌≤◌, cond, ltb, List, [], ◌∷◌, ◌++◌, length, get_or, set, replicate, inl, inr, sym, ◌∙◌, ap, subst, refl, arith}
 use Rattle.std.proofs.lemmas.Bool.{cases_eq, cases_lt, cond-true, cond-false}
 use Rattle.std.proofs.lemmas.Bool.Decides.{nat_tests}
 use Rattle.std.proofs.lemmas.List.{length-set, length_push, length-replicate, get_or_append_left, get_or-append_right, get_or_push, get_or_past, get_or-replicate, get_or-set_same, get_or-set_other, set-append_left}
@@ -188,3 +188,44 @@ padded-more slots words lt =
     ap (λ n. (words ++ 0 ∷ []) ++ zeros (slots - n)) (length_push words 0)
     ∙ append_assoc words (0 ∷ []) (zeros rest)
     ∙ ap (λ n. words ++ zeros n) next
+
+-- the buckets of the first slots, and none for the others
+abbrev pub buckets_below : List ℕ → ℕ → ℕ → ℕ → ℕ
+buckets_below words n i s = cond (ltb s i) (bucket_in words n s) n
+
+module _ (words : List ℕ) (n : ℕ) where
+  pub below-here : (i : ℕ) → buckets_below words n i i ≡ n
+  below-here i = cond-false (ltb i i) (bucket_in words n i) n (grind (arith, nat_tests))
+
+  below-low : (i k : ℕ) → k < i → buckets_below words n i k ≡ bucket_in words n k
+  below-low i k lt = cond-true (ltb k i) (bucket_in words n k) n (grind (arith, nat_tests))
+
+  below-high : (i k : ℕ) → i ≤ k → buckets_below words n i k ≡ n
+  below-high i k le = cond-false (ltb k i) (bucket_in words n k) n (grind (arith, nat_tests))
+
+  -- one slot more
+  pub below-next : (i k : ℕ) → put (buckets_below words n i) i (bucket_in words n i) k ≡ buckets_below words n (i + 1) k
+  below-next i k = elim (cases_eq k i) [
+    | inl is ↦ ap (put (buckets_below words n i) i (bucket_in words n i)) is ∙ put-here (buckets_below words n i) i (bucket_in words n i)
+        ∙ sym (ap (buckets_below words n (i + 1)) is ∙ below-low (i + 1) i (omega arith))
+    | inr ne ↦ put-other (buckets_below words n i) i (bucket_in words n i) k ne ∙ elim (cases_lt k i) [
+      | inl lt ↦ below-low i k lt ∙ sym (below-low (i + 1) k (omega (arith, lt)))
+      | inr le ↦ below-high i k le ∙ sym (below-high (i + 1) k (omega (arith, le, ne)))
+    ]
+  ]
+
+  -- all slots
+  pub below-all : (k : ℕ) → buckets_below words n (length words) k ≡ bucket_in words n k
+  below-all k = elim (cases_lt k (length words)) [
+    | inl lt ↦ below-low (length words) k lt
+    | inr le ↦ below-high (length words) k le ∙ sym (bucket-free words n k (get_or_past words k 0 le))
+  ]
+
+  -- empty buckets
+  pub below-none : (heads links : List ℕ) → heads ≡ replicate n 0 → ((k : ℕ) → k < length links → get_or links k 0 ≤ k) → IsChained (buckets_below words n 0) heads links
+  below-none heads links empty fall = rw empty (record {
+    heads_are = λ b lt. subst (λ r. IsLatest (buckets_below words n 0) b (length links) r) (sym (read_zeros n b))
+        (record { within = omega arith; here = λ k e. absurd (omega arith); none = λ k from below is. absurd (let h = below-high 0 k (omega arith) in let l = length-zeros n in omega (arith, h, is, lt, l)) });
+    links_are = λ k lt in-bucket. absurd (let h = below-high 0 k (omega arith) in let l = length-zeros n in omega (arith, h, in-bucket, l));
+    fall = fall;
+  })

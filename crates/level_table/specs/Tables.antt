@@ -1,6 +1,7 @@
 -- The unique table of one variable as a finite map, from the pair of a node's children to its slot.
-use Rattle.std.specs.Prelude.{◌≡◌, ℕ, ◌+◌, ◌*◌, ◌/◌, ◌%◌, ◌^◌, ◌<◌, ◌≤◌, ◌==◌, ◌&&◌, Bool, if◌then◌else◌, List, length, map, find, option_map, swap_remove, slice_index_or, Option, AllPairs}
+use Rattle.std.specs.Prelude.{◌≡◌, ℕ, ◌+◌, ◌*◌, ◌/◌, ◌%◌, ◌^◌, ◌<◌, ◌≤◌, ◌==◌, ◌&&◌, Bool, List, length, map, find, option_map, swap_remove, slice_index_or, Option, AllPairs}
 use Rattle.std.specs.Bool.{beq}
+use Rattle.edge_bits.specs.Words.{word_of_edge}
 use Rattle.edge_bits.specs.declared.edges.Edge.{Edge}
 use Rattle.level_table.specs.declared.table.Entry.{Entry}
 use Rattle.level_table.specs.Chains.{Hashed}
@@ -39,7 +40,7 @@ pub record IsWithout (old : Table) (hi : ℕ) (lo : Edge) (new : Table) : Type 0
 
 -- the hash of a pair: multilinear (Dietzfelbinger 1996)
 abbrev pub hash_of : ℕ → Edge → ℕ
-hash_of hi lo = (hi * 11400714819323198485 % 2 ^ 64 + (2 * lo.index + (if lo.complement then 1 else 0)) * 14029467366897019727 % 2 ^ 64) % 2 ^ 64 / 2 ^ 32
+hash_of hi lo = (hi * 11400714819323198485 % 2 ^ 64 + word_of_edge lo * 14029467366897019727 % 2 ^ 64) % 2 ^ 64 / 2 ^ 32
 
 -- the entries are apart, and the chains have their hashes
 pub record IsTable (entries : List Entry) (capacity : ℕ) (chains : Hashed) (spare : ℕ) : Type 0 where

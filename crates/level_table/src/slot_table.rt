@@ -2,14 +2,22 @@
 
 ghost use Rattle.std.specs.Prelude.{◌≡◌, ℕ, ◌+◌, ◌<◌, ◌≤◌, ◌^◌, length, replicate, slice_index, slice_set, IfOk, IfSome, IfNone};
 ghost use Rattle.edge_bits.specs.Permanent.{zero_slot};
-ghost use Rattle.level_table.specs.Slotted.{bucket_of_word, AreSlots};
+ghost use Rattle.level_table.specs.Chains.{IsChained, put};
+ghost use Rattle.level_table.specs.Slotted.{bucket_in, bucket_of_word, AreSlots};
 
 use crate::chains::{clear, link, place_of, unlink};
 use edge_bits::{Memory, ZERO_SLOT};
 use std::alloc::Global;
 use std::marker::Model;
 
-/// The words of so many slots, with one unique table for all of them (Brace, Rudell and Bryant 1990): the key of a slot is its own word, so an entry is one link. All slots share the buckets, and no entry takes memory.
+/// How many buckets there are before a slot is taken, where there are as many slots.
+const FIRST_BUCKETS: usize = 1024;
+
+/// No bucket's number has more than 32 bits.
+const MOST_BUCKETS: usize = u32::MAX as usize;
+
+/// The words of so many slots, with one unique table for all of them (Brace, Rudell and Bryant 1990): the key of a slot is its own word, so an entry is one link. All slots share the buckets, and no entry takes memory: there is
+/// room for a bucket for each slot, and the buckets are doubled as slots are taken, so that those in use lie close together.
 ///
 /// The word of a free slot is 0. Slots below `ZERO_SLOT` are told by their numbers, and no word is found there.
 #[derive(Drop)]
@@ -18,7 +26,7 @@ pub struct SlotTable {
     words: Vec<u64>,
     // Of each of these slots the link to the next lower one in its bucket: 0, or one more than the slot.
     links: Vec<u32>,
-    // Of each bucket the link to its greatest slot.
+    // Of each bucket the link to its greatest slot. There is room for as many as there are slots.
     heads: Vec<u32>,
     slots: usize,
 }
@@ -83,6 +91,51 @@ fn put_word(words: &mut [u64], links: &mut [u32], heads: &mut [u32], slot: usize
     }
 }
 
+/// Puts a slot that is in no chain into that of its word, if it is found by it.
+fn link_slot(words: &[u64], links: &mut [u32], heads: &mut [u32], slot: usize)
+    requires within { slot < length words.now }
+    requires as_long { length links.old ≡ length words.now }
+    requires few { length words.now < 2 ^ 32 }
+    requires some { 0 < length heads.old }
+    requires few_buckets { length heads.old < 2 ^ 32 }
+    requires chained { (at : ℕ → ℕ) × IsChained at heads.old links.old }
+    ensures { (at : ℕ → ℕ) → IsChained at heads.old links.old → at slot ≡ length heads.old → IsChained (put at slot (bucket_in words.now (length heads.old) slot)) heads.new links.new }
+{
+    let bits = words[slot];
+    if slot >= ZERO_SLOT as usize && bits != 0 {
+        let bucket = bucket_of(bits, heads.len());
+        link(heads, links, bucket, slot);
+    }
+}
+
+/// Puts all slots that are found by their words into empty buckets.
+fn link_all(words: &[u64], links: &mut [u32], heads: &mut [u32])
+    requires empty { heads.old ≡ replicate (length heads.old) 0 }
+    requires some { 0 < length heads.old }
+    requires few_buckets { length heads.old < 2 ^ 32 }
+    requires as_long { length links.old ≡ length words.now }
+    requires few { length words.now < 2 ^ 32 }
+    requires fall { (k : ℕ) → k < length links.old → slice_index links.old k ≤ k }
+    ensures { AreSlots words.now links.new heads.new }
+{
+    for slot in 0..words.len() {
+        link_slot(words, links, heads, slot);
+    }
+}
+
+/// Doubles the buckets where there is one for each slot already, as far as there is room for them.
+fn widen(words: &[u64], links: &mut [u32], heads: &mut Vec<u32>)
+    requires { AreSlots words.now links.old heads.old.items }
+    ensures { AreSlots words.now links.new heads.new.items }
+{
+    let most = heads.capacity().min(MOST_BUCKETS);
+    let buckets = most.min(2 * heads.len());
+    if heads.len() <= words.len() && heads.len() < buckets {
+        clear(heads, buckets);
+        link_all(words, links, heads);
+    }
+}
+
 /// Frees a slot.
 fn take_word(words: &mut [u64], links: &mut [u32], heads: &mut [u32], slot: usize)
     requires slots { AreSlots words.old links.old heads.old }
@@ -99,7 +152,7 @@ fn take_word(words: &mut [u64], links: &mut [u32], heads: &mut [u32], slot: usiz
 }
 
 impl SlotTable {
-    /// So many slots, all free, and at least one. It writes to the buckets alone, four bytes a slot.
+    /// So many slots, all free, and at least one. It writes to the first buckets alone.
     pub fn new(alloc: Global, slots: u32) -> Result<SlotTable, Memory>
         requires { 0 < slots }
         ensures words { IfOk result (λ t. t.words ≡ replicate slots 0) }
@@ -108,7 +161,8 @@ impl SlotTable {
         let slots = slots as usize;
         let words = Vec::with_capacity(alloc, slots)?;
         let links = Vec::with_capacity(alloc, slots)?;
-        let heads = vec![in alloc; 0u32; slots]?;
+        let mut heads = Vec::with_capacity(alloc, slots)?;
+        clear(&mut heads, slots.min(FIRST_BUCKETS));
         Ok(SlotTable {
             words,
             links,
@@ -189,6 +243,7 @@ impl SlotTable {
         ensures slot { result ≡ self.old.taken }
     {
         let slot = self.words.len() as u32;
+        widen(&self.words, &mut self.links, &mut self.heads);
         self.words.push_reserved(0);
         self.links.push_reserved(0);
         self.fill(slot, bits);

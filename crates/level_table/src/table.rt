@@ -42,7 +42,7 @@ impl Model for LevelTable {
 fn mix(hi: u32, lo: Edge) -> u32
     ensures { result ≡ hash_of hi lo }
 {
-    let low = 2 * lo.index as u64 + if lo.complement { 1 } else { 0 };
+    let low = lo.word() as u64;
     let sum = (hi as u64)
         .wrapping_mul(0x9e37_79b9_7f4a_7c15)
         .wrapping_add(low.wrapping_mul(0xc2b2_ae3d_27d4_eb4f));

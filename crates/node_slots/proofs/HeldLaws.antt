@@ -1,5 +1,5 @@
 -- A store in its holder's hands, where its words and holds are those of a sound content.
-use Rattle.std.proofs.Common.{◌≡◌, ℕ, zero, suc, ◌<◌, ◌≤◌, inl, inr, Bool, List, length, get_or, set, max, Option, Some, None, refl, ap, sym, ◌∙◌, subst, arith}
+use Rattle.std.proofs.Common.{◌≡◌, ℕ, suc, ◌<◌, ◌≤◌, inl, inr, List, length, get_or, set, max, refl, ap, sym, ◌∙◌, subst, arith}
 use Rattle.std.proofs.lemmas.Bool.{cases_eq}
 use Rattle.std.proofs.lemmas.List.{get_or-set_same, get_or-set_other}
 use Rattle.edge_bits.specs.Reading.{slots_of}
@@ -11,7 +11,6 @@ use Rattle.node_store.specs.Changes.{After, put_at}
 use Rattle.node_store.proofs.Rewriting.{put_at-same, put_at-other}
 use Rattle.node_slots.specs.Slots.{function_at_most}
 use Rattle.node_slots.specs.Stores.{Plain, slots, longest, content_of, count_at, generation_at, is_set, AreInverse}
-use Rattle.node_slots.specs.Wholes.{content_view}
 use Rattle.node_slots.specs.Held.{Alone, Held, IsHeld, held_view, pair_in}
 use Rattle.node_slots.proofs.WordFunctions.{words_denote}
 

@@ -1,7 +1,7 @@
 -- A held store after a slot was marked or pinned, or a sweep began or ended.
 use Rattle.std.proofs.Common.{◌≡◌, ℕ, ◌<◌, inl, inr, Bool, true, false, List, length, get_or, set, replicate, Some, None, refl, ap, sym, ◌∙◌, subst, arith}
 use Rattle.std.proofs.lemmas.Bool.{cases_lt}
-use Rattle.std.specs.Prelude.{◌-◌, ◌^◌, ◌==◌}
+use Rattle.std.specs.Prelude.{◌==◌}
 use Rattle.std.proofs.lemmas.List.{length-set, length-replicate, get_or_past}
 use Rattle.node_store.specs.Contents.{IsUsed}
 use Rattle.node_store.specs.Changes.{After, with_mark, with_pin}

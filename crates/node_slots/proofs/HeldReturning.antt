@@ -1,12 +1,12 @@
 -- A store that is handed to its holder, and that he gives back.
-use Rattle.std.proofs.Common.{false, ◌≡◌, ℕ, List, Option, Some, None, refl, ap, sym, ◌∙◌, subst, arith}
+use Rattle.std.proofs.Common.{false, ◌≡◌, ℕ, List, Option, Some, None, refl, ap, sym, ◌∙◌, subst}
 use Rattle.computed_cache.specs.Entries.{kept_at}
 use Rattle.node_store.specs.Contents.{IsSound}
 use Rattle.node_slots.specs.declared.held_store.HalfSwap.{HalfSwap}
 use Rattle.slot_notes.specs.Notes.{Chain, Notes}
 use Rattle.node_slots.specs.Stores.{Plain, IsStore, content_of, refused_function}
 use Rattle.node_slots.specs.Wholes.{content_view}
-use Rattle.node_slots.specs.Held.{Held, IsHeld, pair_in}
+use Rattle.node_slots.specs.Held.{IsHeld, pair_in}
 use Rattle.node_slots.proofs.Returning.{sound_ordered, sound_settled}
 use Rattle.node_slots.proofs.Settling.{settled_sound}
 

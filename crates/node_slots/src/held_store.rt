@@ -162,8 +162,8 @@ impl Whole for HeldStore {
     }
 
     fn open(&mut self, edge: Edge) -> Opened {
-        match unpack(self.nodes.word(edge.index)) {
-            Some(word) => opened(word, edge.complement),
+        match unpack(self.nodes.word(edge.index())) {
+            Some(word) => opened(word, edge.complement()),
             None => unreachable!(),
         }
     }
@@ -196,7 +196,7 @@ impl Whole for HeldStore {
         let half = self.half_with(old.var as u32, var);
         let node = Node {
             var: var as u16,
-            hi: hi.index,
+            hi: hi.index(),
             lo,
         };
         self.nodes.rewrite(slot, Word::Inner(node));
@@ -212,13 +212,13 @@ impl Whole for HeldStore {
         }
         let node = Node {
             var: var as u16,
-            hi: hi.index,
-            lo: flip_if(lo, hi.complement),
+            hi: hi.index(),
+            lo: flip_if(lo, hi.complement()),
         };
         match self.nodes.place(Word::Inner(node)) {
             Some(slot) => {
                 self.notes.unlink();
-                Edge::new(slot, hi.complement)
+                Edge::new(slot, hi.complement())
             }
             None => unreachable!(),
         }

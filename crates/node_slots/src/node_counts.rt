@@ -41,12 +41,12 @@ impl NodeCounts {
     }
 
     /// Counts the word's node, if it is one.
-    pub fn add(&mut self, word: Word)
-        requires range { IsInRange word }
+    pub fn add(&mut self, word: &Word)
+        requires range { IsInRange word.now }
         requires all { length self.old ≡ 2 ^ 15 }
         requires few { (v : ℕ) → slice_index self.old v < 2 ^ 23 }
         ensures all { length self.new ≡ length self.old }
-        ensures each { (v : ℕ) → slice_index self.new v ≡ slice_index self.old v + (if is_node_in v (Some word) then 1 else 0) }
+        ensures each { (v : ℕ) → slice_index self.new v ≡ slice_index self.old v + (if is_node_in v (Some word.now) then 1 else 0) }
     {
         match word {
             Word::Inner(node) => self.counts[node.var as usize] += 1,
@@ -55,12 +55,12 @@ impl NodeCounts {
     }
 
     /// Counts the word's node no more, if it is one.
-    pub fn remove(&mut self, word: Word)
-        requires range { IsInRange word }
+    pub fn remove(&mut self, word: &Word)
+        requires range { IsInRange word.now }
         requires all { length self.old ≡ 2 ^ 15 }
-        requires some { (v : ℕ) → is_node_in v (Some word) ≡ true → 0 < slice_index self.old v }
+        requires some { (v : ℕ) → is_node_in v (Some word.now) ≡ true → 0 < slice_index self.old v }
         ensures all { length self.new ≡ length self.old }
-        ensures each { (v : ℕ) → slice_index self.new v + (if is_node_in v (Some word) then 1 else 0) ≡ slice_index self.old v }
+        ensures each { (v : ℕ) → slice_index self.new v + (if is_node_in v (Some word.now) then 1 else 0) ≡ slice_index self.old v }
     {
         match word {
             Word::Inner(node) => self.counts[node.var as usize] -= 1,

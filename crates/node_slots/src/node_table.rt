@@ -10,7 +10,7 @@ ghost use Rattle.node_slots.specs.Stores.{is_word, permanent_word};
 ghost use Rattle.node_slots.specs.Taking.{ArePacked, AreCounted, AreFree, HasNoZero, IsPut, nodes_of};
 
 use crate::node_counts::NodeCounts;
-use edge_bits::{Edge, FIRST_PROJECTION, Memory, Node, TRUE_SLOT, Word, ZERO_SLOT, pack, unpack};
+use edge_bits::{Edge, FIRST_PROJECTION, Memory, Node, TRUE_SLOT, Word, ZERO_SLOT, unpack};
 use level_table::SlotTable;
 use std::alloc::Global;
 use std::marker::Model;
@@ -39,15 +39,24 @@ impl Model for NodeTable {
     ghost invariant = { λ t. IsNodeTable t.table t.freed.items (vec_capacity t.freed) t.in_use t.nodes };
 }
 
+/// The bits of a word that is used again.
+fn pack(word: &Word) -> u64
+    requires { IsInRange word.now }
+    ensures layout { result ≡ pack_of word.now }
+    ensures reads_back { unpack_of result ≡ Some word.now }
+{
+    edge_bits::pack(*word)
+}
+
 /// Where a word stands, beyond the slots that are told by their number.
-pub(crate) fn find(words: &[u64], wanted: Word) -> Option<usize>
-    ensures found { IfSome result (λ s. slots_of words.now s ≡ Some wanted) }
+pub(crate) fn find(words: &[u64], wanted: &Word) -> Option<usize>
+    ensures found { IfSome result (λ s. slots_of words.now s ≡ Some wanted.now) }
     ensures high { IfSome result (λ s. zero_slot ≤ s) }
     ensures within { IfSome result (λ s. s < length words.now) }
-    ensures absent { IfNone result ((t : ℕ) → zero_slot ≤ t → slots_of words.now t ≡ Some wanted → ⊥) }
+    ensures absent { IfNone result ((t : ℕ) → zero_slot ≤ t → slots_of words.now t ≡ Some wanted.now → ⊥) }
 {
     for (slot, bits) in words.iter().enumerate() {
-        if slot >= ZERO_SLOT as usize && unpack(*bits) == Some(wanted) {
+        if slot >= ZERO_SLOT as usize && unpack(*bits) == Some(*wanted) {
             return Some(slot);
         }
     }
@@ -110,8 +119,8 @@ fn append_permanent(table: &mut SlotTable, nodes: &mut NodeCounts, vars: u32)
 {
     for slot in 0..FIRST_PROJECTION + vars {
         let word = permanent(slot);
-        table.append(pack(word));
-        nodes.add(word);
+        table.append(pack(&word));
+        nodes.add(&word);
     }
 }
 
@@ -208,13 +217,13 @@ impl NodeTable {
         ensures placed { IfSome result (IsPlaced self.old self.new word) }
         ensures full { IfNone result (HasNoPlace self.old self.new word) }
     {
-        let bits = pack(word);
+        let bits = pack(&word);
         if let Some(slot) = self.table.find(bits) {
             return Some(slot);
         }
         let slot = put(&mut self.table, &mut self.freed, bits)?;
         self.in_use += 1;
-        self.nodes.add(word);
+        self.nodes.add(&word);
         Some(slot)
     }
 
@@ -226,7 +235,7 @@ impl NodeTable {
         let Some(word) = unpack(self.table.word(slot)) else {
             unreachable!()
         };
-        self.nodes.remove(word);
+        self.nodes.remove(&word);
         self.table.erase(slot);
         self.freed.push_reserved(slot);
         self.in_use -= 1;
@@ -242,9 +251,9 @@ impl NodeTable {
         let Some(old) = unpack(self.table.word(slot)) else {
             unreachable!()
         };
-        self.nodes.remove(old);
-        overwrite(&mut self.table, slot, pack(word));
-        self.nodes.add(word);
+        self.nodes.remove(&old);
+        overwrite(&mut self.table, slot, pack(&word));
+        self.nodes.add(&word);
     }
 
     /// The number of nodes of a variable, and of element e by 16,384 + e.

@@ -4,7 +4,7 @@ ghost use Rattle.std.specs.Prelude.{◌≡◌, ℕ, ◌+◌, ◌-◌, ◌<◌, �
 ghost use Rattle.std.specs.List.{range_with_len};
 ghost use Rattle.edge_bits.specs.Permanent.{first_projection};
 ghost use Rattle.edge_bits.specs.Reading.{slots_of};
-ghost use Rattle.edge_bits.specs.Words.{unpack_of};
+ghost use Rattle.edge_bits.specs.Words.{IsInRange, unpack_of};
 ghost use Rattle.node_slots.specs.Stores.{IsRenewed};
 ghost use Rattle.handle_count.specs.CountWords.{count_of, generation_of};
 ghost use Rattle.node_slots.specs.Placing.{IsChild, HasNoChild};
@@ -69,7 +69,7 @@ pub(crate) fn only_child(var: u32, hi: Edge, lo: Edge) -> Option<Edge>
 {
     if var < FIRST_ELEMENT {
         if hi == lo { Some(hi) } else { None }
-    } else if hi.index == EMPTY_SLOT {
+    } else if hi.index() == EMPTY_SLOT {
         Some(lo)
     } else {
         None
@@ -78,6 +78,7 @@ pub(crate) fn only_child(var: u32, hi: Edge, lo: Edge) -> Option<Edge>
 
 /// A word, with the complement of the edge to it pushed to both children.
 pub(crate) fn opened(word: Word, complement: bool) -> Opened
+    requires { IsInRange word }
     ensures { result ≡ opened_of word complement }
 {
     match word {
@@ -125,8 +126,8 @@ impl Grow for PlainStore {
     }
 
     fn open(&mut self, edge: Edge) -> Opened {
-        match unpack(self.nodes.word(edge.index)) {
-            Some(word) => opened(word, edge.complement),
+        match unpack(self.nodes.word(edge.index())) {
+            Some(word) => opened(word, edge.complement()),
             None => unreachable!(),
         }
     }
@@ -152,11 +153,11 @@ impl Grow for PlainStore {
         }
         let node = Node {
             var: var as u16,
-            hi: hi.index,
-            lo: flip_if(lo, hi.complement),
+            hi: hi.index(),
+            lo: flip_if(lo, hi.complement()),
         };
         match self.nodes.place(Word::Inner(node)) {
-            Some(slot) => Ok(Edge::new(slot, hi.complement)),
+            Some(slot) => Ok(Edge::new(slot, hi.complement())),
             None => {
                 self.fulls = risen(fulls);
                 self.due = Some(Refused::Node(var, hi, lo));
@@ -262,7 +263,7 @@ fn names(bits: u64, slot: u32) -> bool
     ensures yes { IsTrue result → (node : Node) × (unpack_of bits ≡ Some (Word.Inner node)) × ((node.hi ≡ slot) ⊎ (node.lo.index ≡ slot)) }
 {
     match unpack(bits) {
-        Some(Word::Inner(node)) => node.hi == slot || node.lo.index == slot,
+        Some(Word::Inner(node)) => node.hi == slot || node.lo.index() == slot,
         _ => false,
     }
 }
@@ -410,7 +411,7 @@ impl PlainStore {
         ensures some { IfSome result (λ s. (3 ≤ s) × (slots_of self.now.words s ≡ Some (Word.Inner node))) }
         ensures none { IfNone result ((s : ℕ) → 3 ≤ s → slots_of self.now.words s ≡ Some (Word.Inner node) → ⊥) }
     {
-        let slot = find(self.nodes.words(), Word::Inner(node))?;
+        let slot = find(self.nodes.words(), &Word::Inner(node))?;
         Some(slot as u32)
     }
 

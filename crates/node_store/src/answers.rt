@@ -22,7 +22,7 @@ const MOST_PLACES: usize = 1 << 22;
 
 /// An edge with its complement as one number.
 fn number_of(edge: Edge) -> u64 {
-    2 * edge.index as u64 + u64::from(edge.complement)
+    u64::from(edge.word())
 }
 
 /// Where the answer of a task stands in a table of this size: multiplicative hashing (Knuth 1973) of all three operands.

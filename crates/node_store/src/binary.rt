@@ -166,18 +166,24 @@ impl<G: Grow, O: Apply<G>> Operator<G> for Binary<O> {
         frame: Frame,
         answer: Edge,
     ) -> Result<Turn, Halt> {
-        match frame.wait {
+        let Frame {
+            task: Task { f, g, h },
+            var,
+            flip,
+            wait,
+        } = frame;
+        match wait {
             Wait::First(later) => {
-                if let Some(edge) = self.0.settled(frame.task, frame.var, answer) {
-                    return Ok(Turn::Done(finish(&self.0, store, frame, edge)));
+                if let Some(edge) = self.0.settled(Task { f, g, h }, var, answer) {
+                    return Ok(Turn::Done(finish(&self.0, store, Task { f, g, h }, flip, edge)));
                 }
                 Ok(Turn::Call(Wait::Second(answer), later))
             }
             Wait::Second(hi) => {
                 let edge = self
                     .0
-                    .join(store, stack, frame.task, frame.var, hi, answer)?;
-                Ok(Turn::Done(finish(&self.0, store, frame, edge)))
+                    .join(store, stack, Task { f, g, h }, var, hi, answer)?;
+                Ok(Turn::Done(finish(&self.0, store, Task { f, g, h }, flip, edge)))
             }
             _ => unreachable!(),
         }
@@ -208,25 +214,22 @@ ghost use Rattle.std.specs.Prelude.{◌≡◌};
 ghost use Rattle.node_store.specs.Edges.{flip_if as flipped_edge};
 ghost use Rattle.node_store.specs.Views.{Kept};
 
-/// Keeps the answer of a frame's task under its key, and gives it the complement that the frame asks for.
-fn finish<G: Grow, O: Apply<G>>(op: &O, store: &mut G, frame: Frame, edge: Edge) -> Edge
-    requires due { O.due op.now (G.view store.old) frame.task }
-    requires answer { O.answers op.now (G.view store.old) frame.task edge }
+/// Keeps the answer of a task under its key, and gives it the complement where it is asked for.
+fn finish<G: Grow, O: Apply<G>>(op: &O, store: &mut G, task: Task, flip: bool, edge: Edge) -> Edge
+    requires due { O.due op.now (G.view store.old) task }
+    requires answer { O.answers op.now (G.view store.old) task edge }
     ensures kept { Kept (G.view store.old) (G.view store.new) }
-    ensures flipped { result ≡ flipped_edge frame.flip edge }
+    ensures flipped { result ≡ flipped_edge flip edge }
 {
-    if let Some(key) = op.key(frame.task) {
+    if let Some(key) = op.key(task) {
         store.memo_put(key, edge);
     }
-    flip_if(edge, frame.flip)
+    flip_if(edge, flip)
 }
 
 /// The complement where it is asked for.
 pub fn flip_if(edge: Edge, flip: bool) -> Edge
     ensures { result ≡ flipped_edge flip edge }
 {
-    Edge {
-        index: edge.index,
-        complement: edge.complement != flip,
-    }
+    if flip { edge.flip() } else { edge }
 }

@@ -86,10 +86,11 @@ impl<G: Grow, O: IfThenElse> Apply<G> for ThreeOperands<O> {
         match self.op.reduce(task.f, task.g, task.h) {
             Reduced::Answer(edge) => Ok(Expansion::Done(edge)),
             Reduced::Normal(normal, flip) => {
-                let key = key_of(self.op.number(), normal);
+                let Task { f, g, h } = normal;
+                let key = key_of(self.op.number(), Task { f, g, h });
                 match store.memo_get(&key) {
                     Some(edge) => Ok(Expansion::Done(flip_if(edge, flip))),
-                    None => Ok(Expansion::Split(branch(store, normal, flip))),
+                    None => Ok(Expansion::Split(branch(store, Task { f, g, h }, flip))),
                 }
             }
         }
@@ -137,9 +138,10 @@ fn branch<G: Grow>(store: &mut G, task: Task, flip: bool) -> Branch
     ensures kept { Kept (G.view store.old) (G.view store.new) }
     ensures branch { (k : Kind) → CanSplit k (G.view store.old) task → IsBranch k (G.view store.new) task flip result }
 {
-    let Halves { top, hi, lo } = split_three(store, task);
+    let Task { f, g, h } = task;
+    let Halves { top, hi, lo } = split_three(store, Task { f, g, h });
     Branch {
-        task,
+        task: Task { f, g, h },
         flip,
         var: top.var,
         hi,

@@ -67,7 +67,7 @@ impl Task {
         ensures order { IsOrderOf f g result }
         ensures unused { result.h ≡ result.f }
     {
-        if f.index < g.index {
+        if f.index() < g.index() {
             Task::two(f, g)
         } else {
             Task::two(g, f)

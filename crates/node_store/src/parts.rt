@@ -52,15 +52,21 @@ pub fn look<G: Grow>(store: &mut G, edge: Edge) -> Operand
     ensures edge { result.edge ≡ edge }
     ensures operand { (k : Kind) → Is k (G.view store.old) edge → IsOperand k (G.view store.new) result }
 {
-    let opened = store.open(edge);
-    let top = match opened {
-        Opened::Inner(var, _, _) => Some(Top {
-            var,
-            level: store.level(var),
-        }),
-        Opened::Leaf(_) => None,
-    };
-    Operand { edge, opened, top }
+    match store.open(edge) {
+        Opened::Inner(var, hi, lo) => Operand {
+            edge,
+            opened: Opened::Inner(var, hi, lo),
+            top: Some(Top {
+                var,
+                level: store.level(var),
+            }),
+        },
+        Opened::Leaf(value) => Operand {
+            edge,
+            opened: Opened::Leaf(value),
+            top: None,
+        },
+    }
 }
 
 /// The then part, at a variable above the edge's top: a family has no member with the element, and any other function is its own.
@@ -78,15 +84,16 @@ fn absent_part(edge: Edge, var: u32) -> Edge
 pub fn parts_of(operand: Operand, var: u32) -> (Edge, Edge)
     ensures { (k : Kind) (w : View) → CanHalve k w operand var → PartsAt k w operand.edge (values_at k w operand.edge) var result.0 result.1 }
 {
-    match operand.opened {
+    let Operand { edge, opened, .. } = operand;
+    match opened {
         Opened::Inner(top, hi, lo) => {
             if top == var {
                 (hi, lo)
             } else {
-                (absent_part(operand.edge, var), operand.edge)
+                (absent_part(edge, var), edge)
             }
         }
-        Opened::Leaf(_) => (absent_part(operand.edge, var), operand.edge),
+        Opened::Leaf(_) => (absent_part(edge, var), edge),
     }
 }
 

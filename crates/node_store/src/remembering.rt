@@ -34,10 +34,11 @@ impl<G: Grow, O: Apply<G>> Operator<G> for Remembering<O> {
     ghost extra = { λ s w. O.extra s.0 w.view };
 
     fn start(&self, store: &mut G, stack: &mut Stack, task: Task) -> Result<Next, Halt> {
-        if let Some(edge) = stack.recall(task) {
+        let Task { f, g, h } = task;
+        if let Some(edge) = stack.recall(Task { f, g, h }) {
             return Ok(Next::Done(edge));
         }
-        match self.0.expand(store, task)? {
+        match self.0.expand(store, Task { f, g, h })? {
             Expansion::Done(edge) => Ok(Next::Done(edge)),
             Expansion::Split(branch) => {
                 let frame = Frame {
@@ -58,20 +59,26 @@ impl<G: Grow, O: Apply<G>> Operator<G> for Remembering<O> {
         frame: Frame,
         answer: Edge,
     ) -> Result<Turn, Halt> {
-        match frame.wait {
+        let Frame {
+            task: Task { f, g, h },
+            var,
+            flip,
+            wait,
+        } = frame;
+        match wait {
             Wait::First(later) => {
-                if let Some(edge) = self.0.settled(frame.task, frame.var, answer) {
-                    stack.remember(frame.task, edge);
-                    return Ok(Turn::Done(flip_if(edge, frame.flip)));
+                if let Some(edge) = self.0.settled(Task { f, g, h }, var, answer) {
+                    stack.remember(Task { f, g, h }, edge);
+                    return Ok(Turn::Done(flip_if(edge, flip)));
                 }
                 Ok(Turn::Call(Wait::Second(answer), later))
             }
             Wait::Second(hi) => {
                 let edge = self
                     .0
-                    .join(store, stack, frame.task, frame.var, hi, answer)?;
-                stack.remember(frame.task, edge);
-                Ok(Turn::Done(flip_if(edge, frame.flip)))
+                    .join(store, stack, Task { f, g, h }, var, hi, answer)?;
+                stack.remember(Task { f, g, h }, edge);
+                Ok(Turn::Done(flip_if(edge, flip)))
             }
             _ => unreachable!(),
         }

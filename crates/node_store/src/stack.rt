@@ -85,7 +85,18 @@ impl Stack {
         ensures answers { self.new.answers ≡ self.old.answers }
         ensures marks { self.new.marks ≡ self.old.marks }
     {
-        self.frames.push_reserved(frame);
+        let Frame {
+            task,
+            var,
+            flip,
+            wait,
+        } = frame;
+        self.frames.push_reserved(Frame {
+            task,
+            var,
+            flip,
+            wait,
+        });
     }
 
     /// The frame at the top.

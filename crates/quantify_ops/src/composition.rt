@@ -103,29 +103,29 @@ impl Composition {
         ensures expanded { Expanded (ComposeDue self.now.f self.now.var self.now.g self.now.projection) (ComposeAnswers self.now.var) (λ _ _. ⊥) (ComposeSplits self.now.f self.now.var self.now.g) (two_depth Bdd) (G.view store.new) task result }
     {
         // A complement's composition is the composition's complement.
-        let flip = task.f.complement;
-        let regular = Task::two(Edge::new(task.f.index, false), task.g);
-        let found = find(store, regular.f, self.var);
+        let flip = task.f.complement();
+        let Task { f, g, h } = Task::two(task.f.regular(), task.g);
+        let found = find(store, f, self.var);
         if let Found::Free = found {
-            return Expansion::Done(flip_if(regular.f, flip));
+            return Expansion::Done(flip_if(f, flip));
         }
-        let key = key_of(regular, self.projection);
+        let key = key_of(Task { f, g, h }, self.projection);
         if let Some(edge) = store.memo_get(&key) {
             return Expansion::Done(flip_if(edge, flip));
         }
         if let Found::Own(hi, lo) = found {
             return Expansion::Split(Branch {
-                task: regular,
+                task: Task { f, g, h },
                 flip,
                 var: self.var,
                 hi: Task::two(hi, hi),
                 lo: Task::two(lo, lo),
             });
         }
-        match split_two(store, regular.f, regular.g) {
+        match split_two(store, f, g) {
             Split::Leaves(_, _) => unreachable!(),
             Split::At(halves) => Expansion::Split(Branch {
-                task: regular,
+                task: Task { f, g, h },
                 flip,
                 var: halves.top.var,
                 hi: halves.hi,

@@ -49,16 +49,17 @@ impl<G: Grow> Operator<G> for Dependence {
     ghost extra = { λ _ _. 0 };
 
     fn start(&self, store: &mut G, stack: &mut Stack, task: Task) -> Result<Next, Halt> {
-        if let Some(edge) = stack.recall(task) {
+        let Task { f, g, h } = task;
+        if let Some(edge) = stack.recall(Task { f, g, h }) {
             return Ok(Next::Done(edge));
         }
-        let Opened::Inner(var, hi, lo) = store.open(task.f) else {
-            return Ok(Next::Done(task.f));
+        let Opened::Inner(var, hi, lo) = store.open(f) else {
+            return Ok(Next::Done(f));
         };
         let level = store.level(var);
         stack.mark(level, var);
         let frame = Frame {
-            task,
+            task: Task { f, g, h },
             var,
             flip: false,
             wait: Wait::First(regular_task(lo)),
@@ -73,10 +74,11 @@ impl<G: Grow> Operator<G> for Dependence {
         frame: Frame,
         answer: Edge,
     ) -> Result<Turn, Halt> {
-        match frame.wait {
+        let Frame { task, wait, .. } = frame;
+        match wait {
             Wait::First(later) => Ok(Turn::Call(Wait::Second(answer), later)),
             Wait::Second(_) => {
-                stack.remember(frame.task, answer);
+                stack.remember(task, answer);
                 Ok(Turn::Done(answer))
             }
             _ => unreachable!(),
@@ -108,7 +110,7 @@ impl<G: Grow> Operator<G> for Dependence {
 fn regular_task(f: Edge) -> Task
     ensures { result.f ≡ regular_edge f }
 {
-    let f = Edge::new(f.index, false);
+    let f = f.regular();
     Task::two(f, f)
 }
 
@@ -191,7 +193,7 @@ impl<G: Grow> Operation<G> for Dependence {
 fn key_of(f: Edge) -> Key
     ensures { result ≡ support_key f }
 {
-    let f = Edge::new(f.index, false);
+    let f = f.regular();
     Key {
         op: numbers::SUPPORT,
         f,

@@ -66,20 +66,21 @@ impl<G: Grow> Operator<G> for Quantification {
     ghost extra = { λ _ w. w.view.vars };
 
     fn start(&self, store: &mut G, stack: &mut Stack, task: Task) -> Result<Next, Halt> {
-        if let Some(value) = known(task.f, task.g) {
+        let Task { f, g, h } = task;
+        if let Some(value) = known(f, g) {
             return Ok(Next::Done(Edge::truth(value)));
         }
-        if let Some(edge) = store.memo_get(&key_of(task)) {
+        if let Some(edge) = store.memo_get(&key_of(Task { f, g, h })) {
             return Ok(Next::Done(edge));
         }
-        if task.h.index == TRUE_SLOT {
+        if h.index() == TRUE_SLOT {
             // Nothing is left to quantify.
-            return Ok(Next::Done(and(store, stack, task.f, task.g)?));
+            return Ok(Next::Done(and(store, stack, f, g)?));
         }
-        match self.narrow(store, task) {
+        match self.narrow(store, Task { f, g, h }) {
             Step::Skip(child) => {
                 let frame = Frame {
-                    task,
+                    task: Task { f, g, h },
                     var: 0,
                     flip: false,
                     wait: Wait::Only,
@@ -105,21 +106,27 @@ impl<G: Grow> Operator<G> for Quantification {
         frame: Frame,
         answer: Edge,
     ) -> Result<Turn, Halt> {
-        match frame.wait {
+        let Frame {
+            task: Task { f, g, h },
+            var,
+            wait,
+            ..
+        } = frame;
+        match wait {
             Wait::Only => {
-                self.keep(store, frame.task, answer);
+                self.keep(store, Task { f, g, h }, answer);
                 Ok(Turn::Done(answer))
             }
             Wait::First(later) => {
-                if self.settles(store, frame.task, frame.var, answer) {
-                    self.keep(store, frame.task, answer);
+                if self.settles(store, Task { f, g, h }, var, answer) {
+                    self.keep(store, Task { f, g, h }, answer);
                     return Ok(Turn::Done(answer));
                 }
                 Ok(Turn::Call(Wait::Second(answer), later))
             }
             Wait::Second(hi) => {
-                let edge = self.join(store, stack, frame.task, frame.var, hi, answer)?;
-                self.keep(store, frame.task, edge);
+                let edge = self.join(store, stack, Task { f, g, h }, var, hi, answer)?;
+                self.keep(store, Task { f, g, h }, edge);
                 Ok(Turn::Done(edge))
             }
             _ => unreachable!(),
@@ -155,11 +162,12 @@ impl Quantification {
         ensures kept { Kept (G.view store.old) (G.view store.new) }
         ensures step { IsStep self.now.f self.now.g self.now.cube (G.view store.new) task result }
     {
-        let Halves { top, hi, lo } = self.split(store, task);
-        match left_of(store, task.h, top) {
-            Left::Above(rest) => Step::Skip(Task { h: rest, ..task }),
+        let Task { f, g, h } = task;
+        let Halves { top, hi, lo } = self.split(store, Task { f, g, h });
+        match left_of(store, h, top) {
+            Left::Above(rest) => Step::Skip(Task { f, g, h: rest }),
             Left::Below(rest) => Step::Split(Branch {
-                task,
+                task: Task { f, g, h },
                 flip: false,
                 var: top.var,
                 hi: Task { h: rest, ..hi },
@@ -187,10 +195,10 @@ impl Quantification {
         ensures kept { Kept (G.view store.old) (G.view store.new) }
         ensures answer { result ≡ true → QuantifiedAnswers (G.view store.new) task first }
     {
-        if first.index != TRUE_SLOT {
+        if first.index() != TRUE_SLOT {
             return false;
         }
-        if first.complement {
+        if first.complement() {
             return false;
         }
         match rest_of(store, task.h, var) {
@@ -259,21 +267,21 @@ pub(crate) fn quantify<G: Grow>(
 fn known(f: Edge, g: Edge) -> Option<bool>
     ensures { (w : View) → Permanent w → AreTwo Bdd w f g → IsKnown w f g result }
 {
-    if f.index == g.index {
-        if f.complement != g.complement {
+    if f.index() == g.index() {
+        if f.complement() != g.complement() {
             return Some(false);
         }
-        return if f.index == TRUE_SLOT {
-            Some(!f.complement)
+        return if f.index() == TRUE_SLOT {
+            Some(!f.complement())
         } else {
             None
         };
     }
-    if f.index == TRUE_SLOT {
-        return if f.complement { Some(false) } else { None };
+    if f.index() == TRUE_SLOT {
+        return if f.complement() { Some(false) } else { None };
     }
-    if g.index == TRUE_SLOT {
-        return if g.complement { Some(false) } else { None };
+    if g.index() == TRUE_SLOT {
+        return if g.complement() { Some(false) } else { None };
     }
     None
 }

@@ -55,8 +55,8 @@ impl<G: Grow> Operator<G> for Restriction {
 
     fn start(&self, store: &mut G, stack: &mut Stack, task: Task) -> Result<Next, Halt> {
         // A complement's restriction is the restriction's complement.
-        let flip = task.f.complement;
-        let f = Edge::new(task.f.index, false);
+        let flip = task.f.complement();
+        let f = task.f.regular();
         let Opened::Inner(var, hi, lo) = store.open(f) else {
             return Ok(Next::Done(task.f));
         };
@@ -88,12 +88,18 @@ impl<G: Grow> Operator<G> for Restriction {
         frame: Frame,
         answer: Edge,
     ) -> Result<Turn, Halt> {
-        match frame.wait {
-            Wait::Only => Ok(Turn::Done(self.keep(store, frame, answer))),
+        let Frame {
+            task,
+            var,
+            flip,
+            wait,
+        } = frame;
+        match wait {
+            Wait::Only => Ok(Turn::Done(self.keep(store, task, flip, answer))),
             Wait::First(later) => Ok(Turn::Call(Wait::Second(answer), later)),
             Wait::Second(hi) => {
-                let edge = store.make(frame.var, hi, answer)?;
-                Ok(Turn::Done(self.keep(store, frame, edge)))
+                let edge = store.make(var, hi, answer)?;
+                Ok(Turn::Done(self.keep(store, task, flip, edge)))
             }
             _ => unreachable!(),
         }
@@ -190,15 +196,15 @@ impl Restriction {
         (first, then_task)
     }
 
-    /// Keeps the answer of a frame's task, and gives it the complement that the frame asks for.
-    fn keep<G: Grow>(&self, store: &mut G, frame: Frame, answer: Edge) -> Edge
-        requires due { RestrictDue self.now.f self.now.c (G.view store.old) frame.task }
-        requires answer { RestrictAnswers (G.view store.old) frame.task answer }
+    /// Keeps the answer of a task, and gives it the complement where it is asked for.
+    fn keep<G: Grow>(&self, store: &mut G, task: Task, flip: bool, answer: Edge) -> Edge
+        requires due { RestrictDue self.now.f self.now.c (G.view store.old) task }
+        requires answer { RestrictAnswers (G.view store.old) task answer }
         ensures kept { Kept (G.view store.old) (G.view store.new) }
-        ensures flipped { result ≡ flipped_edge frame.flip answer }
+        ensures flipped { result ≡ flipped_edge flip answer }
     {
-        store.memo_put(key_of(frame.task.f, frame.task.g), answer);
-        flip_if(answer, frame.flip)
+        store.memo_put(key_of(task.f, task.g), answer);
+        flip_if(answer, flip)
     }
 }
 
@@ -264,7 +270,7 @@ fn is_false<G: Grow>(store: &mut G, edge: Edge) -> bool
 {
     match store.open(edge) {
         Opened::Inner(_, _, _) => false,
-        Opened::Leaf(_) => edge.complement,
+        Opened::Leaf(_) => edge.complement(),
     }
 }
 
@@ -272,11 +278,11 @@ fn is_false<G: Grow>(store: &mut G, edge: Edge) -> bool
 fn known(f: Edge, condition: Edge) -> Option<Edge>
     ensures { (w : View) → Permanent w → AreTwo Bdd w f condition → (IsNowhere (bdd_at w condition) → ⊥) → IsKnownRestriction w (record { f = f; g = condition; h = f }) result }
 {
-    if condition.index == TRUE_SLOT {
+    if condition.index() == TRUE_SLOT {
         return Some(f);
     }
-    if condition.index == f.index {
-        return Some(Edge::truth(f.complement == condition.complement));
+    if condition.index() == f.index() {
+        return Some(Edge::truth(f.complement() == condition.complement()));
     }
     None
 }

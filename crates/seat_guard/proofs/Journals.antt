@@ -19,6 +19,7 @@ use Rattle.seat_guard.specs.declared.view.Row.{Row}
 use Rattle.seat_guard.specs.declared.view.Telling.{Telling}
 use Rattle.seat_guard.specs.declared.view.Gone.{Gone}
 use Rattle.seat_guard.specs.declared.view.Draws.{Draws}
+use Rattle.seat_guard.specs.declared.view.Leaving.{Leaving}
 use Rattle.seat_guard.specs.Views.{told_of, MayTell, stands_for, cell_in, sizes_for, blank, session_of, holding, letting_go, gone_of, with_gone, one_more}
 use Rattle.function_laws.specs.SessionEntries.{Each, entries_of, entry}
 use Rattle.function_laws.specs.Sizes.{Orders}
@@ -49,9 +50,9 @@ module _ (place turn : ℕ) (ds : List Draws) (start : Sizes) (log : List Entry)
   held_turn i d at h = (mine i d at ((r.each i d at).holder h)).held h
 
   -- the free turn is taken
-  pub takes_it : (id : ℕ) (d : Draws) (cells : List (std.Option Held)) (others : List Held) (now : Orders) → get_elem? ds id ≡ some d → d.live ≡ true → turn ≡ 0 → table.cells ≡ cell_in cells → length cells ≡ 256 → Each (IsOfOther table d.session) others
-      → Journal place (suc d.session) (set ds id (holding d cells others now)) start log table
-  takes_it id d cells others now at live free board len apart_from =
+  pub takes_it : (id : ℕ) (d : Draws) (cells : List (std.Option Held)) (others : List Held) (now : Orders) (functions : List Function) → get_elem? ds id ≡ some d → d.live ≡ true → turn ≡ 0 → table.cells ≡ cell_in cells → length cells ≡ 256 → Each (IsOfOther table d.session) others
+      → Journal place (suc d.session) (set ds id (holding d cells others now functions)) start log table
+  takes_it id d cells others now functions at live free board len apart_from =
       let me = mine id d at live in record {
         seat = r.seat;
         legal = r.legal;
@@ -61,7 +62,7 @@ module _ (place turn : ℕ) (ds : List Draws) (start : Sizes) (log : List Entry)
         bounded = r.bounded;
         beyond = r.beyond;
         carried = r.carried;
-        each = each_set (Fits (suc d.session) start log table r.seat) ds id (holding d cells others now)
+        each = each_set (Fits (suc d.session) start log table r.seat) ds id (holding d cells others now functions)
             (λ j e apart here. let f = r.each j e here in record {
               live = λ l. let g = f.live l in record { seated = g.seated; below = g.below; mine = g.mine; agrees = g.agrees; held = λ h. absurd (let z = g.held h in omega (arith, z, free)); given = g.given; stand = g.stand; others = g.others };
               closing = f.closing;
@@ -85,8 +86,8 @@ module _ (place turn : ℕ) (ds : List Draws) (start : Sizes) (log : List Entry)
       }
 
   -- the turn is given back
-  pub gives_it : (id : ℕ) (d : Draws) → get_elem? ds id ≡ some d → d.live ≡ true → d.holds ≡ true → Journal place 0 (set ds id (letting_go d)) start log table
-  gives_it id d at live holds =
+  pub gives_it : (id : ℕ) (d : Draws) (leaving : Leaving) → get_elem? ds id ≡ some d → d.live ≡ true → d.holds ≡ true → Journal place 0 (set ds id (letting_go d leaving)) start log table
+  gives_it id d leaving at live holds =
       let me = mine id d at live in record {
         seat = r.seat;
         legal = r.legal;
@@ -96,7 +97,7 @@ module _ (place turn : ℕ) (ds : List Draws) (start : Sizes) (log : List Entry)
         bounded = r.bounded;
         beyond = r.beyond;
         carried = r.carried;
-        each = each_set (Fits 0 start log table r.seat) ds id (letting_go d)
+        each = each_set (Fits 0 start log table r.seat) ds id (letting_go d leaving)
             (λ j e apart here. let f = r.each j e here in record {
               live = λ l. let g = f.live l in record {
                 seated = g.seated;

@@ -20,6 +20,7 @@ use Rattle.seat_guard.specs.declared.view.Row.{Row}
 use Rattle.seat_guard.specs.declared.view.Telling.{Telling}
 use Rattle.seat_guard.specs.declared.view.Gone.{Gone}
 use Rattle.seat_guard.specs.declared.view.Draws.{Draws}
+use Rattle.seat_guard.specs.declared.view.Leaving.{Leaving}
 use Rattle.seat_guard.specs.declared.view.View.{View}
 use Rattle.seat_guard.specs.Views.{told_of, MayTell, cell_in, sizes_for, viewed, blank, session_of, holding, letting_go, with_gone, one_more}
 use Rattle.function_laws.specs.SessionEntries.{Each, entry}
@@ -57,9 +58,9 @@ module _ {S : Type 0} (keeps_it : S → Held → Type 0) (board : S → List (st
   stays : (s : St S) (i id : ℕ) (me : Sat S) → TheRule s → get_elem? s.views id ≡ some me.0 → TheRule (stepped s i (get_or s.words i 0) id me.1 me.0 keeps)
   stays s i id me r at = subst (λ (x : List ℕ × List View). TheRule (record { words = x.0; homes = s.homes; views = x.1 })) (λ k. (sym (set-get_or s.words i 0) k, sym (set_again s.views id me.0 at) k)) r
 
-  pub takes_turn : (slots id : ℕ) (me : Sat S) (new : ℕ) → me.0.draws.live ≡ true → me.1 ≡ [] → new ≡ suc me.0.draws.session
-      → Allows TheRule slots id me 1 (λ n. either (n == 0) new n) (took keeps_it board counts count orders (step slots 1 0 new none) me)
-  takes_turn slots id me new live free is s r long at small = dite (ℕ_discrete (get_or s.words 1 0) 0)
+  pub takes_turn : (functions : S → List Function) (slots id : ℕ) (me : Sat S) (new : ℕ) → me.0.draws.live ≡ true → me.1 ≡ [] → new ≡ suc me.0.draws.session
+      → Allows TheRule slots id me 1 (λ n. either (n == 0) new n) (took keeps_it board counts count orders functions (step slots 1 0 new none) me)
+  takes_turn functions slots id me new live free is s r long at small = dite (ℕ_discrete (get_or s.words 1 0) 0)
       (λ hit.
       let d = me.0.draws in
       let here = seat_of s id me.0 at in
@@ -68,18 +69,18 @@ module _ {S : Type 0} (keeps_it : S → Held → Type 0) (board : S → List (st
       let now_left : Orders = orders_from (opening_orders r.start) r.log in
       let part : Turn keeps_it board counts count orders 0 home (ds_of s.views) r.table now_left = subst (λ (n : ℕ). Turn keeps_it board counts count orders n home (ds_of s.views) r.table now_left) hit r.turn in
       let sizes : r.table.sizes ≡ sizes_for d.vars d.elements = ((j.each id d here).live live).agrees.sizes_are in
-      let t = finds_it keeps_it board counts count orders home (ds_of s.views) r.table now_left id d (IsOfOther r.table d.session) part here sizes
+      let t = finds_it keeps_it board counts count orders home (ds_of s.views) r.table now_left id d functions (IsOfOther r.table d.session) part here sizes
       (rows_apart (get_or s.words 0 0) (get_or s.words 1 0) (ds_of s.views) r.start r.log r.table j id d here live) in
       let home_of = t.3 in
       let x : S = t.0 in
       let others : List Held = t.1 in
-      let w = viewed (holding d (board x) others (orders x)) in
+      let w = viewed (holding d (board x) others (orders x) (functions x)) in
       let hs = set s.homes 0 none in
       let now : get_or (set s.words 1 (suc d.session)) 1 0 ≡ suc d.session = get_or-set_same s.words 1 (suc d.session) 0 (let l = r.wide in omega (arith, l)) in
       let place : get_or (set s.words 1 (suc d.session)) 0 0 ≡ get_or s.words 0 0 = get_or-set_other s.words 1 0 (suc d.session) 0 (λ e. omega (arith, e)) in
       let views : ds_of (set s.views id w) ≡ set (ds_of s.views) id w.draws = map-set (λ (v : View). v.draws) s.views id w in
-      let journal = takes_it (get_or s.words 0 0) (get_or s.words 1 0) (ds_of s.views) r.start r.log r.table j id d (board x) others (orders x) here live hit home_of.cells_are home_of.as_many t.7 in
-      let turned = away_with keeps_it board counts count orders (suc d.session) id (get_elem? hs 0) (ds_of s.views) r.table now_left d (board x) others (orders x) home_of.orders_are (λ e. omega (arith, e))
+      let journal = takes_it (get_or s.words 0 0) (get_or s.words 1 0) (ds_of s.views) r.start r.log r.table j id d (board x) others (orders x) (functions x) here live hit home_of.cells_are home_of.as_many t.7 in
+      let turned = away_with keeps_it board counts count orders (suc d.session) id (get_elem? hs 0) (ds_of s.views) r.table now_left d (board x) others (orders x) (functions x) home_of.orders_are (λ e. omega (arith, e))
       (λ i f there h. let a = held_turn (get_or s.words 0 0) (get_or s.words 1 0) (ds_of s.views) r.start r.log r.table j i f there h in omega (arith, a, hit)) t.5 here t.6 in
       let rule : TheRule (record { words = set s.words 1 new; homes = hs; views = set s.views id w }) =
       subst (λ (n : ℕ). TheRule (record { words = set s.words 1 n; homes = hs; views = set s.views id w })) (sym is) (record {
@@ -174,16 +175,16 @@ module _ {S : Type 0} (keeps_it : S → Held → Type 0) (board : S → List (st
         ((λ hit. absurd (miss hit)), (λ _. refl)),
       ))
 
-  pub gives_turn : (slots id : ℕ) (me : Sat S) (x : S) → me.0.draws.holds ≡ true → me.1 ≡ (0, std.Some x) ∷ [] → Serves keeps_it board counts count orders x me.0.draws
-      → Allows TheRule slots id me 1 (λ _. 0) (λ _. gave (step slots 1 0 0 none) me 0)
-  gives_turn slots id me x holds has serves s r long at small =
+  pub gives_turn : (slots id : ℕ) (me : Sat S) (x : S) (leaving : Leaving) → me.0.draws.holds ≡ true → me.1 ≡ (0, std.Some x) ∷ [] → Serves keeps_it board counts count orders x me.0.draws
+      → Allows TheRule slots id me 1 (λ _. 0) (λ _. gave leaving (step slots 1 0 0 none) me 0)
+  gives_turn slots id me x leaving holds has serves s r long at small =
       let d = me.0.draws in
       let here = seat_of s id me.0 at in
       let j : Journal (get_or s.words 0 0) (get_or s.words 1 0) (ds_of s.views) r.start r.log r.table = r.journal in
       let live = (j.each id d here).holder holds in
       let agrees = ((j.each id d here).live live).agrees in
       let board_now = agrees.cells holds in
-      let w = viewed (letting_go d) in
+      let w = viewed (letting_go d leaving) in
       let home : Option (Option (std.Option S)) = some (some (std.Some x)) in
       let hs = set s.homes 0 (some (std.Some x)) in
       let now : get_or (set s.words 1 0) 1 0 ≡ 0 = get_or-set_same s.words 1 0 0 (let l = r.wide in omega (arith, l)) in
@@ -191,7 +192,7 @@ module _ {S : Type 0} (keeps_it : S → Held → Type 0) (board : S → List (st
       let views : ds_of (set s.views id w) ≡ set (ds_of s.views) id w.draws = map-set (λ (v : View). v.draws) s.views id w in
       let back : get_elem? hs 0 ≡ home = set_here s.homes 0 (some (std.Some x)) (let l = r.long in omega (arith, l)) in
       let now_left : Orders = orders_from (opening_orders r.start) r.log in
-      let turned = comes_home keeps_it board counts count orders (get_or s.words 1 0) id (get_elem? s.homes 0) (ds_of s.views) r.table now_left d x r.turn here holds
+      let turned = comes_home keeps_it board counts count orders (get_or s.words 1 0) id (get_elem? s.homes 0) (ds_of s.views) r.table now_left d x leaving r.turn here holds
       (λ i f there h. one_holder (get_or s.words 0 0) (get_or s.words 1 0) (ds_of s.views) r.start r.log r.table j i id f d there here h holds) board_now.0 board_now.1 agrees.sizes_are serves in (
         w,
         gives,
@@ -203,7 +204,7 @@ module _ {S : Type 0} (keeps_it : S → Held → Type 0) (board : S → List (st
           log = r.log;
           table = r.table;
           journal = subst (λ (y : ℕ × ℕ × List Draws). Journal y.0 y.1 y.2 r.start r.log r.table) (λ k. (sym place k, sym now k, sym views k))
-              (gives_it (get_or s.words 0 0) (get_or s.words 1 0) (ds_of s.views) r.start r.log r.table j id d here live holds);
+              (gives_it (get_or s.words 0 0) (get_or s.words 1 0) (ds_of s.views) r.start r.log r.table j id d leaving here live holds);
           turn = subst (λ (y : ℕ × Option (Option (std.Option S)) × List Draws). Turn keeps_it board counts count orders y.0 y.1 y.2 r.table now_left) (λ k. (sym now k, sym back k, sym views k)) turned;
           rows = subst Allotted (sym views) (allotted-set (ds_of s.views) id d w.draws here r.rows refl (r.rows.each id d here));
         }),

@@ -4,11 +4,13 @@ use Rattle.std.specs.Prelude as std
 use mathlib.Core.Option.{Option, some, some-injective}
 use lib.ListN.{get_elem?}
 use Rattle.atomic_table.proofs.Lists.{set_else}
+use Rattle.function_laws.specs.declared.history.Function.{Function}
 use Rattle.function_laws.specs.Tables.{Table, Sizes}
 use Rattle.seat_guard.specs.declared.view.Held.{Held}
 use Rattle.seat_guard.specs.declared.view.Row.{Row}
 use Rattle.seat_guard.specs.declared.view.Telling.{Telling}
 use Rattle.seat_guard.specs.declared.view.Draws.{Draws}
+use Rattle.seat_guard.specs.declared.view.Leaving.{Leaving}
 use Rattle.seat_guard.specs.Views.{told_of, cell_in, sizes_for, holding, letting_go, orders_of}
 use Rattle.function_laws.specs.SessionEntries.{Each}
 use Rattle.function_laws.specs.Sizes.{Orders}
@@ -24,12 +26,12 @@ module _ {S : Type 0} (keeps_it : S → Held → Type 0) (board : S → List (st
   TurnOf = Turn keeps_it board counts count orders
 
   -- what the taker is told of the content
-  pub finds_it : (home : Option (Option (std.Option S))) (ds : List Draws) (t : Table) (now : Orders) (id : ℕ) (d : Draws) (Q : Held → Type 0) → TurnOf 0 home ds t now → get_elem? ds id ≡ some d → t.sizes ≡ sizes_for d.vars d.elements
+  pub finds_it : (home : Option (Option (std.Option S))) (ds : List Draws) (t : Table) (now : Orders) (id : ℕ) (d : Draws) (functions : S → List Function) (Q : Held → Type 0) → TurnOf 0 home ds t now → get_elem? ds id ≡ some d → t.sizes ≡ sizes_for d.vars d.elements
       → ((j : ℕ) (e : Draws) → j ≢ id → get_elem? ds j ≡ some e → Each (λ (row : Row). Q row.held) e.rows)
-      → (x : S) × (others : List Held) × (home ≡ some (some (std.Some x))) × IsHome keeps_it board counts count orders x ds t now × Serves keeps_it board counts count orders x (holding d (board x) others (orders x))
+      → (x : S) × (others : List Held) × (home ≡ some (some (std.Some x))) × IsHome keeps_it board counts count orders x ds t now × Serves keeps_it board counts count orders x (holding d (board x) others (orders x) (functions x))
       × ((j : ℕ) (e : Draws) → j ≢ id → get_elem? ds j ≡ some e → Each (λ (row : Row). Has others row.held) e.rows)
       × ((k : ℕ) → row_count k d.rows + held_count k others ≡ all_count k ds) × Each Q others
-  finds_it home ds t now id d Q part at sizes all_apart =
+  finds_it home ds t now id d functions Q part at sizes all_apart =
       let h = part.home_is refl in
       let x : S = h.0 in
       let others : List Held = all_held (set ds id (no_rows d)) in
@@ -55,29 +57,29 @@ module _ {S : Type 0} (keeps_it : S → Held → Type 0) (board : S → List (st
       )
 
   -- the turn is away with this seat
-  pub away_with : (turn id : ℕ) (home : Option (Option (std.Option S))) (ds : List Draws) (t : Table) (now : Orders) (d : Draws) (cells : List (std.Option Held)) (others : List Held) (own : Orders) → own ≡ now → turn ≢ 0
+  pub away_with : (turn id : ℕ) (home : Option (Option (std.Option S))) (ds : List Draws) (t : Table) (now : Orders) (d : Draws) (cells : List (std.Option Held)) (others : List Held) (own : Orders) (functions : List Function) → own ≡ now → turn ≢ 0
       → ((j : ℕ) (e : Draws) → get_elem? ds j ≡ some e → e.holds ≡ true → ⊥)
       → ((j : ℕ) (e : Draws) → j ≢ id → get_elem? ds j ≡ some e → Each (λ (row : Row). Has others row.held) e.rows)
       → get_elem? ds id ≡ some d → ((k : ℕ) → row_count k d.rows + held_count k others ≡ all_count k ds)
-      → TurnOf turn home (set ds id (holding d cells others own)) t now
-  away_with turn id home ds t now d cells others own same away none_holds within at all = record {
+      → TurnOf turn home (set ds id (holding d cells others own functions)) t now
+  away_with turn id home ds t now d cells others own functions same away none_holds within at all = record {
     home_is = λ z. absurd (away z);
-    away = λ i f here holds. each_set (λ i (f : Draws). f.holds ≡ true → (j : ℕ) (e : Draws) → j ≢ i → get_elem? (set ds id (holding d cells others own)) j ≡ some e → Each (λ (row : Row). Has f.others row.held) e.rows) ds id (holding d cells others own)
+    away = λ i f here holds. each_set (λ i (f : Draws). f.holds ≡ true → (j : ℕ) (e : Draws) → j ≢ i → get_elem? (set ds id (holding d cells others own functions)) j ≡ some e → Each (λ (row : Row). Has f.others row.held) e.rows) ds id (holding d cells others own functions)
         (λ i f apart at h. absurd (none_holds i f at h))
-        (λ h j e apart there. within j e apart (sym (set_else ds id j (holding d cells others own) apart) ∙ there))
+        (λ h j e apart there. within j e apart (sym (set_else ds id j (holding d cells others own functions) apart) ∙ there))
         i f here holds;
-    others_counted = each_set (λ i (f : Draws). f.holds ≡ true → (k : ℕ) → row_count k f.rows + held_count k f.others ≡ all_count k (set ds id (holding d cells others own))) ds id (holding d cells others own)
+    others_counted = each_set (λ i (f : Draws). f.holds ≡ true → (k : ℕ) → row_count k f.rows + held_count k f.others ≡ all_count k (set ds id (holding d cells others own functions))) ds id (holding d cells others own functions)
         (λ i f apart there h. absurd (none_holds i f there h))
-        (λ h k. all k ∙ sym (all_count-same k ds id d (holding d cells others own) at refl));
-    ordered = each_set (λ i (f : Draws). f.holds ≡ true → orders_of f ≡ now) ds id (holding d cells others own) (λ i f apart there h. absurd (none_holds i f there h)) (λ h. same);
+        (λ h k. all k ∙ sym (all_count-same k ds id d (holding d cells others own functions) at refl));
+    ordered = each_set (λ i (f : Draws). f.holds ≡ true → orders_of f ≡ now) ds id (holding d cells others own functions) (λ i f apart there h. absurd (none_holds i f there h)) (λ h. same);
   }
 
   -- the turn comes home
-  pub comes_home : (turn id : ℕ) (home : Option (Option (std.Option S))) (ds : List Draws) (t : Table) (now : Orders) (d : Draws) (x : S) → TurnOf turn home ds t now → get_elem? ds id ≡ some d → d.holds ≡ true
+  pub comes_home : (turn id : ℕ) (home : Option (Option (std.Option S))) (ds : List Draws) (t : Table) (now : Orders) (d : Draws) (x : S) (leaving : Leaving) → TurnOf turn home ds t now → get_elem? ds id ≡ some d → d.holds ≡ true
       → ((j : ℕ) (e : Draws) → get_elem? ds j ≡ some e → e.holds ≡ true → j ≡ id)
       → t.cells ≡ cell_in d.cells → length d.cells ≡ 256 → t.sizes ≡ sizes_for d.vars d.elements → Serves keeps_it board counts count orders x d
-      → TurnOf 0 (some (some (std.Some x))) (set ds id (letting_go d)) t now
-  comes_home turn id home ds t now d x part at holds alone cells len sizes serves = record {
+      → TurnOf 0 (some (some (std.Some x))) (set ds id (letting_go d leaving)) t now
+  comes_home turn id home ds t now d x leaving part at holds alone cells len sizes serves = record {
     home_is = λ z. (
       x,
       refl,
@@ -89,18 +91,18 @@ module _ {S : Type 0} (keeps_it : S → Held → Type 0) (board : S → List (st
         counted = λ k.
             let a = serves.counted k in
             let b = part.others_counted id d at holds k in
-            let c = all_count-same k ds id d (letting_go d) at refl in
+            let c = all_count-same k ds id d (letting_go d leaving) at refl in
             let e : cells_count k (board x) ≡ cells_count k d.cells = ap (cells_count k) serves.board_is in omega (arith, a, b, c, e);
-        rows_kept = each_set (λ j (e : Draws). KeepsRows keeps_it board counts count orders x e.rows) ds id (letting_go d)
+        rows_kept = each_set (λ j (e : Draws). KeepsRows keeps_it board counts count orders x e.rows) ds id (letting_go d leaving)
             (λ j e apart here. rows_by_others (keeps_it x) d.others e.rows serves.others_kept (part.away id d at holds j e apart here)) serves.rows_kept;
         orders_are = serves.orders_are ∙ part.ordered id d at holds;
       },
     );
-    away = each_set (λ i (f : Draws). f.holds ≡ true → (j : ℕ) (e : Draws) → j ≢ i → get_elem? (set ds id (letting_go d)) j ≡ some e → Each (λ (row : Row). Has f.others row.held) e.rows) ds id (letting_go d)
+    away = each_set (λ i (f : Draws). f.holds ≡ true → (j : ℕ) (e : Draws) → j ≢ i → get_elem? (set ds id (letting_go d leaving)) j ≡ some e → Each (λ (row : Row). Has f.others row.held) e.rows) ds id (letting_go d leaving)
         (λ i f apart here h. absurd (apart (alone i f here h))) (λ h. absurd (off h));
-    others_counted = each_set (λ i (f : Draws). f.holds ≡ true → (k : ℕ) → row_count k f.rows + held_count k f.others ≡ all_count k (set ds id (letting_go d))) ds id (letting_go d)
+    others_counted = each_set (λ i (f : Draws). f.holds ≡ true → (k : ℕ) → row_count k f.rows + held_count k f.others ≡ all_count k (set ds id (letting_go d leaving))) ds id (letting_go d leaving)
         (λ i f apart here h. absurd (apart (alone i f here h))) (λ h. absurd (off h));
-    ordered = each_set (λ i (f : Draws). f.holds ≡ true → orders_of f ≡ now) ds id (letting_go d) (λ i f apart here h. absurd (apart (alone i f here h))) (λ h. absurd (off h));
+    ordered = each_set (λ i (f : Draws). f.holds ≡ true → orders_of f ≡ now) ds id (letting_go d leaving) (λ i f apart here h. absurd (apart (alone i f here h))) (λ h. absurd (off h));
   }
 
   -- the holder draws a place

@@ -5,6 +5,7 @@ use mathlib.Core.Option.{some}
 use lib.ListN.{get_elem?}
 use Rattle.atomic_table.specs.Table.{State, Me, Step}
 use Rattle.function_laws.specs.declared.history.Entry.{Entry}
+use Rattle.function_laws.specs.declared.history.Function.{Function}
 use Rattle.function_laws.specs.Tables.{Table, Sizes, opening}
 use Rattle.function_laws.specs.Histories.{IsLegal, EachFrom, table_after}
 use Rattle.function_laws.specs.SessionEntries.{Each, entries_of}
@@ -12,6 +13,7 @@ use Rattle.function_laws.specs.Sizes.{Orders}
 use Rattle.function_laws.specs.EntryOrders.{opening_orders, orders_from}
 use Rattle.seat_guard.specs.declared.view.Held.{Held}
 use Rattle.seat_guard.specs.declared.view.Telling.{Telling}
+use Rattle.seat_guard.specs.declared.view.Leaving.{Leaving}
 use Rattle.seat_guard.specs.declared.view.Gone.{Gone}
 use Rattle.seat_guard.specs.declared.view.Draws.{Draws}
 use Rattle.seat_guard.specs.declared.view.View.{View}
@@ -60,9 +62,9 @@ module _ {S : Type 0} (keeps : S → Held → Type 0) (board : S → List (std.O
       (r ≡ 0 → (x : S) × (m'.0 ≡ m.0) × (m'.1 ≡ (0, std.Some x) ∷ []) × Ends x m.0.draws)
       × (r ≢ 0 → m' ≡ m)
 
-  abbrev pub took : Step (std.Option S) → Me (std.Option S) View → ℕ → Me (std.Option S) View → Type 0
-  took st m r m' =
-      (r ≡ 0 → (x : S) × (others : List Held) × (m'.0.draws ≡ holding m.0.draws (board x) others (orders x)) × (m'.1 ≡ (0, std.Some x) ∷ []) × (length (board x) ≡ 256) × Serves keeps board counts count orders x (holding m.0.draws (board x) others (orders x)) × ((k : ℕ) → count x k ≤ 2 ^ 31 + 256))
+  abbrev pub took : (S → List Function) → Step (std.Option S) → Me (std.Option S) View → ℕ → Me (std.Option S) View → Type 0
+  took functions st m r m' =
+      (r ≡ 0 → (x : S) × (others : List Held) × (m'.0.draws ≡ holding m.0.draws (board x) others (orders x) (functions x)) × (m'.1 ≡ (0, std.Some x) ∷ []) × (length (board x) ≡ 256) × Serves keeps board counts count orders x (holding m.0.draws (board x) others (orders x) (functions x)) × ((k : ℕ) → count x k ≤ 2 ^ 31 + 256))
       × (r ≢ 0 → m' ≡ m)
 
 -- each session that was given a seat has come back
@@ -70,8 +72,8 @@ abbrev pub AllBack : Draws → Type 0
 AllBack d = (p : ℕ) → p < d.given → (k : ℕ) × (g : Gone) × (get_elem? d.gone k ≡ some g) × (g.session ≡ p)
 
 module _ {S : Type 0} where
-  abbrev pub gave : Step S → Me S View → ℕ → Me S View → Type 0
-  gave st m r m' = (m'.0.draws ≡ letting_go m.0.draws) × (m'.1 ≡ [])
+  abbrev pub gave : Leaving → Step S → Me S View → ℕ → Me S View → Type 0
+  gave x st m r m' = (m'.0.draws ≡ letting_go m.0.draws x) × (m'.1 ≡ [])
 
   abbrev pub drew : Telling → Step S → Me S View → ℕ → Me S View → Type 0
   drew x st m r m' = (m'.0.draws ≡ told_of m.0.draws r x) × (m'.1 ≡ m.1) × All (λ (e : Entry). e.place < r) m.0.draws.entries

@@ -1,5 +1,5 @@
 -- What a seat knows, when a table of functions agrees with it, and what a call may tell.
-use Rattle.std.specs.Prelude.{◌≡◌, ℕ, suc, ◌≤◌, if◌then◌else◌, true, false, List, [], ◌∷◌, ◌++◌, length, slice_get, slice_set, Option, Some, None}
+use Rattle.std.specs.Prelude.{◌≡◌, ◌⊎◌, Contains, ℕ, suc, ◌≤◌, if◌then◌else◌, true, false, List, [], ◌∷◌, ◌++◌, length, slice_get, slice_set, Option, Some, None}
 use Rattle.function_laws.specs.declared.history.Name.{Name}
 use Rattle.function_laws.specs.declared.history.Function.{Function}
 use Rattle.function_laws.specs.declared.history.Call.TheVariants as calls
@@ -16,6 +16,7 @@ use Rattle.seat_guard.specs.declared.view.Row.{Row}
 use Rattle.seat_guard.specs.declared.view.Change.{Change}
 use Rattle.seat_guard.specs.declared.view.Change.TheVariants.{Nothing, Adds, Takes, Posts}
 use Rattle.seat_guard.specs.declared.view.Telling.{Telling}
+use Rattle.seat_guard.specs.declared.view.Leaving.{Leaving}
 use Rattle.seat_guard.specs.declared.view.Gone.{Gone}
 use Rattle.seat_guard.specs.declared.view.Draws.{Draws}
 use Rattle.seat_guard.specs.declared.view.View.{View}
@@ -69,11 +70,6 @@ cells_after _ cells = cells
 abbrev pub orders_of : Draws → Orders
 orders_of d = record { variables = d.variable_order; elements = d.element_order }
 
--- what was due at the last Full
-abbrev pub due_after : Reply → Option Function → Option Function → Option Function
-due_after (replies.Full in_use need) told old = told
-due_after reply told old = old
-
 -- what a seat knows after a call at the place n
 abbrev pub told_of : Draws → ℕ → Telling → Draws
 told_of d n x = record d {
@@ -83,8 +79,6 @@ told_of d n x = record d {
   entries = d.entries ++ entry n d.session x.call x.reply ∷ [];
   variable_order = (orders_after (orders_of d) x.call x.reply).variables;
   element_order = (orders_after (orders_of d) x.call x.reply).elements;
-  stored = x.stored;
-  due = due_after x.reply x.due d.due;
 }
 
 -- The entry is a step from every table that agrees with the seat, and agrees with what the seat knows then. What it carries are functions of rows and cells. A session has at most 2 ^ 25 rows.
@@ -95,7 +89,10 @@ pub record MayTell (d : Draws) (x : Telling) : Type 0 where
   pub room : HasRoomFor x.change d.rows
 
 abbrev pub nothing_told : Telling
-nothing_told = record { call = calls.Sweep; reply = replies.Done; change = Nothing; stored = []; due = None }
+nothing_told = record { call = calls.Sweep; reply = replies.Done; change = Nothing }
+
+abbrev pub nothing_left : Leaving
+nothing_left = record { stored = []; due = None }
 
 abbrev pub viewed : Draws → View
 viewed d = record { draws = d }
@@ -114,6 +111,7 @@ blank = record {
   others = [];
   variable_order = [];
   element_order = [];
+  functions = [];
   stored = [];
   due = None;
   entries = [];
@@ -133,11 +131,32 @@ session_of d = record blank { live = true; session = d.given; vars = d.vars; ele
 abbrev pub one_more : Draws → Draws
 one_more d = record d { given = suc d.given }
 
-abbrev pub holding : Draws → List (Option Held) → List Held → Orders → Draws
-holding d cells others orders = record d { holds = true; cells = cells; others = others; variable_order = orders.variables; element_order = orders.elements }
+abbrev pub holding : Draws → List (Option Held) → List Held → Orders → List Function → Draws
+holding d cells others orders functions = record d {
+  holds = true;
+  cells = cells;
+  others = others;
+  variable_order = orders.variables;
+  element_order = orders.elements;
+  functions = functions;
+}
 
-abbrev pub letting_go : Draws → Draws
-letting_go d = record d { holds = false; cells = []; others = []; variable_order = []; element_order = [] }
+-- it notes what it stored, and what was due at the last Full
+abbrev pub letting_go : Draws → Leaving → Draws
+letting_go d x = record d {
+  holds = false;
+  cells = [];
+  others = [];
+  variable_order = [];
+  element_order = [];
+  functions = [];
+  stored = x.stored;
+  due = x.due;
+}
+
+-- each of these functions is one that a node had as the turn was taken, or is told as stored
+abbrev pub AreTold : Draws → List Function → List Function → Type 0
+AreTold d stored functions = (f : Function) → Contains functions f → Contains d.functions f ⊎ Contains stored f
 
 abbrev pub gone_of : Draws → Gone
 gone_of d = record { session = d.session; rows = d.rows; entries = d.entries }

@@ -3,6 +3,7 @@
 /// What all sessions share, as the rule sees it.
 pub trait Content {
     ghost use Rattle.std.specs.Prelude.{List, Option, ℕ};
+    ghost use Rattle.function_laws.specs.declared.history.Function.{Function};
     ghost use Rattle.function_laws.specs.Sizes.{Orders};
     ghost use Rattle.seat_guard.specs.declared.view.Held.{Held};
 
@@ -19,4 +20,10 @@ pub trait Content {
 
     // The orders of the variables and of the elements.
     ghost orders: { Self → Orders };
+
+    // What the nodes that it has denote.
+    ghost functions: { Self → List Function };
+
+    // What was due as it last had no room for a node.
+    ghost due: { Self → Option Function };
 }

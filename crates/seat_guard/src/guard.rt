@@ -2,7 +2,7 @@
 ghost use Rattle.std.specs.Prelude.{◌≡◌, ◌+◌, ◌<◌, ◌≤◌, ◌^◌, ℕ, List, [], ◌∷◌, ◌++◌, length, true, false, IfOk, Option, None, Some, All};
 ghost use Rattle.function_laws.specs.declared.history.Entry.{Entry};
 ghost use Rattle.seat_guard.specs.declared.view.Held.{Held};
-ghost use Rattle.seat_guard.specs.Views.{sizes_for, session_of, holding, letting_go, one_more, with_gone, told_of, MayTell};
+ghost use Rattle.seat_guard.specs.Views.{sizes_for, session_of, holding, letting_go, one_more, with_gone, told_of, AreTold, MayTell};
 ghost use Rattle.seat_guard.specs.Rule.{AllBack, Ends, Whole};
 ghost use Rattle.seat_guard.specs.Turn.{Serves};
 ghost use Rattle.seat_guard.specs.Passes.{known, in_hand, IsPassOf, IsIdle};
@@ -10,7 +10,7 @@ ghost use Rattle.seat_guard.specs.Passes.{known, in_hand, IsPassOf, IsIdle};
 use crate::content::Content;
 use crate::plays::{Back, Draw, End, Give, Last, Next, Take};
 use crate::seat::{Guard, Pass};
-use crate::told::Told;
+use crate::told::{Leaves, Told};
 use crossbeam_utils::Backoff;
 use std::sync::Wait;
 
@@ -55,7 +55,7 @@ impl<S: Content> Guard<S> {
     pub fn take<R: Wait>(&self, rt: &R, pass: &mut Pass<S>) -> S
         requires { IsIdle self.now pass.old }
         ensures own { IsPassOf self.now pass.new }
-        ensures took { (others : List Held) × (known pass.new ≡ holding (known pass.old) (S.board result) others (S.orders result)) × Serves S.keeps S.board S.counts S.count S.orders result (known pass.new) }
+        ensures took { (others : List Held) × (known pass.new ≡ holding (known pass.old) (S.board result) others (S.orders result) (S.functions result)) × Serves S.keeps S.board S.counts S.count S.orders result (known pass.new) }
         ensures board { length (S.board result) ≡ 256 }
         ensures few { (k : ℕ) → S.count result k ≤ 2 ^ 31 + 256 }
         ensures hand { in_hand pass.new ≡ (0, None) ∷ [] }
@@ -89,20 +89,22 @@ impl<S: Content> Guard<S> {
             .fetch_add::<Draw<E>>(&mut pass.seat, JOURNAL, 1)
     }
 
-    /// Puts what all share and the turn back.
-    pub fn put_back(&self, pass: &mut Pass<S>, content: S)
+    /// Puts what all share and the turn back, and notes what was stored since the turn was taken, and what was due at the last Full.
+    pub fn put_back<E: Leaves>(&self, pass: &mut Pass<S>, content: S)
         requires own { IsPassOf self.now pass.old × ((known pass.old).holds ≡ true) }
         requires hand { in_hand pass.old ≡ (0, None) ∷ [] }
         requires serves { Serves S.keeps S.board S.counts S.count S.orders content (known pass.old) }
+        requires stored { AreTold (known pass.old) E.leaving.stored (S.functions content) }
+        requires due { E.leaving.due ≡ S.due content }
         ensures own { IsPassOf self.now pass.new }
-        ensures gave { known pass.new ≡ letting_go (known pass.old) }
+        ensures gave { known pass.new ≡ letting_go (known pass.old) E.leaving }
         ensures hand { in_hand pass.new ≡ [] }
     {
         match self.table.shared.exchange(&mut pass.seat, 0, Some(content)) {
             None => {}
             Some(_) => unreachable!(),
         }
-        self.table.shared.store::<Give>(&mut pass.seat, TURN, 0);
+        self.table.shared.store::<Give<E>>(&mut pass.seat, TURN, 0);
     }
 
     /// The number of calls so far, which are a legal history.

@@ -1,6 +1,6 @@
 //! What each step on the table tells.
 use crate::content::Content;
-use crate::told::Told;
+use crate::told::{Leaves, Told};
 use crate::view::View;
 use atomic_table::{Join, Play, Split};
 use std::marker::PhantomData;
@@ -10,7 +10,7 @@ pub struct Take;
 impl<S: Content> Play<Option<S>, View> for Take {
     ghost use Rattle.seat_guard.specs.Rule.{took};
 
-    ghost then = { took S.keeps S.board S.counts S.count S.orders };
+    ghost then = { took S.keeps S.board S.counts S.count S.orders S.functions };
 }
 
 pub struct End;
@@ -21,12 +21,14 @@ impl<S: Content> Play<Option<S>, View> for End {
     ghost then = { ended S.keeps S.board S.counts S.count S.orders };
 }
 
-pub struct Give;
+pub struct Give<E> {
+    leaving: PhantomData<E>,
+}
 
-impl<S> Play<Option<S>, View> for Give {
+impl<S, E: Leaves> Play<Option<S>, View> for Give<E> {
     ghost use Rattle.seat_guard.specs.Rule.{gave};
 
-    ghost then = { gave };
+    ghost then = { gave E.leaving };
 }
 
 pub struct Draw<E> {

@@ -28,18 +28,16 @@ fn a_table_opens_over_a_store(rt: HostRuntime) -> Result<(), Fail> {
 #[test]
 fn a_cell_is_counted(rt: HostRuntime) -> Result<(), Fail> {
     let mut shared = Shared::new(rt.alloc(), 1, 0, 6)?;
-    let one = Cell {
-        kind: Kind::Bdd,
-        edge: Edge::new(0, false),
-    };
+    let kind = Kind::Bdd;
+    let edge = Edge::new(0, false);
     let before = shared.cell(7);
     assert!(rt; before.is_none());
     let _permanent = shared.store.levels(Kind::Bdd);
-    shared.set_cell(7, one);
-    assert!(rt; shared.cell(7) == Some(one) && shared.cell(8) == None);
+    shared.set_cell(7, Cell { kind, edge });
+    assert!(rt; shared.cell(7) == Some(Cell { kind, edge }) && shared.cell(8) == None);
     assert_eq!(rt; shared.store.count_of(0), 1);
     let (shared, swept) = shared.sweep();
     assert!(rt; swept.freed == 0 && swept.in_use == 6);
-    assert!(rt; shared.cell(7) == Some(one) && shared.store.count_of(0) == 1);
+    assert!(rt; shared.cell(7) == Some(Cell { kind, edge }) && shared.store.count_of(0) == 1);
     Ok(())
 }

@@ -32,6 +32,10 @@ impl Content for Tally {
     ghost count = { λ tally slot. 0 };
 
     ghost orders = { λ tally. opening_orders (sizes_for 0 0) };
+
+    ghost functions = { λ tally. [] };
+
+    ghost due = { λ tally. None };
 }
 
 /// One turn, with one call.
@@ -45,7 +49,7 @@ fn turn<R: Wait>(rt: &R, guard: &Guard<Tally>, pass: &mut Pass<Tally>) -> u64
     let mut tally = guard.take(rt, pass);
     tally.turns = tally.turns.wrapping_add(1);
     let place = guard.place::<Brand>(pass);
-    guard.put_back(pass, tally);
+    guard.put_back::<Brand>(pass, tally);
     place
 }
 

@@ -43,3 +43,7 @@ still_idle p q swept idle is =
 -- the same of the store as it was given back
 pub swept_back : (p q : Plain) (before after : Held) (swept : Swept) → held_view before ≡ content_view p → q ≡ after.plain → IsSwept Alone (held_view before) (held_view after) swept → IsSwept Alone (content_view p) (content_view q) swept
 swept_back p q before after swept same back is = subst (λ (x : Plain). IsSwept Alone (content_view p) (content_view x) swept) (sym back) (given_back p before after swept same is)
+
+-- nothing is pinned in it
+pub unpinned : (p : Plain) → is_held p ≡ false → (s : ℕ) → (content_view p).pinned s ≡ false
+unpinned p idle = none_set p.pins (neither p.sweeping (list_any (λ bits. bits == 1) p.pins) idle).1

@@ -2,7 +2,10 @@ pub mod Keeping
 pub mod Used
 pub mod Recounted
 pub mod Beginning
+pub mod Storing
+pub mod Stored
 pub mod Ordered
 pub mod Lasting
 pub mod Swept
 pub mod Handed
+pub mod Emptied

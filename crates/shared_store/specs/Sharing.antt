@@ -1,11 +1,13 @@
 -- What all sessions share, as the rule of their seats sees it.
-use Rattle.std.specs.Prelude.{◌≡◌, ◌==◌, ℕ, List, length, map, Option, Some, None}
+use Rattle.std.specs.Prelude.{◌≡◌, ◌==◌, ◌^◌, ℕ, suc, zero, List, [], ◌∷◌, length, map, Option, Some, None, option_map}
 use Rattle.edge_bits.specs.declared.edges.Kind.{Kind}
 use Rattle.edge_bits.specs.declared.edges.Kind.TheVariants as kinds
 use Rattle.function_laws.specs.declared.history.Function.{Function}
 use Rattle.function_laws.specs.declared.history.Function.TheVariants.{Bdd, Add, Zdd}
 use Rattle.function_laws.specs.EntryOrders.{opening_orders}
 use Rattle.function_laws.specs.SessionEntries.{Each}
+use Rattle.function_laws.specs.Kinds.{Denoted, BddFunction, AddFunction, ZddFamily}
+use Rattle.function_laws.specs.Lists.{list_of}
 use Rattle.function_laws.specs.Sizes.{Orders}
 use Rattle.node_store.specs.Listed.{listed_at}
 use Rattle.node_store.specs.Views.{View, Is}
@@ -65,6 +67,32 @@ count_at_cell k (Some found) = count_in k found
 
 abbrev pub generation : Shared → ℕ → ℕ
 generation x k = generation_at x.store k
+
+-- what a slot denotes in a store of n variables and m elements, as a whole list
+abbrev pub whole_in : ℕ → ℕ → Denoted → Function
+whole_in n m (BddFunction f) = Bdd (list_of (2 ^ n) f)
+whole_in n m (AddFunction f) = Add (list_of (2 ^ n) f)
+whole_in n m (ZddFamily p) = Zdd (list_of (2 ^ m) p)
+
+abbrev pub whole_of : View → Denoted → Function
+whole_of w o = whole_in w.vars w.elements o
+
+abbrev pub with_whole : (Denoted → Function) → Option Denoted → List Function → List Function
+with_whole whole None rest = rest
+with_whole whole (Some o) rest = whole o ∷ rest
+
+-- what those of the first slots denote that are in use
+unfoldable pub functions_below : (Denoted → Function) → (ℕ → Option Denoted) → ℕ → List Function
+functions_below whole content zero = []
+functions_below whole content (suc s) = with_whole whole (content s) (functions_below whole content s)
+
+-- what all nodes denote
+abbrev pub functions : Shared → List Function
+functions x = functions_below (whole_of (view_of x)) (view_of x).content (view_of x).slots
+
+-- what was due at the last Full
+abbrev pub due : Shared → Option Function
+due x = option_map (whole_of (view_of x)) (view_of x).due
 
 -- it keeps all that the seat which has the turn knows
 abbrev pub Serving : Shared → Draws → Type 0

@@ -18,7 +18,7 @@ impl Shared {
         ensures rest { IsRecounted self.old self.new }
     {
         let _sound = self.store.limit();
-        self.store.raise(edge.index);
+        self.store.raise(edge.index());
     }
 
     /// One row or cell less holds the slot of an edge.
@@ -28,7 +28,7 @@ impl Shared {
         ensures rest { IsRecounted self.old self.new }
     {
         let _sound = self.store.limit();
-        self.store.lower(edge.index);
+        self.store.lower(edge.index());
     }
 
     /// One less holds the slot of what stood in a cell.

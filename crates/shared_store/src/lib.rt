@@ -4,7 +4,9 @@
 mod board;
 mod counted;
 mod opening;
+mod returning;
 mod shared;
 mod sweeping;
 
+pub use returning::put_back;
 pub use shared::{Cell, Shared};

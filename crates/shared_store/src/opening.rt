@@ -10,7 +10,7 @@ use seat_guard::content::Content;
 use std::alloc::Global;
 
 impl Content for Shared {
-    ghost use Rattle.shared_store.specs.Sharing.{keeps, board, counts, count, orders};
+    ghost use Rattle.shared_store.specs.Sharing.{keeps, board, counts, count, orders, functions, due};
 
     ghost keeps = { keeps };
 
@@ -21,6 +21,10 @@ impl Content for Shared {
     ghost count = { count };
 
     ghost orders = { orders };
+
+    ghost functions = { functions };
+
+    ghost due = { due };
 }
 
 /// An empty board.

@@ -58,8 +58,8 @@ fn conjunctions_to_the_last_slot(rt: HostRuntime) -> Result<(), Fail> {
     assert_eq!(rt; store.in_use(), 10);
     assert!(rt; and(&mut store, bc, a) == Ok(abc));
     // The tables find what a walk over all words finds.
-    assert_eq!(rt; store.find_by_walk(node(1, 7)), Some(bc.index));
-    assert_eq!(rt; store.find_by_walk(node(0, bc.index)), Some(abc.index));
+    assert_eq!(rt; store.find_by_walk(node(1, 7)), Some(bc.index()));
+    assert_eq!(rt; store.find_by_walk(node(0, bc.index())), Some(abc.index()));
     assert_eq!(rt; store.find_by_walk(node(0, 6)), None);
     assert!(rt; and(&mut store, a, b) == Err(Stop::Full));
     assert_eq!(rt; store.in_use(), store.limit());
@@ -163,27 +163,27 @@ fn freed_slots_are_taken_again(rt: HostRuntime) -> Result<(), Fail> {
     assert!(rt; store.leaf(21) == Err(Stop::Full));
     // A permanent slot, one that a node names and one that is held are not freed.
     assert!(rt; !free(&mut store, 4));
-    assert!(rt; !free(&mut store, two.index));
-    raise(&mut store, three.index);
-    assert_eq!(rt; store.count_of(three.index), 1);
-    assert!(rt; !free(&mut store, three.index));
-    lower(&mut store, three.index);
-    assert!(rt; free(&mut store, three.index));
-    assert!(rt; free(&mut store, two.index));
+    assert!(rt; !free(&mut store, two.index()));
+    raise(&mut store, three.index());
+    assert_eq!(rt; store.count_of(three.index()), 1);
+    assert!(rt; !free(&mut store, three.index()));
+    lower(&mut store, three.index());
+    assert!(rt; free(&mut store, three.index()));
+    assert!(rt; free(&mut store, two.index()));
     assert_eq!(rt; store.in_use(), 8);
-    assert_eq!(rt; store.generation_of(two.index), 1);
+    assert_eq!(rt; store.generation_of(two.index()), 1);
     assert_eq!(rt; store.generation_of(5), 0);
     assert_eq!(rt; store.find_by_walk(node(1, 7)), None);
     // The slot that was freed last is taken first.
     let Ok(leaf) = store.leaf(21) else {
         return Err(Fail::new("no leaf with two free slots"));
     };
-    assert_eq!(rt; leaf.index, two.index);
+    assert_eq!(rt; leaf.index(), two.index());
     assert!(rt; products(&mut store).is_none());
-    assert_eq!(rt; store.find_by_walk(node(1, 7)), Some(three.index));
+    assert_eq!(rt; store.find_by_walk(node(1, 7)), Some(three.index()));
     assert_eq!(rt; store.in_use(), 10);
     assert_eq!(rt; store.clear(), 8);
-    assert_eq!(rt; store.generation_of(two.index), 2);
+    assert_eq!(rt; store.generation_of(two.index()), 2);
     Ok(())
 }
 
@@ -193,13 +193,13 @@ fn a_pinned_slot_is_not_freed(rt: HostRuntime) -> Result<(), Fail> {
     let Some((two, three)) = products(&mut store) else {
         return Err(Fail::new("refused with two free slots"));
     };
-    let mut store = pin(store, three.index);
-    assert!(rt; store.is_pinned(three.index) && !store.is_pinned(two.index));
-    assert_eq!(rt; store.count_of(three.index), 0);
-    assert!(rt; !free(&mut store, three.index));
-    let mut store = unpin(store, three.index);
-    assert!(rt; !store.is_pinned(three.index));
-    assert!(rt; free(&mut store, three.index));
+    let mut store = pin(store, three.index());
+    assert!(rt; store.is_pinned(three.index()) && !store.is_pinned(two.index()));
+    assert_eq!(rt; store.count_of(three.index()), 0);
+    assert!(rt; !free(&mut store, three.index()));
+    let mut store = unpin(store, three.index());
+    assert!(rt; !store.is_pinned(three.index()));
+    assert!(rt; free(&mut store, three.index()));
     assert_eq!(rt; store.clear(), 8);
     Ok(())
 }
@@ -218,7 +218,7 @@ fn node_over(store: &mut PlainStore, value: u32) -> Option<u32> {
     let Ok(node) = store.make(0, leaf, zero) else {
         return None;
     };
-    Some(node.index)
+    Some(node.index())
 }
 
 /// As many nodes at one level as there are leaves below them, and a second look at each.

@@ -10,7 +10,7 @@ ghost use Rattle.zdd_ops.specs.Products.{AreQuarters, IsProductTerminal, IsQuart
 use crate::nested::{product, union};
 use edge_bits::{BASE_SLOT, EMPTY_SLOT, Edge, Kind};
 use node_store::operator::{Frame, Halt, Next, Operator, Task, Turn, Wait};
-use node_store::parts::{Split, parts, split_two};
+use node_store::parts::{Halves, Split, parts, split_two};
 use node_store::scratch::Operation;
 use node_store::{Grow, Key, Stack, numbers};
 
@@ -58,22 +58,24 @@ impl<G: Grow> Operator<G> for Multiplication {
     ghost extra = { λ _ w. w.view.elements };
 
     fn start(&self, store: &mut G, _stack: &mut Stack, task: Task) -> Result<Next, Halt> {
-        if let Some(edge) = terminal(task.f, task.g) {
+        let Task { f, g, h } = task;
+        if let Some(edge) = terminal(f, g) {
             return Ok(Next::Done(edge));
         }
-        if let Some(edge) = store.memo_get(&key_of(task.f, task.g)) {
+        if let Some(edge) = store.memo_get(&key_of(f, g)) {
             return Ok(Next::Done(edge));
         }
-        match split_two(store, task.f, task.g) {
+        match split_two(store, f, g) {
             Split::Leaves(_, _) => unreachable!(),
             Split::At(halves) => {
+                let Halves { top, hi, lo } = halves;
                 let frame = Frame {
-                    task,
-                    var: halves.top.var,
+                    task: Task { f, g, h },
+                    var: top.var,
                     flip: false,
-                    wait: Wait::First(Task::two(halves.hi.f, halves.lo.g)),
+                    wait: Wait::First(Task::two(hi.f, lo.g)),
                 };
-                Ok(Next::Call(frame, halves.hi))
+                Ok(Next::Call(frame, hi))
             }
         }
     }
@@ -85,14 +87,20 @@ impl<G: Grow> Operator<G> for Multiplication {
         frame: Frame,
         answer: Edge,
     ) -> Result<Turn, Halt> {
-        match frame.wait {
+        let Frame {
+            task,
+            var,
+            wait,
+            ..
+        } = frame;
+        match wait {
             Wait::First(later) => Ok(Turn::Call(Wait::Second(answer), later)),
             Wait::Second(then_then) => {
-                let child = without_first(store, frame.task, frame.var, true);
+                let child = without_first(store, task, var, true);
                 Ok(Turn::Call(Wait::Third(then_then, answer), child))
             }
             Wait::Third(then_then, then_else) => {
-                let child = without_first(store, frame.task, frame.var, false);
+                let child = without_first(store, task, var, false);
                 let wait = Wait::Fourth(then_then, then_else, answer);
                 Ok(Turn::Call(wait, child))
             }
@@ -103,7 +111,7 @@ impl<G: Grow> Operator<G> for Multiplication {
                     else_then,
                     else_else: answer,
                 };
-                let edge = self.join(store, stack, frame.task, frame.var, quarters)?;
+                let edge = self.join(store, stack, task, var, quarters)?;
                 Ok(Turn::Done(edge))
             }
             Wait::Only => unreachable!(),
@@ -151,9 +159,11 @@ impl Multiplication {
         ensures overflow { IsErrOf result Halt.Overflow → ⊥ }
         ensures stack { stack.new ≡ stack.old }
     {
+        let key = key_of(task.f, task.g);
+        let else_else = quarters.else_else;
         let with = self.unite(store, stack, task, var, quarters)?;
-        let edge = store.make(var, with, quarters.else_else)?;
-        store.memo_put(key_of(task.f, task.g), edge);
+        let edge = store.make(var, with, else_else)?;
+        store.memo_put(key, edge);
         Ok(edge)
     }
 
@@ -219,16 +229,16 @@ impl<G: Grow> Operation<G> for Multiplication {
 fn terminal(f: Edge, g: Edge) -> Option<Edge>
     ensures { (w : View) → Permanent w → AreTwo Zdd w f g → IsProductTerminal w f g result }
 {
-    if f.index == EMPTY_SLOT {
+    if f.index() == EMPTY_SLOT {
         return Some(f);
     }
-    if g.index == EMPTY_SLOT {
+    if g.index() == EMPTY_SLOT {
         return Some(g);
     }
-    if f.index == BASE_SLOT {
+    if f.index() == BASE_SLOT {
         return Some(g);
     }
-    if g.index == BASE_SLOT {
+    if g.index() == BASE_SLOT {
         return Some(f);
     }
     None
@@ -238,7 +248,11 @@ fn terminal(f: Edge, g: Edge) -> Option<Edge>
 fn key_of(f: Edge, g: Edge) -> Key
     ensures { result ≡ product_key f g }
 {
-    let (f, g) = if f.index < g.index { (f, g) } else { (g, f) };
+    let (f, g) = if f.index() < g.index() {
+        (f, g)
+    } else {
+        (g, f)
+    };
     Key {
         op: numbers::PRODUCT,
         f,

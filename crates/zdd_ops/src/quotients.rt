@@ -142,13 +142,13 @@ impl<G: Grow> Operation<G> for Division {
 fn terminal(f: Edge, g: Edge) -> Option<Edge>
     ensures { (w : View) → Permanent w → AreTwo Zdd w f g → IsQuotientTerminal w f g result }
 {
-    if g.index == EMPTY_SLOT {
+    if g.index() == EMPTY_SLOT {
         return Some(g);
     }
-    if f.index == EMPTY_SLOT {
+    if f.index() == EMPTY_SLOT {
         return Some(f);
     }
-    if g.index == BASE_SLOT {
+    if g.index() == BASE_SLOT {
         return Some(f);
     }
     None
@@ -171,21 +171,22 @@ fn divide<G: Grow>(store: &mut G, task: Task, var: u32) -> Branch
     ensures kept { Kept (G.view store.old) (G.view store.new) }
     ensures split { IsSplitTask (G.view store.new) task var result }
 {
-    let (f1, f0) = parts(store, task.f, var);
-    match divisor_at(store, task.g, var) {
+    let Task { f, g, h } = task;
+    let (f1, f0) = parts(store, f, var);
+    match divisor_at(store, g, var) {
         Divisor::Has(g1, g0) => Branch {
-            task,
+            task: Task { f, g, h },
             flip: false,
             var,
             hi: Task::two(f1, g1),
             lo: Task::two(f0, g0),
         },
         Divisor::Lacks => Branch {
-            task,
+            task: Task { f, g, h },
             flip: false,
             var,
-            hi: Task::two(f1, task.g),
-            lo: Task::two(f0, task.g),
+            hi: Task::two(f1, g),
+            lo: Task::two(f0, g),
         },
     }
 }

@@ -54,10 +54,10 @@ fn united(f: Edge, g: Edge) -> Option<Edge>
     if f == g {
         return Some(f);
     }
-    if f.index == EMPTY_SLOT {
+    if f.index() == EMPTY_SLOT {
         return Some(g);
     }
-    if g.index == EMPTY_SLOT {
+    if g.index() == EMPTY_SLOT {
         return Some(f);
     }
     None
@@ -67,7 +67,7 @@ fn united(f: Edge, g: Edge) -> Option<Edge>
 fn united_leaves(f: Edge, g: Edge) -> Edge
     ensures { (w : View) → Permanent w → AreTwo Zdd w f g → AreFamilyLeaves w f g → Denotes Zdd w result (place_at Zdd (λ a b. a || b) w f g) }
 {
-    if f.index == EMPTY_SLOT { g } else { f }
+    if f.index() == EMPTY_SLOT { g } else { f }
 }
 
 /// Intersection.
@@ -113,10 +113,10 @@ fn common(f: Edge, g: Edge) -> Option<Edge>
     if f == g {
         return Some(f);
     }
-    if f.index == EMPTY_SLOT {
+    if f.index() == EMPTY_SLOT {
         return Some(f);
     }
-    if g.index == EMPTY_SLOT {
+    if g.index() == EMPTY_SLOT {
         return Some(g);
     }
     None
@@ -126,7 +126,7 @@ fn common(f: Edge, g: Edge) -> Option<Edge>
 fn common_leaves(f: Edge, g: Edge) -> Edge
     ensures { (w : View) → Permanent w → AreTwo Zdd w f g → AreFamilyLeaves w f g → Denotes Zdd w result (place_at Zdd (λ a b. a && b) w f g) }
 {
-    if f.index == EMPTY_SLOT { f } else { g }
+    if f.index() == EMPTY_SLOT { f } else { g }
 }
 
 /// Difference.
@@ -172,10 +172,10 @@ fn remaining(f: Edge, g: Edge) -> Option<Edge>
     if f == g {
         return Some(Edge::empty_family());
     }
-    if f.index == EMPTY_SLOT {
+    if f.index() == EMPTY_SLOT {
         return Some(f);
     }
-    if g.index == EMPTY_SLOT {
+    if g.index() == EMPTY_SLOT {
         return Some(f);
     }
     None
@@ -185,7 +185,7 @@ fn remaining(f: Edge, g: Edge) -> Option<Edge>
 fn remaining_leaves(f: Edge, g: Edge) -> Edge
     ensures { (w : View) → Permanent w → AreTwo Zdd w f g → AreFamilyLeaves w f g → Denotes Zdd w result (place_at Zdd (λ a b. a && not b) w f g) }
 {
-    if g.index == EMPTY_SLOT {
+    if g.index() == EMPTY_SLOT {
         f
     } else {
         Edge::empty_family()

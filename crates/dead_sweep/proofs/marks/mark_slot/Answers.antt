@@ -1,4 +1,4 @@
-use Rattle.std.proofs.Common.{◌≡◌, sym, ◌∙◌, subst, ap, ℕ, Option, Some}
+use Rattle.std.proofs.Common.{arith, ◌≡◌, sym, ◌∙◌, subst, ap, ℕ, Option, Some}
 use Rattle.edge_bits.specs.declared.words.Word.{Word}
 use Rattle.edge_bits.specs.declared.edges.Edge.{Edge}
 use Rattle.edge_bits.specs.declared.words.Word.TheVariants.{Inner}
@@ -8,6 +8,12 @@ use Rattle.node_store.specs.Contents.{view_of}
 use Rattle.dead_sweep.proofs.Ranks.{children_used}
 use Rattle.dead_sweep.proofs.Advancing.{used_is, slot_parts, slot_no_leaf, again}
 use Rattle.dead_sweep.proofs.marks.mark_slot.Goals as goal
+
+pub new-requires : goal.new-requires
+new-requires g c =
+    let within = c.requires.sound.within c.args.slot (Inner c.requires.node.0, c.requires.node.1) in
+    let few = c.requires.sound.few_slots in
+    record { low = omega arith }
 
 pub open-requires : goal.open-requires
 open-requires g c =

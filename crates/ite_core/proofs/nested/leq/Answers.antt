@@ -12,7 +12,7 @@ pub returns-in-Ok-clause-leq : goal.returns-in-Ok-clause-leq
 returns-in-Ok-clause-leq g c =
     let e = c.in-Ok.ensures in let m = e.moved.kept.grown in let r = c.requires.operands in
     let answer = rw (c.two.ensures.f, c.two.ensures.g) at e.answer in
-    told _ _ c.in-Ok.edge (rw (values_at-grown Bdd m r.first, values_at-grown Bdd m r.second) at answer)
+    rw c.complement.ensures (told _ _ c.in-Ok.edge (rw (values_at-grown Bdd m r.first, values_at-grown Bdd m r.second) at answer))
 
 pub returns-in-Ok-clause-stack : goal.returns-in-Ok-clause-stack
 returns-in-Ok-clause-stack g c = let e = c.in-Ok.ensures in same_scratch _ _ e.frames e.free e.moved.known e.moved.marks

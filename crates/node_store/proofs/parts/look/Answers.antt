@@ -1,4 +1,5 @@
-use Rattle.std.proofs.Common.{arith}
+use Rattle.std.proofs.Common.{arith, rules, SFits, w64}
+use Rattle.std.proofs.lemmas.Int.{to_z-of_z}
 use Rattle.node_store.specs.Views.{values_at}
 use Rattle.node_store.specs.declared.grow.Opened.TheVariants.{Inner}
 use Rattle.node_store.specs.ViewLaws.{Is-grown, IsVariable-grown, Permanent-grown, level-grown, levels-grown, top-grown, values_at-grown}
@@ -17,7 +18,7 @@ returns-in-Inner-clause-operand g c = λ k d.
     let m1 = e.kept.grown in let m2 = c.level.ensures.kept.grown in
     let d1 = Is-grown k m1 d in
     let i = e.opens k d in
-    let o = Opens-grown k (values_at k (g.G.Grow.view c.args.store.now) c.args.edge) m2 d1 (Inner c.in-Inner.var c.in-Inner.field-1 c.in-Inner.field-2) i in
+    let o = Opens-grown k (values_at k (g.G.Grow.view c.args.store.now) c.args.edge) m2 d1 (Inner c.in-Inner.var c.in-Inner.hi c.in-Inner.lo) i in
     let same = values_at-grown k m1 d in
     let t = top-grown k m2 d1 in
     let l = level-grown m2 c.in-Inner.var in
@@ -34,8 +35,9 @@ returns-in-Leaf-clause-operand g c = λ k d.
     let e = c.in-Leaf.ensures in
     let m = e.kept.grown in
     let i = e.opens k d in
-    record {
+    let fits : SFits w64 c.in-Leaf.value = search rules in
+    rw (to_z-of_z w64 c.in-Leaf.value fits) (record {
       is = Is-grown k m d;
-      opens = rw (c.in-Leaf.is, values_at-grown k m d) i;
-      top = (c.in-Leaf.field-0, rw (values_at-grown k m d) i);
-    }
+      opens = rw (values_at-grown k m d) i;
+      top = (c.in-Leaf.value, rw (values_at-grown k m d) i);
+    })

@@ -47,6 +47,6 @@ returns-clause-split g c = λ k s.
     let can_first : CanHalve k w b v = record { permanent = permanent; operand = q; in_range = opened.in_range; above = omega arith; within = within } in
     let can_second : CanHalve k w d v = record { permanent = permanent; operand = r; in_range = opened.in_range; above = omega arith; within = within } in
     Three-halves k s.on_variables w c.args.task _ named
-    (subst (λ (x : Edge). PartsAt Bdd w x (values_at Bdd w x) v c.parts_of.result.0 c.parts_of.result.1) ea (c.parts_of.ensures Bdd w can_condition))
-    (subst (λ (x : Edge). PartsAt k w x (values_at k w x) v c.parts_of-2.result.0 c.parts_of-2.result.1) eb (c.parts_of-2.ensures k w can_first))
-    (subst (λ (x : Edge). PartsAt k w x (values_at k w x) v c.parts_of-3.result.0 c.parts_of-3.result.1) ed (c.parts_of-3.ensures k w can_second))
+    (subst (λ (x : Edge). PartsAt Bdd w x (values_at Bdd w x) v c.parts_of-f1.result.0 c.parts_of-f1.result.1) ea (c.parts_of-f1.ensures Bdd w can_condition))
+    (subst (λ (x : Edge). PartsAt k w x (values_at k w x) v c.parts_of-g1.result.0 c.parts_of-g1.result.1) eb (c.parts_of-g1.ensures k w can_first))
+    (subst (λ (x : Edge). PartsAt k w x (values_at k w x) v c.parts_of-h1.result.0 c.parts_of-h1.result.1) ed (c.parts_of-h1.ensures k w can_second))

@@ -1,7 +1,7 @@
 use Rattle.std.proofs.Common.{sym, ◌∙◌, subst}
 use Rattle.edge_bits.specs.declared.edges.Edge.{Edge}
 use Rattle.node_store.specs.Views.{IsLeaf, IsTop, PartsAt, values_at}
-use Rattle.node_store.specs.ViewLaws.{Is-grown}
+use Rattle.node_store.specs.ViewLaws.{Is-grown, Kept-trans}
 use Rattle.node_store.specs.Operands.{CanHalve, leaf_value}
 use Rattle.node_store.proofs.Operands.{IsOperand-grown, leaf_of, no_upper, upper_is, upper_level}
 use Rattle.node_store.proofs.parts.split_two.Goals as goal
@@ -40,6 +40,9 @@ returns-clause-split g c = λ k two.
     rw (c.two.ensures.f, c.two.ensures.g, c.two-2.ensures.f, c.two-2.ensures.g) (record {
       top = named;
       level = upper_level k w a b p q c.in-Some.top is;
-      f = subst (λ (x : Edge). PartsAt k w x (values_at k w x) v c.parts_of.result.0 c.parts_of.result.1) c.look-first.ensures.edge (c.parts_of.ensures k w can_first);
-      g = subst (λ (x : Edge). PartsAt k w x (values_at k w x) v c.parts_of-2.result.0 c.parts_of-2.result.1) c.look-second.ensures.edge (c.parts_of-2.ensures k w can_second);
+      f = subst (λ (x : Edge). PartsAt k w x (values_at k w x) v c.parts_of-f1.result.0 c.parts_of-f1.result.1) c.look-first.ensures.edge (c.parts_of-f1.ensures k w can_first);
+      g = subst (λ (x : Edge). PartsAt k w x (values_at k w x) v c.parts_of-g1.result.0 c.parts_of-g1.result.1) c.look-second.ensures.edge (c.parts_of-g1.ensures k w can_second);
     })
+
+pub returns-clause-kept : goal.returns-clause-kept
+returns-clause-kept g c = Kept-trans c.look-first.ensures.kept c.look-second.ensures.kept

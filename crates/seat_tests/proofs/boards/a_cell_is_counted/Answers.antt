@@ -3,6 +3,6 @@ use Rattle.seat_tests.proofs.boards.a_cell_is_counted.Goals as goal
 
 pub set_cell-requires-clause-few : goal.set_cell-requires-clause-few
 set_cell-requires-clause-few g c =
-    let i = ap (λ (f : ℕ → ℕ). f c.new-2.result.index) c.levels-permanent.ensures.kept.grown.counts in
-    let z = c.in_ok-shared.ensures.uncounted c.new-2.result.index in
+    let i = ap (λ (f : ℕ → ℕ). f c.new-edge.result.index) c.levels-permanent.ensures.kept.grown.counts in
+    let z = c.in_ok-shared.ensures.uncounted c.new-edge.result.index in
     omega (arith, i, z)

@@ -1,5 +1,5 @@
-use Rattle.std.proofs.Common.{◌≡◌, ℕ, Some, ◌+◌, ◌*◌, ◌^◌, ◌∙◌, ap, ap₂, arith, sym, subst, slice_index, slice_set}
-use Rattle.computed_cache.specs.Entries.{Kept, kept_at, packed_edge, place_at, place_of, places}
+use Rattle.std.proofs.Common.{◌≡◌, ℕ, Some, ◌+◌, ◌*◌, ◌∙◌, ap₂, subst, slice_set}
+use Rattle.computed_cache.specs.Entries.{kept_at, place_at, place_of, places}
 use Rattle.computed_cache.proofs.TableLemmas.{put_here, put_others}
 use Rattle.computed_cache.proofs.memo.Memo.put.Goals as goal
 

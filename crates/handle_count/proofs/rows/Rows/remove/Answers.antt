@@ -3,13 +3,13 @@ use Rattle.handle_count.specs.declared.rows.Row.{Row}
 use Rattle.handle_count.specs.RowMaps.{RowMap, IsWithOne, find_row, live_from}
 use Rattle.handle_count.proofs.Keeping.{gone, has_row, removed, without_it}
 use Rattle.handle_count.proofs.rows.Rows.remove.Goals as goal
-use Rattle.handle_count.proofs.rows.Rows.remove.Goals.{After-result-1}
+use Rattle.handle_count.proofs.rows.Rows.remove.Goals.{After-self-2-1}
 
 -- the row that stands at the name's place
-stands : (c : After-result-1) → get_or c.self.inside.places.items c.args.h.row None ≡ Some c.in-Some.row
+stands : (c : After-self-2-1) → get_or c.self.inside.places.items c.args.h.row None ≡ Some c.in-Some.row
 stands c = ap (λ (ps : List (Option Row)). get_or ps c.args.h.row None) (sym c.deref.ensures.value) ∙ sym c.row_at.ensures ∙ c.in-Some.is
 
-is_live : (c : After-result-1) → IsSome (find_row (live_from 0 c.self.inside.places.items) c.args.h)
+is_live : (c : After-self-2-1) → IsSome (find_row (live_from 0 c.self.inside.places.items) c.args.h)
 is_live c = subst (λ (m : RowMap). IsSome (find_row m.live c.args.h)) (sym c.self.view_is) c.requires
 
 pub unreachable-requires : goal.unreachable-requires

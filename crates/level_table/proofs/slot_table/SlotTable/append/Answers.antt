@@ -1,6 +1,7 @@
-use Rattle.std.proofs.Common.{◌≡◌, ◌<◌, ◌∙◌, length, ap, sym, subst, set, arith}
+use Rattle.std.proofs.Common.{◌≡◌, ◌<◌, ◌∙◌, ◌++◌, ◌∷◌, [], length, take, drop, ap, sym, subst, set, arith}
+use Rattle.std.proofs.Math.Seq.{take-append_seam}
 use Rattle.std.proofs.lemmas.List.{length_push}
-use Rattle.level_table.specs.Slotted.{Slotted, padded}
+use Rattle.level_table.specs.Slotted.{Slotted, AreSlots, padded}
 use Rattle.level_table.proofs.Slots.{length-padded, padded-more, slots_more}
 use Rattle.level_table.proofs.slot_table.SlotTable.append.Goals as goal
 
@@ -12,8 +13,14 @@ invariant_of-self c =
     let more : length words < c.self.inside.slots = omega (arith, room, length-padded c.self.inside.slots words old.within) in
     let items = c.push_reserved.ensures.items in
     let long = length_push words 0 in
+    let links = c.widen.new.links in
+    let heads = c.widen.new.heads.items in
+    let as_long : length links ≡ c.self.inside.links.len = c.widen.auto.links ∙ c.deref_mut.ensures.len in
+    let back : take c.self.inside.links.len (links ++ drop (length links) c.self.inside.links.items) ≡ links =
+    ap (λ n. take n (links ++ drop (length links) c.self.inside.links.items)) (sym as_long) ∙ take-append_seam links (drop (length links) c.self.inside.links.items) in
+    let items-2 : c.push_reserved-2.new.self.items ≡ links ++ 0 ∷ [] = c.push_reserved-2.ensures.items ∙ ap (λ l. l ++ 0 ∷ []) back in
     record {
-      are = rw (items, c.push_reserved-2.ensures.items) (slots_more words c.self.inside.links.items c.self.inside.heads.items old.are (let f = old.few_slots in omega arith));
+      are = rw (items, items-2) (slots_more words links heads (subst (λ ws. AreSlots ws links heads) c.deref.ensures.value c.widen.ensures) (let f = old.few_slots in omega arith));
       within = rw items (omega arith);
       few_slots = old.few_slots;
       words_fit = (let f = old.words_fit in let e = c.push_reserved.ensures.capacity in omega arith);

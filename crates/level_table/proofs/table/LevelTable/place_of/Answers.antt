@@ -3,6 +3,7 @@ use Rattle.std.proofs.lemmas.List.{length-map, get_or_read}
 use Rattle.level_table.specs.Chains.{link_to}
 use Rattle.level_table.specs.Tables.{hash_of, IsOf}
 use Rattle.level_table.specs.declared.table.Entry.{Entry}
+use Rattle.edge_bits.proofs.EdgeLemmas.{words_same}
 use Rattle.level_table.proofs.Entries.{same_edge, none_on, none_first}
 use Rattle.level_table.proofs.table.LevelTable.place_of.Goals as goal
 use Rattle.level_table.proofs.table.LevelTable.place_of.Goals.{else-entry-hi-via-then-entry-hi+else-eq, else-entry-hi-via-else-entry-hi}
@@ -35,7 +36,7 @@ loop-candidate-preserved c =
     let other : (d : Entry) → IsOf c.args.hi c.args.lo (get_or entries place d) → ⊥ = (λ d is.
     let here : IsOf c.args.hi c.args.lo entry = subst (IsOf c.args.hi c.args.lo) (sym (get_or_read entries place entry in' c.index.ensures d)) is in
     elim c.else-entry-hi.branch [
-      | else-entry-hi-via-then-entry-hi+else-eq w ↦ (let same = w.eq.ensures ∙ same_edge entry.lo c.args.lo here.1 in let differ = w.if-eq.false in cc)
+      | else-entry-hi-via-then-entry-hi+else-eq w ↦ (let same = w.eq.ensures ∙ words_same entry.lo c.args.lo ∙ same_edge entry.lo c.args.lo here.1 in let differ = w.if-eq.false in cc)
       | else-entry-hi-via-else-entry-hi w ↦ w.if-entry-hi.false here.0
     ]) in
     record {

@@ -1,4 +1,5 @@
-use Rattle.std.proofs.Common.{ℕ, ap, arith}
+use Rattle.node_store.specs.Edges.{flip_if}
+use Rattle.std.proofs.Common.{ℕ, ap, arith, Bool, ap₂, ◌∙◌}
 use Rattle.edge_bits.specs.declared.edges.Edge.{Edge}
 use Rattle.edge_bits.specs.declared.words.Node.{Node}
 use Rattle.edge_bits.specs.declared.edges.Kind.{Kind}
@@ -14,6 +15,9 @@ use Rattle.node_slots.proofs.held_store.HeldStoreWhole.add.Goals.{After-new}
 abbrev node_of : ℕ → ℕ → Edge → Node
 node_of v h l = record { var = v; hi = h; lo = l }
 
+abbrev edge_of : ℕ → Bool → Edge
+edge_of s b = record { index = s; complement = b }
+
 pub returns-in-Some : goal.returns-in-Some
 returns-in-Some c = λ k can. child_added (the_view c.self.inside) c.args.self.now c.self.view_is c.self.invariant k c.args.var c.args.hi c.args.lo c.in-Some.child can c.in-Some.ensures.child
 
@@ -23,17 +27,17 @@ overflow_cast-node c =
 
 pub place-requires : goal.place-requires
 place-requires c = record {
-  range = added_fits (the_view c.self.inside) c.args.self.now c.self.view_is c.self.invariant c.requires.0 c.args.var c.args.hi c.args.lo c.requires.1 c.flip_if.result c.flip_if.ensures;
+  range = rw c.index.ensures (added_fits (the_view c.self.inside) c.args.self.now c.self.view_is c.self.invariant c.requires.0 c.args.var c.args.hi c.args.lo c.requires.1 c.flip_if.result (c.flip_if.ensures ∙ ap (λ b. flip_if b c.args.lo) c.complement.ensures));
 }
 
 pub unreachable-requires : goal.unreachable-requires
 unreachable-requires c = no_place (the_view c.self.inside) c.args.self.now c.self.view_is c.self.invariant c.args.var c.args.hi c.args.lo c.requires c.in_default.ensures.none
-    _ (ap (λ e. node_of c.args.var c.args.hi.index e) c.flip_if.ensures) c.place.new.self c.in-None.ensures.full
+    _ (ap₂ (node_of c.args.var) c.index.ensures (c.flip_if.ensures ∙ ap (λ b. flip_if b c.args.lo) c.complement.ensures)) c.place.new.self c.in-None.ensures.full
 
 answered : (c : After-new) → (k : Kind) → CanAdd k (held_view c.args.self.now) c.args.var c.args.hi c.args.lo
     → Answered k c.args.self.now (with_words (the_view c.self.inside) c.place.new.self (the_view c.self.inside).half) c.args.var c.args.hi c.args.lo c.new.result
 answered c k can = adding (the_view c.self.inside) c.args.self.now c.self.view_is c.self.invariant k c.args.var c.args.hi c.args.lo can c.in_default.ensures.none
-    _ (ap (λ e. node_of c.args.var c.args.hi.index e) c.flip_if.ensures) c.place.new.self c.in-Some-place.slot c.in-Some-place.ensures.placed c.new.result c.new.ensures
+    _ (ap₂ (node_of c.args.var) c.index.ensures (c.flip_if.ensures ∙ ap (λ b. flip_if b c.args.lo) c.complement.ensures)) c.place.new.self c.in-Some-place.slot c.in-Some-place.ensures.placed c.new.result (c.new.ensures ∙ ap (edge_of c.in-Some-place.slot) c.complement-in-Some-place.ensures)
 
 pub invariant_of-self : goal.invariant_of-self
 invariant_of-self c = rw c.unlink.ensures (answered c c.requires.0 c.requires.1).held

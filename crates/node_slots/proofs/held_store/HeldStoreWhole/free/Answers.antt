@@ -2,7 +2,7 @@ use Rattle.std.proofs.Common.{ap, sym, ◌∙◌, subst}
 use Rattle.handle_count.specs.CountWords.{count_of, generation_of}
 use Rattle.std.specs.Prelude.{◌+◌, ◌%◌, ◌^◌}
 use Rattle.node_store.specs.Changes.{After, CanFree, without}
-use Rattle.node_slots.specs.Held.{Alone, Held, held_view}
+use Rattle.node_slots.specs.Held.{Alone, held_view}
 use Rattle.node_slots.specs.contracts.held_store.HeldStore.{the_view}
 use Rattle.node_slots.proofs.HeldFreeing.{freed_after, freed_held}
 use Rattle.node_slots.proofs.held_store.HeldStoreWhole.free.Goals as goal

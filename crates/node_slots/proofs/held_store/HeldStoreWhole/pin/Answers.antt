@@ -1,7 +1,6 @@
-use Rattle.std.proofs.Common.{◌≡◌, true, false, Some, None, sym, ◌∙◌, subst}
+use Rattle.std.proofs.Common.{true, sym, subst}
 use Rattle.node_store.specs.Contents.{IsUsed}
-use Rattle.node_slots.specs.Held.{Held, held_view}
-use Rattle.node_slots.specs.Stores.{slots}
+use Rattle.node_slots.specs.Held.{held_view}
 use Rattle.node_slots.specs.contracts.held_store.HeldStore.{the_view}
 use Rattle.node_slots.proofs.HeldMarks.{pinned_after, pinned_held, used_within, used_on}
 use Rattle.node_slots.proofs.held_store.HeldStoreWhole.pin.Goals as goal

@@ -1,8 +1,8 @@
-use Rattle.std.proofs.Common.{length, ap, sym, ◌∙◌, arith}
+use Rattle.std.proofs.Common.{length, ap, ◌∙◌, arith}
 use Rattle.std.specs.List.{count_by}
 use Rattle.std.proofs.lemmas.List.Sums.{count_by-le-length}
-use Rattle.node_store.specs.Contents.{is_used, used_slots}
-use Rattle.node_slots.specs.Held.{Held, held_view}
+use Rattle.node_store.specs.Contents.{is_used}
+use Rattle.node_slots.specs.Held.{Held}
 use Rattle.node_slots.specs.Stores.{is_word}
 use Rattle.node_slots.proofs.Looking.{count_words}
 use Rattle.node_slots.proofs.held_store.HeldStoreWhole.room.Goals as goal

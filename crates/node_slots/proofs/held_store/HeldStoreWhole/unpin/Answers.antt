@@ -1,5 +1,5 @@
 use Rattle.std.proofs.Common.{◌≡◌, true, false, refl, sym, subst}
-use Rattle.node_slots.specs.Held.{Held, held_view}
+use Rattle.node_slots.specs.Held.{held_view}
 use Rattle.node_slots.specs.contracts.held_store.HeldStore.{the_view}
 use Rattle.node_slots.proofs.HeldMarks.{pinned_after, pinned_held, pinned_within}
 use Rattle.node_slots.proofs.held_store.HeldStoreWhole.unpin.Goals as goal

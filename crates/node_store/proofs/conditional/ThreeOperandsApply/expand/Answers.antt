@@ -1,5 +1,6 @@
 use Rattle.std.proofs.Common.{ap}
-use Rattle.node_store.specs.ViewLaws.{Grown-trans}
+use Rattle.node_store.specs.ViewLaws.{Grown-trans, Kept-trans}
+use Rattle.node_store.specs.WorkLaws.{Moves-kept}
 use Rattle.node_store.specs.Three.{CanSplit}
 use Rattle.node_store.specs.ThreeLaws.{AreThree-grown}
 use Rattle.node_store.proofs.ThreeParts.{Three-branches}
@@ -28,3 +29,6 @@ returns-in-None-clause-expanded g c =
     let m = c.in-None.ensures.kept.grown in
     let can : CanSplit k (g.G.Grow.view c.memo_get.new.self) c.in-Normal.normal = record { on_variables = on; three = AreThree-grown k m n.three; inner = n.inner } in
     Three-branches k on o.f o.g o.h _ _ c.args.task c.in-Normal.normal c.in-Normal.flip c.branch-store.result c.requires (Grown-trans m c.branch-store.ensures.kept.grown) n (c.branch-store.ensures.branch k can)
+
+pub returns-in-None-clause-moved : goal.returns-in-None-clause-moved
+returns-in-None-clause-moved g c = Moves-kept _ _ _ _ (Kept-trans c.in-None.ensures.kept c.branch-store.ensures.kept)

@@ -5,6 +5,7 @@ use Rattle.std.proofs.lemmas.Result.{err_from_is_err_and}
 use Rattle.node_store.specs.declared.operator.Halt.TheVariants as halt
 use Rattle.node_store.specs.ViewLaws.{Grown-trans, Kept-trans, Permanent-grown}
 use Rattle.node_store.specs.TwoLaws.{AreTwo-grown}
+use Rattle.node_store.specs.WorkLaws.{Moves-kept}
 use Rattle.node_store.proofs.Frames.{other_err}
 use Rattle.node_store.proofs.TwoParts.{AreTwo-order, Two-split}
 use Rattle.node_store.proofs.TwoWork.{Place-hit, IsKey-two, Leaves-moved, Leaves-refused, Leaves-over, Leaves-answer}
@@ -82,3 +83,7 @@ returns-in-At-clause-expanded g c =
     let o = g.O.Pointwise in let e = c.in-At.ensures in
     Two-split o.kind o.op g.met.O.Pointwise.keeps c.args.self.now.f c.args.self.now.g _ _ c.args.task c.arrange-task.result c.in-At.halves c.requires c.arrange-task.ensures.order
     (Grown-trans c.in_default-memo_get.ensures.kept.grown e.kept.grown) (e.split o.kind (AreTwo-grown o.kind c.in_default-memo_get.ensures.kept.grown (AreTwo-order o.kind o.op _ c.args.task.f c.args.task.g _ _ c.arrange-task.ensures.order c.requires.two)))
+
+pub returns-in-At-clause-moved : goal.returns-in-At-clause-moved
+returns-in-At-clause-moved g c =
+    Moves-kept _ _ _ _ (Kept-trans c.in_default-memo_get.ensures.kept c.in-At.ensures.kept)

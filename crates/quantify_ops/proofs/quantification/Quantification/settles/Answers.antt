@@ -1,4 +1,4 @@
-use Rattle.std.proofs.Common.{not, ap, ◌∙◌}
+use Rattle.std.proofs.Common.{not, ap, ◌∙◌, sym}
 use Rattle.function_laws.specs.Values.{constant}
 use Rattle.ite_core.proofs.Terminals.{truth_at}
 use Rattle.quantify_ops.proofs.QuantifiedLaws.{FirstAnswered-grown, settled_value}
@@ -18,4 +18,4 @@ returns-in-Some-clause-answer g c = λ is.
     let o = c.args.self.now in let e = c.in-Some.ensures in
     let p = FirstAnswered-grown o.f o.g o.cube _ _ c.args.task c.args.var c.args.first c.requires.0.0 c.requires.0.1 e.kept.grown c.requires.1 in
     settled_value _ c.args.task c.requires.0.0 c.requires.0.1 c.args.var p.splits c.args.first _ e.rest
-    (truth_at _ p.due.permanent c.args.first c.if-first-ne-TRUE_SLOT.false ∙ ap (λ b. constant (not b)) c.if-first.false) p.first_is
+    (truth_at _ p.due.permanent c.args.first (sym c.index.ensures ∙ c.if-index-ne-TRUE_SLOT.false) ∙ ap (λ b. constant (not b)) (sym c.complement.ensures ∙ c.if-complement.false)) p.first_is

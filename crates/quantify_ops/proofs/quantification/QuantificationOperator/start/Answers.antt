@@ -1,4 +1,4 @@
-use Rattle.std.proofs.Common.{refl, ap, Ok, arith}
+use Rattle.std.proofs.Common.{refl, ap, Ok, arith, sym, ◌∙◌}
 use Rattle.std.proofs.lemmas.Result.{err_from_is_err_and}
 use Rattle.node_store.specs.Views.{bdd_at}
 use Rattle.edge_bits.specs.declared.edges.Kind.TheVariants.{Bdd}
@@ -12,7 +12,7 @@ use Rattle.quantify_ops.specs.Quantified.{both_at, AreQuantified, IsQuantifiedVa
 use Rattle.quantify_ops.specs.QuantifiedLasts.{AreQuantified-grown, QuantifiedDue-stays}
 use Rattle.quantify_ops.proofs.QuantifiedLaws.{known_answer, unquantified_value, Quantified-answers, Quantified-added, Quantified-refused, moved_after}
 use Rattle.quantify_ops.proofs.quantification.QuantificationOperator.start.Goals as goal
-use Rattle.quantify_ops.proofs.quantification.QuantificationOperator.start.Goals.{Then-task-eq-TRUE_SLOT}
+use Rattle.quantify_ops.proofs.quantification.QuantificationOperator.start.Goals.{Then-index-eq-TRUE_SLOT}
 use Rattle.quantify_ops.proofs.quantification.QuantificationOperator.start.Given as given
 
 pub returns-in-Some-clause-next : goal.returns-in-Some-clause-next
@@ -40,16 +40,16 @@ pub and-requires-clause-permanent : goal.and-requires-clause-permanent
 and-requires-clause-permanent g c = Permanent-grown c.in_default-memo_get.ensures.kept.grown c.requires.due.permanent
 
 -- nothing is left to quantify
-module _ (g : given.Over) (c : Then-task-eq-TRUE_SLOT g) where
+module _ (g : given.Over) (c : Then-index-eq-TRUE_SLOT g) where
   due : QuantifiedDue c.args.self.now.f c.args.self.now.g c.args.self.now.cube (g.G.Grow.view c.memo_get.new.self) c.args.task
   due = QuantifiedDue-stays c.args.self.now.f c.args.self.now.g c.args.self.now.cube _ _ c.args.task c.in_default-memo_get.ensures.kept.grown c.requires.due
 
   value : let now = g.G.Grow.view c.memo_get.new.self in let t = c.args.task in IsExists (bdd_at now t.h) (both_at now t.f t.g) (both_at now t.f t.g)
-  value = unquantified_value _ due.permanent c.args.task c.args.task.f c.args.task.g c.if-task-eq-TRUE_SLOT.true refl refl
+  value = unquantified_value _ due.permanent c.args.task c.args.task.f c.args.task.g (sym c.index.ensures ∙ c.if-index-eq-TRUE_SLOT.true) refl refl
 
 pub returns-in_err-and-clause-moved : goal.returns-in_err-and-clause-moved
 returns-in_err-and-clause-moved g c =
-    let o = c.args.self.now in let e = c.in_err-and.ensures in let at = (goal.at.returns-in_err-and-clause-moved g c).Then-task-eq-TRUE_SLOT in
+    let o = c.args.self.now in let e = c.in_err-and.ensures in let at = (goal.at.returns-in_err-and-clause-moved g c).Then-index-eq-TRUE_SLOT in
     record {
       moves = moved_after o.f o.g o.cube _ _ _ c.in_default-memo_get.ensures.kept (Quantified-added o.f o.g o.cube _ _ c.args.task _ (due g at) e.runs.grown (value g at) e.runs.work);
       known = ap (λ s. s.answers) e.stack;
@@ -58,7 +58,7 @@ returns-in_err-and-clause-moved g c =
 
 pub returns-in_err-and-clause-due : goal.returns-in_err-and-clause-due
 returns-in_err-and-clause-due g c =
-    let o = c.args.self.now in let e = c.in_err-and.ensures in let at = (goal.at.returns-in_err-and-clause-due g c).Then-task-eq-TRUE_SLOT in
+    let o = c.args.self.now in let e = c.in_err-and.ensures in let at = (goal.at.returns-in_err-and-clause-due g c).Then-index-eq-TRUE_SLOT in
     let q = err_from_is_err_and c.from_residual.result c.from_residual.ensures.1 in rw (q.1, q.2) (λ is.
     Quantified-refused o.f o.g o.cube _ _ c.args.task _ (due g at) e.runs.grown (value g at) (e.runs.due (other_err _ _ is)))
 
@@ -70,18 +70,18 @@ pub returns-in_err-and-clause-full : goal.returns-in_err-and-clause-full
 returns-in_err-and-clause-full g c =
     let q = err_from_is_err_and c.from_residual.result c.from_residual.ensures.1 in rw (q.1, q.2) (λ is few. (let a = c.in_err-and.ensures.runs.full (other_err _ _ is) few in let k = c.in_default-memo_get.ensures.kept.fulls in omega arith))
 
-pub returns-then-task-eq-TRUE_SLOT-clause-moved : goal.returns-then-task-eq-TRUE_SLOT-clause-moved
-returns-then-task-eq-TRUE_SLOT-clause-moved g c =
-    let o = c.args.self.now in let e = c.in_ok-and.ensures in let at = (goal.at.returns-then-task-eq-TRUE_SLOT-clause-moved g c).Then-task-eq-TRUE_SLOT in
+pub returns-then-index-eq-TRUE_SLOT-clause-moved : goal.returns-then-index-eq-TRUE_SLOT-clause-moved
+returns-then-index-eq-TRUE_SLOT-clause-moved g c =
+    let o = c.args.self.now in let e = c.in_ok-and.ensures in let at = (goal.at.returns-then-index-eq-TRUE_SLOT-clause-moved g c).Then-index-eq-TRUE_SLOT in
     record {
       moves = moved_after o.f o.g o.cube _ _ _ c.in_default-memo_get.ensures.kept (Quantified-added o.f o.g o.cube _ _ c.args.task _ (due g at) e.runs.grown (value g at) e.runs.work);
       known = ap (λ s. s.answers) e.stack;
       marks = ap (λ s. s.marks) e.stack;
     }
 
-pub returns-then-task-eq-TRUE_SLOT-clause-next : goal.returns-then-task-eq-TRUE_SLOT-clause-next
-returns-then-task-eq-TRUE_SLOT-clause-next g c =
-    let o = c.args.self.now in let e = c.in_ok-and.ensures in let at = (goal.at.returns-then-task-eq-TRUE_SLOT-clause-next g c).Then-task-eq-TRUE_SLOT in
+pub returns-then-index-eq-TRUE_SLOT-clause-next : goal.returns-then-index-eq-TRUE_SLOT-clause-next
+returns-then-index-eq-TRUE_SLOT-clause-next g c =
+    let o = c.args.self.now in let e = c.in_ok-and.ensures in let at = (goal.at.returns-then-index-eq-TRUE_SLOT-clause-next g c).Then-index-eq-TRUE_SLOT in
     Quantified-answers o.f o.g o.cube _ _ c.args.task _ (due g at) e.runs.grown (value g at) (Ok c.in_ok-and.field-0) e.runs.answer
 
 pub narrow-requires-clause-due : goal.narrow-requires-clause-due

@@ -1,5 +1,7 @@
 use Rattle.std.proofs.Common.{refl}
+use Rattle.shared_store.proofs.Emptied.{emptied}
 use Rattle.shared_store.proofs.Handed.{still_idle, swept_back}
+use Rattle.shared_store.proofs.Stored.{stores-swept}
 use Rattle.shared_store.proofs.Swept.{generations-swept, lasts-swept}
 use Rattle.shared_store.proofs.shared.Shared.sweep.Goals as goal
 
@@ -17,3 +19,13 @@ pub returns-clause-generations : goal.returns-clause-generations
 returns-clause-generations c =
     let is = swept_back c.args.self.store c.release-store.result c.hold-held.result c.sweep-swept.new.w c.sweep-swept.result c.hold-held.ensures.content c.release-store.ensures c.sweep-swept.ensures in
     generations-swept c.args.self.store c.release-store.result c.sweep-swept.result c.limit-store.ensures.store is
+
+pub returns-clause-stored : goal.returns-clause-stored
+returns-clause-stored c =
+    let is = swept_back c.args.self.store c.release-store.result c.hold-held.result c.sweep-swept.new.w c.sweep-swept.result c.hold-held.ensures.content c.release-store.ensures c.sweep-swept.ensures in
+    stores-swept c.args.self (record { store = c.release-store.result; cells = c.args.self.cells; as_many = c.args.self.as_many; idle = still_idle c.args.self.store c.release-store.result c.sweep-swept.result c.args.self.idle is }) c.limit-store.ensures.store c.limit-store-2.ensures.store (λ _. ⊥) c.sweep-swept.result is
+
+pub returns-clause-emptied : goal.returns-clause-emptied
+returns-clause-emptied c uncounted =
+    let is = swept_back c.args.self.store c.release-store.result c.hold-held.result c.sweep-swept.new.w c.sweep-swept.result c.hold-held.ensures.content c.release-store.ensures c.sweep-swept.ensures in
+    emptied c.args.self.store c.release-store.result c.limit-store.ensures.store c.limit-store-2.ensures.store c.sweep-swept.result is c.args.self.idle uncounted

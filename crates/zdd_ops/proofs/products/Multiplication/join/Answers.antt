@@ -27,14 +27,14 @@ returns-in_err-edge-clause-due g c =
 pub memo_put-requires-clause-key : goal.memo_put-requires-clause-key
 memo_put-requires-clause-key g c =
     let m = Grown-trans c.in_ok-with.ensures.moved.grown c.in_ok-edge.ensures.grown in
-    rw c.key_of.ensures (Product-key _ c.args.task.f c.args.task.g (AreTwo-grown Zdd m c.requires.parts.due.two))
+    rw c.key_of-key.ensures (Product-key _ c.args.task.f c.args.task.g (AreTwo-grown Zdd m c.requires.parts.due.two))
 
 pub memo_put-requires-clause-holds : goal.memo_put-requires-clause-holds
 memo_put-requires-clause-holds g c =
     let o = c.args.self.now in let a = c.in_ok-with.ensures in let e = c.in_ok-edge.ensures in let m = Grown-trans a.moved.grown e.grown in
     let can = Node-can o.p o.q _ c.args.task c.args.var c.args.quarters c.requires.parts _ a.moved.grown c.in_ok-with.with a.answer in
     let is = Node-is o.p o.q _ c.args.task c.args.var c.args.quarters c.requires.parts _ a.moved.grown c.in_ok-with.with a.answer in
-    rw c.key_of.ensures (Product-kept _ c.args.task.f c.args.task.g (AreTwo-grown Zdd m c.requires.parts.due.two) c.in_ok-edge.edge (Permanent-grown m c.requires.parts.due.permanent)
+    rw c.key_of-key.ensures (Product-kept _ c.args.task.f c.args.task.g (AreTwo-grown Zdd m c.requires.parts.due.two) c.in_ok-edge.edge (Permanent-grown m c.requires.parts.due.permanent)
     (Node-answer o.p o.q _ c.args.task c.args.var c.args.quarters c.requires.parts _ c.in_ok-edge.edge _ m is (e.ok Zdd can)))
 
 pub returns-clause-moved : goal.returns-clause-moved
