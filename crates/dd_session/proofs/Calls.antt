@@ -1,0 +1,240 @@
+-- What a call is for its caller.
+use Rattle.std.proofs.Common.{◌≡◌, ◌⊎◌, inl, inr, ℕ, suc, ◌+◌, ◌≤◌, ◌^◌, Bool, true, false, cond, List, [], ◌∷◌, length, max, Contains, Option, Some, Result, Ok, Err, IfOk, MatchResult, OnOk, refl, ap, sym, subst, ◌∙◌, arith, true≢false}
+use Rattle.atomic_table.specs.Seated.{TableId}
+use Rattle.std.specs.Result.{is_err}
+use Rattle.edge_bits.specs.declared.edges.Edge.{Edge}
+use Rattle.edge_bits.specs.declared.lists.Memory.{Memory}
+use Rattle.edge_bits.specs.declared.edges.Kind.{Kind}
+use Rattle.edge_bits.specs.declared.edges.Kind.TheVariants as kinds
+use Rattle.function_laws.specs.declared.history.Function.{Function}
+use Rattle.function_laws.specs.declared.history.Function.TheVariants.{Bdd, Add, Zdd}
+use Rattle.function_laws.specs.Lists.{list_of}
+use Rattle.function_laws.specs.declared.history.Call.{Call}
+use Rattle.function_laws.specs.declared.history.Reply.{Reply}
+use Rattle.function_laws.specs.declared.history.Reply.TheVariants as replies
+use Rattle.function_laws.specs.declared.history.Name.{Name}
+use Rattle.function_laws.specs.Kinds.{Denoted, ValueOf}
+use Rattle.function_laws.specs.Steps.{Outcome, makes, outcome}
+use Rattle.function_laws.specs.Tables.{Table, same_name}
+use Rattle.handle_count.specs.RowMaps.{RowMap}
+use Rattle.node_store.specs.declared.grow.Stop.{Stop}
+use Rattle.node_store.specs.Listed.{listed, listed_at}
+use Rattle.node_store.specs.Views.{View, Denotes, Grown, Is}
+use Rattle.node_store.specs.ViewLaws.{Is-from, values_at-is}
+use Rattle.seat_guard.specs.declared.view.Change.{Change}
+use Rattle.seat_guard.specs.declared.view.Change.TheVariants.{Nothing, Adds, Takes, Posts}
+use Rattle.seat_guard.specs.declared.view.Draws.{Draws}
+use Rattle.seat_guard.specs.declared.view.Held.{Held}
+use Rattle.seat_guard.specs.declared.view.Leaving.{Leaving}
+use Rattle.seat_guard.specs.declared.view.Row.{Row}
+use Rattle.seat_guard.specs.declared.view.Telling.{Telling}
+use Rattle.seat_guard.specs.Turn.{KeepsRows}
+use Rattle.seat_guard.specs.Views.{Agrees, adds_after, cell_in, holding, letting_go, rows_after, without}
+use Rattle.shared_store.specs.declared.shared.Shared.{Shared}
+use Rattle.shared_store.specs.Lasting.{Lasts}
+use Rattle.shared_store.specs.Sharing.{Serving, board, count, counts, functions, keeps, orders, view_of}
+use Rattle.shared_store.specs.Storing.{IsListedWork}
+use Rattle.shared_store.proofs.Lasting.{lasts-grown, serves-lasts}
+use Rattle.shared_store.proofs.Storing.{stored-only}
+use Rattle.dd_session.specs.declared.answers.Placed.{Placed}
+use Rattle.dd_session.specs.declared.answers.Refusal.{Refusal}
+use Rattle.dd_session.specs.declared.answers.Refusal.TheVariants as refusals
+use Rattle.dd_session.specs.Sessions.{Called, Denies, IsAsBefore, fulls_in}
+use Rattle.dd_session.specs.Works.{HasRows, IsOfWork, StoresWork}
+use Rattle.dd_session.specs.Turns.{Gives, HasValue, IsCausedBy, IsRefused, MayBeFull, Notes, Stands, Tied, Told, Tried, seen_by}
+use Rattle.dd_session.proofs.Tying.{tied_room, tied_same}
+
+-- what the taker of the turn knows
+pub record Took (d e : Draws) (x : Shared) : Type 0 where
+  pub others : List Held
+  pub is : e ≡ holding d (board x) others (orders x) (functions x)
+  pub serves : Serving x e
+  pub many : length (board x) ≡ 256
+
+-- a table that agrees with the one who has the turn agreed before
+agrees_before : (d e : Draws) (x : Shared) → Took d e x → d.holds ≡ false → (t : Table) → Agrees e t → Agrees d t
+agrees_before d e x took idle t agrees = by (subst (λ (z : Draws). Agrees z t) took.is agrees)
+  where
+    by : Agrees (holding d (board x) took.others (orders x) (functions x)) t → Agrees d t
+    by a = record { sizes_are = a.sizes_are; live = a.live; fresh = a.fresh; cells = λ h. absurd (true≢false (sym h ∙ idle)) }
+
+session-same : (d e : Draws) (x : Shared) → Took d e x → e.session ≡ d.session
+session-same d e x took = ap (λ (z : Draws). z.session) took.is
+
+pub gives_held : (d e : Draws) (x : Shared) (call : Call) (o : Outcome) → Took d e x → d.holds ≡ false → Gives d call o → Gives e call o
+gives_held d e x call o took idle gives t agrees =
+    subst (λ (s : ℕ). outcome t s call ≡ Some o) (sym (session-same d e x took)) (gives t (agrees_before d e x took idle t agrees))
+
+-- each store that lasts from the one that was taken keeps the rows
+pub stands_of : (d e : Draws) (x y : Shared) → Took d e x → Lasts x y → orders y ≡ orders x → Stands y d
+stands_of d e x y took lasts same = let serves = serves-lasts x y lasts e same took.serves in record {
+  rows_kept = subst (KeepsRows keeps board counts count orders y) (ap (λ (z : Draws). z.rows) took.is) serves.rows_kept;
+  counts_are = serves.counts_are ∙ (λ i. ((took.is i).vars, (took.is i).elements));
+}
+
+pub stands_taken : (d e : Draws) (x : Shared) → Took d e x → Stands x d
+stands_taken d e x took = record {
+  rows_kept = subst (KeepsRows keeps board counts count orders x) (ap (λ (z : Draws). z.rows) took.is) took.serves.rows_kept;
+  counts_are = took.serves.counts_are ∙ (λ i. ((took.is i).vars, (took.is i).elements));
+}
+
+-- a store that stands has the session's rows
+pub has_rows : (table : TableId) (d : Draws) (spare : ℕ) (x : Shared) → Stands x d → HasRows (view_of x) (seen_by table d spare)
+has_rows table d spare x stands = record { vars = ap (λ (p : ℕ × ℕ). p.0) stands.counts_are; elements = ap (λ (p : ℕ × ℕ). p.1) stands.counts_are; rows = stands.rows_kept }
+
+adds_few : (c : Change) (n : ℕ) → adds_after c n ≤ n + 1
+adds_few (Adds row) n = omega arith
+adds_few (Takes name) n = omega arith
+adds_few (Posts i held) n = omega arith
+adds_few Nothing n = omega arith
+
+rows_few : (c : Change) (rows : List Row) → length (rows_after c rows) ≤ length rows + 1
+rows_few (Adds row) rows = omega arith
+rows_few (Takes name) rows = let a = without_few name rows in omega (arith, a)
+  where
+    without_few : (name : Name) (rows : List Row) → length (without name rows) ≤ length rows
+    without_few name [] = omega arith
+    without_few name (row ∷ rows) = by (same_name row.name name) (without_few name rows)
+      where
+        by : (b : Bool) → length (without name rows) ≤ length rows → length (cond b (without name rows) (row ∷ without name rows)) ≤ suc (length rows)
+        by true l = omega (arith, l)
+        by false l = omega (arith, l)
+rows_few (Posts i held) rows = omega arith
+rows_few Nothing rows = omega arith
+
+-- what a call is for its caller
+pub called : (old held new : Draws) (x : Shared) (table table' : TableId) (spare spare' : ℕ) (call : Call) (reply : Reply) (place : ℕ) → table' ≡ table → Took old held x → Told held new call reply place
+    → Called (seen_by table old spare) (seen_by table' new spare') call reply place
+called old held new x table table' spare spare' call reply place same took told =
+    subst (λ (i : TableId). Called (seen_by table old spare) (seen_by i new spare') call reply place) (sym same)
+    (subst (λ (d : Draws). Told d new call reply place → Called (seen_by table old spare) (seen_by table new spare') call reply place) (sym took.is) by told)
+  where
+    cells : List (Option Held)
+    cells = board x
+
+    by : Told (holding old cells took.others (orders x) (functions x)) new call reply place → Called (seen_by table old spare) (seen_by table new spare') call reply place
+    by t = let y : Telling = t.1 in let drew = t.4 in
+        subst (λ (z : Call × Reply). Called (seen_by table old spare) (seen_by table new spare') z.0 z.1 place) (λ i. (t.2 i, t.3 i))
+        (subst (λ (d : Draws). Called (seen_by table old spare) (seen_by table d spare') y.call y.reply place) (sym drew.left) (record {
+          board = cell_in cells;
+          step = λ u seen board_is. let says = drew.may.step u (record { sizes_are = seen.sizes_are; live = seen.live; fresh = seen.fresh; cells = λ _. (board_is, took.many) }) in (
+            says.0,
+            record { sizes_are = says.1.sizes_are; live = says.1.live; fresh = says.1.fresh },
+          );
+          entries_are = refl;
+          later = drew.later;
+          manager_is = refl;
+          number_is = refl;
+          few = (adds_few y.change old.adds, rows_few y.change old.rows);
+        }))
+
+-- the turn was given back
+pub idle_told : (old held new : Draws) (x : Shared) (call : Call) (reply : Reply) (place : ℕ) → Took old held x → old.live ≡ true → Told held new call reply place → (new.live ≡ true) × (new.holds ≡ false)
+idle_told old held new x call reply place took live told = let left = told.4.left in (ap (λ (d : Draws). d.live) left ∙ ap (λ (d : Draws). d.live) took.is ∙ live, ap (λ (d : Draws). d.holds) left)
+
+pub idle_left : (old held new : Draws) (x : Shared) (l : Leaving) → Took old held x → old.live ≡ true → new ≡ letting_go held l → (new.live ≡ true) × (new.holds ≡ false)
+idle_left old held new x l took live left = (ap (λ (d : Draws). d.live) left ∙ ap (λ (d : Draws). d.live) took.is ∙ live, ap (λ (d : Draws). d.holds) left)
+
+-- want of memory
+pub as_before : (old held new : Draws) (x : Shared) (table table' : TableId) (spare spare' : ℕ) (l : Leaving) → table' ≡ table → spare ≤ spare' → Took old held x → new ≡ letting_go held l → IsAsBefore (seen_by table old spare) (seen_by table' new spare')
+as_before old held new x table table' spare spare' l same more took left = (
+  subst (λ (i : TableId). seen_by i new spare' ≡ record (seen_by table old spare) { spare = spare'; stored = new.stored; due = new.due }) (sym same)
+      (subst (λ (d : Draws). seen_by table d spare' ≡ record (seen_by table old spare) { spare = spare'; stored = d.stored; due = d.due }) (sym left)
+      (subst (λ (d : Draws). seen_by table (letting_go d l) spare' ≡ record (seen_by table old spare) { spare = spare'; stored = l.stored; due = l.due }) (sym took.is) refl)),
+  more,
+)
+
+-- an operation that was tried and settled
+module _ (old held new : Draws) (x y : Shared) (table table' : TableId) (spare spare' : ℕ) (call : Call) (made : Result Edge Stop) (result : Result (Placed Name) Refusal) (same : table' ≡ table) (took : Took old held x) where
+  pub called_made : (r : Result (Placed Name) Refusal) → MatchResult r (λ placed. Unit {0}) (λ refusal. spare ≤ spare') → MatchResult r (λ placed. Told held new call (replies.Made placed.value) placed.place) (IsRefused held new call)
+      → MatchResult r (λ placed. Called (seen_by table old spare) (seen_by table' new spare') call (replies.Made placed.value) placed.place) (Denies (seen_by table old spare) (seen_by table' new spare') call)
+  called_made (Ok placed) more told = called old held new x table table' spare spare' call (replies.Made placed.value) placed.place same took told
+  called_made (Err refusals.Memory) more told = as_before old held new x table table' spare spare' told.0 same more took told.1
+  called_made (Err (refusals.Full full)) more told = (called old held new x table table' spare spare' call (replies.Full full.in_use full.need) full.place same took told.0, told.1, told.2)
+
+  pub idle_made : (r : Result (Placed Name) Refusal) → old.live ≡ true → MatchResult r (λ placed. Told held new call (replies.Made placed.value) placed.place) (IsRefused held new call) → (new.live ≡ true) × (new.holds ≡ false)
+  idle_made (Ok placed) live told = idle_told old held new x call (replies.Made placed.value) placed.place took live told
+  idle_made (Err refusals.Memory) live told = idle_left old held new x told.0 took live told.1
+  idle_made (Err (refusals.Full full)) live told = idle_told old held new x call (replies.Full full.in_use full.need) full.place took live told.0
+
+  module _ (Answers : View → View → Edge → Type 0) (Work : View → Denoted → Type 0) (tried : Tried Answers Work x y made) (notes : Notes held new y) where
+    of_work : (v : Shared) (f : Function) → Lasts x v → orders v ≡ orders x → IsListedWork (view_of v) (Work (view_of v)) f → IsOfWork (seen_by table old spare) Work f
+    of_work v f lasts ordered is = (view_of v, has_rows table old spare v (stands_of old held x v took lasts ordered), is)
+
+    stored_work : (f : Function) → Contains new.stored f → IsOfWork (seen_by table old spare) Work f
+    stored_work f c = stored-only (IsOfWork (seen_by table old spare) Work) x y held notes.0 (ap (λ (z : Draws). z.functions) took.is)
+        (λ g there. by g (tried.stored g there)) notes.3 f (subst (λ (fs : List Function). Contains fs f) notes.1 c)
+      where
+        by : (g : Function) → Contains (functions x) g ⊎ ((v : Shared) × Lasts x v × (orders v ≡ orders x) × IsListedWork (view_of v) (Work (view_of v)) g) → Contains (functions x) g ⊎ IsOfWork (seen_by table old spare) Work g
+        by g (inl there) = inl there
+        by g (inr part) = inr (of_work part.0 g part.1 part.2 part.3)
+
+    pub stores_work : (r : Result (Placed Name) Refusal) → IsCausedBy made r → StoresWork Work (seen_by table old spare) (seen_by table' new spare') r
+    stores_work (Ok placed) cause = stored_work
+    stores_work (Err refusals.Memory) cause = λ f c. inr (stored_work f c)
+    stores_work (Err (refusals.Full full)) cause = let due = tried.ran.due_is cause in (
+      stored_work,
+      (due.0, notes.2 ∙ notes.3.due_is ∙ due.1, of_work tried.from due.0 tried.lasts tried.orders_are due.2),
+    )
+
+-- the last try's store serves, and so does the one that it left
+pub served : (d e : Draws) (x y : Shared) (Answers : View → View → Edge → Type 0) (Work : View → Denoted → Type 0) (made : Result Edge Stop) → Took d e x → Tried Answers Work x y made → Serving y e
+served d e x y Answers Work made took tried =
+    serves-lasts tried.from y (lasts-grown tried.from y tried.ran.grown tried.ran.cells) e tried.ran.orders_are (serves-lasts x tried.from tried.lasts e tried.orders_are took.serves)
+
+pub counted_few : (x y : Shared) (Answers : View → View → Edge → Type 0) (Work : View → Denoted → Type 0) (made : Result Edge Stop) (n : ℕ) → Tried Answers Work x y made → ((k : ℕ) → count x k ≤ n) → (k : ℕ) → count y k ≤ n
+counted_few x y Answers Work made n tried few k =
+    let a = ap (λ (f : ℕ → ℕ). f k) tried.lasts.counted in let b = ap (λ (f : ℕ → ℕ). f k) tried.ran.grown.counts in let c = few k in omega (arith, a, b, c)
+
+-- what the call makes is what the edge denotes
+listed-made : (k : Kind) (w w' : View) (e : Edge) (f : ℕ → ValueOf k) → Grown w w' → Denotes k w' e f → listed k w f ≡ listed_at k w' e
+listed-made k w w' e f grown is = sym (listed-on k w w' f grown) ∙ ap (listed k w') (sym (values_at-is k is))
+  where
+    listed-on : (k : Kind) (w w' : View) (f : ℕ → ValueOf k) → Grown w w' → listed k w' f ≡ listed k w f
+    listed-on kinds.Bdd w w' f grown = ap (λ n. Bdd (list_of (2 ^ n) f)) grown.vars
+    listed-on kinds.Add w w' f grown = ap (λ n. Add (list_of (2 ^ n) f)) grown.vars
+    listed-on kinds.Zdd w w' f grown = ap (λ n. Zdd (list_of (2 ^ n) f)) grown.elements
+
+pub answers_make : (k : Kind) (d e : Draws) (x y : Shared) (call : Call) (Answers : View → View → Edge → Type 0) (Work : View → Denoted → Type 0) (made : Result Edge Stop) (took : Took d e x) → d.holds ≡ false → (tried : Tried Answers Work x y made)
+    → HasValue k (Answers (view_of tried.from)) d (view_of tried.from) call
+    → (r : Result Edge Stop) → IfOk r (Answers (view_of tried.from) (view_of y)) → IfOk r (λ edge. Is k (view_of y) edge × Gives e call (makes (listed_at k (view_of y) edge)))
+answers_make k d e x y call Answers Work made took idle tried value (Err s) is = tt
+answers_make k d e x y call Answers Work made took idle tried value (Ok edge) is =
+    let denotes = value.2 (view_of y) edge is in (
+      Is-from k denotes,
+      gives_held d e x call (makes (listed_at k (view_of y) edge)) took idle (subst (λ (f : Function). Gives d call (makes f)) (listed-made k (view_of tried.from) (view_of y) edge value.0 tried.ran.grown denotes) value.1),
+    )
+
+pub may_full : (k : Kind) (d e : Draws) (x : Shared) (v : View) (call : Call) (Answers : View → Edge → Type 0) → Took d e x → d.holds ≡ false → HasValue k Answers d v call → MayBeFull e call
+may_full k d e x v call Answers took idle value t agrees = (makes (listed k v value.0), gives_held d e x call (makes (listed k v value.0)) took idle value.1 t agrees, refl)
+
+-- room for one more row
+pub max_spare : (spare : ℕ) → 1 ≤ max spare 1
+max_spare spare = omega arith
+
+pub spare_max : (spare : ℕ) → spare ≤ max spare 1
+spare_max spare = omega arith
+
+-- rows of which the room changed, and a seat that has the turn
+pub keeps_taken : (d e : Draws) (x : Shared) (rows rows' : RowMap) (calls fulls : ℕ) → Took d e x → Tied d rows → calls ≡ length d.entries → fulls ≡ fulls_in d.entries → rows'.live ≡ rows.live → rows'.adds ≡ rows.adds
+    → Tied e rows' × (calls ≡ length e.entries) × (fulls ≡ fulls_in e.entries)
+keeps_taken d e x rows rows' calls fulls took tied many full live adds =
+    let entries = ap (λ (z : Draws). z.entries) took.is in (
+      tied_same d e rows' (tied_room d rows rows' tied live adds) (ap (λ (z : Draws). z.rows) took.is) (ap (λ (z : Draws). z.adds) took.is) (let a = ap (λ (z : Draws). length z.entries) took.is in omega (arith, a)),
+      many ∙ sym (ap (λ (z : Draws). length z.entries) took.is),
+      full ∙ sym (ap (λ (z : Draws). fulls_in z.entries) took.is),
+    )
+
+pub counted_ok : (x y : Shared) (Answers : View → View → Edge → Type 0) (Work : View → Denoted → Type 0) (made : Result Edge Stop) (n : ℕ) → Tried Answers Work x y made → ((k : ℕ) → count x k ≤ n) → (r : Result Edge Stop) → IfOk r (λ edge. count y edge.index ≤ n)
+counted_ok x y Answers Work made n tried few (Ok edge) = counted_few x y Answers Work made n tried few edge.index
+counted_ok x y Answers Work made n tried few (Err s) = tt
+
+-- there was room, or room was made
+pub room_made : {X : Type 0} (r : Result X Memory) (rows rows' : RowMap) (spare : ℕ) → OnOk r (rows' ≡ record rows { spare = spare }) → is_err r ≡ false → (rows'.live ≡ rows.live) × (rows'.adds ≡ rows.adds) × (rows'.spare ≡ spare)
+room_made (Ok u) rows rows' spare is ok = (ap (λ (z : RowMap). z.live) is, ap (λ (z : RowMap). z.adds) is, ap (λ (z : RowMap). z.spare) is)
+room_made (Err m) rows rows' spare is ok = absurd (true≢false ok)
+
+-- a refusal leaves as much room as there was
+pub spare_kept : {X : Type 0} (r : Result X Refusal) (old reserved new : ℕ) → reserved ≡ max old 1 → MatchResult r (λ placed. new + 1 ≡ reserved) (λ refusal. new ≡ reserved) → MatchResult r (λ placed. Unit {0}) (λ refusal. old ≤ new)
+spare_kept (Ok placed) old reserved new is spare = tt
+spare_kept (Err refusal) old reserved new is spare = omega (arith, is, spare)

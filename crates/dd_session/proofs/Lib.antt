@@ -1,0 +1,14 @@
+pub mod Naming
+pub mod Serving
+pub mod Tellings
+pub mod Tying
+pub mod Tries
+pub mod Calls
+pub mod Outcomes
+pub mod OperationLaws
+pub mod Letting
+pub mod Ending
+pub mod Turning
+pub mod SessionLaws
+pub mod RestrictLaws
+pub mod WalkingLemmas

@@ -1,0 +1,111 @@
+-- What comes of the operations, by the edges of their rows.
+use Rattle.std.proofs.Common.{◌≡◌, ℕ, Bool, true, false, not, Option, Some, IsTrue, ◌↔◌, refl, ap, sym, subst, ◌∙◌, ◌<◌, arith, List, length}
+use Rattle.edge_bits.specs.Permanent.{true_slot, truth_edge}
+use Rattle.edge_bits.specs.declared.edges.Edge.{Edge}
+use Rattle.edge_bits.specs.declared.edges.Kind.{Kind}
+use Rattle.edge_bits.specs.declared.edges.Kind.TheVariants as kinds
+use Rattle.function_laws.specs.declared.history.Name.{Name}
+use Rattle.function_laws.specs.declared.history.Function.{Function}
+use Rattle.function_laws.specs.declared.history.Call.{Call}
+use Rattle.function_laws.specs.declared.history.Call.TheVariants as calls
+use Rattle.function_laws.specs.Steps.{compares, makes, outcome, shows, with_one}
+use Rattle.function_laws.specs.Tables.{Sizes, Table}
+use Rattle.function_laws.specs.Kinds.{BddFunction, flipped}
+use Rattle.function_laws.specs.Values.{assignment_of, constant, negation, projection}
+use Rattle.node_store.specs.Listed.{listed, listed_at, number_of}
+use Rattle.node_store.specs.Views.{View, Denotes, Is, bdd_at, levels, values_at}
+use Rattle.node_store.specs.ViewLaws.{Denotes-flip, Is-from, values_at-is}
+use Rattle.node_store.proofs.ListedLaws.{same-listed}
+use Rattle.node_store.proofs.Outcomes.{outcome-eval, outcome-same}
+use Rattle.seat_guard.specs.declared.view.Draws.{Draws}
+use Rattle.seat_guard.specs.Views.{Agrees, stands_for}
+use Rattle.shared_store.specs.declared.shared.Shared.{Shared}
+use Rattle.shared_store.specs.Sharing.{view_of, orders}
+use Rattle.ite_core.proofs.OutcomeLaws.{outcome-not, outcome-one, outcome-zero, outcome-var}
+use Rattle.shared_store.specs.Lasting.{Lasts}
+use Rattle.dd_session.specs.Requests.{truth_call}
+use Rattle.dd_session.specs.Turns.{Gives, IsEdgeOf, Stands}
+use Rattle.dd_session.specs.Walking.{IsOnVariables}
+use Rattle.dd_session.proofs.WalkingLemmas.{walk-levels}
+use Rattle.dd_session.proofs.Calls.{Took, gives_held, stands_of, stands_taken}
+
+module _ (d : Draws) where
+  -- what a row's name stands for, in a table that agrees
+  pub live : (t : Table) (name : Name) (f : Function) → Agrees d t → stands_for d.rows name ≡ Some f → t.live d.session name ≡ Some f
+  live t name f agrees stands = ap (λ (h : Name → Option Function). h name) agrees.live ∙ stands
+
+  pub vars : (t : Table) (x : Shared) → Agrees d t → Stands x d → t.sizes.variables ≡ (view_of x).vars
+  vars t x agrees stands = ap (λ (z : Sizes). z.variables) agrees.sizes_are ∙ sym (ap (λ (p : ℕ × ℕ). p.0) stands.counts_are)
+
+-- the calls on rows and cells
+module _ (old held : Draws) (x : Shared) (took : Took old held x) (idle : old.holds ≡ false) where
+  pub gives_copy : (k k' : Kind) (a : Name) (e : Edge) → k' ≡ k → IsEdgeOf k old a e → Gives held (calls.Copy a) (makes (listed_at k' (view_of x) e))
+  gives_copy k k' a e is edge = subst (λ (j : Kind). Gives held (calls.Copy a) (makes (listed_at j (view_of x) e))) (sym is) (gives_held old held x (calls.Copy a) (makes (listed_at k (view_of x) e)) took idle
+      (λ t agrees. ap (λ o. with_one o makes) (live old t a (listed_at k (view_of x) e) agrees (edge x (stands_taken old held x took)).1)))
+
+  pub is_kind : (k k' : Kind) (a : Name) (e : Edge) → k' ≡ k → IsEdgeOf k old a e → Is k' (view_of x) e
+  is_kind k k' a e is edge = subst (λ (j : Kind). Is j (view_of x) e) (sym is) (edge x (stands_taken old held x took)).0
+
+  -- a comparison
+  pub gives_same : (k : Kind) (a b : Name) (e i : Edge) → IsEdgeOf k old a e → IsEdgeOf k old b i → Gives held (calls.Same a b) (compares (listed_at k (view_of x) e) (listed_at k (view_of x) i))
+  gives_same k a b e i first second = gives_held old held x (calls.Same a b) (compares (listed_at k (view_of x) e) (listed_at k (view_of x) i)) took idle (λ t agrees.
+      outcome-same (view_of x) t.sizes t.cells (t.live old.session) k a b e i (live old t a (listed_at k (view_of x) e) agrees (first x (stands_taken old held x took)).1) (live old t b (listed_at k (view_of x) i) agrees (second x (stands_taken old held x took)).1))
+
+  pub same_told : (k : Kind) (a b : Name) (e i : Edge) (told : Bool) → IsEdgeOf k old a e → IsEdgeOf k old b i → IsTrue told ↔ (values_at k (view_of x) e ≡ values_at k (view_of x) i) → IsTrue told ↔ (listed_at k (view_of x) e ≡ listed_at k (view_of x) i)
+  same_told k a b e i told first second is = let s = stands_taken old held x took in
+      ((λ yes. ap (listed k (view_of x)) (is.0 yes)), (λ same. is.1 (same-listed k (view_of x) (values_at k (view_of x) e) (values_at k (view_of x) i) (first x s).0.beyond (second x s).0.beyond same)))
+
+  -- what the name stands for as the turn was taken
+  pub stands_held_as : (k : Kind) (a : Name) (e : Edge) → IsEdgeOf k old a e → stands_for held.rows a ≡ Some (listed_at k (view_of x) e)
+  stands_held_as k a e edge = ap (λ (z : Draws). stands_for z.rows a) took.is ∙ (edge x (stands_taken old held x took)).1
+
+-- the complement of a row
+pub gives_not : (old held : Draws) (x : Shared) → Took old held x → old.holds ≡ false → (a : Name) (e e' : Edge) → e' ≡ record e { complement = not e.complement } → IsEdgeOf kinds.Bdd old a e
+    → Is kinds.Bdd (view_of x) e' × Gives held (calls.Not a) (makes (listed_at kinds.Bdd (view_of x) e'))
+gives_not old held x took idle a e e' is edge =
+    let s = edge x (stands_taken old held x took) in
+    let w = view_of x in
+    let denotes : Denotes kinds.Bdd w e' (negation (bdd_at w e)) = subst (λ (i : Edge). Denotes kinds.Bdd w i (negation (bdd_at w e))) (sym is) (Denotes-flip s.0) in (
+      Is-from kinds.Bdd denotes,
+      gives_held old held x (calls.Not a) (makes (listed_at kinds.Bdd w e')) took idle
+          (λ t agrees. outcome-not w t.sizes t.cells (t.live old.session) a e (live old t a (listed_at kinds.Bdd w e) agrees s.1) ∙ ap (λ (f : ℕ → Bool). Some (makes (listed kinds.Bdd w f))) (sym (values_at-is kinds.Bdd denotes))),
+    )
+
+-- the constants
+pub truth_denotes : (w : View) (b : Bool) → w.content true_slot ≡ Some (BddFunction (constant true)) → Denotes kinds.Bdd w (truth_edge b) (constant b)
+truth_denotes w true is = record { is = is; beyond = λ v from k c. refl; fits = tt }
+truth_denotes w false is = record { is = ap (flipped true) is; beyond = λ v from k c. refl; fits = tt }
+
+pub gives_truth : (old held : Draws) (x : Shared) → Took old held x → old.holds ≡ false → (b : Bool) (call : Call) → (view_of x).content true_slot ≡ Some (BddFunction (constant true)) → call ≡ truth_call b
+    → Gives held call (makes (listed_at kinds.Bdd (view_of x) (truth_edge b)))
+gives_truth old held x took idle b call sound is =
+    subst (λ (y : Call). Gives held y (makes (listed_at kinds.Bdd (view_of x) (truth_edge b)))) (sym is)
+    (gives_held old held x (truth_call b) (makes (listed_at kinds.Bdd (view_of x) (truth_edge b))) took idle
+    (λ t agrees. by b t (vars old t x agrees (stands_taken old held x took)) ∙ ap (λ (f : ℕ → Bool). Some (makes (listed kinds.Bdd (view_of x) f))) (sym (values_at-is kinds.Bdd (truth_denotes (view_of x) b sound)))))
+  where
+    by : (b : Bool) (t : Table) → t.sizes.variables ≡ (view_of x).vars → outcome t old.session (truth_call b) ≡ Some (makes (listed kinds.Bdd (view_of x) (constant b)))
+    by true t vars = outcome-one (view_of x) t.sizes t.cells (t.live old.session) vars
+    by false t vars = outcome-zero (view_of x) t.sizes t.cells (t.live old.session) vars
+
+-- a projection
+pub gives_var : (old held : Draws) (x y : Shared) → Took old held x → old.holds ≡ false → Lasts x y → orders y ≡ orders x → (v : ℕ) (e : Edge) → v < old.vars → Denotes kinds.Bdd (view_of y) e (projection v)
+    → Gives held (calls.Var v) (makes (listed_at kinds.Bdd (view_of y) e))
+gives_var old held x y took idle lasts same v e lt denotes =
+    let stands = stands_of old held x y took lasts same in
+    let within : v < (view_of y).vars = (let n = ap (λ (p : ℕ × ℕ). p.0) stands.counts_are in omega (arith, n, lt)) in
+    gives_held old held x (calls.Var v) (makes (listed_at kinds.Bdd (view_of y) e)) took idle
+    (λ t agrees. outcome-var (view_of y) t.sizes t.cells (t.live old.session) (vars old t y agrees stands) v within ∙ ap (λ (f : ℕ → Bool). Some (makes (listed kinds.Bdd (view_of y) f))) (sym (values_at-is kinds.Bdd denotes)))
+
+-- the value at some bits
+pub elements : (d : Draws) (t : Table) (x : Shared) → Agrees d t → Stands x d → t.sizes.elements ≡ (view_of x).elements
+elements d t x agrees stands = ap (λ (z : Sizes). z.elements) agrees.sizes_are ∙ sym (ap (λ (p : ℕ × ℕ). p.1) stands.counts_are)
+
+pub walked_bits : (old held : Draws) (x : Shared) → Took old held x → (k : Kind) → IsOnVariables k → (bits : List Bool) → length bits ≡ old.vars → length bits ≡ levels k (view_of x)
+walked_bits old held x took k on bits long = long ∙ sym (ap (λ (p : ℕ × ℕ). p.0) (stands_taken old held x took).counts_are) ∙ sym (walk-levels k (view_of x) on)
+
+pub gives_eval : (old held : Draws) (x : Shared) → Took old held x → old.holds ≡ false → (k : Kind) → IsOnVariables k → (a : Name) (e : Edge) (bits : List Bool) → length bits ≡ old.vars → IsEdgeOf k old a e
+    → Gives held (calls.Eval a bits) (shows (number_of k (values_at k (view_of x) e (assignment_of bits))))
+gives_eval old held x took idle k on a e bits long edge =
+    let s = stands_taken old held x took in
+    gives_held old held x (calls.Eval a bits) (shows (number_of k (values_at k (view_of x) e (assignment_of bits)))) took idle
+    (λ t agrees. outcome-eval (view_of x) t.sizes t.cells (t.live old.session) (vars old t x agrees s) (elements old t x agrees s) k a bits e (walked_bits old held x took k on bits long) (live old t a (listed_at k (view_of x) e) agrees (edge x s).1))

@@ -1,0 +1,447 @@
+-- What each call may tell, and what it then is for its caller.
+use Rattle.std.proofs.Common.{◌≡◌, ◌≢◌, ℕ, zero, suc, ◌+◌, ◌<◌, ◌≤◌, ◌^◌, Bool, true, false, cond, ◌&&◌, ◌||◌, ◌==◌, List, [], ◌∷◌, ◌++◌, length, set, Option, Some, None, IsTrue, ◌↔◌, refl, ap, ap₂, sym, subst, ◌∙◌, arith, eq-eqb, ne_eqb, ℤ}
+use Rattle.std.specs.Prelude.{slice_get, nat_lt, All, Contains}
+use Rattle.std.proofs.Math.ListN.{length-set}
+use Rattle.std.proofs.lemmas.Bool.{lt-ltb}
+use mathlib.Core.Logic.{dite}
+use native.Mathlib.Decide.{ℕ_discrete}
+use Rattle.edge_bits.specs.declared.edges.Edge.{Edge}
+use Rattle.edge_bits.specs.declared.edges.Kind.{Kind}
+use Rattle.edge_bits.specs.declared.edges.Kind.TheVariants as kinds
+use Rattle.function_laws.specs.declared.history.Name.{Name}
+use Rattle.function_laws.specs.declared.history.Function.{Function}
+use Rattle.function_laws.specs.declared.history.Function.TheVariants.{Bdd}
+use Rattle.function_laws.specs.declared.history.Call.{Call}
+use Rattle.function_laws.specs.declared.history.Call.TheVariants as calls
+use Rattle.function_laws.specs.declared.history.Reply.{Reply}
+use Rattle.function_laws.specs.declared.history.Reply.TheVariants as replies
+use Rattle.function_laws.specs.declared.history.Entry.{Entry}
+use Rattle.function_laws.specs.Kinds.{Denoted}
+use Rattle.function_laws.specs.Sizes.{Orders}
+use Rattle.function_laws.specs.EntryOrders.{orders_after}
+use Rattle.function_laws.specs.Tables.{Table, same_name, with_name}
+use Rattle.function_laws.specs.Steps.{Outcome, makes, restricts, fetches, compares, tells, shows, is_done, may_be_full, with_result, with_one, when, from_cell}
+use Rattle.node_store.specs.Listed.{listed_at}
+use Rattle.node_store.specs.Views.{View, Is, values_at}
+use Rattle.handle_count.specs.declared.rows.Held.{Held as Live}
+use Rattle.handle_count.specs.RowMaps.{IsWithOne}
+use Rattle.seat_guard.specs.declared.view.Held.{Held}
+use Rattle.seat_guard.specs.declared.view.Row.{Row}
+use Rattle.seat_guard.specs.declared.view.Change.TheVariants.{Nothing, Adds, Takes, Posts}
+use Rattle.seat_guard.specs.declared.view.Telling.{Telling}
+use Rattle.seat_guard.specs.declared.view.Leaving.{Leaving}
+use Rattle.seat_guard.specs.declared.view.Draws.{Draws}
+use Rattle.seat_guard.specs.Sifted.{carried_by}
+use Rattle.seat_guard.specs.Views.{Agrees, AreTold, MayTell, told_of, letting_go, orders_of, stands_for, without, cell_in, function_in}
+use Rattle.shared_store.specs.declared.shared.Cell.{Cell}
+use Rattle.shared_store.specs.declared.shared.Shared.{Shared}
+use Rattle.shared_store.specs.Lasting.{IsRecounted}
+use Rattle.shared_store.specs.Sharing.{count, due, held_of, keeps, view_of, whole_of}
+use Rattle.shared_store.proofs.Keeping.{kind-listed}
+use Rattle.shared_store.proofs.Stored.{functions-recounted}
+use Rattle.shared_store.specs.Storing.{IsLeaving}
+use Rattle.dd_session.specs.declared.request.Request.{Request}
+use Rattle.dd_session.specs.declared.request.Request.TheVariants as requests
+use Rattle.dd_session.specs.declared.request.Adding.{Adding}
+use Rattle.dd_session.specs.declared.request.Adding.TheVariants.{Made, Chosen, Taken}
+use Rattle.dd_session.specs.declared.request.Answer.{Answer}
+use Rattle.dd_session.specs.declared.request.Answer.TheVariants.{Added, Dropped, Posted, Truth, Value, Done, Full}
+use Rattle.dd_session.specs.Requests.{added_as, call_of, is_refusal, reply_of, truths_of}
+use Rattle.dd_session.specs.Sessions.{fulls_in, is_full}
+use Rattle.dd_session.specs.Turns.{AddsRow, Chooses, Drew, Gives, MayBeFull, Notes, live_as}
+use Rattle.dd_session.proofs.Naming.{cond_none, same_name-eq}
+use Rattle.dd_session.proofs.Serving.{KnowsAs, listed-on}
+
+-- no call here carries functions
+pub carries_none : (r : Request) → carried_by (call_of r) ≡ []
+carries_none requests.One = refl
+carries_none requests.Zero = refl
+carries_none (requests.Var v) = refl
+carries_none (requests.Not a) = refl
+carries_none (requests.And a b) = refl
+carries_none (requests.Or a b) = refl
+carries_none (requests.Xor a b) = refl
+carries_none (requests.Ite a b c) = refl
+carries_none (requests.Cofactor a v bit) = refl
+carries_none (requests.Exists a vars) = refl
+carries_none (requests.Forall a vars) = refl
+carries_none (requests.AndExists a b vars) = refl
+carries_none (requests.Compose a v b) = refl
+carries_none (requests.VectorCompose a pairs) = refl
+carries_none (requests.Restrict a b) = refl
+carries_none (requests.Support a) = refl
+carries_none (requests.Copy a) = refl
+carries_none (requests.DropRow a) = refl
+carries_none (requests.Same a b) = refl
+carries_none (requests.Leq a b) = refl
+carries_none (requests.Eval a bits) = refl
+carries_none (requests.Post i a) = refl
+carries_none (requests.Fetch i a) = refl
+carries_none requests.Sweep = refl
+
+-- nor changes an order
+pub orders_stay : (o : Orders) (r : Request) (reply : Reply) → ((name : Name) (n : ℕ) → reply ≡ replies.Numbered name n → ⊥) → orders_after o (call_of r) reply ≡ o
+orders_stay o r (replies.Made name) plain = refl
+orders_stay o r (replies.Chose name g) plain = refl
+orders_stay o r (replies.Fetched name posted) plain = refl
+orders_stay o r (replies.Numbered name n) plain = absurd (plain name n refl)
+orders_stay o r (replies.Truth b) plain = refl
+orders_stay o r (replies.Value z) plain = refl
+orders_stay o r replies.Overflow plain = refl
+orders_stay o r replies.Most plain = refl
+orders_stay o r (replies.Full a b) plain = refl
+orders_stay o requests.One replies.Done plain = refl
+orders_stay o requests.Zero replies.Done plain = refl
+orders_stay o (requests.Var v) replies.Done plain = refl
+orders_stay o (requests.Not a) replies.Done plain = refl
+orders_stay o (requests.And a b) replies.Done plain = refl
+orders_stay o (requests.Or a b) replies.Done plain = refl
+orders_stay o (requests.Xor a b) replies.Done plain = refl
+orders_stay o (requests.Ite a b c) replies.Done plain = refl
+orders_stay o (requests.Cofactor a v bit) replies.Done plain = refl
+orders_stay o (requests.Exists a vars) replies.Done plain = refl
+orders_stay o (requests.Forall a vars) replies.Done plain = refl
+orders_stay o (requests.AndExists a b vars) replies.Done plain = refl
+orders_stay o (requests.Compose a v b) replies.Done plain = refl
+orders_stay o (requests.VectorCompose a pairs) replies.Done plain = refl
+orders_stay o (requests.Restrict a b) replies.Done plain = refl
+orders_stay o (requests.Support a) replies.Done plain = refl
+orders_stay o (requests.Copy a) replies.Done plain = refl
+orders_stay o (requests.DropRow a) replies.Done plain = refl
+orders_stay o (requests.Same a b) replies.Done plain = refl
+orders_stay o (requests.Leq a b) replies.Done plain = refl
+orders_stay o (requests.Eval a bits) replies.Done plain = refl
+orders_stay o (requests.Post i a) replies.Done plain = refl
+orders_stay o (requests.Fetch i a) replies.Done plain = refl
+orders_stay o requests.Sweep replies.Done plain = refl
+
+no_number : (w : View) (adding : Adding) (name : Name) (cell : Cell) (r : Name) (n : ℕ) → added_as w adding name cell ≡ replies.Numbered r n → ⊥
+no_number w Made name cell r n e = cc
+no_number w Chosen name cell r n e = cc
+no_number w (Taken posted) name cell r n e = cc
+
+none_and : (b : Bool) → (b && false) ≡ false
+none_and true = refl
+none_and false = refl
+
+abbrev adds : Call → Reply → Name → Held → Telling
+adds call reply name held = record { call = call; reply = reply; change = Adds (record { name = name; held = held }) }
+
+-- a table with one name more agrees with one row more
+agrees_made : (d : Draws) (t : Table) (name : Name) (held : Held) (call : Call) (reply : Reply) → Agrees d t → name.generation ≡ d.adds → Agrees (told_of d 0 (adds call reply name held)) (with_name t d.session name held.function)
+agrees_made d t name held call reply agrees is = let here = eq-eqb d.session d.session refl in record {
+  sizes_are = agrees.sizes_are;
+  live = λ i other. cond (here i && same_name other name) (Some held.function) (agrees.live i other);
+  fresh = λ other le.
+      let apart : same_name other name ≡ false = ap (λ b. (other.row == name.row) && b) (ne_eqb other.generation name.generation (λ e. omega (arith, e, is, le))) ∙ none_and (other.row == name.row) in
+      ap (λ b. b || t.given d.session other) (ap (λ b. (d.session == d.session) && b) apart ∙ none_and (d.session == d.session)) ∙ agrees.fresh other (omega (arith, le));
+  cells = agrees.cells;
+}
+
+-- a call that adds a row
+module _ (d : Draws) (w : View) (r : Request) (name : Name) (cell : Cell) (new : name.generation ≡ d.adds) (few : length d.rows < 2 ^ 25) where
+  abbrev held : Held
+  held = held_of w cell
+
+  may_make : Gives d (call_of r) (makes held.function) → MayTell d (adds (call_of r) (replies.Made name) name held)
+  may_make is_outcome = record {
+    plain = refl;
+    step = λ t agrees. let is = is_outcome t agrees in (
+      (makes held.function, is, agrees.fresh name (omega (arith, new))),
+      subst (λ (u : Table). Agrees (told_of d 0 (adds (call_of r) (replies.Made name) name held)) u) (sym (ap (with_result t d.session name) is)) (agrees_made d t name held (call_of r) (replies.Made name) agrees new),
+    );
+    carries = subst (λ (l : List Function). Rattle.function_laws.specs.SessionEntries.Each (Rattle.seat_guard.specs.Sifted.IsKnown d) l) (sym (carries_none r)) tt;
+    room = few;
+  }
+
+  may_fetch : (posted : Bool) → Gives d (call_of r) (fetches held.function posted) → MayTell d (adds (call_of r) (replies.Fetched name posted) name held)
+  may_fetch posted is_outcome = record {
+    plain = refl;
+    step = λ t agrees. let is = is_outcome t agrees in (
+      (fetches held.function posted, is, (agrees.fresh name (omega (arith, new)), refl)),
+      subst (λ (u : Table). Agrees (told_of d 0 (adds (call_of r) (replies.Fetched name posted) name held)) u) (sym (ap (with_result t d.session name) is)) (agrees_made d t name held (call_of r) (replies.Fetched name posted) agrees new),
+    );
+    carries = subst (λ (l : List Function). Rattle.function_laws.specs.SessionEntries.Each (Rattle.seat_guard.specs.Sifted.IsKnown d) l) (sym (carries_none r)) tt;
+    room = few;
+  }
+
+-- what a BDD is told as is its function
+whole_truths : (w : View) (cell : Cell) → cell.kind ≡ kinds.Bdd → Bdd (truths_of (listed_at cell.kind w cell.edge)) ≡ listed_at cell.kind w cell.edge
+whole_truths w cell is = subst (λ (k : Kind). Bdd (truths_of (listed_at k w cell.edge)) ≡ listed_at k w cell.edge) (sym is) refl
+
+pub may_add : (d : Draws) (w : View) (r : Request) (adding : Adding) (name : Name) (cell : Cell) → name.generation ≡ d.adds → length d.rows < 2 ^ 25 → AddsRow d w (call_of r) adding cell
+    → MayTell d (record { call = call_of r; reply = added_as w adding name cell; change = Adds (record { name = name; held = held_of w cell }) })
+may_add d w r Made name cell new few gives = may_make d w r name cell new few gives
+may_add d w r (Taken posted) name cell new few gives = may_fetch d w r name cell new few posted gives
+may_add d w r Chosen name cell new few gives = let g = truths_of (listed_at cell.kind w cell.edge) in let held = held_of w cell in let c = gives.1 in record {
+  plain = refl;
+  step = λ t agrees. let is = c.gives t agrees in (
+    (restricts c.f c.c, is, (agrees.fresh name (omega (arith, new)), c.long, c.says)),
+    subst (λ (f : Function). Agrees (told_of d 0 (adds (call_of r) (replies.Chose name g) name held)) (with_name t d.session name f)) (sym (whole_truths w cell gives.0)) (agrees_made d t name held (call_of r) (replies.Chose name g) agrees new),
+  );
+  carries = subst (λ (l : List Function). Rattle.function_laws.specs.SessionEntries.Each (Rattle.seat_guard.specs.Sifted.IsKnown d) l) (sym (carries_none r)) tt;
+  room = few;
+}
+
+-- and what the seat then knows
+pub knows_added : (d : Draws) (w : View) (r : Request) (adding : Adding) (name : Name) (cell : Cell) → let x : Telling = record { call = call_of r; reply = added_as w adding name cell; change = Adds (record { name = name; held = held_of w cell }) } in
+    KnowsAs d (told_of d 0 x) (record { name = name; held = held_of w cell } ∷ d.rows) d.cells
+knows_added d w r adding name cell = record {
+  rows_are = refl;
+  cells_are = refl;
+  others_are = refl;
+  counts_are = (refl, refl);
+  orders_are = orders_stay (orders_of d) r (added_as w adding name cell) (no_number w adding name cell);
+}
+
+-- a call that changes nothing
+abbrev pub quiet : Call → Reply → Telling
+quiet call reply = record { call = call; reply = reply; change = Nothing }
+
+agrees_quiet : (d : Draws) (t : Table) (call : Call) (reply : Reply) → Agrees d t → Agrees (told_of d 0 (quiet call reply)) t
+agrees_quiet d t call reply agrees = record { sizes_are = agrees.sizes_are; live = agrees.live; fresh = agrees.fresh; cells = agrees.cells }
+
+pub may_be_refused : (d : Draws) (r : Request) (in_use need : ℕ) → IsTrue (may_be_full (call_of r)) → MayBeFull d (call_of r) → MayTell d (quiet (call_of r) (replies.Full in_use need))
+may_be_refused d r in_use need may is_outcome = record {
+  plain = refl;
+  step = λ t agrees. let o = is_outcome t agrees in ((o.0, o.1, o.2, may), agrees_quiet d t (call_of r) (replies.Full in_use need) agrees);
+  carries = subst (λ (l : List Function). Rattle.function_laws.specs.SessionEntries.Each (Rattle.seat_guard.specs.Sifted.IsKnown d) l) (sym (carries_none r)) tt;
+  room = tt;
+}
+
+-- a truth that is told, of a comparison or of a test
+pub may_compare : (d : Draws) (r : Request) (f g : Function) (told : Bool) → IsTrue told ↔ (f ≡ g) → Gives d (call_of r) (compares f g) → MayTell d (quiet (call_of r) (replies.Truth told))
+may_compare d r f g told iff is_outcome = record {
+  plain = refl;
+  step = λ t agrees. ((compares f g, is_outcome t agrees, iff), agrees_quiet d t (call_of r) (replies.Truth told) agrees);
+  carries = subst (λ (l : List Function). Rattle.function_laws.specs.SessionEntries.Each (Rattle.seat_guard.specs.Sifted.IsKnown d) l) (sym (carries_none r)) tt;
+  room = tt;
+}
+
+pub may_tell_truth : (d : Draws) (r : Request) (b told : Bool) → told ≡ b → Gives d (call_of r) (tells b) → MayTell d (quiet (call_of r) (replies.Truth told))
+may_tell_truth d r b told is is_outcome = record {
+  plain = refl;
+  step = λ t agrees. ((tells b, is_outcome t agrees, is), agrees_quiet d t (call_of r) (replies.Truth told) agrees);
+  carries = subst (λ (l : List Function). Rattle.function_laws.specs.SessionEntries.Each (Rattle.seat_guard.specs.Sifted.IsKnown d) l) (sym (carries_none r)) tt;
+  room = tt;
+}
+
+pub may_show : (d : Draws) (r : Request) (x told : ℤ) → told ≡ x → Gives d (call_of r) (shows x) → MayTell d (quiet (call_of r) (replies.Value told))
+may_show d r x told is is_outcome = record {
+  plain = refl;
+  step = λ t agrees. ((shows x, is_outcome t agrees, is), agrees_quiet d t (call_of r) (replies.Value told) agrees);
+  carries = subst (λ (l : List Function). Rattle.function_laws.specs.SessionEntries.Each (Rattle.seat_guard.specs.Sifted.IsKnown d) l) (sym (carries_none r)) tt;
+  room = tt;
+}
+
+pub may_sweep : (d : Draws) → MayTell d (quiet calls.Sweep replies.Done)
+may_sweep d = record {
+  plain = refl;
+  step = λ t agrees. ((is_done, refl, tt), agrees_quiet d t calls.Sweep replies.Done agrees);
+  carries = tt;
+  room = tt;
+}
+
+pub knows_quiet : (d : Draws) (r : Request) (reply : Reply) → ((name : Name) (n : ℕ) → reply ≡ replies.Numbered name n → ⊥) → KnowsAs d (told_of d 0 (quiet (call_of r) reply)) d.rows d.cells
+knows_quiet d r reply plain = record { rows_are = refl; cells_are = refl; others_are = refl; counts_are = (refl, refl); orders_are = orders_stay (orders_of d) r reply plain }
+
+-- a post puts a function into a cell
+pub may_post : (d : Draws) (i : ℕ) (a : Name) (held : Held) → i < 256 → length d.cells ≡ 256 → stands_for d.rows a ≡ Some held.function
+    → MayTell d (record { call = calls.Post i a; reply = replies.Done; change = Posts i held })
+may_post d i a held within len is = record {
+  plain = refl;
+  step = λ t agrees.
+      let live : t.live d.session a ≡ Some held.function = ap (λ (h : Name → Option Function). h a) agrees.live ∙ is in
+      let there : slice_get (set d.cells i (Some held)) i ≡ Some (Some held) = get-set_same d.cells (Some held) i (omega (arith, within, len)) in
+      let each : d.holds ≡ true → (k : ℕ) → cond (k == i) (t.live d.session a) (t.cells k) ≡ cell_in (set d.cells i (Some held)) k =
+      λ h k. dite (ℕ_discrete k i)
+      (λ same. ap (λ b. cond b (t.live d.session a) (t.cells k)) (eq-eqb k i same) ∙ live ∙ sym (ap (λ (j : ℕ). cell_in (set d.cells i (Some held)) j) same ∙ ap function_in there))
+      (λ other. ap (λ b. cond b (t.live d.session a) (t.cells k)) (ne_eqb k i other) ∙ ap (λ (f : ℕ → Option Function). f k) (agrees.cells h).0 ∙ sym (ap function_in (get-set_other d.cells (Some held) i k other))) in (
+        (
+          is_done,
+          ap (λ b. when b (with_one (t.live d.session a) (λ f. is_done))) (lt-ltb i 256 within) ∙ ap (λ o. with_one o (λ f. is_done)) live,
+          tt,
+        ),
+        record {
+          sizes_are = agrees.sizes_are;
+          live = agrees.live;
+          fresh = agrees.fresh;
+          cells = λ h. ((λ j k. each h k j), length-set d.cells i (Some held) ∙ len);
+        },
+      );
+  carries = tt;
+  room = tt;
+}
+  where
+    get-set_same : {X : Type 0} (xs : List X) (y : X) (i : ℕ) → i < length xs → slice_get (set xs i y) i ≡ Some y
+    get-set_same [] y i below = absurd (omega arith)
+    get-set_same (x ∷ xs) y zero below = refl
+    get-set_same (x ∷ xs) y (suc i) below = get-set_same xs y i (omega arith)
+
+    get-set_other : {X : Type 0} (xs : List X) (y : X) (i j : ℕ) → j ≢ i → slice_get (set xs i y) j ≡ slice_get xs j
+    get-set_other [] y i j apart = refl
+    get-set_other (x ∷ xs) y zero zero apart = absurd (apart refl)
+    get-set_other (x ∷ xs) y zero (suc j) apart = refl
+    get-set_other (x ∷ xs) y (suc i) zero apart = refl
+    get-set_other (x ∷ xs) y (suc i) (suc j) apart = get-set_other xs y i j (λ e. apart (ap suc e))
+
+-- a row is dropped
+pub may_drop : (d : Draws) (a : Name) (f : Function) → stands_for d.rows a ≡ Some f → MayTell d (record { call = calls.DropRow a; reply = replies.Done; change = Takes a })
+may_drop d a f is = record {
+  plain = refl;
+  step = λ t agrees. (
+    (is_done, ap (λ o. with_one o (λ f. is_done)) (ap (λ (h : Name → Option Function). h a) agrees.live ∙ is), tt),
+    record {
+      sizes_are = agrees.sizes_are;
+      live = λ i name. each t agrees name i;
+      fresh = agrees.fresh;
+      cells = agrees.cells;
+    },
+  );
+  carries = tt;
+  room = tt;
+}
+  where
+    same_back : (a b : Name) → same_name a b ≡ same_name b a
+    same_back a b = ap₂ (λ x y. x && y) (eqb-back a.row b.row) (eqb-back a.generation b.generation)
+      where
+        eqb-back : (m n : ℕ) → (m == n) ≡ (n == m)
+        eqb-back m n = dite (ℕ_discrete m n) (λ e. eq-eqb m n e ∙ sym (eq-eqb n m (sym e))) (λ e. ne_eqb m n e ∙ sym (ne_eqb n m (λ s. e (sym s))))
+
+    stands-without : (rows : List Row) (name : Name) → stands_for (without a rows) name ≡ cond (same_name name a) None (stands_for rows name)
+    stands-without [] name = cond_none Function (same_name name a)
+    stands-without (row ∷ rows) name = by (same_name row.name a) refl (same_name name row.name) refl (same_name name a) refl (stands-without rows name)
+      where
+        by : (p : Bool) → same_name row.name a ≡ p → (q : Bool) → same_name name row.name ≡ q → (s : Bool) → same_name name a ≡ s → stands_for (without a rows) name ≡ cond (same_name name a) None (stands_for rows name)
+            → stands_for (cond (same_name row.name a) (without a rows) (row ∷ without a rows)) name ≡ cond (same_name name a) None (cond (same_name name row.name) (Some row.held.function) (stands_for rows name))
+        by true gone true here true is rest = ap (λ b. stands_for (cond b (without a rows) (row ∷ without a rows)) name) gone ∙ rest ∙ ap (λ b. cond b None (stands_for rows name)) is ∙ sym (ap (λ b. cond b None (cond (same_name name row.name) (Some row.held.function) (stands_for rows name))) is)
+        by true gone true here false is rest = absurd (let e : row.name ≡ a = same_name-eq row.name a gone in let x : same_name name a ≡ true = subst (λ (n : Name). same_name name n ≡ true) e here in let z : true ≡ false = sym x ∙ is in cc)
+        by true gone false other s is rest = ap (λ b. stands_for (cond b (without a rows) (row ∷ without a rows)) name) gone ∙ rest ∙ sym (ap (λ b. cond (same_name name a) None (cond b (Some row.held.function) (stands_for rows name))) other)
+        by false stays true here true is rest = absurd (let e : name ≡ row.name = same_name-eq name row.name here in let x : same_name row.name a ≡ true = subst (λ (n : Name). same_name n a ≡ true) e is in let z : true ≡ false = sym x ∙ stays in cc)
+        by false stays true here false is rest = ap (λ b. stands_for (cond b (without a rows) (row ∷ without a rows)) name) stays ∙ ap (λ b. cond b (Some row.held.function) (stands_for (without a rows) name)) here ∙ sym (ap₂ (λ b c. cond b None (cond c (Some row.held.function) (stands_for rows name))) is here)
+        by false stays false other s is rest = ap (λ b. stands_for (cond b (without a rows) (row ∷ without a rows)) name) stays ∙ ap (λ b. cond b (Some row.held.function) (stands_for (without a rows) name)) other ∙ rest ∙ sym (ap (λ b. cond (same_name name a) None (cond b (Some row.held.function) (stands_for rows name))) other)
+
+    each : (t : Table) → Agrees d t → (name : Name) → cond ((d.session == d.session) && same_name name a) None (t.live d.session name) ≡ stands_for (without a d.rows) name
+    each t agrees name =
+        ap (λ b. cond (b && same_name name a) None (t.live d.session name)) (eq-eqb d.session d.session refl) ∙ ap (cond (same_name name a) None) (ap (λ (h : Name → Option Function). h name) agrees.live) ∙ sym (stands-without d.rows name)
+
+-- what a fetch finds
+pub outcome-of_fetch : (d : Draws) (i : ℕ) (a : Name) (f : Function) (o : Outcome) → i < 256 → d.holds ≡ true → stands_for d.rows a ≡ Some f → from_cell (cell_in d.cells i) f ≡ o → Gives d (calls.Fetch i a) o
+outcome-of_fetch d i a f o within holds is found t agrees =
+    let live : t.live d.session a ≡ Some f = ap (λ (h : Name → Option Function). h a) agrees.live ∙ is in
+    ap (λ b. when b (with_one (t.live d.session a) (from_cell (t.cells i)))) (lt-ltb i 256 within)
+    ∙ ap (λ x. with_one x (from_cell (t.cells i))) live
+    ∙ ap (λ (cells : ℕ → Option Function). Some (from_cell (cells i) f)) (agrees.cells holds).0
+    ∙ ap Some found
+
+-- refused calls
+
+pub is_full-reply : (w : View) (answer : Answer) → is_full (reply_of w answer) ≡ is_refusal answer
+is_full-reply w (Added Made name cell) = refl
+is_full-reply w (Added Chosen name cell) = refl
+is_full-reply w (Added (Taken posted) name cell) = refl
+is_full-reply w (Dropped name) = refl
+is_full-reply w (Posted i cell) = refl
+is_full-reply w (Truth told) = refl
+is_full-reply w (Value x) = refl
+is_full-reply w Done = refl
+is_full-reply w (Full in_use need) = refl
+
+pub fulls-append : (es : List Entry) (e : Entry) → fulls_in (es ++ e ∷ []) ≡ fulls_in es + is_full e.reply
+fulls-append [] e = omega arith
+fulls-append (x ∷ es) e = let r = fulls-append es e in omega (arith, r)
+
+is_full-most : (r : Reply) → is_full r ≤ 1
+is_full-most (replies.Made name) = omega arith
+is_full-most (replies.Chose name g) = omega arith
+is_full-most (replies.Fetched name posted) = omega arith
+is_full-most (replies.Numbered name n) = omega arith
+is_full-most replies.Done = omega arith
+is_full-most (replies.Truth b) = omega arith
+is_full-most (replies.Value z) = omega arith
+is_full-most replies.Overflow = omega arith
+is_full-most replies.Most = omega arith
+is_full-most (replies.Full a b) = omega arith
+
+pub fulls-most : (es : List Entry) → fulls_in es ≤ length es
+fulls-most [] = omega arith
+fulls-most (e ∷ es) = let a = is_full-most e.reply in let b = fulls-most es in omega (arith, a, b)
+
+pub refusal-most : (answer : Answer) → is_refusal answer ≤ 1
+refusal-most (Added adding name cell) = omega arith
+refusal-most (Dropped name) = omega arith
+refusal-most (Posted i cell) = omega arith
+refusal-most (Truth told) = omega arith
+refusal-most (Value x) = omega arith
+refusal-most Done = omega arith
+refusal-most (Full in_use need) = omega arith
+
+-- a turn in which a place was drawn
+pub drew_turn : (d told left : Draws) (y : Shared) (x : Telling) (place : ℕ) → MayTell d x → All (λ (e : Entry). e.place < place) d.entries → told ≡ told_of d place x → (l : Leaving) × (left ≡ letting_go told l) × IsLeaving told y l → Drew d left y x place
+drew_turn d told left y x place may later is gave = record {
+  may = may;
+  later = later;
+  leaving = gave.0;
+  is_leaving = by (subst (λ (t : Draws). IsLeaving t y gave.0) is gave.2);
+  left = gave.1 ∙ ap (λ (t : Draws). letting_go t gave.0) is;
+}
+  where
+    by : IsLeaving (told_of d place x) y gave.0 → IsLeaving d y gave.0
+    by l = record { told = l.told; new = l.new; due_is = l.due_is }
+
+-- counts that change change nothing else
+module _ (x y : Shared) (view : view_of y ≡ record (view_of x) { count = count y }) where
+  pub listed-same : (k : Kind) (e : Edge) → listed_at k (view_of y) e ≡ listed_at k (view_of x) e
+  listed-same k e = ap (λ (w : View). listed_at k w e) view ∙ listed-on k (view_of x) (count y) e
+
+  pub adds-on : (d : Draws) (call : Call) (adding : Adding) (cell : Cell) → AddsRow d (view_of x) call adding cell → AddsRow d (view_of y) call adding cell
+  adds-on d call Made cell gives = subst (λ (f : Function). Gives d call (makes f)) (sym (listed-same cell.kind cell.edge)) gives
+  adds-on d call Chosen cell gives = subst (λ (f : Function). (cell.kind ≡ kinds.Bdd) × Chooses d call (truths_of f)) (sym (listed-same cell.kind cell.edge)) gives
+  adds-on d call (Taken posted) cell gives = subst (λ (f : Function). Gives d call (fetches f posted)) (sym (listed-same cell.kind cell.edge)) gives
+
+  pub added-reply : (adding : Adding) (name : Name) (cell : Cell) → added_as (view_of y) adding name cell ≡ added_as (view_of x) adding name cell
+  added-reply Made name cell = refl
+  added-reply Chosen name cell = ap (λ (f : Function). replies.Chose name (truths_of f)) (listed-same cell.kind cell.edge)
+  added-reply (Taken posted) name cell = refl
+
+  -- what the cell's edge denotes is kept
+  pub row-kept : (cell : Cell) → Is cell.kind (view_of x) cell.edge → keeps x (held_of (view_of y) cell)
+  row-kept cell is =
+      subst (λ (f : Function). keeps x (record { edge = cell.edge; function = f })) (sym (listed-same cell.kind cell.edge))
+      (subst (λ (k : Kind). Is k (view_of x) cell.edge × (listed_at k (view_of x) cell.edge ≡ listed_at cell.kind (view_of x) cell.edge)) (sym (kind-listed cell.kind (view_of x) (values_at cell.kind (view_of x) cell.edge))) (is, refl))
+
+-- a row in memory is the one that the seat knows
+pub held-row : (w : View) (cell : Cell) (name : Name) (old new : List Live) → IsWithOne old (record { name = name; kind = cell.kind; edge = cell.edge }) new → IsWithOne old (live_as name (held_of w cell)) new
+held-row w cell name old new one = subst (λ (k : Kind). IsWithOne old (record { name = name; kind = k; edge = cell.edge }) new) (sym (kind-listed cell.kind w (values_at cell.kind w cell.edge))) one
+
+-- the seat notes the same of a content whose counts changed
+pub notes_on : (x y : Shared) → IsRecounted x y → (d e : Draws) (l : Leaving) → e.stored ≡ l.stored → e.due ≡ l.due → IsLeaving d y l → Notes d e x
+notes_on x y same d e l stored due_is is = (
+  l,
+  stored,
+  due_is,
+  record {
+    told = subst (λ (fs : List Function). AreTold d l.stored fs) (functions-recounted x y same) is.told;
+    new = λ f c. let n = is.new f c in (subst (λ (fs : List Function). Contains fs f) (functions-recounted x y same) n.0, n.1);
+    due_is = is.due_is ∙ due-recounted x y same;
+  },
+)
+  where
+    due-recounted : (x y : Shared) → IsRecounted x y → due y ≡ due x
+    due-recounted x y same = ap (λ (w : View). Rattle.std.specs.Prelude.option_map (whole_of w) w.due) same.view
+
+-- what was due is what the store denotes by it
+pub due_denoted : (x : Shared) (f : Function) → due x ≡ Some f → (o : Denoted) × ((view_of x).due ≡ Some o)
+due_denoted x f is = by (view_of x).due refl is
+  where
+    by : (o : Option Denoted) → (view_of x).due ≡ o → Rattle.std.specs.Prelude.option_map (whole_of (view_of x)) o ≡ Some f → (o : Denoted) × ((view_of x).due ≡ Some o)
+    by None at e = absurd (let z : None ≡ Some f = e in cc)
+    by (Some o) at e = (o, at)
+
+-- a post changes a cell
+pub knows_posted : (d : Draws) (w : View) (i : ℕ) (a : Name) (cell : Cell) → KnowsAs d (told_of d 0 (record { call = calls.Post i a; reply = replies.Done; change = Posts i (held_of w cell) })) d.rows (set d.cells i (Some (held_of w cell)))
+knows_posted d w i a cell = record { rows_are = refl; cells_are = refl; others_are = refl; counts_are = (refl, refl); orders_are = refl }
+
+-- a drop takes a row
+pub knows_dropped : (d : Draws) (a : Name) → KnowsAs d (told_of d 0 (record { call = calls.DropRow a; reply = replies.Done; change = Takes a })) (without a d.rows) d.cells
+knows_dropped d a = record { rows_are = refl; cells_are = refl; others_are = refl; counts_are = (refl, refl); orders_are = refl }

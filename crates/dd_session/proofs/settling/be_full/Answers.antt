@@ -1,0 +1,35 @@
+use Rattle.std.proofs.Common.{refl, ap, sym, subst, ◌∙◌, arith}
+use Rattle.function_laws.specs.declared.history.Reply.TheVariants as replies
+use Rattle.seat_guard.specs.Passes.{known}
+use Rattle.seat_guard.specs.declared.view.Draws.{Draws}
+use Rattle.dd_session.specs.Requests.{call_of}
+use Rattle.dd_session.specs.Turns.{Tied}
+use Rattle.dd_session.proofs.Serving.{serves-same}
+use Rattle.dd_session.proofs.Tellings.{due_denoted, knows_quiet, may_be_refused, quiet}
+use Rattle.dd_session.proofs.Tying.{longer_by, tied_same}
+use Rattle.dd_session.proofs.settling.be_full.Goals as goal
+
+pub finish-place-requires-clause-step : goal.finish-place-requires-clause-step
+finish-place-requires-clause-step c = may_be_refused (known c.args.pass.now) c.args.request c.in_use-in_use.result 1 c.requires.may c.requires.outcome
+
+pub finish-place-requires-clause-serves : goal.finish-place-requires-clause-serves
+finish-place-requires-clause-serves c = serves-same c.args.shared (known c.args.pass.now) _ c.requires.serves (knows_quiet (known c.args.pass.now) c.args.request (replies.Full c.in_use-in_use.result 1) (λ name n e. cc))
+
+pub returns-clause-keeps : goal.returns-clause-keeps
+returns-clause-keeps c =
+    let d = known c.args.pass.now in
+    let e = known c.finish-place.new.pass in
+    let left = c.finish-place.ensures.drew.left in
+    let more = longer_by d e _ (ap (λ (z : Draws). z.entries) left) in record {
+      rows = subst (Tied e) (sym c.finish-place.ensures.rows) (tied_same d e c.args.book.now.rows c.requires.keeps.rows (ap (λ (z : Draws). z.rows) left) (ap (λ (z : Draws). z.adds) left) (omega (arith, more)));
+      calls = c.finish-place.ensures.calls.0;
+      fulls = c.finish-place.ensures.calls.1;
+    }
+
+pub returns-clause-told : goal.returns-clause-told
+returns-clause-told c =
+    let o = due_denoted c.args.shared c.requires.due.0 c.requires.due.1 in
+    ((c.args.shared, quiet (call_of c.args.request) (replies.Full c.in_use-in_use.result 1), refl, refl, c.finish-place.ensures.drew), c.in_use-in_use.ensures.full o.0 o.1 ∙ sym c.limit-limit.ensures.limit, refl)
+
+pub returns-clause-notes : goal.returns-clause-notes
+returns-clause-notes c = let drew = c.finish-place.ensures.drew in (drew.leaving, ap (λ (z : Draws). z.stored) drew.left, ap (λ (z : Draws). z.due) drew.left, drew.is_leaving)

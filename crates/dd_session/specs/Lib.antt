@@ -1,0 +1,6 @@
+pub mod Sessions
+pub mod Walking
+pub mod Works
+pub mod Requests
+pub mod Turns
+pub mod Managing

@@ -1,0 +1,106 @@
+-- What callers see of a manager and of its sessions.
+use Rattle.std.specs.Prelude.{◌≡◌, ℕ, zero, suc, ◌+◌, ◌<◌, ◌≤◌, List, [], ◌∷◌, ◌++◌, Bool, true, false, None, length, All}
+use mathlib.Core.Option.{some}
+use lib.ListN.{get_elem?}
+use Rattle.function_laws.specs.declared.history.Entry.{Entry}
+use Rattle.function_laws.specs.EntryOrders.{opening_orders, orders_from}
+use Rattle.function_laws.specs.Histories.{IsLegal, table_after}
+use Rattle.function_laws.specs.SessionEntries.{entries_of}
+use Rattle.function_laws.specs.Tables.{opening}
+use Rattle.node_store.specs.Contents.{Content}
+use Rattle.node_slots.specs.Held.{Alone}
+use Rattle.dead_sweep.specs.declared.sweeping.Swept.{Swept}
+use Rattle.dead_sweep.specs.Swept.{IsSwept}
+use Rattle.seat_guard.specs.declared.seat.Guard.{Guard}
+use Rattle.seat_guard.specs.declared.seat.Pass.{Pass}
+use Rattle.seat_guard.specs.declared.seat.Rest.{Rest}
+use Rattle.seat_guard.specs.declared.view.Draws.{Draws}
+use Rattle.seat_guard.specs.declared.view.Gone.{Gone}
+use Rattle.seat_guard.specs.Passes.{known, resting}
+use Rattle.seat_guard.specs.Views.{sizes_for, stands_for}
+use Rattle.shared_store.specs.declared.shared.Shared.{Shared}
+use Rattle.handle_count.specs.RowMaps.{RowMap}
+use Rattle.dd_session.specs.declared.answers.Fetched.{Fetched}
+use Rattle.dd_session.specs.declared.book.Book.{Book}
+use Rattle.dd_session.specs.Sessions as sessions
+use Rattle.dd_session.specs.Turns as turns
+
+abbrev pub Managed : Type 0
+Managed = sessions.Managed
+
+abbrev pub Seen : Type 0
+Seen = sessions.Seen
+
+abbrev pub seen_in : Pass Shared → Book → Seen
+seen_in = turns.seen_of
+
+abbrev pub Ready : Pass Shared → Book → Type 0
+Ready p book = turns.IsReady p × turns.Keeps (known p) book
+
+abbrev pub managed_of : Guard Shared → Rest Shared → Managed
+managed_of g r = turns.managed_by g.table.shared.table_id (resting r)
+
+-- the closing seat, all of whose sessions were given and none has come back
+abbrev pub IsClosing : Draws → Type 0
+IsClosing d = (d.closing ≡ true) × (d.gone ≡ []) × (d.given ≡ d.sessions) × (d.rows ≡ [])
+
+-- a session that has made no call
+abbrev pub newcomer : Managed → ℕ → Seen
+newcomer m number = record { manager = m; number = number; rows = []; adds = 0; spare = 0; entries = []; stored = []; due = None }
+
+-- the first n sessions, as they are opened
+abbrev pub newcomers : Managed → ℕ → List Seen
+newcomers m zero = []
+newcomers m (suc n) = newcomers m n ++ newcomer m n ∷ []
+
+-- the sessions of a manager as it opens them
+abbrev pub opened : Managed → List Seen
+opened m = newcomers m m.sessions
+
+-- the numbers that a manager may be opened with
+abbrev pub IsConfig : ℕ → ℕ → ℕ → ℕ → Type 0
+IsConfig vars elements limit sessions = (vars ≤ 1024) × (elements ≤ 1024) × (5 + vars ≤ limit) × (limit ≤ 8388607) × (1 ≤ sessions) × (sessions ≤ 64)
+
+-- all sessions that the manager has opened, in any order
+pub record AreAll (m : Managed) (sessions : List Seen) : Type 0 where
+  pub own : All (λ (s : Seen). s.manager ≡ m) sessions
+  pub as_many : length sessions ≡ m.sessions
+  pub covered : (p : ℕ) → p < m.sessions → (k : ℕ) × (s : Seen) × (get_elem? sessions k ≡ some s) × (s.number ≡ p)
+
+-- There is one legal history of n calls. The calls of each of these sessions are those that it has of it, and it has no calls of others.
+pub record IsHistoryOf (m : Managed) (sessions : List Seen) (n : ℕ) : Type 0 where
+  pub log : List Entry
+  pub legal : IsLegal (sizes_for m.vars m.elements) log
+  pub count : length log ≡ n
+  pub each : (k : ℕ) (s : Seen) → get_elem? sessions k ≡ some s → entries_of s.number log ≡ s.entries
+  -- the table that the history leaves has these rows of each session
+  pub rows : (k : ℕ) (s : Seen) → get_elem? sessions k ≡ some s → (table_after (opening (sizes_for m.vars m.elements)) log).live s.number ≡ stands_for s.rows
+  pub no_other : (p : ℕ) → ((k : ℕ) (s : Seen) → get_elem? sessions k ≡ some s → s.number ≡ p → ⊥) → entries_of p log ≡ []
+
+-- What a sweep left in use, of a store whose orders are those that the entries leave, and in which nothing holds a slot any more.
+pub record IsSweptOut (m : Managed) (log : List Entry) (left : ℕ) : Type 0 where
+  pub before : Content
+  pub after : Content
+  pub swept : Swept
+  pub unheld : (k : ℕ) → before.count k ≡ 0
+  pub unpinned : (k : ℕ) → before.pinned k ≡ false
+  pub orders_are : before.orders ≡ orders_from (opening_orders (sizes_for m.vars m.elements)) log
+  pub is_swept : IsSwept Alone before after swept
+  pub left_is : left ≡ swept.in_use
+
+-- The manager was closed with these sessions: so many calls are one history, and so many slots were left.
+pub record IsClosed (m : Managed) (sessions : List Seen) (calls left : ℕ) : Type 0 where
+  pub history : IsHistoryOf m sessions calls
+  pub swept : IsSweptOut m history.log left
+
+-- what is left of a session as it comes back
+abbrev pub gone_as : Seen → Gone
+gone_as s = record { session = s.number; rows = s.rows; entries = s.entries }
+
+abbrev pub is_posted : Fetched → Bool
+is_posted = turns.is_posted
+
+-- how often the rows of some sessions name the slot k
+abbrev pub all_live : ℕ → List RowMap → ℕ
+all_live k [] = 0
+all_live k (rows ∷ rest) = turns.live_count k rows.live + all_live k rest

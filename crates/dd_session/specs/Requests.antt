@@ -1,0 +1,91 @@
+-- What a call and its answer tell.
+use Rattle.std.specs.Prelude.{ℕ, Bool, true, false, List, []}
+use Rattle.function_laws.specs.declared.history.Function.{Function}
+use Rattle.function_laws.specs.declared.history.Function.TheVariants.{Bdd, Add, Zdd}
+use Rattle.function_laws.specs.declared.history.Name.{Name}
+use Rattle.function_laws.specs.declared.history.Call.{Call}
+use Rattle.function_laws.specs.declared.history.Call.TheVariants as calls
+use Rattle.function_laws.specs.declared.history.Reply.{Reply}
+use Rattle.function_laws.specs.declared.history.Reply.TheVariants as replies
+use Rattle.node_store.specs.Listed.{listed_at}
+use Rattle.node_store.specs.Views.{View}
+use Rattle.seat_guard.specs.declared.view.Change.{Change}
+use Rattle.seat_guard.specs.declared.view.Change.TheVariants.{Nothing, Adds, Takes, Posts}
+use Rattle.seat_guard.specs.declared.view.Telling.{Telling}
+use Rattle.shared_store.specs.declared.shared.Cell.{Cell}
+use Rattle.shared_store.specs.Sharing.{held_of}
+use Rattle.dd_session.specs.declared.request.Request.{Request}
+use Rattle.dd_session.specs.declared.request.Request.TheVariants as requests
+use Rattle.dd_session.specs.declared.request.Adding.{Adding}
+use Rattle.dd_session.specs.declared.request.Adding.TheVariants.{Made, Chosen, Taken}
+use Rattle.dd_session.specs.declared.request.Answer.{Answer}
+use Rattle.dd_session.specs.declared.request.Answer.TheVariants.{Added, Dropped, Posted, Truth, Value, Done, Full}
+
+abbrev pub call_of : Request → Call
+call_of requests.One = calls.One
+call_of requests.Zero = calls.Zero
+call_of (requests.Var v) = calls.Var v
+call_of (requests.Not a) = calls.Not a
+call_of (requests.And a b) = calls.And a b
+call_of (requests.Or a b) = calls.Or a b
+call_of (requests.Xor a b) = calls.Xor a b
+call_of (requests.Ite a b c) = calls.Ite a b c
+call_of (requests.Cofactor a v bit) = calls.Cofactor a v bit
+call_of (requests.Exists a vars) = calls.Exists a vars.now
+call_of (requests.Forall a vars) = calls.Forall a vars.now
+call_of (requests.AndExists a b vars) = calls.AndExists a b vars.now
+call_of (requests.Compose a v b) = calls.Compose a v b
+call_of (requests.VectorCompose a pairs) = calls.VectorCompose a pairs.now
+call_of (requests.Restrict a b) = calls.Restrict a b
+call_of (requests.Support a) = calls.Support a
+call_of (requests.Copy a) = calls.Copy a
+call_of (requests.DropRow a) = calls.DropRow a
+call_of (requests.Same a b) = calls.Same a b
+call_of (requests.Leq a b) = calls.Leq a b
+call_of (requests.Eval a bits) = calls.Eval a bits.now
+call_of (requests.Post i a) = calls.Post i a
+call_of (requests.Fetch i a) = calls.Fetch i a
+call_of requests.Sweep = calls.Sweep
+
+-- the call that makes a constant
+abbrev pub truth_call : Bool → Call
+truth_call true = calls.One
+truth_call false = calls.Zero
+
+-- the truth values of a function that has such
+abbrev pub truths_of : Function → List Bool
+truths_of (Bdd f) = f
+truths_of (Add f) = []
+truths_of (Zdd p) = p
+
+-- what a new row is replied; a function that was chosen is told in whole
+abbrev pub added_as : View → Adding → Name → Cell → Reply
+added_as w Made name cell = replies.Made name
+added_as w Chosen name cell = replies.Chose name (truths_of (listed_at cell.kind w cell.edge))
+added_as w (Taken posted) name cell = replies.Fetched name posted
+
+abbrev pub reply_of : View → Answer → Reply
+reply_of w (Added adding name cell) = added_as w adding name cell
+reply_of w (Dropped name) = replies.Done
+reply_of w (Posted i cell) = replies.Done
+reply_of w (Truth told) = replies.Truth told
+reply_of w (Value x) = replies.Value x
+reply_of w Done = replies.Done
+reply_of w (Full in_use need) = replies.Full in_use need
+
+abbrev pub change_of : View → Answer → Change
+change_of w (Added adding name cell) = Adds (record { name = name; held = held_of w cell })
+change_of w (Dropped name) = Takes name
+change_of w (Posted i cell) = Posts i (held_of w cell)
+change_of w (Truth told) = Nothing
+change_of w (Value x) = Nothing
+change_of w Done = Nothing
+change_of w (Full in_use need) = Nothing
+
+abbrev pub telling_of : View → Request → Answer → Telling
+telling_of w request answer = record { call = call_of request; reply = reply_of w answer; change = change_of w answer }
+
+-- whether the table was full, as a number
+abbrev pub is_refusal : Answer → ℕ
+is_refusal (Full in_use need) = 1
+is_refusal _ = 0

@@ -1,0 +1,109 @@
+-- What callers see of a session, and what a call says.
+use Rattle.std.specs.Prelude.{◌≡◌, ℕ, ◌+◌, ◌≤◌, ◌<◌, ◌^◌, List, [], ◌∷◌, ◌++◌, All, length, Option, Some, None, false, if◌then◌else◌}
+use Rattle.atomic_table.specs.Seated.{TableId}
+use Rattle.edge_bits.specs.declared.edges.Edge.{Edge}
+use Rattle.edge_bits.specs.declared.edges.Kind.{Kind}
+use Rattle.function_laws.specs.declared.history.Name.{Name}
+use Rattle.function_laws.specs.declared.history.Function.{Function}
+use Rattle.function_laws.specs.declared.history.Call.{Call}
+use Rattle.function_laws.specs.declared.history.Reply.{Reply}
+use Rattle.function_laws.specs.declared.history.Reply.TheVariants as replies
+use Rattle.function_laws.specs.declared.history.Entry.{Entry}
+use Rattle.function_laws.specs.SessionEntries.{entry}
+use Rattle.function_laws.specs.Tables.{Table, same_name}
+use Rattle.function_laws.specs.Steps.{IsAllowed, after}
+use Rattle.seat_guard.specs.declared.view.Held.{Held}
+use Rattle.seat_guard.specs.declared.view.Row.{Row}
+use Rattle.seat_guard.specs.Views.{sizes_for, stands_for}
+use Rattle.shared_store.specs.Sharing.{kind_of}
+use Rattle.dd_session.specs.declared.answers.Refusal.{Refusal}
+use Rattle.dd_session.specs.declared.answers.Refusal.TheVariants as refusals
+
+-- A manager, as its callers see it: its table, and the numbers that it was opened with.
+pub record Managed : Type 0 where
+  pub table : TableId
+  pub vars : ℕ
+  pub elements : ℕ
+  pub sessions : ℕ
+
+-- A session, as its callers see it.
+pub record Seen : Type 0 where
+  -- the manager that it was opened with
+  pub manager : Managed
+  pub number : ℕ
+  -- its rows: each with its name, its edge and the function that this denotes
+  pub rows : List Row
+  -- how many names it has given, and how many more rows take no memory
+  pub adds : ℕ
+  pub spare : ℕ
+  -- its calls, in its order
+  pub entries : List Entry
+  -- the functions that its last turn stored, and the one that was due at the last Full before the end of that turn
+  pub stored : List Function
+  pub due : Option Function
+
+-- The table of functions has what the session sees, and has not been given further names by it.
+pub record SeenIn (s : Seen) (t : Table) : Type 0 where
+  pub sizes_are : t.sizes ≡ sizes_for s.manager.vars s.manager.elements
+  pub live : t.live s.number ≡ stands_for s.rows
+  pub fresh : (name : Name) → s.adds ≤ name.generation → t.given s.number name ≡ false
+
+-- The call was made at the place and replied so: in whatever table the session is seen, with the board that there was at the place, this is a step, and the session is seen afterwards in the table that is left. It is the one entry more of the session, above its other ones.
+pub record Called (old new : Seen) (call : Call) (reply : Reply) (place : ℕ) : Type 0 where
+  pub board : ℕ → Option Function
+  pub step : (t : Table) → SeenIn old t → t.cells ≡ board → IsAllowed t old.number call reply × SeenIn new (after t old.number call reply)
+  pub entries_are : new.entries ≡ old.entries ++ entry place old.number call reply ∷ []
+  pub later : All (λ (e : Entry). e.place < place) old.entries
+  pub manager_is : new.manager ≡ old.manager
+  pub number_is : new.number ≡ old.number
+  -- it gave at most one name, and has at most one row more
+  pub few : (new.adds ≤ old.adds + 1) × (length new.rows ≤ length old.rows + 1)
+
+-- want of memory leaves all as it was; what is stored may be more, and so may the room for rows
+abbrev pub IsAsBefore : Seen → Seen → Type 0
+IsAsBefore old new = (new ≡ record old { spare = new.spare; stored = new.stored; due = new.due }) × (old.spare ≤ new.spare)
+
+-- full is a call of the history that changes nothing: each slot is in use, and one more was needed
+abbrev pub Denies : Seen → Seen → Call → Refusal → Type 0
+Denies old new call refusals.Memory = IsAsBefore old new
+Denies old new call (refusals.Full full) = Called old new call (replies.Full full.in_use full.need) full.place × (full.in_use ≡ full.limit) × (full.need ≡ 1)
+
+-- the session may make one more call
+abbrev pub HasRoom : Seen → Type 0
+HasRoom s = (length s.rows < 2 ^ 25) × (length s.entries < 2 ^ 48)
+
+-- the name stands for a function of this kind
+abbrev pub IsNamed : Kind → List Row → Name → Type 0
+IsNamed k rows name = (f : Function) × (stands_for rows name ≡ Some f) × (kind_of f ≡ k)
+
+abbrev pub IsLiveAs : Kind → Seen → Name → Type 0
+IsLiveAs k s name = IsNamed k s.rows name
+
+abbrev pub IsLive : Seen → Name → Type 0
+IsLive s name = (k : Kind) × IsLiveAs k s name
+
+-- what a name stands for, with its edge
+abbrev pub held_as : List Row → Name → Option Held
+held_as [] name = None
+held_as (row ∷ rows) name = if same_name name row.name then Some row.held else held_as rows name
+
+abbrev pub edge_or : Option Held → Edge
+edge_or None = record { index = 0; complement = false }
+edge_or (Some held) = held.edge
+
+-- the edge of a live row
+abbrev pub edge_in : List Row → Name → Edge
+edge_in rows name = edge_or (held_as rows name)
+
+-- a variable with a row, and with the row's edge
+abbrev pub with_edge : List Row → ℕ × Name → ℕ × Edge
+with_edge rows pair = (pair.0, edge_in rows pair.1)
+
+-- how many of the calls were refused for a full table
+abbrev pub is_full : Reply → ℕ
+is_full (replies.Full in_use need) = 1
+is_full _ = 0
+
+abbrev pub fulls_in : List Entry → ℕ
+fulls_in [] = 0
+fulls_in (e ∷ es) = is_full e.reply + fulls_in es

@@ -1,0 +1,215 @@
+-- What the functions over a seat and its rows say.
+use Rattle.std.specs.Prelude.{◌≡◌, Bool, ◌==◌, ℕ, ◌+◌, ◌≤◌, ◌<◌, ◌^◌, List, [], ◌∷◌, All, length, option_map, Option, Some, None, true, false, Result, Ok, Err, IfOk, IsErrOf}
+use Rattle.atomic_table.specs.Seated.{TableId}
+use Rattle.edge_bits.specs.declared.edges.Edge.{Edge}
+use Rattle.edge_bits.specs.declared.edges.Kind.{Kind}
+use Rattle.edge_bits.specs.declared.edges.Kind.TheVariants as kinds
+use Rattle.function_laws.specs.declared.history.Name.{Name}
+use Rattle.function_laws.specs.declared.history.Function.{Function}
+use Rattle.function_laws.specs.declared.history.Call.{Call}
+use Rattle.function_laws.specs.declared.history.Reply.{Reply}
+use Rattle.function_laws.specs.declared.history.Reply.TheVariants as replies
+use Rattle.function_laws.specs.declared.history.Entry.{Entry}
+use Rattle.function_laws.specs.Kinds.{Denoted, ValueOf}
+use Rattle.function_laws.specs.Restricting.{Restricts}
+use Rattle.function_laws.specs.Lists.{truth}
+use Rattle.function_laws.specs.Steps.{Outcome, makes, restricts, fetches, needs_no_node, outcome}
+use Rattle.function_laws.specs.Tables.{Table}
+use Rattle.handle_count.specs.declared.rows.Held.{Held as Live}
+use Rattle.handle_count.specs.RowMaps.{RowMap, find_row}
+use Rattle.node_store.specs.declared.grow.Stop.{Stop}
+use Rattle.node_store.specs.declared.grow.Stop.TheVariants as stop
+use Rattle.node_store.specs.Listed.{listed, listed_at}
+use Rattle.node_store.specs.Views.{View, Denotes, Grown, Is}
+use Rattle.node_slots.specs.Stores.{IsStore}
+use Rattle.seat_guard.specs.declared.seat.Guard.{Guard}
+use Rattle.seat_guard.specs.declared.seat.Pass.{Pass}
+use Rattle.seat_guard.specs.declared.view.Draws.{Draws}
+use Rattle.seat_guard.specs.declared.view.Held.{Held}
+use Rattle.seat_guard.specs.declared.view.Leaving.{Leaving}
+use Rattle.seat_guard.specs.declared.view.Row.{Row}
+use Rattle.seat_guard.specs.declared.view.Telling.{Telling}
+use Rattle.seat_guard.specs.Passes.{IsPassOf, in_hand, known}
+use Rattle.seat_guard.specs.Turn.{KeepsRows, one_if, row_count}
+use Rattle.seat_guard.specs.Views.{Agrees, MayTell, letting_go, stands_for, told_of}
+use Rattle.shared_store.specs.declared.shared.Cell.{Cell}
+use Rattle.shared_store.specs.declared.shared.Shared.{Shared}
+use Rattle.shared_store.specs.Lasting.{Lasts}
+use Rattle.shared_store.specs.Sharing.{board, count, counts, due, keeps, kind_of, orders, view_of}
+use Rattle.shared_store.specs.Storing.{IsLeaving, IsListedWork, StoresOnly}
+use Rattle.dd_session.specs.declared.answers.Fetched.{Fetched}
+use Rattle.dd_session.specs.declared.answers.Fetched.TheVariants.{Posted, Empty}
+use Rattle.dd_session.specs.declared.answers.Refusal.{Refusal}
+use Rattle.dd_session.specs.declared.answers.Refusal.TheVariants as refusals
+use Rattle.dd_session.specs.declared.book.Book.{Book}
+use Rattle.dd_session.specs.declared.request.Adding.{Adding}
+use Rattle.dd_session.specs.declared.request.Adding.TheVariants.{Made, Chosen, Taken}
+use Rattle.dd_session.specs.Requests.{truths_of}
+use Rattle.dd_session.specs.Sessions.{Managed, Seen, fulls_in, held_as}
+
+-- what callers see
+
+abbrev pub managed_by : TableId → Draws → Managed
+managed_by table d = record { table = table; vars = d.vars; elements = d.elements; sessions = d.sessions }
+
+abbrev pub seen_by : TableId → Draws → ℕ → Seen
+seen_by table d spare = record {
+  manager = managed_by table d;
+  number = d.session;
+  rows = d.rows;
+  adds = d.adds;
+  spare = spare;
+  entries = d.entries;
+  stored = d.stored;
+  due = d.due;
+}
+
+abbrev pub seen_of : Pass Shared → Book → Seen
+seen_of p book = seen_by p.seat.table_id (known p) book.rows.spare
+
+-- rows
+
+-- a row as it stands in memory
+abbrev pub live_as : Name → Held → Live
+live_as name held = record { name = name; kind = kind_of held.function; edge = held.edge }
+
+abbrev pub live_count : ℕ → List Live → ℕ
+live_count k [] = 0
+live_count k (live ∷ lives) = one_if (live.edge.index == k) + live_count k lives
+
+-- no two rows have one name
+abbrev pub AreApart : List Row → Type 0
+AreApart [] = Unit {0}
+AreApart (row ∷ rows) = (held_as rows row.name ≡ None) × AreApart rows
+
+-- the rows in memory are those that the seat knows
+pub record Tied (d : Draws) (rows : RowMap) : Type 0 where
+  pub adds_are : d.adds ≡ rows.adds
+  pub few : d.adds ≤ length d.entries
+  pub found : (name : Name) → find_row rows.live name ≡ option_map (live_as name) (held_as d.rows name)
+  pub many : length rows.live ≡ length d.rows
+  pub counted : (k : ℕ) → live_count k rows.live ≡ row_count k d.rows
+  pub apart : AreApart d.rows
+
+-- and the calls are as many
+pub record Keeps (d : Draws) (book : Book) : Type 0 where
+  pub rows : Tied d book.rows
+  pub calls : book.calls ≡ length d.entries
+  pub fulls : book.fulls ≡ fulls_in d.entries
+
+-- it may make one more call
+abbrev pub HasPlace : Draws → Type 0
+HasPlace d = (length d.rows < 2 ^ 25) × (length d.entries < 2 ^ 48)
+
+-- the turn
+
+abbrev pub IsReady : Pass Shared → Type 0
+IsReady p = ((known p).live ≡ true) × ((known p).holds ≡ false) × (in_hand p ≡ [])
+
+-- the pass has the turn, and what all share is in hand
+abbrev pub IsHolding : Guard Shared → Pass Shared → Type 0
+IsHolding g p = IsPassOf g p × ((known p).live ≡ true) × ((known p).holds ≡ true) × (in_hand p ≡ (0, None) ∷ []) × (length (known p).cells ≡ 256)
+
+-- a store that keeps the seat's rows
+pub record Stands (x : Shared) (d : Draws) : Type 0 where
+  pub rows_kept : KeepsRows keeps board counts count orders x d.rows
+  pub counts_are : counts x ≡ (d.vars, d.elements)
+
+-- the edge of a row, in each store that keeps the rows
+abbrev pub IsEdgeOf : Kind → Draws → Name → Edge → Type 0
+IsEdgeOf k d name e = (x : Shared) → Stands x d → Is k (view_of x) e × (stands_for d.rows name ≡ Some (listed_at k (view_of x) e))
+
+-- the turn was given back with this content
+pub record Left (d d' : Draws) (y : Shared) : Type 0 where
+  pub leaving : Leaving
+  pub is_leaving : IsLeaving d y leaving
+  pub left : d' ≡ letting_go d leaving
+
+-- a place was drawn with this telling, and the turn was given back
+pub record Drew (d d' : Draws) (y : Shared) (x : Telling) (place : ℕ) : Type 0 where
+  pub may : MayTell d x
+  pub later : All (λ (e : Entry). e.place < place) d.entries
+  pub leaving : Leaving
+  pub is_leaving : IsLeaving d y leaving
+  pub left : d' ≡ letting_go (told_of d place x) leaving
+
+-- the same, where the telling has this call and this reply
+abbrev pub Told : Draws → Draws → Call → Reply → ℕ → Type 0
+Told d d' call reply place = (y : Shared) × (x : Telling) × (x.call ≡ call) × (x.reply ≡ reply) × Drew d d' y x place
+
+-- what the seat notes as stored, and as due, is as if this content had been given back
+abbrev pub Notes : Draws → Draws → Shared → Type 0
+Notes d d' y = (l : Leaving) × (d'.stored ≡ l.stored) × (d'.due ≡ l.due) × IsLeaving d y l
+
+-- what a refusal leaves
+abbrev pub IsRefused : Draws → Draws → Call → Refusal → Type 0
+IsRefused d d' call refusals.Memory = (l : Leaving) × (d' ≡ letting_go d l)
+IsRefused d d' call (refusals.Full full) = Told d d' call (replies.Full full.in_use full.need) full.place × (full.in_use ≡ full.limit) × (full.need ≡ 1)
+
+-- why an operation was refused
+abbrev pub IsCausedBy : {X : Type 0} → Result Edge Stop → Result X Refusal → Type 0
+IsCausedBy made (Ok placed) = Unit {0}
+IsCausedBy made (Err refusals.Memory) = IsErrOf made stop.Memory
+IsCausedBy made (Err (refusals.Full full)) = IsErrOf made stop.Full
+
+-- outcomes
+
+-- what comes of the call, in each table that agrees with the seat
+abbrev pub Gives : Draws → Call → Outcome → Type 0
+Gives d call o = (t : Table) → Agrees d t → outcome t d.session call ≡ Some o
+
+-- something comes of it that may need a node
+abbrev pub MayBeFull : Draws → Call → Type 0
+MayBeFull d call = (t : Table) → Agrees d t → (o : Outcome) × (outcome t d.session call ≡ Some o) × (needs_no_node o ≡ false)
+
+-- a choice that restrict may make
+pub record Chooses (d : Draws) (call : Call) (g : List Bool) : Type 0 where
+  pub f : List Bool
+  pub c : List Bool
+  pub gives : Gives d call (restricts f c)
+  pub long : length g ≡ length f
+  pub says : Restricts (length f) (truth f) (truth c) (truth g)
+
+-- what the cell's edge denotes is what the call adds
+abbrev pub AddsRow : Draws → View → Call → Adding → Cell → Type 0
+AddsRow d w call Made cell = Gives d call (makes (listed_at cell.kind w cell.edge))
+AddsRow d w call Chosen cell = (cell.kind ≡ kinds.Bdd) × Chooses d call (truths_of (listed_at cell.kind w cell.edge))
+AddsRow d w call (Taken posted) cell = Gives d call (fetches (listed_at cell.kind w cell.edge) posted)
+
+-- an operation's answers denote the function that the call makes
+abbrev pub HasValue : (k : Kind) → (View → Edge → Type 0) → Draws → View → Call → Type 0
+HasValue k Answers d v call = (f : ℕ → ValueOf k) × Gives d call (makes (listed k v f)) × ((w : View) (e : Edge) → Answers w e → Denotes k w e f)
+
+-- what was asked of the store changed nothing that all share, and stored nothing
+pub record IsAsked (x y : Shared) : Type 0 where
+  pub lasts : Lasts x y
+  pub orders_are : orders y ≡ orders x
+  pub stored : StoresOnly (λ _. ⊥) x y
+
+-- one try of an operation, from a store with the first view
+pub record Ran (Answers : View → View → Edge → Type 0) (Work : View → Denoted → Type 0) (x y : Shared) (made : Result Edge Stop) : Type 0 where
+  pub store : IsStore x.store
+  pub grown : Grown (view_of x) (view_of y)
+  pub cells : y.cells.items ≡ x.cells.items
+  pub orders_are : orders y ≡ orders x
+  pub answer : IfOk made (Answers (view_of x) (view_of y))
+  pub stored : StoresOnly (IsListedWork (view_of x) (Work (view_of x))) x y
+  pub due_is : IsErrOf made stop.Full → (f : Function) × (due y ≡ Some f) × IsListedWork (view_of x) (Work (view_of x)) f
+
+-- the last try of an operation, and what all tries stored
+pub record Tried (Answers : View → View → Edge → Type 0) (Work : View → Denoted → Type 0) (x y : Shared) (made : Result Edge Stop) : Type 0 where
+  pub from : Shared
+  pub lasts : Lasts x from
+  pub orders_are : orders from ≡ orders x
+  pub ran : Ran Answers Work from y made
+  pub stored : StoresOnly (λ (f : Function). (v : Shared) × Lasts x v × (orders v ≡ orders x) × IsListedWork (view_of v) (Work (view_of v)) f) x y
+
+-- the board
+
+abbrev pub is_posted : Fetched → Bool
+is_posted Posted = true
+is_posted Empty = false
+
+abbrev pub function_of : View → Option Cell → Option Function
+function_of w None = None
+function_of w (Some cell) = Some (listed_at cell.kind w cell.edge)

@@ -1,0 +1,47 @@
+-- What a call stored, as a part of its operation's work.
+use Rattle.std.specs.Prelude.{◌≡◌, ◌⊎◌, Contains, Some, Result, Ok, Err}
+use Rattle.function_laws.specs.declared.history.Function.{Function}
+use Rattle.function_laws.specs.Kinds.{Denoted}
+use Rattle.function_laws.specs.SessionEntries.{Each}
+use Rattle.node_store.specs.Views.{View}
+use Rattle.node_slots.specs.Held.{Alone}
+use Rattle.node_slots.specs.Wholes.{content_view}
+use Rattle.dead_sweep.specs.declared.sweeping.Swept.{Swept}
+use Rattle.dead_sweep.specs.Swept.{IsSwept}
+use Rattle.seat_guard.specs.declared.view.Row.{Row}
+use Rattle.shared_store.specs.declared.shared.Shared.{Shared}
+use Rattle.shared_store.specs.Sharing.{IsHeldIn, view_of}
+use Rattle.shared_store.specs.Storing.{IsListedWork}
+use Rattle.dd_session.specs.declared.answers.Refusal.{Refusal}
+use Rattle.dd_session.specs.declared.answers.Refusal.TheVariants as refusals
+use Rattle.dd_session.specs.Sessions.{Seen}
+
+-- a store with the session's rows: each row's edge denotes its function
+pub record HasRows (w : View) (s : Seen) : Type 0 where
+  pub vars : w.vars ≡ s.manager.vars
+  pub elements : w.elements ≡ s.manager.elements
+  pub rows : Each (λ (row : Row). IsHeldIn w row.held) s.rows
+
+-- the function is, up to complement, a part of the work that an operation has in a store with the session's rows
+abbrev pub IsOfWork : Seen → (View → Denoted → Type 0) → Function → Type 0
+IsOfWork s Work f = (w : View) × HasRows w s × IsListedWork w (Work w) f
+
+-- Each function that the call's turn stored is a part of this work, and so is what was due where it was refused. At want of memory there may have been no turn.
+abbrev pub StoresWork : {X : Type 0} → (View → Denoted → Type 0) → Seen → Seen → Result X Refusal → Type 0
+StoresWork Work old new (Ok placed) = (f : Function) → Contains new.stored f → IsOfWork old Work f
+StoresWork Work old new (Err refusals.Memory) = (f : Function) → Contains new.stored f → Contains old.stored f ⊎ IsOfWork old Work f
+StoresWork Work old new (Err (refusals.Full full)) = ((f : Function) → Contains new.stored f → IsOfWork old Work f) × ((f : Function) × (new.due ≡ Some f) × IsOfWork old Work f)
+
+-- a call that makes nothing stores nothing
+abbrev pub no_work : View → Denoted → Type 0
+no_work w f = ⊥
+
+abbrev pub StoresNothing : Seen → Type 0
+StoresNothing s = (f : Function) → Contains s.stored f → ⊥
+
+-- what a sweep told: of a store with the session's rows it freed what nothing reaches, and these are its numbers
+pub record IsSweepOf (s : Seen) (swept : Swept) : Type 0 where
+  pub before : Shared
+  pub after : Shared
+  pub has : HasRows (view_of before) s
+  pub is_swept : IsSwept Alone (content_view before.store) (content_view after.store) swept

@@ -1,0 +1,192 @@
+//! The manager, which opens and closes the sessions of one store.
+
+ghost use Rattle.std.specs.Prelude.{◌≡◌, ◌+◌, ◌<◌, ◌≤◌, ◌↔◌, [], IfOk, IsErrOf, true, vec_capacity};
+ghost use Rattle.seat_guard.specs.Passes.{IsPassOf, in_hand, known};
+ghost use Rattle.seat_guard.specs.Views.{one_more};
+ghost use Rattle.dd_session.specs.Managing.{AreAll, IsClosing, IsClosed, IsConfig, newcomer, opened};
+ghost use Rattle.dd_session.specs.Turns.{managed_by};
+
+use crate::book::Book;
+use crate::closing::{clear_board, join_all, let_all_go};
+use crate::session::Session;
+use edge_bits::Memory;
+use handle_count::Rows;
+use seat_guard::opening::open;
+use seat_guard::seat::{Guard, Pass, Rest};
+use seat_guard::view::Opening;
+use shared_store::Shared;
+use std::alloc::Global;
+use std::marker::Model;
+use std::sync::Wait;
+
+/// The numbers of a manager: of variables and of elements, at most 1,024 each, and of slots, 5 and one for each variable at
+/// least and 8,388,607 at most.
+#[derive(Debug, Clone, Copy, PartialEq, Eq, Drop)]
+pub struct Config {
+    pub vars: u32,
+    pub elements: u32,
+    pub limit: u32,
+}
+
+/// Why no manager was opened.
+#[derive(Debug, Clone, Copy, PartialEq, Eq, Drop)]
+pub enum OpenFault {
+    Memory,
+    Config,
+}
+
+/// One store and one board, for the sessions that it was opened with.
+#[derive(Drop)]
+pub struct Manager {
+    pub(crate) guard: Guard<Shared>,
+    closing: Rest<Shared>,
+    /// Room for the rows of all sessions, for the end.
+    ended: Vec<Rows>,
+}
+
+impl Model for Manager {
+    ghost use Rattle.std.specs.Prelude.{◌≡◌, ◌≤◌, [], vec_capacity};
+    ghost use Rattle.seat_guard.specs.Passes.{IsRestOf, resting};
+    ghost use Rattle.dd_session.specs.Managing.{IsClosing, Managed, managed_of};
+
+    ghost Value = { Managed };
+
+    ghost view = { λ m. managed_of m.guard m.closing };
+
+    ghost invariant = { λ m. IsRestOf m.guard m.closing × IsClosing (resting m.closing) × (m.ended.items ≡ []) × ((resting m.closing).sessions ≤ vec_capacity m.ended) };
+}
+
+/// The next session.
+fn next_session(alloc: Global, guard: &Guard<Shared>, closing: &mut Pass<Shared>) -> Session
+    requires own { IsPassOf guard.now closing.old × ((known closing.old).closing ≡ true) }
+    requires room { (known closing.old).given < 64 }
+    ensures closing { IsPassOf guard.now closing.new × (known closing.new ≡ one_more (known closing.old)) × (in_hand closing.new ≡ in_hand closing.old) }
+    ensures new { result ≡ newcomer (managed_by guard.now.table.shared.table_id (known closing.old)) (known closing.old).given }
+{
+    let pass = guard.split(closing);
+    let book = Book {
+        rows: Rows::new(alloc),
+        calls: 0,
+        fulls: 0,
+    };
+    Session { pass, book }
+}
+
+/// The sessions of a new manager.
+fn open_sessions(
+    alloc: Global,
+    guard: &Guard<Shared>,
+    closing: &mut Pass<Shared>,
+    count: u32,
+) -> Result<Vec<Session>, Memory>
+    requires own { IsPassOf guard.now closing.old × (in_hand closing.old ≡ []) }
+    requires closing { ((known closing.old).closing ≡ true) × ((known closing.old).gone ≡ []) × ((known closing.old).rows ≡ []) }
+    requires first { (known closing.old).given ≡ 0 }
+    requires room { (count ≡ (known closing.old).sessions) × (count ≤ 64) }
+    ensures own { IsPassOf guard.now closing.new × (in_hand closing.new ≡ []) }
+    ensures kept { managed_by guard.now.table.shared.table_id (known closing.new) ≡ managed_by guard.now.table.shared.table_id (known closing.old) }
+    ensures sessions { IfOk result (λ all. IsClosing (known closing.new) × (all.items ≡ opened (managed_by guard.now.table.shared.table_id (known closing.old)))) }
+{
+    let mut all = Vec::new(alloc);
+    for _ in 0..count {
+        all.push(next_session(alloc, guard, closing))?;
+    }
+    Ok(all)
+}
+
+/// A manager with numbers in range, and its sessions.
+fn open_in_range(
+    alloc: Global,
+    config: Config,
+    sessions: u32,
+) -> Result<(Manager, Vec<Session>), Memory>
+    requires { IsConfig config.vars config.elements config.limit sessions }
+    ensures { IfOk result (λ r. (r.0.vars ≡ config.vars) × (r.0.elements ≡ config.elements) × (r.0.sessions ≡ sessions) × (r.1.items ≡ opened r.0)) }
+{
+    let shared = Shared::new(alloc, config.vars, config.elements, config.limit)?;
+    let key = Opening {
+        vars: config.vars,
+        elements: config.elements,
+        sessions,
+    };
+    let ended = Vec::with_capacity(alloc, sessions as usize)?;
+    let (guard, mut closing) = open(alloc, shared, &key)?;
+    let all = open_sessions(alloc, &guard, &mut closing, sessions)?;
+    let closing = closing.rest().ok_or(Memory)?;
+    Ok((
+        Manager {
+            guard,
+            closing,
+            ended,
+        },
+        all,
+    ))
+}
+
+/// How many calls there were, and how many slots were left in use.
+#[derive(Debug, Clone, Copy, PartialEq, Eq, Drop)]
+pub struct Closed {
+    pub calls: u64,
+    pub left: u32,
+}
+
+impl Manager {
+    /// Where a call takes memory for a list of its own.
+    pub(crate) fn allocator(&self) -> Global {
+        *self.ended.allocator()
+    }
+
+    /// A manager and its sessions, 1 to 64, which have made no call. Config is answered exactly where a number is out of range.
+    pub fn open(
+        alloc: Global,
+        config: Config,
+        sessions: u32,
+    ) -> Result<(Manager, Vec<Session>), OpenFault>
+        ensures ok { IfOk result (λ r. (r.0.vars ≡ config.vars) × (r.0.elements ≡ config.elements) × (r.0.sessions ≡ sessions) × (r.1.items ≡ opened r.0)) }
+        ensures config { IsErrOf result OpenFault.Config ↔ (IsConfig config.vars config.elements config.limit sessions → ⊥) }
+    {
+        let Config {
+            vars,
+            elements,
+            limit,
+        } = config;
+        if vars > 1024
+            || elements > 1024
+            || limit < 5 + vars
+            || limit > 8_388_607
+            || sessions == 0
+            || sessions > 64
+        {
+            return Err(OpenFault::Config);
+        }
+        match open_in_range(alloc, config, sessions) {
+            Ok(opened) => Ok(opened),
+            Err(Memory) => Err(OpenFault::Memory),
+        }
+    }
+
+    /// Takes the sessions in, empties the board, drops all rows and sweeps. The calls of all sessions, each once, are one legal
+    /// history, which leaves each session its rows; what is left in use is 5 slots and one for each variable.
+    pub fn close<R: Wait>(self, rt: &R, sessions: Vec<Session>) -> Closed
+        requires { AreAll self sessions.items }
+        ensures history { IsClosed self sessions.items result.calls result.left }
+        ensures left { result.left ≡ 5 + self.vars }
+    {
+        let Manager {
+            guard,
+            closing,
+            mut ended,
+        } = self;
+        let mut closing = closing.wake(rt);
+        join_all(&guard, &mut closing, &mut ended, sessions);
+        let calls = guard.calls(&mut closing);
+        let mut shared = guard.take_last(rt, &mut closing);
+        clear_board(&mut shared);
+        let_all_go(&mut shared, ended);
+        let (_shared, swept) = shared.sweep();
+        Closed {
+            calls,
+            left: swept.in_use,
+        }
+    }
+}

@@ -1,0 +1,160 @@
+//! The calls of a session on its rows and on the board, and what it tells of itself.
+
+ghost use Rattle.std.specs.Prelude.{◌≡◌, ◌+◌, ◌<◌, ◌≤◌, ◌↔◌, max, length, IsTrue, OnOk, OnErr, IsOk};
+ghost use Rattle.edge_bits.specs.declared.edges.Kind.{Kind as KindOf};
+ghost use Rattle.function_laws.specs.declared.history.Call.TheVariants as calls;
+ghost use Rattle.function_laws.specs.declared.history.Reply.TheVariants as replies;
+ghost use Rattle.dd_session.specs.Sessions.{Called, HasRoom, IsLive, IsLiveAs, fulls_in};
+ghost use Rattle.dd_session.specs.Works.{IsSweepOf, StoresNothing};
+ghost use Rattle.dd_session.specs.Managing.{is_posted};
+
+use crate::answers::{Fetched, Placed};
+use crate::changes;
+use crate::manager::Manager;
+use crate::session::Session;
+use dead_sweep::Swept;
+use edge_bits::{Kind, Memory};
+use handle_count::H;
+use std::sync::Wait;
+
+impl Session {
+    /// Makes room for so many more rows. Want of memory changes nothing.
+    pub fn reserve(&mut self, more: u32) -> Result<(), Memory>
+        ensures ok { OnOk result (self.new ≡ record self.old { spare = max self.old.spare more }) }
+        ensures err { OnErr result (self.new ≡ self.old) }
+        ensures enough { more ≤ self.old.spare → IsOk result }
+    {
+        self.book.rows.reserve(more)
+    }
+
+    /// How many more rows take no memory.
+    pub fn spare(&self) -> u32
+        ensures { result ≡ self.now.spare }
+    {
+        self.book.rows.spare()
+    }
+
+    /// How many rows are live.
+    pub fn live(&self) -> u32
+        ensures { result ≡ length self.now.rows }
+    {
+        self.book.rows.live()
+    }
+
+    /// How many calls with a place the session made.
+    pub fn calls(&self) -> u64
+        ensures { result ≡ length self.now.entries }
+    {
+        self.book.calls
+    }
+
+    /// How many of them were refused for a full node table.
+    pub fn fulls(&self) -> u64
+        ensures { result ≡ fulls_in self.now.entries }
+    {
+        self.book.fulls
+    }
+
+    /// Whether the name is live.
+    pub fn is_live(&self, h: H) -> bool
+        ensures { IsTrue result ↔ IsLive self.now h }
+    {
+        self.book.rows.is_live(h)
+    }
+
+    /// The kind of a row.
+    pub fn kind(&self, h: H) -> Kind
+        requires { IsLive self.now h }
+        ensures { (k : KindOf) → IsLiveAs k self.now h → result ≡ k }
+    {
+        self.book.rows.kind(h)
+    }
+
+    /// A further row with the function of a row. There is room for it.
+    pub fn copy<R: Wait>(&mut self, rt: &R, manager: &Manager, h: H) -> Placed<H>
+        requires own { self.old.manager ≡ manager.now }
+        requires room { HasRoom self.old }
+        requires spare { 1 ≤ self.old.spare }
+        requires live { IsLive self.old h }
+        ensures told { Called self.old self.new (calls.Copy h) (replies.Made result.value) result.place }
+        ensures stored { StoresNothing self.new }
+        ensures spare { self.new.spare + 1 ≡ self.old.spare }
+    {
+        changes::copy(rt, &manager.guard, &mut self.pass, &mut self.book, h)
+    }
+
+    /// Lets a row go. Its name is live no more.
+    pub fn drop_row<R: Wait>(&mut self, rt: &R, manager: &Manager, h: H) -> Placed<()>
+        requires own { self.old.manager ≡ manager.now }
+        requires room { HasRoom self.old }
+        requires live { IsLive self.old h }
+        ensures told { Called self.old self.new (calls.DropRow h) replies.Done result.place }
+        ensures stored { StoresNothing self.new }
+        ensures spare { self.new.spare ≡ self.old.spare + 1 }
+    {
+        changes::drop_row(rt, &manager.guard, &mut self.pass, &mut self.book, h)
+    }
+
+    /// Whether two rows of one kind have one function.
+    pub fn same<R: Wait>(&mut self, rt: &R, manager: &Manager, f: H, g: H) -> Placed<bool>
+        requires own { self.old.manager ≡ manager.now }
+        requires room { HasRoom self.old }
+        requires alike { (k : KindOf) × IsLiveAs k self.old f × IsLiveAs k self.old g }
+        ensures told { Called self.old self.new (calls.Same f g) (replies.Truth result.value) result.place }
+        ensures stored { StoresNothing self.new }
+        ensures spare { self.new.spare ≡ self.old.spare }
+    {
+        changes::same(rt, &manager.guard, &mut self.pass, &mut self.book, f, g)
+    }
+
+    /// Puts the function of a row into a cell of the board, in place of what was there.
+    pub fn post<R: Wait>(&mut self, rt: &R, manager: &Manager, cell: u8, h: H) -> Placed<()>
+        requires own { self.old.manager ≡ manager.now }
+        requires room { HasRoom self.old }
+        requires live { IsLive self.old h }
+        ensures told { Called self.old self.new (calls.Post cell h) replies.Done result.place }
+        ensures stored { StoresNothing self.new }
+        ensures spare { self.new.spare ≡ self.old.spare }
+    {
+        changes::post(rt, &manager.guard, &mut self.pass, &mut self.book, cell, h)
+    }
+
+    /// A new row with the function of a cell, and Posted, where that has the kind of another row; else with the other's, and
+    /// Empty. There is room for it.
+    pub fn fetch<R: Wait>(
+        &mut self,
+        rt: &R,
+        manager: &Manager,
+        cell: u8,
+        other: H,
+    ) -> Placed<(H, Fetched)>
+        requires own { self.old.manager ≡ manager.now }
+        requires room { HasRoom self.old }
+        requires spare { 1 ≤ self.old.spare }
+        requires live { IsLive self.old other }
+        ensures told { Called self.old self.new (calls.Fetch cell other) (replies.Fetched result.value.0 (is_posted result.value.1)) result.place }
+        ensures stored { StoresNothing self.new }
+        ensures spare { self.new.spare + 1 ≡ self.old.spare }
+    {
+        changes::fetch(
+            rt,
+            &manager.guard,
+            &mut self.pass,
+            &mut self.book,
+            cell,
+            other,
+        )
+    }
+
+    /// Frees the slots that nothing reaches.
+    pub fn sweep<R: Wait>(&mut self, rt: &R, manager: &Manager) -> Placed<Swept>
+        requires own { self.old.manager ≡ manager.now }
+        requires room { HasRoom self.old }
+        ensures told { Called self.old self.new calls.Sweep replies.Done result.place }
+        ensures swept { IsSweepOf self.old result.value }
+        ensures stored { StoresNothing self.new }
+        ensures spare { self.new.spare ≡ self.old.spare }
+    {
+        changes::sweep(rt, &manager.guard, &mut self.pass, &mut self.book)
+    }
+}

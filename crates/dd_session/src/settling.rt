@@ -1,0 +1,124 @@
+//! What a call leaves that adds a row, or that was refused.
+
+ghost use Rattle.std.specs.Prelude.{◌≡◌, ◌+◌, ◌<◌, ◌≤◌, ◌^◌, [], length, true, false, IfOk, IsErrOf, IsTrue, MatchResult, Some};
+ghost use Rattle.function_laws.specs.declared.history.Function.{Function};
+ghost use Rattle.function_laws.specs.declared.history.Reply.TheVariants as replies;
+ghost use Rattle.function_laws.specs.Steps.{makes, may_be_full};
+ghost use Rattle.node_store.specs.Listed.{listed_at};
+ghost use Rattle.node_store.specs.Views.{Is};
+ghost use Rattle.seat_guard.specs.Passes.{IsPassOf, in_hand, known};
+ghost use Rattle.shared_store.specs.Sharing.{Serving, count, due, view_of};
+ghost use Rattle.dd_session.specs.Requests.{added_as, call_of};
+ghost use Rattle.dd_session.specs.Turns.{AddsRow, Gives, HasPlace, IsCausedBy, IsHolding, IsRefused, Keeps, MayBeFull, Notes, Told};
+
+use crate::answers::{Full, Placed, Refusal};
+use crate::book::Book;
+use crate::drawing::finish;
+use crate::request::{Adding, Answer, Request};
+use edge_bits::{Edge, Kind};
+use function_laws::Name;
+use node_slots::Stop;
+use seat_guard::seat::{Guard, Pass};
+use shared_store::{Cell, Shared, put_back};
+
+/// A new row of what the cell's edge denotes. There is room for it.
+pub fn add_row(
+    guard: &Guard<Shared>,
+    pass: &mut Pass<Shared>,
+    book: &mut Book,
+    mut shared: Shared,
+    request: Request<'_>,
+    adding: Adding,
+    cell: Cell,
+) -> Placed<Name>
+    requires hold { IsHolding guard.now pass.old }
+    requires serves { Serving shared (known pass.old) }
+    requires keeps { Keeps (known pass.old) book.old }
+    requires place { HasPlace (known pass.old) }
+    requires spare { 1 ≤ book.old.rows.spare }
+    requires few { count shared cell.edge.index ≤ 2 ^ 31 + 256 }
+    requires is { Is cell.kind (view_of shared) cell.edge }
+    requires adds { AddsRow (known pass.old) (view_of shared) (call_of request) adding cell }
+    ensures own { IsPassOf guard.now pass.new × (in_hand pass.new ≡ []) }
+    ensures keeps { Keeps (known pass.new) book.new }
+    ensures told { Told (known pass.old) (known pass.new) (call_of request.entry) (added_as (view_of shared) adding result.value cell) result.place }
+    ensures notes { Notes (known pass.old) (known pass.new) shared }
+    ensures spare { book.new.rows.spare + 1 ≡ book.old.rows.spare }
+{
+    shared.raise(cell.edge);
+    let name = book.rows.add(cell.kind, cell.edge);
+    let answer = Answer::Added(adding, name, cell);
+    let place = finish(guard, pass, book, shared, request, answer);
+    Placed { place, value: name }
+}
+
+/// The node table was full: all slots are in use, and one more was needed.
+pub fn be_full(
+    guard: &Guard<Shared>,
+    pass: &mut Pass<Shared>,
+    book: &mut Book,
+    shared: Shared,
+    request: Request<'_>,
+) -> Full
+    requires hold { IsHolding guard.now pass.old }
+    requires serves { Serving shared (known pass.old) }
+    requires keeps { Keeps (known pass.old) book.old }
+    requires place { HasPlace (known pass.old) }
+    requires may { IsTrue (may_be_full (call_of request)) }
+    requires outcome { MayBeFull (known pass.old) (call_of request) }
+    requires due { (f : Function) × (due shared ≡ Some f) }
+    ensures own { IsPassOf guard.now pass.new × (in_hand pass.new ≡ []) }
+    ensures keeps { Keeps (known pass.new) book.new }
+    ensures told { IsRefused (known pass.old) (known pass.new) (call_of request.entry) (Refusal.Full result) }
+    ensures notes { Notes (known pass.old) (known pass.new) shared }
+    ensures rows { book.new.rows ≡ book.old.rows }
+{
+    let in_use = shared.store.in_use();
+    let limit = shared.store.limit();
+    let answer = Answer::Full(in_use, 1);
+    let place = finish(guard, pass, book, shared, request, answer);
+    Full {
+        place,
+        in_use,
+        limit,
+        need: 1,
+    }
+}
+
+/// What an operation that made an edge, or was refused, leaves.
+pub fn settle(
+    guard: &Guard<Shared>,
+    pass: &mut Pass<Shared>,
+    book: &mut Book,
+    shared: Shared,
+    request: Request<'_>,
+    kind: Kind,
+    made: Result<Edge, Stop>,
+) -> Result<Placed<Name>, Refusal>
+    requires hold { IsHolding guard.now pass.old }
+    requires serves { Serving shared (known pass.old) }
+    requires keeps { Keeps (known pass.old) book.old }
+    requires place { HasPlace (known pass.old) }
+    requires spare { 1 ≤ book.old.rows.spare }
+    requires few { IfOk made (λ edge. count shared edge.index ≤ 2 ^ 31 + 256) }
+    requires ok { IfOk made (λ edge. Is kind (view_of shared) edge × Gives (known pass.old) (call_of request) (makes (listed_at kind (view_of shared) edge))) }
+    requires full { IsErrOf made Stop.Full → IsTrue (may_be_full (call_of request)) × MayBeFull (known pass.old) (call_of request) × ((f : Function) × (due shared ≡ Some f)) }
+    ensures own { IsPassOf guard.now pass.new × (in_hand pass.new ≡ []) }
+    ensures keeps { Keeps (known pass.new) book.new }
+    ensures told { MatchResult result (λ placed. Told (known pass.old) (known pass.new) (call_of request.entry) (replies.Made placed.value) placed.place) (IsRefused (known pass.old) (known pass.new) (call_of request.entry)) }
+    ensures notes { Notes (known pass.old) (known pass.new) shared }
+    ensures spare { MatchResult result (λ placed. book.new.rows.spare + 1 ≡ book.old.rows.spare) (λ refusal. book.new.rows.spare ≡ book.old.rows.spare) }
+    ensures cause { IsCausedBy made result }
+{
+    match made {
+        Ok(edge) => {
+            let cell = Cell { kind, edge };
+            Ok(add_row(guard, pass, book, shared, request, Adding::Made, cell))
+        }
+        Err(Stop::Full) => Err(Refusal::Full(be_full(guard, pass, book, shared, request))),
+        Err(Stop::Memory) => {
+            put_back(guard, pass, shared);
+            Err(Refusal::Memory)
+        }
+    }
+}

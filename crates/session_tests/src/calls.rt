@@ -1,0 +1,144 @@
+//! Calls of a session that has few rows and has made few calls, where no memory is wanting.
+
+ghost use Rattle.std.specs.Prelude.{◌≡◌, length, ◌<◌, IsTrue};
+ghost use Rattle.edge_bits.specs.declared.edges.Kind.TheVariants as kinds;
+ghost use Rattle.dd_session.specs.Sessions.{HasRoom, IsLiveAs};
+
+use dd_session::{Fetched, H, Manager, Refusal, Session};
+use edge_bits::Kind;
+use std::process::Abort;
+use std::sync::Wait;
+
+/// Whether a name is that of a BDD's row.
+pub fn is_bdd(session: &Session, h: H) -> bool
+    ensures { IsTrue result → IsLiveAs kinds.Bdd session.now h }
+{
+    if !session.is_live(h) {
+        return false;
+    }
+    match session.kind(h) {
+        Kind::Bdd => true,
+        _ => false,
+    }
+}
+
+/// The session has few rows and has made few calls.
+pub fn has_room(rt: &impl Abort, session: &Session)
+    ensures { HasRoom session.now }
+{
+    assert!(rt; session.live() < 1000 && session.calls() < 100_000);
+}
+
+/// The projection of a variable.
+pub fn var<R: Abort + Wait>(rt: &R, manager: &Manager, session: &mut Session, v: u32) -> H
+    requires own { session.old.manager ≡ manager.now }
+    requires variable { v < manager.now.vars }
+    ensures { (session.new.manager ≡ session.old.manager) × (session.new.number ≡ session.old.number) }
+{
+    has_room(rt, session);
+    match session.var(rt, manager, v) {
+        Ok(placed) => placed.value,
+        Err(_) => panic!(rt; "no variable"),
+    }
+}
+
+/// The conjunction of two rows, or None where the table is full.
+pub fn and<R: Abort + Wait>(
+    rt: &R,
+    manager: &Manager,
+    session: &mut Session,
+    f: H,
+    g: H,
+) -> Option<H>
+    requires own { session.old.manager ≡ manager.now }
+    ensures { (session.new.manager ≡ session.old.manager) × (session.new.number ≡ session.old.number) }
+{
+    has_room(rt, session);
+    assert!(rt; is_bdd(session, f) && is_bdd(session, g));
+    match session.and(rt, manager, f, g) {
+        Ok(placed) => Some(placed.value),
+        Err(Refusal::Full(full)) => {
+            assert!(rt; full.in_use == full.limit && full.need == 1);
+            None
+        }
+        Err(Refusal::Memory) => panic!(rt; "no memory"),
+    }
+}
+
+/// Lets a row go.
+pub fn drop_row<R: Abort + Wait>(rt: &R, manager: &Manager, session: &mut Session, h: H)
+    requires own { session.old.manager ≡ manager.now }
+    ensures { (session.new.manager ≡ session.old.manager) × (session.new.number ≡ session.old.number) }
+{
+    has_room(rt, session);
+    assert!(rt; session.is_live(h));
+    session.drop_row(rt, manager, h);
+    assert!(rt; !session.is_live(h));
+}
+
+/// Whether two rows have one function.
+pub fn same<R: Abort + Wait>(rt: &R, manager: &Manager, session: &mut Session, f: H, g: H) -> bool
+    requires own { session.old.manager ≡ manager.now }
+    ensures { (session.new.manager ≡ session.old.manager) × (session.new.number ≡ session.old.number) }
+{
+    has_room(rt, session);
+    assert!(rt; is_bdd(session, f) && is_bdd(session, g));
+    session.same(rt, manager, f, g).value
+}
+
+/// Puts a row's function into a cell.
+pub fn post<R: Abort + Wait>(rt: &R, manager: &Manager, session: &mut Session, cell: u8, h: H)
+    requires own { session.old.manager ≡ manager.now }
+    ensures { (session.new.manager ≡ session.old.manager) × (session.new.number ≡ session.old.number) }
+{
+    has_room(rt, session);
+    assert!(rt; session.is_live(h));
+    session.post(rt, manager, cell, h);
+}
+
+/// Takes a cell's function, or a row's.
+pub fn fetch<R: Abort + Wait>(
+    rt: &R,
+    manager: &Manager,
+    session: &mut Session,
+    cell: u8,
+    other: H,
+) -> (H, Fetched)
+    requires own { session.old.manager ≡ manager.now }
+    ensures { (session.new.manager ≡ session.old.manager) × (session.new.number ≡ session.old.number) }
+{
+    has_room(rt, session);
+    assert!(rt; session.reserve(1).is_ok() && session.spare() >= 1);
+    has_room(rt, session);
+    assert!(rt; session.is_live(other));
+    session.fetch(rt, manager, cell, other).value
+}
+
+/// Frees what nothing reaches.
+pub fn sweep<R: Abort + Wait>(rt: &R, manager: &Manager, session: &mut Session) -> u32
+    requires own { session.old.manager ≡ manager.now }
+    ensures { (session.new.manager ≡ session.old.manager) × (session.new.number ≡ session.old.number) }
+{
+    has_room(rt, session);
+    session.sweep(rt, manager).value.in_use
+}
+
+/// The value of a row at some bits.
+pub fn eval<R: Abort + Wait>(
+    rt: &R,
+    manager: &Manager,
+    session: &mut Session,
+    f: H,
+    bits: &[bool],
+) -> i64
+    requires own { session.old.manager ≡ manager.now }
+    requires bits { length bits.now ≡ manager.now.vars }
+    ensures { (session.new.manager ≡ session.old.manager) × (session.new.number ≡ session.old.number) }
+{
+    has_room(rt, session);
+    assert!(rt; is_bdd(session, f));
+    match session.eval(rt, manager, f, bits) {
+        Ok(placed) => placed.value,
+        Err(_) => panic!(rt; "no value"),
+    }
+}
