@@ -41,7 +41,7 @@ use Rattle.dd_session.specs.declared.answers.Refusal.{Refusal}
 use Rattle.dd_session.specs.declared.answers.Refusal.TheVariants as refusals
 use Rattle.dd_session.specs.Sessions.{Called, Denies, IsAsBefore, fulls_in}
 use Rattle.dd_session.specs.Works.{HasRows, IsOfWork, StoresWork}
-use Rattle.dd_session.specs.Turns.{Gives, HasValue, IsCausedBy, IsRefused, MayBeFull, Notes, Stands, Tied, Told, Tried, seen_by}
+use Rattle.dd_session.specs.Turns.{Gives, HasValue, IsCausedBy, IsRefused, MayBeFull, Notes, Stands, Tied, Told, Tried, seen_by, names_by}
 use Rattle.dd_session.proofs.Tying.{tied_room, tied_same}
 
 -- what the taker of the turn knows
@@ -82,13 +82,13 @@ stands_taken d e x took = record {
 pub has_rows : (table : TableId) (d : Draws) (spare : ℕ) (x : Shared) → Stands x d → HasRows (view_of x) (seen_by table d spare)
 has_rows table d spare x stands = record { vars = ap (λ (p : ℕ × ℕ). p.0) stands.counts_are; elements = ap (λ (p : ℕ × ℕ). p.1) stands.counts_are; rows = stands.rows_kept }
 
-adds_few : (c : Change) (n : ℕ) → adds_after c n ≤ n + 1
-adds_few (Adds row) n = omega arith
-adds_few (Takes name) n = omega arith
-adds_few (Posts i held) n = omega arith
-adds_few Nothing n = omega arith
+adds_are : (c : Change) (n : ℕ) → adds_after c n ≡ n + names_by c
+adds_are (Adds row) n = omega arith
+adds_are (Takes name) n = omega arith
+adds_are (Posts i held) n = omega arith
+adds_are Nothing n = omega arith
 
-rows_few : (c : Change) (rows : List Row) → length (rows_after c rows) ≤ length rows + 1
+rows_few : (c : Change) (rows : List Row) → length (rows_after c rows) ≤ length rows + names_by c
 rows_few (Adds row) rows = omega arith
 rows_few (Takes name) rows = let a = without_few name rows in omega (arith, a)
   where
@@ -125,15 +125,9 @@ called old held new x table table' spare spare' call reply place same took told 
           later = drew.later;
           manager_is = refl;
           number_is = refl;
-          few = (adds_few y.change old.adds, rows_few y.change old.rows);
+          adds_are = adds_are y.change old.adds ∙ ap (λ n. old.adds + n) drew.counted;
+          few = (let a = rows_few y.change old.rows in let b = drew.counted in omega (arith, a, b));
         }))
-
--- the turn was given back
-pub idle_told : (old held new : Draws) (x : Shared) (call : Call) (reply : Reply) (place : ℕ) → Took old held x → old.live ≡ true → Told held new call reply place → (new.live ≡ true) × (new.holds ≡ false)
-idle_told old held new x call reply place took live told = let left = told.4.left in (ap (λ (d : Draws). d.live) left ∙ ap (λ (d : Draws). d.live) took.is ∙ live, ap (λ (d : Draws). d.holds) left)
-
-pub idle_left : (old held new : Draws) (x : Shared) (l : Leaving) → Took old held x → old.live ≡ true → new ≡ letting_go held l → (new.live ≡ true) × (new.holds ≡ false)
-idle_left old held new x l took live left = (ap (λ (d : Draws). d.live) left ∙ ap (λ (d : Draws). d.live) took.is ∙ live, ap (λ (d : Draws). d.holds) left)
 
 -- want of memory
 pub as_before : (old held new : Draws) (x : Shared) (table table' : TableId) (spare spare' : ℕ) (l : Leaving) → table' ≡ table → spare ≤ spare' → Took old held x → new ≡ letting_go held l → IsAsBefore (seen_by table old spare) (seen_by table' new spare')
@@ -144,20 +138,18 @@ as_before old held new x table table' spare spare' l same more took left = (
   more,
 )
 
+-- what an operation is for its caller, by what it replies where it was not refused
+pub called_with : {X : Type 0} (reply : X → Reply) (old held new : Draws) (x : Shared) (table table' : TableId) (spare spare' : ℕ) (call : Call) → table' ≡ table → Took old held x → (r : Result (Placed X) Refusal)
+    → MatchResult r (λ placed. Unit {0}) (λ refusal. spare ≤ spare') → MatchResult r (λ placed. Told held new call (reply placed.value) placed.place) (IsRefused held new call)
+    → MatchResult r (λ placed. Called (seen_by table old spare) (seen_by table' new spare') call (reply placed.value) placed.place) (Denies (seen_by table old spare) (seen_by table' new spare') call)
+called_with reply old held new x table table' spare spare' call same took (Ok placed) more told = called old held new x table table' spare spare' call (reply placed.value) placed.place same took told
+called_with reply old held new x table table' spare spare' call same took (Err refusals.Memory) more told = as_before old held new x table table' spare spare' told.0 same more took told.1
+called_with reply old held new x table table' spare spare' call same took (Err (refusals.Full full)) more told =
+    (called old held new x table table' spare spare' call (replies.Full full.in_use full.need) full.place same took told.0, told.1, told.2)
+
 -- an operation that was tried and settled
-module _ (old held new : Draws) (x y : Shared) (table table' : TableId) (spare spare' : ℕ) (call : Call) (made : Result Edge Stop) (result : Result (Placed Name) Refusal) (same : table' ≡ table) (took : Took old held x) where
-  pub called_made : (r : Result (Placed Name) Refusal) → MatchResult r (λ placed. Unit {0}) (λ refusal. spare ≤ spare') → MatchResult r (λ placed. Told held new call (replies.Made placed.value) placed.place) (IsRefused held new call)
-      → MatchResult r (λ placed. Called (seen_by table old spare) (seen_by table' new spare') call (replies.Made placed.value) placed.place) (Denies (seen_by table old spare) (seen_by table' new spare') call)
-  called_made (Ok placed) more told = called old held new x table table' spare spare' call (replies.Made placed.value) placed.place same took told
-  called_made (Err refusals.Memory) more told = as_before old held new x table table' spare spare' told.0 same more took told.1
-  called_made (Err (refusals.Full full)) more told = (called old held new x table table' spare spare' call (replies.Full full.in_use full.need) full.place same took told.0, told.1, told.2)
-
-  pub idle_made : (r : Result (Placed Name) Refusal) → old.live ≡ true → MatchResult r (λ placed. Told held new call (replies.Made placed.value) placed.place) (IsRefused held new call) → (new.live ≡ true) × (new.holds ≡ false)
-  idle_made (Ok placed) live told = idle_told old held new x call (replies.Made placed.value) placed.place took live told
-  idle_made (Err refusals.Memory) live told = idle_left old held new x told.0 took live told.1
-  idle_made (Err (refusals.Full full)) live told = idle_told old held new x call (replies.Full full.in_use full.need) full.place took live told.0
-
-  module _ (Answers : View → View → Edge → Type 0) (Work : View → Denoted → Type 0) (tried : Tried Answers Work x y made) (notes : Notes held new y) where
+module _ {X : Type 0} (old held new : Draws) (x y : Shared) (table table' : TableId) (spare spare' : ℕ) (made : Result X Stop) (took : Took old held x) where
+  module _ (Answers : View → View → X → Type 0) (Work : View → Denoted → Type 0) (tried : Tried Answers Work x y made) (notes : Notes held new y) where
     of_work : (v : Shared) (f : Function) → Lasts x v → orders v ≡ orders x → IsListedWork (view_of v) (Work (view_of v)) f → IsOfWork (seen_by table old spare) Work f
     of_work v f lasts ordered is = (view_of v, has_rows table old spare v (stands_of old held x v took lasts ordered), is)
 
@@ -169,7 +161,7 @@ module _ (old held new : Draws) (x y : Shared) (table table' : TableId) (spare s
         by g (inl there) = inl there
         by g (inr part) = inr (of_work part.0 g part.1 part.2 part.3)
 
-    pub stores_work : (r : Result (Placed Name) Refusal) → IsCausedBy made r → StoresWork Work (seen_by table old spare) (seen_by table' new spare') r
+    pub stores_work : {Y : Type 0} (r : Result Y Refusal) → IsCausedBy made r → StoresWork Work (seen_by table old spare) (seen_by table' new spare') r
     stores_work (Ok placed) cause = stored_work
     stores_work (Err refusals.Memory) cause = λ f c. inr (stored_work f c)
     stores_work (Err (refusals.Full full)) cause = let due = tried.ran.due_is cause in (
@@ -178,16 +170,16 @@ module _ (old held new : Draws) (x y : Shared) (table table' : TableId) (spare s
     )
 
 -- the last try's store serves, and so does the one that it left
-pub served : (d e : Draws) (x y : Shared) (Answers : View → View → Edge → Type 0) (Work : View → Denoted → Type 0) (made : Result Edge Stop) → Took d e x → Tried Answers Work x y made → Serving y e
+pub served : {X : Type 0} (d e : Draws) (x y : Shared) (Answers : View → View → X → Type 0) (Work : View → Denoted → Type 0) (made : Result X Stop) → Took d e x → Tried Answers Work x y made → Serving y e
 served d e x y Answers Work made took tried =
     serves-lasts tried.from y (lasts-grown tried.from y tried.ran.grown tried.ran.cells) e tried.ran.orders_are (serves-lasts x tried.from tried.lasts e tried.orders_are took.serves)
 
-pub counted_few : (x y : Shared) (Answers : View → View → Edge → Type 0) (Work : View → Denoted → Type 0) (made : Result Edge Stop) (n : ℕ) → Tried Answers Work x y made → ((k : ℕ) → count x k ≤ n) → (k : ℕ) → count y k ≤ n
+pub counted_few : {X : Type 0} (x y : Shared) (Answers : View → View → X → Type 0) (Work : View → Denoted → Type 0) (made : Result X Stop) (n : ℕ) → Tried Answers Work x y made → ((k : ℕ) → count x k ≤ n) → (k : ℕ) → count y k ≤ n
 counted_few x y Answers Work made n tried few k =
     let a = ap (λ (f : ℕ → ℕ). f k) tried.lasts.counted in let b = ap (λ (f : ℕ → ℕ). f k) tried.ran.grown.counts in let c = few k in omega (arith, a, b, c)
 
 -- what the call makes is what the edge denotes
-listed-made : (k : Kind) (w w' : View) (e : Edge) (f : ℕ → ValueOf k) → Grown w w' → Denotes k w' e f → listed k w f ≡ listed_at k w' e
+pub listed-made : (k : Kind) (w w' : View) (e : Edge) (f : ℕ → ValueOf k) → Grown w w' → Denotes k w' e f → listed k w f ≡ listed_at k w' e
 listed-made k w w' e f grown is = sym (listed-on k w w' f grown) ∙ ap (listed k w') (sym (values_at-is k is))
   where
     listed-on : (k : Kind) (w w' : View) (f : ℕ → ValueOf k) → Grown w w' → listed k w' f ≡ listed k w f
@@ -207,13 +199,6 @@ answers_make k d e x y call Answers Work made took idle tried value (Ok edge) is
 
 pub may_full : (k : Kind) (d e : Draws) (x : Shared) (v : View) (call : Call) (Answers : View → Edge → Type 0) → Took d e x → d.holds ≡ false → HasValue k Answers d v call → MayBeFull e call
 may_full k d e x v call Answers took idle value t agrees = (makes (listed k v value.0), gives_held d e x call (makes (listed k v value.0)) took idle value.1 t agrees, refl)
-
--- room for one more row
-pub max_spare : (spare : ℕ) → 1 ≤ max spare 1
-max_spare spare = omega arith
-
-pub spare_max : (spare : ℕ) → spare ≤ max spare 1
-spare_max spare = omega arith
 
 -- rows of which the room changed, and a seat that has the turn
 pub keeps_taken : (d e : Draws) (x : Shared) (rows rows' : RowMap) (calls fulls : ℕ) → Took d e x → Tied d rows → calls ≡ length d.entries → fulls ≡ fulls_in d.entries → rows'.live ≡ rows.live → rows'.adds ≡ rows.adds
@@ -235,6 +220,6 @@ room_made (Ok u) rows rows' spare is ok = (ap (λ (z : RowMap). z.live) is, ap (
 room_made (Err m) rows rows' spare is ok = absurd (true≢false ok)
 
 -- a refusal leaves as much room as there was
-pub spare_kept : {X : Type 0} (r : Result X Refusal) (old reserved new : ℕ) → reserved ≡ max old 1 → MatchResult r (λ placed. new + 1 ≡ reserved) (λ refusal. new ≡ reserved) → MatchResult r (λ placed. Unit {0}) (λ refusal. old ≤ new)
-spare_kept (Ok placed) old reserved new is spare = tt
-spare_kept (Err refusal) old reserved new is spare = omega (arith, is, spare)
+pub spare_kept : {X : Type 0} (P : X → Type 0) (r : Result X Refusal) (old reserved new : ℕ) → reserved ≡ max old 1 → MatchResult r P (λ refusal. new ≡ reserved) → MatchResult r (λ placed. Unit {0}) (λ refusal. old ≤ new)
+spare_kept P (Ok placed) old reserved new is spare = tt
+spare_kept P (Err refusal) old reserved new is spare = omega (arith, is, spare)

@@ -1,11 +1,15 @@
 pub mod Naming
 pub mod Serving
+pub mod RequestLemmas
 pub mod Tellings
 pub mod Tying
 pub mod Tries
 pub mod Calls
 pub mod Outcomes
 pub mod OperationLaws
+pub mod ExactLaws
+pub mod NumberLaws
+pub mod FamilyLaws
 pub mod Letting
 pub mod Ending
 pub mod Turning

@@ -1,5 +1,5 @@
 -- What comes of the operations, by the edges of their rows.
-use Rattle.std.proofs.Common.{◌≡◌, ℕ, ◌<◌, Bool, List, Some, ap, arith, true, false, ◌^◌, ◌↔◌, map, option_map, option_and_then, [], ◌∷◌, ap₂, refl, sym, ◌∙◌}
+use Rattle.std.proofs.Common.{◌≡◌, ℕ, ◌<◌, Bool, List, Some, ap, arith, true, false, ◌^◌, ◌↔◌, map, option_map, option_and_then, [], ◌∷◌, ap₂, refl, ◌∙◌}
 use Rattle.std.specs.List.{All}
 use Rattle.std.proofs.lemmas.List.Elements.{All-head, All-map, All-tail}
 use Rattle.seat_guard.specs.declared.view.Row.{Row}

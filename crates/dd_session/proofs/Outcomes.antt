@@ -1,5 +1,6 @@
 -- What comes of the operations, by the edges of their rows.
 use Rattle.std.proofs.Common.{◌≡◌, ℕ, Bool, true, false, not, Option, Some, IsTrue, ◌↔◌, refl, ap, sym, subst, ◌∙◌, ◌<◌, arith, List, length}
+use Rattle.atomic_table.specs.Seated.{TableId}
 use Rattle.edge_bits.specs.Permanent.{true_slot, truth_edge}
 use Rattle.edge_bits.specs.declared.edges.Edge.{Edge}
 use Rattle.edge_bits.specs.declared.edges.Kind.{Kind}
@@ -24,9 +25,8 @@ use Rattle.shared_store.specs.Sharing.{view_of, orders}
 use Rattle.ite_core.proofs.OutcomeLaws.{outcome-not, outcome-one, outcome-zero, outcome-var}
 use Rattle.shared_store.specs.Lasting.{Lasts}
 use Rattle.dd_session.specs.Requests.{truth_call}
-use Rattle.dd_session.specs.Turns.{Gives, IsEdgeOf, Stands}
-use Rattle.dd_session.specs.Walking.{IsOnVariables}
-use Rattle.dd_session.proofs.WalkingLemmas.{walk-levels}
+use Rattle.dd_session.specs.Turns.{Gives, IsEdgeOf, Stands, managed_by}
+use Rattle.dd_session.specs.Walking.{bits_of}
 use Rattle.dd_session.proofs.Calls.{Took, gives_held, stands_of, stands_taken}
 
 module _ (d : Draws) where
@@ -100,12 +100,14 @@ gives_var old held x y took idle lasts same v e lt denotes =
 pub elements : (d : Draws) (t : Table) (x : Shared) → Agrees d t → Stands x d → t.sizes.elements ≡ (view_of x).elements
 elements d t x agrees stands = ap (λ (z : Sizes). z.elements) agrees.sizes_are ∙ sym (ap (λ (p : ℕ × ℕ). p.1) stands.counts_are)
 
-pub walked_bits : (old held : Draws) (x : Shared) → Took old held x → (k : Kind) → IsOnVariables k → (bits : List Bool) → length bits ≡ old.vars → length bits ≡ levels k (view_of x)
-walked_bits old held x took k on bits long = long ∙ sym (ap (λ (p : ℕ × ℕ). p.0) (stands_taken old held x took).counts_are) ∙ sym (walk-levels k (view_of x) on)
+pub walked_bits : (table : TableId) (old held : Draws) (x : Shared) → Took old held x → (k : Kind) (bits : List Bool) → length bits ≡ bits_of k (managed_by table old) → length bits ≡ levels k (view_of x)
+walked_bits table old held x took kinds.Bdd bits long = long ∙ sym (ap (λ (p : ℕ × ℕ). p.0) (stands_taken old held x took).counts_are)
+walked_bits table old held x took kinds.Add bits long = long ∙ sym (ap (λ (p : ℕ × ℕ). p.0) (stands_taken old held x took).counts_are)
+walked_bits table old held x took kinds.Zdd bits long = long ∙ sym (ap (λ (p : ℕ × ℕ). p.1) (stands_taken old held x took).counts_are)
 
-pub gives_eval : (old held : Draws) (x : Shared) → Took old held x → old.holds ≡ false → (k : Kind) → IsOnVariables k → (a : Name) (e : Edge) (bits : List Bool) → length bits ≡ old.vars → IsEdgeOf k old a e
+pub gives_eval : (old held : Draws) (x : Shared) → Took old held x → old.holds ≡ false → (k : Kind) (a : Name) (e : Edge) (bits : List Bool) → length bits ≡ levels k (view_of x) → IsEdgeOf k old a e
     → Gives held (calls.Eval a bits) (shows (number_of k (values_at k (view_of x) e (assignment_of bits))))
-gives_eval old held x took idle k on a e bits long edge =
+gives_eval old held x took idle k a e bits long edge =
     let s = stands_taken old held x took in
     gives_held old held x (calls.Eval a bits) (shows (number_of k (values_at k (view_of x) e (assignment_of bits)))) took idle
-    (λ t agrees. outcome-eval (view_of x) t.sizes t.cells (t.live old.session) (vars old t x agrees s) (elements old t x agrees s) k a bits e (walked_bits old held x took k on bits long) (live old t a (listed_at k (view_of x) e) agrees (edge x s).1))
+    (λ t agrees. outcome-eval (view_of x) t.sizes t.cells (t.live old.session) (vars old t x agrees s) (elements old t x agrees s) k a bits e long (live old t a (listed_at k (view_of x) e) agrees (edge x s).1))

@@ -14,7 +14,7 @@ use Rattle.function_laws.proofs.BoundedRestriction.{Restricts-list_of}
 use Rattle.function_laws.proofs.ListLemmas.{length-list_of}
 use Rattle.node_store.specs.declared.grow.Stop.{Stop}
 use Rattle.node_store.specs.Listed.{listed_at}
-use Rattle.node_store.specs.Views.{View, AreTwo, Is, bdd_at}
+use Rattle.node_store.specs.Views.{View, Is, bdd_at}
 use Rattle.quantify_ops.specs.Restricted.{Restricted, work_of_restrict}
 use Rattle.quantify_ops.proofs.OutcomeLaws.{outcome-restrict}
 use Rattle.seat_guard.specs.declared.view.Draws.{Draws}

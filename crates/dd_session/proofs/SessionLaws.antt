@@ -1,16 +1,19 @@
 -- What the clause of a call tells of its session, for callers to cite in place of the clause.
-use Rattle.std.proofs.Common.{◌≡◌, ℕ, ℤ, Bool, true, false, cond, ◌&&◌, ◌==◌, Option, Some, None, List, IsTrue, ◌↔◌, refl, ap, ap₂, sym, subst, ◌∙◌, eq-eqb}
+use Rattle.std.proofs.Common.{◌≡◌, ℕ, ℤ, pos, Bool, true, false, cond, ◌&&◌, ◌==◌, Option, Some, None, List, length, take_all, IsTrue, ◌↔◌, refl, ap, ap₂, sym, subst, ◌∙◌, arith, eq-eqb}
 use Rattle.std.specs.Prelude.{nat_lt}
 use Rattle.std.proofs.lemmas.Bool.{le-ltb}
+use Rattle.edge_bits.specs.Words.{digit}
 use Rattle.function_laws.specs.declared.history.Name.{Name}
 use Rattle.function_laws.specs.declared.history.Function.{Function}
-use Rattle.function_laws.specs.declared.history.Function.TheVariants.{Bdd}
+use Rattle.function_laws.specs.declared.history.Function.TheVariants.{Bdd, Add, Zdd}
 use Rattle.function_laws.specs.declared.history.Call.{Call}
 use Rattle.function_laws.specs.declared.history.Call.TheVariants as calls
 use Rattle.function_laws.specs.declared.history.Reply.{Reply}
 use Rattle.function_laws.specs.declared.history.Reply.TheVariants as replies
 use Rattle.function_laws.specs.Tables.{Table, same_name}
-use Rattle.function_laws.specs.Steps.{Outcome, makes, restricts, fetches, counts, overflows, is_most, compares, tells, shows, is_done, outcome, with_result, IsAllowed, Replies, after}
+use Rattle.function_laws.specs.Lists.{truth}
+use Rattle.function_laws.specs.Steps.{Outcome, makes, restricts, fetches, counts, overflows, is_most, compares, tells, shows, is_done, in_range, outcome, value_at, with_one, with_result, IsAllowed, Replies, after}
+use Rattle.function_laws.specs.Values.{assignment_of}
 use Rattle.seat_guard.specs.Views.{sizes_for, stands_for}
 use Rattle.dd_session.specs.Sessions.{Called, Seen, SeenIn}
 use Rattle.dd_session.proofs.Naming.{same_name-refl}
@@ -128,6 +131,9 @@ valued_stays old new call z place called = stands_still old new call (replies.Va
 pub full_stays : (old new : Seen) (call : Call) (in_use need place : ℕ) → Called old new call (replies.Full in_use need) place → (name : Name) → stands_for new.rows name ≡ stands_for old.rows name
 full_stays old new call in_use need place called = stands_still old new call (replies.Full in_use need) place called refl
 
+pub overflowed_stays : (old new : Seen) (call : Call) (place : ℕ) → Called old new call replies.Overflow place → (name : Name) → stands_for new.rows name ≡ stands_for old.rows name
+overflowed_stays old new call place called = stands_still old new call replies.Overflow place called refl
+
 -- and so do a post and a sweep
 pub posted_stays : (old new : Seen) (i : ℕ) (a : Name) (place : ℕ) → Called old new (calls.Post i a) replies.Done place → (name : Name) → stands_for new.rows name ≡ stands_for old.rows name
 posted_stays old new i a place called name = stands_after old new (calls.Post i a) replies.Done place called name ∙ stood_before old new (calls.Post i a) replies.Done place called name
@@ -145,28 +151,52 @@ dropped_stays old new a place called name apart =
     by true = refl
     by false = refl
 
+some_same : (x y : Outcome) → Some x ≡ Some y → x ≡ y
+some_same x y e = cc
+
 -- what a comparison was told is right
 pub compared : (old new : Seen) (call : Call) (b : Bool) (place : ℕ) (called : Called old new call (replies.Truth b) place) (f g : Function) → outcome (table_of old called.board) old.number call ≡ Some (compares f g) → IsTrue b ↔ (f ≡ g)
 compared old new call b place called f g is = by (is_allowed old new call (replies.Truth b) place called)
   where
-    same : (o : Outcome) → outcome (table_of old called.board) old.number call ≡ Some o → o ≡ compares f g
-    same o at = some_same o (compares f g) (sym at ∙ is)
-      where
-        some_same : (x y : Outcome) → Some x ≡ Some y → x ≡ y
-        some_same x y e = cc
-
     by : IsAllowed (table_of old called.board) old.number call (replies.Truth b) → IsTrue b ↔ (f ≡ g)
-    by (o, at, says) = subst (λ (x : Outcome). Replies (table_of old called.board) old.number x (replies.Truth b)) (same o at) says
+    by (o, at, says) = subst (λ (x : Outcome). Replies (table_of old called.board) old.number x (replies.Truth b)) (some_same o (compares f g) (sym at ∙ is)) says
 
 -- and so is the value that a call told
 pub shown_as : (old new : Seen) (call : Call) (told z : ℤ) (place : ℕ) (called : Called old new call (replies.Value told) place) → outcome (table_of old called.board) old.number call ≡ Some (shows z) → told ≡ z
 shown_as old new call told z place called is = by (is_allowed old new call (replies.Value told) place called)
   where
-    same : (o : Outcome) → outcome (table_of old called.board) old.number call ≡ Some o → o ≡ shows z
-    same o at = some_same o (shows z) (sym at ∙ is)
-      where
-        some_same : (x y : Outcome) → Some x ≡ Some y → x ≡ y
-        some_same x y e = cc
-
     by : IsAllowed (table_of old called.board) old.number call (replies.Value told) → told ≡ z
-    by (o, at, says) = subst (λ (x : Outcome). Replies (table_of old called.board) old.number x (replies.Value told)) (same o at) says
+    by (o, at, says) = subst (λ (x : Outcome). Replies (table_of old called.board) old.number x (replies.Value told)) (some_same o (shows z) (sym at ∙ is)) says
+
+-- the value of a row of any kind
+pub evaluated_as : (old new : Seen) (a : Name) (bits : List Bool) (told : ℤ) (place : ℕ) → Called old new (calls.Eval a bits) (replies.Value told) place → (f : Function) → stands_for old.rows a ≡ Some f
+    → told ≡ value_at (sizes_for old.manager.vars old.manager.elements) f bits
+evaluated_as old new a bits told place called f is =
+    let sizes = sizes_for old.manager.vars old.manager.elements in
+    shown_as old new (calls.Eval a bits) told (value_at sizes f bits) place called
+    (ap (λ o. with_one o (λ g. shows (value_at sizes g bits))) (stood_before old new (calls.Eval a bits) (replies.Value told) place called a ∙ is))
+
+-- of a family it tells whether the elements whose bits are set are a member
+pub member_told : (old new : Seen) (a : Name) (bits : List Bool) (told : ℤ) (place : ℕ) → Called old new (calls.Eval a bits) (replies.Value told) place → (p : List Bool) → stands_for old.rows a ≡ Some (Zdd p)
+    → length bits ≡ old.manager.elements → told ≡ pos (digit (truth p (assignment_of bits)))
+member_told old new a bits told place called p is long =
+    evaluated_as old new a bits told place called (Zdd p) is ∙ ap (λ bs. pos (digit (truth p (assignment_of bs)))) (take_all old.manager.elements bits (omega (arith, long)))
+
+-- an operation on numbers whose values may be out of range
+module _ (old new : Seen) (call : Call) (place : ℕ) where
+  -- it made a row where all are in range, which stands for them
+  pub made_exact : (name : Name) (called : Called old new call (replies.Made name) place) (o : Option (List ℤ)) → outcome (table_of old called.board) old.number call ≡ Some (in_range o)
+      → (f : List ℤ) × (o ≡ Some f) × (stands_for new.rows name ≡ Some (Add f))
+  made_exact name called (Some f) is = (f, refl, made_as old new call name place called (Add f) is)
+  made_exact name called None is = absurd (by (is_allowed old new call (replies.Made name) place called))
+    where
+      by : IsAllowed (table_of old called.board) old.number call (replies.Made name) → ⊥
+      by (o, at, says) = subst (λ (x : Outcome). Replies (table_of old called.board) old.number x (replies.Made name)) (some_same o overflows (sym at ∙ is)) says
+
+  -- and it was told as out of range only where one is
+  pub overflowed : (called : Called old new call replies.Overflow place) (o : Option (List ℤ)) → outcome (table_of old called.board) old.number call ≡ Some (in_range o) → o ≡ None
+  overflowed called None is = refl
+  overflowed called (Some f) is = absurd (by (is_allowed old new call replies.Overflow place called))
+    where
+      by : IsAllowed (table_of old called.board) old.number call replies.Overflow → ⊥
+      by (o, at, says) = subst (λ (x : Outcome). Replies (table_of old called.board) old.number x replies.Overflow) (some_same o (makes (Add f)) (sym at ∙ is)) says

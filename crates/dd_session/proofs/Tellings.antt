@@ -17,10 +17,8 @@ use Rattle.function_laws.specs.declared.history.Reply.{Reply}
 use Rattle.function_laws.specs.declared.history.Reply.TheVariants as replies
 use Rattle.function_laws.specs.declared.history.Entry.{Entry}
 use Rattle.function_laws.specs.Kinds.{Denoted}
-use Rattle.function_laws.specs.Sizes.{Orders}
-use Rattle.function_laws.specs.EntryOrders.{orders_after}
 use Rattle.function_laws.specs.Tables.{Table, same_name, with_name}
-use Rattle.function_laws.specs.Steps.{Outcome, makes, restricts, fetches, compares, tells, shows, is_done, may_be_full, with_result, with_one, when, from_cell}
+use Rattle.function_laws.specs.Steps.{Outcome, makes, restricts, fetches, overflows, compares, tells, shows, is_done, may_be_full, with_result, with_one, when, from_cell}
 use Rattle.node_store.specs.Listed.{listed_at}
 use Rattle.node_store.specs.Views.{View, Is, values_at}
 use Rattle.handle_count.specs.declared.rows.Held.{Held as Live}
@@ -31,7 +29,6 @@ use Rattle.seat_guard.specs.declared.view.Change.TheVariants.{Nothing, Adds, Tak
 use Rattle.seat_guard.specs.declared.view.Telling.{Telling}
 use Rattle.seat_guard.specs.declared.view.Leaving.{Leaving}
 use Rattle.seat_guard.specs.declared.view.Draws.{Draws}
-use Rattle.seat_guard.specs.Sifted.{carried_by}
 use Rattle.seat_guard.specs.Views.{Agrees, AreTold, MayTell, told_of, letting_go, orders_of, stands_for, without, cell_in, function_in}
 use Rattle.shared_store.specs.declared.shared.Cell.{Cell}
 use Rattle.shared_store.specs.declared.shared.Shared.{Shared}
@@ -41,79 +38,16 @@ use Rattle.shared_store.proofs.Keeping.{kind-listed}
 use Rattle.shared_store.proofs.Stored.{functions-recounted}
 use Rattle.shared_store.specs.Storing.{IsLeaving}
 use Rattle.dd_session.specs.declared.request.Request.{Request}
-use Rattle.dd_session.specs.declared.request.Request.TheVariants as requests
 use Rattle.dd_session.specs.declared.request.Adding.{Adding}
 use Rattle.dd_session.specs.declared.request.Adding.TheVariants.{Made, Chosen, Taken}
 use Rattle.dd_session.specs.declared.request.Answer.{Answer}
-use Rattle.dd_session.specs.declared.request.Answer.TheVariants.{Added, Dropped, Posted, Truth, Value, Done, Full}
-use Rattle.dd_session.specs.Requests.{added_as, call_of, is_refusal, reply_of, truths_of}
-use Rattle.dd_session.specs.Sessions.{fulls_in, is_full}
-use Rattle.dd_session.specs.Turns.{AddsRow, Chooses, Drew, Gives, MayBeFull, Notes, live_as}
+use Rattle.dd_session.specs.declared.request.Answer.TheVariants.{Added, Dropped, Posted, Truth, Value, Done, Overflow, Full}
+use Rattle.dd_session.specs.Requests.{added_as, call_of, change_of, is_refusal, reply_of, truths_of}
+use Rattle.dd_session.specs.Sessions.{fulls_in, is_full, names_in}
+use Rattle.dd_session.specs.Turns.{AddsRow, Chooses, Drew, Gives, MayBeFull, Notes, live_as, names_by}
 use Rattle.dd_session.proofs.Naming.{cond_none, same_name-eq}
+use Rattle.dd_session.proofs.RequestLemmas.{carries_none, orders_stay}
 use Rattle.dd_session.proofs.Serving.{KnowsAs, listed-on}
-
--- no call here carries functions
-pub carries_none : (r : Request) → carried_by (call_of r) ≡ []
-carries_none requests.One = refl
-carries_none requests.Zero = refl
-carries_none (requests.Var v) = refl
-carries_none (requests.Not a) = refl
-carries_none (requests.And a b) = refl
-carries_none (requests.Or a b) = refl
-carries_none (requests.Xor a b) = refl
-carries_none (requests.Ite a b c) = refl
-carries_none (requests.Cofactor a v bit) = refl
-carries_none (requests.Exists a vars) = refl
-carries_none (requests.Forall a vars) = refl
-carries_none (requests.AndExists a b vars) = refl
-carries_none (requests.Compose a v b) = refl
-carries_none (requests.VectorCompose a pairs) = refl
-carries_none (requests.Restrict a b) = refl
-carries_none (requests.Support a) = refl
-carries_none (requests.Copy a) = refl
-carries_none (requests.DropRow a) = refl
-carries_none (requests.Same a b) = refl
-carries_none (requests.Leq a b) = refl
-carries_none (requests.Eval a bits) = refl
-carries_none (requests.Post i a) = refl
-carries_none (requests.Fetch i a) = refl
-carries_none requests.Sweep = refl
-
--- nor changes an order
-pub orders_stay : (o : Orders) (r : Request) (reply : Reply) → ((name : Name) (n : ℕ) → reply ≡ replies.Numbered name n → ⊥) → orders_after o (call_of r) reply ≡ o
-orders_stay o r (replies.Made name) plain = refl
-orders_stay o r (replies.Chose name g) plain = refl
-orders_stay o r (replies.Fetched name posted) plain = refl
-orders_stay o r (replies.Numbered name n) plain = absurd (plain name n refl)
-orders_stay o r (replies.Truth b) plain = refl
-orders_stay o r (replies.Value z) plain = refl
-orders_stay o r replies.Overflow plain = refl
-orders_stay o r replies.Most plain = refl
-orders_stay o r (replies.Full a b) plain = refl
-orders_stay o requests.One replies.Done plain = refl
-orders_stay o requests.Zero replies.Done plain = refl
-orders_stay o (requests.Var v) replies.Done plain = refl
-orders_stay o (requests.Not a) replies.Done plain = refl
-orders_stay o (requests.And a b) replies.Done plain = refl
-orders_stay o (requests.Or a b) replies.Done plain = refl
-orders_stay o (requests.Xor a b) replies.Done plain = refl
-orders_stay o (requests.Ite a b c) replies.Done plain = refl
-orders_stay o (requests.Cofactor a v bit) replies.Done plain = refl
-orders_stay o (requests.Exists a vars) replies.Done plain = refl
-orders_stay o (requests.Forall a vars) replies.Done plain = refl
-orders_stay o (requests.AndExists a b vars) replies.Done plain = refl
-orders_stay o (requests.Compose a v b) replies.Done plain = refl
-orders_stay o (requests.VectorCompose a pairs) replies.Done plain = refl
-orders_stay o (requests.Restrict a b) replies.Done plain = refl
-orders_stay o (requests.Support a) replies.Done plain = refl
-orders_stay o (requests.Copy a) replies.Done plain = refl
-orders_stay o (requests.DropRow a) replies.Done plain = refl
-orders_stay o (requests.Same a b) replies.Done plain = refl
-orders_stay o (requests.Leq a b) replies.Done plain = refl
-orders_stay o (requests.Eval a bits) replies.Done plain = refl
-orders_stay o (requests.Post i a) replies.Done plain = refl
-orders_stay o (requests.Fetch i a) replies.Done plain = refl
-orders_stay o requests.Sweep replies.Done plain = refl
 
 no_number : (w : View) (adding : Adding) (name : Name) (cell : Cell) (r : Name) (n : ℕ) → added_as w adding name cell ≡ replies.Numbered r n → ⊥
 no_number w Made name cell r n e = cc
@@ -234,6 +168,14 @@ may_show d r x told is is_outcome = record {
   room = tt;
 }
 
+pub may_exceed : (d : Draws) (r : Request) → Gives d (call_of r) overflows → MayTell d (quiet (call_of r) replies.Overflow)
+may_exceed d r is_outcome = record {
+  plain = refl;
+  step = λ t agrees. ((overflows, is_outcome t agrees, tt), agrees_quiet d t (call_of r) replies.Overflow agrees);
+  carries = subst (λ (l : List Function). Rattle.function_laws.specs.SessionEntries.Each (Rattle.seat_guard.specs.Sifted.IsKnown d) l) (sym (carries_none r)) tt;
+  room = tt;
+}
+
 pub may_sweep : (d : Draws) → MayTell d (quiet calls.Sweep replies.Done)
 may_sweep d = record {
   plain = refl;
@@ -336,6 +278,19 @@ outcome-of_fetch d i a f o within holds is found t agrees =
 
 -- refused calls
 
+-- a telling gives the names that its reply has
+pub counted_answer : (w : View) (answer : Answer) → names_by (change_of w answer) ≡ names_in (reply_of w answer)
+counted_answer w (Added Made name cell) = refl
+counted_answer w (Added Chosen name cell) = refl
+counted_answer w (Added (Taken posted) name cell) = refl
+counted_answer w (Dropped name) = refl
+counted_answer w (Posted i cell) = refl
+counted_answer w (Truth told) = refl
+counted_answer w (Value x) = refl
+counted_answer w Done = refl
+counted_answer w Overflow = refl
+counted_answer w (Full in_use need) = refl
+
 pub is_full-reply : (w : View) (answer : Answer) → is_full (reply_of w answer) ≡ is_refusal answer
 is_full-reply w (Added Made name cell) = refl
 is_full-reply w (Added Chosen name cell) = refl
@@ -345,6 +300,7 @@ is_full-reply w (Posted i cell) = refl
 is_full-reply w (Truth told) = refl
 is_full-reply w (Value x) = refl
 is_full-reply w Done = refl
+is_full-reply w Overflow = refl
 is_full-reply w (Full in_use need) = refl
 
 pub fulls-append : (es : List Entry) (e : Entry) → fulls_in (es ++ e ∷ []) ≡ fulls_in es + is_full e.reply
@@ -374,12 +330,14 @@ refusal-most (Posted i cell) = omega arith
 refusal-most (Truth told) = omega arith
 refusal-most (Value x) = omega arith
 refusal-most Done = omega arith
+refusal-most Overflow = omega arith
 refusal-most (Full in_use need) = omega arith
 
 -- a turn in which a place was drawn
-pub drew_turn : (d told left : Draws) (y : Shared) (x : Telling) (place : ℕ) → MayTell d x → All (λ (e : Entry). e.place < place) d.entries → told ≡ told_of d place x → (l : Leaving) × (left ≡ letting_go told l) × IsLeaving told y l → Drew d left y x place
-drew_turn d told left y x place may later is gave = record {
+pub drew_turn : (d told left : Draws) (y : Shared) (x : Telling) (place : ℕ) → MayTell d x → names_by x.change ≡ names_in x.reply → All (λ (e : Entry). e.place < place) d.entries → told ≡ told_of d place x → (l : Leaving) × (left ≡ letting_go told l) × IsLeaving told y l → Drew d left y x place
+drew_turn d told left y x place may counted later is gave = record {
   may = may;
+  counted = counted;
   later = later;
   leaving = gave.0;
   is_leaving = by (subst (λ (t : Draws). IsLeaving t y gave.0) is gave.2);

@@ -1,12 +1,21 @@
 -- The tries of an operation.
-use Rattle.std.proofs.Common.{◌≡◌, ◌⊎◌, inl, inr, ℕ, ◌<◌, Bool, Contains, Result, refl, ap, ap₂, sym, subst, ◌∙◌}
+use Rattle.std.proofs.Common.{◌≡◌, ◌⊎◌, inl, inr, ℕ, ◌<◌, ℤ, Bool, Contains, Result, Ok, Err, IfOk, refl, ap, ap₂, sym, subst, ◌∙◌}
+use Rattle.std.specs.Prelude.{IsErrOf}
+use Rattle.add_ops.specs.declared.arithmetic.Overflow.{Overflow}
+use Rattle.add_ops.specs.Exact.{exact_halts}
+use Rattle.add_ops.proofs.ExactLaws.{exactly_full}
 use Rattle.edge_bits.specs.declared.edges.Edge.{Edge}
 use Rattle.edge_bits.specs.declared.edges.Kind.{Kind}
+use Rattle.edge_bits.specs.declared.edges.Kind.TheVariants as kinds
 use Rattle.function_laws.specs.declared.history.Function.{Function}
 use Rattle.function_laws.specs.Kinds.{Denoted}
 use Rattle.node_store.specs.declared.grow.Stop.{Stop}
-use Rattle.node_store.specs.Operations.{CallsTo, halts}
-use Rattle.node_store.specs.Views.{View, Grown, Kept}
+use Rattle.node_store.specs.declared.grow.Stop.TheVariants as stop
+use Rattle.node_store.specs.declared.operator.Halt.TheVariants as halt
+use Rattle.node_store.specs.Operations.{Calls, CallsTo, Serves, halts}
+use Rattle.node_store.specs.Two.{Overflows}
+use Rattle.node_store.specs.Views.{View, Denotes, Grown, Kept}
+use Rattle.node_store.specs.Work.{Adds, IsWork}
 use Rattle.node_store.specs.WorkLaws.{IsPart-back}
 use Rattle.node_store.proofs.Running.{told, told_full}
 use Rattle.node_slots.specs.Stores.{IsStore}
@@ -18,7 +27,7 @@ use Rattle.shared_store.proofs.Lasting.{lasts-grown}
 use Rattle.shared_store.proofs.Ordered.{orders-grown}
 use Rattle.shared_store.proofs.Stored.{due-listed, stores-grown}
 use Rattle.shared_store.proofs.Storing.{stores-then}
-use Rattle.dd_session.specs.Turns.{IsAsked, Ran, Tried}
+use Rattle.dd_session.specs.Turns.{IsAsked, IsExact, Ran, Tried, exact_answers}
 
 pub lasts-refl : (x : Shared) → Lasts x x
 lasts-refl x = record { held = λ h some kept. kept; cells = refl; counts_are = refl; counted = refl }
@@ -46,23 +55,24 @@ stores-weaker P Q x y weaker stores f c = by (stores f c)
     by (inl there) = inl there
     by (inr has) = inr (weaker f has)
 
-module _ (Answers : View → View → Edge → Type 0) (Work : View → Denoted → Type 0) where
-  pub ran : (k : Kind) (x y : Shared) (made : Result Edge Stop) → IsStore x.store → IsStore y.store → y.cells.items ≡ x.cells.items → CallsTo k (Answers (view_of x) (view_of y)) ⊥ (Work (view_of x)) (view_of x) (view_of y) (halts made) → Ran Answers Work x y made
-  ran k x y made of of' cells calls = let same = orders-grown x.store y.store of of' calls.grown in record {
+module _ {X : Type 0} (Answers : View → View → X → Type 0) (Work : View → Denoted → Type 0) where
+  ran_of : (x y : Shared) (made : Result X Stop) → IsStore x.store → IsStore y.store → y.cells.items ≡ x.cells.items → Grown (view_of x) (view_of y) → Adds (Work (view_of x)) (view_of x) (view_of y)
+      → IfOk made (Answers (view_of x) (view_of y)) → (IsErrOf made stop.Full → IsWork (view_of y) (Work (view_of x)) (view_of y).due) → Ran Answers Work x y made
+  ran_of x y made of of' cells grown adds answer due = let same = orders-grown x.store y.store of of' grown in record {
     store = of;
-    grown = calls.grown;
+    grown = grown;
     cells = cells;
     orders_are = λ i. record { variables = same.0 i; elements = same.1 i };
-    answer = told (Answers (view_of x) (view_of y)) made calls.answer;
-    stored = stores-grown x y of of' (Work (view_of x)) calls.grown calls.work;
-    due_is = λ is. let due = due-listed y (Work (view_of x)) (calls.due (told_full made is)) in (due.0, due.1, listed-back (view_of x) (view_of y) (Work (view_of x)) due.0 calls.grown due.2);
+    answer = answer;
+    stored = stores-grown x y of of' (Work (view_of x)) grown adds;
+    due_is = λ is. let d = due-listed y (Work (view_of x)) (due is) in (d.0, d.1, listed-back (view_of x) (view_of y) (Work (view_of x)) d.0 grown d.2);
   }
 
   abbrev Part : Shared → Function → Type 0
   Part x f = (v : Shared) × Lasts x v × (orders v ≡ orders x) × IsListedWork (view_of v) (Work (view_of v)) f
 
   -- the first try is the last
-  pub tried_once : (x y : Shared) (made : Result Edge Stop) → Ran Answers Work x y made → Tried Answers Work x y made
+  pub tried_once : (x y : Shared) (made : Result X Stop) → Ran Answers Work x y made → Tried Answers Work x y made
   tried_once x y made ran = record {
     from = x;
     lasts = lasts-refl x;
@@ -72,7 +82,7 @@ module _ (Answers : View → View → Edge → Type 0) (Work : View → Denoted 
   }
 
   -- after what stores nothing
-  pub tried_after : (x y z : Shared) (made : Result Edge Stop) → Lasts x y → orders y ≡ orders x → StoresOnly (λ _. ⊥) x y → Ran Answers Work y z made → Tried Answers Work x z made
+  pub tried_after : (x y z : Shared) (made : Result X Stop) → Lasts x y → orders y ≡ orders x → StoresOnly (λ _. ⊥) x y → Ran Answers Work y z made → Tried Answers Work x z made
   tried_after x y z made lasts same none ran = record {
     from = y;
     lasts = lasts;
@@ -82,7 +92,7 @@ module _ (Answers : View → View → Edge → Type 0) (Work : View → Denoted 
   }
 
   -- after another try
-  pub tried_then : (x y z : Shared) (first made : Result Edge Stop) → Ran Answers Work x y first → Tried Answers Work y z made → Tried Answers Work x z made
+  pub tried_then : (x y z : Shared) (first made : Result X Stop) → Ran Answers Work x y first → Tried Answers Work y z made → Tried Answers Work x z made
   tried_then x y z first made ran tried = let lasts = lasts-grown x y ran.grown ran.cells in record {
     from = tried.from;
     lasts = lasts-then x y tried.from lasts tried.lasts;
@@ -92,6 +102,33 @@ module _ (Answers : View → View → Edge → Type 0) (Work : View → Denoted 
         (stores-weaker (IsListedWork (view_of x) (Work (view_of x))) (Part x) x y (λ f is. (x, lasts-refl x, refl, is)) ran.stored)
         (stores-weaker (Part y) (Part x) y z (λ f is. (is.0, lasts-then x y is.0 lasts is.1, is.2 ∙ ran.orders_are, is.3)) tried.stored);
   }
+
+-- an operation whose values are never out of range
+pub ran : (Answers : View → View → Edge → Type 0) (Work : View → Denoted → Type 0) (k : Kind) (x y : Shared) (made : Result Edge Stop) → IsStore x.store → IsStore y.store → y.cells.items ≡ x.cells.items
+    → CallsTo k (Answers (view_of x) (view_of y)) ⊥ (Work (view_of x)) (view_of x) (view_of y) (halts made) → Ran Answers Work x y made
+ran Answers Work k x y made of of' cells calls =
+    ran_of Answers Work x y made of of' cells calls.grown calls.work (told (Answers (view_of x) (view_of y)) made calls.answer) (λ is. calls.due (told_full made is))
+
+-- and one whose values may be
+pub ran_exact : (value : View → ℕ → ℤ) (Work : View → Denoted → Type 0) (x y : Shared) (made : Result (Result Edge Overflow) Stop) → IsStore x.store → IsStore y.store → y.cells.items ≡ x.cells.items
+    → Calls kinds.Add (value (view_of x)) (Work (view_of x)) (view_of x) (view_of y) (exact_halts made) → Ran (exact_answers value) Work x y made
+ran_exact value Work x y made of of' cells calls =
+    ran_of (exact_answers value) Work x y made of of' cells calls.grown calls.work (by made calls.answer calls.overflow) (λ is. calls.due (exactly_full made is))
+  where
+    by : (r : Result (Result Edge Overflow) Stop) → IfOk (exact_halts r) (λ e. Denotes kinds.Add (view_of y) e (value (view_of x))) → (IsErrOf (exact_halts r) halt.Overflow → Overflows kinds.Add (value (view_of x)))
+        → IfOk r (IsExact (value (view_of x)) (view_of y))
+    by (Ok (Ok e)) denotes over = denotes
+    by (Ok (Err o)) denotes over = over refl
+    by (Err s) denotes over = tt
+
+-- what never says that a value is out of range
+pub never_over : (Answer : Edge → Type 0) (Over : Type 0) (Work : Denoted → Type 0) (Short Room : Type 0) (v w : View) (r : Result Edge Stop) → Serves Answer Over Work Short Room v w (halts r) → Serves Answer ⊥ Work Short Room v w (halts r)
+never_over Answer Over Work Short Room v w r s = record { grown = s.grown; room = s.room; answer = s.answer; overflow = none r; work = s.work; memory = s.memory; full = s.full; due = s.due }
+  where
+    none : (r : Result Edge Stop) → IsErrOf (halts r) halt.Overflow → ⊥
+    none (Ok e) is = cc
+    none (Err stop.Memory) is = cc
+    none (Err stop.Full) is = cc
 
 -- what is made of no work is nothing
 made_of_none : (x y : Shared) → StoresOnly (IsListedWork (view_of x) (λ _. ⊥)) x y → StoresOnly (λ _. ⊥) x y

@@ -1,9 +1,11 @@
 -- A walk down a diagram that branches on variables.
 use Rattle.std.proofs.Common.{◌≡◌, ℕ, ◌<◌, Bool, true, false, cond, refl, sym, ap, ◌∙◌, subst, ℤ}
+use mir.Val.{bool_byte}
 use Rattle.edge_bits.specs.declared.edges.Edge.{Edge}
 use Rattle.edge_bits.specs.declared.edges.Kind.{Kind}
 use Rattle.edge_bits.specs.declared.edges.Kind.TheVariants.{Bdd, Add, Zdd}
 use Rattle.edge_bits.specs.Assignments.{bit}
+use Rattle.edge_bits.specs.Words.{digit}
 use Rattle.function_laws.specs.Kinds.{ValueOf}
 use Rattle.node_slots.specs.Views.{View, Is, IsInner, IsLeaf, IsLeafOf, IsVariable, levels, logic_one, logic_zero, node_values, number, values_at}
 use Rattle.node_store.specs.Listed.{number_of}
@@ -55,3 +57,14 @@ walk-leaf k b e f x at on leaf = leaf-value k e f x at on leaf.leaf
 pub walk-top : (k : Kind) (b : View) (e hi lo : Edge) (f : ℕ → ValueOf k) (v : ℕ) (c : Bool) (next : Edge) → IsInner k b e f v hi lo → next ≡ cond c hi lo → b.level v < b.top next.index
 walk-top k b e hi lo f v true next inner chosen = subst (λ (y : Edge). b.level v < b.top y.index) (sym chosen) inner.hi_top
 walk-top k b e hi lo f v false next inner chosen = subst (λ (y : Edge). b.level v < b.top y.index) (sym chosen) inner.lo_top
+
+-- the kinds other than that of families
+pub branches_on_variables : (k : Kind) → (k ≡ Zdd → ⊥) → IsOnVariables k
+branches_on_variables Bdd other = tt
+branches_on_variables Add other = tt
+branches_on_variables Zdd other = absurd (other refl)
+
+-- a membership as a number
+pub digit_of : (b : Bool) → bool_byte b ≡ digit b
+digit_of true = refl
+digit_of false = refl

@@ -1,5 +1,8 @@
 -- What a call and its answer tell.
 use Rattle.std.specs.Prelude.{ℕ, Bool, true, false, List, []}
+use Rattle.edge_bits.specs.Permanent.{base_edge, empty_edge}
+use Rattle.edge_bits.specs.declared.edges.Edge.{Edge}
+use Rattle.function_laws.specs.Families.{base, empty}
 use Rattle.function_laws.specs.declared.history.Function.{Function}
 use Rattle.function_laws.specs.declared.history.Function.TheVariants.{Bdd, Add, Zdd}
 use Rattle.function_laws.specs.declared.history.Name.{Name}
@@ -19,7 +22,7 @@ use Rattle.dd_session.specs.declared.request.Request.TheVariants as requests
 use Rattle.dd_session.specs.declared.request.Adding.{Adding}
 use Rattle.dd_session.specs.declared.request.Adding.TheVariants.{Made, Chosen, Taken}
 use Rattle.dd_session.specs.declared.request.Answer.{Answer}
-use Rattle.dd_session.specs.declared.request.Answer.TheVariants.{Added, Dropped, Posted, Truth, Value, Done, Full}
+use Rattle.dd_session.specs.declared.request.Answer.TheVariants.{Added, Dropped, Posted, Truth, Value, Done, Overflow, Full}
 
 abbrev pub call_of : Request → Call
 call_of requests.One = calls.One
@@ -38,6 +41,29 @@ call_of (requests.Compose a v b) = calls.Compose a v b
 call_of (requests.VectorCompose a pairs) = calls.VectorCompose a pairs.now
 call_of (requests.Restrict a b) = calls.Restrict a b
 call_of (requests.Support a) = calls.Support a
+call_of (requests.Constant x) = calls.Constant x
+call_of (requests.FromBdd a) = calls.FromBdd a
+call_of (requests.Plus a b) = calls.Plus a b
+call_of (requests.Minus a b) = calls.Minus a b
+call_of (requests.Times a b) = calls.Times a b
+call_of (requests.Min a b) = calls.Min a b
+call_of (requests.Max a b) = calls.Max a b
+call_of (requests.Threshold a b) = calls.Threshold a b
+call_of (requests.AddIte a b c) = calls.AddIte a b c
+call_of (requests.SumOver a v) = calls.SumOver a v
+call_of (requests.AtLeast a x) = calls.AtLeast a x
+call_of (requests.Pattern a) = calls.Pattern a
+call_of requests.Empty = calls.Empty
+call_of requests.Base = calls.Base
+call_of (requests.Single e) = calls.Single e
+call_of (requests.Union a b) = calls.Union a b
+call_of (requests.Meet a b) = calls.Meet a b
+call_of (requests.Diff a b) = calls.Diff a b
+call_of (requests.Subset1 a e) = calls.Subset1 a e
+call_of (requests.Subset0 a e) = calls.Subset0 a e
+call_of (requests.Change a e) = calls.Change a e
+call_of (requests.Product a b) = calls.Product a b
+call_of (requests.Quotient a b) = calls.Quotient a b
 call_of (requests.Copy a) = calls.Copy a
 call_of (requests.DropRow a) = calls.DropRow a
 call_of (requests.Same a b) = calls.Same a b
@@ -51,6 +77,19 @@ call_of requests.Sweep = calls.Sweep
 abbrev pub truth_call : Bool → Call
 truth_call true = calls.One
 truth_call false = calls.Zero
+
+-- the call that makes a family of no operand, the one with a member or the one without
+abbrev pub terminal_call : Bool → Call
+terminal_call true = calls.Base
+terminal_call false = calls.Empty
+
+abbrev pub terminal_edge : Bool → Edge
+terminal_edge true = base_edge
+terminal_edge false = empty_edge
+
+abbrev pub terminal_family : Bool → ℕ → Bool
+terminal_family true = base
+terminal_family false = empty
 
 -- the truth values of a function that has such
 abbrev pub truths_of : Function → List Bool
@@ -71,6 +110,7 @@ reply_of w (Posted i cell) = replies.Done
 reply_of w (Truth told) = replies.Truth told
 reply_of w (Value x) = replies.Value x
 reply_of w Done = replies.Done
+reply_of w Overflow = replies.Overflow
 reply_of w (Full in_use need) = replies.Full in_use need
 
 abbrev pub change_of : View → Answer → Change
@@ -80,6 +120,7 @@ change_of w (Posted i cell) = Posts i (held_of w cell)
 change_of w (Truth told) = Nothing
 change_of w (Value x) = Nothing
 change_of w Done = Nothing
+change_of w Overflow = Nothing
 change_of w (Full in_use need) = Nothing
 
 abbrev pub telling_of : View → Request → Answer → Telling

@@ -1,5 +1,6 @@
 -- What callers see of a session, and what a call says.
-use Rattle.std.specs.Prelude.{◌≡◌, ℕ, ◌+◌, ◌≤◌, ◌<◌, ◌^◌, List, [], ◌∷◌, ◌++◌, All, length, Option, Some, None, false, if◌then◌else◌}
+use Rattle.std.specs.Prelude.{◌≡◌, ℕ, ◌+◌, ◌≤◌, ◌<◌, ◌^◌, List, [], ◌∷◌, ◌++◌, All, length, Option, Some, None, Result, Ok, Err, false, if◌then◌else◌}
+use Rattle.add_ops.specs.declared.arithmetic.Overflow.{Overflow}
 use Rattle.atomic_table.specs.Seated.{TableId}
 use Rattle.edge_bits.specs.declared.edges.Edge.{Edge}
 use Rattle.edge_bits.specs.declared.edges.Kind.{Kind}
@@ -48,6 +49,14 @@ pub record SeenIn (s : Seen) (t : Table) : Type 0 where
   pub live : t.live s.number ≡ stands_for s.rows
   pub fresh : (name : Name) → s.adds ≤ name.generation → t.given s.number name ≡ false
 
+-- how many names a reply gives
+abbrev pub names_in : Reply → ℕ
+names_in (replies.Made name) = 1
+names_in (replies.Chose name f) = 1
+names_in (replies.Fetched name posted) = 1
+names_in (replies.Numbered name n) = 1
+names_in _ = 0
+
 -- The call was made at the place and replied so: in whatever table the session is seen, with the board that there was at the place, this is a step, and the session is seen afterwards in the table that is left. It is the one entry more of the session, above its other ones.
 pub record Called (old new : Seen) (call : Call) (reply : Reply) (place : ℕ) : Type 0 where
   pub board : ℕ → Option Function
@@ -56,8 +65,9 @@ pub record Called (old new : Seen) (call : Call) (reply : Reply) (place : ℕ) :
   pub later : All (λ (e : Entry). e.place < place) old.entries
   pub manager_is : new.manager ≡ old.manager
   pub number_is : new.number ≡ old.number
-  -- it gave at most one name, and has at most one row more
-  pub few : (new.adds ≤ old.adds + 1) × (length new.rows ≤ length old.rows + 1)
+  -- it gave the names that the reply has, and has at most so many rows more
+  pub adds_are : new.adds ≡ old.adds + names_in reply
+  pub few : length new.rows ≤ length old.rows + names_in reply
 
 -- want of memory leaves all as it was; what is stored may be more, and so may the room for rows
 abbrev pub IsAsBefore : Seen → Seen → Type 0
@@ -67,6 +77,11 @@ IsAsBefore old new = (new ≡ record old { spare = new.spare; stored = new.store
 abbrev pub Denies : Seen → Seen → Call → Refusal → Type 0
 Denies old new call refusals.Memory = IsAsBefore old new
 Denies old new call (refusals.Full full) = Called old new call (replies.Full full.in_use full.need) full.place × (full.in_use ≡ full.limit) × (full.need ≡ 1)
+
+-- what an operation replies whose values may be out of range
+abbrev pub told_as : Result Name Overflow → Reply
+told_as (Ok name) = replies.Made name
+told_as (Err _) = replies.Overflow
 
 -- the session may make one more call
 abbrev pub HasRoom : Seen → Type 0

@@ -1,5 +1,6 @@
 -- What the functions over a seat and its rows say.
-use Rattle.std.specs.Prelude.{◌≡◌, Bool, ◌==◌, ℕ, ◌+◌, ◌≤◌, ◌<◌, ◌^◌, List, [], ◌∷◌, All, length, option_map, Option, Some, None, true, false, Result, Ok, Err, IfOk, IsErrOf}
+use Rattle.std.specs.Prelude.{◌≡◌, Bool, ◌==◌, ℕ, ◌+◌, ◌≤◌, ◌<◌, ◌^◌, List, [], ◌∷◌, All, length, option_map, Option, Some, None, true, false, ℤ, Result, Ok, Err, IfOk, IsErrOf}
+use Rattle.add_ops.specs.declared.arithmetic.Overflow.{Overflow}
 use Rattle.atomic_table.specs.Seated.{TableId}
 use Rattle.edge_bits.specs.declared.edges.Edge.{Edge}
 use Rattle.edge_bits.specs.declared.edges.Kind.{Kind}
@@ -12,14 +13,17 @@ use Rattle.function_laws.specs.declared.history.Reply.TheVariants as replies
 use Rattle.function_laws.specs.declared.history.Entry.{Entry}
 use Rattle.function_laws.specs.Kinds.{Denoted, ValueOf}
 use Rattle.function_laws.specs.Restricting.{Restricts}
-use Rattle.function_laws.specs.Lists.{truth}
-use Rattle.function_laws.specs.Steps.{Outcome, makes, restricts, fetches, needs_no_node, outcome}
+use Rattle.function_laws.specs.Lists.{list_of, truth}
+use Rattle.function_laws.specs.Numbers.{exactly}
+use Rattle.function_laws.specs.Values.{IsOf}
+use Rattle.function_laws.specs.Steps.{Outcome, makes, restricts, fetches, in_range, needs_no_node, outcome}
 use Rattle.function_laws.specs.Tables.{Table}
 use Rattle.handle_count.specs.declared.rows.Held.{Held as Live}
 use Rattle.handle_count.specs.RowMaps.{RowMap, find_row}
 use Rattle.node_store.specs.declared.grow.Stop.{Stop}
 use Rattle.node_store.specs.declared.grow.Stop.TheVariants as stop
 use Rattle.node_store.specs.Listed.{listed, listed_at}
+use Rattle.node_store.specs.Two.{Overflows}
 use Rattle.node_store.specs.Views.{View, Denotes, Grown, Is}
 use Rattle.node_slots.specs.Stores.{IsStore}
 use Rattle.seat_guard.specs.declared.seat.Guard.{Guard}
@@ -31,6 +35,8 @@ use Rattle.seat_guard.specs.declared.view.Row.{Row}
 use Rattle.seat_guard.specs.declared.view.Telling.{Telling}
 use Rattle.seat_guard.specs.Passes.{IsPassOf, in_hand, known}
 use Rattle.seat_guard.specs.Turn.{KeepsRows, one_if, row_count}
+use Rattle.seat_guard.specs.declared.view.Change.{Change}
+use Rattle.seat_guard.specs.declared.view.Change.TheVariants.{Adds}
 use Rattle.seat_guard.specs.Views.{Agrees, MayTell, letting_go, stands_for, told_of}
 use Rattle.shared_store.specs.declared.shared.Cell.{Cell}
 use Rattle.shared_store.specs.declared.shared.Shared.{Shared}
@@ -45,7 +51,7 @@ use Rattle.dd_session.specs.declared.book.Book.{Book}
 use Rattle.dd_session.specs.declared.request.Adding.{Adding}
 use Rattle.dd_session.specs.declared.request.Adding.TheVariants.{Made, Chosen, Taken}
 use Rattle.dd_session.specs.Requests.{truths_of}
-use Rattle.dd_session.specs.Sessions.{Managed, Seen, fulls_in, held_as}
+use Rattle.dd_session.specs.Sessions.{Managed, Seen, fulls_in, held_as, names_in}
 
 -- what callers see
 
@@ -125,9 +131,15 @@ pub record Left (d d' : Draws) (y : Shared) : Type 0 where
   pub is_leaving : IsLeaving d y leaving
   pub left : d' ≡ letting_go d leaving
 
+-- how many names a change gives
+abbrev pub names_by : Change → ℕ
+names_by (Adds row) = 1
+names_by _ = 0
+
 -- a place was drawn with this telling, and the turn was given back
 pub record Drew (d d' : Draws) (y : Shared) (x : Telling) (place : ℕ) : Type 0 where
   pub may : MayTell d x
+  pub counted : names_by x.change ≡ names_in x.reply
   pub later : All (λ (e : Entry). e.place < place) d.entries
   pub leaving : Leaving
   pub is_leaving : IsLeaving d y leaving
@@ -147,7 +159,7 @@ IsRefused d d' call refusals.Memory = (l : Leaving) × (d' ≡ letting_go d l)
 IsRefused d d' call (refusals.Full full) = Told d d' call (replies.Full full.in_use full.need) full.place × (full.in_use ≡ full.limit) × (full.need ≡ 1)
 
 -- why an operation was refused
-abbrev pub IsCausedBy : {X : Type 0} → Result Edge Stop → Result X Refusal → Type 0
+abbrev pub IsCausedBy : {X Y : Type 0} → Result X Stop → Result Y Refusal → Type 0
 IsCausedBy made (Ok placed) = Unit {0}
 IsCausedBy made (Err refusals.Memory) = IsErrOf made stop.Memory
 IsCausedBy made (Err (refusals.Full full)) = IsErrOf made stop.Full
@@ -180,6 +192,18 @@ AddsRow d w call (Taken posted) cell = Gives d call (fetches (listed_at cell.kin
 abbrev pub HasValue : (k : Kind) → (View → Edge → Type 0) → Draws → View → Call → Type 0
 HasValue k Answers d v call = (f : ℕ → ValueOf k) × Gives d call (makes (listed k v f)) × ((w : View) (e : Edge) → Answers w e → Denotes k w e f)
 
+-- what an operation on numbers answers that makes this function, where each of its values is in range
+abbrev pub IsExact : (ℕ → ℤ) → View → Result Edge Overflow → Type 0
+IsExact f w (Ok edge) = Denotes kinds.Add w edge f
+IsExact f w (Err _) = Overflows kinds.Add f
+
+abbrev pub exact_answers : (View → ℕ → ℤ) → View → View → Result Edge Overflow → Type 0
+exact_answers value v w told = IsExact (value v) w told
+
+-- the call makes this function of the variables, or is told that a value of it is out of range
+abbrev pub HasExact : Draws → View → Call → (ℕ → ℤ) → Type 0
+HasExact d v call f = IsOf v.vars f × Gives d call (in_range (exactly (list_of (2 ^ v.vars) f)))
+
 -- what was asked of the store changed nothing that all share, and stored nothing
 pub record IsAsked (x y : Shared) : Type 0 where
   pub lasts : Lasts x y
@@ -187,7 +211,7 @@ pub record IsAsked (x y : Shared) : Type 0 where
   pub stored : StoresOnly (λ _. ⊥) x y
 
 -- one try of an operation, from a store with the first view
-pub record Ran (Answers : View → View → Edge → Type 0) (Work : View → Denoted → Type 0) (x y : Shared) (made : Result Edge Stop) : Type 0 where
+pub record Ran {X : Type 0} (Answers : View → View → X → Type 0) (Work : View → Denoted → Type 0) (x y : Shared) (made : Result X Stop) : Type 0 where
   pub store : IsStore x.store
   pub grown : Grown (view_of x) (view_of y)
   pub cells : y.cells.items ≡ x.cells.items
@@ -197,7 +221,7 @@ pub record Ran (Answers : View → View → Edge → Type 0) (Work : View → De
   pub due_is : IsErrOf made stop.Full → (f : Function) × (due y ≡ Some f) × IsListedWork (view_of x) (Work (view_of x)) f
 
 -- the last try of an operation, and what all tries stored
-pub record Tried (Answers : View → View → Edge → Type 0) (Work : View → Denoted → Type 0) (x y : Shared) (made : Result Edge Stop) : Type 0 where
+pub record Tried {X : Type 0} (Answers : View → View → X → Type 0) (Work : View → Denoted → Type 0) (x y : Shared) (made : Result X Stop) : Type 0 where
   pub from : Shared
   pub lasts : Lasts x from
   pub orders_are : orders from ≡ orders x

@@ -8,22 +8,23 @@ ghost use Rattle.function_laws.specs.declared.history.Reply.TheVariants as repli
 ghost use Rattle.function_laws.specs.Values.{assignment_of};
 ghost use Rattle.node_store.specs.Listed.{number_of};
 ghost use Rattle.node_store.specs.Memo.{Implies};
-ghost use Rattle.node_store.specs.Views.{AreTwo, bdd_at, values_at};
+ghost use Rattle.node_store.specs.Views.{AreTwo, Is, Kept, bdd_at, levels, values_at};
 ghost use Rattle.seat_guard.specs.Passes.{IsIdle, known};
 ghost use Rattle.shared_store.specs.Sharing.{view_of};
 ghost use Rattle.dd_session.specs.Sessions.{Called, Denies, IsAsBefore, IsNamed};
 ghost use Rattle.dd_session.specs.Works.{StoresNothing, StoresWork, no_work};
 ghost use Rattle.dd_session.specs.Turns.{HasPlace, IsAsked, Keeps, seen_of};
-ghost use Rattle.dd_session.specs.Walking.{CanWalk, IsOnVariables};
+ghost use Rattle.dd_session.specs.Walking.{bits_of};
 
 use crate::answers::{Placed, Refusal};
 use crate::book::Book;
-use crate::drawing::{edge_at, finish};
+use crate::drawing::{edge_at, finish, kind_at};
 use crate::request::{Adding, Answer, Request};
 use crate::settling::add_row;
 use crate::walking::value_at;
 use edge_bits::{Edge, Kind, Memory};
 use function_laws::Name;
+use node_slots::Grow;
 use seat_guard::seat::{Guard, Pass};
 use shared_store::{Cell, Shared, put_back};
 use std::sync::Wait;
@@ -121,20 +122,34 @@ pub fn leq<R: Wait>(
     }
 }
 
-/// The value of a diagram at an assignment, of a store that may keep answers.
-fn walked(shared: &mut Shared, edge: Edge, bits: &[bool]) -> i64
-    requires edge { (k : KindOf) × CanWalk k (view_of shared.old) edge }
-    requires bits { length bits.now ≡ (view_of shared.old).vars }
+/// The value of a diagram of this kind at the bits of its variables or elements.
+fn value_of<G: Grow>(store: &mut G, kind: Kind, edge: Edge, bits: &[bool]) -> i64
+    requires edge { Is kind (G.view store.old) edge }
+    requires bits { length bits.now ≡ levels kind (G.view store.old) }
+    ensures kept { Kept (G.view store.old) (G.view store.new) }
+    ensures value { result ≡ number_of kind (values_at kind (G.view store.old) edge (assignment_of bits.now)) }
+{
+    match kind {
+        Kind::Zdd => i64::from(zdd_ops::contains(store, edge, bits)),
+        _ => value_at(store, edge, bits),
+    }
+}
+
+/// The same, of a store that may keep answers. Calls bound to `_before` and `_after` are there for what they tell: what holds of
+/// each store between two calls.
+fn walked(shared: &mut Shared, kind: Kind, edge: Edge, bits: &[bool]) -> i64
+    requires edge { Is kind (view_of shared.old) edge }
+    requires bits { length bits.now ≡ levels kind (view_of shared.old) }
     ensures asked { IsAsked shared.old shared.new }
-    ensures value { (k : KindOf) → CanWalk k (view_of shared.old) edge → result ≡ number_of k (values_at k (view_of shared.old) edge (assignment_of bits.now)) }
+    ensures value { result ≡ number_of kind (values_at kind (view_of shared.old) edge (assignment_of bits.now)) }
 {
     let _before = shared.store.limit();
-    let value = value_at(&mut shared.store, edge, bits);
+    let value = value_of(&mut shared.store, kind, edge, bits);
     let _after = shared.store.limit();
     value
 }
 
-/// The value of a row, where bit i is the value of variable i.
+/// The value of a row, where bit i is the value of variable i; of a family 1 where the elements whose bits are set are a member, and 0 else.
 pub fn eval<R: Wait>(
     rt: &R,
     guard: &Guard<Shared>,
@@ -146,17 +161,17 @@ pub fn eval<R: Wait>(
     requires idle { IsIdle guard.now pass.old }
     requires keeps { Keeps (known pass.old) book.old }
     requires place { HasPlace (known pass.old) }
-    requires live { (k : KindOf) × IsNamed k (known pass.old).rows f × IsOnVariables k }
-    requires bits { length bits.now ≡ (known pass.old).vars }
+    requires live { (k : KindOf) × IsNamed k (known pass.old).rows f × (length bits.now ≡ bits_of k (seen_of pass.old book.old).manager) }
     ensures idle { IsIdle guard.now pass.new }
     ensures keeps { Keeps (known pass.new) book.new }
     ensures told { Called (seen_of pass.old book.old) (seen_of pass.new book.new) (calls.Eval f bits.now) (replies.Value result.value) result.place }
     ensures stored { StoresNothing (seen_of pass.new book.new) }
     ensures rows { book.new.rows ≡ book.old.rows }
 {
+    let kind = kind_at(pass, book, f);
     let edge = edge_at(pass, book, f);
     let mut shared = guard.take(rt, pass);
-    let value = walked(&mut shared, edge, bits);
+    let value = walked(&mut shared, kind, edge, bits);
     let place = finish(
         guard,
         pass,

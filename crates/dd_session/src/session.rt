@@ -15,7 +15,7 @@ ghost use Rattle.quantify_ops.specs.Restricted.{work_of_restrict};
 ghost use Rattle.quantify_ops.specs.Substituted.{value_of_vector_compose};
 ghost use Rattle.quantify_ops.specs.Works.{value_of_support, work_of_and_exists, work_of_exists, work_of_forall};
 ghost use Rattle.dd_session.specs.Sessions.{Called, Denies, HasRoom, IsAsBefore, IsLiveAs, edge_in, with_edge};
-ghost use Rattle.dd_session.specs.Walking.{IsOnVariables};
+ghost use Rattle.dd_session.specs.Walking.{bits_of};
 ghost use Rattle.dd_session.specs.Works.{StoresNothing, StoresWork, no_work};
 
 use crate::answers::{Again, Placed, Refusal};
@@ -375,8 +375,8 @@ impl Session {
         restricting::restrict(rt, &manager.guard, &mut self.pass, &mut self.book, f, g)
     }
 
-    /// The value of a row, 0 or 1 for a BDD, where bit i is the value of variable i. While sessions take turns it is never
-    /// refused.
+    /// The value of a row: of a BDD 0 or 1, and of an ADD its number, where bit i is the value of variable i; of a family 1 where the
+    /// elements whose bits are set are a member, and 0 else. While sessions take turns it is never refused.
     pub fn eval<R: Wait>(
         &mut self,
         rt: &R,
@@ -386,8 +386,7 @@ impl Session {
     ) -> Result<Placed<i64>, Again>
         requires own { self.old.manager ≡ manager.now }
         requires room { HasRoom self.old }
-        requires live { (k : Kind) × IsLiveAs k self.old f × IsOnVariables k }
-        requires bits { length bits.now ≡ manager.now.vars }
+        requires live { (k : Kind) × IsLiveAs k self.old f × (length bits.now ≡ bits_of k self.old.manager) }
         ensures ok { IsOk result }
         ensures told { IfOk result (λ placed. Called self.old self.new (calls.Eval f bits.now) (replies.Value placed.value) placed.place) }
         ensures stored { StoresNothing self.new }

@@ -3,7 +3,7 @@
 ghost use Rattle.std.specs.Prelude.{◌≡◌, ◌+◌, ◌<◌, ◌≤◌, ◌^◌, [], length, true, false, IfOk, IsErrOf, IsTrue, MatchResult, Some};
 ghost use Rattle.function_laws.specs.declared.history.Function.{Function};
 ghost use Rattle.function_laws.specs.declared.history.Reply.TheVariants as replies;
-ghost use Rattle.function_laws.specs.Steps.{makes, may_be_full};
+ghost use Rattle.function_laws.specs.Steps.{makes, may_be_full, overflows};
 ghost use Rattle.node_store.specs.Listed.{listed_at};
 ghost use Rattle.node_store.specs.Views.{Is};
 ghost use Rattle.seat_guard.specs.Passes.{IsPassOf, in_hand, known};
@@ -83,6 +83,28 @@ pub fn be_full(
         limit,
         need: 1,
     }
+}
+
+/// A value of the result is out of range.
+pub fn exceed(
+    guard: &Guard<Shared>,
+    pass: &mut Pass<Shared>,
+    book: &mut Book,
+    shared: Shared,
+    request: Request<'_>,
+) -> u64
+    requires hold { IsHolding guard.now pass.old }
+    requires serves { Serving shared (known pass.old) }
+    requires keeps { Keeps (known pass.old) book.old }
+    requires place { HasPlace (known pass.old) }
+    requires outcome { Gives (known pass.old) (call_of request) overflows }
+    ensures own { IsPassOf guard.now pass.new × (in_hand pass.new ≡ []) }
+    ensures keeps { Keeps (known pass.new) book.new }
+    ensures told { Told (known pass.old) (known pass.new) (call_of request.entry) replies.Overflow result }
+    ensures notes { Notes (known pass.old) (known pass.new) shared }
+    ensures rows { book.new.rows ≡ book.old.rows }
+{
+    finish(guard, pass, book, shared, request, Answer::Overflow)
 }
 
 /// What an operation that made an edge, or was refused, leaves.

@@ -4,9 +4,13 @@
 #[cfg(test)]
 mod calls;
 #[cfg(test)]
+mod families;
+#[cfg(test)]
 mod full_tables;
 #[cfg(test)]
 mod many_sessions;
+#[cfg(test)]
+mod numbers;
 #[cfg(test)]
 mod operations;
 #[cfg(test)]

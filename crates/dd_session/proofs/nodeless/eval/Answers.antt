@@ -1,17 +1,18 @@
-use Rattle.std.proofs.Common.{refl, sym, ◌∙◌, ap, ℕ, rules, SFits, w64}
+use Rattle.std.proofs.Common.{◌≡◌, refl, sym, subst, ◌∙◌, ap, length, rules, SFits, w64}
 use Rattle.std.proofs.lemmas.Int.{to_z-of_z}
 use mir.Val.{of_z, to_z}
 use Rattle.function_laws.specs.declared.history.Call.TheVariants as calls
 use Rattle.function_laws.specs.declared.history.Reply.TheVariants as replies
 use Rattle.function_laws.specs.Values.{assignment_of}
 use Rattle.node_store.specs.Listed.{number_of}
-use Rattle.node_store.specs.Views.{values_at}
+use Rattle.edge_bits.specs.declared.edges.Kind.{Kind}
+use Rattle.node_store.specs.Views.{levels, values_at}
 use Rattle.seat_guard.specs.Passes.{known}
 use Rattle.shared_store.specs.Sharing.{view_of}
 use Rattle.shared_store.proofs.Lasting.{serves-lasts}
 use Rattle.dd_session.specs.declared.request.Request.TheVariants as requests
-use Rattle.dd_session.proofs.Calls.{Took, called, stands_taken}
-use Rattle.dd_session.proofs.Outcomes.{gives_eval}
+use Rattle.dd_session.proofs.Calls.{Took, called}
+use Rattle.dd_session.proofs.Outcomes.{gives_eval, is_kind, walked_bits}
 use Rattle.dd_session.proofs.Serving.{serves-same}
 use Rattle.dd_session.proofs.Tellings.{knows_quiet, may_show, quiet}
 use Rattle.dd_session.proofs.Turning.{drew_nothing, kept_book}
@@ -21,12 +22,14 @@ pub walked-value-requires-clause-edge : goal.walked-value-requires-clause-edge
 walked-value-requires-clause-edge g c =
     let t : Took (known c.args.pass.now) (known c.take-shared.new.pass) c.take-shared.result = record { others = c.take-shared.ensures.took.0; is = c.take-shared.ensures.took.1; serves = c.take-shared.ensures.took.2; many = c.take-shared.ensures.board } in
     let live = c.requires.live in
-    (live.0, (live.2, (c.edge_at-edge.ensures.edge live.0 live.1 c.take-shared.result (stands_taken (known c.args.pass.now) (known c.take-shared.new.pass) c.take-shared.result t)).0))
+    is_kind (known c.args.pass.now) (known c.take-shared.new.pass) c.take-shared.result t c.requires.idle.2 live.0 c.kind_at-kind.result c.args.f c.edge_at-edge.result (c.kind_at-kind.ensures live.0 live.1) (c.edge_at-edge.ensures.edge live.0 live.1)
 
 pub walked-value-requires-clause-bits : goal.walked-value-requires-clause-bits
 walked-value-requires-clause-bits g c =
     let t : Took (known c.args.pass.now) (known c.take-shared.new.pass) c.take-shared.result = record { others = c.take-shared.ensures.took.0; is = c.take-shared.ensures.took.1; serves = c.take-shared.ensures.took.2; many = c.take-shared.ensures.board } in
-    c.requires.bits ∙ sym (ap (λ (p : ℕ × ℕ). p.0) (stands_taken (known c.args.pass.now) (known c.take-shared.new.pass) c.take-shared.result t).counts_are)
+    let live = c.requires.live in
+    subst (λ (k : Kind). length c.args.bits.now ≡ levels k (view_of c.take-shared.result)) (sym (c.kind_at-kind.ensures live.0 live.1))
+    (walked_bits c.args.pass.now.seat.table_id (known c.args.pass.now) (known c.take-shared.new.pass) c.take-shared.result t live.0 c.args.bits.now live.2)
 
 pub finish-place-requires-clause-step : goal.finish-place-requires-clause-step
 finish-place-requires-clause-step g c =
@@ -36,11 +39,11 @@ finish-place-requires-clause-step g c =
     let t : Took d e x = record { others = c.take-shared.ensures.took.0; is = c.take-shared.ensures.took.1; serves = c.take-shared.ensures.took.2; many = c.take-shared.ensures.board } in
     let live = c.requires.live in
     let k = live.0 in
-    let edge = c.edge_at-edge.ensures.edge k live.1 in
+    let at = assignment_of c.args.bits.now in
     let fit : SFits w64 c.walked-value.result = search rules in
-    may_show e (requests.Eval c.args.f c.args.bits) (number_of k (values_at k (view_of x) c.edge_at-edge.result (assignment_of c.args.bits.now))) (to_z w64 (of_z w64 c.walked-value.result))
-    (to_z-of_z w64 c.walked-value.result fit ∙ c.walked-value.ensures.value k (live.2, (edge x (stands_taken d e x t)).0))
-    (gives_eval d e x t c.requires.idle.2 k live.2 c.args.f c.edge_at-edge.result c.args.bits.now c.requires.bits edge)
+    may_show e (requests.Eval c.args.f c.args.bits) (number_of k (values_at k (view_of x) c.edge_at-edge.result at)) (to_z w64 (of_z w64 c.walked-value.result))
+    (to_z-of_z w64 c.walked-value.result fit ∙ c.walked-value.ensures.value ∙ ap (λ (j : Kind). number_of j (values_at j (view_of x) c.edge_at-edge.result at)) (c.kind_at-kind.ensures k live.1))
+    (gives_eval d e x t c.requires.idle.2 k c.args.f c.edge_at-edge.result c.args.bits.now (walked_bits c.args.pass.now.seat.table_id d e x t k c.args.bits.now live.2) (c.edge_at-edge.ensures.edge k live.1))
 
 pub finish-place-requires-clause-serves : goal.finish-place-requires-clause-serves
 finish-place-requires-clause-serves g c =

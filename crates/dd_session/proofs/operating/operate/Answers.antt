@@ -1,9 +1,10 @@
 use Rattle.std.proofs.Common.{ap, sym, ◌∙◌, max}
 use Rattle.std.specs.Result.{is_err}
+use Rattle.function_laws.specs.declared.history.Reply.TheVariants as replies
 use Rattle.seat_guard.specs.Passes.{known}
 use Rattle.shared_store.specs.Sharing.{view_of}
 use Rattle.dd_session.specs.Requests.{call_of}
-use Rattle.dd_session.proofs.Calls.{Took, answers_make, called_made, counted_ok, keeps_taken, may_full, room_made, served, spare_kept, stands_of, stores_work}
+use Rattle.dd_session.proofs.Calls.{Took, answers_make, called_with, counted_ok, keeps_taken, may_full, room_made, served, spare_kept, stands_of, stores_work}
 use Rattle.dd_session.proofs.operating.operate.Goals as goal
 
 pub attempt-shared-requires : goal.attempt-shared-requires
@@ -49,10 +50,10 @@ pub returns-clause-told : goal.returns-clause-told
 returns-clause-told g c =
     let t : Took (known c.args.pass.now) (known c.take-shared.new.pass) c.take-shared.result = record { others = c.take-shared.ensures.took.0; is = c.take-shared.ensures.took.1; serves = c.take-shared.ensures.took.2; many = c.take-shared.ensures.board } in
     let room = room_made c.reserve.result c.args.book.now.rows c.reserve.new.self (max c.args.book.now.rows.spare 1) c.reserve.ensures.ok (ap is_err c.in-Ok.is) in
-    called_made (known c.args.pass.now) (known c.take-shared.new.pass) (known c.settle.new.pass) c.take-shared.result c.attempt-shared.result.0 _ _ _ _ (call_of c.args.request) c.attempt-shared.result.1 c.settle.result (c.settle.ensures.own.0 ∙ sym c.requires.idle.0) t c.settle.result (spare_kept c.settle.result c.args.book.now.rows.spare c.reserve.new.self.spare c.settle.new.book.rows.spare room.2 c.settle.ensures.spare) c.settle.ensures.told
+    called_with replies.Made (known c.args.pass.now) (known c.take-shared.new.pass) (known c.settle.new.pass) c.take-shared.result _ _ _ _ (call_of c.args.request) (c.settle.ensures.own.0 ∙ sym c.requires.idle.0) t c.settle.result (spare_kept _ c.settle.result c.args.book.now.rows.spare c.reserve.new.self.spare c.settle.new.book.rows.spare room.2 c.settle.ensures.spare) c.settle.ensures.told
 
 pub returns-clause-stored : goal.returns-clause-stored
 returns-clause-stored g c =
     let t : Took (known c.args.pass.now) (known c.take-shared.new.pass) c.take-shared.result = record { others = c.take-shared.ensures.took.0; is = c.take-shared.ensures.took.1; serves = c.take-shared.ensures.took.2; many = c.take-shared.ensures.board } in
-    stores_work (known c.args.pass.now) (known c.take-shared.new.pass) (known c.settle.new.pass) c.take-shared.result c.attempt-shared.result.0 _ _ c.args.book.now.rows.spare c.settle.new.book.rows.spare (call_of c.args.request) c.attempt-shared.result.1 c.settle.result (c.settle.ensures.own.0 ∙ sym c.requires.idle.0) t
+    stores_work (known c.args.pass.now) (known c.take-shared.new.pass) (known c.settle.new.pass) c.take-shared.result c.attempt-shared.result.0 _ c.settle.new.pass.seat.table_id c.args.book.now.rows.spare c.settle.new.book.rows.spare c.attempt-shared.result.1 t
     (g.O.Operation.answers c.args.operation.now) (g.O.Operation.work c.args.operation.now) c.attempt-shared.ensures c.settle.ensures.notes c.settle.result c.settle.ensures.cause

@@ -3,12 +3,11 @@ use Rattle.std.specs.Result.{is_err}
 use Rattle.edge_bits.specs.declared.edges.Edge.{Edge}
 use Rattle.edge_bits.specs.declared.edges.Kind.TheVariants as kinds
 use Rattle.function_laws.specs.declared.history.Call.TheVariants as calls
-use Rattle.node_store.specs.Views.{View}
 use Rattle.quantify_ops.specs.Restricted.{Restricted, work_of_restrict}
 use Rattle.seat_guard.specs.Passes.{known}
 use Rattle.dd_session.specs.Turns.{seen_of}
 use Rattle.dd_session.specs.Works.{StoresWork}
-use Rattle.dd_session.proofs.Calls.{Took, counted_ok, keeps_taken, room_made, served, spare_kept, stands_of, stores_work}
+use Rattle.dd_session.proofs.Calls.{counted_ok, keeps_taken, room_made, served, spare_kept, stands_of, stores_work}
 use Rattle.dd_session.proofs.RestrictLaws.{called_chosen, restrict_chooses, restrict_may_full}
 use Rattle.dd_session.proofs.restricting.restrict.Goals as goal
 
@@ -48,10 +47,10 @@ pub returns-clause-told : goal.returns-clause-told
 returns-clause-told g c =
     let room = room_made c.reserve.result c.args.book.now.rows c.reserve.new.self (max c.args.book.now.rows.spare 1) c.reserve.ensures.ok (ap is_err c.in-Ok.is) in
     called_chosen (known c.args.pass.now) (known c.take-shared.new.pass) (known c.settle_chosen.new.pass) c.take-shared.result _ _ _ _ (calls.Restrict c.args.f c.args.g) (c.settle_chosen.ensures.own.0 ∙ sym c.requires.idle.0) (record { others = c.take-shared.ensures.took.0; is = c.take-shared.ensures.took.1; serves = c.take-shared.ensures.took.2; many = c.take-shared.ensures.board }) c.settle_chosen.result
-    (spare_kept c.settle_chosen.result c.args.book.now.rows.spare c.reserve.new.self.spare c.settle_chosen.new.book.rows.spare room.2 c.settle_chosen.ensures.spare) c.settle_chosen.ensures.told
+    (spare_kept _ c.settle_chosen.result c.args.book.now.rows.spare c.reserve.new.self.spare c.settle_chosen.new.book.rows.spare room.2 c.settle_chosen.ensures.spare) c.settle_chosen.ensures.told
 
 pub returns-clause-stored : goal.returns-clause-stored
 returns-clause-stored g c =
     subst (λ (y : Edge × Edge). StoresWork (work_of_restrict y.0 y.1) (seen_of c.args.pass.now c.args.book.now) (seen_of c.settle_chosen.new.pass c.settle_chosen.new.book) c.settle_chosen.result) (λ i. (c.edge_at.ensures.own i, c.edge_at-2.ensures.own i))
-    (stores_work (known c.args.pass.now) (known c.take-shared.new.pass) (known c.settle_chosen.new.pass) c.take-shared.result c.attempt-shared.result.0 _ _ c.args.book.now.rows.spare c.settle_chosen.new.book.rows.spare (calls.Restrict c.args.f c.args.g) c.attempt-shared.result.1 c.settle_chosen.result (c.settle_chosen.ensures.own.0 ∙ sym c.requires.idle.0) (record { others = c.take-shared.ensures.took.0; is = c.take-shared.ensures.took.1; serves = c.take-shared.ensures.took.2; many = c.take-shared.ensures.board })
+    (stores_work (known c.args.pass.now) (known c.take-shared.new.pass) (known c.settle_chosen.new.pass) c.take-shared.result c.attempt-shared.result.0 _ c.settle_chosen.new.pass.seat.table_id c.args.book.now.rows.spare c.settle_chosen.new.book.rows.spare c.attempt-shared.result.1 (record { others = c.take-shared.ensures.took.0; is = c.take-shared.ensures.took.1; serves = c.take-shared.ensures.took.2; many = c.take-shared.ensures.board })
     (λ v w edge. Restricted v w c.edge_at.result c.edge_at-2.result edge) (λ v. work_of_restrict c.edge_at.result c.edge_at-2.result v) c.attempt-shared.ensures c.settle_chosen.ensures.notes c.settle_chosen.result c.settle_chosen.ensures.cause)

@@ -1,0 +1,172 @@
+//! Operations on numbers whose values may be out of range: a try, and where no slot was free a sweep and another try, in one turn.
+
+ghost use Rattle.std.specs.Prelude.{◌≡◌, ◌+◌, ◌≤◌, ◌^◌, ℕ, [], max, true, IsTrue, MatchResult, IfOk, IsErrOf, Some};
+ghost use Rattle.edge_bits.specs.declared.edges.Kind.TheVariants as kinds;
+ghost use Rattle.function_laws.specs.declared.history.Function.{Function};
+ghost use Rattle.function_laws.specs.Steps.{makes, may_be_full, overflows};
+ghost use Rattle.node_slots.specs.Stores.{IsStore};
+ghost use Rattle.node_store.specs.Listed.{listed_at};
+ghost use Rattle.node_store.specs.Views.{Is};
+ghost use Rattle.seat_guard.specs.Passes.{IsIdle, IsPassOf, in_hand, known};
+ghost use Rattle.shared_store.specs.Lasting.{Lasts};
+ghost use Rattle.shared_store.specs.Sharing.{Serving, count, due, orders, view_of};
+ghost use Rattle.dd_session.specs.Requests.{call_of};
+ghost use Rattle.dd_session.specs.Sessions.{Called, Denies, told_as};
+ghost use Rattle.dd_session.specs.Works.{StoresWork};
+ghost use Rattle.dd_session.specs.Turns.{Gives, HasExact, HasPlace, IsCausedBy, IsHolding, IsRefused, Keeps, MayBeFull, Notes, Ran, Stands, Told, Tried, exact_answers, seen_of};
+
+use crate::answers::{Placed, Refusal};
+use crate::book::Book;
+use crate::request::{Adding, Request};
+use crate::settling::{add_row, be_full, exceed};
+use add_ops::Overflow;
+use edge_bits::{Edge, Kind};
+use function_laws::Name;
+use node_slots::{PlainStore, Stop};
+use seat_guard::seat::{Guard, Pass};
+use shared_store::{Cell, Shared, put_back};
+use std::sync::Wait;
+
+/// An operation of the store on functions of numbers, with the edges that it works on.
+pub trait ExactOperation {
+    ghost use Rattle.std.specs.Prelude.{ℕ, ℤ};
+    ghost use Rattle.edge_bits.specs.declared.edges.Kind.TheVariants.{Add};
+    ghost use Rattle.function_laws.specs.Kinds.{Denoted};
+    ghost use Rattle.node_store.specs.Operations.{Calls};
+    ghost use Rattle.node_store.specs.Views.{View};
+    ghost use Rattle.node_slots.specs.Stores.{plain_view};
+    ghost use Rattle.add_ops.specs.Exact.{exact_halts};
+
+    // Its edges denote what it works on.
+    ghost stands: { Self → View → Type 0 };
+
+    // The function that it makes where each of its values is in range; and its work.
+    ghost value: { Self → View → ℕ → ℤ };
+
+    ghost work: { Self → View → Denoted → Type 0 };
+
+    fn run(&self, store: &mut PlainStore) -> Result<Result<Edge, Overflow>, Stop>
+        requires { stands self.now (plain_view store.old) }
+        ensures { Calls Add (value self.now (plain_view store.old)) (work self.now (plain_view store.old)) (plain_view store.old) (plain_view store.new) (exact_halts result) };
+}
+
+/// One try. Calls bound to `_before` and `_after` are there for what they tell: what holds of each store between two calls.
+fn run_once<O: ExactOperation>(
+    shared: &mut Shared,
+    operation: &O,
+) -> Result<Result<Edge, Overflow>, Stop>
+    requires { IsStore shared.old.store → O.stands operation.now (view_of shared.old) }
+    ensures { Ran (exact_answers (O.value operation.now)) (O.work operation.now) shared.old shared.new result }
+{
+    let _before = shared.store.limit();
+    let made = operation.run(&mut shared.store);
+    let _after = shared.store.limit();
+    made
+}
+
+/// A sweep, and a try.
+fn try_again<O: ExactOperation>(
+    shared: Shared,
+    operation: &O,
+) -> (Shared, Result<Result<Edge, Overflow>, Stop>)
+    requires { (y : Shared) → Lasts shared y → orders y ≡ orders shared → IsStore y.store → O.stands operation.now (view_of y) }
+    ensures { Tried (exact_answers (O.value operation.now)) (O.work operation.now) shared result.0 result.1 }
+{
+    let (mut shared, _swept) = shared.sweep();
+    let made = run_once(&mut shared, operation);
+    (shared, made)
+}
+
+/// A try, and where no slot was free a sweep and another try.
+fn attempt<O: ExactOperation>(
+    mut shared: Shared,
+    operation: &O,
+) -> (Shared, Result<Result<Edge, Overflow>, Stop>)
+    requires { (y : Shared) → Lasts shared y → orders y ≡ orders shared → IsStore y.store → O.stands operation.now (view_of y) }
+    ensures { Tried (exact_answers (O.value operation.now)) (O.work operation.now) shared result.0 result.1 }
+{
+    let made = run_once(&mut shared, operation);
+    if matches!(made, Err(Stop::Full)) {
+        return try_again(shared, operation);
+    }
+    (shared, made)
+}
+
+/// What an operation leaves that made an edge, found a value out of range, or was refused.
+fn settle(
+    guard: &Guard<Shared>,
+    pass: &mut Pass<Shared>,
+    book: &mut Book,
+    shared: Shared,
+    request: Request<'_>,
+    made: Result<Result<Edge, Overflow>, Stop>,
+) -> Result<Placed<Result<Name, Overflow>>, Refusal>
+    requires hold { IsHolding guard.now pass.old }
+    requires serves { Serving shared (known pass.old) }
+    requires keeps { Keeps (known pass.old) book.old }
+    requires place { HasPlace (known pass.old) }
+    requires spare { 1 ≤ book.old.rows.spare }
+    requires few { (k : ℕ) → count shared k ≤ 2 ^ 31 + 256 }
+    requires ok { IfOk made (λ told. MatchResult told (λ edge. Is kinds.Add (view_of shared) edge × Gives (known pass.old) (call_of request) (makes (listed_at kinds.Add (view_of shared) edge))) (λ _. Gives (known pass.old) (call_of request) overflows)) }
+    requires full { IsErrOf made Stop.Full → IsTrue (may_be_full (call_of request)) × MayBeFull (known pass.old) (call_of request) × ((f : Function) × (due shared ≡ Some f)) }
+    ensures own { IsPassOf guard.now pass.new × (in_hand pass.new ≡ []) }
+    ensures keeps { Keeps (known pass.new) book.new }
+    ensures told { MatchResult result (λ placed. Told (known pass.old) (known pass.new) (call_of request.entry) (told_as placed.value) placed.place) (IsRefused (known pass.old) (known pass.new) (call_of request.entry)) }
+    ensures notes { Notes (known pass.old) (known pass.new) shared }
+    ensures spare { MatchResult result (λ placed. MatchResult placed.value (λ name. book.new.rows.spare + 1 ≡ book.old.rows.spare) (λ _. book.new.rows.spare ≡ book.old.rows.spare)) (λ refusal. book.new.rows.spare ≡ book.old.rows.spare) }
+    ensures cause { IsCausedBy made result }
+{
+    match made {
+        Ok(Ok(edge)) => {
+            let cell = Cell {
+                kind: Kind::Add,
+                edge,
+            };
+            let added = add_row(guard, pass, book, shared, request, Adding::Made, cell);
+            Ok(Placed {
+                place: added.place,
+                value: Ok(added.value),
+            })
+        }
+        Ok(Err(_)) => {
+            let place = exceed(guard, pass, book, shared, request);
+            Ok(Placed {
+                place,
+                value: Err(Overflow),
+            })
+        }
+        Err(Stop::Full) => Err(Refusal::Full(be_full(guard, pass, book, shared, request))),
+        Err(Stop::Memory) => {
+            put_back(guard, pass, shared);
+            Err(Refusal::Memory)
+        }
+    }
+}
+
+/// An operation whose answer is a new row, or Overflow.
+pub fn operate<R: Wait, O: ExactOperation>(
+    rt: &R,
+    guard: &Guard<Shared>,
+    pass: &mut Pass<Shared>,
+    book: &mut Book,
+    request: Request<'_>,
+    operation: &O,
+) -> Result<Placed<Result<Name, Overflow>>, Refusal>
+    requires idle { IsIdle guard.now pass.old }
+    requires keeps { Keeps (known pass.old) book.old }
+    requires place { HasPlace (known pass.old) }
+    requires may { IsTrue (may_be_full (call_of request)) }
+    requires told { (x : Shared) → IsStore x.store → Stands x (known pass.old) → O.stands operation.now (view_of x) × HasExact (known pass.old) (view_of x) (call_of request) (O.value operation.now (view_of x)) }
+    ensures idle { IsIdle guard.now pass.new }
+    ensures keeps { Keeps (known pass.new) book.new }
+    ensures told { MatchResult result (λ placed. Called (seen_of pass.old book.old) (seen_of pass.new book.new) (call_of request.entry) (told_as placed.value) placed.place) (Denies (seen_of pass.old book.old) (seen_of pass.new book.new) (call_of request.entry)) }
+    ensures stored { StoresWork (O.work operation.now) (seen_of pass.old book.old) (seen_of pass.new book.new) result }
+    ensures spare { MatchResult result (λ placed. MatchResult placed.value (λ name. book.new.rows.spare + 1 ≡ max book.old.rows.spare 1) (λ _. book.new.rows.spare ≡ max book.old.rows.spare 1)) (λ refusal. book.old.rows.spare ≤ book.new.rows.spare) }
+{
+    let Ok(()) = book.rows.reserve(1) else {
+        return Err(Refusal::Memory);
+    };
+    let shared = guard.take(rt, pass);
+    let (shared, made) = attempt(shared, operation);
+    settle(guard, pass, book, shared, request, made)
+}
