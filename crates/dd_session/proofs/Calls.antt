@@ -36,6 +36,7 @@ use Rattle.shared_store.specs.Sharing.{Serving, board, count, counts, functions,
 use Rattle.shared_store.specs.Storing.{IsListedWork}
 use Rattle.shared_store.proofs.Lasting.{lasts-grown, serves-lasts}
 use Rattle.shared_store.proofs.Storing.{stored-only}
+use Rattle.dd_session.specs.declared.answers.Full.{Full}
 use Rattle.dd_session.specs.declared.answers.Placed.{Placed}
 use Rattle.dd_session.specs.declared.answers.Refusal.{Refusal}
 use Rattle.dd_session.specs.declared.answers.Refusal.TheVariants as refusals
@@ -69,18 +70,18 @@ gives_held d e x call o took idle gives t agrees =
 pub stands_of : (d e : Draws) (x y : Shared) → Took d e x → Lasts x y → orders y ≡ orders x → Stands y d
 stands_of d e x y took lasts same = let serves = serves-lasts x y lasts e same took.serves in record {
   rows_kept = subst (KeepsRows keeps board counts count orders y) (ap (λ (z : Draws). z.rows) took.is) serves.rows_kept;
-  counts_are = serves.counts_are ∙ (λ i. ((took.is i).vars, (took.is i).elements));
+  counts_are = serves.counts_are ∙ (λ i. ((took.is i).vars, (took.is i).elements, (took.is i).slots));
 }
 
 pub stands_taken : (d e : Draws) (x : Shared) → Took d e x → Stands x d
 stands_taken d e x took = record {
   rows_kept = subst (KeepsRows keeps board counts count orders x) (ap (λ (z : Draws). z.rows) took.is) took.serves.rows_kept;
-  counts_are = took.serves.counts_are ∙ (λ i. ((took.is i).vars, (took.is i).elements));
+  counts_are = took.serves.counts_are ∙ (λ i. ((took.is i).vars, (took.is i).elements, (took.is i).slots));
 }
 
 -- a store that stands has the session's rows
 pub has_rows : (table : TableId) (d : Draws) (spare : ℕ) (x : Shared) → Stands x d → HasRows (view_of x) (seen_by table d spare)
-has_rows table d spare x stands = record { vars = ap (λ (p : ℕ × ℕ). p.0) stands.counts_are; elements = ap (λ (p : ℕ × ℕ). p.1) stands.counts_are; rows = stands.rows_kept }
+has_rows table d spare x stands = record { vars = ap (λ (p : ℕ × ℕ × ℕ). p.0) stands.counts_are; elements = ap (λ (p : ℕ × ℕ × ℕ). p.1) stands.counts_are; rows = stands.rows_kept }
 
 adds_are : (c : Change) (n : ℕ) → adds_after c n ≡ n + names_by c
 adds_are (Adds row) n = omega arith
@@ -138,14 +139,20 @@ as_before old held new x table table' spare spare' l same more took left = (
   more,
 )
 
+-- a full table
+pub denied : (old held new : Draws) (x : Shared) (table table' : TableId) (spare spare' : ℕ) (call : Call) (full : Full) → table' ≡ table → Took old held x → IsRefused held new call (refusals.Full full)
+    → Denies (seen_by table old spare) (seen_by table' new spare') call (refusals.Full full)
+denied old held new x table table' spare spare' call full same took told =
+    let slots : held.slots ≡ old.slots = ap (λ (d : Draws). d.slots) took.is in
+    (called old held new x table table' spare spare' call (replies.Full full.in_use full.need) full.place same took told.0, told.1 ∙ slots, told.2 ∙ slots, told.3)
+
 -- what an operation is for its caller, by what it replies where it was not refused
 pub called_with : {X : Type 0} (reply : X → Reply) (old held new : Draws) (x : Shared) (table table' : TableId) (spare spare' : ℕ) (call : Call) → table' ≡ table → Took old held x → (r : Result (Placed X) Refusal)
     → MatchResult r (λ placed. Unit {0}) (λ refusal. spare ≤ spare') → MatchResult r (λ placed. Told held new call (reply placed.value) placed.place) (IsRefused held new call)
     → MatchResult r (λ placed. Called (seen_by table old spare) (seen_by table' new spare') call (reply placed.value) placed.place) (Denies (seen_by table old spare) (seen_by table' new spare') call)
 called_with reply old held new x table table' spare spare' call same took (Ok placed) more told = called old held new x table table' spare spare' call (reply placed.value) placed.place same took told
 called_with reply old held new x table table' spare spare' call same took (Err refusals.Memory) more told = as_before old held new x table table' spare spare' told.0 same more took told.1
-called_with reply old held new x table table' spare spare' call same took (Err (refusals.Full full)) more told =
-    (called old held new x table table' spare spare' call (replies.Full full.in_use full.need) full.place same took told.0, told.1, told.2)
+called_with reply old held new x table table' spare spare' call same took (Err (refusals.Full full)) more told = denied old held new x table table' spare spare' call full same took told
 
 -- an operation that was tried and settled
 module _ {X : Type 0} (old held new : Draws) (x y : Shared) (table table' : TableId) (spare spare' : ℕ) (made : Result X Stop) (took : Took old held x) where

@@ -48,7 +48,7 @@ module _ (d : Draws) where
   element_in : (x : Shared) → IsStore x.store → Stands x d → (e : ℕ) → e < d.elements → IsElement (view_of x) e
   element_in x of stands e lt =
       let few = of.few_elements in
-      let n : (view_of x).elements ≡ d.elements = ap (λ (p : ℕ × ℕ). p.1) stands.counts_are in
+      let n : (view_of x).elements ≡ d.elements = ap (λ (p : ℕ × ℕ × ℕ). p.1) stands.counts_are in
       record { few = omega (arith, few, n, lt); in_range = omega (arith, n, lt) }
 
   pub told_single : (e : ℕ) → e < d.elements → (x : Shared) → IsStore x.store → Stands x d → IsElement (view_of x) e × HasValue kinds.Zdd (λ u edge. Denotes kinds.Zdd u edge (single e)) d (view_of x) (calls.Single e)

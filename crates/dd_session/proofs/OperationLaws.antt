@@ -40,7 +40,7 @@ module _ (d : Draws) where
   pub variable_in : (x : Shared) → IsStore x.store → Stands x d → (v : ℕ) → v < d.vars → IsVariable kinds.Bdd (view_of x) v
   variable_in x of stands v lt =
       let few = of.few_variables in
-      let n : (view_of x).vars ≡ d.vars = ap (λ (p : ℕ × ℕ). p.0) stands.counts_are in
+      let n : (view_of x).vars ≡ d.vars = ap (λ (p : ℕ × ℕ × ℕ). p.0) stands.counts_are in
       (omega (arith, few, n, lt), omega (arith, n, lt))
 
   variables_in : (x : Shared) → IsStore x.store → Stands x d → (vs : List ℕ) → All (λ v. v < d.vars) vs → All (IsVariable kinds.Bdd (view_of x)) vs

@@ -35,7 +35,7 @@ module _ (d : Draws) where
   live t name f agrees stands = ap (λ (h : Name → Option Function). h name) agrees.live ∙ stands
 
   pub vars : (t : Table) (x : Shared) → Agrees d t → Stands x d → t.sizes.variables ≡ (view_of x).vars
-  vars t x agrees stands = ap (λ (z : Sizes). z.variables) agrees.sizes_are ∙ sym (ap (λ (p : ℕ × ℕ). p.0) stands.counts_are)
+  vars t x agrees stands = ap (λ (z : Sizes). z.variables) agrees.sizes_are ∙ sym (ap (λ (p : ℕ × ℕ × ℕ). p.0) stands.counts_are)
 
 -- the calls on rows and cells
 module _ (old held : Draws) (x : Shared) (took : Took old held x) (idle : old.holds ≡ false) where
@@ -92,18 +92,18 @@ pub gives_var : (old held : Draws) (x y : Shared) → Took old held x → old.ho
     → Gives held (calls.Var v) (makes (listed_at kinds.Bdd (view_of y) e))
 gives_var old held x y took idle lasts same v e lt denotes =
     let stands = stands_of old held x y took lasts same in
-    let within : v < (view_of y).vars = (let n = ap (λ (p : ℕ × ℕ). p.0) stands.counts_are in omega (arith, n, lt)) in
+    let within : v < (view_of y).vars = (let n = ap (λ (p : ℕ × ℕ × ℕ). p.0) stands.counts_are in omega (arith, n, lt)) in
     gives_held old held x (calls.Var v) (makes (listed_at kinds.Bdd (view_of y) e)) took idle
     (λ t agrees. outcome-var (view_of y) t.sizes t.cells (t.live old.session) (vars old t y agrees stands) v within ∙ ap (λ (f : ℕ → Bool). Some (makes (listed kinds.Bdd (view_of y) f))) (sym (values_at-is kinds.Bdd denotes)))
 
 -- the value at some bits
 pub elements : (d : Draws) (t : Table) (x : Shared) → Agrees d t → Stands x d → t.sizes.elements ≡ (view_of x).elements
-elements d t x agrees stands = ap (λ (z : Sizes). z.elements) agrees.sizes_are ∙ sym (ap (λ (p : ℕ × ℕ). p.1) stands.counts_are)
+elements d t x agrees stands = ap (λ (z : Sizes). z.elements) agrees.sizes_are ∙ sym (ap (λ (p : ℕ × ℕ × ℕ). p.1) stands.counts_are)
 
 pub walked_bits : (table : TableId) (old held : Draws) (x : Shared) → Took old held x → (k : Kind) (bits : List Bool) → length bits ≡ bits_of k (managed_by table old) → length bits ≡ levels k (view_of x)
-walked_bits table old held x took kinds.Bdd bits long = long ∙ sym (ap (λ (p : ℕ × ℕ). p.0) (stands_taken old held x took).counts_are)
-walked_bits table old held x took kinds.Add bits long = long ∙ sym (ap (λ (p : ℕ × ℕ). p.0) (stands_taken old held x took).counts_are)
-walked_bits table old held x took kinds.Zdd bits long = long ∙ sym (ap (λ (p : ℕ × ℕ). p.1) (stands_taken old held x took).counts_are)
+walked_bits table old held x took kinds.Bdd bits long = long ∙ sym (ap (λ (p : ℕ × ℕ × ℕ). p.0) (stands_taken old held x took).counts_are)
+walked_bits table old held x took kinds.Add bits long = long ∙ sym (ap (λ (p : ℕ × ℕ × ℕ). p.0) (stands_taken old held x took).counts_are)
+walked_bits table old held x took kinds.Zdd bits long = long ∙ sym (ap (λ (p : ℕ × ℕ × ℕ). p.1) (stands_taken old held x took).counts_are)
 
 pub gives_eval : (old held : Draws) (x : Shared) → Took old held x → old.holds ≡ false → (k : Kind) (a : Name) (e : Edge) (bits : List Bool) → length bits ≡ levels k (view_of x) → IsEdgeOf k old a e
     → Gives held (calls.Eval a bits) (shows (number_of k (values_at k (view_of x) e (assignment_of bits))))

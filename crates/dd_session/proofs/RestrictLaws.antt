@@ -26,7 +26,7 @@ use Rattle.dd_session.specs.declared.answers.Refusal.TheVariants as refusals
 use Rattle.dd_session.specs.Requests.{truths_of}
 use Rattle.dd_session.specs.Sessions.{Called, Denies}
 use Rattle.dd_session.specs.Turns.{Chooses, Gives, IsEdgeOf, IsRefused, MayBeFull, Stands, Told, Tried, seen_by}
-use Rattle.dd_session.proofs.Calls.{Took, as_before, called, gives_held, stands_of}
+use Rattle.dd_session.proofs.Calls.{Took, as_before, called, denied, gives_held, stands_of}
 use Rattle.dd_session.proofs.Outcomes.{live}
 
 module _ (d e : Draws) (x y : Shared) (made : Result Edge Stop) (took : Took d e x) (idle : d.holds ≡ false) (a b : Name) (i j : Edge) (first : IsEdgeOf kinds.Bdd d a i) (second : IsEdgeOf kinds.Bdd d b j)
@@ -67,4 +67,4 @@ module _ (old held new : Draws) (x : Shared) (table table' : TableId) (spare spa
       → MatchResult r (λ placed. (g : List Bool) × Called (seen_by table old spare) (seen_by table' new spare') call (replies.Chose placed.value g) placed.place) (Denies (seen_by table old spare) (seen_by table' new spare') call)
   called_chosen (Ok placed) more told = (told.0, called old held new x table table' spare spare' call (replies.Chose placed.value told.0) placed.place same took told.1)
   called_chosen (Err refusals.Memory) more told = as_before old held new x table table' spare spare' told.0 same more took told.1
-  called_chosen (Err (refusals.Full full)) more told = (called old held new x table table' spare spare' call (replies.Full full.in_use full.need) full.place same took told.0, told.1, told.2)
+  called_chosen (Err (refusals.Full full)) more told = denied old held new x table table' spare spare' call full same took told

@@ -26,7 +26,7 @@ pub record KnowsAs (d e : Draws) (rows : List Row) (cells : List (Option Held)) 
   pub rows_are : e.rows ≡ rows
   pub cells_are : e.cells ≡ cells
   pub others_are : e.others ≡ d.others
-  pub counts_are : (e.vars ≡ d.vars) × (e.elements ≡ d.elements)
+  pub counts_are : (e.vars ≡ d.vars) × (e.elements ≡ d.elements) × (e.slots ≡ d.slots)
   pub orders_are : orders_of e ≡ orders_of d
 
 pub listed-on : (k : Kind) (w : View) (n : ℕ → ℕ) (e : Edge) → listed_at k (record w { count = n }) e ≡ listed_at k w e
@@ -50,7 +50,7 @@ module _ (x y : Shared) (view : view_of y ≡ record (view_of x) { count = count
     others_kept = subst (Each (keeps y)) (sym same.others_are) (each_map (keeps x) (keeps y) keeps-on d.others serves.others_kept);
     cells_kept = subst (Each (IsKeptCell keeps board counts count orders y)) (sym same.cells_are) cells_kept;
     board_is = shows ∙ sym same.cells_are;
-    counts_are = ap (λ (w : View). (w.vars, w.elements)) view ∙ serves.counts_are ∙ (λ i. (sym same.counts_are.0 i, sym same.counts_are.1 i));
+    counts_are = ap (λ (w : View). (w.vars, w.elements, w.slots)) view ∙ serves.counts_are ∙ (λ i. (sym same.counts_are.0 i, sym same.counts_are.1 i, sym same.counts_are.2 i));
     counted = λ k. let c = counted k in let a : row_count k e.rows ≡ row_count k rows = ap (row_count k) same.rows_are in let b : held_count k e.others ≡ held_count k d.others = ap (held_count k) same.others_are in let m : cells_count k e.cells ≡ cells_count k cells = ap (cells_count k) same.cells_are in omega (arith, a, b, c, m);
     orders_are = ordered ∙ serves.orders_are ∙ sym same.orders_are;
   }

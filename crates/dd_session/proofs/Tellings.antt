@@ -49,6 +49,115 @@ use Rattle.dd_session.proofs.Naming.{cond_none, same_name-eq}
 use Rattle.dd_session.proofs.RequestLemmas.{carries_none, orders_stay}
 use Rattle.dd_session.proofs.Serving.{KnowsAs, listed-on}
 
+-- no call here carries functions
+pub carries_none : (r : Request) → carried_by (call_of r) ≡ []
+carries_none requests.One = refl
+carries_none requests.Zero = refl
+carries_none (requests.Var v) = refl
+carries_none (requests.Not a) = refl
+carries_none (requests.And a b) = refl
+carries_none (requests.Or a b) = refl
+carries_none (requests.Xor a b) = refl
+carries_none (requests.Ite a b c) = refl
+carries_none (requests.Cofactor a v bit) = refl
+carries_none (requests.Exists a vars) = refl
+carries_none (requests.Forall a vars) = refl
+carries_none (requests.AndExists a b vars) = refl
+carries_none (requests.Compose a v b) = refl
+carries_none (requests.VectorCompose a pairs) = refl
+carries_none (requests.Restrict a b) = refl
+carries_none (requests.Support a) = refl
+carries_none (requests.Constant x) = refl
+carries_none (requests.FromBdd a) = refl
+carries_none (requests.Plus a b) = refl
+carries_none (requests.Minus a b) = refl
+carries_none (requests.Times a b) = refl
+carries_none (requests.Min a b) = refl
+carries_none (requests.Max a b) = refl
+carries_none (requests.Threshold a b) = refl
+carries_none (requests.AddIte a b c) = refl
+carries_none (requests.SumOver a v) = refl
+carries_none (requests.AtLeast a x) = refl
+carries_none (requests.Pattern a) = refl
+carries_none requests.Empty = refl
+carries_none requests.Base = refl
+carries_none (requests.Single e) = refl
+carries_none (requests.Union a b) = refl
+carries_none (requests.Meet a b) = refl
+carries_none (requests.Diff a b) = refl
+carries_none (requests.Subset1 a e) = refl
+carries_none (requests.Subset0 a e) = refl
+carries_none (requests.Change a e) = refl
+carries_none (requests.Product a b) = refl
+carries_none (requests.Quotient a b) = refl
+carries_none (requests.Copy a) = refl
+carries_none (requests.DropRow a) = refl
+carries_none (requests.Same a b) = refl
+carries_none (requests.Leq a b) = refl
+carries_none (requests.Eval a bits) = refl
+carries_none (requests.Post i a) = refl
+carries_none (requests.Fetch i a) = refl
+carries_none requests.Sweep = refl
+
+-- nor changes an order
+pub orders_stay : (o : Orders) (r : Request) (reply : Reply) → ((name : Name) (n : ℕ) → reply ≡ replies.Numbered name n → ⊥) → orders_after o (call_of r) reply ≡ o
+orders_stay o r (replies.Made name) plain = refl
+orders_stay o r (replies.Chose name g) plain = refl
+orders_stay o r (replies.Fetched name posted) plain = refl
+orders_stay o r (replies.Numbered name n) plain = absurd (plain name n refl)
+orders_stay o r (replies.Truth b) plain = refl
+orders_stay o r (replies.Value z) plain = refl
+orders_stay o r replies.Overflow plain = refl
+orders_stay o r replies.Most plain = refl
+orders_stay o r (replies.Full a b) plain = refl
+orders_stay o requests.One replies.Done plain = refl
+orders_stay o requests.Zero replies.Done plain = refl
+orders_stay o (requests.Var v) replies.Done plain = refl
+orders_stay o (requests.Not a) replies.Done plain = refl
+orders_stay o (requests.And a b) replies.Done plain = refl
+orders_stay o (requests.Or a b) replies.Done plain = refl
+orders_stay o (requests.Xor a b) replies.Done plain = refl
+orders_stay o (requests.Ite a b c) replies.Done plain = refl
+orders_stay o (requests.Cofactor a v bit) replies.Done plain = refl
+orders_stay o (requests.Exists a vars) replies.Done plain = refl
+orders_stay o (requests.Forall a vars) replies.Done plain = refl
+orders_stay o (requests.AndExists a b vars) replies.Done plain = refl
+orders_stay o (requests.Compose a v b) replies.Done plain = refl
+orders_stay o (requests.VectorCompose a pairs) replies.Done plain = refl
+orders_stay o (requests.Restrict a b) replies.Done plain = refl
+orders_stay o (requests.Support a) replies.Done plain = refl
+orders_stay o (requests.Constant x) replies.Done plain = refl
+orders_stay o (requests.FromBdd a) replies.Done plain = refl
+orders_stay o (requests.Plus a b) replies.Done plain = refl
+orders_stay o (requests.Minus a b) replies.Done plain = refl
+orders_stay o (requests.Times a b) replies.Done plain = refl
+orders_stay o (requests.Min a b) replies.Done plain = refl
+orders_stay o (requests.Max a b) replies.Done plain = refl
+orders_stay o (requests.Threshold a b) replies.Done plain = refl
+orders_stay o (requests.AddIte a b c) replies.Done plain = refl
+orders_stay o (requests.SumOver a v) replies.Done plain = refl
+orders_stay o (requests.AtLeast a x) replies.Done plain = refl
+orders_stay o (requests.Pattern a) replies.Done plain = refl
+orders_stay o requests.Empty replies.Done plain = refl
+orders_stay o requests.Base replies.Done plain = refl
+orders_stay o (requests.Single e) replies.Done plain = refl
+orders_stay o (requests.Union a b) replies.Done plain = refl
+orders_stay o (requests.Meet a b) replies.Done plain = refl
+orders_stay o (requests.Diff a b) replies.Done plain = refl
+orders_stay o (requests.Subset1 a e) replies.Done plain = refl
+orders_stay o (requests.Subset0 a e) replies.Done plain = refl
+orders_stay o (requests.Change a e) replies.Done plain = refl
+orders_stay o (requests.Product a b) replies.Done plain = refl
+orders_stay o (requests.Quotient a b) replies.Done plain = refl
+orders_stay o (requests.Copy a) replies.Done plain = refl
+orders_stay o (requests.DropRow a) replies.Done plain = refl
+orders_stay o (requests.Same a b) replies.Done plain = refl
+orders_stay o (requests.Leq a b) replies.Done plain = refl
+orders_stay o (requests.Eval a bits) replies.Done plain = refl
+orders_stay o (requests.Post i a) replies.Done plain = refl
+orders_stay o (requests.Fetch i a) replies.Done plain = refl
+orders_stay o requests.Sweep replies.Done plain = refl
+
 no_number : (w : View) (adding : Adding) (name : Name) (cell : Cell) (r : Name) (n : ℕ) → added_as w adding name cell ≡ replies.Numbered r n → ⊥
 no_number w Made name cell r n e = cc
 no_number w Chosen name cell r n e = cc
@@ -124,7 +233,7 @@ knows_added d w r adding name cell = record {
   rows_are = refl;
   cells_are = refl;
   others_are = refl;
-  counts_are = (refl, refl);
+  counts_are = (refl, refl, refl);
   orders_are = orders_stay (orders_of d) r (added_as w adding name cell) (no_number w adding name cell);
 }
 
@@ -185,7 +294,7 @@ may_sweep d = record {
 }
 
 pub knows_quiet : (d : Draws) (r : Request) (reply : Reply) → ((name : Name) (n : ℕ) → reply ≡ replies.Numbered name n → ⊥) → KnowsAs d (told_of d 0 (quiet (call_of r) reply)) d.rows d.cells
-knows_quiet d r reply plain = record { rows_are = refl; cells_are = refl; others_are = refl; counts_are = (refl, refl); orders_are = orders_stay (orders_of d) r reply plain }
+knows_quiet d r reply plain = record { rows_are = refl; cells_are = refl; others_are = refl; counts_are = (refl, refl, refl); orders_are = orders_stay (orders_of d) r reply plain }
 
 -- a post puts a function into a cell
 pub may_post : (d : Draws) (i : ℕ) (a : Name) (held : Held) → i < 256 → length d.cells ≡ 256 → stands_for d.rows a ≡ Some held.function
@@ -398,8 +507,8 @@ due_denoted x f is = by (view_of x).due refl is
 
 -- a post changes a cell
 pub knows_posted : (d : Draws) (w : View) (i : ℕ) (a : Name) (cell : Cell) → KnowsAs d (told_of d 0 (record { call = calls.Post i a; reply = replies.Done; change = Posts i (held_of w cell) })) d.rows (set d.cells i (Some (held_of w cell)))
-knows_posted d w i a cell = record { rows_are = refl; cells_are = refl; others_are = refl; counts_are = (refl, refl); orders_are = refl }
+knows_posted d w i a cell = record { rows_are = refl; cells_are = refl; others_are = refl; counts_are = (refl, refl, refl); orders_are = refl }
 
 -- a drop takes a row
 pub knows_dropped : (d : Draws) (a : Name) → KnowsAs d (told_of d 0 (record { call = calls.DropRow a; reply = replies.Done; change = Takes a })) (without a d.rows) d.cells
-knows_dropped d a = record { rows_are = refl; cells_are = refl; others_are = refl; counts_are = (refl, refl); orders_are = refl }
+knows_dropped d a = record { rows_are = refl; cells_are = refl; others_are = refl; counts_are = (refl, refl, refl); orders_are = refl }

@@ -25,6 +25,8 @@ pub record Managed : Type 0 where
   pub table : TableId
   pub vars : ℕ
   pub elements : ℕ
+  -- how many slots its store has
+  pub limit : ℕ
   pub sessions : ℕ
 
 -- A session, as its callers see it.
@@ -76,7 +78,12 @@ IsAsBefore old new = (new ≡ record old { spare = new.spare; stored = new.store
 -- full is a call of the history that changes nothing: each slot is in use, and one more was needed
 abbrev pub Denies : Seen → Seen → Call → Refusal → Type 0
 Denies old new call refusals.Memory = IsAsBefore old new
-Denies old new call (refusals.Full full) = Called old new call (replies.Full full.in_use full.need) full.place × (full.in_use ≡ full.limit) × (full.need ≡ 1)
+Denies old new call (refusals.Full full) = Called old new call (replies.Full full.in_use full.need) full.place × (full.in_use ≡ old.manager.limit) × (full.limit ≡ old.manager.limit) × (full.need ≡ 1)
+
+-- what an operation replies whose values may be out of range
+abbrev pub told_as : Result Name Overflow → Reply
+told_as (Ok name) = replies.Made name
+told_as (Err _) = replies.Overflow
 
 -- what an operation replies whose values may be out of range
 abbrev pub told_as : Result Name Overflow → Reply

@@ -56,7 +56,7 @@ use Rattle.dd_session.specs.Sessions.{Managed, Seen, fulls_in, held_as, names_in
 -- what callers see
 
 abbrev pub managed_by : TableId → Draws → Managed
-managed_by table d = record { table = table; vars = d.vars; elements = d.elements; sessions = d.sessions }
+managed_by table d = record { table = table; vars = d.vars; elements = d.elements; limit = d.slots; sessions = d.sessions }
 
 abbrev pub seen_by : TableId → Draws → ℕ → Seen
 seen_by table d spare = record {
@@ -119,7 +119,7 @@ IsHolding g p = IsPassOf g p × ((known p).live ≡ true) × ((known p).holds �
 -- a store that keeps the seat's rows
 pub record Stands (x : Shared) (d : Draws) : Type 0 where
   pub rows_kept : KeepsRows keeps board counts count orders x d.rows
-  pub counts_are : counts x ≡ (d.vars, d.elements)
+  pub counts_are : counts x ≡ (d.vars, d.elements, d.slots)
 
 -- the edge of a row, in each store that keeps the rows
 abbrev pub IsEdgeOf : Kind → Draws → Name → Edge → Type 0
@@ -156,7 +156,7 @@ Notes d d' y = (l : Leaving) × (d'.stored ≡ l.stored) × (d'.due ≡ l.due) �
 -- what a refusal leaves
 abbrev pub IsRefused : Draws → Draws → Call → Refusal → Type 0
 IsRefused d d' call refusals.Memory = (l : Leaving) × (d' ≡ letting_go d l)
-IsRefused d d' call (refusals.Full full) = Told d d' call (replies.Full full.in_use full.need) full.place × (full.in_use ≡ full.limit) × (full.need ≡ 1)
+IsRefused d d' call (refusals.Full full) = Told d d' call (replies.Full full.in_use full.need) full.place × (full.in_use ≡ d.slots) × (full.limit ≡ d.slots) × (full.need ≡ 1)
 
 -- why an operation was refused
 abbrev pub IsCausedBy : {X Y : Type 0} → Result X Stop → Result Y Refusal → Type 0

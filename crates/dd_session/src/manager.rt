@@ -101,12 +101,13 @@ fn open_in_range(
     sessions: u32,
 ) -> Result<(Manager, Vec<Session>), Memory>
     requires { IsConfig config.vars config.elements config.limit sessions }
-    ensures { IfOk result (λ r. (r.0.vars ≡ config.vars) × (r.0.elements ≡ config.elements) × (r.0.sessions ≡ sessions) × (r.1.items ≡ opened r.0)) }
+    ensures { IfOk result (λ r. (r.0.vars ≡ config.vars) × (r.0.elements ≡ config.elements) × (r.0.limit ≡ config.limit) × (r.0.sessions ≡ sessions) × (r.1.items ≡ opened r.0)) }
 {
     let shared = Shared::new(alloc, config.vars, config.elements, config.limit)?;
     let key = Opening {
         vars: config.vars,
         elements: config.elements,
+        slots: config.limit,
         sessions,
     };
     let ended = Vec::with_capacity(alloc, sessions as usize)?;
@@ -143,6 +144,7 @@ impl Manager {
         sessions: u32,
     ) -> Result<(Manager, Vec<Session>), OpenFault>
         ensures ok { IfOk result (λ r. (r.0.vars ≡ config.vars) × (r.0.elements ≡ config.elements) × (r.0.sessions ≡ sessions) × (r.1.items ≡ opened r.0)) }
+        ensures limit { IfOk result (λ r. r.0.limit ≡ config.limit) }
         ensures config { IsErrOf result OpenFault.Config ↔ (IsConfig config.vars config.elements config.limit sessions → ⊥) }
     {
         let Config {

@@ -1,5 +1,5 @@
 -- Each step keeps the rule.
-use Rattle.std.proofs.Common.{◌≡◌, ◌≢◌, ℕ, zero, suc, ◌+◌, ◌*◌, ◌%◌, ◌^◌, ◌<◌, ◌≤◌, ◌==◌, true, false, List, [], ◌∷◌, ◌++◌, map, length, get_or, set, refl, ap, sym, subst, ◌∙◌, ⊎_elim, inl, inr, arith, length-set, get_or-set_other, get_or-set_same, eq-eqb, ne_eqb, true≢false}
+use Rattle.std.proofs.Common.{◌≡◌, ◌≢◌, ℕ, zero, suc, ◌+◌, ◌*◌, ◌%◌, ◌^◌, ◌<◌, ◌≤◌, ◌==◌, true, false, List, [], ◌∷◌, ◌++◌, map, length, get_or, set, refl, ap, ap₂, sym, subst, ◌∙◌, ⊎_elim, inl, inr, arith, length-set, get_or-set_other, get_or-set_same, eq-eqb, ne_eqb, true≢false}
 use Rattle.std.specs.Prelude as std
 use mathlib.Core.Logic.{dite}
 use mathlib.Core.Option.{Option, none, some, some-injective, some-ne-none}
@@ -29,14 +29,14 @@ use Rattle.function_laws.specs.EntryOrders.{opening_orders, orders_after, orders
 use Rattle.function_laws.proofs.OrderLemmas.{orders_from-append}
 use Rattle.seat_guard.specs.Sifted.{IsOfOther}
 use Rattle.seat_guard.specs.Journal.{IsLeftRow, Fits, Journal}
-use Rattle.seat_guard.specs.Turn.{IsKeptCell, KeepsRows, Serves, Turn, row_count, cells_count}
+use Rattle.seat_guard.specs.Turn.{AreSized, IsKeptCell, IsSized, KeepsRows, Serves, Turn, row_count, cells_count}
 use Rattle.seat_guard.specs.Rule.{Rule, AllBack, ended, took, gave, drew, closed}
 use Rattle.function_laws.proofs.SessionEntryLemmas.{places_low, short}
 use Rattle.seat_guard.proofs.RowCounts.{at_end, each_set, not_true, row_count-append, all_count-set, all_count-same, all_count-append, all_count-only}
 use Rattle.seat_guard.proofs.Journals.{one_holder, held_turn, takes_it, gives_it, draws_it, splits_it, joins_it, turns, whole_of, others_empty, rows_apart}
 use Rattle.seat_guard.proofs.Allotments.{allotted-join, allotted-one, allotted-set, allotted-split, cells_count-most, few-after, named-most}
 use Rattle.seat_guard.specs.Allots.{Allotted}
-use Rattle.seat_guard.proofs.Turns.{finds_it, away_with, comes_home, draws_away, IsAsBefore, stays_so}
+use Rattle.seat_guard.proofs.Turns.{finds_it, away_with, comes_home, draws_away, IsAsBefore, sized_set, stays_so}
 
 abbrev St : Type 0 → Type 0
 St S = State (std.Option S) View
@@ -47,7 +47,7 @@ Sat S = Me (std.Option S) View
 abbrev ds_of : List View → List Draws
 ds_of views = map (λ (v : View). v.draws) views
 
-module _ {S : Type 0} (keeps_it : S → Held → Type 0) (board : S → List (std.Option Held)) (counts : S → ℕ × ℕ) (count : S → ℕ → ℕ) (orders : S → Orders) where
+module _ {S : Type 0} (keeps_it : S → Held → Type 0) (board : S → List (std.Option Held)) (counts : S → ℕ × ℕ × ℕ) (count : S → ℕ → ℕ) (orders : S → Orders) where
   abbrev TheRule : St S → Type 0
   TheRule = Rule keeps_it board counts count orders
 
@@ -67,9 +67,9 @@ module _ {S : Type 0} (keeps_it : S → Held → Type 0) (board : S → List (st
       let home = get_elem? s.homes 0 in
       let j : Journal (get_or s.words 0 0) (get_or s.words 1 0) (ds_of s.views) r.start r.log r.table = r.journal in
       let now_left : Orders = orders_from (opening_orders r.start) r.log in
-      let part : Turn keeps_it board counts count orders 0 home (ds_of s.views) r.table now_left = subst (λ (n : ℕ). Turn keeps_it board counts count orders n home (ds_of s.views) r.table now_left) hit r.turn in
+      let part : Turn keeps_it board counts count orders r.slots 0 home (ds_of s.views) r.table now_left = subst (λ (n : ℕ). Turn keeps_it board counts count orders r.slots n home (ds_of s.views) r.table now_left) hit r.turn in
       let sizes : r.table.sizes ≡ sizes_for d.vars d.elements = ((j.each id d here).live live).agrees.sizes_are in
-      let t = finds_it keeps_it board counts count orders home (ds_of s.views) r.table now_left id d functions (IsOfOther r.table d.session) part here sizes
+      let t = finds_it keeps_it board counts count orders r.slots home (ds_of s.views) r.table now_left id d functions (IsOfOther r.table d.session) part here sizes ((r.sized id d here).0 live)
       (rows_apart (get_or s.words 0 0) (get_or s.words 1 0) (ds_of s.views) r.start r.log r.table j id d here live) in
       let home_of = t.3 in
       let x : S = t.0 in
@@ -80,18 +80,20 @@ module _ {S : Type 0} (keeps_it : S → Held → Type 0) (board : S → List (st
       let place : get_or (set s.words 1 (suc d.session)) 0 0 ≡ get_or s.words 0 0 = get_or-set_other s.words 1 0 (suc d.session) 0 (λ e. omega (arith, e)) in
       let views : ds_of (set s.views id w) ≡ set (ds_of s.views) id w.draws = map-set (λ (v : View). v.draws) s.views id w in
       let journal = takes_it (get_or s.words 0 0) (get_or s.words 1 0) (ds_of s.views) r.start r.log r.table j id d (board x) others (orders x) (functions x) here live hit home_of.cells_are home_of.as_many t.7 in
-      let turned = away_with keeps_it board counts count orders (suc d.session) id (get_elem? hs 0) (ds_of s.views) r.table now_left d (board x) others (orders x) (functions x) home_of.orders_are (λ e. omega (arith, e))
+      let turned = away_with keeps_it board counts count orders r.slots (suc d.session) id (get_elem? hs 0) (ds_of s.views) r.table now_left d (board x) others (orders x) (functions x) home_of.orders_are (λ e. omega (arith, e))
       (λ i f there h. let a = held_turn (get_or s.words 0 0) (get_or s.words 1 0) (ds_of s.views) r.start r.log r.table j i f there h in omega (arith, a, hit)) t.5 here t.6 in
       let rule : TheRule (record { words = set s.words 1 new; homes = hs; views = set s.views id w }) =
       subst (λ (n : ℕ). TheRule (record { words = set s.words 1 n; homes = hs; views = set s.views id w })) (sym is) (record {
         wide = length-set s.words 1 (suc d.session) ∙ r.wide;
         long = length-set s.homes 0 none ∙ r.long;
         start = r.start;
+        slots = r.slots;
         log = r.log;
         table = r.table;
         journal = subst (λ (y : ℕ × ℕ × List Draws). Journal y.0 y.1 y.2 r.start r.log r.table) (λ k. (sym place k, sym now k, sym views k)) journal;
-        turn = subst (λ (y : ℕ × List Draws). Turn keeps_it board counts count orders y.0 (get_elem? hs 0) y.1 r.table now_left) (λ k. (sym now k, sym views k)) turned;
+        turn = subst (λ (y : ℕ × List Draws). Turn keeps_it board counts count orders r.slots y.0 (get_elem? hs 0) y.1 r.table now_left) (λ k. (sym now k, sym views k)) turned;
         rows = subst Allotted (sym views) (allotted-set (ds_of s.views) id d w.draws here r.rows refl (r.rows.each id d here));
+        sized = subst (AreSized r.slots) (sym views) (sized_set r.slots (ds_of s.views) id w.draws r.sized (r.sized id d here));
       }) in (
         w,
         takes 0 (std.Some x),
@@ -116,7 +118,7 @@ module _ {S : Type 0} (keeps_it : S → Held → Type 0) (board : S → List (st
       let here = seat_of s id me.0 at in
       let j : Journal (get_or s.words 0 0) (get_or s.words 1 0) (ds_of s.views) r.start r.log r.table = r.journal in
       let now_left : Orders = orders_from (opening_orders r.start) r.log in
-      let part : Turn keeps_it board counts count orders 0 (get_elem? s.homes 0) (ds_of s.views) r.table now_left = subst (λ (n : ℕ). Turn keeps_it board counts count orders n (get_elem? s.homes 0) (ds_of s.views) r.table now_left) hit r.turn in
+      let part : Turn keeps_it board counts count orders r.slots 0 (get_elem? s.homes 0) (ds_of s.views) r.table now_left = subst (λ (n : ℕ). Turn keeps_it board counts count orders r.slots n (get_elem? s.homes 0) (ds_of s.views) r.table now_left) hit r.turn in
       let h = part.home_is refl in
       let x : S = h.0 in
       let home_of = h.2 in
@@ -133,6 +135,7 @@ module _ {S : Type 0} (keeps_it : S → Held → Type 0) (board : S → List (st
         wide = length-set s.words 1 65 ∙ r.wide;
         long = length-set s.homes 0 none ∙ r.long;
         start = r.start;
+        slots = r.slots;
         log = r.log;
         table = r.table;
         journal = subst (λ (y : ℕ × ℕ). Journal y.0 y.1 (ds_of s.views) r.start r.log r.table) (λ k. (sym place k, sym now k)) (turns (get_or s.words 0 0) (get_or s.words 1 0) (ds_of s.views) r.start r.log r.table j 65 hit);
@@ -143,6 +146,7 @@ module _ {S : Type 0} (keeps_it : S → Held → Type 0) (board : S → List (st
           ordered = λ i f there held. absurd (none_holds i f there held);
         };
         rows = r.rows;
+        sized = r.sized;
       } in (
         me.0,
         takes 0 (std.Some x),
@@ -157,7 +161,7 @@ module _ {S : Type 0} (keeps_it : S → Held → Type 0) (board : S → List (st
             record {
               rows_kept = home_of.rows_kept id d here;
               cells_kept = home_of.cells_kept;
-              counts_are = home_of.counts_are ∙ ap (λ (z : Sizes). (z.variables, z.elements)) (j.fixed ∙ sizes);
+              counts_are = home_of.counts_are ∙ ap₂ (λ (z : Sizes) (n : ℕ). (z.variables, z.elements, n)) (j.fixed ∙ sizes) (sym ((r.sized id d here).1 is));
               counted = λ k. let a = home_of.counted k in let b = all_count-only k (ds_of s.views) id d here empty in omega (arith, a, b);
               calls = get_or s.words 0 0;
               whole = whole_now;
@@ -192,8 +196,8 @@ module _ {S : Type 0} (keeps_it : S → Held → Type 0) (board : S → List (st
       let views : ds_of (set s.views id w) ≡ set (ds_of s.views) id w.draws = map-set (λ (v : View). v.draws) s.views id w in
       let back : get_elem? hs 0 ≡ home = set_here s.homes 0 (some (std.Some x)) (let l = r.long in omega (arith, l)) in
       let now_left : Orders = orders_from (opening_orders r.start) r.log in
-      let turned = comes_home keeps_it board counts count orders (get_or s.words 1 0) id (get_elem? s.homes 0) (ds_of s.views) r.table now_left d x leaving r.turn here holds
-      (λ i f there h. one_holder (get_or s.words 0 0) (get_or s.words 1 0) (ds_of s.views) r.start r.log r.table j i id f d there here h holds) board_now.0 board_now.1 agrees.sizes_are serves in (
+      let turned = comes_home keeps_it board counts count orders r.slots (get_or s.words 1 0) id (get_elem? s.homes 0) (ds_of s.views) r.table now_left d x leaving r.turn here holds
+      (λ i f there h. one_holder (get_or s.words 0 0) (get_or s.words 1 0) (ds_of s.views) r.start r.log r.table j i id f d there here h holds) board_now.0 board_now.1 agrees.sizes_are ((r.sized id d here).0 live) serves in (
         w,
         gives,
         tt,
@@ -201,12 +205,14 @@ module _ {S : Type 0} (keeps_it : S → Held → Type 0) (board : S → List (st
           wide = length-set s.words 1 0 ∙ r.wide;
           long = length-set s.homes 0 (some (std.Some x)) ∙ r.long;
           start = r.start;
+          slots = r.slots;
           log = r.log;
           table = r.table;
           journal = subst (λ (y : ℕ × ℕ × List Draws). Journal y.0 y.1 y.2 r.start r.log r.table) (λ k. (sym place k, sym now k, sym views k))
               (gives_it (get_or s.words 0 0) (get_or s.words 1 0) (ds_of s.views) r.start r.log r.table j id d leaving here live holds);
-          turn = subst (λ (y : ℕ × Option (Option (std.Option S)) × List Draws). Turn keeps_it board counts count orders y.0 y.1 y.2 r.table now_left) (λ k. (sym now k, sym back k, sym views k)) turned;
+          turn = subst (λ (y : ℕ × Option (Option (std.Option S)) × List Draws). Turn keeps_it board counts count orders r.slots y.0 y.1 y.2 r.table now_left) (λ k. (sym now k, sym back k, sym views k)) turned;
           rows = subst Allotted (sym views) (allotted-set (ds_of s.views) id d w.draws here r.rows refl (r.rows.each id d here));
+          sized = subst (AreSized r.slots) (sym views) (sized_set r.slots (ds_of s.views) id w.draws r.sized (r.sized id d here));
         }),
         (refl, ap (Rattle.atomic_table.specs.Table.rest) has),
       )
@@ -239,7 +245,7 @@ module _ {S : Type 0} (keeps_it : S → Held → Type 0) (board : S → List (st
       let away : get_or s.words 1 0 ≢ 0 = λ z. let a = mine_now.held holds in omega (arith, a, z) in
       let now_left : Orders = orders_from (opening_orders r.start) r.log in
       let then_left : orders_from (opening_orders r.start) log ≡ orders_after now_left x.call x.reply = orders_from-append (opening_orders r.start) r.log (entry (length r.log) d.session x.call x.reply ∷ []) in
-      let turned = draws_away keeps_it board counts count orders (get_or s.words 1 0) id (get_elem? s.homes 0) (ds_of s.views) r.table u now_left d (length r.log) x r.turn here holds away
+      let turned = draws_away keeps_it board counts count orders r.slots (get_or s.words 1 0) id (get_elem? s.homes 0) (ds_of s.views) r.table u now_left d (length r.log) x r.turn here holds away
       (λ i f there h. one_holder (get_or s.words 0 0) (get_or s.words 1 0) (ds_of s.views) r.start r.log r.table j i id f d there here h holds) in (
         w,
         keeps,
@@ -248,12 +254,14 @@ module _ {S : Type 0} (keeps_it : S → Held → Type 0) (board : S → List (st
           wide = length-set s.words 0 ((n + 1) % 2 ^ 64) ∙ r.wide;
           long = r.long;
           start = r.start;
+          slots = r.slots;
           log = log;
           table = u;
           journal = subst (λ (y : ℕ × ℕ × List Draws). Journal y.0 y.1 y.2 r.start log u) (λ k. (sym place k, sym turn k, sym views k))
               (draws_it (get_or s.words 0 0) (get_or s.words 1 0) (ds_of s.views) r.start r.log r.table j id d x here holds room may);
-          turn = subst (λ (y : ℕ × List Draws × Orders). Turn keeps_it board counts count orders y.0 (get_elem? s.homes 0) y.1 u y.2) (λ k. (sym turn k, sym views k, sym then_left k)) turned;
+          turn = subst (λ (y : ℕ × List Draws × Orders). Turn keeps_it board counts count orders r.slots y.0 (get_elem? s.homes 0) y.1 u y.2) (λ k. (sym turn k, sym views k, sym then_left k)) turned;
           rows = subst Allotted (sym views) (allotted-set (ds_of s.views) id d (told_of d (length r.log) x) here r.rows refl (few-after d x.change live (r.rows.each id d here) may.room));
+          sized = subst (AreSized r.slots) (sym views) (sized_set r.slots (ds_of s.views) id (told_of d (length r.log) x) r.sized (r.sized id d here));
         },
         (refl, refl, λ k e l. subst (λ (z : List Entry × ℕ). std.All (λ (e : Entry). e.place < z.1) z.0) (λ i. (mine_now.mine i, from_zero (length r.log) (get_or s.words 0 0) is i)) (places_low r.log 0 (opening r.start) d.session j.legal) k e l),
       )
@@ -281,18 +289,23 @@ module _ {S : Type 0} (keeps_it : S → Held → Type 0) (board : S → List (st
         wide = r.wide;
         long = r.long;
         start = r.start;
+        slots = r.slots;
         log = r.log;
         table = r.table;
         journal = subst (λ (l : List Draws). Journal (get_or s.words 0 0) (get_or s.words 1 0) l r.start r.log r.table) (sym views)
             (splits_it (get_or s.words 0 0) (get_or s.words 1 0) (ds_of s.views) r.start r.log r.table j id d here is room);
-        turn = subst (λ (l : List Draws). Turn keeps_it board counts count orders (get_or s.words 1 0) (get_elem? s.homes 0) l r.table (orders_from (opening_orders r.start) r.log)) (sym views)
-            (stays_so keeps_it board counts count orders (get_or s.words 1 0) (get_elem? s.homes 0) (ds_of s.views) (set (ds_of s.views) id (one_more d) ++ session_of d ∷ []) r.table (orders_from (opening_orders r.start) r.log) r.turn
+        turn = subst (λ (l : List Draws). Turn keeps_it board counts count orders r.slots (get_or s.words 1 0) (get_elem? s.homes 0) l r.table (orders_from (opening_orders r.start) r.log)) (sym views)
+            (stays_so keeps_it board counts count orders r.slots (get_or s.words 1 0) (get_elem? s.homes 0) (ds_of s.views) (set (ds_of s.views) id (one_more d) ++ session_of d ∷ []) r.table (orders_from (opening_orders r.start) r.log) r.turn
             (λ k e there. ⊎_elim
-            (each_set (IsAsBefore keeps_it board counts count orders (ds_of s.views)) (ds_of s.views) id (one_more d) (λ i f apart lies. inl (f, lies, refl, refl, refl, refl)) (inl (d, here, refl, refl, refl, refl)) k e)
-            (λ (t : (k ≡ length (set (ds_of s.views) id (one_more d))) × (session_of d ≡ e)). subst (IsAsBefore keeps_it board counts count orders (ds_of s.views) k) t.1 (inr (inl (refl, refl))))
+            (each_set (IsAsBefore keeps_it board counts count orders r.slots (ds_of s.views)) (ds_of s.views) id (one_more d) (λ i f apart lies. inl (f, lies, refl, refl, refl, refl)) (inl (d, here, refl, refl, refl, refl)) k e)
+            (λ (t : (k ≡ length (set (ds_of s.views) id (one_more d))) × (session_of d ≡ e)). subst (IsAsBefore keeps_it board counts count orders r.slots (ds_of s.views) k) t.1 (inr (inl (refl, refl))))
             (at_end (set (ds_of s.views) id (one_more d)) (session_of d) e k there))
             (λ k. let a = all_count-append k (set (ds_of s.views) id (one_more d)) (session_of d) in let b = all_count-same k (ds_of s.views) id d (one_more d) here refl in omega (arith, a, b)));
         rows = subst Allotted (sym views) (allotted-split (ds_of s.views) id d here is ((j.each id d here).closing is).0 room r.rows);
+        sized = subst (AreSized r.slots) (sym views) (λ k e there. ⊎_elim
+            (sized_set r.slots (ds_of s.views) id (one_more d) r.sized (r.sized id d here) k e)
+            (λ (t : (k ≡ length (set (ds_of s.views) id (one_more d))) × (session_of d ≡ e)). subst (IsSized r.slots) t.1 ((λ _. (r.sized id d here).1 is), (λ c. absurd (true≢false (sym c)))))
+            (at_end (set (ds_of s.views) id (one_more d)) (session_of d) e k there));
       }
 
   pub joins : (id : ℕ) (v : View) (other : ℕ) (w : View) → v.draws.closing ≡ true → w.draws.live ≡ true → w.draws.holds ≡ false → Joins TheRule id v other w (viewed (with_gone v.draws w.draws)) (viewed blank)
@@ -311,20 +324,23 @@ module _ {S : Type 0} (keeps_it : S → Held → Type 0) (board : S → List (st
         wide = r.wide;
         long = r.long;
         start = r.start;
+        slots = r.slots;
         log = r.log;
         table = r.table;
         journal = subst (λ (l : List Draws). Journal (get_or s.words 0 0) (get_or s.words 1 0) l r.start r.log r.table) (sym views)
             (joins_it (get_or s.words 0 0) (get_or s.words 1 0) (ds_of s.views) r.start r.log r.table j id d other e here apart lies is live free);
-        turn = subst (λ (l : List Draws). Turn keeps_it board counts count orders (get_or s.words 1 0) (get_elem? s.homes 0) l r.table (orders_from (opening_orders r.start) r.log)) (sym views)
-            (stays_so keeps_it board counts count orders (get_or s.words 1 0) (get_elem? s.homes 0) (ds_of s.views) (set (set (ds_of s.views) id (with_gone d e)) other blank) r.table (orders_from (opening_orders r.start) r.log) r.turn
-            (each_set (IsAsBefore keeps_it board counts count orders (ds_of s.views)) (set (ds_of s.views) id (with_gone d e)) other blank
-            (λ k f off_other at_k. each_set (IsAsBefore keeps_it board counts count orders (ds_of s.views)) (ds_of s.views) id (with_gone d e) (λ i g off_id at_i. inl (g, at_i, refl, refl, refl, refl)) (inr (inr (d, other, e, here, at_other, refl, not_held, free))) k f at_k)
+        turn = subst (λ (l : List Draws). Turn keeps_it board counts count orders r.slots (get_or s.words 1 0) (get_elem? s.homes 0) l r.table (orders_from (opening_orders r.start) r.log)) (sym views)
+            (stays_so keeps_it board counts count orders r.slots (get_or s.words 1 0) (get_elem? s.homes 0) (ds_of s.views) (set (set (ds_of s.views) id (with_gone d e)) other blank) r.table (orders_from (opening_orders r.start) r.log) r.turn
+            (each_set (IsAsBefore keeps_it board counts count orders r.slots (ds_of s.views)) (set (ds_of s.views) id (with_gone d e)) other blank
+            (λ k f off_other at_k. each_set (IsAsBefore keeps_it board counts count orders r.slots (ds_of s.views)) (ds_of s.views) id (with_gone d e) (λ i g off_id at_i. inl (g, at_i, refl, refl, refl, refl)) (inr (inr (d, other, e, here, at_other, refl, not_held, free))) k f at_k)
             (inr (inl (refl, refl))))
             (λ k.
             let a = all_count-set k (ds_of s.views) id d (with_gone d e) here in
             let b = all_count-set k (set (ds_of s.views) id (with_gone d e)) other e blank lies in
             let c = row_count-append k d.rows e.rows in omega (arith, a, b, c)));
         rows = subst Allotted (sym views) (allotted-join (ds_of s.views) id d other e here at_other lies is ((j.each id d here).closing is).0 live r.rows);
+        sized = subst (AreSized r.slots) (sym views) (sized_set r.slots (set (ds_of s.views) id (with_gone d e)) other blank
+            (sized_set r.slots (ds_of s.views) id (with_gone d e) r.sized (r.sized id d here)) ((λ l. absurd (true≢false (sym l))), (λ c. absurd (true≢false (sym c)))));
       }
 
   -- an empty board names no slot
@@ -334,12 +350,13 @@ module _ {S : Type 0} (keeps_it : S → Held → Type 0) (board : S → List (st
   none_counted k (std.Some held ∷ cells) none_there = absurd (let a : std.Some held.function ≡ std.None = none_there zero in cc)
 
   -- the table as it is made
-  pub starts : (x : S) (d : Draws) → orders x ≡ opening_orders (sizes_for d.vars d.elements) → counts x ≡ (d.vars, d.elements) → ((k : ℕ) → count x k ≡ 0) → d.closing ≡ true → d.live ≡ false → d.holds ≡ false → d.rows ≡ [] → d.given ≡ 0 → d.gone ≡ [] → length (board x) ≡ 256 → cell_in (board x) ≡ (λ (i : ℕ). std.None) → Each (IsKeptCell keeps_it board counts count orders x) (board x)
+  pub starts : (x : S) (d : Draws) → orders x ≡ opening_orders (sizes_for d.vars d.elements) → counts x ≡ (d.vars, d.elements, d.slots) → ((k : ℕ) → count x k ≡ 0) → d.closing ≡ true → d.live ≡ false → d.holds ≡ false → d.rows ≡ [] → d.given ≡ 0 → d.gone ≡ [] → length (board x) ≡ 256 → cell_in (board x) ≡ (λ (i : ℕ). std.None) → Each (IsKeptCell keeps_it board counts count orders x) (board x)
       → TheRule (record { words = 0 ∷ 0 ∷ []; homes = some (std.Some x) ∷ []; views = viewed d ∷ [] })
   starts x d ordered sizes zeros is dead free rows given gone len empty kept = record {
     wide = refl;
     long = refl;
     start = sizes_for d.vars d.elements;
+    slots = d.slots;
     log = [];
     table = opening (sizes_for d.vars d.elements);
     journal = record {
@@ -360,6 +377,7 @@ module _ {S : Type 0} (keeps_it : S → Held → Type 0) (board : S → List (st
       ordered = λ i f at h. absurd (true≢false (sym h ∙ only i f at (λ f. f.holds ≡ false) free));
     };
     rows = allotted-one d is dead rows given gone;
+    sized = λ j e at. only j e at (IsSized d.slots) ((λ _. refl), (λ _. refl));
   }
     where
       only : (j : ℕ) (e : Draws) → get_elem? (d ∷ []) j ≡ some e → (P : Draws → Type 0) → P d → P e

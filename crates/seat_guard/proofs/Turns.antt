@@ -15,23 +15,27 @@ use Rattle.seat_guard.specs.Views.{told_of, cell_in, sizes_for, holding, letting
 use Rattle.function_laws.specs.SessionEntries.{Each}
 use Rattle.function_laws.specs.Sizes.{Orders}
 use Rattle.function_laws.specs.EntryOrders.{orders_after}
-use Rattle.seat_guard.specs.Turn.{Has, IsKeptCell, KeepsRows, Serves, IsHome, Turn, row_count, held_count, cells_count, all_count}
+use Rattle.seat_guard.specs.Turn.{AreSized, Has, IsKeptCell, IsSized, KeepsRows, Serves, IsHome, Turn, row_count, held_count, cells_count, all_count}
 use Rattle.seat_guard.proofs.RowCounts.{each_set, each_append, off, all_held, all_held_each, rows_by_others, all_held_has, held_count-all, all_count-set, all_count-same}
 
 abbrev no_rows : Draws → Draws
 no_rows d = record d { rows = [] }
 
-module _ {S : Type 0} (keeps_it : S → Held → Type 0) (board : S → List (std.Option Held)) (counts : S → ℕ × ℕ) (count : S → ℕ → ℕ) (orders : S → Orders) where
+-- a seat changes that still knows the number of slots
+pub sized_set : (slots : ℕ) (ds : List Draws) (id : ℕ) (d : Draws) → AreSized slots ds → IsSized slots d → AreSized slots (set ds id d)
+sized_set slots ds id d all is = each_set (λ _. IsSized slots) ds id d (λ j e apart here. all j e here) is
+
+module _ {S : Type 0} (keeps_it : S → Held → Type 0) (board : S → List (std.Option Held)) (counts : S → ℕ × ℕ × ℕ) (count : S → ℕ → ℕ) (orders : S → Orders) (slots : ℕ) where
   abbrev TurnOf : ℕ → Option (Option (std.Option S)) → List Draws → Table → Orders → Type 0
-  TurnOf = Turn keeps_it board counts count orders
+  TurnOf = Turn keeps_it board counts count orders slots
 
   -- what the taker is told of the content
-  pub finds_it : (home : Option (Option (std.Option S))) (ds : List Draws) (t : Table) (now : Orders) (id : ℕ) (d : Draws) (functions : S → List Function) (Q : Held → Type 0) → TurnOf 0 home ds t now → get_elem? ds id ≡ some d → t.sizes ≡ sizes_for d.vars d.elements
+  pub finds_it : (home : Option (Option (std.Option S))) (ds : List Draws) (t : Table) (now : Orders) (id : ℕ) (d : Draws) (functions : S → List Function) (Q : Held → Type 0) → TurnOf 0 home ds t now → get_elem? ds id ≡ some d → t.sizes ≡ sizes_for d.vars d.elements → d.slots ≡ slots
       → ((j : ℕ) (e : Draws) → j ≢ id → get_elem? ds j ≡ some e → Each (λ (row : Row). Q row.held) e.rows)
-      → (x : S) × (others : List Held) × (home ≡ some (some (std.Some x))) × IsHome keeps_it board counts count orders x ds t now × Serves keeps_it board counts count orders x (holding d (board x) others (orders x) (functions x))
+      → (x : S) × (others : List Held) × (home ≡ some (some (std.Some x))) × IsHome keeps_it board counts count orders slots x ds t now × Serves keeps_it board counts count orders x (holding d (board x) others (orders x) (functions x))
       × ((j : ℕ) (e : Draws) → j ≢ id → get_elem? ds j ≡ some e → Each (λ (row : Row). Has others row.held) e.rows)
       × ((k : ℕ) → row_count k d.rows + held_count k others ≡ all_count k ds) × Each Q others
-  finds_it home ds t now id d functions Q part at sizes all_apart =
+  finds_it home ds t now id d functions Q part at sizes as_many all_apart =
       let h = part.home_is refl in
       let x : S = h.0 in
       let others : List Held = all_held (set ds id (no_rows d)) in
@@ -47,7 +51,7 @@ module _ {S : Type 0} (keeps_it : S → Held → Type 0) (board : S → List (st
           others_kept = all_held_each (keeps_it x) (set ds id (no_rows d)) (each_set (λ j (e : Draws). Each (λ (row : Row). keeps_it x row.held) e.rows) ds id (no_rows d) (λ j e apart here. home_of.rows_kept j e here) tt);
           cells_kept = home_of.cells_kept;
           board_is = refl;
-          counts_are = home_of.counts_are ∙ ap (λ (z : Sizes). (z.variables, z.elements)) sizes;
+          counts_are = home_of.counts_are ∙ ap₂ (λ (z : Sizes) (n : ℕ). (z.variables, z.elements, n)) sizes (sym as_many);
           counted = λ k. let a = home_of.counted k in let b = all k in omega (arith, a, b);
           orders_are = refl;
         },
@@ -77,9 +81,9 @@ module _ {S : Type 0} (keeps_it : S → Held → Type 0) (board : S → List (st
   -- the turn comes home
   pub comes_home : (turn id : ℕ) (home : Option (Option (std.Option S))) (ds : List Draws) (t : Table) (now : Orders) (d : Draws) (x : S) (leaving : Leaving) → TurnOf turn home ds t now → get_elem? ds id ≡ some d → d.holds ≡ true
       → ((j : ℕ) (e : Draws) → get_elem? ds j ≡ some e → e.holds ≡ true → j ≡ id)
-      → t.cells ≡ cell_in d.cells → length d.cells ≡ 256 → t.sizes ≡ sizes_for d.vars d.elements → Serves keeps_it board counts count orders x d
+      → t.cells ≡ cell_in d.cells → length d.cells ≡ 256 → t.sizes ≡ sizes_for d.vars d.elements → d.slots ≡ slots → Serves keeps_it board counts count orders x d
       → TurnOf 0 (some (some (std.Some x))) (set ds id (letting_go d leaving)) t now
-  comes_home turn id home ds t now d x leaving part at holds alone cells len sizes serves = record {
+  comes_home turn id home ds t now d x leaving part at holds alone cells len sizes as_many serves = record {
     home_is = λ z. (
       x,
       refl,
@@ -87,7 +91,7 @@ module _ {S : Type 0} (keeps_it : S → Held → Type 0) (board : S → List (st
         cells_are = cells ∙ ap cell_in (sym serves.board_is);
         as_many = ap (λ (l : List (std.Option Held)). length l) serves.board_is ∙ len;
         cells_kept = subst (λ (l : List (std.Option Held)). Each (IsKeptCell keeps_it board counts count orders x) l) (sym serves.board_is) serves.cells_kept;
-        counts_are = serves.counts_are ∙ ap (λ (z : Sizes). (z.variables, z.elements)) (sym sizes);
+        counts_are = serves.counts_are ∙ ap₂ (λ (z : Sizes) (n : ℕ). (z.variables, z.elements, n)) (sym sizes) as_many;
         counted = λ k.
             let a = serves.counted k in
             let b = part.others_counted id d at holds k in

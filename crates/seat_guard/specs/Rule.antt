@@ -21,7 +21,7 @@ use Rattle.seat_guard.specs.Allots.{Allotted}
 use Rattle.seat_guard.specs.Sifted.{Carries}
 use Rattle.seat_guard.specs.Views.{sizes_for, stands_for, told_of, holding, letting_go}
 use Rattle.seat_guard.specs.Journal.{Journal}
-use Rattle.seat_guard.specs.Turn.{IsKeptCell, KeepsRows, Serves, Turn, row_count, cells_count}
+use Rattle.seat_guard.specs.Turn.{AreSized, IsKeptCell, KeepsRows, Serves, Turn, row_count, cells_count}
 
 -- A legal history of n calls, in which each session that came back has the entries that it had, which leaves each its rows, and which has none of sessions that there never were. Each function that a sift's entry carries is that of a row or a cell which the entries below it leave.
 pub record Whole (n : ℕ) (start : Sizes) (given : ℕ) (gone : List Gone) : Type 0 where
@@ -33,22 +33,24 @@ pub record Whole (n : ℕ) (start : Sizes) (given : ℕ) (gone : List Gone) : Ty
   pub rows : (k : ℕ) (g : Gone) → get_elem? gone k ≡ some g → (table_after (opening start) log).live g.session ≡ stands_for g.rows
   pub beyond : (p : ℕ) → given ≤ p → entries_of p log ≡ []
 
-module _ {S : Type 0} (keeps : S → Held → Type 0) (board : S → List (std.Option Held)) (counts : S → ℕ × ℕ) (count : S → ℕ → ℕ) (orders : S → Orders) where
+module _ {S : Type 0} (keeps : S → Held → Type 0) (board : S → List (std.Option Held)) (counts : S → ℕ × ℕ × ℕ) (count : S → ℕ → ℕ) (orders : S → Orders) where
   pub record Rule (s : State (std.Option S) View) : Type 0 where
     pub wide : length s.words ≡ 2
     pub long : length s.homes ≡ 1
     pub start : Sizes
+    pub slots : ℕ
     pub log : List Entry
     pub table : Table
     pub journal : Journal (slice_index s.words 0) (slice_index s.words 1) (map (λ (v : View). v.draws) s.views) start log table
-    pub turn : Turn keeps board counts count orders (slice_index s.words 1) (get_elem? s.homes 0) (map (λ (v : View). v.draws) s.views) table (orders_from (opening_orders start) log)
+    pub turn : Turn keeps board counts count orders slots (slice_index s.words 1) (get_elem? s.homes 0) (map (λ (v : View). v.draws) s.views) table (orders_from (opening_orders start) log)
     pub rows : Allotted (map (λ (v : View). v.draws) s.views)
+    pub sized : AreSized slots (map (λ (v : View). v.draws) s.views)
 
   -- the content after all sessions came back: only the rows of the closing seat and the cells are left
   pub record Ends (x : S) (d : Draws) : Type 0 where
     pub rows_kept : KeepsRows keeps board counts count orders x d.rows
     pub cells_kept : Each (IsKeptCell keeps board counts count orders x) (board x)
-    pub counts_are : counts x ≡ (d.vars, d.elements)
+    pub counts_are : counts x ≡ (d.vars, d.elements, d.slots)
     pub counted : (k : ℕ) → count x k ≡ row_count k d.rows + cells_count k (board x)
     -- it has the orders that a whole legal history of all sessions leaves
     pub calls : ℕ

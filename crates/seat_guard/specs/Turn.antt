@@ -37,7 +37,14 @@ abbrev pub all_count : ℕ → List Draws → ℕ
 all_count k [] = 0
 all_count k (d ∷ ds) = row_count k d.rows + all_count k ds
 
-module _ {S : Type 0} (keeps : S → Held → Type 0) (board : S → List (std.Option Held)) (counts : S → ℕ × ℕ) (count : S → ℕ → ℕ) (orders : S → Orders) where
+-- the seat of a session, or the closing one, knows this number of slots
+abbrev pub IsSized : ℕ → Draws → Type 0
+IsSized slots d = (d.live ≡ true → d.slots ≡ slots) × (d.closing ≡ true → d.slots ≡ slots)
+
+abbrev pub AreSized : ℕ → List Draws → Type 0
+AreSized slots ds = (id : ℕ) (d : Draws) → get_elem? ds id ≡ some d → IsSized slots d
+
+module _ {S : Type 0} (keeps : S → Held → Type 0) (board : S → List (std.Option Held)) (counts : S → ℕ × ℕ × ℕ) (count : S → ℕ → ℕ) (orders : S → Orders) where
   abbrev pub IsKeptCell : S → std.Option Held → Type 0
   IsKeptCell x std.None = Unit {0}
   IsKeptCell x (std.Some held) = keeps x held
@@ -51,24 +58,24 @@ module _ {S : Type 0} (keeps : S → Held → Type 0) (board : S → List (std.O
     pub others_kept : Each (keeps x) d.others
     pub cells_kept : Each (IsKeptCell x) d.cells
     pub board_is : board x ≡ d.cells
-    pub counts_are : counts x ≡ (d.vars, d.elements)
+    pub counts_are : counts x ≡ (d.vars, d.elements, d.slots)
     -- each slot is counted as often as it is named
     pub counted : (k : ℕ) → count x k ≡ row_count k d.rows + held_count k d.others + cells_count k d.cells
     pub orders_are : orders x ≡ orders_of d
 
-  -- the content at home: it has the table's board and sizes and these orders, and keeps the cells and each session's rows
-  pub record IsHome (x : S) (ds : List Draws) (t : Table) (now : Orders) : Type 0 where
+  -- the content at home: it has the table's board and sizes, so many slots and these orders, and keeps the cells and each session's rows
+  pub record IsHome (slots : ℕ) (x : S) (ds : List Draws) (t : Table) (now : Orders) : Type 0 where
     pub cells_are : t.cells ≡ cell_in (board x)
     pub as_many : length (board x) ≡ 256
     pub cells_kept : Each (IsKeptCell x) (board x)
-    pub counts_are : counts x ≡ (t.sizes.variables, t.sizes.elements)
+    pub counts_are : counts x ≡ (t.sizes.variables, t.sizes.elements, slots)
     pub counted : (k : ℕ) → count x k ≡ all_count k ds + cells_count k (board x)
     pub rows_kept : (j : ℕ) (d : Draws) → get_elem? ds j ≡ some d → KeepsRows x d.rows
     pub orders_are : orders x ≡ now
 
   -- The part of the turn: where the turn word is 0 the content is at home. Where it is not, who has it knows the rows of all others, and the orders.
-  pub record Turn (turn : ℕ) (home : Option (Option (std.Option S))) (ds : List Draws) (t : Table) (now : Orders) : Type 0 where
-    pub home_is : turn ≡ 0 → (x : S) × (home ≡ some (some (std.Some x))) × IsHome x ds t now
+  pub record Turn (slots turn : ℕ) (home : Option (Option (std.Option S))) (ds : List Draws) (t : Table) (now : Orders) : Type 0 where
+    pub home_is : turn ≡ 0 → (x : S) × (home ≡ some (some (std.Some x))) × IsHome slots x ds t now
     pub away : (id : ℕ) (d : Draws) → get_elem? ds id ≡ some d → d.holds ≡ true → (j : ℕ) (e : Draws) → j ≢ id → get_elem? ds j ≡ some e → Each (λ (row : Row). Has d.others row.held) e.rows
     pub others_counted : (id : ℕ) (d : Draws) → get_elem? ds id ≡ some d → d.holds ≡ true → (k : ℕ) → row_count k d.rows + held_count k d.others ≡ all_count k ds
     pub ordered : (id : ℕ) (d : Draws) → get_elem? ds id ≡ some d → d.holds ≡ true → orders_of d ≡ now

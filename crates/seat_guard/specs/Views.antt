@@ -3,7 +3,6 @@ use Rattle.std.specs.Prelude.{◌≡◌, ◌⊎◌, Contains, ℕ, suc, ◌≤�
 use Rattle.function_laws.specs.declared.history.Name.{Name}
 use Rattle.function_laws.specs.declared.history.Function.{Function}
 use Rattle.function_laws.specs.declared.history.Call.TheVariants as calls
-use Rattle.function_laws.specs.declared.history.Reply.{Reply}
 use Rattle.function_laws.specs.declared.history.Reply.TheVariants as replies
 use Rattle.function_laws.specs.Tables.{Table, Sizes, same_name}
 use Rattle.function_laws.specs.Steps.{IsAllowed, after}
@@ -104,6 +103,7 @@ blank = record {
   session = 0;
   vars = 0;
   elements = 0;
+  slots = 0;
   rows = [];
   adds = 0;
   holds = false;
@@ -122,11 +122,11 @@ blank = record {
 }
 
 abbrev pub closing_of : Opening → Draws
-closing_of key = record blank { closing = true; vars = key.vars; elements = key.elements; sessions = key.sessions }
+closing_of key = record blank { closing = true; vars = key.vars; elements = key.elements; slots = key.slots; sessions = key.sessions }
 
 -- the next session's seat
 abbrev pub session_of : Draws → Draws
-session_of d = record blank { live = true; session = d.given; vars = d.vars; elements = d.elements; sessions = d.sessions }
+session_of d = record blank { live = true; session = d.given; vars = d.vars; elements = d.elements; slots = d.slots; sessions = d.sessions }
 
 abbrev pub one_more : Draws → Draws
 one_more d = record d { given = suc d.given }

@@ -12,8 +12,8 @@ pub trait Content {
 
     ghost board: { Self → List (Option Held) };
 
-    // How many variables, and how many elements.
-    ghost counts: { Self → ℕ × ℕ };
+    // How many variables, how many elements, and how many slots.
+    ghost counts: { Self → ℕ × ℕ × ℕ };
 
     // How often a slot is counted.
     ghost count: { Self → ℕ → ℕ };

@@ -18,7 +18,7 @@ pub fn open<S: Content + Drop>(
     content: S,
     key: &Opening,
 ) -> Result<(Guard<S>, Pass<S>), AllocError>
-    requires counts { S.counts content ≡ (key.now.vars, key.now.elements) }
+    requires counts { S.counts content ≡ (key.now.vars, key.now.elements, key.now.slots) }
     requires orders { S.orders content ≡ opening_orders (sizes_for key.now.vars key.now.elements) }
     requires counted { (k : ℕ) → S.count content k ≡ 0 }
     requires cells { length (S.board content) ≡ 256 }

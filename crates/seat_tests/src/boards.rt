@@ -13,6 +13,7 @@ fn a_table_opens_over_a_store(rt: HostRuntime) -> Result<(), Fail> {
     let key = Opening {
         vars: 3,
         elements: 2,
+        slots: 100,
         sessions: 64,
     };
     let shared = Shared::new(rt.alloc(), 3, 2, 100)?;

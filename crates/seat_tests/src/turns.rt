@@ -27,7 +27,7 @@ impl Content for Tally {
 
     ghost board = { λ tally. replicate 256 None };
 
-    ghost counts = { λ tally. (0, 0) };
+    ghost counts = { λ tally. (0, 0, 0) };
 
     ghost count = { λ tally slot. 0 };
 
@@ -90,6 +90,7 @@ fn two<R: Threads + Wait + Sync>(rt: &R, alloc: Global, times: u32) -> Result<To
     let key = Opening {
         vars: 0,
         elements: 0,
+        slots: 0,
         sessions: 2,
     };
     let (guard, mut closing) = open(alloc, Tally { turns: 0 }, &key)?;

@@ -45,10 +45,16 @@ cells_many = length-replicate 256 no_cell
 pub new_shared : (vars elements limit : ℕ) (x : Shared) → IsOpening vars elements limit x.store → x.cells.items ≡ replicate 256 None → IsNew vars elements limit x
 new_shared vars elements limit x o cells = record {
   store = o;
-  counts_are = ap₂ (λ (n m : ℕ). (n, m)) (ap (λ l. length l) o.variable_levels ∙ length-range_with_len 0 vars) (ap (λ l. length l) o.element_levels ∙ length-range_with_len 0 elements);
+  counts_are = λ i. (opened_variables i, opened_elements i, o.slots_are i);
   orders_are = λ i. record { variables = o.variables_at i; elements = o.elements_at i };
   uncounted = λ k. ap (λ (cs : List ℕ). count_of (get_or cs k 0)) o.counts ∙ ap count_of (zero_at limit k);
   as_many = length-map x.cells.items (held_in (view_of x)) ∙ ap (λ (l : List (Option Cell)). length l) cells ∙ cells_many;
   empty = ap (λ (l : List (Option Cell)). cell_in (map (held_in (view_of x)) l)) cells ∙ (λ k i. cells_none (view_of x) 256 i k);
   kept = subst (λ (l : List (Option Cell)). Each (IsKeptCell keeps board counts count orders x) (map (held_in (view_of x)) l)) (sym cells) (cells_kept x (view_of x) 256);
 }
+  where
+    opened_variables : (view_of x).vars ≡ vars
+    opened_variables = ap (λ l. length l) o.variable_levels ∙ length-range_with_len 0 vars
+
+    opened_elements : (view_of x).elements ≡ elements
+    opened_elements = ap (λ l. length l) o.element_levels ∙ length-range_with_len 0 elements

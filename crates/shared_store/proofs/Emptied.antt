@@ -1,15 +1,13 @@
 -- A sweep of a store in which nothing is held leaves the permanent slots alone.
-use Rattle.std.proofs.Common.{◌≡◌, ◌⊎◌, inl, inr, ℕ, zero, suc, ◌+◌, ◌-◌, ◌<◌, ◌≤◌, Bool, true, false, length, Option, Some, None, refl, ap, sym, subst, ◌∙◌, ⊎_elim, arith}
+use Rattle.std.proofs.Common.{◌≡◌, inl, inr, ℕ, zero, suc, ◌+◌, ◌-◌, ◌<◌, ◌≤◌, Bool, true, false, length, Option, Some, None, refl, ap, sym, subst, ◌∙◌, arith}
 use Rattle.std.specs.List.{filter, range_with_len}
 use Rattle.std.proofs.lemmas.Bool.{cases_lt}
 use Rattle.edge_bits.specs.declared.words.Node.{Node}
 use Rattle.edge_bits.specs.declared.words.Word.{Word}
 use Rattle.edge_bits.specs.declared.words.Word.TheVariants.{Inner, Leaf}
 use Rattle.edge_bits.specs.Reading.{IsReached as LeadsTo, itself, then_child, else_child}
-use Rattle.function_laws.specs.Kinds.{Denoted}
 use Rattle.function_laws.specs.Sizes.{Orders}
-use Rattle.node_store.specs.Contents.{Content, IsPermanent, IsSound, IsUsed, is_used, projection_node, used_slots}
-use Rattle.node_store.specs.Sweeps.{IsReached}
+use Rattle.node_store.specs.Contents.{IsPermanent, IsSound, IsUsed, is_used, projection_node}
 use Rattle.node_slots.specs.Held.{Alone}
 use Rattle.node_slots.specs.Slots.{function_at_most, word_function}
 use Rattle.node_slots.specs.Stores.{Plain, IsStore, content_of, count_at, is_held, longest, slots}

@@ -26,7 +26,7 @@ pub lasts-grown : (x y : Shared) → Grown (view_of x) (view_of y) → y.cells.i
 lasts-grown x y grown cells = record {
   held = λ h some. keeps-grown x y grown h;
   cells = cells;
-  counts_are = λ i. (grown.vars i, grown.elements i);
+  counts_are = λ i. (grown.vars i, grown.elements i, grown.slots i);
   counted = grown.counts;
 }
 

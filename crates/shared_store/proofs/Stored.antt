@@ -1,11 +1,11 @@
 -- What a growing operation, a sweep and a change of counts store, and what was due.
-use Rattle.std.proofs.Common.{◌≡◌, ◌⊎◌, inl, inr, ℕ, ◌+◌, ◌-◌, ◌<◌, ◌≤◌, nat_le, Bool, true, false, ◌&&◌, length, Contains, Option, Some, None, option_map, refl, ap, ap₂, sym, subst, ◌∙◌, ⊎_elim, arith}
+use Rattle.std.proofs.Common.{◌≡◌, ◌⊎◌, inl, inr, ℕ, ◌+◌, ◌-◌, ◌<◌, ◌≤◌, nat_le, Bool, true, false, ◌&&◌, length, Contains, Option, Some, None, option_map, refl, ap, ap₂, sym, subst, ◌∙◌, arith}
 use Rattle.std.proofs.lemmas.Bool.{cases_lt}
 use Rattle.edge_bits.specs.declared.words.Word.{Word}
 use Rattle.function_laws.specs.declared.history.Function.{Function}
 use Rattle.function_laws.specs.Kinds.{Denoted}
 use Rattle.function_laws.specs.Sizes.{Orders}
-use Rattle.node_store.specs.Contents.{Content, IsSound, is_used}
+use Rattle.node_store.specs.Contents.{IsSound, is_used}
 use Rattle.node_store.specs.Views.{View, Grown}
 use Rattle.node_store.specs.Work.{Adds, IsWork}
 use Rattle.node_store.specs.WorkLaws.{IsPart-back}

@@ -1,5 +1,5 @@
 -- What a turn stored, told from the functions before it.
-use Rattle.std.proofs.Common.{◌≡◌, ℕ, zero, suc, ◌+◌, ◌<◌, ◌≤◌, Bool, true, false, ◌&&◌, ◌⊎◌, inl, inr, List, [], ◌∷◌, length, Contains, ℤ, Option, Some, None, refl, ap, ap₂, sym, subst, ◌∙◌, arith}
+use Rattle.std.proofs.Common.{◌≡◌, ℕ, zero, suc, ◌<◌, Bool, ◌⊎◌, inl, inr, List, [], ◌∷◌, Contains, ℤ, Option, Some, None, refl, ap, sym, subst, ◌∙◌, arith}
 use Rattle.std.proofs.Math.Bool.{Bool-discrete}
 use Rattle.std.proofs.Math.IntN.{ℤ_discrete}
 use Rattle.std.proofs.Math.Decide.{ℕ_discrete}
@@ -10,7 +10,7 @@ use mathlib.Core.HLevel.{Discrete}
 use mathlib.Core.List.{List-discrete}
 use Rattle.function_laws.specs.declared.history.Function.{Function}
 use Rattle.function_laws.specs.declared.history.Function.TheVariants.{Bdd, Add, Zdd}
-use Rattle.function_laws.specs.Kinds.{Denoted, BddFunction, AddFunction, ZddFamily}
+use Rattle.function_laws.specs.Kinds.{Denoted}
 use Rattle.seat_guard.specs.declared.view.Draws.{Draws}
 use Rattle.seat_guard.specs.declared.view.Leaving.{Leaving}
 use Rattle.shared_store.specs.declared.shared.Shared.{Shared}

@@ -46,7 +46,7 @@ pub lasts-swept : (x y : Shared) (swept : Swept) → IsStore x.store → IsStore
 lasts-swept x y swept of of' is cells = record {
   held = λ h some held. IsHeldIn-same (view_of x) (view_of y) h (record { vars = vars; elements = elements; content = (swept-kept x.store y.store swept of is h.edge.index some).1 }) held;
   cells = cells;
-  counts_are = λ i. (vars i, elements i);
+  counts_are = λ i. (vars i, elements i, is.limit i);
   counted = is.counts;
 }
   where

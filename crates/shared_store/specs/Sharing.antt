@@ -47,8 +47,8 @@ keeps x held = IsHeldIn (view_of x) held
 abbrev pub board : Shared → List (Option Held)
 board x = map (held_in (view_of x)) x.cells.items
 
-abbrev pub counts : Shared → ℕ × ℕ
-counts x = ((view_of x).vars, (view_of x).elements)
+abbrev pub counts : Shared → ℕ × ℕ × ℕ
+counts x = ((view_of x).vars, (view_of x).elements, (view_of x).slots)
 
 abbrev pub count : Shared → ℕ → ℕ
 count x k = count_at x.store k
@@ -101,7 +101,7 @@ Serving x d = Serves keeps board counts count orders x d
 -- A new one, with all that the opening of a table of seats asks for.
 pub record IsNew (vars elements limit : ℕ) (x : Shared) : Type 0 where
   pub store : IsOpening vars elements limit x.store
-  pub counts_are : counts x ≡ (vars, elements)
+  pub counts_are : counts x ≡ (vars, elements, limit)
   pub orders_are : orders x ≡ opening_orders (sizes_for vars elements)
   pub uncounted : (k : ℕ) → count x k ≡ 0
   pub as_many : length (board x) ≡ 256

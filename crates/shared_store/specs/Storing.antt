@@ -1,5 +1,5 @@
 -- What was stored while one seat had the turn.
-use Rattle.std.specs.Prelude.{◌≡◌, ◌⊎◌, Contains, Option, Some}
+use Rattle.std.specs.Prelude.{◌≡◌, ◌⊎◌, Contains, Some}
 use Rattle.function_laws.specs.declared.history.Function.{Function}
 use Rattle.function_laws.specs.Kinds.{Denoted}
 use Rattle.node_store.specs.Views.{View}

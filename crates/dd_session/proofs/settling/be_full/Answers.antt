@@ -1,4 +1,4 @@
-use Rattle.std.proofs.Common.{refl, ap, sym, subst, ◌∙◌, arith}
+use Rattle.std.proofs.Common.{ℕ, refl, ap, sym, subst, ◌∙◌, arith}
 use Rattle.function_laws.specs.declared.history.Reply.TheVariants as replies
 use Rattle.seat_guard.specs.Passes.{known}
 use Rattle.seat_guard.specs.declared.view.Draws.{Draws}
@@ -29,7 +29,8 @@ returns-clause-keeps c =
 pub returns-clause-told : goal.returns-clause-told
 returns-clause-told c =
     let o = due_denoted c.args.shared c.requires.due.0 c.requires.due.1 in
-    ((c.args.shared, quiet (call_of c.args.request) (replies.Full c.in_use-in_use.result 1), refl, refl, c.finish-place.ensures.drew), c.in_use-in_use.ensures.full o.0 o.1 ∙ sym c.limit-limit.ensures.limit, refl)
+    let slots = ap (λ (p : ℕ × ℕ × ℕ). p.2) c.requires.serves.counts_are in
+    ((c.args.shared, quiet (call_of c.args.request) (replies.Full c.in_use-in_use.result 1), refl, refl, c.finish-place.ensures.drew), c.in_use-in_use.ensures.full o.0 o.1 ∙ slots, c.limit-limit.ensures.limit ∙ slots, refl)
 
 pub returns-clause-notes : goal.returns-clause-notes
 returns-clause-notes c = let drew = c.finish-place.ensures.drew in (drew.leaving, ap (λ (z : Draws). z.stored) drew.left, ap (λ (z : Draws). z.due) drew.left, drew.is_leaving)

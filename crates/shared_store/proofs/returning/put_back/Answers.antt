@@ -1,4 +1,3 @@
-use Rattle.std.proofs.Common.{rules}
 use Rattle.seat_guard.specs.Passes.{known}
 use Rattle.shared_store.proofs.Storing.{leaving_of, leaving_of-is}
 use Rattle.shared_store.proofs.returning.put_back.Goals as goal

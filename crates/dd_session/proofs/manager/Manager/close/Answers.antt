@@ -54,5 +54,5 @@ returns-clause-left g c =
     let emptied = c.sweep-shared.ensures.emptied (λ k.
     let a = ends.counted k in let b = c.clear_board.ensures.count k in let e = c.let_all_go.ensures.count k in
     let r = c.join_all.ensures.rows k in let s = ap (λ (z : Draws). row_count k z.rows) same in omega (arith, a, b, e, r, s)) in
-    let v = c.let_all_go.ensures.vars ∙ c.clear_board.ensures.vars ∙ ap (λ (p : ℕ × ℕ). p.0) ends.counts_are ∙ vars in
+    let v = c.let_all_go.ensures.vars ∙ c.clear_board.ensures.vars ∙ ap (λ (p : ℕ × ℕ × ℕ). p.0) ends.counts_are ∙ vars in
     omega (arith, emptied, v)
