@@ -8,7 +8,10 @@ from itertools import product
 LEAST, MOST = -(2**46), 2**46 - 1
 MANY = 10
 # The commands whose result is there already, so that they are never refused a slot.
-READY = {"true", "false", "var", "not", "empty", "base"}
+READY = {"true", "false", "var", "not", "empty", "base", "copy", "fetch"}
+# The commands that make numbers and families. What copies and fetches make is of the kind of their operand, the others make BDDs.
+NUMBERS = {"num", "ofbdd", "plus", "minus", "times", "min", "max", "threshold", "addite", "sum"}
+FAMILIES = {"empty", "base", "single", "union", "meet", "diff", "on", "off", "flip", "product", "quotient"}
 
 
 class Illegal(Exception):
@@ -216,10 +219,18 @@ def changed(word, p, e):
 
 
 class Session:
-    """What is left of a section, and the registers that its calls made, by their order."""
+    """What is left of a section, the registers that its calls made, by their order, and the kind of each register."""
 
     def __init__(self, commands):
-        self.left, self.assigned, self.has_stopped = list(commands), [], False
+        self.left, self.assigned, self.has_stopped, self.kinds = list(commands), [], False, {}
+        for words in commands:
+            if words[1:2] == ["="]:
+                self.kinds[words[0]] = self.kind_made(words[2:])
+
+    def kind_made(self, words):
+        if words[0] in ("copy", "fetch"):
+            return self.kinds[words[-1]]
+        return "a" if words[0] in NUMBERS else "z" if words[0] in FAMILIES else "b"
 
     def due(self):
         """The words of its next call, or None."""
@@ -234,12 +245,20 @@ class Session:
         self.has_stopped = self.has_stopped or reply in ("full", "overflow")
         if words[0] == "drop":
             self.assigned.remove(words[1])
-        elif words[1:2] == ["="] and reply == "ok":
+        elif words[1:2] == ["="] and reply in ("ok", "posted", "empty"):
             self.assigned.append(words[0])
 
 
-def after(words, reply, session, world, n, m):
-    """The worlds that may be left of one by this call and its reply: what each session's registers stand for."""
+def after(words, reply, session, kinds, world, n, m):
+    """The worlds that may be left of one by this call and its reply: what each session's registers stand for, and for each
+    cell of the board that was posted its kind and its function."""
+    if words[1:2] == ["="] and words[2] == "copy":
+        return [world | {(session, words[0]): world[session, words[3]]}] if reply == "ok" else []
+    if words[1:2] == ["="] and words[2] == "fetch":
+        kind, f = world.get(("cell", int(words[3])), (None, None))
+        is_posted = kind == kinds[words[4]]
+        found = f if is_posted else world[session, words[4]]
+        return [world | {(session, words[0]): found}] if reply == ("posted" if is_posted else "empty") else []
     if words[1:2] == ["="]:
         given = [world[session, it] for it in words[3:] if (session, it) in world]
         try:
@@ -253,6 +272,11 @@ def after(words, reply, session, world, n, m):
         case "drop":
             is_due = reply == "ok"
             world = {name: f for name, f in world.items() if name != (session, words[1])}
+        case "post":
+            is_due = reply == "ok"
+            world = world | {("cell", int(words[1])): (kinds[words[2]], world[session, words[2]])}
+        case "sweep":
+            is_due = reply == "ok"
         case "same":
             f, g = world[session, words[1]], world[session, words[2]]
             is_due = reply == ("yes" if f == g else "no")
@@ -281,7 +305,7 @@ def judge(job, history):
         number, words = int(words[1]), words[2:]
         if call != " ".join([str(place), str(number), *words]) or words != sessions[number].due():
             raise Illegal(f"not the next call of its session: {line}")
-        worlds = [it for world in worlds for it in after(words, reply, number, world, n, m)]
+        worlds = [it for world in worlds for it in after(words, reply, number, sessions[number].kinds, world, n, m)]
         if not worlds:
             raise Illegal(f"no such reply is due: {line}")
         sessions[number].told(words, reply)

@@ -17,7 +17,7 @@ use Rattle.seat_guard.specs.declared.seat.Rest.{Rest}
 use Rattle.seat_guard.specs.declared.view.Draws.{Draws}
 use Rattle.seat_guard.specs.declared.view.Gone.{Gone}
 use Rattle.seat_guard.specs.Passes.{known, resting}
-use Rattle.seat_guard.specs.Views.{sizes_for, stands_for}
+pub use Rattle.seat_guard.specs.Views.{sizes_for, stands_for}
 use Rattle.shared_store.specs.declared.shared.Shared.{Shared}
 use Rattle.handle_count.specs.RowMaps.{RowMap}
 use Rattle.dd_session.specs.declared.answers.Fetched.{Fetched}

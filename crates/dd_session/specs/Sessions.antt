@@ -16,7 +16,7 @@ use Rattle.function_laws.specs.Steps.{IsAllowed, after}
 use Rattle.seat_guard.specs.declared.view.Held.{Held}
 use Rattle.seat_guard.specs.declared.view.Row.{Row}
 use Rattle.seat_guard.specs.Views.{sizes_for, stands_for}
-use Rattle.shared_store.specs.Sharing.{kind_of}
+pub use Rattle.shared_store.specs.Sharing.{kind_of}
 use Rattle.dd_session.specs.declared.answers.Refusal.{Refusal}
 use Rattle.dd_session.specs.declared.answers.Refusal.TheVariants as refusals
 
@@ -79,11 +79,6 @@ IsAsBefore old new = (new ≡ record old { spare = new.spare; stored = new.store
 abbrev pub Denies : Seen → Seen → Call → Refusal → Type 0
 Denies old new call refusals.Memory = IsAsBefore old new
 Denies old new call (refusals.Full full) = Called old new call (replies.Full full.in_use full.need) full.place × (full.in_use ≡ old.manager.limit) × (full.limit ≡ old.manager.limit) × (full.need ≡ 1)
-
--- what an operation replies whose values may be out of range
-abbrev pub told_as : Result Name Overflow → Reply
-told_as (Ok name) = replies.Made name
-told_as (Err _) = replies.Overflow
 
 -- what an operation replies whose values may be out of range
 abbrev pub told_as : Result Name Overflow → Reply

@@ -1,6 +1,6 @@
 -- Words say one thing at most.
-use Rattle.std.proofs.Common.{◌≡◌, ◌==◌, Bool, true, false, cond, List, [], ◌∷◌, map, Some, refl, ap, sym, ◌∙◌, subst, codes}
-use Rattle.std.specs.List.{position_or_len}
+use Rattle.std.proofs.Common.{◌≡◌, ◌==◌, Bool, true, false, cond, List, [], ◌∷◌, ◌++◌, suc, arith, map, Some, refl, ap, sym, ◌∙◌, subst, codes}
+use Rattle.std.specs.List.{All, flat_map, position_or_len}
 use Rattle.std.specs.Str.{bytes_eq}
 use Rattle.std.specs.Str.Parse.{digits_value}
 use Rattle.std.proofs.lemmas.Bool.{false≢true}
@@ -13,11 +13,12 @@ use Rattle.job_text.specs.declared.job.Register.{Register}
 use Rattle.job_text.specs.declared.operands.Operand.{Operand}
 use Rattle.job_text.specs.declared.operands.Operand.TheVariants as operands
 use Rattle.job_words.specs.Text.{Word, bit_word, integer_value, is_assignment}
-use Rattle.job_text.specs.Grammar.{Says, Spelling, assigns, tells, Spells, spelling, StandsFor, AllStandFor, CommandsSay, registers_after, is_called}
+use Rattle.job_text.specs.Grammar.{Says, Spelling, assigns, tells, Spells, spelling, StandsFor, AllStandFor, CommandsSay, registers_after, section_lines, is_called}
+use Rattle.job_text.specs.Faults.{is_session}
 use Rattle.job_words.specs.Commands.{Form, form_in}
 use Rattle.job_text.specs.Drafts.{place_of as due_at, no_operands, with_operands, act_of}
 use Rattle.job_words.proofs.Bits.{digits_of, no_none}
-use Rattle.job_text.proofs.Meanings.{no_assignment}
+use Rattle.job_text.proofs.Meanings.{no_assignment, says_words}
 use Rattle.job_text.proofs.Spellings.{Follows, IsIn, IsKnown, known}
 
 -- the bits of a word
@@ -46,6 +47,7 @@ operand_at rs places.Alike w = operands.Alike (position_or_len (is_called w) rs)
 operand_at rs places.Variable w = operands.Variable (digits_value 10 w)
 operand_at rs places.NewVariable w = operands.NewVariable (digits_value 10 w)
 operand_at rs places.Element w = operands.Element (digits_value 10 w)
+operand_at rs places.Cell w = operands.Cell (digits_value 10 w)
 operand_at rs places.Value w = operands.Value (integer_value w)
 operand_at rs places.Bit w = operands.Bit (bytes_eq w (codes "1"))
 operand_at rs places.Bits w = operands.Bits (bits_from w)
@@ -63,6 +65,7 @@ at_its_place n rs w (operands.Alike a) h = ap operands.Alike h.1.2
 at_its_place n rs w (operands.Variable v) h = ap operands.Variable h.0.1
 at_its_place n rs w (operands.NewVariable v) h = ap operands.NewVariable h.0.1
 at_its_place n rs w (operands.Element e) h = ap operands.Element h.0.1
+at_its_place n rs w (operands.Cell k) h = ap operands.Cell h.0.1
 at_its_place n rs w (operands.Value v) h = ap operands.Value h.0.1
 at_its_place n rs w (operands.Bit b) h = ap operands.Bit (ap (λ t. bytes_eq t (codes "1")) h ∙ bit_back b)
 at_its_place n rs w (operands.Bits bs) h = ap operands.Bits (ap bits_from h ∙ bits_back bs)
@@ -117,16 +120,47 @@ one_act : (n : Counts) (rs : List Register) (words words' : List Word) (act act'
 one_act n rs words words' act act' e h h' =
     one_spelt n rs words act act' (spelling act) (spelling act') (known n rs act h.1) (known n rs act' h'.1) h.0 (subst (λ (t : List Word). Spells n rs t (spelling act')) (sym e) h'.0)
 
--- commands of the same words are the same
-pub same_commands : (n : Counts) (rs : List Register) (commands commands' : List Command) → CommandsSay n rs commands → CommandsSay n rs commands'
-    → map (λ (command : Command). command.words) commands ≡ map (λ (command : Command). command.words) commands' → commands ≡ commands'
-same_commands n rs [] [] h h' e = refl
-same_commands n rs [] (c' ∷ commands') h h' e = cc
-same_commands n rs (c ∷ commands) [] h h' e = cc
-same_commands n rs (c ∷ commands) (c' ∷ commands') h h' e =
+-- a command is no line that begins a section
+no_begin : (n : Counts) (rs : List Register) (c : Command) (words : List Word) → Says n rs c.words c.act → is_session words ≡ true → words ≡ c.words → ⊥
+no_begin n rs c words h begins e = false≢true (sym (says_words n rs c.words c.act h).3 ∙ ap is_session (sym e) ∙ begins)
+
+-- the lines of some sections: none, or first one that begins a section
+abbrev AtBegin : List (List Word) → Type 0
+AtBegin [] = Unit {0}
+AtBegin (words ∷ lines) = is_session words ≡ true
+
+sections_begin : (sections : List (List Command)) → AtBegin (flat_map section_lines sections)
+sections_begin [] = tt
+sections_begin (commands ∷ sections) = refl
+
+abbrev words_in : List Command → List (List Word)
+words_in commands = map (λ (command : Command). command.words) commands
+
+-- commands of the same words are the same, up to where a section begins
+same_commands : (n : Counts) (rs : List Register) (commands commands' : List Command) (rest rest' : List (List Word)) → CommandsSay n rs commands → CommandsSay n rs commands' → AtBegin rest → AtBegin rest'
+    → words_in commands ++ rest ≡ words_in commands' ++ rest' → (commands ≡ commands') × (rest ≡ rest')
+same_commands n rs [] [] rest rest' h h' b b' e = (refl, e)
+same_commands n rs [] (c' ∷ commands') [] rest' h h' b b' e = cc
+same_commands n rs [] (c' ∷ commands') (words ∷ rest) rest' h h' b b' e = absurd (no_begin n rs c' words h'.0 b (cc))
+same_commands n rs (c ∷ commands) [] rest [] h h' b b' e = cc
+same_commands n rs (c ∷ commands) [] rest (words ∷ rest') h h' b b' e = absurd (no_begin n rs c words h.0 b' (cc))
+same_commands n rs (c ∷ commands) (c' ∷ commands') rest rest' h h' b b' e =
     let words : c.words ≡ c'.words = cc in
-    let rest : map (λ (command : Command). command.words) commands ≡ map (λ (command : Command). command.words) commands' = cc in
-    ap (λ w. record { words = w; act = c.act } ∷ commands) words
-    ∙ ap (λ a. record { words = c'.words; act = a } ∷ commands) (one_act n rs c.words c'.words c.act c'.act words h.0 h'.0)
-    ∙ ap (λ cs. c' ∷ cs) (same_commands n (registers_after rs c.words) commands commands' h.1
-    (subst (λ (w : List Word). CommandsSay n (registers_after rs w) commands') (sym words) h'.1) rest)
+    let others : words_in commands ++ rest ≡ words_in commands' ++ rest' = cc in
+    let more = same_commands n (registers_after rs c.words) commands commands' rest rest' h.1 (subst (λ (w : List Word). CommandsSay n (registers_after rs w) commands') (sym words) h'.1) b b' others in (
+      ap (λ w. record { words = w; act = c.act } ∷ commands) words
+          ∙ ap (λ a. record { words = c'.words; act = a } ∷ commands) (one_act n rs c.words c'.words c.act c'.act words h.0 h'.0)
+          ∙ ap (λ cs. c' ∷ cs) more.0,
+      more.1,
+    )
+
+-- sections of the same lines are the same
+pub same_sections : (n : Counts) (sections sections' : List (List Command)) → All (CommandsSay n []) sections → All (CommandsSay n []) sections' → flat_map section_lines sections ≡ flat_map section_lines sections' → sections ≡ sections'
+same_sections n [] [] h h' e = refl
+same_sections n [] (commands' ∷ sections') h h' e = cc
+same_sections n (commands ∷ sections) [] h h' e = cc
+same_sections n (commands ∷ sections) (commands' ∷ sections') h h' e =
+    let lines : words_in commands ++ flat_map section_lines sections ≡ words_in commands' ++ flat_map section_lines sections' = cc in
+    let same = same_commands n [] commands commands' (flat_map section_lines sections) (flat_map section_lines sections') (h 0 commands (omega arith)) (h' 0 commands' (omega arith)) (sections_begin sections) (sections_begin sections') lines in
+    ap (λ t. t ∷ sections) same.0
+    ∙ ap (λ t. commands' ∷ t) (same_sections n sections sections' (λ k d lt. h (suc k) d (omega arith)) (λ k d lt. h' (suc k) d (omega arith)) same.1)

@@ -11,6 +11,7 @@ use Rattle.std.proofs.lemmas.Slice.Eq.{bytes_eq-Decides}
 use Rattle.edge_bits.specs.declared.edges.Kind.{Kind}
 use Rattle.function_laws.specs.Numbers.{is_value}
 use Rattle.job_text.specs.declared.job.Act.{Act}
+use Rattle.job_text.specs.declared.job.Command.{Command}
 use Rattle.job_text.specs.declared.job.Counts.{Counts}
 use Rattle.job_words.specs.declared.commands.Operation.{Operation}
 use Rattle.job_words.specs.declared.commands.Place.{Place}
@@ -27,10 +28,10 @@ use Rattle.job_text.specs.declared.faults.FaultKind.{FaultKind}
 use Rattle.job_text.specs.declared.faults.FaultKind.TheVariants as kinds
 use Rattle.job_text.specs.declared.faults.JobError.{JobError}
 use Rattle.job_words.specs.Text.{Word, IsNumber, is_name, integer_value, is_number, is_allowed, lines_of, words_of, line_words, bit_word, is_bit, is_bits}
-use Rattle.job_text.specs.Grammar.{Says, IsFresh, Refers, IsJobText, is_called, kind_of}
-use Rattle.job_text.specs.Faults.{slot_fault, beside_fault, word_fault, left_after, nothing_left, first_fault, fault_in, or_else, command_fault, kind_called, kind_fault, name_fault, register_called, is_session, number_fault, has_begun, words_fault, line_fault, IsFaultText}
+use Rattle.job_text.specs.Grammar.{Says, IsFresh, Refers, IsJobText, is_called, kind_of, kind_called, register_called}
+use Rattle.job_text.specs.Faults.{slot_fault, beside_fault, word_fault, left_after, nothing_left, first_fault, fault_in, or_else, command_fault, kind_fault, name_fault, is_session, number_fault, has_begun, words_fault, line_fault, IsFaultText}
 use Rattle.job_words.specs.Commands.{has_form, command_of}
-use Rattle.job_text.specs.Drafts.{IsOperand, AreOperands, no_operands, with_operand, with_operands, misfit, left_by, AllFit, act_of, context_in, Adds, adds_nothing, adds_vars, adds_elements, adds_limit, adds_session, adds_command}
+use Rattle.job_text.specs.Drafts.{IsOperand, AreOperands, no_operands, with_operand, with_operands, misfit, left_by, AllFit, act_of, context_in, Adds, adds_nothing, adds_vars, adds_elements, adds_limit, adds_session, adds_further, adds_command}
 use Rattle.job_text.specs.Readings.{EachHasOne}
 use Rattle.job_words.proofs.Bits.{bits_are}
 use Rattle.job_text.proofs.Meanings.{Fits, word_fault_is}
@@ -86,6 +87,9 @@ variable_of n rs w h = (digits_value 10 w, (h.0, refl), below (digits_value 10 w
 element_of : (n : Counts) (rs : List Register) (w : Word) → Fits n rs (places.Element, w) → (e : ℕ) × IsNumber w e × (e < n.elements)
 element_of n rs w h = (digits_value 10 w, (h.0, refl), below (digits_value 10 w) n.elements (where_true (nat_lt (digits_value 10 w) n.elements) kinds.Range h.1))
 
+cell_of : (n : Counts) (rs : List Register) (w : Word) → Fits n rs (places.Cell, w) → (k : ℕ) × IsNumber w k × (k < 256)
+cell_of n rs w h = (digits_value 10 w, (h.0, refl), below (digits_value 10 w) 256 (where_true (nat_lt (digits_value 10 w) 256) kinds.Range h.1))
+
 word_of_bits : (w : Word) → is_bits w ≡ true → (bs : List Bool) × (w ≡ bit_word bs)
 word_of_bits w h = by_cases (bytes_eq w (codes "none")) refl
   where
@@ -109,6 +113,7 @@ operand_at n rs places.Alike w h = let a = named_of rs w h.0 h.1 in (operands.Al
 operand_at n rs places.Variable w h = let v = variable_of n rs w h in (operands.Variable v.0, (refl, (v.1, v.2)))
 operand_at n rs places.NewVariable w h = let v = variable_of n rs w h in (operands.NewVariable v.0, (refl, (v.1, v.2)))
 operand_at n rs places.Element w h = let e = element_of n rs w h in (operands.Element e.0, (refl, (e.1, e.2)))
+operand_at n rs places.Cell w h = let k = cell_of n rs w h in (operands.Cell k.0, (refl, (k.1, k.2)))
 operand_at n rs places.Value w h = (operands.Value (integer_value w), (refl, ((h.0, refl), where_true (is_value (integer_value w)) kinds.Range h.1)))
 operand_at n rs places.Bit w h = let b = bit_of w h.0 in (operands.Bit b.0, (refl, b.1))
 operand_at n rs places.Bits w h = let bs = word_of_bits w h.0 in (operands.Bits bs.0, (refl, bs.1))
@@ -194,12 +199,15 @@ sized_adds n None None words false true e h = elements_add n words h
 sized_adds n (Some m) None words false true e h = limit_adds n (Some m) words h
 sized_adds n elements None words false false e h = limit_adds n elements words h
 
-begun_adds : (limit : ℕ) (section : Section) (words : List Word) (b : Bool) → cond b (Some kinds.Limit) (command_fault section.scope.counts section.scope.registers words) ≡ None
-    → (next : Draft) × Adds (Begun limit section) words next
-begun_adds limit section words true h = cc h
-begun_adds limit section words false h =
+begun_adds : (limit : ℕ) (done : List (List Command)) (section : Section) (words : List Word) (b : Bool) → is_session words ≡ b
+    → cond b (cond (nat_lt (length done + 1) 64) None (Some kinds.Limit)) (command_fault section.scope.counts section.scope.registers words) ≡ None
+    → (next : Draft) × Adds (Begun limit done section) words next
+begun_adds limit done section words true e h =
+    let few = below (length done + 1) 64 (where_true (nat_lt (length done + 1) 64) kinds.Limit h) in
+    (_, adds_further (limit, done, section, session_form words e, few, refl, refl))
+begun_adds limit done section words false e h =
     let says = command_says section.scope.counts section.scope.registers words h in
-    (_, adds_command (limit, section, says.0, refl, says.1, refl))
+    (_, adds_command (limit, done, section, says.0, refl, says.1, refl))
 
 adds : (draft : Draft) (words : List Word) → words_fault (context_in draft) words ≡ None → (next : Draft) × Adds draft words next
 adds draft [] h = (draft, adds_nothing refl refl)
@@ -207,7 +215,7 @@ adds Nothing (word ∷ words) h =
     let form = number_form (codes "vars") (λ n. nat_le n 1024) kinds.Range (word ∷ words) h in
     (_, adds_vars (form.0, digits_value 10 form.0, form.1, (form.2, refl), few (digits_value 10 form.0) form.3, refl, refl))
 adds (Sized n elements given) (word ∷ words) h = sized_adds n elements given (word ∷ words) (is_session (word ∷ words)) (bytes_eq word (codes "elements")) refl h
-adds (Begun limit section) (word ∷ words) h = begun_adds limit section (word ∷ words) (is_session (word ∷ words)) h
+adds (Begun limit done section) (word ∷ words) h = begun_adds limit done section (word ∷ words) (is_session (word ∷ words)) refl h
 
 -- Each text has a reading: line by line
 clean_line : (draft : Draft) (line : List ℕ) → line_fault (context_in draft) line ≡ None → (line_words line ≡ Some (words_of line)) × (words_fault (context_in draft) (words_of line) ≡ None)
@@ -221,10 +229,10 @@ HasReading text = ((job : Job) × IsJobText text job) ⊎ ((place : ℕ) × (kin
 at_end : (text : List ℕ) (draft : Draft) → IsRead (lines_of text) draft → HasReading text
 at_end text Nothing read = inr (length (lines_of text) + 1, kinds.Word, inr (record { faultless = read.faultless; early = ap has_begun read.context; counted = refl; word = refl }))
 at_end text (Sized n elements given) read = inr (length (lines_of text) + 1, kinds.Word, inr (record { faultless = read.faultless; early = ap has_begun read.context; counted = refl; word = refl }))
-at_end text (Begun limit section) read =
-    let job : Job = record { vars = section.scope.counts.vars; elements = section.scope.counts.elements; limit = limit; sections = section.commands ∷ [] } in
+at_end text (Begun limit done section) read =
+    let job : Job = record { vars = section.scope.counts.vars; elements = section.scope.counts.elements; limit = limit; sections = done ++ section.commands ∷ [] } in
     let result : Result Job JobError = Ok job in
-    inl (job, job_from text (Begun limit section) result read (limit, section, refl, refl))
+    inl (job, job_from text (Begun limit done section) result read (limit, done, section, refl, refl))
 
 read_on : (text : List ℕ) (done todo : List (List ℕ)) (draft : Draft) → lines_of text ≡ done ++ todo → IsRead done draft → HasReading text
 read_on text done [] draft e read = at_end text draft (subst (λ (t : List (List ℕ)). IsRead t draft) (sym (e ∙ append-nil done)) read)

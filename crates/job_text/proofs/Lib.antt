@@ -1,8 +1,8 @@
 pub mod Acts
+pub mod Blanks
 pub mod Completeness
 pub mod Effects
 pub mod Filling
-pub mod Forms
 pub mod Makings
 pub mod Meanings
 pub mod Naming

@@ -19,8 +19,8 @@ use Rattle.job_text.specs.declared.operands.Operand.TheVariants as operands
 use Rattle.job_text.specs.declared.operands.Operands.{Operands}
 use Rattle.job_text.specs.declared.faults.FaultKind.TheVariants as kinds
 use Rattle.job_words.specs.Text.{Word, IsNumber, is_name, is_number, is_integer, bit_word, is_assignment, is_bit, is_bits}
-use Rattle.job_text.specs.Grammar.{Says, Spelling, assigns, tells, Spells, spelling, StandsFor, AllStandFor, IsFresh, Refers, is_called, kind_of}
-use Rattle.job_text.specs.Faults.{slot_fault, beside_fault, word_fault, left_after, nothing_left, first_fault, fault_in, or_else, command_fault, is_session, name_fault, kind_fault, register_called}
+use Rattle.job_text.specs.Grammar.{Says, Spelling, assigns, tells, Spells, spelling, StandsFor, AllStandFor, IsFresh, Refers, is_called, kind_of, register_called}
+use Rattle.job_text.specs.Faults.{slot_fault, beside_fault, word_fault, left_after, nothing_left, first_fault, fault_in, or_else, command_fault, is_session, name_fault, kind_fault}
 use Rattle.job_words.specs.Commands.{Form, form_in, assigning, telling, filled, command_in, has_form, command_of}
 use Rattle.job_text.specs.Drafts.{place_of, IsOperand, AreOperands, no_operands, with_operand, misfit, left_by, AllFit}
 use Rattle.job_words.proofs.Bits.{form_of_bits}
@@ -62,6 +62,9 @@ variable_fits n rs w v h lt = (h.0, ap (λ b. cond b None (Some kinds.Range)) (b
 pub element_fits : (n : Counts) (rs : List Register) (w : Word) (e : ℕ) → IsNumber w e → e < n.elements → Fits n rs (places.Element, w)
 element_fits n rs w e h lt = (h.0, ap (λ b. cond b None (Some kinds.Range)) (below e (digits_value 10 w) n.elements h.1 lt))
 
+pub cell_fits : (n : Counts) (rs : List Register) (w : Word) (k : ℕ) → IsNumber w k → k < 256 → Fits n rs (places.Cell, w)
+cell_fits n rs w k h lt = (h.0, ap (λ b. cond b None (Some kinds.Range)) (below k (digits_value 10 w) 256 h.1 lt))
+
 pub bit_fits : (n : Counts) (rs : List Register) (w : Word) (b : Bool) → w ≡ bit_word (b ∷ []) → Fits n rs (places.Bit, w)
 bit_fits n rs w true e = (ap is_bit e, refl)
 bit_fits n rs w false e = (ap is_bit e, refl)
@@ -75,6 +78,7 @@ operand_fits n rs slot (operands.Alike a) h = subst (λ (p : Place). Fits n rs (
 operand_fits n rs slot (operands.Variable v) h = subst (λ (p : Place). Fits n rs (p, slot.1)) h.0 (variable_fits n rs slot.1 v h.1.0 h.1.1)
 operand_fits n rs slot (operands.NewVariable v) h = subst (λ (p : Place). Fits n rs (p, slot.1)) h.0 (variable_fits n rs slot.1 v h.1.0 h.1.1)
 operand_fits n rs slot (operands.Element e) h = subst (λ (p : Place). Fits n rs (p, slot.1)) h.0 (element_fits n rs slot.1 e h.1.0 h.1.1)
+operand_fits n rs slot (operands.Cell k) h = subst (λ (p : Place). Fits n rs (p, slot.1)) h.0 (cell_fits n rs slot.1 k h.1.0 h.1.1)
 operand_fits n rs slot (operands.Value w) h = subst (λ (p : Place). Fits n rs (p, slot.1)) h.0 (h.1.0.0, ap (λ b. cond b None (Some kinds.Range)) (ap is_value h.1.0.1 ∙ h.1.1))
 operand_fits n rs slot (operands.Bit b) h = subst (λ (p : Place). Fits n rs (p, slot.1)) h.0 (bit_fits n rs slot.1 b h.1)
 operand_fits n rs slot (operands.Bits bs) h = subst (λ (p : Place). Fits n rs (p, slot.1)) h.0 (ap is_bits h.1 ∙ form_of_bits bs, refl)
@@ -158,6 +162,7 @@ no_equals n rs w (operands.Alike a) h = unlike_equals is_name w equals_is_none.0
 no_equals n rs w (operands.Variable v) h = unlike_equals is_number w equals_is_none.1 h.0.0
 no_equals n rs w (operands.NewVariable v) h = unlike_equals is_number w equals_is_none.1 h.0.0
 no_equals n rs w (operands.Element e) h = unlike_equals is_number w equals_is_none.1 h.0.0
+no_equals n rs w (operands.Cell k) h = unlike_equals is_number w equals_is_none.1 h.0.0
 no_equals n rs w (operands.Value v) h = unlike_equals is_integer w equals_is_none.2 h.0.0
 no_equals n rs w (operands.Bit b) h = ap (λ t. bytes_eq t (codes "=")) h ∙ bits_no_equals (b ∷ [])
 no_equals n rs w (operands.Bits bs) h = ap (λ t. bytes_eq t (codes "=")) h ∙ bits_no_equals bs

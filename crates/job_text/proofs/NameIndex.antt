@@ -1,15 +1,20 @@
 -- Registers by the index of their names.
-use Rattle.std.proofs.Common.{◌≡◌, ℕ, zero, suc, ◌+◌, ◌<◌, ◌≤◌, ◌||◌, not, Bool, true, false, cond, List, [], ◌∷◌, ◌++◌, length, map, get_or, set, Some, None, nat_lt, refl, ap, sym, ◌∙◌, subst, arith}
-use Rattle.std.specs.Prelude.{position}
+use Rattle.std.proofs.Common.{◌≡◌, ℕ, zero, suc, ◌+◌, ◌<◌, ◌≤◌, ◌||◌, not, Bool, true, false, cond, List, [], ◌∷◌, ◌++◌, length, map, get_or, set, Option, Some, None, option_map, nat_lt, refl, ap, sym, ◌∙◌, arith}
+use Rattle.std.specs.Prelude.{is_some, position}
+use Rattle.std.specs.BTreeMap.{BTreeMap, UpdatesBy}
+use Rattle.std.specs.Cmp.Lexicographic.{slice_cmp}
 use Rattle.std.specs.Global.{Vec}
 use Rattle.std.specs.List.{list_any, position_or_len}
+use Rattle.std.specs.Ordering.{nat_cmp}
 use Rattle.std.specs.Str.{bytes_eq}
 use Rattle.std.proofs.lemmas.Bool.{false≢true, or_parts, or_from}
+use Rattle.std.proofs.lemmas.Bool.Decides.{nat_tests}
+use Rattle.std.proofs.lemmas.Map.Text.{is_eq-slice_cmp}
 use Rattle.std.proofs.lemmas.Slice.Eq.{bytes_eq-Decides}
 use Rattle.job_text.specs.declared.job.Register.{Register}
 use Rattle.job_words.specs.Text.{Word}
 use Rattle.job_text.specs.Grammar.{is_called, without}
-use Rattle.job_text.specs.Names.{AreNames}
+use Rattle.job_text.specs.Names.{AreDistinct, IsIndex, found_by}
 use Rattle.job_text.proofs.RegisterLists.{dropped_is, kept_is}
 
 -- equal words are equal the other way round
@@ -22,35 +27,38 @@ turned a b = by_cases (bytes_eq a b) (bytes_eq b a) refl refl
     by_cases true false e f = absurd (false≢true (sym f ∙ (bytes_eq-Decides b a).1 (sym ((bytes_eq-Decides a b).0 e))))
     by_cases false true e f = absurd (false≢true (sym e ∙ (bytes_eq-Decides a b).1 (sym ((bytes_eq-Decides b a).0 f))))
 
-abbrev pub is_word : Word → Vec ℕ → Bool
-is_word w name = bytes_eq w name.items
+-- the place of the first that passes, from the front
+next_place : (b : Bool) (k n : ℕ) → cond (nat_lt (cond (not b) (1 + k) 0) (suc n)) (Some (cond (not b) (1 + k) 0)) None ≡ cond b (Some 0) (option_map suc (cond (nat_lt k n) (Some k) None))
+next_place true k n = grind (arith, nat_tests)
+next_place false k n = by_cases (nat_lt k n) refl
+  where
+    by_cases : (t : Bool) → nat_lt k n ≡ t → cond (nat_lt (1 + k) (suc n)) (Some (1 + k)) None ≡ option_map suc (cond (nat_lt k n) (Some k) None)
+    by_cases true e = grind (arith, nat_tests)
+    by_cases false e = grind (arith, nat_tests)
 
--- a name passes where its register is called so
-called : (w : Word) (name : Vec ℕ) (r : Register) → name.items ≡ r.name → is_word w name ≡ is_called w r
-called w name r e = ap (bytes_eq w) e ∙ turned w r.name
+position_next : (p : Register → Bool) (r : Register) (rs : List Register) → position p (r ∷ rs) ≡ cond (p r) (Some 0) (option_map suc (position p rs))
+position_next p r rs = next_place (p r) (position_or_len p rs) (length rs)
 
-pub same_any : (w : Word) (names : List (Vec ℕ)) (rs : List Register) → AreNames names rs → list_any (is_word w) names ≡ list_any (is_called w) rs
-same_any w [] [] h = refl
-same_any w [] (r ∷ rs) h = absurd h
-same_any w (name ∷ names) [] h = absurd h
-same_any w (name ∷ names) (r ∷ rs) h = ap (λ b. b || list_any (is_word w) names) (called w name r h.0) ∙ ap (λ b. is_called w r || b) (same_any w names rs h.2)
+some_next : (b : Bool) (o : Option ℕ) (later : Bool) → is_some o ≡ later → is_some (cond b (Some 0) (option_map suc o)) ≡ (b || later)
+some_next true o later h = refl
+some_next false None later h = h
+some_next false (Some k) later h = h
 
-same_place : (w : Word) (names : List (Vec ℕ)) (rs : List Register) → AreNames names rs → position_or_len (is_word w) names ≡ position_or_len (is_called w) rs
-same_place w [] [] h = refl
-same_place w [] (r ∷ rs) h = absurd h
-same_place w (name ∷ names) [] h = absurd h
-same_place w (name ∷ names) (r ∷ rs) h =
-    ap (λ b. cond (not b) (1 + position_or_len (is_word w) names) 0) (called w name r h.0) ∙ ap (λ k. cond (not (is_called w r)) (1 + k) 0) (same_place w names rs h.2)
+-- a name is found where a register has it
+pub some_called : (p : Register → Bool) (rs : List Register) → is_some (position p rs) ≡ list_any p rs
+some_called p [] = refl
+some_called p (r ∷ rs) = ap is_some (position_next p r rs) ∙ some_next (p r) (position p rs) (list_any p rs) (some_called p rs)
 
-as_many : (names : List (Vec ℕ)) (rs : List Register) → AreNames names rs → length names ≡ length rs
-as_many [] [] h = refl
-as_many [] (r ∷ rs) h = absurd h
-as_many (name ∷ names) [] h = absurd h
-as_many (name ∷ names) (r ∷ rs) h = ap suc (as_many names rs h.2)
+-- the place of a name, with one register more
+place_of_other : (p : Register → Bool) (rs : List Register) (r : Register) → p r ≡ false → position p (rs ++ r ∷ []) ≡ position p rs
+place_of_other p [] r h = position_next p r [] ∙ ap (λ b. cond b (Some 0) None) h
+place_of_other p (x ∷ rs) r h = position_next p x (rs ++ r ∷ []) ∙ ap (λ t. cond (p x) (Some 0) (option_map suc t)) (place_of_other p rs r h) ∙ sym (position_next p x rs)
 
-pub same_position : (w : Word) (names : List (Vec ℕ)) (rs : List Register) → AreNames names rs → position (is_word w) names ≡ position (is_called w) rs
-same_position w names rs h =
-    ap (λ k. cond (nat_lt k (length names)) (Some k) None) (same_place w names rs h) ∙ ap (λ n. cond (nat_lt (position_or_len (is_called w) rs) n) (Some (position_or_len (is_called w) rs)) None) (as_many names rs h)
+place_of_own : (p : Register → Bool) (rs : List Register) (r : Register) → p r ≡ true → list_any p rs ≡ false → position p (rs ++ r ∷ []) ≡ Some (length rs)
+place_of_own p [] r h none = position_next p r [] ∙ ap (λ b. cond b (Some 0) None) h
+place_of_own p (x ∷ rs) r h none =
+    let both = or_parts (p x) (list_any p rs) none in
+    position_next p x (rs ++ r ∷ []) ∙ ap (λ b. cond b (Some 0) (option_map suc (position p (rs ++ r ∷ [])))) both.0 ∙ ap (option_map suc) (place_of_own p rs r h both.1)
 
 -- one more register of a new name
 none_more : (w : Word) (rs : List Register) (r : Register) → list_any (is_called w) rs ≡ false → is_called w r ≡ false → list_any (is_called w) (rs ++ r ∷ []) ≡ false
@@ -59,25 +67,46 @@ none_more w (x ∷ rs) r h e =
     let both = or_parts (is_called w x) (list_any (is_called w) rs) h in
     or_from (is_called w x) (list_any (is_called w) (rs ++ r ∷ [])) both.0 (none_more w rs r both.1 e)
 
-pub names_more : (names : List (Vec ℕ)) (rs : List Register) (name : Vec ℕ) (r : Register) → AreNames names rs → name.items ≡ r.name → list_any (is_called r.name) rs ≡ false
-    → AreNames (names ++ name ∷ []) (rs ++ r ∷ [])
-names_more [] [] name r h e new = (e, refl, tt)
-names_more [] (x ∷ rs) name r h e new = absurd h
-names_more (y ∷ names) [] name r h e new = absurd h
-names_more (y ∷ names) (x ∷ rs) name r h e new =
+pub distinct_more : (rs : List Register) (r : Register) → AreDistinct rs → list_any (is_called r.name) rs ≡ false → AreDistinct (rs ++ r ∷ [])
+distinct_more [] r h new = (refl, tt)
+distinct_more (x ∷ rs) r h new =
     let both = or_parts (is_called r.name x) (list_any (is_called r.name) rs) new in
-    (h.0, none_more x.name rs r h.1 (turned r.name x.name ∙ both.0), names_more names rs name r h.2 e both.1)
+    (none_more x.name rs r h.0 (turned r.name x.name ∙ both.0), distinct_more rs r h.1 both.1)
+
+pub index_more : (old new : BTreeMap (Vec ℕ) ℕ) (rs : List Register) (r : Register) (name : Vec ℕ) (n : ℕ) → IsIndex old rs
+    → UpdatesBy (λ (one other : Vec ℕ). slice_cmp nat_cmp one.items other.items) (λ (other : Vec ℕ). slice_cmp nat_cmp name.items other.items) old new (Some n)
+    → name.items ≡ r.name → n ≡ length rs → list_any (is_called r.name) rs ≡ false → IsIndex new (rs ++ r ∷ [])
+index_more old new rs r name n h updates same count none w few = by_cases (is_called w r) refl
+  where
+    found : found_by new w ≡ cond (is_called w r) (Some n) (found_by old w)
+    found =
+        updates.0 (record name { items = w; len = length w; cap = length w; ok = (refl, omega arith); small = few })
+        ∙ ap (λ b. cond b (Some n) (found_by old w)) (is_eq-slice_cmp name.items w ∙ ap (λ t. bytes_eq t w) same)
+
+    by_cases : (b : Bool) → is_called w r ≡ b → found_by new w ≡ position (is_called w) (rs ++ r ∷ [])
+    by_cases true e =
+        let own : r.name ≡ w = (bytes_eq-Decides r.name w).0 e in
+        found ∙ ap (λ b. cond b (Some n) (found_by old w)) e ∙ ap (λ t. Some t) count
+        ∙ sym (place_of_own (is_called w) rs r e (sym (ap (λ t. list_any (is_called t) rs) own) ∙ none))
+    by_cases false e =
+        found ∙ ap (λ b. cond b (Some n) (found_by old w)) e ∙ h w few ∙ sym (place_of_other (is_called w) rs r e)
 
 -- the registers where one is dropped
 same_after : (w x : Word) (rs : List Register) → list_any (is_called x) (map (without w) rs) ≡ list_any (is_called x) rs
 same_after w x [] = refl
 same_after w x (r ∷ rs) = ap (λ b. is_called x r || b) (same_after w x rs)
 
-pub names_after : (w : Word) (names : List (Vec ℕ)) (rs : List Register) → AreNames names rs → AreNames names (map (without w) rs)
-names_after w [] [] h = tt
-names_after w [] (r ∷ rs) h = absurd h
-names_after w (name ∷ names) [] h = absurd h
-names_after w (name ∷ names) (r ∷ rs) h = (h.0, same_after w r.name rs ∙ h.1, names_after w names rs h.2)
+pub distinct_after : (w : Word) (rs : List Register) → AreDistinct rs → AreDistinct (map (without w) rs)
+distinct_after w [] h = tt
+distinct_after w (r ∷ rs) h = (same_after w r.name rs ∙ h.0, distinct_after w rs h.1)
+
+place_after : (w x : Word) (rs : List Register) → position (is_called x) (map (without w) rs) ≡ position (is_called x) rs
+place_after w x [] = refl
+place_after w x (r ∷ rs) =
+    position_next (is_called x) (without w r) (map (without w) rs) ∙ ap (λ t. cond (is_called x r) (Some 0) (option_map suc t)) (place_after w x rs) ∙ sym (position_next (is_called x) r rs)
+
+pub index_after : (w : Word) (places : BTreeMap (Vec ℕ) ℕ) (rs : List Register) → IsIndex places rs → IsIndex places (map (without w) rs)
+index_after w places rs h x few = h x few ∙ sym (place_after w x rs)
 
 -- a drop changes the one register of the name
 none_dropped : (w : Word) (rs : List Register) → list_any (is_called w) rs ≡ false → map (without w) rs ≡ rs
@@ -101,21 +130,20 @@ none_there w (r ∷ rs) i e h = by_cases (is_called w r) refl (λ j f. none_ther
 pub none_drops : (w : Word) (rs : List Register) (i : ℕ) → i ≡ position_or_len (is_called w) rs → length rs ≤ i → map (without w) rs ≡ rs
 none_drops w rs i e h = none_dropped w rs (none_there w rs i e h)
 
-pub one_drops : (w : Word) (names : List (Vec ℕ)) (rs : List Register) (i : ℕ) (q : Register) → AreNames names rs → i ≡ position_or_len (is_called w) rs → i < length rs → q ≡ get_or rs i q
+pub one_drops : (w : Word) (rs : List Register) (i : ℕ) (q : Register) → AreDistinct rs → i ≡ position_or_len (is_called w) rs → i < length rs → q ≡ get_or rs i q
     → set rs i (record { name = q.name; live = false; kind = q.kind }) ≡ map (without w) rs
-one_drops w names [] i q h e lt at = absurd (omega (arith, lt))
-one_drops w [] (r ∷ rs) i q h e lt at = absurd h
-one_drops w (name ∷ names) (r ∷ rs) zero q h e lt at = by_cases (is_called w r) refl
+one_drops w [] i q h e lt at = absurd (omega (arith, lt))
+one_drops w (r ∷ rs) zero q h e lt at = by_cases (is_called w r) refl
   where
     by_cases : (b : Bool) → is_called w r ≡ b → record { name = q.name; live = false; kind = q.kind } ∷ rs ≡ without w r ∷ map (without w) rs
     by_cases true f =
         let same : r.name ≡ w = (bytes_eq-Decides r.name w).0 f in
         ap (λ (t : Register). record { name = t.name; live = false; kind = t.kind } ∷ rs) at ∙ ap (λ t. t ∷ rs) (dropped_is r w f)
-        ∙ ap (λ t. without w r ∷ t) (sym (none_dropped w rs (sym (ap (λ n. list_any (is_called n) rs) same) ∙ h.1)))
+        ∙ ap (λ t. without w r ∷ t) (sym (none_dropped w rs (sym (ap (λ n. list_any (is_called n) rs) same) ∙ h.0)))
     by_cases false f =
         let first : 0 ≡ 1 + position_or_len (is_called w) rs = e ∙ ap (λ b. cond (not b) (1 + position_or_len (is_called w) rs) 0) f in
         absurd (omega (arith, first))
-one_drops w (name ∷ names) (r ∷ rs) (suc i) q h e lt at = by_cases (is_called w r) refl (λ f. one_drops w names rs i q h.2 f (omega (arith, lt)) at)
+one_drops w (r ∷ rs) (suc i) q h e lt at = by_cases (is_called w r) refl (λ f. one_drops w rs i q h.1 f (omega (arith, lt)) at)
   where
     by_cases : (b : Bool) → is_called w r ≡ b → (i ≡ position_or_len (is_called w) rs → set rs i (record { name = q.name; live = false; kind = q.kind }) ≡ map (without w) rs)
         → r ∷ set rs i (record { name = q.name; live = false; kind = q.kind }) ≡ without w r ∷ map (without w) rs
@@ -125,11 +153,3 @@ one_drops w (name ∷ names) (r ∷ rs) (suc i) q h e lt at = by_cases (is_calle
     by_cases false f later =
         let next : suc i ≡ 1 + position_or_len (is_called w) rs = e ∙ ap (λ b. cond (not b) (1 + position_or_len (is_called w) rs) 0) f in
         ap (λ t. t ∷ set rs i (record { name = q.name; live = false; kind = q.kind })) (sym (kept_is r w f)) ∙ ap (λ t. without w r ∷ t) (later (omega (arith, next)))
-
--- the names and registers with one more
-pub names_made : (names names' : List (Vec ℕ)) (rs rs' : List Register) (name : Vec ℕ) (q r : Register) → AreNames names rs → names' ≡ cond (list_any (is_word name.items) names) names (names ++ name ∷ [])
-    → rs' ≡ rs ++ q ∷ [] → q ≡ r → name.items ≡ r.name → list_any (is_called r.name) rs ≡ false → AreNames names' rs'
-names_made names names' rs rs' name q r h e f g same new =
-    let fresh : list_any (is_word name.items) names ≡ false = same_any name.items names rs h ∙ ap (λ w. list_any (is_called w) rs) same ∙ new in
-    subst (λ (t : List (Vec ℕ)). AreNames t rs') (sym (e ∙ ap (λ b. cond b names (names ++ name ∷ [])) fresh))
-    (subst (λ (t : List Register). AreNames (names ++ name ∷ []) t) (sym (f ∙ ap (λ (t : Register). rs ++ t ∷ []) g)) (names_more names rs name r h same new))

@@ -1,12 +1,13 @@
 -- A job is read line by line.
-use Rattle.std.proofs.Common.{◌≡◌, ℕ, suc, ◌+◌, ◌≤◌, ◌==◌, ◌&&◌, Bool, true, false, not, cond, List, [], ◌∷◌, ◌++◌, length, map, filter, Option, Some, None, Result, Ok, Err, IfOk, IfErr, IfSome, unwrap_or, inl, inr, refl, ap, sym, ◌∙◌, subst, arith, codes, append_assoc}
-use Rattle.std.specs.Prelude.{nat_le}
-use Rattle.std.specs.List.{list_all, All}
+use Rattle.std.proofs.Common.{◌≡◌, ℕ, suc, ◌+◌, ◌≤◌, ◌==◌, ◌&&◌, Bool, true, false, not, cond, List, [], ◌∷◌, ◌++◌, length, map, filter, Option, Some, None, Result, Ok, Err, IfOk, IfErr, IfSome, unwrap_or, inl, inr, refl, ap, sym, ◌∙◌, subst, arith, codes, append_assoc, length-append, ◌<◌}
+use Rattle.std.specs.Prelude.{nat_le, nat_lt}
+use Rattle.std.specs.List.{list_all, flat_map, All}
 use Rattle.std.specs.Str.Parse.{digits_value}
 use Rattle.std.proofs.lemmas.Bool.Decides.{nat_tests}
 use Rattle.std.proofs.lemmas.List.{append-nil, map-append}
 use Rattle.std.proofs.lemmas.List.Folds.{list_all-append}
-use Rattle.std.proofs.lemmas.List.Elements.{filter-append, All-cons}
+use Rattle.std.proofs.lemmas.List.Elements.{filter-append, All-append, All-cons}
+use Rattle.std.proofs.lemmas.Grind.{flat_map-append}
 use Rattle.job_text.specs.declared.job.Act.{Act}
 use Rattle.job_text.specs.declared.job.Command.{Command}
 use Rattle.job_text.specs.declared.job.Job.{Job}
@@ -21,8 +22,8 @@ use Rattle.job_text.specs.declared.faults.JobError.{JobError}
 use Rattle.job_text.specs.declared.faults.JobError.TheVariants as errors
 use Rattle.job_words.specs.Text.{Word, IsNumber, is_number, is_allowed, lines_of, words_of, line_words}
 use Rattle.job_text.specs.Grammar.{Says, CommandsSay, registers_after, section_lines, said_lines, ElementLines, LimitLines, IsJobText}
-use Rattle.job_text.specs.Faults.{Context, at_start, sized, within, has_begun, words_fault, line_fault, context_after, context_behind, Faultless, FaultyLine, HasFault, command_fault, is_session}
-use Rattle.job_text.specs.Drafts.{context_in, Adds, adds_nothing, adds_vars, adds_elements, adds_limit, adds_session, adds_command, IsSmall, EndStop}
+use Rattle.job_text.specs.Faults.{Context, at_start, sized, within, counts_with, has_begun, words_fault, line_fault, context_after, context_behind, Faultless, FaultyLine, HasFault, command_fault, is_session}
+use Rattle.job_text.specs.Drafts.{context_in, Adds, adds_nothing, adds_vars, adds_elements, adds_limit, adds_session, adds_further, adds_command, IsSmall, EndStop}
 use Rattle.job_text.proofs.Meanings.{says_well, says_words}
 
 abbrev pub has_words : List Word → Bool
@@ -48,9 +49,10 @@ Spelled Nothing said = said ≡ []
 Spelled (Sized n elements given) said = (number : Word) × (counted limits : List (List Word)) × IsNumber number n × GivenLine (codes "elements") elements counted
     × GivenLine (codes "limit") given limits
     × (said ≡ line_of_vars number ∷ counted ++ limits)
-Spelled (Begun limit section) said = (number : Word) × (counted limits : List (List Word)) × IsNumber number section.scope.counts.vars × ElementLines section.scope.counts.elements counted
+Spelled (Begun limit done section) said = (number : Word) × (counted limits : List (List Word)) × IsNumber number section.scope.counts.vars × ElementLines section.scope.counts.elements counted
     × LimitLines limit limits
-    × (said ≡ line_of_vars number ∷ counted ++ (limits ++ section_lines section.commands))
+    × (said ≡ line_of_vars number ∷ counted ++ (limits ++ (flat_map section_lines done ++ section_lines section.commands)))
+    × All (CommandsSay section.scope.counts []) done
     × CommandsSay section.scope.counts [] section.commands
     × (section.scope.registers ≡ registers_behind [] section.commands)
 
@@ -113,16 +115,33 @@ limit_in_range d l n e low high = grind (arith, nat_tests)
 number_well : (b c : Bool) (fault : FaultKind) → b ≡ true → c ≡ true → cond (true && b) (cond c None (Some fault)) (Some kinds.Word) ≡ None
 number_well b c fault e f = ap (λ t. cond (true && t) (cond c None (Some fault)) (Some kinds.Word)) e ∙ ap (λ t. cond t None (Some fault)) f
 
-no_session : (n : Counts) (rs : List Register) (first : Word) (rest : List Word) → is_session (first ∷ rest) ≡ false → words_fault (within n rs) (first ∷ rest) ≡ command_fault n rs (first ∷ rest)
-no_session n rs first rest e = ap (λ b. cond b (Some kinds.Limit) (command_fault n rs (first ∷ rest))) e
+-- a line of a section that is no `session`
+no_session : (n : Counts) (k : ℕ) (rs : List Register) (first : Word) (rest : List Word) → is_session (first ∷ rest) ≡ false
+    → (words_fault (within n k rs) (first ∷ rest) ≡ command_fault n rs (first ∷ rest)) × (context_after (within n k rs) (first ∷ rest) ≡ within n k (registers_after rs (first ∷ rest)))
+no_session n k rs first rest e = (
+  ap (λ b. cond b (cond (nat_lt k 64) None (Some kinds.Limit)) (command_fault n rs (first ∷ rest))) e,
+  ap (λ b. cond b (within n (k + 1) []) (within n k (registers_after rs (first ∷ rest)))) e,
+)
 
-pub command_line : (c : Context) (n : Counts) (rs : List Register) (words : List Word) (act : Act) → c ≡ within n rs → Says n rs words act
-    → (words_fault c words ≡ None) × (context_after c words ≡ within n (registers_after rs words))
-command_line c n rs words act e says =
-    let some = says_words n rs words act says in (
-      ap (λ t. words_fault t words) e ∙ ap (words_fault (within n rs)) some.2 ∙ no_session n rs some.0 some.1 (ap is_session (sym some.2) ∙ some.3) ∙ sym (ap (command_fault n rs) some.2) ∙ says_well n rs words act says,
-      ap (λ t. context_after t words) e ∙ ap (context_after (within n rs)) some.2 ∙ sym (ap (λ t. within n (registers_after rs t)) some.2),
+pub command_line : (c : Context) (n : Counts) (k : ℕ) (rs : List Register) (words : List Word) (act : Act) → c ≡ within n k rs → Says n rs words act
+    → (words_fault c words ≡ None) × (context_after c words ≡ within n k (registers_after rs words))
+command_line c n k rs words act e says =
+    let some = says_words n rs words act says in
+    let line = no_session n k rs some.0 some.1 (ap is_session (sym some.2) ∙ some.3) in (
+      ap (λ t. words_fault t words) e ∙ ap (words_fault (within n k rs)) some.2 ∙ line.0 ∙ sym (ap (command_fault n rs) some.2) ∙ says_well n rs words act says,
+      ap (λ t. context_after t words) e ∙ ap (context_after (within n k rs)) some.2 ∙ line.1 ∙ sym (ap (λ t. within n k (registers_after rs t)) some.2),
     )
+
+-- the line of a further section
+may_begin : (k : ℕ) → k < 64 → nat_lt k 64 ≡ true
+may_begin k h = grind (arith, nat_tests)
+
+pub session_line : (c : Context) (n : Counts) (k : ℕ) (rs : List Register) → c ≡ within n k rs → k < 64
+    → (words_fault c (codes "session" ∷ []) ≡ None) × (context_after c (codes "session" ∷ []) ≡ within n (k + 1) [])
+session_line c n k rs e few = (
+  ap (λ t. words_fault t (codes "session" ∷ [])) e ∙ ap (λ b. cond b None (Some kinds.Limit)) (may_begin k few),
+  ap (λ t. context_after t (codes "session" ∷ [])) e,
+)
 
 pub vars_line : (number : Word) (n : ℕ) → IsNumber number n → n ≤ 1024
     → (words_fault at_start (codes "vars" ∷ number ∷ []) ≡ None) × (context_after at_start (codes "vars" ∷ number ∷ []) ≡ sized n None false)
@@ -164,9 +183,15 @@ adds_well old new words (adds_session h) = (
   ap (λ t. words_fault (context_in t) words) h.4 ∙ ap (words_fault (context_in (Sized h.0 h.1 h.2))) h.3,
   ap (λ t. context_after (context_in t) words) h.4 ∙ ap (context_after (context_in (Sized h.0 h.1 h.2))) h.3 ∙ sym (ap context_in h.5),
 )
+adds_well old new words (adds_further h) =
+    let n = (h.2).scope.counts in
+    let line = session_line (context_in old) n (length h.1 + 1) (h.2).scope.registers (ap context_in h.5) h.4 in (
+      ap (words_fault (context_in old)) h.3 ∙ line.0,
+      ap (context_after (context_in old)) h.3 ∙ line.1 ∙ sym (ap context_in h.6 ∙ ap (λ k. within n (k + 1) []) (length-append h.1 ((h.2).commands ∷ []))),
+    )
 adds_well old new words (adds_command h) =
-    let line = command_line (context_in old) (h.1).scope.counts (h.1).scope.registers words h.2 (ap context_in h.3) h.4 in
-    (line.0, line.1 ∙ sym (ap context_in h.5))
+    let line = command_line (context_in old) (h.2).scope.counts (length h.1 + 1) (h.2).scope.registers words h.3 (ap context_in h.4) h.5 in
+    (line.0, line.1 ∙ sym (ap context_in h.6))
 
 -- What it makes of the lines with words
 limit_lines : (given : Option ℕ) (limits : List (List Word)) → GivenLine (codes "limit") given limits → LimitLines (unwrap_or given 262144) limits
@@ -176,6 +201,23 @@ limit_lines (Some limit) limits h = inr h
 element_lines : (elements : Option ℕ) (counted : List (List Word)) → GivenLine (codes "elements") elements counted → ElementLines (unwrap_or elements 0) counted
 element_lines None counted h = inl (h, refl)
 element_lines (Some m) counted h = inr h
+
+-- sections, and one more behind them
+all_one : (P : List Command → Type 0) (commands : List Command) → P commands → All P (commands ∷ [])
+all_one P commands h = All-cons P commands [] h (λ k d lt. absurd (omega arith))
+
+none_say : (n : Counts) → All (CommandsSay n []) []
+none_say n = λ k d lt. absurd (omega arith)
+
+whole_sections : (done : List (List Command)) (commands : List Command) → flat_map section_lines (done ++ commands ∷ []) ≡ flat_map section_lines done ++ section_lines commands
+whole_sections done commands = flat_map-append section_lines done (commands ∷ []) ∙ ap (λ t. flat_map section_lines done ++ t) (append-nil (section_lines commands))
+
+-- one line more behind others
+one_line_more : (front lines : List (List Word)) (line : List Word) (more : List (List Word)) → lines ++ line ∷ [] ≡ more → (front ++ lines) ++ line ∷ [] ≡ front ++ more
+one_line_more front lines line more e = append_assoc front lines (line ∷ []) ∙ ap (λ t. front ++ t) e
+
+said_behind : (said front lines more own : List (List Word)) (line : List Word) → said ≡ front ++ lines → own ≡ line ∷ [] → lines ++ line ∷ [] ≡ more → said ++ own ≡ front ++ more
+said_behind said front lines more own line e one same = ap (λ t. said ++ t) one ∙ ap (λ t. t ++ line ∷ []) e ∙ one_line_more front lines line more same
 
 pub adds_spelled : (old new : Draft) (words : List Word) (said : List (List Word)) → Adds old words new → Spelled old said → Spelled new (said ++ filter has_words (words ∷ []))
 adds_spelled old new words said (adds_nothing e f) h =
@@ -224,28 +266,49 @@ adds_spelled old new words said (adds_session g) h =
       element_lines g.1 k.1 k.4,
       limit_lines g.2 k.2 k.5,
       ap (λ t. t ++ filter has_words (words ∷ [])) k.6 ∙ append_assoc (line_of_vars k.0 ∷ k.1) k.2 (filter has_words (words ∷ [])) ∙ ap (λ t. line_of_vars k.0 ∷ k.1 ++ (k.2 ++ t)) behind,
+      none_say (counts_with g.0 g.1),
       tt,
       refl,
     )
-adds_spelled old new words said (adds_command g) h =
-    let k : Spelled (Begun g.0 g.1) said = subst (λ (t : Draft). Spelled t said) g.3 h in
-    let n = (g.1).scope.counts in
-    let rs = (g.1).scope.registers in
-    let commands = (g.1).commands in
-    let some = says_words n rs words g.2 g.4 in
-    let one : filter has_words (words ∷ []) ≡ words ∷ [] = ap (λ ws. filter has_words (ws ∷ [])) some.2 ∙ some_words some.0 some.1 ∙ sym (ap (λ ws. ws ∷ []) some.2) in
-    let more : (k.2 ++ section_lines commands) ++ words ∷ [] ≡ k.2 ++ section_lines (commands ++ record { words = words; act = g.2 } ∷ []) =
-    append_assoc k.2 (section_lines commands) (words ∷ []) ∙ ap (λ t. k.2 ++ t) (sym (section_more commands words g.2)) in
-    subst (λ (t : Draft). Spelled t (said ++ filter has_words (words ∷ []))) (sym g.5) (
+adds_spelled old new words said (adds_further g) h =
+    let k : Spelled (Begun g.0 g.1 g.2) said = subst (λ (t : Draft). Spelled t said) g.5 h in
+    let n = (g.2).scope.counts in
+    let commands = (g.2).commands in
+    let one : filter has_words (words ∷ []) ≡ section_lines [] = ap (λ ws. filter has_words (ws ∷ [])) g.3 ∙ some_words (codes "session") [] in
+    let more = one_line_more k.2 (flat_map section_lines g.1 ++ section_lines commands) (codes "session" ∷ []) (flat_map section_lines (g.1 ++ commands ∷ []) ++ section_lines [])
+    (ap (λ t. t ++ section_lines []) (sym (whole_sections g.1 commands))) in
+    subst (λ (t : Draft). Spelled t (said ++ filter has_words (words ∷ []))) (sym g.6) (
       k.0,
       k.1,
       k.2,
       k.3,
       k.4,
       k.5,
-      ap (λ t. said ++ t) one ∙ ap (λ t. t ++ words ∷ []) k.6 ∙ append_assoc (line_of_vars k.0 ∷ k.1) (k.2 ++ section_lines commands) (words ∷ []) ∙ ap (λ t. line_of_vars k.0 ∷ k.1 ++ t) more,
-      say_more n [] commands words g.2 k.7 (subst (λ (t : List Register). Says n t words g.2) k.8 g.4),
-      ap (λ t. registers_after t words) k.8 ∙ sym (behind_more [] commands words g.2),
+      said_behind said (line_of_vars k.0 ∷ k.1) _ _ _ (codes "session" ∷ []) k.6 one more,
+      All-append (CommandsSay n []) g.1 (commands ∷ []) k.7 (all_one (CommandsSay n []) commands k.8),
+      tt,
+      refl,
+    )
+adds_spelled old new words said (adds_command g) h =
+    let k : Spelled (Begun g.0 g.1 g.2) said = subst (λ (t : Draft). Spelled t said) g.4 h in
+    let n = (g.2).scope.counts in
+    let rs = (g.2).scope.registers in
+    let commands = (g.2).commands in
+    let some = says_words n rs words g.3 g.5 in
+    let one : filter has_words (words ∷ []) ≡ words ∷ [] = ap (λ ws. filter has_words (ws ∷ [])) some.2 ∙ some_words some.0 some.1 ∙ sym (ap (λ ws. ws ∷ []) some.2) in
+    let last = one_line_more (flat_map section_lines g.1) (section_lines commands) words (section_lines (commands ++ record { words = words; act = g.3 } ∷ [])) (sym (section_more commands words g.3)) in
+    let more = one_line_more k.2 (flat_map section_lines g.1 ++ section_lines commands) words (flat_map section_lines g.1 ++ section_lines (commands ++ record { words = words; act = g.3 } ∷ [])) last in
+    subst (λ (t : Draft). Spelled t (said ++ filter has_words (words ∷ []))) (sym g.6) (
+      k.0,
+      k.1,
+      k.2,
+      k.3,
+      k.4,
+      k.5,
+      said_behind said (line_of_vars k.0 ∷ k.1) _ _ _ words k.6 one more,
+      k.7,
+      say_more n [] commands words g.3 k.8 (subst (λ (t : List Register). Says n t words g.3) k.9 g.5),
+      ap (λ t. registers_after t words) k.9 ∙ sym (behind_more [] commands words g.3),
     )
 
 default_limit : (n : ℕ) (given : Option ℕ) → n ≤ 1024 → IfSome given (λ limit. (5 + n ≤ limit) × (limit ≤ 8388607)) → (5 + n ≤ unwrap_or given 262144) × (unwrap_or given 262144 ≤ 8388607)
@@ -268,10 +331,13 @@ adds_small old new words (adds_limit g) h =
 adds_small old new words (adds_session g) h =
     let k : IsSmall (Sized g.0 g.1 g.2) = subst IsSmall g.4 h in
     let limit = default_limit g.0 g.2 k.0 k.2 in
-    subst IsSmall (sym g.5) (k.0, few_elements g.1 k.1, limit.0, limit.1)
+    subst IsSmall (sym g.5) (k.0, few_elements g.1 k.1, limit.0, limit.1, omega arith)
+adds_small old new words (adds_further g) h =
+    let k : IsSmall (Begun g.0 g.1 g.2) = subst IsSmall g.5 h in
+    subst IsSmall (sym g.6) (k.0, k.1, k.2, k.3, omega (arith, length-append g.1 ((g.2).commands ∷ []), g.4))
 adds_small old new words (adds_command g) h =
-    let k : IsSmall (Begun g.0 g.1) = subst IsSmall g.3 h in
-    subst IsSmall (sym g.5) (k.0, k.1, k.2, k.3)
+    let k : IsSmall (Begun g.0 g.1 g.2) = subst IsSmall g.4 h in
+    subst IsSmall (sym g.6) (k.0, k.1, k.2, k.3, k.4)
 
 pub read_more : (lines : List (List ℕ)) (line : List ℕ) (old new : Draft) (words : List Word) → IsRead lines old → line_words line ≡ Some words → Adds old words new → IsRead (lines ++ line ∷ []) new
 read_more lines line old new words read e adds =
@@ -328,18 +394,18 @@ empty_is (x ∷ xs) h = absurd (omega (arith, is_zero (length (x ∷ xs)) h))
 pub all_read : (all lines : List (List ℕ)) (rest : List ℕ) → all ≡ lines ++ lines_of rest → (length rest == 0) ≡ true → lines ≡ all
 all_read all lines rest h e = sym (h ∙ ap (λ t. lines ++ lines_of t) (empty_is rest e) ∙ ap (λ t. lines ++ t) no_lines ∙ append-nil lines)
 
-all_one : (P : List Command → Type 0) (commands : List Command) → P commands → All P (commands ∷ [])
-all_one P commands h = All-cons P commands [] h (λ k d lt. absurd (omega arith))
-
 pub job_from : (text : List ℕ) (draft : Draft) (r : Result Job JobError) → IsRead (lines_of text) draft
-    → IfOk r (λ job. (limit : ℕ) × (section : Section) × (draft ≡ Begun limit section) × (job ≡ record { vars = section.scope.counts.vars; elements = section.scope.counts.elements; limit = limit; sections = section.commands ∷ [] }))
+    → IfOk r (λ job. (limit : ℕ) × (done : List (List Command)) × (section : Section) × (draft ≡ Begun limit done section)
+    × (job ≡ record { vars = section.scope.counts.vars; elements = section.scope.counts.elements; limit = limit; sections = done ++ section.commands ∷ [] }))
     → IfOk r (λ job. IsJobText text job)
 job_from text draft (Err e) read h = h
 job_from text draft (Ok job) read h =
-    let section = h.1 in
-    let spelled : Spelled (Begun h.0 section) (said_lines (lines_of text)) = subst (λ (t : Draft). Spelled t (said_lines (lines_of text))) h.2 read.spelled in
-    let small : IsSmall (Begun h.0 section) = subst IsSmall h.2 read.small in
-    subst (λ (t : Job). IsJobText text t) (sym h.3)
+    let done = h.1 in
+    let section = h.2 in
+    let spelled : Spelled (Begun h.0 done section) (said_lines (lines_of text)) = subst (λ (t : Draft). Spelled t (said_lines (lines_of text))) h.3 read.spelled in
+    let small : IsSmall (Begun h.0 done section) = subst IsSmall h.3 read.small in
+    let count = length-append done (section.commands ∷ []) in
+    subst (λ (t : Job). IsJobText text t) (sym h.4)
     (record {
       clean = read.clean;
       number = spelled.0;
@@ -348,15 +414,16 @@ job_from text draft (Ok job) read h =
       elements = spelled.4;
       limits = spelled.2;
       limit = spelled.5;
-      lines = spelled.6 ∙ sym (append_assoc (line_of_vars spelled.0 ∷ spelled.1) spelled.2 (section_lines section.commands))
-          ∙ ap (λ t. line_of_vars spelled.0 ∷ spelled.1 ++ spelled.2 ++ t) (sym (append-nil (section_lines section.commands)));
+      lines = spelled.6 ∙ sym (append_assoc (line_of_vars spelled.0 ∷ spelled.1) spelled.2 (flat_map section_lines done ++ section_lines section.commands))
+          ∙ ap (λ t. line_of_vars spelled.0 ∷ spelled.1 ++ spelled.2 ++ t) (sym (whole_sections done section.commands));
       is_job = record {
         few_variables = small.0;
         few_elements = small.1;
         lowest_limit = small.2;
         highest_limit = small.3;
-        one_section = refl;
-        commands = all_one (CommandsSay section.scope.counts []) section.commands spelled.7;
+        some_sections = omega (arith, count);
+        few_sections = omega (arith, count, small.4);
+        commands = All-append (CommandsSay section.scope.counts []) done (section.commands ∷ []) spelled.7 (all_one (CommandsSay section.scope.counts []) section.commands spelled.8);
       };
     })
 

@@ -12,8 +12,8 @@ use Rattle.edge_bits.specs.declared.edges.Kind.{Kind}
 use Rattle.edge_bits.specs.declared.edges.Kind.TheVariants.{Bdd, Add, Zdd}
 use Rattle.job_text.specs.declared.faults.FaultKind.TheVariants as kinds
 use Rattle.job_words.specs.Text.{Word, is_name}
-use Rattle.job_text.specs.Grammar.{Refers, is_called, kind_at, kind_of, without}
-use Rattle.job_text.specs.Faults.{kind_called, kind_fault, name_fault, register_called}
+use Rattle.job_text.specs.Grammar.{Refers, is_called, kind_at, kind_called, kind_of, register_called, without}
+use Rattle.job_text.specs.Faults.{kind_fault, name_fault}
 use Rattle.std.proofs.lemmas.Slice.Eq.{bytes_eq-Decides}
 use Rattle.job_text.specs.declared.job.Register.{Register}
 
@@ -38,6 +38,10 @@ called_is rs w a kind h = find_at (is_called w) rs ∙ ap (slice_get rs) h.2 ∙
 
 pub kind_is : (rs : List Register) (w : Word) (a : ℕ) (kind : Kind) → Refers rs w a kind → kind_called rs w ≡ kind_at rs a
 kind_is rs w a kind h = ap kind_of (called_is rs w a kind h) ∙ sym (ap kind_of h.1)
+
+-- the kind of the first of a name
+pub kind_first : (rs : List Register) (w : Word) → kind_called rs w ≡ kind_at rs (position_or_len (is_called w) rs)
+kind_first rs w = ap kind_of (find_at (is_called w) rs)
 
 passes_first : (p : Register → Bool) (x r : Register) (o : Option Register) (b : Bool) → p x ≡ b → cond b (Some x) o ≡ Some r → (o ≡ Some r → p r ≡ true) → p r ≡ true
 passes_first p x r o true e h later =

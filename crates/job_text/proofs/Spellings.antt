@@ -15,7 +15,7 @@ use Rattle.job_text.specs.declared.job.Register.{Register}
 use Rattle.job_words.specs.declared.commands.Operation.{Operation}
 use Rattle.job_words.specs.declared.commands.Operation.TheVariants as does
 use Rattle.job_words.specs.declared.commands.Place.{Place}
-use Rattle.job_words.specs.declared.commands.Place.TheVariants.{Fresh, Held, Any, Alike, Variable, NewVariable, Element, Value, Bit, Bits}
+use Rattle.job_words.specs.declared.commands.Place.TheVariants.{Fresh, Held, Any, Alike, Variable, NewVariable, Element, Cell, Value, Bit, Bits}
 use Rattle.job_text.specs.declared.faults.FaultKind.TheVariants as kinds
 use Rattle.job_text.specs.declared.operands.Operand.{Operand}
 use Rattle.job_text.specs.declared.operands.Operand.TheVariants as operands
@@ -86,6 +86,7 @@ IsAt Alike o = (a : ℕ) × (o ≡ operands.Alike a)
 IsAt Variable o = (v : ℕ) × (o ≡ operands.Variable v)
 IsAt NewVariable o = (v : ℕ) × (o ≡ operands.NewVariable v)
 IsAt Element o = (e : ℕ) × (o ≡ operands.Element e)
+IsAt Cell o = (k : ℕ) × (o ≡ operands.Cell k)
 IsAt Value o = (w : ℤ) × (o ≡ operands.Value w)
 IsAt Bit o = (b : Bool) × (o ≡ operands.Bit b)
 IsAt Bits o = (bits : List Bool) × (o ≡ operands.Bits bits)
@@ -98,6 +99,7 @@ at_own (operands.Alike a) = (a, refl)
 at_own (operands.Variable v) = (v, refl)
 at_own (operands.NewVariable v) = (v, refl)
 at_own (operands.Element e) = (e, refl)
+at_own (operands.Cell k) = (k, refl)
 at_own (operands.Value w) = (w, refl)
 at_own (operands.Bit b) = (b, refl)
 at_own (operands.Bits bits) = (bits, refl)
@@ -141,6 +143,10 @@ value_first due repeated (o ∷ os) h = let r = at_due o Value h.0 in (r.0, os, 
 element_first : (due repeated : List Place) (os : List Operand) → Follows (Element ∷ due) repeated os → (e : ℕ) × (rest : List Operand) × (os ≡ operands.Element e ∷ rest) × Follows due repeated rest
 element_first due repeated [] h = absurd h
 element_first due repeated (o ∷ os) h = let r = at_due o Element h.0 in (r.0, os, ap (λ t. t ∷ os) r.1, h.1)
+
+cell_first : (due repeated : List Place) (os : List Operand) → Follows (Cell ∷ due) repeated os → (k : ℕ) × (rest : List Operand) × (os ≡ operands.Cell k ∷ rest) × Follows due repeated rest
+cell_first due repeated [] h = absurd h
+cell_first due repeated (o ∷ os) h = let r = at_due o Cell h.0 in (r.0, os, ap (λ t. t ∷ os) r.1, h.1)
 
 bit_first : (due repeated : List Place) (os : List Operand) → Follows (Bit ∷ due) repeated os → (b : Bool) × (rest : List Operand) × (os ≡ operands.Bit b ∷ rest) × Follows due repeated rest
 bit_first due repeated [] h = absurd h
@@ -212,6 +218,12 @@ any_alone : (os : List Operand) → Follows (Any ∷ []) [] os → (a : ℕ) × 
 any_alone os h =
     let x = any_first [] [] os h in
     (x.0, x.2 ∙ ap (λ t. operands.Any x.0 ∷ t) (none_left x.1 x.3))
+
+cell_and_any : (os : List Operand) → Follows (Cell ∷ Any ∷ []) [] os → (k a : ℕ) × (os ≡ operands.Cell k ∷ operands.Any a ∷ [])
+cell_and_any os h =
+    let x = cell_first (Any ∷ []) [] os h in
+    let y = any_alone x.1 x.3 in
+    (x.0, y.0, x.2 ∙ ap (λ t. operands.Cell x.0 ∷ t) y.1)
 
 any_and_alike : (os : List Operand) → Follows (Any ∷ Alike ∷ []) [] os → (a b : ℕ) × (os ≡ operands.Any a ∷ operands.Alike b ∷ [])
 any_and_alike os h =
@@ -364,10 +376,14 @@ module _ (n : Counts) (rs : List Register) where
   known (acts.Change a e) proper = record { own = _; found = refl; follows = (refl, (refl, tt)); new = (refl, (refl, tt)); made = refl }
   known (acts.Product a b) proper = record { own = _; found = refl; follows = (refl, (refl, tt)); new = (refl, (refl, tt)); made = refl }
   known (acts.Quotient a b) proper = record { own = _; found = refl; follows = (refl, (refl, tt)); new = (refl, (refl, tt)); made = refl }
+  known (acts.Copy a) proper = record { own = _; found = refl; follows = (refl, tt); new = (refl, tt); made = refl }
+  known (acts.Fetch k a) proper = record { own = _; found = refl; follows = (refl, (refl, tt)); new = (refl, (refl, tt)); made = refl }
+  known (acts.Post k a) proper = (record { own = _; found = refl; follows = (refl, (refl, tt)); new = (refl, (refl, tt)); made = refl }, refl)
   known (acts.Drop a) proper = (record { own = _; found = refl; follows = (refl, tt); new = (refl, tt); made = refl }, refl)
   known (acts.Same a b) proper = (record { own = _; found = refl; follows = (refl, (refl, tt)); new = (refl, (alike (kind_at rs a) (kind_at rs b) proper, tt)); made = refl }, refl)
   known (acts.Leq a b) proper = (record { own = _; found = refl; follows = (refl, (refl, tt)); new = (refl, (refl, tt)); made = refl }, refl)
   known (acts.Eval a bits) proper = (record { own = _; found = refl; follows = (refl, (refl, tt)); new = (refl, (ap (λ t. cond t None (Some kinds.Range)) (same_number (length bits) (bits_for n (kind_at rs a)) proper), tt)); made = refl }, refl)
+  known acts.Sweep proper = (record { own = _; found = refl; follows = tt; new = tt; made = refl }, refl)
 
   -- A command that is known makes what is spelled by its word and its operands, and is proper.
   abbrev pub Builds : (Word → List Operand → Spelling) → Form → Type 0
@@ -412,9 +428,13 @@ module _ (n : Counts) (rs : List Register) where
       let all : AllFit n rs no_operands given = subst (AllFit n rs no_operands) x.2 new in
       (along tells (codes "eval") does.Eval os given x.2 refl, proper_along does.Eval os given x.2 (as_many (length x.1) (bits_for n (kind_at rs x.0)) all.1.0))
 
+  -- the commands that hand a diagram on
+  handed_build : EachBuilds assigns (drop 39 assigning)
+  handed_build = ((λ os h new. (along assigns (codes "copy") does.Copy os _ (any_alone os h).1 refl, tt)), ((λ os h new. (along assigns (codes "fetch") does.Fetch os _ (cell_and_any os h).2 refl, tt)), tt))
+
   -- the commands that make families
   subsets_build : EachBuilds assigns (drop 34 assigning)
-  subsets_build = ((λ os h new. (along assigns (codes "on") does.Subset1 os _ (register_and_element Zdd os h).2 refl, tt)), ((λ os h new. (along assigns (codes "off") does.Subset0 os _ (register_and_element Zdd os h).2 refl, tt)), ((λ os h new. (along assigns (codes "flip") does.Change os _ (register_and_element Zdd os h).2 refl, tt)), ((λ os h new. (along assigns (codes "product") does.Product os _ (two_registers Zdd Zdd os h).2 refl, tt)), ((λ os h new. (along assigns (codes "quotient") does.Quotient os _ (two_registers Zdd Zdd os h).2 refl, tt)), tt)))))
+  subsets_build = ((λ os h new. (along assigns (codes "on") does.Subset1 os _ (register_and_element Zdd os h).2 refl, tt)), ((λ os h new. (along assigns (codes "off") does.Subset0 os _ (register_and_element Zdd os h).2 refl, tt)), ((λ os h new. (along assigns (codes "flip") does.Change os _ (register_and_element Zdd os h).2 refl, tt)), ((λ os h new. (along assigns (codes "product") does.Product os _ (two_registers Zdd Zdd os h).2 refl, tt)), ((λ os h new. (along assigns (codes "quotient") does.Quotient os _ (two_registers Zdd Zdd os h).2 refl, tt)), handed_build)))))
 
   families_build : EachBuilds assigns (drop 28 assigning)
   families_build = ((λ os h new. (along assigns (codes "empty") does.Empty os [] (none_left os h) refl, tt)), ((λ os h new. (along assigns (codes "base") does.Base os [] (none_left os h) refl, tt)), ((λ os h new. (along assigns (codes "single") does.Single os _ (one_element os h).1 refl, tt)), ((λ os h new. (along assigns (codes "union") does.Union os _ (two_registers Zdd Zdd os h).2 refl, tt)), ((λ os h new. (along assigns (codes "meet") does.Meet os _ (two_registers Zdd Zdd os h).2 refl, tt)), ((λ os h new. (along assigns (codes "diff") does.Diff os _ (two_registers Zdd Zdd os h).2 refl, tt)), subsets_build))))))
@@ -434,7 +454,7 @@ module _ (n : Counts) (rs : List Register) where
   each_assigns = ((λ os h new. (along assigns (codes "true") does.One os [] (none_left os h) refl, tt)), ((λ os h new. (along assigns (codes "false") does.Zero os [] (none_left os h) refl, tt)), ((λ os h new. (along assigns (codes "var") does.Var os _ (one_variable os h).1 refl, tt)), ((λ os h new. (along assigns (codes "not") does.Not os _ (one_register Bdd os h).1 refl, tt)), ((λ os h new. (along assigns (codes "and") does.And os _ (two_registers Bdd Bdd os h).2 refl, tt)), ((λ os h new. (along assigns (codes "or") does.Or os _ (two_registers Bdd Bdd os h).2 refl, tt)), ((λ os h new. (along assigns (codes "xor") does.Xor os _ (two_registers Bdd Bdd os h).2 refl, tt)), ((λ os h new. (along assigns (codes "ite") does.Ite os _ (three_registers Bdd Bdd Bdd os h).3 refl, tt)), ((λ os h new. (along assigns (codes "cofactor") does.Cofactor os _ (register_and_literal os h).3 refl, tt)), quantifiers_build)))))))))
 
   pub each_tells : EachBuilds tells telling
-  each_tells = ((λ os h new. (along tells (codes "drop") does.Drop os _ (any_alone os h).1 refl, tt)), (builds_same, ((λ os h new. (along tells (codes "leq") does.Leq os _ (two_registers Bdd Bdd os h).2 refl, tt)), (builds_eval, tt))))
+  each_tells = ((λ os h new. (along tells (codes "post") does.Post os _ (cell_and_any os h).2 refl, tt)), ((λ os h new. (along tells (codes "drop") does.Drop os _ (any_alone os h).1 refl, tt)), (builds_same, ((λ os h new. (along tells (codes "leq") does.Leq os _ (two_registers Bdd Bdd os h).2 refl, tt)), (builds_eval, ((λ os h new. (along tells (codes "sweep") does.Sweep os [] (none_left os h) refl, tt)), tt))))))
 
   pub found_builds : (makes : Word → List Operand → Spelling) (forms : List Form) (command : Word) (own : Form) → form_in forms command ≡ Some own → EachBuilds makes forms → Builds makes own × (own.word ≡ command)
   found_builds makes [] command own e each = cc

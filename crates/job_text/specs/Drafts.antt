@@ -1,8 +1,9 @@
 -- What the reader keeps from line to line.
-use Rattle.std.specs.Prelude.{◌≡◌, ℕ, ◌+◌, ◌==◌, ◌≤◌, drop, List, [], ◌∷◌, ◌++◌, Some, None, length, codes, is_some, unwrap_or, IfSome, false, Option, slice_index, slice_index_or, pos, if◌then◌else◌}
+use Rattle.std.specs.Prelude.{◌≡◌, ℕ, ◌+◌, ◌==◌, ◌<◌, ◌≤◌, drop, List, [], ◌∷◌, ◌++◌, Some, None, length, codes, is_some, unwrap_or, IfSome, false, Option, slice_index, slice_index_or, pos, if◌then◌else◌}
 use Rattle.std.specs.List.{list_any, zip}
 use Rattle.edge_bits.specs.declared.edges.Kind.TheVariants.{Bdd}
 use Rattle.job_text.specs.declared.job.Act.{Act}
+use Rattle.job_text.specs.declared.job.Command.{Command}
 use Rattle.job_text.specs.declared.job.Counts.{Counts}
 use Rattle.job_text.specs.declared.job.Register.{Register}
 use Rattle.job_text.specs.declared.job.Act.TheVariants as acts
@@ -30,7 +31,7 @@ use Rattle.job_text.specs.Faults.{Context, at_start, sized, within, counts_with,
 abbrev pub context_in : Draft → Context
 context_in Nothing = at_start
 context_in (Sized n elements given) = sized n elements (is_some given)
-context_in (Begun limit section) = within section.scope.counts section.scope.registers
+context_in (Begun limit done section) = within section.scope.counts (length done + 1) section.scope.registers
 
 -- what a line of these words makes of a draft
 abbrev pub AddsVars : Draft → List Word → Draft → Type 0
@@ -45,9 +46,17 @@ abbrev pub AddsLimit : Draft → List Word → Draft → Type 0
 AddsLimit old words new = (number : Word) × (n limit : ℕ) × (elements : Option ℕ) × (words ≡ codes "limit" ∷ number ∷ []) × IsNumber number limit × (5 + n ≤ limit) × (limit ≤ 8388607)
     × (old ≡ Sized n elements None) × (new ≡ Sized n elements (Some limit))
 
+-- a section without commands
+abbrev pub new_section : Counts → Section
+new_section n = record { scope = record { counts = n; registers = [] }; commands = [] }
+
 abbrev pub AddsSession : Draft → List Word → Draft → Type 0
 AddsSession old words new = (n : ℕ) × (elements given : Option ℕ) × (words ≡ codes "session" ∷ []) × (old ≡ Sized n elements given)
-    × (new ≡ Begun (unwrap_or given 262144) (record { scope = record { counts = counts_with n elements; registers = [] }; commands = [] }))
+    × (new ≡ Begun (unwrap_or given 262144) [] (new_section (counts_with n elements)))
+
+abbrev pub AddsFurther : Draft → List Word → Draft → Type 0
+AddsFurther old words new = (limit : ℕ) × (done : List (List Command)) × (section : Section) × (words ≡ codes "session" ∷ []) × (length done + 1 < 64)
+    × (old ≡ Begun limit done section) × (new ≡ Begun limit (done ++ section.commands ∷ []) (new_section section.scope.counts))
 
 -- the section with one more command
 abbrev pub with_act : Section → List Word → Act → Section
@@ -57,9 +66,9 @@ with_act section words act = record {
 }
 
 abbrev pub AddsCommand : Draft → List Word → Draft → Type 0
-AddsCommand old words new = (limit : ℕ) × (section : Section) × (act : Act) × (old ≡ Begun limit section)
+AddsCommand old words new = (limit : ℕ) × (done : List (List Command)) × (section : Section) × (act : Act) × (old ≡ Begun limit done section)
     × Says section.scope.counts section.scope.registers words act
-    × (new ≡ Begun limit (with_act section words act))
+    × (new ≡ Begun limit done (with_act section words act))
 
 pub data Adds (old : Draft) (words : List Word) (new : Draft) : Type 0 where
   adds_nothing : words ≡ [] → new ≡ old → Adds old words new
@@ -67,6 +76,7 @@ pub data Adds (old : Draft) (words : List Word) (new : Draft) : Type 0 where
   adds_elements : AddsElements old words new → Adds old words new
   adds_limit : AddsLimit old words new → Adds old words new
   adds_session : AddsSession old words new → Adds old words new
+  adds_further : AddsFurther old words new → Adds old words new
   adds_command : AddsCommand old words new → Adds old words new
 
 -- the place at which such an operand is due
@@ -78,6 +88,7 @@ place_of (operands.Alike a) = places.Alike
 place_of (operands.Variable v) = places.Variable
 place_of (operands.NewVariable v) = places.NewVariable
 place_of (operands.Element e) = places.Element
+place_of (operands.Cell k) = places.Cell
 place_of (operands.Value w) = places.Value
 place_of (operands.Bit b) = places.Bit
 place_of (operands.Bits bits) = places.Bits
@@ -93,7 +104,7 @@ AreOperands n registers (slot ∷ slots) (operand ∷ operands) = IsOperand n re
 AreOperands n registers _ _ = ⊥
 
 abbrev pub no_operands : Operands
-no_operands = record { registers = []; kind = Bdd; variables = []; elements = []; values = []; bits = [] }
+no_operands = record { registers = []; kind = Bdd; variables = []; elements = []; cells = []; values = []; bits = [] }
 
 -- the operands with one more register
 abbrev pub with_register : List Register → Operands → ℕ → Operands
@@ -108,6 +119,7 @@ with_operand registers others (operands.Alike a) = with_register registers other
 with_operand registers others (operands.Variable v) = record others { variables = others.variables ++ v ∷ [] }
 with_operand registers others (operands.NewVariable v) = record others { variables = others.variables ++ v ∷ [] }
 with_operand registers others (operands.Element e) = record others { elements = others.elements ++ e ∷ [] }
+with_operand registers others (operands.Cell k) = record others { cells = others.cells ++ k ∷ [] }
 with_operand registers others (operands.Value w) = record others { values = others.values ++ w ∷ [] }
 with_operand registers others (operands.Bit b) = record others { bits = others.bits ++ b ∷ [] }
 with_operand registers others (operands.Bits bits) = record others { bits = bits }
@@ -129,6 +141,7 @@ misfit n registers others (operands.Alike a) = kind_fault others.kind (kind_at r
 misfit n registers others (operands.Variable v) = None
 misfit n registers others (operands.NewVariable v) = if list_any (λ other. other == v) others.variables then Some kinds.Range else None
 misfit n registers others (operands.Element e) = None
+misfit n registers others (operands.Cell k) = None
 misfit n registers others (operands.Value w) = None
 misfit n registers others (operands.Bit b) = None
 misfit n registers others (operands.Bits bits) = if length bits == bits_for n others.kind then None else Some kinds.Range
@@ -180,10 +193,14 @@ act_of does.Subset0 given = acts.Subset0 (slice_index given.registers 0) (slice_
 act_of does.Change given = acts.Change (slice_index given.registers 0) (slice_index given.elements 0)
 act_of does.Product given = acts.Product (slice_index given.registers 0) (slice_index given.registers 1)
 act_of does.Quotient given = acts.Quotient (slice_index given.registers 0) (slice_index given.registers 1)
+act_of does.Copy given = acts.Copy (slice_index given.registers 0)
+act_of does.Fetch given = acts.Fetch (slice_index given.cells 0) (slice_index given.registers 0)
+act_of does.Post given = acts.Post (slice_index given.cells 0) (slice_index given.registers 0)
 act_of does.Drop given = acts.Drop (slice_index given.registers 0)
 act_of does.Same given = acts.Same (slice_index given.registers 0) (slice_index given.registers 1)
 act_of does.Leq given = acts.Leq (slice_index given.registers 0) (slice_index given.registers 1)
 act_of does.Eval given = acts.Eval (slice_index given.registers 0) given.bits
+act_of does.Sweep given = acts.Sweep
 
 -- why a word was not taken at its place
 abbrev pub SlotStop : Counts → List Register → Place × Word → Stop → Type 0
@@ -214,5 +231,5 @@ EndStop draft lines (errors.Fault fault) = (has_begun (context_in draft) ≡ fal
 abbrev pub IsSmall : Draft → Type 0
 IsSmall Nothing = Unit {0}
 IsSmall (Sized n elements given) = (n ≤ 1024) × IfSome elements (λ m. m ≤ 1024) × IfSome given (λ limit. (5 + n ≤ limit) × (limit ≤ 8388607))
-IsSmall (Begun limit section) =
-    (section.scope.counts.vars ≤ 1024) × (section.scope.counts.elements ≤ 1024) × (5 + section.scope.counts.vars ≤ limit) × (limit ≤ 8388607)
+IsSmall (Begun limit done section) =
+    (section.scope.counts.vars ≤ 1024) × (section.scope.counts.elements ≤ 1024) × (5 + section.scope.counts.vars ≤ limit) × (limit ≤ 8388607) × (length done < 64)

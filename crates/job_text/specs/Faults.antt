@@ -1,5 +1,5 @@
 -- What is wrong with a text: its first faulty line, and on it the first fault.
-use Rattle.std.specs.Prelude.{◌≡◌, ℕ, ◌+◌, ◌==◌, nat_lt, nat_le, Bool, true, false, ◌&&◌, not, List, [], ◌∷◌, ◌++◌, Option, Some, None, length, codes, if◌then◌else◌, ◌⊎◌, find, unwrap_or, is_some}
+use Rattle.std.specs.Prelude.{◌≡◌, ℕ, ◌+◌, ◌==◌, nat_lt, nat_le, Bool, true, false, ◌&&◌, not, List, [], ◌∷◌, ◌++◌, Option, Some, None, length, codes, if◌then◌else◌, ◌⊎◌, unwrap_or, is_some}
 use Rattle.std.specs.List.{list_all, list_any}
 use Rattle.std.specs.Option.{option_map}
 use Rattle.std.specs.Str.{bytes_eq}
@@ -8,7 +8,7 @@ use Rattle.edge_bits.specs.declared.edges.Kind.{Kind}
 use Rattle.edge_bits.specs.declared.edges.Kind.TheVariants.{Bdd, Add, Zdd}
 use Rattle.function_laws.specs.Numbers.{is_value}
 use Rattle.job_words.specs.declared.commands.Place.{Place}
-use Rattle.job_words.specs.declared.commands.Place.TheVariants.{Fresh, Held, Any, Alike, Variable, NewVariable, Element, Value, Bit, Bits}
+use Rattle.job_words.specs.declared.commands.Place.TheVariants.{Fresh, Held, Any, Alike, Variable, NewVariable, Element, Cell, Value, Bit, Bits}
 use Rattle.job_text.specs.declared.faults.FaultKind.{FaultKind}
 use Rattle.job_text.specs.declared.faults.FaultKind.TheVariants as kinds
 use Rattle.job_text.specs.declared.faults.JobError.{JobError}
@@ -17,11 +17,7 @@ use Rattle.job_text.specs.declared.job.Counts.{Counts}
 use Rattle.job_text.specs.declared.job.Register.{Register}
 use Rattle.job_words.specs.Text.{Word, is_number, integer_value, is_allowed, lines_of, words_of, bits_in}
 use Rattle.job_words.specs.Commands.{has_form, command_of}
-use Rattle.job_text.specs.Grammar.{is_called, kind_of, bits_for, registers_after}
-
--- the register of this name, dropped or not
-abbrev pub register_called : List Register → Word → Option Register
-register_called registers word = find (is_called word) registers
+use Rattle.job_text.specs.Grammar.{is_called, register_called, kind_called, bits_for, registers_after}
 
 abbrev pub same_kind : Kind → Kind → Bool
 same_kind Bdd Bdd = true
@@ -46,10 +42,6 @@ or_else (Some fault) later = Some fault
 abbrev pub below_fault : ℕ → Word → Option FaultKind
 below_fault n word = if nat_lt (digits_value 10 word) n then None else Some kinds.Range
 
--- the kind of the register of this name
-abbrev pub kind_called : List Register → Word → Kind
-kind_called registers word = kind_of (register_called registers word)
-
 -- the fault of a word of due form, over these registers and these numbers of variables and elements, whatever stands beside it
 abbrev pub slot_fault : Counts → List Register → Place × Word → Option FaultKind
 slot_fault n registers (Fresh, word) = if list_any (is_called word) registers then Some kinds.Again else None
@@ -59,6 +51,7 @@ slot_fault n registers (Alike, word) = name_fault (register_called registers wor
 slot_fault n registers (Variable, word) = below_fault n.vars word
 slot_fault n registers (NewVariable, word) = below_fault n.vars word
 slot_fault n registers (Element, word) = below_fault n.elements word
+slot_fault n registers (Cell, word) = below_fault 256 word
 slot_fault n registers (Value, word) = if is_value (integer_value word) then None else Some kinds.Range
 slot_fault n registers (Bit, word) = None
 slot_fault n registers (Bits, word) = None
@@ -81,6 +74,7 @@ beside_fault n registers left (Alike, word) = kind_fault left.kind (kind_called 
 beside_fault n registers left (Variable, word) = None
 beside_fault n registers left (NewVariable, word) = if list_any (λ v. v == digits_value 10 word) left.variables then Some kinds.Range else None
 beside_fault n registers left (Element, word) = None
+beside_fault n registers left (Cell, word) = None
 beside_fault n registers left (Value, word) = None
 beside_fault n registers left (Bit, word) = None
 beside_fault n registers left (Bits, word) = if bits_in word == bits_for n left.kind then None else Some kinds.Range
@@ -98,6 +92,7 @@ left_after registers left (Alike, word) = record left { kind = kind_called regis
 left_after registers left (Variable, word) = record left { variables = left.variables ++ digits_value 10 word ∷ [] }
 left_after registers left (NewVariable, word) = record left { variables = left.variables ++ digits_value 10 word ∷ [] }
 left_after registers left (Element, word) = left
+left_after registers left (Cell, word) = left
 left_after registers left (Value, word) = left
 left_after registers left (Bit, word) = left
 left_after registers left (Bits, word) = left
@@ -132,8 +127,8 @@ pub data Context : Type 0 where
   at_start : Context
   -- there are so many variables and, if that was given, so many elements, and the limit was given or not; no section has begun
   sized : ℕ → Option ℕ → Bool → Context
-  -- there are so many variables and elements, and these registers of the section
-  within : Counts → List Register → Context
+  -- there are so many variables and elements, so many sections have begun, and the last has these registers
+  within : Counts → ℕ → List Register → Context
 
 -- the numbers of variables and elements; without a line for them there are no elements
 abbrev pub counts_with : ℕ → Option ℕ → Counts
@@ -147,8 +142,8 @@ words_fault (sized n elements limited) (word ∷ words) =
     if is_session (word ∷ words) then None else if limited then Some kinds.Word else
     if bytes_eq word (codes "elements") && not (is_some elements) then number_fault (codes "elements") (λ m. nat_le m 1024) kinds.Range (word ∷ words) else
     number_fault (codes "limit") (λ limit. nat_le (5 + n) limit && nat_le limit 8388607) kinds.Limit (word ∷ words)
-words_fault (within n registers) (word ∷ words) =
-    if is_session (word ∷ words) then Some kinds.Limit else command_fault n registers (word ∷ words)
+words_fault (within n sections registers) (word ∷ words) =
+    if is_session (word ∷ words) then (if nat_lt sections 64 then None else Some kinds.Limit) else command_fault n registers (word ∷ words)
 
 -- the fault of a line: first the bytes that may not stand in one
 abbrev pub line_fault : Context → List ℕ → Option FaultKind
@@ -164,12 +159,13 @@ abbrev pub context_after : Context → List Word → Context
 context_after context [] = context
 context_after at_start (word ∷ words) = sized (number_behind (word ∷ words)) None false
 context_after (sized n elements limited) (word ∷ words) =
-    if is_session (word ∷ words) then within (counts_with n elements) [] else
+    if is_session (word ∷ words) then within (counts_with n elements) 1 [] else
     if bytes_eq word (codes "elements") then sized n (Some (number_behind (word ∷ words))) limited else sized n elements true
-context_after (within n registers) (word ∷ words) = within n (registers_after registers (word ∷ words))
+context_after (within n sections registers) (word ∷ words) =
+    if is_session (word ∷ words) then within n (sections + 1) [] else within n sections (registers_after registers (word ∷ words))
 
 abbrev pub has_begun : Context → Bool
-has_begun (within n registers) = true
+has_begun (within n sections registers) = true
 has_begun _ = false
 
 -- what the lines leave, one after another

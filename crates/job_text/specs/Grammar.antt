@@ -1,5 +1,5 @@
 -- The texts of jobs: what each command is spelled, and which lines make a job.
-use Rattle.std.specs.Prelude.{◌≡◌, ◌≢◌, ℕ, ◌<◌, ◌≤◌, ◌==◌, Bool, true, false, not, List, [], ◌∷◌, ◌++◌, Option, Some, None, All, length, map, filter, drop, ◌&&◌, slice_get, codes, ◌+◌, ◌⊎◌, if◌then◌else◌}
+use Rattle.std.specs.Prelude.{◌≡◌, ◌≢◌, ℕ, ◌<◌, ◌≤◌, ◌==◌, Bool, true, false, not, List, [], ◌∷◌, ◌++◌, Option, Some, None, All, length, map, filter, drop, ◌&&◌, slice_get, codes, ◌+◌, ◌⊎◌, if◌then◌else◌, find}
 use Rattle.std.specs.List.{list_all, flat_map, position_or_len}
 use Rattle.std.specs.Str.{bytes_eq}
 use Rattle.edge_bits.specs.declared.edges.Kind.{Kind}
@@ -7,7 +7,7 @@ use Rattle.edge_bits.specs.declared.edges.Kind.TheVariants.{Bdd, Add, Zdd}
 use Rattle.function_laws.specs.Numbers.{is_value}
 use Rattle.function_laws.specs.Steps.{are_distinct}
 use Rattle.job_text.specs.declared.job.Act.{Act}
-use Rattle.job_text.specs.declared.job.Act.TheVariants.{One, Zero, Var, Not, And, Or, Xor, Ite, Cofactor, Exists, Forall, AndExists, Compose, VectorCompose, Restrict, Support, Constant, FromBdd, Plus, Minus, Times, Min, Max, Threshold, AddIte, SumOver, AtLeast, Pattern, Empty, Base, Single, Union, Meet, Diff, Subset1, Subset0, Change, Product, Quotient, Drop, Same, Leq, Eval}
+use Rattle.job_text.specs.declared.job.Act.TheVariants.{One, Zero, Var, Not, And, Or, Xor, Ite, Cofactor, Exists, Forall, AndExists, Compose, VectorCompose, Restrict, Support, Constant, FromBdd, Plus, Minus, Times, Min, Max, Threshold, AddIte, SumOver, AtLeast, Pattern, Empty, Base, Single, Union, Meet, Diff, Subset1, Subset0, Change, Product, Quotient, Copy, Fetch, Post, Drop, Same, Leq, Eval, Sweep}
 use Rattle.job_text.specs.declared.job.Command.{Command}
 use Rattle.job_text.specs.declared.job.Counts.{Counts}
 use Rattle.job_text.specs.declared.job.Job.{Job}
@@ -40,6 +40,7 @@ StandsFor n registers word (operands.Alike a) = (kind : Kind) × Refers register
 StandsFor n registers word (operands.Variable v) = IsNumber word v × (v < n.vars)
 StandsFor n registers word (operands.NewVariable v) = IsNumber word v × (v < n.vars)
 StandsFor n registers word (operands.Element e) = IsNumber word e × (e < n.elements)
+StandsFor n registers word (operands.Cell k) = IsNumber word k × (k < 256)
 StandsFor n registers word (operands.Value w) = IsInteger word w × (is_value w ≡ true)
 StandsFor n registers word (operands.Bit b) = word ≡ bit_word (b ∷ [])
 StandsFor n registers word (operands.Bits bits) = word ≡ bit_word bits
@@ -109,10 +110,14 @@ spelling (Subset0 a e) = assigns (codes "off") (zdd a ∷ operands.Element e ∷
 spelling (Change a e) = assigns (codes "flip") (zdd a ∷ operands.Element e ∷ [])
 spelling (Product a b) = assigns (codes "product") (zdd a ∷ zdd b ∷ [])
 spelling (Quotient a b) = assigns (codes "quotient") (zdd a ∷ zdd b ∷ [])
+spelling (Copy a) = assigns (codes "copy") (operands.Any a ∷ [])
+spelling (Fetch k a) = assigns (codes "fetch") (operands.Cell k ∷ operands.Any a ∷ [])
+spelling (Post k a) = tells (codes "post") (operands.Cell k ∷ operands.Any a ∷ [])
 spelling (Drop a) = tells (codes "drop") (operands.Any a ∷ [])
 spelling (Same a b) = tells (codes "same") (operands.Any a ∷ operands.Alike b ∷ [])
 spelling (Leq a b) = tells (codes "leq") (bdd a ∷ bdd b ∷ [])
 spelling (Eval a bits) = tells (codes "eval") (operands.Any a ∷ operands.Bits bits ∷ [])
+spelling Sweep = tells (codes "sweep") []
 
 -- the words have this spelling, over these registers and these numbers of variables and elements
 abbrev pub Spells : Counts → List Register → List Word → Spelling → Type 0
@@ -160,14 +165,28 @@ abbrev pub is_drop : List Word → Bool
 is_drop (first ∷ second ∷ []) = bytes_eq first (codes "drop")
 is_drop _ = false
 
--- what an assignment to this name by a command of this word adds
-abbrev pub register_made : Word → Word → Register
-register_made name command = record { name = name; live = true; kind = kind_made command }
+-- the register of this name, dropped or not, and its kind
+abbrev pub register_called : List Register → Word → Option Register
+register_called registers word = find (is_called word) registers
+
+abbrev pub kind_called : List Register → Word → Kind
+kind_called registers word = kind_of (register_called registers word)
+
+-- the kind of what a command of this word makes with these behind it: `copy` and `fetch` keep that of the register that they
+-- name
+abbrev pub kind_given : List Register → Word → List Word → Kind
+kind_given registers command words =
+    if bytes_eq command (codes "copy") then kind_called registers (target_of words) else
+    if bytes_eq command (codes "fetch") then kind_called registers (target_of (drop 1 words)) else kind_made command
+
+-- what an assignment to this name adds
+abbrev pub register_made : Word → Kind → Register
+register_made name kind = record { name = name; live = true; kind = kind }
 
 -- the registers after a command of these words
 abbrev pub registers_after : List Register → List Word → List Register
 registers_after registers words =
-    if is_assignment words then registers ++ register_made (target_of words) (target_of (drop 2 words)) ∷ [] else
+    if is_assignment words then registers ++ register_made (target_of words) (kind_given registers (target_of (drop 2 words)) (drop 3 words)) ∷ [] else
     if is_drop words then map (without (target_of (drop 1 words))) registers else registers
 
 -- each command says what it does, where these registers and those of the commands before it are there
@@ -188,13 +207,15 @@ said_lines lines = filter (λ words. not (length words == 0)) (map words_of line
 abbrev pub counts_of : Job → Counts
 counts_of job = record { vars = job.vars; elements = job.elements }
 
--- what holds of every job that is read: its numbers are in range, and in each section each command says what it does
+-- what holds of every job that is read: its numbers are in range, it has 1 to 64 sections, and in each of them each command says
+-- what it does, over registers that are the section's own
 pub record IsJob (job : Job) : Type 0 where
   pub few_variables : job.vars ≤ 1024
   pub few_elements : job.elements ≤ 1024
   pub lowest_limit : 5 + job.vars ≤ job.limit
   pub highest_limit : job.limit ≤ 8388607
-  pub one_section : length job.sections ≡ 1
+  pub some_sections : 1 ≤ length job.sections
+  pub few_sections : length job.sections ≤ 64
   pub commands : All (CommandsSay (counts_of job) []) job.sections
 
 -- the line that gives the number of elements; there is none for no elements

@@ -13,7 +13,7 @@ use Rattle.function_laws.specs.Histories.{IsLegal}
 use Rattle.job_text.specs.declared.history_line.Reply.{Reply}
 use Rattle.job_text.specs.declared.history_line.Reply.TheVariants as reply
 use Rattle.job_text.specs.declared.job.Act.{Act}
-use Rattle.job_text.specs.declared.job.Act.TheVariants.{One, Zero, Var, Not, And, Or, Xor, Ite, Cofactor, Exists, Forall, AndExists, Compose, VectorCompose, Restrict, Support, Constant, FromBdd, Plus, Minus, Times, Min, Max, Threshold, AddIte, SumOver, AtLeast, Pattern, Empty, Base, Single, Union, Meet, Diff, Subset1, Subset0, Change, Product, Quotient, Drop, Same, Leq, Eval}
+use Rattle.job_text.specs.declared.job.Act.TheVariants.{One, Zero, Var, Not, And, Or, Xor, Ite, Cofactor, Exists, Forall, AndExists, Compose, VectorCompose, Restrict, Support, Constant, FromBdd, Plus, Minus, Times, Min, Max, Threshold, AddIte, SumOver, AtLeast, Pattern, Empty, Base, Single, Union, Meet, Diff, Subset1, Subset0, Change, Product, Quotient, Copy, Fetch, Post, Drop, Same, Leq, Eval, Sweep}
 use Rattle.job_text.specs.declared.job.Command.{Command}
 use Rattle.job_text.specs.declared.job.Job.{Job}
 use Rattle.job_words.specs.Text.{Word}
@@ -145,10 +145,14 @@ Calls registers (Subset0 a e) call = (x : Name) × IsNamed registers a x × (cal
 Calls registers (Change a e) call = (x : Name) × IsNamed registers a x × (call ≡ calls.Change x e)
 Calls registers (Product a b) call = (x y : Name) × IsNamed registers a x × IsNamed registers b y × (call ≡ calls.Product x y)
 Calls registers (Quotient a b) call = (x y : Name) × IsNamed registers a x × IsNamed registers b y × (call ≡ calls.Quotient x y)
+Calls registers (Copy a) call = (x : Name) × IsNamed registers a x × (call ≡ calls.Copy x)
+Calls registers (Fetch k a) call = (x : Name) × IsNamed registers a x × (call ≡ calls.Fetch k x)
+Calls registers (Post k a) call = (x : Name) × IsNamed registers a x × (call ≡ calls.Post k x)
 Calls registers (Drop a) call = (x : Name) × IsNamed registers a x × (call ≡ calls.DropRow x)
 Calls registers (Same a b) call = (x y : Name) × IsNamed registers a x × IsNamed registers b y × (call ≡ calls.Same x y)
 Calls registers (Leq a b) call = (x y : Name) × IsNamed registers a x × IsNamed registers b y × (call ≡ calls.Leq x y)
 Calls registers (Eval a bits) call = (x : Name) × IsNamed registers a x × (call ≡ calls.Eval x bits)
+Calls registers Sweep call = call ≡ calls.Sweep
 
 -- each line has the words of the command at its place, and calls what that says; there may be further commands
 abbrev pub SayInOrder : List Held → List HistoryLine → List Command → Type 0
@@ -200,6 +204,11 @@ pub record IsHistory (job : Job) (lines : List HistoryLine) : Type 0 where
       → IsSession commands (filter (λ line. line.entry.session == s) lines)
   pub no_other : All (λ line. line.entry.session < length job.sections) lines
 
+-- full is told where as many slots are in use as the job's limit says, and one more was needed
+abbrev pub IsFullOf : ℕ → Answer → Type 0
+IsFullOf limit (replies.Full in_use need) = (in_use ≡ limit) × (need ≡ 1)
+IsFullOf limit _ = Unit {0}
+
 -- `left` and the number of slots in use at the end
 abbrev pub left_text : ℕ → List ℕ
 left_text count = codes "left " ++ decimal count ++ codes "\n"
@@ -208,4 +217,5 @@ left_text count = codes "left " ++ decimal count ++ codes "\n"
 pub record IsPlayed (job : Job) (text : List ℕ) : Type 0 where
   pub lines : List HistoryLine
   pub history : IsHistory job lines
+  pub full : All (λ line. IsFullOf job.limit line.entry.reply) lines
   pub bytes : text ≡ flat_map text_of lines ++ left_text (5 + job.vars)

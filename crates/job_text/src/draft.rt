@@ -1,17 +1,19 @@
 //! What the lines that were read give.
 
 ghost use Rattle.std.specs.Prelude.{◌≡◌, ◌++◌, ◌∷◌, [], ◌<◌, ◌≤◌, length, map, codes, IfOk, IfErr, MatchOption, true, false};
+ghost use Rattle.job_words.specs.Text.{split_words};
 ghost use Rattle.job_text.specs.Grammar.{Says, registers_after, without, is_drop};
-ghost use Rattle.job_text.specs.Drafts.{CommandStop, with_act};
+ghost use Rattle.job_text.specs.Drafts.{CommandStop, new_section, with_act};
 
 use crate::faults::Stop;
 use crate::job::{Act, Command, Counts};
+use crate::line_words::Words;
 use crate::registers::Registers;
 use crate::scope::Scope;
 use edge_bits::List;
 use std::alloc::Global;
 
-/// The section so far.
+/// A section so far.
 #[derive(Drop)]
 pub struct Section {
     pub scope: Scope,
@@ -29,9 +31,10 @@ pub enum Draft {
         elements: Option<u32>,
         limit: Option<u32>,
     },
-    /// A section has begun.
+    /// A section has begun. Before it stand the commands of those that are done.
     Begun {
         limit: u32,
+        done: List<List<Command>>,
         section: Section,
     },
 }
@@ -39,7 +42,7 @@ pub enum Draft {
 impl Section {
     /// A section without commands, where there are so many variables and elements.
     pub fn new(alloc: Global, counts: Counts) -> Section
-        ensures { result ≡ record { scope = record { counts = counts; registers = [] }; commands = [] } }
+        ensures { result ≡ new_section counts }
     {
         let scope = Scope {
             counts,
@@ -52,20 +55,21 @@ impl Section {
     }
 
     /// The section with one more command.
-    pub fn with_command(self, alloc: Global, words: List<List<u8>>) -> Result<Section, Stop>
-        requires some { 0 < length words }
+    pub fn with_command(self, alloc: Global, words: &[u8]) -> Result<Section, Stop>
+        requires some { 0 < length (split_words words.now) }
         requires vars { self.scope.counts.vars ≤ 1024 }
         requires elements { self.scope.counts.elements ≤ 1024 }
-        ensures ok { IfOk result (λ next. (act : Act) × Says self.scope.counts self.scope.registers words act × (next ≡ with_act self words act)) }
-        ensures stop { IfErr result (λ stop. CommandStop self.scope.counts self.scope.registers words stop) }
+        ensures ok { IfOk result (λ next. (act : Act) × Says self.scope.counts self.scope.registers (split_words words.now) act × (next ≡ with_act self (split_words words.now) act)) }
+        ensures stop { IfErr result (λ stop. CommandStop self.scope.counts self.scope.registers (split_words words.now) stop) }
     {
         let Section {
             scope,
             mut commands,
         } = self;
-        let act = scope.command(alloc, words.as_slice())?;
+        let act = scope.command(alloc, words)?;
         let Scope { counts, registers } = scope;
-        let registers = registers.after(alloc, words.as_slice())?;
+        let registers = registers.after(alloc, words)?;
+        let words = Words::copied(alloc, words)?;
         commands.push(Command { words, act })?;
         Ok(Section {
             scope: Scope { counts, registers },

@@ -1,11 +1,11 @@
 //! The lines of a history.
 
-ghost use Rattle.std.specs.Prelude.{◌≡◌, ◌++◌, IfOk, codes, string_bytes};
+ghost use Rattle.std.specs.Prelude.{◌≡◌, IfOk, codes, string_bytes};
 ghost use Rattle.std.specs.Fmt.{decimal};
-ghost use Rattle.job_text.specs.Histories.{line_text, reply_text, spaced};
+ghost use Rattle.job_text.specs.Histories.{line_text, reply_text};
 
 use crate::job::Command;
-use edge_bits::{List, Memory};
+use edge_bits::Memory;
 use std::alloc::{AllocError, Global};
 
 /// The reply to a command.
@@ -25,22 +25,6 @@ pub enum Reply {
     Posted,
     /// A `fetch` found nothing of the kind.
     Empty,
-}
-
-/// The words with a blank between each two.
-fn joined(alloc: Global, words: &[List<u8>]) -> Result<Vec<u8>, Memory>
-    ensures { IfOk result (λ text. text.items ≡ spaced words.now) }
-{
-    let mut text = Vec::new(alloc);
-    let Some((first, rest)) = words.split_first() else {
-        return Ok(text);
-    };
-    text.extend_from_slice(first.as_slice())?;
-    for word in rest {
-        text.push(b' ')?;
-        text.extend_from_slice(word.as_slice())?;
-    }
-    Ok(text)
 }
 
 /// A reply in words.
@@ -75,7 +59,7 @@ pub fn line(
     text.push(b' ')?;
     text.extend_from_slice(session.to_string(alloc)?.as_bytes())?;
     text.push(b' ')?;
-    text.extend_from_slice(&joined(alloc, command.words.as_slice())?)?;
+    text.extend_from_slice(command.words.as_slice())?;
     text.extend_from_slice(b" -> ")?;
     text.extend_from_slice(said(alloc, reply)?.as_bytes())?;
     text.push(b'\n')?;

@@ -1,5 +1,6 @@
 //! A job as it was read: its sizes, its sections and their commands.
 
+use crate::line_words::Words;
 use edge_bits::{Kind, List};
 
 /// What a command does. Registers go by number of assignment in their section, from 0.
@@ -83,6 +84,12 @@ pub enum Act {
     Product(u32, u32),
     /// `r = quotient A B`: the combinations that meet no combination of the second family and, joined with each of them, give one of the first; none where the second is empty.
     Quotient(u32, u32),
+    /// `r = copy A`: what the register has, under another name.
+    Copy(u32),
+    /// `r = fetch K A`: what was last posted to the cell, or what the register has where nothing was.
+    Fetch(u8, u32),
+    /// `post K A`: the cell gets what the register has.
+    Post(u8, u32),
     /// `drop A`: the register is let go.
     Drop(u32),
     /// `same A B`: whether two registers of one kind have the same function.
@@ -91,12 +98,14 @@ pub enum Act {
     Leq(u32, u32),
     /// `eval A bits`: the value of a register, where bit i is the value of variable i (of a family: of element i).
     Eval(u32, List<bool>),
+    /// `sweep`: slots that nothing reaches are freed.
+    Sweep,
 }
 
 /// A command: its words as in the text, and what it does.
 #[derive(Drop)]
 pub struct Command {
-    pub words: List<List<u8>>,
+    pub words: Words,
     pub act: Act,
 }
 

@@ -28,6 +28,8 @@ pub enum Operand {
     NewVariable(u32),
     /// An element, by its number.
     Element(u32),
+    /// A cell, by its number.
+    Cell(u8),
     /// A whole number.
     Value(i64),
     /// The value of a variable.
@@ -44,6 +46,7 @@ pub struct Operands {
     pub kind: Kind,
     pub variables: List<u32>,
     pub elements: List<u32>,
+    pub cells: List<u8>,
     pub values: List<i64>,
     pub bits: List<bool>,
 }
@@ -58,6 +61,7 @@ impl Operands {
             kind: Kind::Bdd,
             variables: List::new(alloc),
             elements: List::new(alloc),
+            cells: List::new(alloc),
             values: List::new(alloc),
             bits: List::new(alloc),
         }
@@ -85,6 +89,7 @@ impl Operands {
             }
             Operand::Variable(v) | Operand::NewVariable(v) => more.variables.push(v)?,
             Operand::Element(e) => more.elements.push(e)?,
+            Operand::Cell(k) => more.cells.push(k)?,
             Operand::Value(w) => more.values.push(w)?,
             Operand::Bit(bit) => more.bits.push(bit)?,
             Operand::Bits(all) => more.bits = all,
@@ -117,7 +122,7 @@ impl Operands {
         }
     }
 
-    /// What an operation on BDDs does with them, or one that makes nothing.
+    /// What an operation on BDDs or on diagrams of any kind does with them.
     fn logical_act(self, alloc: Global, operation: Operation) -> Result<Act, AllocError>
         requires { is_logical operation ≡ true }
         ensures { IfOk result (λ act. act ≡ act_of operation self) }
@@ -127,6 +132,7 @@ impl Operands {
         let c = self.register(2);
         let v = number_at(self.variables.as_slice(), 0);
         let bit = bit_at(self.bits.as_slice(), 0);
+        let k = cell_at(self.cells.as_slice(), 0);
         let act = match operation {
             Operation::One => Act::One,
             Operation::Zero => Act::Zero,
@@ -144,10 +150,14 @@ impl Operands {
             Operation::VectorCompose => vector_compose(alloc, &self.registers, &self.variables)?,
             Operation::Restrict => Act::Restrict(a, b),
             Operation::Support => Act::Support(a),
+            Operation::Copy => Act::Copy(a),
+            Operation::Fetch => Act::Fetch(k, a),
+            Operation::Post => Act::Post(k, a),
             Operation::Drop => Act::Drop(a),
             Operation::Same => Act::Same(a, b),
             Operation::Leq => Act::Leq(a, b),
             Operation::Eval => Act::Eval(a, self.bits),
+            Operation::Sweep => Act::Sweep,
             _ => unreachable!(),
         };
         Ok(act)
@@ -244,6 +254,13 @@ fn number_at(numbers: &[u32], place: usize) -> u32
     ensures { result ≡ slice_index numbers.now place }
 {
     numbers.get(place).copied().unwrap_or(0)
+}
+
+/// The cell at the place, and 0 where there is none.
+fn cell_at(cells: &[u8], place: usize) -> u8
+    ensures { result ≡ slice_index cells.now place }
+{
+    cells.get(place).copied().unwrap_or(0)
 }
 
 /// The value at the place, and 0 where there is none.

@@ -2,7 +2,7 @@
 
 ghost use Rattle.std.specs.Prelude.{◌≡◌, ◌++◌, ◌∷◌, [], ◌<◌, ◌≤◌, ◌+◌, ◌^◌, length, IfOk, IfErr, IfSome, IfNone, min, Bool, true, None, Some, codes, nat_le, ◌&&◌, List as ListOf, ℕ};
 ghost use Rattle.std.specs.Str.Parse.{digits_value};
-ghost use Rattle.job_words.specs.Text.{is_number, IsNumber};
+ghost use Rattle.job_words.specs.Text.{is_number, split_words, IsNumber};
 ghost use Rattle.std.specs.Str.{bytes_eq};
 ghost use Rattle.job_text.specs.Grammar.{IsJobText, target_of};
 ghost use Rattle.job_text.specs.Faults.{HasFault, number_fault, is_session};
@@ -11,42 +11,43 @@ ghost use Rattle.job_text.specs.Drafts.{Adds, LineStop, EndStop, IsSmall};
 ghost use Rattle.job_text.specs.declared.faults.FaultKind.{FaultKind as Kind};
 ghost use Rattle.job_text.specs.declared.faults.FaultKind.TheVariants as kinds;
 ghost use Rattle.job_text.specs.declared.draft.Section.{Section as SectionOf};
+ghost use Rattle.job_text.specs.declared.job.Command.{Command as CommandOf};
 
 use crate::draft::{Draft, Section};
 use crate::faults::{FaultKind, JobError, JobFault, Stop};
-use crate::job::{Counts, Job};
+use crate::job::{Command, Counts, Job};
 use edge_bits::List;
-use job_words::{cut_line, is_number, number_value, words};
+use job_words::{cut_line, first_word, is_number, number_value, words};
 use std::alloc::Global;
 
 /// The greatest numbers of variables and of elements.
 const MAX_COUNT: u32 = 1024;
+
+/// The most sections of a job.
+const MOST_SECTIONS: usize = 64;
 
 const MAX_LIMIT: u32 = 8_388_607;
 
 const DEFAULT_LIMIT: u32 = 262_144;
 
 /// The number of a line that is this word and a number.
-fn number_line(words: &[List<u8>], due: &[u8]) -> Option<u32>
-    ensures found { IfSome result (λ v. (w : ListOf ℕ) × (words.now ≡ due.now ∷ w ∷ []) × (is_number w ≡ true) × (v ≡ min (digits_value 10 w) 4000000000)) }
-    ensures none { IfNone result ((in_range : ℕ → Bool) (kind : Kind) → number_fault due.now in_range kind words.now ≡ Some kinds.Word) }
+fn number_line(words: &[u8], due: &[u8]) -> Option<u32>
+    ensures found { IfSome result (λ v. (w : ListOf ℕ) × ((split_words words.now) ≡ due.now ∷ w ∷ []) × (is_number w ≡ true) × (v ≡ min (digits_value 10 w) 4000000000)) }
+    ensures none { IfNone result ((in_range : ℕ → Bool) (kind : Kind) → number_fault due.now in_range kind (split_words words.now) ≡ Some kinds.Word) }
 {
-    match words {
-        [first, second] => {
-            if first.as_slice() == due && is_number(second.as_slice()) {
-                Some(number_value(second.as_slice()))
-            } else {
-                None
-            }
-        }
-        _ => None,
+    let (first, rest) = first_word(words)?;
+    let (second, rest) = first_word(rest)?;
+    if first == due && is_number(second) && first_word(rest).is_none() {
+        Some(number_value(second))
+    } else {
+        None
     }
 }
 
 /// `vars N` or `elements M`
-fn count_line(words: &[List<u8>], due: &[u8]) -> Result<u32, FaultKind>
-    ensures ok { IfOk result (λ n. (w : ListOf ℕ) × (words.now ≡ due.now ∷ w ∷ []) × IsNumber w n × (n ≤ 1024)) }
-    ensures fault { IfErr result (λ kind. number_fault due.now (λ n. nat_le n 1024) kinds.Range words.now ≡ Some kind) }
+fn count_line(words: &[u8], due: &[u8]) -> Result<u32, FaultKind>
+    ensures ok { IfOk result (λ n. (w : ListOf ℕ) × ((split_words words.now) ≡ due.now ∷ w ∷ []) × IsNumber w n × (n ≤ 1024)) }
+    ensures fault { IfErr result (λ kind. number_fault due.now (λ n. nat_le n 1024) kinds.Range (split_words words.now) ≡ Some kind) }
 {
     let Some(n) = number_line(words, due) else {
         return Err(FaultKind::Word);
@@ -59,10 +60,10 @@ fn count_line(words: &[List<u8>], due: &[u8]) -> Result<u32, FaultKind>
 }
 
 /// `limit L`
-fn limit_line(vars: u32, words: &[List<u8>]) -> Result<u32, FaultKind>
+fn limit_line(vars: u32, words: &[u8]) -> Result<u32, FaultKind>
     requires { vars ≤ 1024 }
-    ensures ok { IfOk result (λ limit. (w : ListOf ℕ) × (words.now ≡ codes "limit" ∷ w ∷ []) × IsNumber w limit × (5 + vars ≤ limit) × (limit ≤ 8388607)) }
-    ensures fault { IfErr result (λ kind. number_fault (codes "limit") (λ limit. nat_le (5 + vars) limit && nat_le limit 8388607) kinds.Limit words.now ≡ Some kind) }
+    ensures ok { IfOk result (λ limit. (w : ListOf ℕ) × ((split_words words.now) ≡ codes "limit" ∷ w ∷ []) × IsNumber w limit × (5 + vars ≤ limit) × (limit ≤ 8388607)) }
+    ensures fault { IfErr result (λ kind. number_fault (codes "limit") (λ limit. nat_le (5 + vars) limit && nat_le limit 8388607) kinds.Limit (split_words words.now) ≡ Some kind) }
 {
     let Some(limit) = number_line(words, b"limit".as_slice()) else {
         return Err(FaultKind::Word);
@@ -75,27 +76,27 @@ fn limit_line(vars: u32, words: &[List<u8>]) -> Result<u32, FaultKind>
 }
 
 /// `session`
-fn session_line(words: &[List<u8>]) -> bool
-    ensures { result ≡ is_session words.now }
+fn session_line(words: &[u8]) -> bool
+    ensures { result ≡ is_session (split_words words.now) }
 {
-    match words {
-        [word] => word.as_slice() == b"session".as_slice(),
-        _ => false,
+    match first_word(words) {
+        Some((word, rest)) => word == b"session".as_slice() && first_word(rest).is_none(),
+        None => false,
     }
 }
 
 /// What the lines give with one more of these words.
-fn with_line(alloc: Global, draft: Draft, words: List<List<u8>>) -> Result<Draft, Stop>
+fn with_line(alloc: Global, draft: Draft, words: &[u8]) -> Result<Draft, Stop>
     requires { IsSmall draft }
-    ensures ok { IfOk result (λ next. Adds draft words next) }
-    ensures stop { IfErr result (λ stop. LineStop draft words stop) }
+    ensures ok { IfOk result (λ next. Adds draft (split_words words.now) next) }
+    ensures stop { IfErr result (λ stop. LineStop draft (split_words words.now) stop) }
 {
-    if words.as_slice().is_empty() {
+    if first_word(words).is_none() {
         return Ok(draft);
     }
     match draft {
         Draft::Nothing => Ok(Draft::Sized {
-            vars: count_line(words.as_slice(), b"vars".as_slice())?,
+            vars: count_line(words, b"vars".as_slice())?,
             elements: None,
             limit: None,
         }),
@@ -103,8 +104,12 @@ fn with_line(alloc: Global, draft: Draft, words: List<List<u8>>) -> Result<Draft
             vars,
             elements,
             limit,
-        } => sized_line(alloc, vars, elements, limit, words.as_slice()),
-        Draft::Begun { limit, section } => begun_line(alloc, limit, section, words),
+        } => sized_line(alloc, vars, elements, limit, words),
+        Draft::Begun {
+            limit,
+            done,
+            section,
+        } => begun_line(alloc, limit, done, section, words),
     }
 }
 
@@ -114,12 +119,12 @@ fn sized_line(
     vars: u32,
     elements: Option<u32>,
     limit: Option<u32>,
-    words: &[List<u8>],
+    words: &[u8],
 ) -> Result<Draft, Stop>
-    requires some { 0 < length words.now }
+    requires some { 0 < length (split_words words.now) }
     requires vars { vars ≤ 1024 }
-    ensures ok { IfOk result (λ next. Adds (Draft.Sized vars elements limit) words.now next) }
-    ensures stop { IfErr result (λ stop. LineStop (Draft.Sized vars elements limit) words.now stop) }
+    ensures ok { IfOk result (λ next. Adds (Draft.Sized vars elements limit) (split_words words.now) next) }
+    ensures stop { IfErr result (λ stop. LineStop (Draft.Sized vars elements limit) (split_words words.now) stop) }
 {
     if session_line(words) {
         let limit = limit.unwrap_or(DEFAULT_LIMIT);
@@ -129,6 +134,7 @@ fn sized_line(
         };
         return Ok(Draft::Begun {
             limit,
+            done: List::new(alloc),
             section: Section::new(alloc, counts),
         });
     }
@@ -146,18 +152,21 @@ fn sized_line(
 }
 
 /// Whether this is the first word.
-fn begins(words: &[List<u8>], due: &[u8]) -> bool
-    requires { 0 < length words.now }
-    ensures { result ≡ bytes_eq (target_of words.now) due.now }
+fn begins(words: &[u8], due: &[u8]) -> bool
+    requires { 0 < length (split_words words.now) }
+    ensures { result ≡ bytes_eq (target_of (split_words words.now)) due.now }
 {
-    words[0].as_slice() == due
+    match first_word(words) {
+        Some((word, _)) => word == due,
+        None => unreachable!(),
+    }
 }
 
 /// A line that begins with `elements`, behind `vars`.
-fn elements_line(vars: u32, words: &[List<u8>]) -> Result<Draft, Stop>
-    requires first { bytes_eq (target_of words.now) (codes "elements") ≡ true }
-    ensures ok { IfOk result (λ next. Adds (Draft.Sized vars None None) words.now next) }
-    ensures stop { IfErr result (λ stop. LineStop (Draft.Sized vars None None) words.now stop) }
+fn elements_line(vars: u32, words: &[u8]) -> Result<Draft, Stop>
+    requires first { bytes_eq (target_of (split_words words.now)) (codes "elements") ≡ true }
+    ensures ok { IfOk result (λ next. Adds (Draft.Sized vars None None) (split_words words.now) next) }
+    ensures stop { IfErr result (λ stop. LineStop (Draft.Sized vars None None) (split_words words.now) stop) }
 {
     Ok(Draft::Sized {
         vars,
@@ -166,24 +175,54 @@ fn elements_line(vars: u32, words: &[List<u8>]) -> Result<Draft, Stop>
     })
 }
 
-/// A line of a section.
+/// A line of a section, or the first of the next one.
 fn begun_line(
     alloc: Global,
     limit: u32,
+    done: List<List<Command>>,
     section: Section,
-    words: List<List<u8>>,
+    words: &[u8],
 ) -> Result<Draft, Stop>
-    requires some { 0 < length words }
+    requires some { 0 < length (split_words words.now) }
     requires vars { section.scope.counts.vars ≤ 1024 }
     requires elements { section.scope.counts.elements ≤ 1024 }
-    ensures ok { IfOk result (λ next. Adds (Draft.Begun limit section) words next) }
-    ensures stop { IfErr result (λ stop. LineStop (Draft.Begun limit section) words stop) }
+    requires few { length done < 64 }
+    ensures ok { IfOk result (λ next. Adds (Draft.Begun limit done section) (split_words words.now) next) }
+    ensures stop { IfErr result (λ stop. LineStop (Draft.Begun limit done section) (split_words words.now) stop) }
 {
-    if session_line(words.as_slice()) {
-        return Err(Stop::Fault(FaultKind::Limit));
+    if session_line(words) {
+        return next_section(alloc, limit, done, section);
     }
     let section = section.with_command(alloc, words)?;
-    Ok(Draft::Begun { limit, section })
+    Ok(Draft::Begun {
+        limit,
+        done,
+        section,
+    })
+}
+
+/// A further section, behind one that is done with it.
+fn next_section(
+    alloc: Global,
+    limit: u32,
+    done: List<List<Command>>,
+    section: Section,
+) -> Result<Draft, Stop>
+    requires { length done < 64 }
+    ensures ok { IfOk result (λ next. Adds (Draft.Begun limit done section) (codes "session" ∷ []) next) }
+    ensures stop { IfErr result (λ stop. LineStop (Draft.Begun limit done section) (codes "session" ∷ []) stop) }
+{
+    if done.len() + 1 >= MOST_SECTIONS {
+        return Err(Stop::Fault(FaultKind::Limit));
+    }
+    let Section { scope, commands } = section;
+    let mut done = done;
+    done.push(commands)?;
+    Ok(Draft::Begun {
+        limit,
+        done,
+        section: Section::new(alloc, scope.counts),
+    })
 }
 
 /// The job of a text of any length, or its first faulty line and the first fault on it.
@@ -198,10 +237,7 @@ pub fn parse(alloc: Global, text: &[u8]) -> Result<Job, JobError>
     while !rest.is_empty() {
         let (front, after) = cut_line(rest);
         line += 1;
-        let Ok(read) = words(alloc, front) else {
-            return Err(JobError::Memory);
-        };
-        let Some(words) = read else {
+        let Some(words) = words(front) else {
             return Err(JobError::Fault(JobFault {
                 line,
                 what: FaultKind::Word,
@@ -214,20 +250,24 @@ pub fn parse(alloc: Global, text: &[u8]) -> Result<Job, JobError>
         };
         rest = after;
     }
-    finish(alloc, draft, line)
+    finish(draft, line)
 }
 
 /// The job, where a section has begun.
-fn finish(alloc: Global, draft: Draft, lines: u64) -> Result<Job, JobError>
+fn finish(draft: Draft, lines: u64) -> Result<Job, JobError>
     requires { lines < 2 ^ 63 }
-    ensures job { IfOk result (λ job. (limit : ℕ) × (section : SectionOf) × (draft ≡ Draft.Begun limit section)
-        × (job ≡ record { vars = section.scope.counts.vars; elements = section.scope.counts.elements; limit = limit; sections = section.commands ∷ [] })) }
+    ensures job { IfOk result (λ job. (limit : ℕ) × (done : ListOf (ListOf CommandOf)) × (section : SectionOf) × (draft ≡ Draft.Begun limit done section)
+        × (job ≡ record { vars = section.scope.counts.vars; elements = section.scope.counts.elements; limit = limit; sections = done ++ section.commands ∷ [] })) }
     ensures fault { IfErr result (λ error. EndStop draft lines error) }
 {
     match draft {
-        Draft::Begun { limit, section } => {
+        Draft::Begun {
+            limit,
+            done,
+            section,
+        } => {
             let Section { scope, commands } = section;
-            let mut sections = List::new(alloc);
+            let mut sections = done;
             if sections.push(commands).is_err() {
                 return Err(JobError::Memory);
             }

@@ -1,40 +1,41 @@
 //! The registers of a section.
 
-ghost use Rattle.std.specs.Prelude.{◌≡◌, ◌≢◌, All, ◌∷◌, ◌++◌, [], ◌<◌, ◌^◌, length, map, position, codes, IfOk, IfErr, IfSome, MatchOption, true, false, None, Some};
+ghost use Rattle.std.specs.Prelude.{◌≡◌, ◌≢◌, All, ◌∷◌, ◌++◌, [], ◌<◌, ◌^◌, drop, length, map, position, codes, IfOk, IfErr, IfSome, MatchOption, true, false, None, Some};
 ghost use Rattle.std.specs.List.{list_any, position_or_len};
-ghost use Rattle.job_words.specs.Text.{is_name, is_assignment};
-ghost use Rattle.job_text.specs.Grammar.{IsFresh, Refers, is_called, is_drop, kind_at, register_made, registers_after, target_of, without};
-ghost use Rattle.job_text.specs.Faults.{kind_called, name_fault, register_called, same_kind};
+ghost use Rattle.job_words.specs.Text.{is_name, is_assignment, split_words};
+ghost use Rattle.job_text.specs.Grammar.{IsFresh, Refers, is_called, is_drop, kind_at, kind_called, kind_given, register_called, register_made, registers_after, target_of, without};
+ghost use Rattle.job_text.specs.Faults.{name_fault, same_kind};
 ghost use Rattle.job_text.specs.declared.faults.FaultKind.TheVariants as kinds;
 
 use crate::faults::Stop;
 use crate::job::Register;
 use edge_bits::{Kind, List};
-use indexmap::IndexSet;
-use job_words::{as_assignment, kind_made};
+use job_words::{as_assignment, first_word, kind_made};
 use std::alloc::Global;
+use std::collections::BTreeMap;
 use std::marker::Model;
 
 /// The most registers of a section, whose numbers are 32 bits.
 const MOST_REGISTERS: usize = 4_294_967_295;
 
-/// The registers in order of assignment, and their names in the same order with an index. Contracts see the registers.
+/// The registers in order of assignment, and by each name its register's place. Whatever the names are, one is found in as many
+/// steps as the logarithm of their number. Contracts see the registers.
 #[derive(Drop)]
 pub struct Registers {
     items: Vec<Register>,
-    names: IndexSet<Vec<u8>>,
+    places: BTreeMap<Vec<u8>, usize>,
 }
 
 impl Model for Registers {
     ghost use Rattle.std.specs.Prelude.{◌<◌, ◌^◌, vec_len, List as ListOf};
     ghost use Rattle.job_text.specs.declared.job.Register.{Register as RegisterOf};
-    ghost use Rattle.job_text.specs.Names.{AreNames};
+    ghost use Rattle.job_text.specs.Names.{AreDistinct, IsIndex};
 
     ghost Value = { ListOf RegisterOf };
 
     ghost view = { λ registers. registers.items.items };
 
-    ghost invariant = { λ registers. AreNames registers.names.keys registers.items.items × (vec_len registers.items < 2 ^ 32) };
+    ghost invariant = { λ registers. IsIndex registers.places registers.items.items × AreDistinct registers.items.items × (vec_len registers.items < 2 ^ 32) };
 }
 
 /// A register that was looked up: its number, and its kind.
@@ -51,7 +52,7 @@ impl Registers {
     {
         Registers {
             items: Vec::new(alloc),
-            names: IndexSet::new(alloc),
+            places: BTreeMap::new(alloc),
         }
     }
 
@@ -68,13 +69,13 @@ impl Registers {
         ensures some { result ≡ list_any (is_called word.now) self.now }
         ensures none { result ≡ false → All (λ register. register.name ≢ word.now) self.now }
     {
-        self.names.contains(word)
+        self.places.contains_key(word)
     }
 
     fn position_of(&self, word: &[u8]) -> Option<usize>
         ensures { result ≡ position (is_called word.now) self.now }
     {
-        self.names.get_index_of(word)
+        self.places.get(word).copied()
     }
 
     /// The place of the first register of this name, or their number.
@@ -93,22 +94,43 @@ impl Registers {
         find_at(self.as_slice(), self.place_of(word), word)
     }
 
+    /// The kind of the register of this name, dropped or not.
+    fn kind_called(&self, word: &[u8]) -> Kind
+        ensures { result ≡ kind_called self.now word.now }
+    {
+        kind_at_place(self.as_slice(), self.place_of(word))
+    }
+
+    /// The kind of what a command of this word makes with these words behind it.
+    fn kind_given(&self, command: &[u8], words: &[u8]) -> Kind
+        ensures { result ≡ kind_given self.now command.now (split_words words.now) }
+    {
+        if command == b"copy".as_slice() {
+            self.kind_called(first_of(words))
+        } else if command == b"fetch".as_slice() {
+            self.kind_called(first_of(behind_first(words)))
+        } else {
+            kind_made(command)
+        }
+    }
+
     /// The registers with one more, of a name that none has. There are fewer than 2^32: for more there is no memory.
-    fn with_made(self, alloc: Global, name: &[u8], command: &[u8]) -> Result<Registers, Stop>
+    fn with_made(self, alloc: Global, name: &[u8], kind: Kind) -> Result<Registers, Stop>
         requires { list_any (is_called name.now) self ≡ false }
-        ensures ok { IfOk result (λ after. after ≡ self ++ register_made name.now command.now ∷ []) }
+        ensures ok { IfOk result (λ after. after ≡ self ++ register_made name.now kind ∷ []) }
         ensures stop { IfErr result (λ stop. stop ≡ Stop.Memory) }
     {
         let Registers {
             mut items,
-            mut names,
+            mut places,
         } = self;
-        if items.len() >= MOST_REGISTERS {
+        let place = items.len();
+        if place >= MOST_REGISTERS {
             return Err(Stop::Memory);
         }
-        names.insert(Vec::from_slice(alloc, name)?)?;
-        items.push(made(alloc, name, command)?)?;
-        Ok(Registers { items, names })
+        places.insert(Vec::from_slice(alloc, name)?, place)?;
+        items.push(made(alloc, name, kind)?)?;
+        Ok(Registers { items, places })
     }
 
     /// The registers, where that of this name is dropped.
@@ -116,21 +138,22 @@ impl Registers {
         ensures { result ≡ map (without word.now) self }
     {
         let place = self.place_of(word);
-        let Registers { mut items, names } = self;
+        let Registers { mut items, places } = self;
         if place < items.len() {
             items[place].live = false;
         }
-        Registers { items, names }
+        Registers { items, places }
     }
 
     /// The registers after a command of these words, whose target no register has as its name.
-    pub fn after(self, alloc: Global, words: &[List<u8>]) -> Result<Registers, Stop>
-        requires { is_assignment words.now ≡ true → list_any (is_called (target_of words.now)) self ≡ false }
-        ensures ok { IfOk result (λ after. after ≡ registers_after self words.now) }
+    pub fn after(self, alloc: Global, words: &[u8]) -> Result<Registers, Stop>
+        requires { is_assignment (split_words words.now) ≡ true → list_any (is_called (target_of (split_words words.now))) self ≡ false }
+        ensures ok { IfOk result (λ after. after ≡ registers_after self (split_words words.now)) }
         ensures stop { IfErr result (λ stop. stop ≡ Stop.Memory) }
     {
-        if let Some((target, command, _)) = as_assignment(words) {
-            return self.with_made(alloc, target, command);
+        if let Some((target, command, operands)) = as_assignment(words) {
+            let kind = self.kind_given(command, operands);
+            return self.with_made(alloc, target, kind);
         }
         match as_drop(words) {
             Some(word) => Ok(self.without(word)),
@@ -159,14 +182,21 @@ fn find_at(registers: &[Register], place: usize, word: &[u8]) -> Option<Found>
     })
 }
 
+/// The kind of the register at this place, or that of a BDD where there is none.
+fn kind_at_place(registers: &[Register], place: usize) -> Kind
+    ensures { result ≡ kind_at registers.now place }
+{
+    match registers.get(place) {
+        Some(register) => register.kind,
+        None => Kind::Bdd,
+    }
+}
+
 /// The kind of the register of this number.
 pub fn kind_at(registers: &[Register], number: u32) -> Kind
     ensures { result ≡ kind_at registers.now number }
 {
-    match registers.get(number as usize) {
-        Some(register) => register.kind,
-        None => Kind::Bdd,
-    }
+    kind_at_place(registers, number as usize)
 }
 
 /// Whether two kinds are one.
@@ -180,30 +210,47 @@ pub fn same_kind(one: Kind, other: Kind) -> bool
 }
 
 /// The word behind `drop`.
-fn as_drop(words: &[List<u8>]) -> Option<&[u8]>
-    ensures { MatchOption result (is_drop words.now ≡ false) (λ x. words.now ≡ codes "drop" ∷ x.now ∷ []) }
+fn as_drop(words: &[u8]) -> Option<&[u8]>
+    ensures { MatchOption result (is_drop (split_words words.now) ≡ false) (λ x. (split_words words.now) ≡ codes "drop" ∷ x.now ∷ []) }
 {
-    match words {
-        [first, word] => {
-            if first.as_slice() == b"drop".as_slice() {
-                Some(word.as_slice())
-            } else {
-                None
-            }
-        }
-        _ => None,
+    let (first, rest) = first_word(words)?;
+    let (word, rest) = first_word(rest)?;
+    if first == b"drop".as_slice() && first_word(rest).is_none() {
+        Some(word)
+    } else {
+        None
     }
 }
 
-/// What an assignment to this name by a command of this word adds.
-fn made(alloc: Global, name: &[u8], command: &[u8]) -> Result<Register, Stop>
-    ensures ok { IfOk result (λ register. register ≡ register_made name.now command.now) }
+/// The first word, or none of its bytes.
+fn first_of(words: &[u8]) -> &[u8]
+    ensures { result.now ≡ target_of (split_words words.now) }
+{
+    match first_word(words) {
+        Some((word, _)) => word,
+        None => &[],
+    }
+}
+
+/// What stands behind the first word.
+fn behind_first(words: &[u8]) -> &[u8]
+    ensures { split_words result.now ≡ drop 1 (split_words words.now) }
+{
+    match first_word(words) {
+        Some((_, rest)) => rest,
+        None => words,
+    }
+}
+
+/// What an assignment to this name adds.
+fn made(alloc: Global, name: &[u8], kind: Kind) -> Result<Register, Stop>
+    ensures ok { IfOk result (λ register. register ≡ register_made name.now kind) }
     ensures stop { IfErr result (λ stop. stop ≡ Stop.Memory) }
 {
     let name = List::from_vec(Vec::from_slice(alloc, name)?);
     Ok(Register {
         name,
         live: true,
-        kind: kind_made(command),
+        kind,
     })
 }

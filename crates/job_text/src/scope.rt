@@ -1,14 +1,14 @@
 //! The words of a command against what they may name.
 
-ghost use Rattle.std.specs.Prelude.{◌≡◌, ◌<◌, ◌≤◌, ◌^◌, true, length, map, IfOk, IfErr, None, Some, if◌then◌else◌, List as ListOf};
+ghost use Rattle.std.specs.Prelude.{◌≡◌, ◌<◌, ◌≤◌, ◌^◌, true, length, IfOk, IfErr, None, Some, if◌then◌else◌, List as ListOf};
 ghost use Rattle.std.specs.List.{list_all};
-ghost use Rattle.job_words.specs.Text.{IsNumber, is_integer, is_name, is_number, is_bit, is_bits};
-ghost use Rattle.job_text.specs.Grammar.{Refers, Says, bits_for};
-ghost use Rattle.job_text.specs.Faults.{below_fault, kind_called, name_fault, register_called};
+ghost use Rattle.job_words.specs.Text.{IsNumber, is_integer, is_name, is_number, is_bit, is_bits, split_words};
+ghost use Rattle.job_text.specs.Grammar.{Refers, Says, bits_for, kind_called, register_called};
+ghost use Rattle.job_text.specs.Faults.{below_fault, name_fault};
 ghost use Rattle.job_words.specs.Commands.{has_form};
 ghost use Rattle.job_text.specs.declared.faults.FaultKind.TheVariants as kinds;
 ghost use Rattle.job_text.specs.Drafts.{IsOperand, AreOperands, AllFit, misfit, with_operands, no_operands, SlotStop, SlotsStop, CommandStop};
-ghost use Rattle.job_words.specs.Slots.{slot_of};
+ghost use Rattle.job_words.specs.Slots.{slot_of, slots_of};
 ghost use Rattle.job_words.specs.declared.commands.Place.TheVariants as places;
 ghost use Rattle.job_text.specs.declared.operands.Operand.{Operand as OperandOf};
 
@@ -17,8 +17,13 @@ use crate::job::{Act, Counts};
 use crate::operands::{Operand, Operands};
 use crate::registers::{Found, Registers, kind_at, same_kind};
 use edge_bits::{Kind, List};
-use job_words::{Place, Slot, all_have_form, bits_of, command_line, integer_value, number_value};
+use job_words::{
+    Place, Slot, Slots, all_have_form, bits_of, command_line, integer_value, number_value,
+};
 use std::alloc::Global;
+
+/// How many cells there are.
+const CELLS: u32 = 256;
 
 /// What the commands of a section may name.
 #[derive(Drop)]
@@ -136,6 +141,15 @@ impl Scope {
         Ok(Operand::Element(number_below(self.counts.elements, word)?))
     }
 
+    /// The number of a cell.
+    fn cell(&self, word: &[u8]) -> Result<Operand, Stop>
+        requires { is_number word.now ≡ true }
+        ensures ok { IfOk result (λ operand. IsOperand self.now.counts self.now.registers (places.Cell, word.now) operand) }
+        ensures stop { IfErr result (λ stop. SlotStop self.now.counts self.now.registers (places.Cell, word.now) stop) }
+    {
+        Ok(Operand::Cell(number_below(CELLS, word)? as u8))
+    }
+
     /// A whole number.
     fn value(&self, word: &[u8]) -> Result<Operand, Stop>
         requires number { is_integer word.now ≡ true }
@@ -173,6 +187,7 @@ impl Scope {
             Place::Variable => Ok(Operand::Variable(self.variable(slot.word)?)),
             Place::NewVariable => Ok(Operand::NewVariable(self.variable(slot.word)?)),
             Place::Element => self.element(slot.word),
+            Place::Cell => self.cell(slot.word),
             Place::Value => self.value(slot.word),
             Place::Bit => Ok(Operand::Bit(slot.word == b"1".as_slice())),
             Place::Bits => self.bits(alloc, slot.word),
@@ -198,39 +213,41 @@ impl Scope {
     }
 
     /// What words of due form stand for.
-    fn operands(&self, alloc: Global, slots: &[Slot<'_>]) -> Result<Operands, Stop>
-        requires forms { list_all has_form (map slot_of slots.now) ≡ true }
+    fn operands(&self, alloc: Global, slots: Slots<'_>) -> Result<Operands, Stop>
+        requires forms { list_all has_form (slots_of slots) ≡ true }
         requires vars { self.now.counts.vars ≤ 1024 }
         requires elements { self.now.counts.elements ≤ 1024 }
-        ensures ok { IfOk result (λ operands. (each : ListOf OperandOf) × AreOperands self.now.counts self.now.registers (map slot_of slots.now) each × AllFit self.now.counts self.now.registers no_operands each × (operands ≡ with_operands self.now.registers no_operands each)) }
-        ensures stop { IfErr result (λ stop. SlotsStop self.now.counts self.now.registers (map slot_of slots.now) stop) }
+        ensures ok { IfOk result (λ operands. (each : ListOf OperandOf) × AreOperands self.now.counts self.now.registers (slots_of slots.entry) each × AllFit self.now.counts self.now.registers no_operands each × (operands ≡ with_operands self.now.registers no_operands each)) }
+        ensures stop { IfErr result (λ stop. SlotsStop self.now.counts self.now.registers (slots_of slots.entry) stop) }
     {
         let mut operands = Operands::new(alloc);
-        for slot in slots {
-            let operand = self.operand(alloc, slot)?;
+        let mut left = slots;
+        while let Some((slot, behind)) = left.split_first() {
+            let operand = self.operand(alloc, &slot)?;
             if let Some(fault) = self.misfit(&operands, &operand) {
                 return Err(Stop::Fault(fault));
             }
             operands = operands.with(self.registers.as_slice(), operand)?;
+            left = behind;
         }
         Ok(operands)
     }
 
     /// A line of a section that is no `session`.
-    pub fn command(&self, alloc: Global, words: &[List<u8>]) -> Result<Act, Stop>
-        requires some { 0 < length words.now }
+    pub fn command(&self, alloc: Global, words: &[u8]) -> Result<Act, Stop>
+        requires some { 0 < length (split_words words.now) }
         requires vars { self.now.counts.vars ≤ 1024 }
         requires elements { self.now.counts.elements ≤ 1024 }
-        ensures ok { IfOk result (λ act. Says self.now.counts self.now.registers words.now act) }
-        ensures stop { IfErr result (λ stop. CommandStop self.now.counts self.now.registers words.now stop) }
+        ensures ok { IfOk result (λ act. Says self.now.counts self.now.registers (split_words words.now) act) }
+        ensures stop { IfErr result (λ stop. CommandStop self.now.counts self.now.registers (split_words words.now) stop) }
     {
-        let Some(line) = command_line(alloc, words)? else {
+        let Some(line) = command_line(words) else {
             return Err(Stop::Fault(FaultKind::Word));
         };
-        if !all_have_form(&line.slots) {
+        if !all_have_form(line.slots) {
             return Err(Stop::Fault(FaultKind::Word));
         }
-        let operands = self.operands(alloc, &line.slots)?;
+        let operands = self.operands(alloc, line.slots)?;
         Ok(operands.act(alloc, line.operation)?)
     }
 }

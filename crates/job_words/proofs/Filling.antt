@@ -1,17 +1,14 @@
 -- Commands in a table, and words at their places.
-use Rattle.std.proofs.Common.{◌≡◌, ℕ, zero, suc, ◌+◌, ◌<◌, ◌≤◌, ◌==◌, Bool, true, false, cond, List, [], ◌∷◌, ◌++◌, length, map, take, drop, get_or, Option, Some, None, option_map, option_and_then, add-one, refl, ap, sym, ◌∙◌, arith, append_assoc}
+use Rattle.std.proofs.Common.{◌≡◌, ℕ, zero, suc, ◌+◌, ◌<◌, ◌==◌, Bool, true, false, cond, List, [], ◌∷◌, ◌++◌, length, map, take, get_or, Option, Some, None, is_some, option_map, option_and_then, add-one, refl, ap, sym, ◌∙◌, arith}
 use Rattle.std.specs.Str.{bytes_eq}
-use Rattle.std.proofs.Math.Seq.{drop-cons}
 use Rattle.std.proofs.lemmas.Bool.{false≢true}
 use Rattle.std.proofs.lemmas.Bool.Decides.{nat_tests}
-use Rattle.std.proofs.lemmas.List.{append-nil, drop_all}
 use Rattle.job_words.specs.declared.commands.Known.{Known}
 use Rattle.job_words.specs.declared.commands.Operation.{Operation}
 use Rattle.job_words.specs.declared.commands.Place.{Place}
-use Rattle.job_words.specs.declared.slots.Slot.{Slot}
 use Rattle.job_words.specs.Text.{Word}
 use Rattle.job_words.specs.Commands.{Form, form_in, filled, command_in}
-use Rattle.job_words.specs.Slots.{form_of, slot_of, or_again}
+use Rattle.job_words.specs.Slots.{form_of, or_again, placed}
 
 -- the first command of this word
 pub found_here : (ks : List Known) (w : Word) (i : ℕ) (d : Known) → i < length ks → form_in (map form_of (take i ks)) w ≡ None → bytes_eq (get_or ks i d).word.now w ≡ true
@@ -44,83 +41,67 @@ pub none_here : (ks : List Known) (w : Word) (i : ℕ) (d : Known) → i < lengt
 none_here ks w i d lt none e = ap (λ j. form_in (map form_of (take j ks)) w) (add-one i) ∙ none_next ks w i d lt none e
 
 -- one word more at its place
-moved : (front : List (Place × Word)) (slot : Place × Word) (o : Option (List (Place × Word)))
-    → option_map (λ more. front ++ more) (option_map (λ more. slot ∷ more) o) ≡ option_map (λ more. (front ++ slot ∷ []) ++ more) o
-moved front slot None = refl
-moved front slot (Some more) = ap (λ t. Some t) (sym (append_assoc front (slot ∷ []) more))
+is_some_map : {A B : Type 0} → (f : A → B) (o : Option A) → is_some (option_map f o) ≡ is_some o
+is_some_map f None = refl
+is_some_map f (Some x) = refl
 
-pub fills_more : (due repeated : List Place) (words : List Word) (w : Word) (place : Place) (rest : List Place) (front : List (Place × Word)) → or_again due repeated ≡ place ∷ rest
-    → option_map (λ more. front ++ more) (filled due repeated (w ∷ words)) ≡ option_map (λ more. (front ++ (place, w) ∷ []) ++ more) (filled rest repeated words)
-fills_more [] [] words w place rest front e = cc
-fills_more [] (p ∷ ps) words w place rest front e =
-    let first : p ≡ place = cc in
+pub fits_more : (due repeated : List Place) (words : List Word) (w : Word) (place : Place) (rest : List Place) → or_again due repeated ≡ place ∷ rest
+    → is_some (filled due repeated (w ∷ words)) ≡ is_some (filled rest repeated words)
+fits_more [] [] words w place rest e = cc
+fits_more [] (p ∷ ps) words w place rest e =
     let others : ps ≡ rest = cc in
-    ap (λ (t : Place). option_map (λ more. front ++ more) (option_map (λ more. (t, w) ∷ more) (filled ps (p ∷ ps) words))) first
-    ∙ ap (λ (t : List Place). option_map (λ more. front ++ more) (option_map (λ more. (place, w) ∷ more) (filled t (p ∷ ps) words))) others
-    ∙ moved front (place, w) (filled rest (p ∷ ps) words)
-fills_more (p ∷ ps) repeated words w place rest front e =
-    let first : p ≡ place = cc in
+    is_some_map (λ more. (p, w) ∷ more) (filled ps (p ∷ ps) words) ∙ ap (λ (t : List Place). is_some (filled t (p ∷ ps) words)) others
+fits_more (p ∷ ps) repeated words w place rest e =
     let others : ps ≡ rest = cc in
-    ap (λ (t : Place). option_map (λ more. front ++ more) (option_map (λ more. (t, w) ∷ more) (filled ps repeated words))) first
-    ∙ ap (λ (t : List Place). option_map (λ more. front ++ more) (option_map (λ more. (place, w) ∷ more) (filled t repeated words))) others
-    ∙ moved front (place, w) (filled rest repeated words)
+    is_some_map (λ more. (p, w) ∷ more) (filled ps repeated words) ∙ ap (λ (t : List Place). is_some (filled t repeated words)) others
 
-pub fills_none : (due repeated : List Place) (w : Word) (words : List Word) → or_again due repeated ≡ [] → filled due repeated (w ∷ words) ≡ None
-fills_none [] [] w words e = refl
-fills_none [] (p ∷ ps) w words e = cc
-fills_none (p ∷ due) repeated w words e = cc
-
--- the words are read to the end
-pub fills_more_at : (due repeated : List Place) (words : List Word) (i : ℕ) (w : Word) (place : Place) (rest : List Place) (front : List (Place × Word)) → i < length words → w ≡ get_or words i w
-    → or_again due repeated ≡ place ∷ rest
-    → option_map (λ more. front ++ more) (filled due repeated (drop i words)) ≡ option_map (λ more. (front ++ (place, w) ∷ []) ++ more) (filled rest repeated (drop (i + 1) words))
-fills_more_at due repeated words i w place rest front lt at e =
-    ap (λ t. option_map (λ more. front ++ more) (filled due repeated t)) (drop-cons words i w lt ∙ ap (λ t. t ∷ drop (suc i) words) (sym at))
-    ∙ fills_more due repeated (drop (suc i) words) w place rest front e
-    ∙ ap (λ j. option_map (λ more. (front ++ (place, w) ∷ []) ++ more) (filled rest repeated (drop j words))) (sym (add-one i))
-
-pub fills_none_at : (due repeated : List Place) (words : List Word) (i : ℕ) (w : Word) → i < length words → w ≡ get_or words i w → or_again due repeated ≡ [] → filled due repeated (drop i words) ≡ None
-fills_none_at due repeated words i w lt at e =
-    ap (filled due repeated) (drop-cons words i w lt ∙ ap (λ t. t ∷ drop (suc i) words) (sym at)) ∙ fills_none due repeated w (drop (suc i) words) e
-
--- what is filled, in front of it the places before
-with_front : (operation : Operation) (front : List (Place × Word)) (o : Option (List (Place × Word)))
-    → option_map {U = Operation × List (Place × Word)} (λ slots. (operation, front ++ slots)) o ≡ option_map {U = Operation × List (Place × Word)} (λ slots. (operation, slots)) (option_map (λ more. front ++ more) o)
-with_front operation front None = refl
-with_front operation front (Some slots) = refl
-
-pub none_filled : (operation : Operation) (front front' : List (Place × Word)) (o o' : Option (List (Place × Word))) → option_map (λ more. front ++ more) o ≡ option_map (λ more. front' ++ more) o' → o' ≡ None
-    → None ≡ option_map {U = Operation × List (Place × Word)} (λ slots. (operation, front ++ slots)) o
-none_filled operation front front' o o' e none =
-    sym (with_front operation front o ∙ ap (λ t. option_map {U = Operation × List (Place × Word)} (λ slots. (operation, slots)) t) (e ∙ ap (λ t. option_map (λ more. front' ++ more) t) none))
-
-pub all_filled : (operation : Operation) (front front' : List (Place × Word)) (o o' : Option (List (Place × Word))) → option_map (λ more. front ++ more) o ≡ option_map (λ more. front' ++ more) o' → o' ≡ Some []
-    → ◌≡◌ {A = Option (Operation × List (Place × Word))} (Some (operation, front')) (option_map (λ slots. (operation, front ++ slots)) o)
-all_filled operation front front' o o' e some =
-    sym (with_front operation front o ∙ ap (λ t. option_map {U = Operation × List (Place × Word)} (λ slots. (operation, slots)) t) (e ∙ ap (λ t. option_map (λ more. front' ++ more) t) some)
-    ∙ ap (λ (t : List (Place × Word)). option_map {U = Operation × List (Place × Word)} (λ slots. (operation, slots)) (Some t)) (append-nil front'))
+pub fits_none : (due repeated : List Place) (w : Word) (words : List Word) → or_again due repeated ≡ [] → is_some (filled due repeated (w ∷ words)) ≡ false
+fits_none [] [] w words e = refl
+fits_none [] (p ∷ ps) w words e = cc
+fits_none (p ∷ due) repeated w words e = cc
 
 -- no word is left
-not_zero : (n : ℕ) → (suc n == 0) ≡ true → ⊥
-not_zero n h = grind (arith, nat_tests)
+pub fits_at_end : (due repeated : List Place) → is_some (filled due repeated []) ≡ (length due == 0)
+fits_at_end [] repeated = refl
+fits_at_end (p ∷ due) repeated = sym (not_none (length due))
+  where
+    not_none : (n : ℕ) → (suc n == 0) ≡ false
+    not_none n = grind (arith, nat_tests)
 
-due_ends : (due repeated : List Place) → (length due == 0) ≡ true → filled due repeated [] ≡ Some []
-due_ends [] repeated h = refl
-due_ends (p ∷ due) repeated h = absurd (not_zero (length due) h)
+-- words that fit, at their places
+pub placed_more : (due repeated : List Place) (words : List Word) (w : Word) (place : Place) (rest : List Place) → or_again due repeated ≡ place ∷ rest
+    → placed due repeated (w ∷ words) ≡ (place, w) ∷ placed rest repeated words
+placed_more [] [] words w place rest e = cc
+placed_more [] (p ∷ ps) words w place rest e =
+    let first : p ≡ place = cc in
+    let others : ps ≡ rest = cc in
+    ap (λ (t : Place). (t, w) ∷ placed ps (p ∷ ps) words) first ∙ ap (λ (t : List Place). (place, w) ∷ placed t (p ∷ ps) words) others
+placed_more (p ∷ ps) repeated words w place rest e =
+    let first : p ≡ place = cc in
+    let others : ps ≡ rest = cc in
+    ap (λ (t : Place). (t, w) ∷ placed ps repeated words) first ∙ ap (λ (t : List Place). (place, w) ∷ placed t repeated words) others
 
-due_left : (due repeated : List Place) → (length due == 0) ≡ false → filled due repeated [] ≡ None
-due_left [] repeated h = absurd (false≢true (sym h))
-due_left (p ∷ due) repeated h = refl
+pub placed_none : (due repeated : List Place) (w : Word) (words : List Word) → or_again due repeated ≡ [] → placed due repeated (w ∷ words) ≡ []
+placed_none [] [] w words e = refl
+placed_none [] (p ∷ ps) w words e = cc
+placed_none (p ∷ due) repeated w words e = cc
 
-pub fills_to_end : (due repeated : List Place) (words : List Word) (i : ℕ) → length words ≤ i → (length due == 0) ≡ true → filled due repeated (drop i words) ≡ Some []
-fills_to_end due repeated words i le h = ap (filled due repeated) (drop_all i words le) ∙ due_ends due repeated h
+pub no_more : (o : Option (List (Place × Word))) → is_some o ≡ false → o ≡ None
+no_more None h = refl
+no_more (Some slots) h = absurd (false≢true (sym h))
 
-pub fills_too_few : (due repeated : List Place) (words : List Word) (i : ℕ) → length words ≤ i → (length due == 0) ≡ false → filled due repeated (drop i words) ≡ None
-fills_too_few due repeated words i le h = ap (filled due repeated) (drop_all i words le) ∙ due_left due repeated h
+-- words that fit are at their places
+pub fitting : (due repeated : List Place) (words : List Word) → is_some (filled due repeated words) ≡ true → filled due repeated words ≡ Some (placed due repeated words)
+fitting [] repeated [] h = refl
+fitting (p ∷ due) repeated [] h = absurd (false≢true h)
+fitting [] [] (w ∷ words) h = absurd (false≢true h)
+fitting [] (p ∷ ps) (w ∷ words) h =
+    ap (option_map (λ more. (p, w) ∷ more)) (fitting ps (p ∷ ps) words (sym (is_some_map (λ more. (p, w) ∷ more) (filled ps (p ∷ ps) words)) ∙ h))
+fitting (p ∷ ps) repeated (w ∷ words) h =
+    ap (option_map (λ more. (p, w) ∷ more)) (fitting ps repeated words (sym (is_some_map (λ more. (p, w) ∷ more) (filled ps repeated words)) ∙ h))
 
 -- the line of a command that was found
-pub filled_is : (forms : List Form) (before : List (Place × Word)) (command : Word) (words : List Word) (own : Known) (slots : List Slot) → Some (form_of own) ≡ form_in forms command → map slot_of slots ≡ before
-    → option_map {U = Operation × List (Place × Word)} (λ more. (own.operation, map slot_of slots ++ more)) (filled own.places.now own.repeated.now words) ≡ command_in forms before command words
-filled_is forms before command words own slots found e =
-    ap (λ (t : List (Place × Word)). option_map {U = Operation × List (Place × Word)} (λ more. (own.operation, t ++ more)) (filled own.places.now own.repeated.now words)) e
-    ∙ ap (λ o. option_and_then (λ known. option_map {U = Operation × List (Place × Word)} (λ more. (known.operation, before ++ more)) (filled known.places known.repeated words)) o) found
+pub filled_is : (forms : List Form) (before : List (Place × Word)) (command : Word) (words : List Word) (own : Known) → Some (form_of own) ≡ form_in forms command
+    → option_map {U = Operation × List (Place × Word)} (λ more. (own.operation, before ++ more)) (filled own.places.now own.repeated.now words) ≡ command_in forms before command words
+filled_is forms before command words own found =
+    ap (λ o. option_and_then (λ known. option_map {U = Operation × List (Place × Word)} (λ more. (known.operation, before ++ more)) (filled known.places known.repeated words)) o) found

@@ -8,7 +8,7 @@ use Rattle.edge_bits.specs.declared.edges.Kind.TheVariants.{Bdd, Add, Zdd}
 use Rattle.job_words.specs.declared.commands.Operation.{Operation}
 use Rattle.job_words.specs.declared.commands.Operation.TheVariants as does
 use Rattle.job_words.specs.declared.commands.Place.{Place}
-use Rattle.job_words.specs.declared.commands.Place.TheVariants.{Fresh, Held, Any, Alike, Variable, NewVariable, Element, Value, Bit, Bits}
+use Rattle.job_words.specs.declared.commands.Place.TheVariants.{Fresh, Held, Any, Alike, Variable, NewVariable, Element, Cell, Value, Bit, Bits}
 use Rattle.job_words.specs.Text.{Word, is_number, is_integer, is_name, is_bit, is_bits}
 
 -- A command: its word, what it does, and what is due behind the word. First come the places, and then those that repeat,
@@ -74,15 +74,19 @@ assigning =
     ∷ form (codes "flip") does.Change (zdd ∷ Element ∷ []) []
     ∷ form (codes "product") does.Product (zdd ∷ zdd ∷ []) []
     ∷ form (codes "quotient") does.Quotient (zdd ∷ zdd ∷ []) []
+    ∷ form (codes "copy") does.Copy (Any ∷ []) []
+    ∷ form (codes "fetch") does.Fetch (Cell ∷ Any ∷ []) []
     ∷ []
 
 -- the other commands, by their first word
 abbrev pub telling : List Form
 telling =
-    form (codes "drop") does.Drop (Any ∷ []) []
+    form (codes "post") does.Post (Cell ∷ Any ∷ []) []
+    ∷ form (codes "drop") does.Drop (Any ∷ []) []
     ∷ form (codes "same") does.Same (Any ∷ Alike ∷ []) []
     ∷ form (codes "leq") does.Leq (bdd ∷ bdd ∷ []) []
     ∷ form (codes "eval") does.Eval (Any ∷ Bits ∷ []) []
+    ∷ form (codes "sweep") does.Sweep [] []
     ∷ []
 
 -- the words of the commands that make ADDs
@@ -97,7 +101,7 @@ making_zdds =
     codes "empty" ∷ codes "base" ∷ codes "single" ∷ codes "union" ∷ codes "meet" ∷ codes "diff" ∷ codes "on" ∷ codes "off" ∷ codes "flip"
     ∷ codes "product" ∷ codes "quotient" ∷ []
 
--- the kind of what a command makes, by its word
+-- the kind of what a command makes, by its word; `copy` and `fetch` have that of their register
 abbrev pub kind_made : Word → Kind
 kind_made command =
     if list_any (λ word. bytes_eq word command) making_adds then Add else
@@ -145,6 +149,7 @@ has_form (Alike, word) = is_name word
 has_form (Variable, word) = is_number word
 has_form (NewVariable, word) = is_number word
 has_form (Element, word) = is_number word
+has_form (Cell, word) = is_number word
 has_form (Value, word) = is_integer word
 has_form (Bit, word) = is_bit word
 has_form (Bits, word) = is_bits word

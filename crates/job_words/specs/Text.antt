@@ -15,6 +15,10 @@ is_allowed b = b == 9 || b == 13 || (nat_le 32 b && nat_le b 126)
 abbrev pub is_separator : ℕ → Bool
 is_separator b = b == 32 || b == 9 || b == 13
 
+-- no byte of the word separates words
+abbrev pub is_whole : Word → Bool
+is_whole word = list_all (λ b. not (is_separator b)) word
+
 -- a last line that is empty is none: it lies behind the last line feed
 abbrev pub without_empty_end : List (List ℕ) → List (List ℕ)
 without_empty_end [] = []
@@ -25,9 +29,17 @@ without_empty_end (line ∷ lines) = line ∷ without_empty_end lines
 unfoldable pub lines_of : List ℕ → List (List ℕ)
 lines_of text = without_empty_end (slice_split (λ b. b == 10) text)
 
--- what stands between blanks, tabs and carriage returns, up to a `#`
+-- what stands between blanks, tabs and carriage returns
+unfoldable pub split_words : List ℕ → List Word
+split_words bytes = filter (λ word. not (length word == 0)) (slice_split is_separator bytes)
+
+-- the bytes as a word, where there are any
+abbrev pub some_word : List ℕ → List Word
+some_word bytes = if not (length bytes == 0) then bytes ∷ [] else []
+
+-- the words of a line, up to a `#`
 unfoldable pub words_of : List ℕ → List Word
-words_of line = filter (λ word. not (length word == 0)) (slice_split is_separator (before_first (λ b. b == 35) line))
+words_of line = split_words (before_first (λ b. b == 35) line)
 
 -- the words of a line, and none where a byte may not stand
 abbrev pub line_words : List ℕ → Option (List Word)

@@ -50,14 +50,18 @@ pub enum Operation {
     Change,
     Product,
     Quotient,
+    Copy,
+    Fetch,
+    Post,
     Drop,
     Same,
     Leq,
     Eval,
+    Sweep,
 }
 
 impl Operation {
-    /// Whether it is one on BDDs alone, or makes nothing.
+    /// Whether it neither takes nor makes ADDs or families alone.
     pub fn is_logical(self) -> bool
         ensures { result ≡ is_logical self }
     {
@@ -107,6 +111,8 @@ pub enum Place {
     NewVariable,
     /// The number of an element.
     Element,
+    /// The number of a cell, from 0 to 255.
+    Cell,
     /// A whole number from -2^46 to 2^46 - 1.
     Value,
     /// `0` or `1`.
@@ -134,7 +140,7 @@ const ADD: Place = Place::Held(Kind::Add);
 const ZDD: Place = Place::Held(Kind::Zdd);
 
 /// The commands that assign, by the word behind `r =`.
-const ASSIGNING: [Known; 39] = [
+const ASSIGNING: [Known; 41] = [
     Known {
         word: b"true",
         operation: Operation::One,
@@ -369,10 +375,28 @@ const ASSIGNING: [Known; 39] = [
         places: &[ZDD, ZDD],
         repeated: &[],
     },
+    Known {
+        word: b"copy",
+        operation: Operation::Copy,
+        places: &[Place::Any],
+        repeated: &[],
+    },
+    Known {
+        word: b"fetch",
+        operation: Operation::Fetch,
+        places: &[Place::Cell, Place::Any],
+        repeated: &[],
+    },
 ];
 
 /// The other commands, by their first word.
-const TELLING: [Known; 4] = [
+const TELLING: [Known; 6] = [
+    Known {
+        word: b"post",
+        operation: Operation::Post,
+        places: &[Place::Cell, Place::Any],
+        repeated: &[],
+    },
     Known {
         word: b"drop",
         operation: Operation::Drop,
@@ -395,6 +419,12 @@ const TELLING: [Known; 4] = [
         word: b"eval",
         operation: Operation::Eval,
         places: &[Place::Any, Place::Bits],
+        repeated: &[],
+    },
+    Known {
+        word: b"sweep",
+        operation: Operation::Sweep,
+        places: &[],
         repeated: &[],
     },
 ];

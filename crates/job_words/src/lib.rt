@@ -6,5 +6,7 @@ mod slots;
 mod text;
 
 pub use commands::{Operation, Place, kind_made};
-pub use slots::{Line, Slot, all_have_form, as_assignment, command_line};
-pub use text::{bits_of, cut_line, integer_value, is_number, number_value, words};
+pub use slots::{Line, Slot, Slots, all_have_form, as_assignment, command_line};
+pub use text::{
+    before_byte, bits_of, cut_line, first_word, integer_value, is_number, number_value, words,
+};

@@ -1,9 +1,9 @@
 //! Lines and words.
 
-ghost use Rattle.std.specs.Prelude.{◌≡◌, ◌∷◌, ◌<◌, ◌≤◌, ◌^◌, ◌-◌, min, length, IfOk, MatchOption, ◌||◌, IfSome, IfNone, Some, None, true, false, position, map, filter, not, is_some, ◌==◌};
-ghost use Rattle.std.specs.List.{list_all, before_first, position_or_len, slice_split};
+ghost use Rattle.std.specs.Prelude.{◌≡◌, ◌∷◌, [], ◌++◌, ◌<◌, ◌≤◌, ◌^◌, ◌-◌, min, length, IfOk, MatchOption, ◌||◌, IfSome, IfNone, Some, None, true, false, position, ◌==◌};
+ghost use Rattle.std.specs.List.{list_all, before_first, position_or_len};
 ghost use Rattle.std.specs.Str.Parse.{digits_value};
-ghost use Rattle.job_words.specs.Text.{is_bit, is_bits, bits_in, bit_word, lines_of, words_of, line_words, is_allowed, is_separator, is_number, is_negative, magnitude, is_integer, integer_value, IsInteger, is_name, is_letter, is_name_byte};
+ghost use Rattle.job_words.specs.Text.{is_bit, is_bits, bits_in, bit_word, is_whole, lines_of, split_words, some_word, line_words, is_allowed, is_separator, is_number, is_negative, magnitude, is_integer, integer_value, IsInteger, is_name, is_letter, is_name_byte};
 ghost use Rattle.function_laws.specs.Numbers.{is_value};
 ghost use Rattle.std.specs.Char.{is_ascii_digit};
 
@@ -56,11 +56,11 @@ fn is_clean(line: &[u8]) -> bool
     line.iter().all(|b| allowed(*b))
 }
 
-/// What stands before a `#`.
-fn before_comment(line: &[u8]) -> &[u8]
-    ensures { result.now ≡ before_first (λ b. b == 35) line.now }
+/// What stands before the first such byte, or all.
+pub fn before_byte(bytes: &[u8], byte: u8) -> &[u8]
+    ensures { result.now ≡ before_first (λ b. b == byte) bytes.now }
 {
-    &line[..place_of(line, b'#')]
+    &bytes[..place_of(bytes, byte)]
 }
 
 fn letter(b: u8) -> bool
@@ -89,37 +89,61 @@ pub fn is_name(word: &[u8]) -> bool
     !word.is_empty() && letter(word[0]) && all_name_bytes(word) && word.len() <= 32
 }
 
-/// The pieces between separators, empty ones too.
-fn pieces<'a>(alloc: Global, line: &'a [u8]) -> Result<Vec<&'a [u8]>, AllocError>
-    ensures { IfOk result (λ v. map (λ x. x.now) v.items ≡ slice_split is_separator line.now) }
+/// Where the first separator stands, or the length.
+fn place_of_blank(line: &[u8]) -> usize
+    ensures place { result ≡ position_or_len is_separator line.now }
+    ensures within { result ≤ length line.now }
 {
-    line.split(|b| separates(*b)).collect(alloc)
+    position_of_blank(line).unwrap_or(line.len())
 }
 
-/// A copy of each piece that is not empty.
-fn some_of(alloc: Global, pieces: &[&[u8]]) -> Result<List<List<u8>>, AllocError>
-    ensures { IfOk result (λ words. words ≡ filter (λ word. not (length word == 0)) (map (λ x. x.now) pieces.now)) }
+fn position_of_blank(line: &[u8]) -> Option<usize>
+    ensures { result ≡ position is_separator line.now }
 {
-    let mut words = List::new(alloc);
-    for piece in pieces {
-        if piece.len() != 0 {
-            words.push(List::from_vec(Vec::from_slice(alloc, piece)?))?;
+    line.iter().position(|b| separates(*b))
+}
+
+/// What stands before the first separator, and what stands behind it.
+fn cut_piece(line: &[u8]) -> (&[u8], &[u8])
+    requires { 0 < length line.now }
+    ensures words { split_words line.now ≡ some_word result.0.now ++ split_words result.1.now }
+    ensures whole { is_whole result.0.now ≡ true }
+    ensures shorter { length result.1.now < length line.now }
+{
+    let end = place_of_blank(line);
+    if end < line.len() {
+        (&line[..end], &line[end + 1..])
+    } else {
+        (line, &line[line.len()..])
+    }
+}
+
+/// The first word of a line, and what stands behind it.
+pub fn first_word(line: &[u8]) -> Option<(&[u8], &[u8])>
+    ensures words { MatchOption result (split_words line.now ≡ []) (λ p. split_words line.now ≡ p.0.now ∷ split_words p.1.now) }
+    ensures whole { IfSome result (λ p. is_whole p.0.now ≡ true) }
+{
+    let mut rest = line;
+    while !rest.is_empty() {
+        let (word, after) = cut_piece(rest);
+        if !word.is_empty() {
+            return Some((word, after));
         }
+        rest = after;
     }
-    Ok(words)
+    None
 }
 
-/// The words of a line; none where a byte may not stand in it.
+/// The part of a line whose words are those of the line; none where a byte may not stand in it.
 #[tactic(auto, unfolding(crate::specs::Text::words_of))]
-pub fn words(alloc: Global, line: &[u8]) -> Result<Option<List<List<u8>>>, AllocError>
-    ensures { IfOk result (λ words. words ≡ line_words line.now) }
+pub fn words(line: &[u8]) -> Option<&[u8]>
+    ensures { MatchOption result (line_words line.now ≡ None) (λ part. line_words line.now ≡ Some (split_words part.now)) }
 {
-    if !is_clean(line) {
-        return Ok(None);
+    if is_clean(line) {
+        Some(before_byte(line, b'#'))
+    } else {
+        None
     }
-    let pieces = pieces(alloc, before_comment(line))?;
-    let words = some_of(alloc, &pieces)?;
-    Ok(Some(words))
 }
 
 const MOST: u64 = 100_000_000_000_000_000;

@@ -1,121 +1,165 @@
 -- The drops at the end of a session.
-use Rattle.std.proofs.Common.{◌≡◌, ◌≢◌, ℕ, zero, suc, ◌+◌, ◌<◌, ◌≤◌, Bool, true, false, not, ◌&&◌, List, [], ◌∷◌, ◌++◌, length, map, take, Option, Some, None, refl, sym, ap, ap₂, ◌∙◌, subst, arith, zero-add, codes, append_assoc}
-use Rattle.std.proofs.Math.ListN.{set}
-use Rattle.std.specs.Prelude.{slice_get, slice_index, filter, if◌then◌else◌, option_map}
-use Rattle.std.specs.List.{list_any, range_with_len}
+use Rattle.std.proofs.Common.{◌≡◌, ℕ, zero, suc, ◌+◌, ◌<◌, ◌≤◌, inr, ⊎_elim, IsTrue, ◌↔◌, Bool, true, false, cond, not, ◌&&◌, List, [], ◌∷◌, ◌++◌, length, map, take, Option, Some, None, refl, sym, ap, ap₂, ◌∙◌, subst, arith, append_assoc}
+use Rattle.std.specs.Prelude.{filter, if◌then◌else◌, is_some, option_map, slice_get}
+use Rattle.std.specs.List.{All, list_any}
+use Rattle.std.proofs.lemmas.List.Elements.{All-head, All-tail}
 use Rattle.std.proofs.lemmas.Bool.{false≢true}
-use Rattle.std.proofs.lemmas.List.{append-nil, length-map, map-append, take_all}
-use Rattle.std.proofs.lemmas.List.FromFn.{length-map-range_with_len, get_or-map-range_with_len}
-use Rattle.std.proofs.lemmas.Option.{slice_get-map, slice_get-get_or}
-use Rattle.function_laws.specs.declared.history.Name.{Name}
+use Rattle.std.proofs.lemmas.List.{append-nil, length-append, length-map, map-append, take_all}
+use Rattle.std.proofs.lemmas.Option.{slice_get_within, slice_get-map}
 use Rattle.function_laws.specs.declared.history.Call.{Call}
+use Rattle.function_laws.specs.declared.history.Call.TheVariants as calls
+use Rattle.function_laws.specs.declared.history.Function.{Function}
+use Rattle.function_laws.specs.declared.history.Name.{Name}
+use Rattle.function_laws.specs.SessionEntries.{entry}
+use Rattle.function_laws.specs.Tables.{same_name}
+use Rattle.dd_session.specs.Managing.{stands_for}
+use Rattle.dd_session.specs.Sessions.{kind_of}
 use Rattle.job_text.specs.declared.job.Act.{Act}
 use Rattle.job_text.specs.declared.job.Act.TheVariants.{Drop}
 use Rattle.job_text.specs.declared.job.Command.{Command}
-use Rattle.job_text.specs.declared.history_line.Reply.TheVariants as replies
+use Rattle.job_text.specs.declared.job.Counts.{Counts}
 use Rattle.job_words.specs.Text.{Word}
 use Rattle.job_text.specs.Histories.{Held, HistoryLine, drop_of, drops, line_text, registers_of, stops}
-use Rattle.net_jobs.specs.declared.playing.Answer.{Answer}
-use Rattle.net_jobs.specs.declared.playing.Progress.{Progress}
-use Rattle.node_slots.specs.Stores.{Plain, plain_view}
-use Rattle.node_slots.specs.Views.{View}
-use Rattle.net_jobs.specs.Agreement.{AreStored, IsFilled, Rows, is_dropped, is_gone, name_of}
-use Rattle.net_jobs.specs.Playing.{CanCall, counts_at, DropsOne, DropsTheRest, IsAnswered, IsHeld, RowsAfter, StandsAt, assigned_after, call_with, makes, register_at, rows_left, spoken, target_at}
-use Rattle.net_jobs.proofs.ListLemmas.{slice_get-set_other}
-use Rattle.net_jobs.proofs.StandsLemmas.{said_line, stands-after, stands-along}
+use Rattle.dd_session.specs.Sessions.{IsLive, IsLiveAs, Seen, names_in}
+use Rattle.net_jobs.specs.declared.answering.Answered.{Answered}
+use Rattle.net_jobs.specs.declared.registers.Assigned.{Assigned}
+use Rattle.net_jobs.specs.declared.section.Script.{Script}
+use Rattle.net_jobs.specs.Sections.{written_as}
+use Rattle.net_jobs.specs.Saying.{CanCall, DropsOne, DropsTheRest, IsAnswered, IsKept, Stands, assigned_after, call_of, drop_words, is_dropped, is_none, name_at, name_in, register_of, spoken}
+use Rattle.net_jobs.proofs.CallLaws.{count_of, left, names_given}
+use Rattle.net_jobs.proofs.CoverLemmas.{name-apart, numbered}
+use Rattle.net_jobs.proofs.StandsLemmas.{said_line, stands-after}
 
--- a row that was dropped says nothing
-pub drops_none : (start : Plain) (commands : List Command) (play : Progress) (said : List HistoryLine) (row : ℕ) → is_dropped play.session.rows.items row ≡ true
-    → StandsAt start commands play said → DropsOne start commands play play said row
-drops_none start commands play said row gone stands = record {
-  lines = [];
-  stands = subst (λ lines. StandsAt start commands play lines) (sym (append-nil said)) stands;
-  drops_it = sym (ap (λ b. if b then [] else drop_of (register_at commands play.assigned.items row) ∷ []) gone);
-}
+-- a drop gives no name
+pub drops_none : (old new : Seen) (a : Name) (answered : Answered) → IsAnswered old new (calls.DropRow a) answered → answered.made ≡ None
+drops_none old new a answered is = by answered.made is.made_if
+  where
+    by : (o : Option Name) → is_some o ≡ (false && not (stops answered.reply)) → o ≡ None
+    by None none = refl
+    by (Some name) none = absurd (false≢true (sym none))
 
--- a row that is there and was not dropped is held
-pub held_at : (rows : Rows) (row : ℕ) → row < length rows → is_dropped rows row ≡ false → IsHeld rows row
-held_at [] row below kept = absurd (omega arith)
-held_at (None ∷ rows) zero below kept = absurd (false≢true (sym kept))
-held_at (Some f ∷ rows) zero below kept = (f.kind, (f.edge, refl))
-held_at (row ∷ rows) (suc i) below kept = held_at rows i (omega arith) kept
+-- and leaves no more rows
+pub drop_few : (old new : Seen) (a : Name) (answered : Answered) → IsAnswered old new (calls.DropRow a) answered → length new.rows ≤ length old.rows
+drop_few old new a answered is =
+    let none : names_in is.reply ≡ 0 = names_given is.reply ∙ ap count_of (is.gives ∙ drops_none old new a answered is) in
+    omega (arith, none, is.called.few)
 
--- a drop makes no row
-made_none : (w w' : View) (old new : Rows) (act : Act) (answer : Answer) (row : ℕ) → act ≡ Drop row → IsAnswered w old w' new act answer → answer.made ≡ false
-made_none w w' old new act answer row is answered = answered.made_if ∙ ap (λ a. makes a && not (stops answer.reply)) is
+-- and is one entry more
+pub one_entry : (old new : Seen) (call : Call) (answered : Answered) → IsAnswered old new call answered → length new.entries ≤ length old.entries + 1
+one_entry old new call answered is = omega (arith, ap length is.called.entries_are, length-append old.entries (entry answered.place old.number call is.reply ∷ []))
 
-pub rows_dropped : (w w' : View) (old new : Rows) (act : Act) (answer : Answer) (row : ℕ) → act ≡ Drop row → IsAnswered w old w' new act answer → new ≡ set old row None
-rows_dropped w w' old new act answer row is answered =
-    (subst (λ m. RowsAfter m old new act answered.reply) (made_none w w' old new act answer row is answered) answered.rows).1 ∙ ap (rows_left old) is
+some_live : (o : Option Function) → is_none o ≡ false → (f : Function) × (o ≡ Some f)
+some_live None is = absurd (false≢true (sym is))
+some_live (Some f) is = (f, refl)
 
-pub others_kept : (old new : Rows) (row other : ℕ) → new ≡ set old row None → other ≢ row → is_dropped new other ≡ is_dropped old other
-others_kept old new row other is apart = ap (λ rows. is_dropped rows other) is ∙ ap is_gone (slice_get-set_other old None row other apart)
+-- whether a name is live tells what it stands for
+pub gone_if : (s : Seen) (name : Name) (live : Bool) → IsTrue live ↔ IsLive s name → live ≡ false → is_none (stands_for s.rows name) ≡ true
+gone_if s name live tells off = by (stands_for s.rows name) refl
+  where
+    by : (o : Option Function) → stands_for s.rows name ≡ o → is_none (stands_for s.rows name) ≡ true
+    by None at = ap is_none at
+    by (Some f) at = absurd (false≢true (sym off ∙ tells.1 (kind_of f, (f, at, refl))))
 
--- a row that was not dropped says its drop
-pub drops_one : (start : Plain) (commands : List Command) (old new : Progress) (said : List HistoryLine) (row : ℕ) (words : List Word) (act : Act) (answer : Answer)
-    → StandsAt start commands old said → IsAnswered (plain_view old.session.store) old.session.rows.items (plain_view new.session.store) new.session.rows.items act answer
-    → CanCall (counts_at old.session.store) old.session.rows.items act → (answer.reply ≡ replies.Full → IsFilled new.session.store)
-    → act ≡ Drop row → words ≡ codes "drop" ∷ target_at commands (slice_index old.assigned.items row) ∷ [] → is_dropped old.session.rows.items row ≡ false
-    → new.assigned.items ≡ old.assigned.items → new.text.items ≡ old.text.items ++ line_text old.place 0 words answer.reply
-    → new.place ≡ old.place + 1 → DropsOne start commands old new said row
-drops_one start commands old new said row words act answer stands answered can filled is words_are kept assigned text place =
-    let w = plain_view old.session.store in
-    let w' = plain_view new.session.store in
-    let made = made_none w w' old.session.rows.items new.session.rows.items act answer row is answered in
+pub kept_if : (s : Seen) (name : Name) → IsLive s name → is_none (stands_for s.rows name) ≡ false
+kept_if s name live = ap is_none live.1.1
+
+-- a live register may be dropped
+pub can_drop : (n : Counts) (s : Seen) (names : List Assigned) (row : ℕ) (assigned : Assigned) (act : Act) → slice_get names row ≡ Some assigned → act ≡ Drop row → IsLive s assigned.name → CanCall n s names act
+can_drop n s names row assigned act at is live =
+    let named : name_at names row ≡ assigned.name = ap name_in at in
+    subst (λ (a : Act). CanCall n s names a) (sym is) (live.0, (slice_get_within names row assigned at, subst (IsLiveAs live.0 s) (sym named) live.1))
+
+pub drops_live : (commands : List Command) (old new : Seen) (before after : Script) (row : ℕ) (assigned : Assigned) (command : Command) (answered : Answered) → slice_get before.names.items row ≡ Some assigned
+    → command.act ≡ Drop row → command.words ≡ drop_words commands assigned → is_none (stands_for old.rows assigned.name) ≡ false → IsAnswered old new (call_of before.names.items command.act) answered
+    → map written_as after.lines.items ≡ map written_as before.lines.items ++ (answered.place, line_text answered.place old.number command.words answered.reply) ∷ []
+    → after.names.items ≡ before.names.items → DropsOne commands old new before after row assigned
+drops_live commands old new before after row assigned command answered at act words kept is lines names =
+    let named : name_at before.names.items row ≡ assigned.name = ap name_in at in
+    let call : call_of before.names.items command.act ≡ calls.DropRow assigned.name = ap (call_of before.names.items) act ∙ ap calls.DropRow named in
+    let dropped : IsAnswered old new (calls.DropRow assigned.name) answered = subst (λ (c : Call). IsAnswered old new c answered) call is in
+    inr (
+      kept,
+      (
+        answered,
+        record {
+          is = dropped;
+          lines = lines ∙ ap (λ ws. map written_as before.lines.items ++ (answered.place, line_text answered.place old.number ws answered.reply) ∷ []) words;
+          names = names ∙ sym (ap (λ made. assigned_after made row before.names.items) (drops_none old new assigned.name answered dropped));
+        },
+      ),
+    )
+
+-- the register's line, or none where it was dropped before
+abbrev drop_line : Bool → List Command → Assigned → List (List Word × Call)
+drop_line gone commands assigned = if gone then [] else drop_of (register_of commands assigned) ∷ []
+
+-- What a register's turn adds to the lines, and leaves of the other names.
+pub record Turned (start now new : Seen) (commands : List Command) (after : Script) (assigned : Assigned) (said : List HistoryLine) : Type 0 where
+  pub added : List HistoryLine
+  pub stands : Stands start new commands after.names.items after.lines.items (said ++ added)
+  pub says : map spoken added ≡ drop_line (is_none (stands_for now.rows assigned.name)) commands assigned
+  pub others : (name : Name) → same_name name assigned.name ≡ false → stands_for new.rows name ≡ stands_for now.rows name
+
+turned : (start now new : Seen) (commands : List Command) (before after : Script) (row : ℕ) (assigned : Assigned) (said : List HistoryLine) → slice_get before.names.items row ≡ Some assigned
+    → Stands start now commands before.names.items before.lines.items said → DropsOne commands now new before after row assigned → Turned start now new commands after assigned said
+turned start now new commands before after row assigned said at stands drops_it = ⊎_elim
+    (λ gone. record {
+      added = [];
+      stands = subst (λ lines. Stands start new commands after.names.items after.lines.items lines) (sym (append-nil said))
+          (subst (λ (s : Seen). Stands start s commands after.names.items after.lines.items said) (sym gone.1)
+          (subst (λ (x : Script). Stands start now commands x.names.items x.lines.items said) (sym gone.2) stands));
+      says = sym (ap (λ b. drop_line b commands assigned) gone.0);
+      others = λ name apart. ap (λ (s : Seen). stands_for s.rows name) gone.1;
+    })
+    (λ live.
+    let answered = live.1.0 in
+    let spoke = live.1.1 in
+    let none = drops_none now new assigned.name answered spoke.is in
+    let named : name_at before.names.items row ≡ assigned.name = ap name_in at in
+    let below = slice_get_within before.names.items row assigned at in
+    let generation = numbered before.names.items start.adds stands.generations row below in
+    let fresh : (name : Name) → now.adds ≤ name.generation → drops name (calls.DropRow assigned.name) ≡ false = λ name from.
+    name-apart name assigned.name (λ e. omega (arith, e, from, below, generation, stands.adds, ap (λ (x : Name). x.generation) named)) in
+    let line = said_line start now new commands before.names.items before.lines.items after.lines.items said (drop_words commands assigned) (calls.DropRow assigned.name) answered row stands spoke.is refl fresh in
     record {
-      lines = said_line start old.session.store new.session.store commands old.session.rows.items new.session.rows.items old.assigned.items old.text.items old.place 0 said words act answer stands answered can filled ∷ [];
-      stands = stands-along start new.session.store commands new.session.rows.items (assigned_after answer.made old.assigned.items 0) new.assigned.items new.text.items new.place _
-          (assigned ∙ sym (ap (λ m. assigned_after m old.assigned.items 0) made))
-          (stands-after start old.session.store new.session.store commands old.session.rows.items new.session.rows.items old.assigned.items old.text.items old.place 0 said words act answer stands answered can filled
-          new.text.items new.place (λ true_made. absurd (false≢true (sym made ∙ true_made))) text place);
-      drops_it = ap₂ (λ (w : List Word) (c : Call). (w, c) ∷ []) words_are (ap call_with is)
-          ∙ sym (ap (λ b. if b then [] else drop_of (register_at commands old.assigned.items row) ∷ []) kept);
-    }
-
-pub kept_if : (live gone : Bool) → live ≡ not gone → live ≡ true → gone ≡ false
-kept_if live true is on = absurd (false≢true (sym is ∙ on))
-kept_if live false is on = refl
-
-pub gone_if : (live gone : Bool) → live ≡ not gone → live ≡ false → gone ≡ true
-gone_if live true is off = refl
-gone_if live false is off = absurd (false≢true (sym off ∙ is))
+      added = line ∷ [];
+      stands = subst (λ ns. Stands start new commands ns after.lines.items (said ++ line ∷ [])) (sym spoke.names)
+          (stands-after start now new commands before.names.items before.lines.items after.lines.items said (drop_words commands assigned) (calls.DropRow assigned.name) answered row stands spoke.is refl fresh
+          (λ made. absurd (false≢true (sym (ap is_some none) ∙ made))) spoke.lines);
+      says = sym (ap (λ b. drop_line b commands assigned) live.0);
+      others = λ name apart. left now new (calls.DropRow assigned.name) (spoke.is).reply answered.place (spoke.is).called ((spoke.is).gives ∙ none) name
+          ∙ ap (λ b. cond b None (stands_for now.rows name)) apart;
+    })
+    drops_it
 
 -- the lines do not drop the register
 abbrev is_left : List HistoryLine → Held → Bool
 is_left said register = not (list_any (λ line. drops register.name line.entry.call) said)
 
+-- The registers of the lines before the drops, up to so many, were dropped; the others are as they were.
+pub record Dropping (start old now : Seen) (commands : List Command) (before script : Script) (row : ℕ) (said : List HistoryLine) : Type 0 where
+  pub dropped : List HistoryLine
+  pub stands : Stands start now commands script.names.items script.lines.items (said ++ dropped)
+  pub says : map spoken dropped ≡ map drop_of (filter (is_left said) (take row (registers_of said)))
+  pub others : (k : ℕ) → row ≤ k → k < length before.names.items → stands_for now.rows (name_at before.names.items k) ≡ stands_for old.rows (name_at before.names.items k)
+
+-- a register is live where the lines do not drop it
+live_at : (s : Seen) (commands : List Command) (names : List Assigned) (said : List HistoryLine) (row : ℕ) (assigned : Assigned) → slice_get names row ≡ Some assigned
+    → All (λ (a : Assigned). is_dropped said a.name ≡ is_none (stands_for s.rows a.name)) names → is_dropped said assigned.name ≡ is_none (stands_for s.rows assigned.name)
+live_at s commands [] said row assigned at live = cc
+live_at s commands (a ∷ names) said zero assigned at live =
+    let same : a ≡ assigned = cc in
+    subst (λ (x : Assigned). is_dropped said x.name ≡ is_none (stands_for s.rows x.name)) same (All-head (λ (x : Assigned). is_dropped said x.name ≡ is_none (stands_for s.rows x.name)) a names live)
+live_at s commands (a ∷ names) said (suc row) assigned at live =
+    live_at s commands names said row assigned at (All-tail (λ (x : Assigned). is_dropped said x.name ≡ is_none (stands_for s.rows x.name)) a names live)
+
 -- So many registers are dropped.
-pub record DropsUpTo (commands : List Command) (start play : Progress) (row : ℕ) : Type 0 where
-  pub lines : (first : Plain) (said : List HistoryLine) → StandsAt first commands start said → (dropped : List HistoryLine) × StandsAt first commands play (said ++ dropped)
-      × (map spoken dropped ≡ map drop_of (filter (λ register. not (list_any (λ line. drops register.name line.entry.call) said)) (take row (registers_of said))))
-  pub others : (other : ℕ) → row ≤ other → is_dropped play.session.rows.items other ≡ is_dropped start.session.rows.items other
-  pub assigned : play.assigned.items ≡ start.assigned.items
-  pub rows : length play.session.rows.items ≡ length start.session.rows.items
-  pub stored : AreStored (plain_view play.session.store) play.session.rows.items
-  pub place : play.place ≤ start.place + row
-
-register_from : (o : Option Held) (word : Word) (name : Name) → option_map (λ register. register.word) o ≡ Some word → option_map (λ register. register.name) o ≡ Some name
-    → o ≡ Some (record { word = word; name = name })
-register_from None word name is_word is_name = cc
-register_from (Some register) word name is_word is_name =
-    let same_word : register.word ≡ word = cc in
-    let same_name : register.name ≡ name = cc in
-    ap₂ (λ (w : Word) (n : Name). Some (record { word = w; name = n })) same_word same_name
-
--- the register of a row
-register_of : (first : Plain) (commands : List Command) (play : Progress) (said : List HistoryLine) (row : ℕ) → StandsAt first commands play said → row < length play.session.rows.items
-    → slice_get (registers_of said) row ≡ Some (register_at commands play.assigned.items row)
-register_of first commands play said row stands below =
-    let rows = play.session.rows.items in
-    let assigned = play.assigned.items in
-    let at_word : slice_get (map (target_at commands) assigned) row ≡ Some (target_at commands (slice_index assigned row)) =
-    slice_get-map (target_at commands) assigned row ∙ ap (option_map (target_at commands)) (slice_get-get_or assigned row 0 (omega (arith, stands.count))) in
-    let at_name : slice_get (map name_of (range_with_len 0 (length rows))) row ≡ Some (name_of row) =
-    slice_get-get_or (map name_of (range_with_len 0 (length rows))) row (name_of row) (omega (arith, length-map-range_with_len name_of 0 (length rows)))
-    ∙ ap (λ (x : Name). Some x) (get_or-map-range_with_len name_of 0 (length rows) row row (name_of row) below (zero-add row)) in
-    register_from (slice_get (registers_of said) row) (target_at commands (slice_index assigned row)) (name_of row)
-    (sym (slice_get-map (λ register. register.word) (registers_of said) row) ∙ ap (λ xs. slice_get xs row) stands.words ∙ at_word)
-    (sym (slice_get-map (λ register. register.name) (registers_of said) row) ∙ ap (λ xs. slice_get xs row) stands.names ∙ at_name)
+pub record DropsUpTo (old now : Seen) (commands : List Command) (before script : Script) (row : ℕ) : Type 0 where
+  pub lines : (start : Seen) (said : List HistoryLine) → Stands start old commands before.names.items before.lines.items said → Dropping start old now commands before script row said
+  pub names : script.names.items ≡ before.names.items
+  pub rows : length now.rows ≤ length old.rows
+  pub entries : length now.entries ≤ length old.entries + row
+  pub kept : IsKept old now
 
 take-next : (xs : List Held) (i : ℕ) (x : Held) → slice_get xs i ≡ Some x → take (i + 1) xs ≡ take i xs ++ x ∷ []
 take-next [] i x is = cc
@@ -137,57 +181,68 @@ filter-push p (y ∷ xs) x = ap (λ zs. if p y then y ∷ zs else zs) (filter-pu
     by_test false zs ws = refl
 
 -- a register is dropped, or says its drop
-said_if : (gone left : Bool) (register : Held) → left ≡ not gone
-    → (if gone then [] else drop_of register ∷ []) ≡ map drop_of (if left then register ∷ [] else [])
+said_if : (gone left : Bool) (register : Held) → left ≡ not gone → (if gone then [] else drop_of register ∷ []) ≡ map drop_of (if left then register ∷ [] else [])
 said_if true left register is = sym (ap (λ b. map drop_of (if b then register ∷ [] else [])) is)
 said_if false left register is = sym (ap (λ b. map drop_of (if b then register ∷ [] else [])) is)
 
-pub next_drop : (commands : List Command) (start old new : Progress) (row : ℕ) → DropsUpTo commands start old row → row < length start.session.rows.items
-    → ((first : Plain) (said : List HistoryLine) → StandsAt first commands old said → DropsOne first commands old new said row)
-    → ((other : ℕ) → other ≢ row → is_dropped new.session.rows.items other ≡ is_dropped old.session.rows.items other)
-    → new.assigned.items ≡ old.assigned.items → length new.session.rows.items ≡ length old.session.rows.items
-    → AreStored (plain_view new.session.store) new.session.rows.items → new.place ≤ old.place + 1
-    → DropsUpTo commands start new (row + 1)
-next_drop commands start old new row up below one others assigned rows stored place = record {
-  lines = λ first said stands.
-      let before = up.lines first said stands in
-      let next = one first (said ++ before.0) before.1 in
-      let register = register_at commands start.assigned.items row in
-      let is_register : slice_get (registers_of said) row ≡ Some register = register_of first commands start said row stands below in
-      let same_register : register_at commands old.assigned.items row ≡ register = ap (λ xs. register_at commands xs row) up.assigned in
-      let left : is_left said register ≡ not (is_dropped old.session.rows.items row) =
-      ap not (stands.dropped row ∙ sym (up.others row (omega arith))) in (
-        before.0 ++ next.lines,
-        subst (λ lines. StandsAt first commands new lines) (append_assoc said before.0 next.lines) next.stands,
-        map-append spoken before.0 next.lines
-            ∙ ap₂ (λ xs ys. xs ++ ys) before.2
-            (next.drops_it ∙ ap (λ r. if is_dropped old.session.rows.items row then [] else drop_of r ∷ []) same_register
-            ∙ said_if (is_dropped old.session.rows.items row) (is_left said register) register left)
+pub first_drop : (old : Seen) (commands : List Command) (before : Script) → DropsUpTo old old commands before before 0
+first_drop old commands before = record {
+  lines = λ start said stands. record {
+    dropped = [];
+    stands = subst (λ lines. Stands start old commands before.names.items before.lines.items lines) (sym (append-nil said)) stands;
+    says = refl;
+    others = λ k from below. refl;
+  };
+  names = refl;
+  rows = omega arith;
+  entries = omega arith;
+  kept = (refl, refl);
+}
+
+names_after : (commands : List Command) (now new : Seen) (before after : Script) (row : ℕ) (assigned : Assigned) → DropsOne commands now new before after row assigned → after.names.items ≡ before.names.items
+names_after commands now new before after row assigned drops_it = ⊎_elim
+    (λ gone. ap (λ (x : Script). x.names.items) gone.2)
+    (λ live. (live.1.1).names ∙ ap (λ made. assigned_after made row before.names.items) (drops_none now new assigned.name live.1.0 (live.1.1).is))
+    drops_it
+
+pub next_drop : (old now new : Seen) (commands : List Command) (before script after : Script) (row : ℕ) (assigned : Assigned) → DropsUpTo old now commands before script row
+    → slice_get script.names.items row ≡ Some assigned → DropsOne commands now new script after row assigned
+    → length new.rows ≤ length now.rows → length new.entries ≤ length now.entries + 1 → IsKept now new → DropsUpTo old new commands before after (row + 1)
+next_drop old now new commands before script after row assigned up at drops_it rows entries kept = record {
+  lines = λ start said stands.
+      let was = up.lines start said stands in
+      let turn = turned start now new commands script after row assigned (said ++ was.dropped) at was.stands drops_it in
+      let here : slice_get before.names.items row ≡ Some assigned = ap (λ ns. slice_get ns row) (sym up.names) ∙ at in
+      let below = slice_get_within before.names.items row assigned here in
+      let register = register_of commands assigned in
+      let is_register : slice_get (registers_of said) row ≡ Some register =
+      ap (λ rs. slice_get rs row) stands.registers ∙ slice_get-map (register_of commands) before.names.items row ∙ ap (option_map (register_of commands)) here in
+      let named : name_at before.names.items row ≡ assigned.name = ap name_in here in
+      let same : stands_for now.rows assigned.name ≡ stands_for old.rows assigned.name =
+      subst (λ (name : Name). stands_for now.rows name ≡ stands_for old.rows name) named (was.others row (omega arith) below) in
+      let left_is : is_left said register ≡ not (is_none (stands_for now.rows assigned.name)) = ap not (live_at old commands before.names.items said row assigned here stands.live ∙ ap is_none (sym same)) in
+      record {
+        dropped = was.dropped ++ turn.added;
+        stands = subst (λ lines. Stands start new commands after.names.items after.lines.items lines) (append_assoc said was.dropped turn.added) turn.stands;
+        says = map-append spoken was.dropped turn.added ∙ ap₂ (λ xs ys. xs ++ ys) was.says (turn.says ∙ said_if (is_none (stands_for now.rows assigned.name)) (is_left said register) register left_is)
             ∙ sym (map-append drop_of (filter (is_left said) (take row (registers_of said))) (if is_left said register then register ∷ [] else []))
             ∙ ap (map drop_of) (sym (filter-push (is_left said) (take row (registers_of said)) register))
-            ∙ ap (λ xs. map drop_of (filter (is_left said) xs)) (sym (take-next (registers_of said) row register is_register)),
-      );
-  others = λ other from. others other (omega (arith, from)) ∙ up.others other (omega (arith, from));
-  assigned = assigned ∙ up.assigned;
-  rows = rows ∙ up.rows;
-  stored = stored;
-  place = omega (arith, up.place, place);
+            ∙ ap (λ xs. map drop_of (filter (is_left said) xs)) (sym (take-next (registers_of said) row register is_register));
+        others = λ k from within.
+            let apart = name-apart (name_at before.names.items k) assigned.name
+            (λ e. omega (arith, e, from, ap (λ (x : Name). x.generation) named, numbered before.names.items start.adds stands.generations k within, numbered before.names.items start.adds stands.generations row below)) in
+            turn.others (name_at before.names.items k) apart ∙ was.others k (omega (arith, from)) within;
+      };
+  names = names_after commands now new script after row assigned drops_it ∙ up.names;
+  rows = omega (arith, up.rows, rows);
+  entries = omega (arith, up.entries, entries);
+  kept = (kept.0 ∙ up.kept.0, kept.1 ∙ up.kept.1);
 }
 
-pub first_drop : (commands : List Command) (start : Progress) → AreStored (plain_view start.session.store) start.session.rows.items → DropsUpTo commands start start 0
-first_drop commands start stored = record {
-  lines = λ first said stands. ([], subst (λ lines. StandsAt first commands start lines) (sym (append-nil said)) stands, refl);
-  others = λ other from. refl;
-  assigned = refl;
-  rows = refl;
-  stored = stored;
-  place = omega arith;
-}
-
-pub last_drop : (commands : List Command) (start play : Progress) (row : ℕ) → DropsUpTo commands start play row → row ≡ length start.assigned.items
-    → (first : Plain) (said : List HistoryLine) → StandsAt first commands start said → DropsTheRest first commands play said
-last_drop commands start play row up end first said stands =
-    let lines = up.lines first said stands in
+pub last_drop : (old now : Seen) (commands : List Command) (before script : Script) (row : ℕ) → DropsUpTo old now commands before script row → row ≡ length before.names.items
+    → (start : Seen) (said : List HistoryLine) → Stands start old commands before.names.items before.lines.items said → DropsTheRest start now commands script said
+last_drop old now commands before script row up end start said stands =
+    let was = up.lines start said stands in
     let all : take row (registers_of said) ≡ registers_of said =
-    take_all row (registers_of said) (omega (arith, end, sym (length-map (registers_of said) (λ register. register.word)) ∙ ap length stands.words ∙ length-map start.assigned.items (target_at commands))) in
-    record { dropped = lines.0; stands = lines.1; rest = lines.2 ∙ ap (λ xs. map drop_of (filter (is_left said) xs)) all }
+    take_all row (registers_of said) (omega (arith, end, ap length stands.registers, length-map before.names.items (register_of commands))) in
+    record { dropped = was.dropped; stands = was.stands; rest = was.says ∙ ap (λ xs. map drop_of (filter (is_left said) xs)) all }

@@ -1,7 +1,7 @@
-pub mod Agreement
 pub mod Causes
 pub mod Codes
 pub mod Ends
-pub mod Playing
+pub mod Plays
 pub mod Refusals
-pub mod Walking
+pub mod Saying
+pub mod Sections

@@ -1,24 +1,27 @@
 //! Jobs from bytes to bytes: what a program reads from and writes to, the sessions that play a job, and the top call.
 #![tactic(auto)]
 
-mod families;
+mod answering;
 mod gate;
+mod halves;
 mod memory;
-mod numbers;
 mod operating;
+mod performing;
 mod playing;
 mod reading;
-mod session;
+mod registers;
+mod said;
+mod section;
 mod sink;
 mod source;
 mod status;
 mod top;
-mod walking;
 mod writing;
 
 pub use gate::{Gate, Open};
 pub use memory::{Bytes, Discard, Pieces, SureBytes};
-pub use playing::{Played, play};
+pub use playing::play;
+pub use said::Said;
 pub use sink::Sink;
 pub use source::{Failed, Source};
 pub use status::Status;

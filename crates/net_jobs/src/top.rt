@@ -13,16 +13,16 @@ ghost use Rattle.net_jobs.specs.declared.status.Status.{Status};
 ghost use Rattle.net_jobs.specs.declared.status.Status.TheVariants.{Memory as WantOfMemory, WriteFault};
 
 use crate::gate::Gate;
-use crate::playing::{Played, play};
+use crate::playing::play;
 use crate::reading::{ReadStop, read_to_end};
 use crate::sink::Sink;
 use crate::source::Source;
 use crate::status::Status;
 use crate::writing::write_to_end;
 use command_words::{Order, read_words};
+use dd_session::{Config, Manager, OpenFault};
 use edge_bits::Memory;
 use job_text::{FaultKind, Job, JobError, JobFault, parse};
-use node_slots::PlainStore;
 use std::alloc::{AllocError, Global};
 use std::sync::Wait;
 use std::thread::Threads;
@@ -60,25 +60,37 @@ fn left_line(alloc: Global, count: u32) -> Result<String, AllocError>
     format!(in alloc; "left {count}\n")
 }
 
-/// Plays a job over a store of its own: the text of its history, and then the number of permanent slots, five and one for
-/// each variable.
-fn history<G: Gate>(alloc: Global, job: &Job, gate: &G) -> Result<Vec<u8>, Memory>
+/// Plays a job in a manager of its own, each section in a session: the text of its history, and then the number of slots that
+/// are left once all rows are dropped, five and one for each variable.
+fn history<R: Threads + Wait + Sync, G: Gate>(
+    rt: &R,
+    alloc: Global,
+    job: &Job,
+    gate: &G,
+) -> Result<Vec<u8>, Memory>
     requires job { IsJob job.now }
-    requires few { All (λ commands. length commands < 2 ^ 32) job.now.sections }
+    requires few { All (λ commands. length commands < 2 ^ 25) job.now.sections }
     ensures { IfOk result (λ text. IsPlayed job.now text.items) }
 {
-    let store = PlainStore::new(alloc, job.vars, job.elements, job.limit)?;
-    let Played {
-        mut store,
-        mut text,
-    } = play(alloc, store, job, gate)?;
-    let left = store.clear();
-    text.extend_from_slice(left_line(alloc, left)?.as_bytes())?;
+    let config = Config {
+        vars: job.vars,
+        elements: job.elements,
+        limit: job.limit,
+    };
+    let (manager, mut sessions) = match Manager::open(alloc, config, job.sections.len() as u32) {
+        Ok(opened) => opened,
+        Err(OpenFault::Memory) => return Err(Memory),
+        Err(OpenFault::Config) => unreachable!(),
+    };
+    let mut text = play(rt, alloc, &manager, &mut sessions, job, gate)?;
+    let closed = manager.close(rt, sessions);
+    text.extend_from_slice(left_line(alloc, closed.left)?.as_bytes())?;
     Ok(text)
 }
 
 /// The history of the job that the source holds, where the words ask for it; else why there is none.
-fn find<S: Source, G: Gate>(
+fn find<R: Threads + Wait + Sync, S: Source, G: Gate>(
+    rt: &R,
     alloc: Global,
     words: &[String],
     source: &mut S,
@@ -106,7 +118,7 @@ fn find<S: Source, G: Gate>(
         Err(JobError::Memory) => return Err(Refusal::Memory),
         Err(JobError::Fault(fault)) => return Err(Refusal::Job(fault)),
     };
-    match history(alloc, &job, gate) {
+    match history(rt, alloc, &job, gate) {
         Ok(text) => Ok(text),
         Err(Memory) => Err(Refusal::Memory),
     }
@@ -186,8 +198,8 @@ pub fn refuse_memory<K: Sink>(sink: &mut K) -> Status
 /// `play` reads the text of a job and writes the text of its history. The checks come in this order: words, reading,
 /// length, format, work, writing; a refused run writes its one line alone.
 #[tactic(auto, using(crate::proofs::WordLemmas::plays_alone))]
-pub fn run<R: Threads + Wait, S: Source, K: Sink, G: Gate>(
-    _rt: &R,
+pub fn run<R: Threads + Wait + Sync, S: Source, K: Sink, G: Gate>(
+    rt: &R,
     alloc: Global,
     words: &[String],
     source: &mut S,
@@ -211,7 +223,7 @@ pub fn run<R: Threads + Wait, S: Source, K: Sink, G: Gate>(
     // That is so for all words but `play` alone.
     ensures plays_alone { PlaysAlone (map string_bytes words.now) }
 {
-    match find(alloc, words, source, gate) {
+    match find(rt, alloc, words, source, gate) {
         Ok(text) => tell(sink, &text, Status::Ok),
         Err(refusal) => match refusal.line(alloc) {
             Ok(line) => tell(sink, line.as_bytes(), refusal.status()),

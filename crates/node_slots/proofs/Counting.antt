@@ -1,15 +1,13 @@
 -- How many slots have a word.
-use Rattle.std.proofs.Common.{◌≡◌, inl, inr, ℕ, zero, suc, ◌+◌, ◌-◌, ◌<◌, ◌≤◌, List, length, take, get_or, Bool, true, false, Option, Some, None, add-one, add-zero, refl, ap, sym, ◌∙◌, subst, arith}
+use Rattle.std.proofs.Common.{◌≡◌, ℕ, zero, suc, ◌+◌, ◌-◌, ◌<◌, ◌≤◌, List, length, take, get_or, Bool, true, false, Option, Some, None, add-one, add-zero, refl, ap, sym, ◌∙◌, subst, arith}
 use Rattle.std.specs.List.{count_by}
 use Rattle.std.proofs.Math.Seq.{take-length}
-use Rattle.std.proofs.lemmas.Bool.{cases_lt}
 use Rattle.std.proofs.lemmas.List.Sums.{count_by_more_yes, count_by_more_no}
-use Rattle.edge_bits.specs.Reading.{slots_of}
 use Rattle.edge_bits.specs.declared.words.Word.{Word}
 use Rattle.function_laws.specs.Kinds.{Denoted}
 use Rattle.node_slots.proofs.Reading.{was_refused}
 use Rattle.node_store.specs.Contents.{is_used}
-use Rattle.node_slots.specs.Stores.{Plain, slots, is_word, plain_view, HasPermanent, IsStore}
+use Rattle.node_slots.specs.Stores.{Plain, slots, is_word, plain_view, IsStore}
 
 count_first : (p : ℕ → Bool) (ws : List ℕ) (n : ℕ) → n ≤ length ws → ((t : ℕ) → t < n → p (get_or ws t 0) ≡ true) → count_by p (take n ws) ≡ n
 count_first p ws zero le each = refl
@@ -28,23 +26,6 @@ pub count_prefix : (p : ℕ → Bool) (ws : List ℕ) (k : ℕ) → k ≤ length
 count_prefix p ws k le each none =
     let e : k + (length ws - k) ≡ length ws = omega arith in
     ap (count_by p) (sym (take-length ws)) ∙ ap (λ n. count_by p (take n ws)) (sym e) ∙ count_rest p ws k (length ws - k) (omega arith) (count_first p ws k le each) none
-
--- the permanent slots have words
-permanent_used : (p : Plain) → HasPermanent p → (s : ℕ) → s < 5 + length p.variable_levels → is_used (slots p s) ≡ true
-permanent_used p first s lt = elim (cases_lt s 5) [
-  | inl low ↦ ap is_used (first.constants s low)
-  | inr high ↦ (
-      let e : s ≡ 5 + (s - 5) = omega arith in
-      ap (λ t. is_used (slots p t)) e ∙ ap is_used (first.projections (s - 5) (omega arith)))
-]
-
-pub count_cleared : (p : Plain) → IsStore p → (ws : List ℕ) (from : ℕ) → from ≡ 5 + length p.variable_levels → length ws ≡ length p.words
-    → ((s : ℕ) → s < from → slots_of ws s ≡ slots p s) → ((s : ℕ) → from ≤ s → slots_of ws s ≡ None) → count_by is_word ws ≡ from
-count_cleared p st ws from is count kept free =
-    let room = st.room in
-    count_prefix is_word ws from (omega arith)
-    (λ t lt. ap is_used (kept t lt) ∙ permanent_used p st.permanent t (omega arith))
-    (λ t le. ap is_used (free t le))
 
 pub used_if : (o : Option Word) → (o ≡ None → ⊥) → is_used o ≡ true
 used_if None some = absurd (some refl)

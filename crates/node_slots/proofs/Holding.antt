@@ -1,16 +1,15 @@
 -- The counts, marks and pins of a store's slots, after its calls.
-use Rattle.std.proofs.Common.{◌≡◌, ◌≢◌, ◌⊎◌, ℕ, zero, ◌<◌, ◌≤◌, inl, inr, Bool, true, false, List, length, get_or, set, replicate, Option, Some, None, refl, ap, sym, ◌∙◌, subst, arith}
+use Rattle.std.proofs.Common.{◌≡◌, ◌≢◌, ℕ, zero, ◌<◌, inl, inr, Bool, true, false, List, length, get_or, set, replicate, None, refl, ap, sym, ◌∙◌, subst, arith}
 use Rattle.std.specs.Prelude.{◌-◌, ◌^◌, ◌==◌}
 use Rattle.std.proofs.lemmas.Bool.{cases_eq, cases_lt}
 use Rattle.std.proofs.lemmas.List.{length-set, length-replicate, get_or_past, get_or-replicate, get_or-set_same, get_or-set_other}
-use Rattle.edge_bits.specs.declared.words.Word.{Word}
 use Rattle.edge_bits.specs.Reading.{slots_of}
 use Rattle.function_laws.proofs.ValueLemmas.{everywhere}
 use Rattle.handle_count.specs.CountWords.{count_of}
 use Rattle.node_store.specs.Changes.{put_at}
 use Rattle.node_store.proofs.Rewriting.{put_at-same, put_at-other}
 use Rattle.slot_notes.specs.Notes.{flag}
-use Rattle.node_slots.specs.Stores.{Plain, slots, count_at, is_set, AreHolds, IsRenewed}
+use Rattle.node_slots.specs.Stores.{Plain, slots, count_at, is_set, AreHolds}
 
 -- a list of zeros is zero everywhere
 zero_at : (n s : ℕ) → get_or (replicate n zero) s zero ≡ zero
@@ -134,38 +133,3 @@ same_holds p h q words counts marks pins = record {
   uncounted = λ s none. ap (λ (xs : List ℕ). count_of (get_or xs s 0)) counts ∙ h.uncounted s (ap (λ (xs : List ℕ). slots_of xs s) (sym words) ∙ none);
   unpinned = λ s none. ap (λ (xs : List ℕ). is_set xs s) pins ∙ h.unpinned s (ap (λ (xs : List ℕ). slots_of xs s) (sym words) ∙ none);
 }
-
--- all slots from one on were freed, and the count words of those that had a word begin anew
-module _ (p : Plain) (h : AreHolds p) (ws cs : List ℕ) (from : ℕ)
-    (kept : (s : ℕ) → s < from → slots_of ws s ≡ slots p s)
-    (renewed : (s : ℕ) (word : Word) → from ≤ s → slots p s ≡ Some word → IsRenewed (get_or p.counts s 0) (get_or cs s 0))
-    (others : (s : ℕ) → (s < from) ⊎ (slots p s ≡ None) → get_or cs s 0 ≡ get_or p.counts s 0) where
-  count_after : (P : ℕ → Type 0) (s : ℕ) → P 0 → P (count_at p s) → P (count_of (get_or cs s 0))
-  count_after P s none same = elim (cases_lt s from) [
-    | inl lt ↦ subst P (ap count_of (sym (others s (inl lt)))) same
-    | inr ge ↦ by_word (slots p s) refl ge
-  ]
-    where
-      by_word : (o : Option Word) → slots p s ≡ o → from ≤ s → P (count_of (get_or cs s 0))
-      by_word None is ge = subst P (ap count_of (sym (others s (inr is)))) same
-      by_word (Some word) is ge = subst P (sym (renewed s word ge is).count) none
-
-  count_free : (s : ℕ) → slots_of ws s ≡ None → count_of (get_or cs s 0) ≡ 0
-  count_free s free = elim (cases_lt s from) [
-    | inl lt ↦ ap count_of (others s (inl lt)) ∙ h.uncounted s (sym (kept s lt) ∙ free)
-    | inr ge ↦ by_word (slots p s) refl ge
-  ]
-    where
-      by_word : (o : Option Word) → slots p s ≡ o → from ≤ s → count_of (get_or cs s 0) ≡ 0
-      by_word None is ge = ap count_of (others s (inr is)) ∙ h.uncounted s is
-      by_word (Some word) is ge = (renewed s word ge is).count
-
-  pub cleared_holds : (q : Plain) → q.words ≡ ws → q.counts ≡ cs → length ws ≡ length p.words → length cs ≡ length p.counts → q.marks ≡ replicate (length p.marks) 0 → q.pins ≡ replicate (length p.pins) 0 → AreHolds q
-  cleared_holds q words counts long recount marks pins = record {
-    counted = ap length counts ∙ recount ∙ h.counted ∙ sym (ap length words ∙ long);
-    marks_fit = ap length marks ∙ length-replicate (length p.marks) zero ∙ h.marks_fit ∙ sym (ap length words ∙ long);
-    pins_fit = ap length pins ∙ length-replicate (length p.pins) zero ∙ h.pins_fit ∙ sym (ap length words ∙ long);
-    few = λ s. subst (λ (xs : List ℕ). count_of (get_or xs s 0) < 2 ^ 32 - 1) (sym counts) (count_after (λ n. n < 2 ^ 32 - 1) s (omega arith) (h.few s));
-    uncounted = λ s none. ap (λ (xs : List ℕ). count_of (get_or xs s 0)) counts ∙ count_free s (ap (λ (xs : List ℕ). slots_of xs s) (sym words) ∙ none);
-    unpinned = λ s none. no_flag q.pins (length p.pins) s pins;
-  }

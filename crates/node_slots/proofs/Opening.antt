@@ -1,5 +1,5 @@
 -- A store with the permanent slots alone is canonical.
-use Rattle.std.proofs.Common.{◌≡◌, ◌⊎◌, inl, inr, ℕ, zero, suc, ◌+◌, ◌-◌, ◌<◌, ◌≤◌, ◌^◌, eqb, nat_lt, Bool, true, false, List, length, Option, Some, None, ℤ, pos, zero-add, refl, ap, sym, ◌∙◌, subst, arith}
+use Rattle.std.proofs.Common.{◌≡◌, ◌⊎◌, inl, inr, ℕ, zero, suc, ◌+◌, ◌-◌, ◌<◌, ◌≤◌, ◌^◌, eqb, nat_lt, Bool, true, false, List, length, Some, None, ℤ, pos, zero-add, refl, ap, sym, ◌∙◌, subst, arith}
 use Rattle.std.specs.Prelude.{slice_index, if◌then◌else◌}
 use Rattle.std.specs.List.{range_with_len}
 use Rattle.std.proofs.lemmas.Bool.{cases_lt, cases_eq}
@@ -11,7 +11,6 @@ use Rattle.edge_bits.specs.declared.words.Node.{Node}
 use Rattle.edge_bits.specs.declared.words.Word.{Word}
 use Rattle.edge_bits.specs.declared.words.Word.TheVariants.{Inner, Leaf}
 use Rattle.edge_bits.specs.Assignments.{bit, set_bit}
-use Rattle.edge_bits.specs.Reading.{slots_of}
 use Rattle.edge_bits.proofs.AssignmentLemmas.{bit-set_same, bit-set_other}
 use Rattle.function_laws.specs.Values.{constant, projection}
 use Rattle.function_laws.specs.Numbers.{is_value, is_zero}
@@ -51,10 +50,6 @@ permanent_words p h s below = elim (cases_lt s 5) [
       let at : s ≡ 5 + v = omega arith in
       ap (slots p) at ∙ h.projections v (omega arith) ∙ ap Some (sym (permanent_high v)) ∙ ap (λ t. Some (permanent_word t)) (sym at))
 ]
-
--- words among which the permanent ones stand agree with the store's there
-pub permanent_kept : (p : Plain) → HasPermanent p → (ws : List ℕ) (n : ℕ) → n ≡ 5 + length p.variable_levels → ((s : ℕ) → s < n → slots_of ws s ≡ Some (permanent_word s)) → (s : ℕ) → s < n → slots_of ws s ≡ slots p s
-permanent_kept p h ws n is permanent s below = permanent s below ∙ sym (permanent_words p h s (omega (arith, below, is)))
 
 pub small_constant : (s : ℕ) → is_value (constant_value s) ≡ true
 small_constant zero = refl
@@ -230,40 +225,7 @@ module _ (p : Plain) (first : HasPermanent p) (free : (s : ℕ) → 5 + length p
       remembered = λ i kept h. absurd (let bad : None ≡ Some kept = sym (empty i) ∙ h in never_some kept bad);
     }
 
--- a store of which the slots from the permanent ones on were freed, and all marks and pins taken away
-abbrev pub with_rest : Plain → List ℕ → List ℕ → ℕ → Option Refused → List ℕ → List ℕ → List ℕ → Plain
-with_rest p ws cs n d memo marks pins = record p { words = ws; counts = cs; marks = marks; pins = pins; sweeping = false; fulls = n; due = d; memo = memo }
-
-module _ (p : Plain) (ws cs memo marks pins : List ℕ) (n : ℕ) (d : Option Refused) where
-  abbrev q : Plain
-  q = with_rest p ws cs n d memo marks pins
-
-  IsOrdered-same : IsOrdered p → IsOrdered q
-  IsOrdered-same o = record { within = within; alone = alone }
-    where
-      within : (k : Kind) (v : ℕ) → IsVariable k (plain_view q) v → level_in p v < levels k (plain_view q)
-      within Bdd v h = o.within Bdd v h
-      within Add v h = o.within Add v h
-      within Zdd v h = o.within Zdd v h
-
-      alone : (k : Kind) (u v : ℕ) → IsVariable k (plain_view q) u → IsVariable k (plain_view q) v → level_in p u ≡ level_in p v → u ≡ v
-      alone Bdd u v = o.alone Bdd u v
-      alone Add u v = o.alone Add u v
-      alone Zdd u v = o.alone Zdd u v
-
-  pub IsStore-cleared : IsStore p → ((r : Refused) → d ≡ Some r → ⊥) → (from : ℕ) → ((i : ℕ) → kept_at memo i ≡ None) → from ≡ 5 + length p.variable_levels → length ws ≡ length p.words
-      → AreHolds q → ((s : ℕ) → s < from → slots_of ws s ≡ slots p s) → ((s : ℕ) → from ≤ s → slots_of ws s ≡ None) → IsStore q
-  IsStore-cleared st none from empty is count holds kept free =
-      let f = st.permanent in let r = st.room in let w = st.few_words in
-      IsStore-opening q
-      (record {
-        constants = λ s lt. kept s (omega (arith, is)) ∙ f.constants s lt;
-        projections = λ v lt. kept (5 + v) (omega (arith, is, lt)) ∙ f.projections v lt;
-      })
-      (λ s le. free s (omega (arith, is, le)))
-      (IsOrdered-same st.ordered) st.few_variables none st.few_elements (omega arith) (omega arith) holds st.variables_stand st.elements_stand empty
-
-pub none_due : (r : Refused) → None ≡ Some r → ⊥
+none_due : (r : Refused) → None ≡ Some r → ⊥
 none_due r e = cc
 
 -- the order 0, 1, 2, .. is its own inverse

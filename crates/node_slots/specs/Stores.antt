@@ -1,5 +1,5 @@
 -- A store as its words and its orders, and when it is canonical.
-use Rattle.std.specs.Prelude.{◌%◌, ◌⊎◌, replicate, ◌≡◌, ℕ, zero, suc, ◌+◌, ◌-◌, ◌^◌, ◌<◌, ◌≤◌, nat_lt, nat_le, Bool, true, false, ◌&&◌, ◌||◌, ◌==◌, if◌then◌else◌, List, length, slice_index, Option, Some, None, ℤ, max}
+use Rattle.std.specs.Prelude.{◌%◌, replicate, ◌≡◌, ℕ, zero, suc, ◌+◌, ◌-◌, ◌^◌, ◌<◌, ◌≤◌, nat_lt, nat_le, Bool, true, false, ◌&&◌, ◌||◌, ◌==◌, if◌then◌else◌, List, length, slice_index, Option, Some, None, ℤ, max}
 use Rattle.std.specs.List.{count_by, list_any, range_with_len}
 use Rattle.edge_bits.specs.Permanent.{first_element}
 use Rattle.computed_cache.specs.Entries.{Kept, kept_at}
@@ -224,26 +224,3 @@ pub record IsOpening (vars elements limit : ℕ) (p : Plain) : Type 0 where
 pub record IsNext (old new : ℕ) : Type 0 where
   pub count : count_of new ≡ count_of old
   pub generation : generation_of new ≡ (generation_of old + 1) % 2 ^ 32
-
--- the count word of the next generation of a slot that nothing holds
-pub record IsRenewed (old new : ℕ) : Type 0 where
-  pub count : count_of new ≡ 0
-  pub generation : generation_of new ≡ (generation_of old + 1) % 2 ^ 32
-
--- a store after all slots but the permanent ones were freed, and all marks and pins taken away
-pub record IsCleared (old new : Plain) : Type 0 where
-  pub variable_levels : new.variable_levels ≡ old.variable_levels
-  pub element_levels : new.element_levels ≡ old.element_levels
-  pub variables_at : new.variables_at ≡ old.variables_at
-  pub elements_at : new.elements_at ≡ old.elements_at
-  pub slots_are : length new.words ≡ length old.words
-  pub permanent : (s : ℕ) → s < 5 + length old.variable_levels → slots new s ≡ slots old s
-  pub free : (s : ℕ) → 5 + length old.variable_levels ≤ s → slots new s ≡ None
-  pub freed : (s : ℕ) (word : Word) → 5 + length old.variable_levels ≤ s → slots old s ≡ Some word → IsRenewed (slice_index old.counts s) (slice_index new.counts s)
-  pub others : (s : ℕ) → (s < 5 + length old.variable_levels) ⊎ (slots old s ≡ None) → slice_index new.counts s ≡ slice_index old.counts s
-  pub unmarked : (s : ℕ) → is_set new.marks s ≡ false
-  pub unpinned : (s : ℕ) → is_set new.pins s ≡ false
-  pub sweeping : new.sweeping ≡ false
-  pub fulls : new.fulls ≡ old.fulls
-  pub due : new.due ≡ None
-  pub memo : (i : ℕ) → kept_at new.memo i ≡ None

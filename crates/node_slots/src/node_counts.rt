@@ -67,14 +67,4 @@ impl NodeCounts {
             Word::Leaf(_) => {}
         }
     }
-
-    /// Counts no node.
-    pub fn clear(&mut self)
-        ensures all { length self.new ≡ length self.old }
-        ensures none { (v : ℕ) → slice_index self.new v ≡ 0 }
-    {
-        for var in 0..self.counts.len() {
-            self.counts[var] = 0;
-        }
-    }
 }

@@ -263,19 +263,4 @@ impl NodeTable {
     {
         self.nodes.of(var)
     }
-
-    /// Frees all slots but the permanent ones, of so many variables.
-    pub fn clear(&mut self, vars: u32)
-        requires vars { vars ≤ 1024 }
-        requires room { first_projection + vars ≤ length self.old }
-        ensures permanent { (s : ℕ) → s < first_projection + vars → slots_of self.new s ≡ Some (permanent_word s) }
-        ensures free { (s : ℕ) → first_projection + vars ≤ s → slots_of self.new s ≡ None }
-        ensures length { length self.new ≡ length self.old }
-    {
-        self.table.clear();
-        self.freed.truncate(0);
-        self.nodes.clear();
-        append_permanent(&mut self.table, &mut self.nodes, vars);
-        self.in_use = FIRST_PROJECTION as usize + vars as usize;
-    }
 }

@@ -5,7 +5,6 @@ ghost use Rattle.std.specs.List.{range_with_len};
 ghost use Rattle.edge_bits.specs.Permanent.{first_projection};
 ghost use Rattle.edge_bits.specs.Reading.{slots_of};
 ghost use Rattle.edge_bits.specs.Words.{IsInRange, unpack_of};
-ghost use Rattle.node_slots.specs.Stores.{IsRenewed};
 ghost use Rattle.handle_count.specs.CountWords.{count_of, generation_of};
 ghost use Rattle.node_slots.specs.Placing.{IsChild, HasNoChild};
 ghost use Rattle.node_store.specs.Contents.{opened_of};
@@ -268,41 +267,6 @@ fn names(bits: u64, slot: u32) -> bool
     }
 }
 
-/// The count word of a slot that nothing holds any more.
-fn without_count(word: u64) -> u64
-    ensures count { count_of result ≡ 0 }
-    ensures generation { generation_of result ≡ generation_of word }
-{
-    word - word % (1 << 32)
-}
-
-/// Lets the next generation of a slot begin, which nothing holds, if its bits are a word's.
-fn advance(counts: &mut CountTable, slot: u32, bits: u64)
-    requires { slot < length counts.old }
-    ensures as_many { length counts.new ≡ length counts.old }
-    ensures advanced { (word : Word) → unpack_of bits ≡ Some word → IsRenewed (slice_index counts.old slot) (slice_index counts.new slot) }
-    ensures free { unpack_of bits ≡ None → slice_index counts.new slot ≡ slice_index counts.old slot }
-    ensures others { (s : ℕ) → (s ≡ slot → ⊥) → slice_index counts.new s ≡ slice_index counts.old s }
-{
-    if unpack(bits).is_some() {
-        let word = counts.word(slot);
-        counts.write(slot, next_generation(without_count(word)));
-    }
-}
-
-/// Lets the next generation of each slot with a word begin, from this slot on. Nothing holds these slots then.
-fn advance_from(counts: &mut CountTable, nodes: &NodeTable, from: u32)
-    requires as_many { length counts.old ≡ length nodes.now }
-    ensures as_many { length counts.new ≡ length counts.old }
-    ensures advanced { (s : ℕ) (word : Word) → from ≤ s → slots_of nodes.now s ≡ Some word → IsRenewed (slice_index counts.old s) (slice_index counts.new s) }
-    ensures others { (s : ℕ) → (s < from) ⊎ (slots_of nodes.now s ≡ None) → slice_index counts.new s ≡ slice_index counts.old s }
-{
-    let words = nodes.words();
-    for slot in from as usize..words.len() {
-        advance(counts, slot as u32, words[slot]);
-    }
-}
-
 impl PlainStore {
     ghost use Rattle.edge_bits.specs.declared.edges.Kind.{Kind};
     ghost use Rattle.std.specs.Prelude.{Bool, ℤ};
@@ -314,7 +278,7 @@ impl PlainStore {
     ghost use Rattle.computed_cache.specs.Entries.{kept_at};
     ghost use Rattle.node_store.specs.Contents.{IsSound, is_leaf, is_node_of as is_node_in, nodes_of as nodes_at, used_slots};
     ghost use Rattle.node_store.specs.Changes.{IsLeastFrom, with_mark, with_pin};
-    ghost use Rattle.node_slots.specs.Stores.{IsStore, plain_view, count_at, generation_at, in_use, is_set, slots, IsOpening, IsCleared, IsUnknown};
+    ghost use Rattle.node_slots.specs.Stores.{IsStore, plain_view, count_at, generation_at, in_use, is_set, slots, IsOpening, IsUnknown};
     ghost use Rattle.node_slots.specs.Wholes.{content_view};
     ghost use Rattle.node_slots.specs.Held.{held_view};
     ghost use Rattle.node_slots.specs.Counts.{IsFreed, IsRecounted, IsUnnamed};
@@ -514,23 +478,6 @@ impl PlainStore {
         self.counts.write(slot, next_generation(word));
         self.memo.forget(slot);
         self.due = None;
-    }
-
-    /// Frees all slots that are not permanent, and answers how many are in use then: 5 and one for each variable. No row or cell holds what was freed, no slot is marked or pinned, and no sweep is on.
-    pub fn clear(&mut self) -> u32
-        ensures cleared { IsCleared self.old self.new }
-        ensures permanent { result ≡ 5 + (plain_view self.old).vars }
-        ensures in_use { result ≡ in_use self.new }
-    {
-        let vars = self.variable_levels.len() as u32;
-        let permanent = FIRST_PROJECTION + vars;
-        advance_from(&mut self.counts, &self.nodes, permanent);
-        self.nodes.clear(vars);
-        self.notes.clear();
-        self.sweeping = false;
-        self.memo.clear();
-        self.due = None;
-        permanent
     }
 
     /// Whether two edges of one kind denote one function: they are equal then.

@@ -4,6 +4,8 @@
 #![tactic(auto)]
 
 mod line;
+#[cfg(test)]
+mod pair;
 mod reader;
 mod row;
 #[cfg(test)]
@@ -16,7 +18,7 @@ use std::thread::Threads;
 use std::{env, fs, io};
 
 /// Plays the rows of a file.
-fn play_file<R: AllocGlobal + Files + Print + Threads + Wait>(
+fn play_file<R: AllocGlobal + Files + Print + Threads + Wait + Sync>(
     rt: &R,
     file: &str,
 ) -> io::Result<()> {

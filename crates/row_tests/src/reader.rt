@@ -6,8 +6,8 @@
 //! - `> LINE` is a line of the row's standard input, which is the text of a job where the words are `play`.
 //! - `< LINE` is a line of the text that is due.
 //! - `! FAULT` says that the input has this fault, as `4 name`: status 9, and `fault: job FAULT` is due.
-//! - `status N` is the exit status that is due, and `passed N` how often the gate is passed: so many calls of worker 0, whose
-//!   items are 0, 1, 2 and so on, and no other call.
+//! - `status N` is the exit status that is due, `passed N` how often worker 0 passes the gate, with the items 0, 1, 2 and so on,
+//!   and `others N` how often the other workers do.
 //! - `words WORDS` are the words of the command line.
 //! - `source STEP CALLS` gives at most STEP bytes a call, and `sink STEP CALLS` takes at most so many. Of CALLS, which may be
 //!   left out, each character is for a call, from the first on: `1` fails, and `0` does not, nor does a call behind them.
@@ -97,6 +97,7 @@ impl Reading {
             "!" => row.due.refuse(self.alloc, rest)?,
             "status" => row.due.status = number(rest)?,
             "passed" => row.due.passed = number(rest)?,
+            "others" => row.due.others = number(rest)?,
             "words" => row.words = rest.to_string(self.alloc)?,
             "source" => row.source = parse_pace(self.alloc, rest)?,
             "sink" => row.sink = parse_pace(self.alloc, rest)?,

@@ -25,8 +25,9 @@ pub enum Judge {
 pub struct Due {
     /// The exit status.
     pub status: u8,
-    /// How often the gate is passed.
+    /// How often worker 0 passes the gate, and how often the others do.
     pub passed: u32,
+    pub others: u32,
     pub text: Vec<u8>,
     pub judge: Judge,
 }
@@ -77,6 +78,7 @@ impl Row {
             due: Due {
                 status: Status::Ok.code(),
                 passed: 0,
+                others: 0,
                 text: Vec::new(alloc),
                 judge: Judge::Here,
             },

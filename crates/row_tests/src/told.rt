@@ -59,7 +59,7 @@ impl Due {
     fn is_met_by(&self, answer: &Answer) -> bool {
         self.status == answer.status
             && self.passed == answer.passed
-            && answer.others == 0
+            && self.others == answer.others
             && (self.judge == Judge::Elsewhere || self.text.as_slice() == answer.text.as_slice())
     }
 }
@@ -74,7 +74,7 @@ fn words_of(alloc: Global, line: &str) -> Result<Vec<String>, AllocError> {
 }
 
 /// Runs a command line from the source to the sink.
-fn answer_of<R: Threads + Wait>(
+fn answer_of<R: Threads + Wait + Sync>(
     rt: &R,
     alloc: Global,
     line: &str,
@@ -96,7 +96,7 @@ fn answer_of<R: Threads + Wait>(
 }
 
 /// How a row goes that is played, where no line of it is malformed.
-fn outcome_of<R: Threads + Wait>(rt: &R, alloc: Global, row: Row) -> Result<Outcome, AllocError> {
+fn outcome_of<R: Threads + Wait + Sync>(rt: &R, alloc: Global, row: Row) -> Result<Outcome, AllocError> {
     let Row {
         words,
         source,
@@ -120,7 +120,7 @@ fn outcome_of<R: Threads + Wait>(rt: &R, alloc: Global, row: Row) -> Result<Outc
 }
 
 /// Plays a row.
-pub fn play<R: Threads + Wait>(rt: &R, alloc: Global, row: Row) -> Result<Told, AllocError> {
+pub fn play<R: Threads + Wait + Sync>(rt: &R, alloc: Global, row: Row) -> Result<Told, AllocError> {
     let name = row.name.clone()?;
     let outcome = outcome_of(rt, alloc, row)?;
     Ok(Told { name, outcome })

@@ -260,16 +260,6 @@ impl SlotNotes {
         self.write(slot, note);
     }
 
-    /// Takes all marks, pins and links away.
-    pub fn clear(&mut self)
-        ensures marks { self.new.marks ≡ replicate (length self.old.marks) 0 }
-        ensures pins { self.new.pins ≡ replicate (length self.old.pins) 0 }
-        ensures unlinked { self.new.chain.linked ≡ false }
-    {
-        self.notes.truncate(0);
-        self.linked = false;
-    }
-
     /// Says that the links don't hold any more, as a node is made or changed.
     pub fn unlink(&mut self)
         ensures { self.new ≡ record self.old { chain = record self.old.chain { linked = false } } }

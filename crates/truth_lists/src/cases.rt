@@ -44,7 +44,7 @@ pub fn make<C: Command>(job: &mut Job, command: C) -> Result<(), AllocError> {
 }
 
 /// A command for each function.
-pub fn for_each<R: Print + Threads + Wait, C: Command, F: Fn(u8) -> C>(
+pub fn for_each<R: Print + Threads + Wait + Sync, C: Command, F: Fn(u8) -> C>(
     rt: &R,
     job: Job,
     name: &str,
@@ -59,7 +59,7 @@ pub fn for_each<R: Print + Threads + Wait, C: Command, F: Fn(u8) -> C>(
 }
 
 /// A command for each pair of functions.
-pub fn for_pairs<R: Print + Threads + Wait, C: Command, F: Fn(u8, u8) -> C>(
+pub fn for_pairs<R: Print + Threads + Wait + Sync, C: Command, F: Fn(u8, u8) -> C>(
     rt: &R,
     job: Job,
     name: &str,
@@ -74,7 +74,7 @@ pub fn for_pairs<R: Print + Threads + Wait, C: Command, F: Fn(u8, u8) -> C>(
 }
 
 /// A command for each function and each variable or element.
-pub fn for_digits<R: Print + Threads + Wait, C: Command, F: Fn(u8, Digit) -> C>(
+pub fn for_digits<R: Print + Threads + Wait + Sync, C: Command, F: Fn(u8, Digit) -> C>(
     rt: &R,
     job: Job,
     name: &str,
@@ -100,7 +100,7 @@ impl Display for Bits {
 }
 
 /// Asks for each value of each function of a table.
-pub fn for_values<R: Print + Threads + Wait>(
+pub fn for_values<R: Print + Threads + Wait + Sync>(
     rt: &R,
     job: Job,
     name: &str,
@@ -114,7 +114,7 @@ pub fn for_values<R: Print + Threads + Wait>(
 }
 
 /// Adds all cases to a job, plays it, and prints how many are as due.
-pub fn tell<R: Print + Threads + Wait, F: Fn(&mut Job, usize) -> Result<(), AllocError>>(
+pub fn tell<R: Print + Threads + Wait + Sync, F: Fn(&mut Job, usize) -> Result<(), AllocError>>(
     rt: &R,
     mut job: Job,
     name: &str,

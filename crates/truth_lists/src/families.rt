@@ -74,7 +74,7 @@ fn table(alloc: Global) -> Result<Job, AllocError> {
 }
 
 /// Prints how many cases of families are as due.
-pub fn print<R: Print + Threads + Wait>(rt: &R, alloc: Global) -> io::Result<()> {
+pub fn print<R: Print + Threads + Wait + Sync>(rt: &R, alloc: Global) -> io::Result<()> {
     for_values(rt, table(alloc)?, "members", 's')?;
     tell(rt, table(alloc)?, "empty, base and single", 5, constant)?;
     for_pairs(rt, table(alloc)?, "union", Command::Union)?;

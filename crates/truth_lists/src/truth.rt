@@ -165,7 +165,7 @@ fn of_two(number: usize) -> u8 {
 const STEP: usize = 10_368_889;
 
 /// Prints how many cases of functions of three variables are as due.
-pub fn print<R: Print + Threads + Wait>(rt: &R, alloc: Global) -> io::Result<()> {
+pub fn print<R: Print + Threads + Wait + Sync>(rt: &R, alloc: Global) -> io::Result<()> {
     for_values(rt, table(alloc)?, "values", 'd')?;
     for_each(rt, table(alloc)?, "not", Command::Not)?;
     for_pairs(rt, table(alloc)?, "and", Command::And)?;
@@ -208,7 +208,7 @@ fn compare(job: &mut Job, f: u8, g: u8) -> Result<(), AllocError> {
 }
 
 /// Choices by a function between two others.
-fn choices_of_functions<R: Print + Threads + Wait>(rt: &R, alloc: Global) -> io::Result<()> {
+fn choices_of_functions<R: Print + Threads + Wait + Sync>(rt: &R, alloc: Global) -> io::Result<()> {
     tell(
         rt,
         table(alloc)?,
@@ -226,7 +226,7 @@ fn choices_of_functions<R: Print + Threads + Wait>(rt: &R, alloc: Global) -> io:
 }
 
 /// Quantifiers over each list of variables; of two functions, over one list for each pair.
-fn quantifiers<R: Print + Threads + Wait>(rt: &R, alloc: Global) -> io::Result<()> {
+fn quantifiers<R: Print + Threads + Wait + Sync>(rt: &R, alloc: Global) -> io::Result<()> {
     tell(rt, table(alloc)?, "exists", 16 * FUNCTIONS, |job, case| {
         let [f, ..] = (case / 16).to_le_bytes();
         make(job, Command::Exists(f, Variables(case)))
@@ -241,7 +241,7 @@ fn quantifiers<R: Print + Threads + Wait>(rt: &R, alloc: Global) -> io::Result<(
 }
 
 /// Functions put for variables.
-fn compositions<R: Print + Threads + Wait>(rt: &R, alloc: Global) -> io::Result<()> {
+fn compositions<R: Print + Threads + Wait + Sync>(rt: &R, alloc: Global) -> io::Result<()> {
     tell(rt, table(alloc)?, "compose", 3 * PAIRS, |job, case| {
         let [f, g, ..] = (case / 3).to_le_bytes();
         make(job, Command::Compose(f, Digit::of(case), g))
@@ -259,7 +259,7 @@ fn compositions<R: Print + Threads + Wait>(rt: &R, alloc: Global) -> io::Result<
 }
 
 /// Restrictions of each function to each condition. What they answer is read value by value, and judged.
-fn restrictions<R: Print + Threads + Wait>(rt: &R, alloc: Global) -> io::Result<()> {
+fn restrictions<R: Print + Threads + Wait + Sync>(rt: &R, alloc: Global) -> io::Result<()> {
     let mut job = table(alloc)?;
     for pair in 0..PAIRS {
         let [f, c, ..] = pair.to_le_bytes();

@@ -1,4 +1,5 @@
 use Rattle.std.proofs.Common.{◌++◌, ◌∷◌, [], List, ℕ, length, ap, sym, ◌∙◌, subst, arith, length-append}
+use Rattle.job_words.specs.Text.{split_words}
 use Rattle.job_text.proofs.Reading.{IsRead, read_more, lines_more, all_read, job_from, end_from}
 use Rattle.job_text.proofs.reader.parse.Goals as goal
 
@@ -10,7 +11,7 @@ loop-rest-preserved c =
       read = (
         (i.read).0 ++ front ∷ [],
         lines_more _ (i.read).0 c.cut_line.result.1.now c.loop-rest.rest.now front (i.read).1 c.cut_line.ensures.lines,
-        read_more (i.read).0 front c.loop-rest.draft c.in-Ok-with_line.draft c.in-Some.words (i.read).2 (sym c.in-Ok.ensures ∙ c.in-Some.is) c.in-Ok-with_line.ensures.ok,
+        read_more (i.read).0 front c.loop-rest.draft c.in-Ok.draft (split_words c.in-Some.words.now) (i.read).2 c.in-Some.ensures c.in-Ok.ensures.ok,
         omega (arith, length-append (i.read).0 (front ∷ []), (i.read).3),
       );
       budget = omega (arith, c.cut_line.ensures.shorter);

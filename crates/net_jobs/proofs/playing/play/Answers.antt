@@ -1,26 +1,17 @@
-use Rattle.std.proofs.Common.{◌≡◌, ◌∙◌, sym, ap, refl, length, Some, arith}
-use Rattle.std.specs.Prelude.{slice_get}
-use Rattle.std.proofs.lemmas.Option.{slice_get_read}
-use Rattle.net_jobs.proofs.EndLemmas.{commands_say, plays_over}
+use Rattle.std.proofs.Common.{◌≡◌, ℕ, IfOk, List, rules, subst}
+use Rattle.std.specs.List.{flat_map}
+use Rattle.std.proofs.lemmas.List.Sorted.{IsNonDecreasingBy-from_sort, answers_always}
+use Rattle.job_text.specs.declared.job.Command.{Command}
+use Rattle.net_jobs.specs.Plays.{AllPlay}
+use Rattle.net_jobs.specs.declared.said.Said.{Said}
+use Rattle.net_jobs.proofs.Gathering.{played}
 use Rattle.net_jobs.proofs.playing.play.Goals as goal
-
-pub say_all-requires-clause-say : goal.say_all-requires-clause-say
-say_all-requires-clause-say g c κs within =
-    let job = c.args.job.now in
-    let commands = c.as_slice-commands.result.now in
-    let item = c.section-item.result in
-    let at : slice_get c.as_slice.result.now 0 ≡ Some item =
-    slice_get_read c.as_slice.result.now (length c.as_slice.result.now) 0 item refl (omega (arith, c.in-len1.len_at_least)) c.section-item.is in
-    let section : slice_get job.sections 0 ≡ Some commands = ap (λ xs. slice_get xs 0) (sym c.as_slice.ensures) ∙ at ∙ ap (λ cs. Some cs) (sym c.as_slice-commands.ensures) in
-    commands_say job c.args.store commands c.requires.job c.requires.opened section
 
 pub returns : goal.returns
 returns g c =
-    let job = c.args.job.now in
-    let commands = c.as_slice-commands.result.now in
-    let item = c.section-item.result in
-    let at : slice_get c.as_slice.result.now 0 ≡ Some item =
-    slice_get_read c.as_slice.result.now (length c.as_slice.result.now) 0 item refl (omega (arith, c.in-len1.len_at_least)) c.section-item.is in
-    let section : slice_get job.sections 0 ≡ Some commands = ap (λ xs. slice_get xs 0) (sym c.as_slice.ensures) ∙ at ∙ ap (λ cs. Some cs) (sym c.as_slice-commands.ensures) in
-    plays_over job c.args.store commands c.say_all.new.play c.drop_all.new.play c.requires.job section
-    c.requires.opened c.in_ok-say_all.ensures.said c.in_ok-drop_all.ensures.said
+    let sort = c.sort_unstable_by_key.ensures in
+    let key : Said → ℕ = λ (line : Said). line.place in
+    played c.written.result c.args.manager.now c.args.job.now.sections c.args.sessions.now c.parts.new.sessions c.in_ok-said.said.items c.sort_unstable_by_key.new.self.items c.requires.can c.requires.numbers
+    (subst (λ (sections : List (List Command)). AllPlay sections c.args.sessions.now c.parts.new.sessions c.in_ok-said.said.items) c.as_slice-sections.ensures c.in_ok-said.ensures)
+    sort.permutation (IsNonDecreasingBy-from_sort key _ (sort.sorted key (answers_always _ _ _ (λ f a r g h. search rules))))
+    (subst (λ (l : List Said). IfOk c.written.result (λ text. text.items ≡ flat_map (λ (line : Said). line.text.items) l)) c.deref.ensures.value c.written.ensures)

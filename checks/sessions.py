@@ -1,0 +1,137 @@
+"""Plays jobs of several sessions, which may end in more than one way, and judges each history that comes of it.
+
+usage: sessions.py PROGRAM EXAMPLE..
+
+Each example is played some times, and so is a job of 64 sections with 200 calls each. Then come two long jobs of one section:
+one that makes more dead nodes than there are slots, and one that makes and drops many registers.
+"""
+import random
+import subprocess
+import sys
+
+from legal import Illegal, judge
+
+RUNS = 100
+EXAMPLE_RUNS = 10
+
+
+def played(program, job):
+    run = subprocess.run([program, "play"], input=job.encode(), capture_output=True)
+    if run.returncode or run.stderr:
+        raise Illegal(f"status {run.returncode}, {run.stderr!r} on standard error")
+    return run.stdout.decode()
+
+
+class Section:
+    """A section that is made up: its registers by kind, and its commands."""
+
+    def __init__(self, rng):
+        self.rng, self.lines, self.count = rng, [], 0
+        self.live = {"b": [], "a": [], "z": []}
+        for kind, words in (("b", "var 0"), ("b", "var 3"), ("a", "num 1"), ("z", "single 1")):
+            self.assign(kind, words)
+
+    def assign(self, kind, words):
+        name = f"r{self.count}"
+        self.count += 1
+        self.lines.append(f"{name} = {words}")
+        self.live[kind].append(name)
+
+    def one(self, kind):
+        return self.rng.choice(self.live[kind])
+
+    def step(self):
+        rng = self.rng
+        kind = rng.choice("bbbaz")
+        f, g = self.one(kind), self.one(kind)
+        match rng.randrange(10):
+            case 0:
+                self.lines.append(f"post {rng.randrange(8)} {f}")
+            case 1:
+                self.assign(kind, f"fetch {rng.randrange(8)} {f}")
+            case 2:
+                self.assign(kind, f"copy {f}")
+            case 3:
+                self.lines.append(f"same {f} {g}")
+            case 4:
+                self.lines.append(f"eval {f} " + "".join(rng.choice("01") for _ in range(4)))
+            case 5 if len(self.live[kind]) > 3:
+                self.live[kind].remove(f)
+                self.lines.append(f"drop {f}")
+            case 6 if rng.randrange(20) == 0:
+                self.lines.append("sweep")
+            case _:
+                words = {
+                    "b": ["and", "or", "xor"],
+                    "a": ["min", "max", "threshold"],
+                    "z": ["union", "meet", "diff", "product"],
+                }[kind]
+                self.assign(kind, f"{rng.choice(words)} {f} {g}")
+
+
+def many_sections(seed):
+    rng = random.Random(seed)
+    lines = ["vars 4", "elements 4"]
+    for _ in range(64):
+        section = Section(rng)
+        while len(section.lines) < 200:
+            section.step()
+        lines += ["session", *section.lines]
+    return "\n".join(lines) + "\n"
+
+
+def toggles(count, most):
+    """Which variable to take into or out of a parity, so that no parity comes twice."""
+    for step in range(1, count + 1):
+        yield most - 1 - (step & -step).bit_length() + 1
+
+
+def dead_nodes(count, most):
+    """A job of parities, each made of the one before it, which is dropped: about most / 2 nodes die at each step."""
+    lines = [f"vars {most}", "limit 1000", "session"]
+    lines += [f"v{v} = var {v}" for v in range(most)] + ["p0 = false"]
+    holds = [0] * most
+    for step, v in enumerate(toggles(count, most), 1):
+        lines += [f"p{step} = xor p{step - 1} v{v}", f"drop p{step - 1}"]
+        holds[v] ^= 1
+    ends = []
+    for v in range(most):
+        lines.append(f"eval p{count} " + "".join("01"[w == v] for w in range(most)))
+        ends.append(str(holds[v]))
+    return "\n".join(lines) + "\n", ends
+
+
+def many_registers(count):
+    lines = ["vars 4", "session"] + [f"v{v} = var {v}" for v in range(4)]
+    for step in range(count):
+        lines += [f"c{step} = copy v{step % 4}", f"drop c{step}"]
+    return "\n".join(lines + ["eval v2 0010", "eval v2 1101"]) + "\n", ["1", "0"]
+
+
+def evals(history):
+    calls = [line.rpartition(" -> ") for line in history.split("\n")]
+    return [reply for call, _, reply in calls if " eval " in call]
+
+
+def main(program, *examples):
+    faults = 0
+    jobs = [(name, open(name).read(), EXAMPLE_RUNS) for name in examples]
+    jobs.append(("64 sections", many_sections(1), RUNS))
+    for name, job, runs in jobs:
+        for _ in range(runs):
+            try:
+                judge(job, played(program, job))
+            except Illegal as fault:
+                print(f"NO LEGAL HISTORY of {name}: {fault}")
+                faults += 1
+                break
+    for name, (job, due) in (("dead nodes", dead_nodes(346_000, 20)), ("many registers", many_registers(500_000))):
+        history = played(program, job)
+        if evals(history) != due or " -> full" in history:
+            print(f"NOT AS DUE {name}: {evals(history)}, due {due}")
+            faults += 1
+    print(f"{len(examples)} examples and {RUNS} runs of 64 sessions judged, and 2 long jobs: {faults} faults")
+    return faults > 0
+
+
+sys.exit(main(*sys.argv[1:]))

@@ -1,0 +1,229 @@
+-- The registers of the grammar are live, and of their kinds, after each command.
+use Rattle.std.proofs.Common.{◌≡◌, ◌≢◌, ℕ, zero, suc, ◌+◌, ◌<◌, ⊎_elim, Bool, true, false, cond, not, ◌&&◌, List, [], ◌∷◌, ◌++◌, length, map, Option, Some, None, refl, sym, ap, ◌∙◌, subst, arith, codes}
+use Rattle.std.specs.Prelude.{is_some, option_map, slice_get}
+use Rattle.std.specs.Str.{bytes_eq}
+use Rattle.std.specs.List.{range_with_len}
+use Rattle.std.specs.Prelude.{◌==◌}
+use Rattle.std.proofs.lemmas.Bool.{false≢true, ne_eqb}
+use Rattle.std.proofs.lemmas.List.{length_push, length-map}
+use Rattle.std.proofs.lemmas.Option.{slice_get-map}
+use Rattle.std.proofs.lemmas.Slice.Eq.{bytes_eq-Decides}
+use Rattle.edge_bits.specs.declared.edges.Kind.{Kind}
+use Rattle.function_laws.specs.declared.history.Call.{Call}
+use Rattle.function_laws.specs.declared.history.Call.TheVariants as calls
+use Rattle.function_laws.specs.declared.history.Function.{Function}
+use Rattle.function_laws.specs.declared.history.Name.{Name}
+use Rattle.function_laws.specs.Tables.{same_name}
+use Rattle.dd_session.specs.Managing.{stands_for}
+use Rattle.dd_session.specs.Sessions.{kind_of}
+use Rattle.job_text.specs.declared.job.Act.{Act}
+use Rattle.job_text.specs.declared.job.Act.TheVariants.{Copy, Fetch, Post, Drop, Same, Leq, Eval, Sweep}
+use Rattle.job_text.specs.declared.job.Counts.{Counts}
+use Rattle.job_text.specs.declared.job.Register.{Register}
+use Rattle.job_text.specs.declared.operands.Operand.{Operand}
+use Rattle.job_text.specs.declared.operands.Operand.TheVariants as operands
+use Rattle.job_words.specs.Text.{Word}
+use Rattle.job_words.specs.Commands.{kind_made as kind_of_word}
+use Rattle.job_text.specs.Grammar.{AllStandFor, Says, Spelling, Spells, StandsFor, assigns, kind_at, kind_given, registers_after, spelling, tells, without}
+use Rattle.job_text.specs.Histories.{stops}
+use Rattle.job_text.proofs.Effects.{kind_by_word, kind_of_copy, kind_of_fetch, one_register_less, one_register_more, operands_stand, same_registers}
+use Rattle.dd_session.specs.Sessions.{IsLiveAs, Seen}
+use Rattle.net_jobs.specs.declared.answering.Answered.{Answered}
+use Rattle.net_jobs.specs.declared.registers.Assigned.{Assigned}
+use Rattle.net_jobs.specs.Saying.{Covers, IsAnswered, assigned_after, call_of, kind_made, kind_or, makes_row, name_at, name_in}
+use Rattle.net_jobs.proofs.CallLaws.{Given, given, left, left_by}
+use Rattle.net_jobs.proofs.CanLemmas.{refers-kind}
+use Rattle.net_jobs.proofs.ListLemmas.{slice_get-push, slice_get-push_new, slice_get-push_old}
+use Rattle.net_jobs.proofs.OutcomeKinds.{is_plain}
+use Rattle.net_jobs.proofs.StandsLemmas.{generation_of, other_generation}
+
+-- the names of the registers are of one generation after another
+pub numbered : (names : List Assigned) (first : ℕ) → map generation_of names ≡ range_with_len first (length names) → (a : ℕ) → a < length names → (name_at names a).generation ≡ first + a
+numbered [] first is a below = absurd (omega (arith, below))
+numbered (x ∷ names) first is zero below = let head : x.name.generation ≡ first = cc in omega (arith, head)
+numbered (x ∷ names) first is (suc a) below =
+    let tail : map generation_of names ≡ range_with_len (first + 1) (length names) = cc in
+    let rest = numbered names (first + 1) tail a (omega (arith, below)) in
+    omega (arith, rest)
+
+-- two of them are two names
+pub name-apart : (a b : Name) → a.generation ≢ b.generation → same_name a b ≡ false
+name-apart a b apart = ap (λ g. (a.row == b.row) && g) (ne_eqb a.generation b.generation apart) ∙ and_false (a.row == b.row)
+  where
+    and_false : (x : Bool) → (x && false) ≡ false
+    and_false true = refl
+    and_false false = refl
+
+-- a command's call is one of a job
+pub plain : (names : List Assigned) (act : Act) → is_plain (call_of names act) ≡ true
+plain names (Drop a) = refl
+plain names act = refl
+
+and_both : (a b : Bool) → (a && b) ≡ true → (a ≡ true) × (b ≡ true)
+and_both true b is = (refl, is)
+and_both false b is = absurd (false≢true is)
+
+not_true : (b : Bool) → not b ≡ true → b ≡ false
+not_true true is = absurd (false≢true is)
+not_true false is = refl
+
+same_word : (w : Word) → bytes_eq w w ≡ true
+same_word w = (bytes_eq-Decides w w).1 refl
+
+-- a register that is live after a drop was live before, and has another name
+without-live : (dropped word : Word) (k : Kind) (o : Option Register) → option_map (without dropped) o ≡ Some (record { name = word; live = true; kind = k })
+    → (o ≡ Some (record { name = word; live = true; kind = k })) × (bytes_eq word dropped ≡ false)
+without-live dropped word k None is = cc
+without-live dropped word k (Some register) is =
+    let same : without dropped register ≡ record { name = word; live = true; kind = k } = cc in
+    let name : register.name ≡ word = ap (λ (r : Register). r.name) same in
+    let flags : (register.live && not (bytes_eq register.name dropped)) ≡ true = ap (λ (r : Register). r.live) same in
+    let both = and_both register.live (not (bytes_eq register.name dropped)) flags in
+    let still : register.live ≡ (register.live && not (bytes_eq register.name dropped)) = both.0 ∙ sym flags in
+    let kept : Some register ≡ Some (without dropped register) = ap (λ (b : Bool). Some (record { name = register.name; live = b; kind = register.kind })) still in (
+      kept ∙ ap (λ (r : Register). Some r) same,
+      ap (λ w. bytes_eq w dropped) (sym name) ∙ not_true (bytes_eq register.name dropped) both.1,
+    )
+
+-- the spelling of a command that makes a row of a kind, and of one that makes none and drops none
+abbrev assigns_kind : Kind → Spelling → Type 0
+assigns_kind k (assigns command os) = (kind_of_word command ≡ k) × (bytes_eq command (codes "copy") ≡ false) × (bytes_eq command (codes "fetch") ≡ false)
+assigns_kind k (tells command os) = ⊥
+
+abbrev keeps_all : Spelling → Bool
+keeps_all (assigns command os) = false
+keeps_all (tells command os) = not (bytes_eq command (codes "drop"))
+
+-- what stands for the same is live of the same kind
+live_along : (k : Kind) (old new : Seen) (name : Name) → stands_for new.rows name ≡ stands_for old.rows name → IsLiveAs k old name → IsLiveAs k new name
+live_along k old new name same live = (live.0, same ∙ live.1, live.2)
+
+kind_held : (k : Kind) (s : Seen) (name : Name) → IsLiveAs k s name → kind_or (stands_for s.rows name) ≡ k
+kind_held k s name live = ap kind_or live.1 ∙ live.2
+
+module _ (n : Counts) (registers : List Register) (old new : Seen) (names : List Assigned) (first i : ℕ) (words : List Word) (covers : Covers registers old names)
+    (generations : map generation_of names ≡ range_with_len first (length names)) (adds : old.adds ≡ first + length names) where
+  covers-kept : ((name : Name) → stands_for new.rows name ≡ stands_for old.rows name) → Covers registers new names
+  covers-kept same = record {
+    as_many = covers.as_many;
+    held = λ a word k at. let held = covers.held a word k at in (held.0, live_along k old new (name_at names a) (same (name_at names a)) held.1);
+  }
+
+  covers-push : (name : Name) (call : Call) (word : Word) (k : Kind) → (is : Given old new call name) → kind_of is.function ≡ k
+      → Covers (registers ++ record { name = word; live = true; kind = k } ∷ []) new (assigned_after (Some name) i names)
+  covers-push name call word k is kind =
+      let register : Register = record { name = word; live = true; kind = k } in
+      let one : Assigned = record { name = name; command = i } in
+      let longer = length_push names one in
+      record {
+        as_many = length_push registers register ∙ ap (λ j. j + 1) covers.as_many ∙ sym longer;
+        held = λ a other j at. ⊎_elim
+            (λ was.
+            let held = covers.held a other j was.1 in
+            let same : name_at (names ++ one ∷ []) a ≡ name_at names a = ap name_in (slice_get-push_old names one a held.0) in
+            let apart = other_generation (name_at names a) name (omega (arith, numbered names first generations a held.0, held.0, adds, is.generation)) in
+            (omega (arith, held.0, longer), subst (IsLiveAs j new) (sym same) (live_along j old new (name_at names a) (is.others (name_at names a) apart) held.1)))
+            (λ fresh.
+            let same : k ≡ j = ap (λ (r : Register). r.kind) fresh.1 in
+            let here : a ≡ length names = fresh.0 ∙ covers.as_many in
+            let named : name_at (names ++ one ∷ []) a ≡ name = ap (name_at (names ++ one ∷ [])) here ∙ ap name_in (slice_get-push_new names one) in
+            (omega (arith, here, longer), subst (IsLiveAs j new) (sym named) (is.function, is.stands, kind ∙ same)))
+            (slice_get-push registers register (record { name = other; live = true; kind = j }) a at);
+      }
+
+  covers-drop : (word : Word) (kind : Kind) (a : ℕ) → slice_get registers a ≡ Some (record { name = word; live = true; kind = kind })
+      → ((name : Name) → stands_for new.rows name ≡ left_by (calls.DropRow (name_at names a)) name (stands_for old.rows name)) → Covers (map (without word) registers) new names
+  covers-drop word kind a is gone = record {
+    as_many = length-map registers (without word) ∙ covers.as_many;
+    held = λ j name k at.
+        let before = without-live word name k (slice_get registers j) (sym (slice_get-map (without word) registers j) ∙ at) in
+        let apart : j ≢ a = λ same.
+        let one : Register = record { name = name; live = true; kind = k } in
+        let two : Register = record { name = word; live = true; kind = kind } in
+        let both : Some one ≡ Some two = sym before.0 ∙ ap (slice_get registers) same ∙ is in
+        let equal : one ≡ two = cc in
+        let word_is : name ≡ word = ap (λ (r : Register). r.name) equal in
+        false≢true (sym before.1 ∙ ap (λ w. bytes_eq w word) word_is ∙ same_word word) in
+        let held = covers.held j name k before.0 in
+        let dropped = covers.held a word kind is in
+        let other = name-apart (name_at names j) (name_at names a)
+        (λ e. apart (omega (arith, e, numbered names first generations j held.0, numbered names first generations a dropped.0))) in
+        (held.0, live_along k old new (name_at names j) (gone (name_at names j) ∙ ap (λ b. cond b None (stands_for old.rows (name_at names j))) other) held.1);
+  }
+
+  module _ (act : Act) (answered : Answered) (is : IsAnswered old new (call_of names act) answered) (goes : stops answered.reply ≡ false) where
+    made-is : makes_row (call_of names act) ≡ true → is_some answered.made ≡ true
+    made-is makes = is.made_if ∙ ap (λ b. b && not (stops answered.reply)) makes ∙ ap not goes
+
+    made-none : makes_row (call_of names act) ≡ false → is_some answered.made ≡ false
+    made-none none = is.made_if ∙ ap (λ b. b && not (stops answered.reply)) none
+
+    -- the call gave a name
+    pub gave : makes_row (call_of names act) ≡ true → (name : Name) × (answered.made ≡ Some name) × Given old new (call_of names act) name
+    gave makes = by answered.made refl (made-is makes)
+      where
+        by : (o : Option Name) → answered.made ≡ o → is_some o ≡ true → (name : Name) × (answered.made ≡ Some name) × Given old new (call_of names act) name
+        by None made some = absurd (false≢true some)
+        by (Some name) made some = (name, made, given old new (call_of names act) is.reply answered.place is.called name (plain names act) (is.gives ∙ made))
+
+    -- or none
+    pub gave_none : makes_row (call_of names act) ≡ false → (answered.made ≡ None) × ((name : Name) → stands_for new.rows name ≡ left_by (call_of names act) name (stands_for old.rows name))
+    gave_none none = by answered.made refl (made-none none)
+      where
+        by : (o : Option Name) → answered.made ≡ o → is_some o ≡ false → (answered.made ≡ None) × ((name : Name) → stands_for new.rows name ≡ left_by (call_of names act) name (stands_for old.rows name))
+        by None made some = (made, left old new (call_of names act) is.reply answered.place is.called (is.gives ∙ made))
+        by (Some name) made some = absurd (false≢true (sym some))
+
+    along : (o : Option Name) (rs : List Register) → registers_after registers words ≡ rs → answered.made ≡ o → Covers rs new (assigned_after o i names) → Covers (registers_after registers words) new (assigned_after answered.made i names)
+    along o rs same made c = subst (λ (x : List Register). Covers x new (assigned_after answered.made i names)) (sym same) (subst (λ (x : Option Name). Covers rs new (assigned_after x i names)) (sym made) c)
+
+    after-made : (k : Kind) (spelt : Spelling) → assigns_kind k spelt → Spells n registers words spelt → makes_row (call_of names act) ≡ true → kind_made (stands_for old.rows) (call_of names act) ≡ k
+        → Covers (registers_after registers words) new (assigned_after answered.made i names)
+    after-made k (assigns command os) kinds spells makes is_kind =
+        let more = one_register_more n registers words command os spells in
+        let one = gave makes in
+        let kind : kind_given registers command more.1 ≡ k = kind_by_word registers command more.1 kinds.1 kinds.2 ∙ kinds.0 in
+        along (Some one.0) _ (more.3 ∙ ap (λ (j : Kind). registers ++ record { name = more.0; live = true; kind = j } ∷ []) kind) one.1
+        (covers-push one.0 (call_of names act) more.0 k one.2 (one.2.kind ∙ is_kind))
+    after-made k (tells command os) kinds spells makes is_kind = absurd kinds
+
+    -- a copy, and what was fetched, have the kind of their register
+    after-handed : (a : ℕ) (command : Word) (os : List Operand) → Spells n registers words (assigns command os) → ((rest : List Word) → AllStandFor n registers rest os → kind_given registers command rest ≡ kind_at registers a)
+        → (word : Word) × StandsFor n registers word (operands.Any a) → makes_row (call_of names act) ≡ true → kind_made (stands_for old.rows) (call_of names act) ≡ kind_or (stands_for old.rows (name_at names a))
+        → Covers (registers_after registers words) new (assigned_after answered.made i names)
+    after-handed a command os spells kind stands makes is_kind =
+        let more = one_register_more n registers words command os spells in
+        let one = gave makes in
+        let k = stands.1.0 in
+        let held = covers.held a stands.0 k stands.1.1.1 in
+        along (Some one.0) _ (more.3 ∙ ap (λ (j : Kind). registers ++ record { name = more.0; live = true; kind = j } ∷ []) (kind more.1 more.2)) one.1
+        (covers-push one.0 (call_of names act) more.0 (kind_at registers a) one.2
+        (one.2.kind ∙ is_kind ∙ kind_held k old (name_at names a) held.1 ∙ sym (refers-kind registers stands.0 a k stands.1.1)))
+
+    after-kept : (spelt : Spelling) → keeps_all spelt ≡ true → Spells n registers words spelt → makes_row (call_of names act) ≡ false
+        → ((name : Name) (o : Option Function) → left_by (call_of names act) name o ≡ o) → Covers (registers_after registers words) new (assigned_after answered.made i names)
+    after-kept (assigns command os) keeps spells none same = cc
+    after-kept (tells command os) keeps spells none same =
+        let nothing = gave_none none in
+        along None registers (same_registers n registers words command os (not_true (bytes_eq command (codes "drop")) keeps) spells) nothing.0
+        (covers-kept (λ name. nothing.1 name ∙ same name (stands_for old.rows name)))
+
+  -- the registers after a command that goes on
+  pub covers-after : (act : Act) (answered : Answered) → IsAnswered old new (call_of names act) answered → stops answered.reply ≡ false → Says n registers words act
+      → Covers (registers_after registers words) new (assigned_after answered.made i names)
+  covers-after (Drop a) answered is goes says =
+      let less = one_register_less n registers words a says in
+      let nothing = gave_none (Drop a) answered is goes refl in
+      along (Drop a) answered is goes None (map (without less.0) registers) less.3 nothing.0 (covers-drop less.0 less.1 a less.2.1 nothing.1)
+  covers-after (Copy a) answered is goes says =
+      after-handed (Copy a) answered is goes a (codes "copy") (operands.Any a ∷ []) says.0 (λ rest stand. kind_of_copy n registers rest a stand)
+      (operands_stand n registers words (spelling (Copy a)) says.0).0 refl refl
+  covers-after (Fetch cell a) answered is goes says =
+      after-handed (Fetch cell a) answered is goes a (codes "fetch") (operands.Cell cell ∷ operands.Any a ∷ []) says.0 (λ rest stand. kind_of_fetch n registers rest cell a stand)
+      (operands_stand n registers words (spelling (Fetch cell a)) says.0).1.0 refl refl
+  covers-after (Post cell a) answered is goes says = after-kept (Post cell a) answered is goes (spelling (Post cell a)) refl says.0 refl (λ name o. refl)
+  covers-after Sweep answered is goes says = after-kept Sweep answered is goes (spelling Sweep) refl says.0 refl (λ name o. refl)
+  covers-after (Same a b) answered is goes says = after-kept (Same a b) answered is goes (spelling (Same a b)) refl says.0 refl (λ name o. refl)
+  covers-after (Leq a b) answered is goes says = after-kept (Leq a b) answered is goes (spelling (Leq a b)) refl says.0 refl (λ name o. refl)
+  covers-after (Eval a bits) answered is goes says = after-kept (Eval a bits) answered is goes (spelling (Eval a bits)) refl says.0 refl (λ name o. refl)
+  covers-after act answered is goes says = after-made act answered is goes (kind_made (stands_for old.rows) (call_of names act)) (spelling act) (refl, refl, refl) says.0 refl refl

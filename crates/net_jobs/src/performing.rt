@@ -1,0 +1,126 @@
+//! The call of a command.
+
+ghost use Rattle.std.specs.Prelude.{◌≡◌, ◌<◌, true, IfOk};
+ghost use Rattle.function_laws.specs.declared.history.Call.TheVariants as calls;
+ghost use Rattle.dd_session.specs.Sessions.{HasRoom, IsLive};
+ghost use Rattle.net_jobs.specs.Sections.{counts_of};
+ghost use Rattle.net_jobs.specs.Saying.{CanCall, IsAnswered, IsKept, call_of, is_operation};
+
+use crate::answering::{
+    Answered, answer_of, done, exact_answer_of, fetched, made, valued, yes_or_no,
+};
+use crate::operating::{operate, operate_exactly, operate_on_families, operate_on_numbers};
+use crate::registers::{Assigned, at};
+use dd_session::{H, Manager, Session};
+use edge_bits::Memory;
+use job_text::Act;
+use std::alloc::Global;
+use std::sync::Wait;
+
+/// Makes the call of a command that makes a row by an operation.
+fn make<R: Wait>(
+    rt: &R,
+    alloc: Global,
+    manager: &Manager,
+    session: &mut Session,
+    names: &[Assigned],
+    act: &Act,
+) -> Result<Answered, Memory>
+    requires own { session.old.manager ≡ manager.now }
+    requires room { HasRoom session.old }
+    requires can { CanCall (counts_of session.old.manager) session.old names.now act.now }
+    requires operation { is_operation act.now ≡ true }
+    ensures answered { IfOk result (IsAnswered session.old session.new (call_of names.now act.now)) }
+    ensures kept { IsKept session.old session.new }
+{
+    match act {
+        Act::Plus(_, _) | Act::Minus(_, _) | Act::Times(_, _) | Act::SumOver(_, _) => {
+            exact_answer_of(operate_exactly(rt, manager, session, names, act))
+        }
+        Act::Constant(_)
+        | Act::FromBdd(_)
+        | Act::Min(_, _)
+        | Act::Max(_, _)
+        | Act::Threshold(_, _)
+        | Act::AddIte(_, _, _)
+        | Act::AtLeast(_, _)
+        | Act::Pattern(_) => answer_of(operate_on_numbers(rt, manager, session, names, act)),
+        Act::Empty
+        | Act::Base
+        | Act::Single(_)
+        | Act::Union(_, _)
+        | Act::Meet(_, _)
+        | Act::Diff(_, _)
+        | Act::Subset1(_, _)
+        | Act::Subset0(_, _)
+        | Act::Change(_, _)
+        | Act::Product(_, _)
+        | Act::Quotient(_, _) => {
+            answer_of(operate_on_families(rt, manager, session, names, act))
+        }
+        _ => answer_of(operate(rt, alloc, manager, session, names, act)),
+    }
+}
+
+/// Makes the call of a `copy`.
+fn copy<R: Wait>(
+    rt: &R,
+    manager: &Manager,
+    session: &mut Session,
+    name: H,
+) -> Result<Answered, Memory>
+    requires own { session.old.manager ≡ manager.now }
+    requires room { HasRoom session.old }
+    requires live { IsLive session.old name }
+    ensures answered { IfOk result (IsAnswered session.old session.new (calls.Copy name)) }
+    ensures kept { IsKept session.old session.new }
+{
+    session.reserve(1)?;
+    Ok(made(session.copy(rt, manager, name)))
+}
+
+/// Makes the call of a `fetch`.
+fn fetch<R: Wait>(
+    rt: &R,
+    manager: &Manager,
+    session: &mut Session,
+    cell: u8,
+    name: H,
+) -> Result<Answered, Memory>
+    requires own { session.old.manager ≡ manager.now }
+    requires room { HasRoom session.old }
+    requires live { IsLive session.old name }
+    ensures answered { IfOk result (IsAnswered session.old session.new (calls.Fetch cell name)) }
+    ensures kept { IsKept session.old session.new }
+{
+    session.reserve(1)?;
+    Ok(fetched(session.fetch(rt, manager, cell, name)))
+}
+
+/// Makes the call of a command.
+pub fn perform<R: Wait>(
+    rt: &R,
+    alloc: Global,
+    manager: &Manager,
+    session: &mut Session,
+    names: &[Assigned],
+    act: &Act,
+) -> Result<Answered, Memory>
+    requires own { session.old.manager ≡ manager.now }
+    requires room { HasRoom session.old }
+    requires can { CanCall (counts_of session.old.manager) session.old names.now act.now }
+    ensures answered { IfOk result (IsAnswered session.old session.new (call_of names.now act.now)) }
+    ensures kept { IsKept session.old session.new }
+{
+    Ok(match act {
+        Act::Copy(a) => copy(rt, manager, session, at(names, *a))?,
+        Act::Fetch(cell, a) => fetch(rt, manager, session, *cell, at(names, *a))?,
+        Act::Post(cell, a) => done(session.post(rt, manager, *cell, at(names, *a)).place),
+        Act::Drop(a) => done(session.drop_row(rt, manager, at(names, *a)).place),
+        Act::Sweep => done(session.sweep(rt, manager).place),
+        Act::Same(a, b) => { yes_or_no(session.same(rt, manager, at(names, *a), at(names, *b))) }
+        Act::Leq(a, b) => { yes_or_no(session.leq(rt, manager, at(names, *a), at(names, *b))?) }
+        Act::Eval(a, bits) => { valued(session.eval(rt, manager, at(names, *a), bits.as_slice())) }
+        _ => make(rt, alloc, manager, session, names, act)?,
+    })
+}
