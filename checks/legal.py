@@ -251,14 +251,15 @@ class Session:
 
 def after(words, reply, session, kinds, world, n, m):
     """The worlds that may be left of one by this call and its reply: what each session's registers stand for, and for each
-    cell of the board that was posted its kind and its function."""
+    cell of the board that was posted its kind and its function. The world itself is changed where only one is left."""
     if words[1:2] == ["="] and words[2] == "copy":
-        return [world | {(session, words[0]): world[session, words[3]]}] if reply == "ok" else []
+        world[session, words[0]] = world[session, words[3]]
+        return [world] if reply == "ok" else []
     if words[1:2] == ["="] and words[2] == "fetch":
         kind, f = world.get(("cell", int(words[3])), (None, None))
         is_posted = kind == kinds[words[4]]
-        found = f if is_posted else world[session, words[4]]
-        return [world | {(session, words[0]): found}] if reply == ("posted" if is_posted else "empty") else []
+        world[session, words[0]] = f if is_posted else world[session, words[4]]
+        return [world] if reply == ("posted" if is_posted else "empty") else []
     if words[1:2] == ["="]:
         given = [world[session, it] for it in words[3:] if (session, it) in world]
         try:
@@ -267,14 +268,19 @@ def after(words, reply, session, kinds, world, n, m):
             return [world] if reply in ("overflow", "full") else []
         if reply == "full":
             return [] if words[2] in READY else [world]
-        return [world | {(session, words[0]): f} for f in functions] if reply == "ok" else []
+        if reply != "ok":
+            return []
+        if len(functions) > 1:
+            return [world | {(session, words[0]): f} for f in functions]
+        world[session, words[0]] = functions[0]
+        return [world]
     match words[0]:
         case "drop":
             is_due = reply == "ok"
-            world = {name: f for name, f in world.items() if name != (session, words[1])}
+            del world[session, words[1]]
         case "post":
             is_due = reply == "ok"
-            world = world | {("cell", int(words[1])): (kinds[words[2]], world[session, words[2]])}
+            world["cell", int(words[1])] = (kinds[words[2]], world[session, words[2]])
         case "sweep":
             is_due = reply == "ok"
         case "same":

@@ -33,7 +33,8 @@ fn words_that_are_no_command_read_nothing(rt: HostRuntime) -> Result<(), Fail> {
 #[test]
 fn two_sessions_work_at_once(rt: HostRuntime) -> Result<(), Fail> {
     let alloc = rt.alloc();
-    let job = "vars 1\nsession\na = true\npost 0 a\nb = fetch 1 a\nc = fetch 0 a\nsession\nx = var 0\npost 1 x\ny = fetch 0 x\n";
+    let job =
+        "vars 1\nsession\na = true\npost 0 a\nb = fetch 1 a\nc = fetch 0 a\nsession\nx = var 0\npost 1 x\ny = fetch 0 x\n";
     let mut source = SureBytes::new(Vec::from_slice(alloc, job.as_bytes())?);
     let words = vec![in alloc; "play".to_string(alloc)?]?;
     let gate = Pair::new();

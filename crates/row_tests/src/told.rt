@@ -96,7 +96,11 @@ fn answer_of<R: Threads + Wait + Sync>(
 }
 
 /// How a row goes that is played, where no line of it is malformed.
-fn outcome_of<R: Threads + Wait + Sync>(rt: &R, alloc: Global, row: Row) -> Result<Outcome, AllocError> {
+fn outcome_of<R: Threads + Wait + Sync>(
+    rt: &R,
+    alloc: Global,
+    row: Row,
+) -> Result<Outcome, AllocError> {
     let Row {
         words,
         source,
