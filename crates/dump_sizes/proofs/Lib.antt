@@ -1,5 +1,5 @@
-mod Counted
-mod Lines
+pub mod Counted
+pub mod Lines
 mod Rows
-mod Shown
-mod Standing
+pub mod Shown
+pub mod Standing

@@ -1,0 +1,5 @@
+mod Evaluated
+mod Firsts
+mod Padding
+mod RootLaws
+mod Rows
