@@ -1,5 +1,5 @@
 -- What was evaluated is told by its patterns.
-use Rattle.std.proofs.Common.{◌≡◌, ℕ, suc, ◌<◌, Bool, List, [], ◌∷◌, length, map, refl, ap, ◌∙◌, arith}
+use Rattle.std.proofs.Common.{◌≡◌, ℕ, suc, Bool, List, [], ◌∷◌, map, refl, ap, ◌∙◌, arith}
 use Rattle.net_reports.specs.Classes.{Function}
 use Rattle.net_reports.specs.Evaluations.{AreValues, evaluation_at, patterns_of, values_at}
 use Rattle.net_reports.specs.declared.patterns.Evaluation.{Evaluation}

@@ -3,3 +3,4 @@ mod Firsts
 mod Padding
 mod RootLaws
 mod Rows
+mod Texts

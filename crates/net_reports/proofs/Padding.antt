@@ -1,5 +1,5 @@
 -- Zeros past the end of a pattern.
-use Rattle.std.proofs.Common.{◌≡◌, ℕ, zero, suc, ◌+◌, ◌*◌, ◌++◌, Bool, false, List, [], ◌∷◌, replicate, refl, ap, ◌∙◌, arith}
+use Rattle.std.proofs.Common.{◌≡◌, ℕ, zero, suc, ◌+◌, ◌*◌, ◌++◌, Bool, false, List, [], ◌∷◌, replicate, refl, ap, arith}
 use Rattle.edge_bits.specs.Words.{digit}
 use Rattle.function_laws.specs.Values.{assignment_of}
 

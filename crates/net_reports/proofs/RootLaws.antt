@@ -1,5 +1,5 @@
 -- The classes of a well made dump's roots by their indices are those of the roots' functions.
-use Rattle.std.proofs.Common.{◌≡◌, ◌≢◌, ℕ, suc, ◌+◌, ◌^◌, ◌<◌, ◌≤◌, ◌⊎◌, zero, inl, inr, nat_lt, Bool, true, false, not, ℤ, pos, negsuc, List, [], ◌∷◌, Some, length, map, get_or, nat_abs, slice_get, if◌then◌else◌, refl, sym, ap, ◌∙◌, subst, arith, eqb-true}
+use Rattle.std.proofs.Common.{◌≡◌, ◌≢◌, ℕ, suc, ◌+◌, ◌<◌, ◌≤◌, ◌⊎◌, zero, inl, inr, nat_lt, Bool, true, false, not, ℤ, pos, negsuc, List, [], ◌∷◌, Some, length, map, get_or, nat_abs, slice_get, if◌then◌else◌, refl, sym, ap, ◌∙◌, subst, arith, eqb-true}
 use Rattle.std.specs.Prelude.{◌==◌}
 use Rattle.std.specs.Int.{is_negative}
 use Rattle.std.specs.List.{position_or_len}
@@ -34,21 +34,38 @@ root_within [] after i d are inside = absurd (omega (arith, inside))
 root_within (root ∷ roots) after zero d are inside = (are.0, are.1)
 root_within (root ∷ roots) after (suc i) d are inside = root_within roots after i d are.2 (omega (arith, inside))
 
--- roots of one magnitude
-not_not : (b : Bool) → b ≡ not (not b)
-not_not true = refl
-not_not false = refl
+-- the next index has its place among those of all lines
+pub index_within : (dump : Dump) → IsWellMade dump → (shown : List ℤ) (place index : ℕ) → shown ≡ dump.roots → place < length shown → index ≡ nat_abs (get_or shown place (pos 0))
+    → index < length dump.nodes + 2
+index_within dump well shown place index same inside is =
+    let moved : length shown ≡ length dump.roots = ap (λ (roots : List ℤ). length roots) same in
+    let at : index ≡ nat_abs (get_or dump.roots place (pos 0)) = is ∙ ap (λ (roots : List ℤ). nat_abs (get_or roots place (pos 0))) same in
+    omega (arith, at, (root_within dump.roots (2 + length dump.nodes) place (pos 0) (are_lines dump well) (omega (arith, moved, inside))).1)
 
+-- the value of a line, or its opposite
+abbrev turned_by : Bool → Bool → Bool
+turned_by complement value = if complement then not value else value
+
+-- of a root
+root_is : (dump : Dump) (root : ℤ) (k : ℕ) → root_value dump root k ≡ turned_by (is_negative root) (line_value dump (nat_abs root) k)
+root_is dump (pos index) k = grind (arith, nat_tests)
+root_is dump (negsuc below) k =
+    let more : below + 1 ≡ suc below = omega arith in ap (λ i. not (line_value dump i k)) more
+
+turned_twice : (a b value : Bool) → turned_by a value ≡ (if differs a b then not (turned_by b value) else turned_by b value)
+turned_twice true true value = refl
+turned_twice true false value = refl
+turned_twice false true true = refl
+turned_twice false true false = refl
+turned_twice false false value = refl
+
+-- roots of one magnitude
 same_magnitude : (dump : Dump) (r s : ℤ) (k : ℕ) → nat_abs r ≡ nat_abs s
     → root_value dump r k ≡ (if differs (is_negative r) (is_negative s) then not (root_value dump s k) else root_value dump s k)
-same_magnitude dump (pos a) (pos b) k e = ap (λ i. line_value dump i k) e
-same_magnitude dump (pos a) (negsuc b) k e =
-    let more : a ≡ b + 1 = omega (arith, e) in
-    not_not (line_value dump a k) ∙ ap (λ i. not (not (line_value dump i k))) more
-same_magnitude dump (negsuc a) (pos b) k e =
-    let more : a + 1 ≡ b = omega (arith, e) in ap (λ i. not (line_value dump i k)) more
-same_magnitude dump (negsuc a) (negsuc b) k e =
-    let more : a + 1 ≡ b + 1 = omega (arith, e) in ap (λ i. not (line_value dump i k)) more
+same_magnitude dump r s k e =
+    root_is dump r k ∙ ap (λ i. turned_by (is_negative r) (line_value dump i k)) e
+    ∙ turned_twice (is_negative r) (is_negative s) (line_value dump (nat_abs s) k)
+    ∙ ap (λ value. if differs (is_negative r) (is_negative s) then not value else value) (sym (root_is dump s k))
 
 module _ (dump : Dump) (well : IsWellMade dump) (order : List ℕ) (under : IsUnder order dump) where
   abbrev orders : Orders
@@ -109,8 +126,8 @@ module _ (dump : Dump) (well : IsWellMade dump) (order : List ℕ) (under : IsUn
     abbrev first : ℕ
     first = position_or_len IsMet dump.roots
 
-    here : get_or dump.roots i r ≡ r
-    here = get_or_from_slice_get dump.roots i r r at
+    here : get_or dump.roots i (pos 0) ≡ r
+    here = get_or_from_slice_get dump.roots i r (pos 0) at
 
     inside : i < length dump.roots
     inside = slice_get_within dump.roots i r at
@@ -124,19 +141,19 @@ module _ (dump : Dump) (well : IsWellMade dump) (order : List ℕ) (under : IsUn
         by_test : (b : Bool) → nat_lt i first ≡ b → first ≤ i
         by_test true e =
             let lower : i < first = grind (arith, nat_tests) in
-            let failed : IsMet (get_or dump.roots i r) ≡ false = fails_before_first IsMet dump.roots i r lower in
+            let failed : IsMet (get_or dump.roots i (pos 0)) ≡ false = fails_before_first IsMet dump.roots i (pos 0) lower in
             let differs_here : true ≡ false = sym met ∙ ap IsMet (sym here) ∙ failed in cc
         by_test false e = grind (arith, nat_tests)
 
-    function_is : (j : ℕ) (f : Function) → j < length dump.roots → slice_get (root_functions dump) j ≡ Some f → f ≡ root_value dump (get_or dump.roots j r)
-    function_is j f within is = mapped_at (root_value dump) dump.roots j f r is within
+    function_is : (j : ℕ) (f : Function) → j < length dump.roots → slice_get (root_functions dump) j ≡ Some f → f ≡ root_value dump (get_or dump.roots j (pos 0))
+    function_is j f within is = mapped_at (root_value dump) dump.roots j f (pos 0) is within
 
     agrees : (f g : Function) → slice_get (root_functions dump) i ≡ Some f → slice_get (root_functions dump) first ≡ Some g
         → Agree (length order) (class_among dump.roots r).complement f g
     agrees f g f_at g_at k small =
         let within : first < length dump.roots = omega (arith, not_later, inside) in
-        let s : ℤ = get_or dump.roots first r in
-        let same : nat_abs s ≡ nat_abs r = eqb-true (nat_abs s) (nat_abs r) (passes_at_first IsMet dump.roots r within) in
+        let s : ℤ = get_or dump.roots first (pos 0) in
+        let same : nat_abs s ≡ nat_abs r = eqb-true (nat_abs s) (nat_abs r) (passes_at_first IsMet dump.roots (pos 0) within) in
         let f_is : f ≡ root_value dump r = function_is i f inside f_at ∙ ap (root_value dump) here in
         ap (λ (h : Function). h k) f_is ∙ same_magnitude dump r s k (sym same)
         ∙ ap (λ (h : Function). if differs (is_negative r) (is_negative s) then not (h k) else h k) (sym (function_is first g within g_at))
@@ -145,11 +162,11 @@ module _ (dump : Dump) (well : IsWellMade dump) (order : List ℕ) (under : IsUn
         → Agree (length order) complement f g → ⊥
     none_before j complement f g lower f_at g_at same =
         let within : j < length dump.roots = omega (arith, not_later, inside, lower) in
-        let s : ℤ = get_or dump.roots j r in
-        let failed : (nat_abs s == nat_abs r) ≡ false = fails_before_first IsMet dump.roots j r lower in
+        let s : ℤ = get_or dump.roots j (pos 0) in
+        let failed : (nat_abs s == nat_abs r) ≡ false = fails_before_first IsMet dump.roots j (pos 0) lower in
         let other : nat_abs r ≢ nat_abs s = grind (arith, nat_tests) in
         let f_is : f ≡ root_value dump r = function_is i f inside f_at ∙ ap (root_value dump) here in
-        never r s complement (subst IsWithin here (within_at i r inside)) (within_at j r within) other
+        never r s complement (subst IsWithin here (within_at i (pos 0) inside)) (within_at j (pos 0) within) other
         (subst (λ (h : Function). Agree (length order) complement h (root_value dump s)) f_is
         (subst (λ (h : Function). Agree (length order) complement f h) (function_is j g within g_at) same))
 

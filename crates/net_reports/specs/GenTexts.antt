@@ -20,13 +20,24 @@ outputs_of i = name (codes "s") i ++ name (codes "d") i ++ name (codes "n") i
 abbrev pub bits_of : ℕ → List ℕ
 bits_of i = name (codes "a") i ++ name (codes "b") i ++ name (codes "c") i
 
--- the four covers of bit i: the sum by its ones and by its zeros, its complement, and the next carry
+-- the sum of three bits, by its ones
+unfoldable pub sum_cover : ℕ → List ℕ
+sum_cover i = codes ".names" ++ bits_of i ++ name (codes "s") i ++ codes "\n001 1\n010 1\n100 1\n111 1\n"
+
+-- the same, by its zeros
+unfoldable pub zeros_cover : ℕ → List ℕ
+zeros_cover i = codes ".names" ++ bits_of i ++ name (codes "d") i ++ codes "\n000 0\n011 0\n101 0\n110 0\n"
+
+-- its complement
+unfoldable pub complement_cover : ℕ → List ℕ
+complement_cover i = codes ".names" ++ name (codes "s") i ++ name (codes "n") i ++ codes "\n0 1\n"
+
+-- the next carry
+unfoldable pub carry_cover : ℕ → List ℕ
+carry_cover i = codes ".names" ++ bits_of i ++ name (codes "c") (i + 1) ++ codes "\n11- 1\n1-1 1\n-11 1\n"
+
 abbrev pub bit_covers : ℕ → List ℕ
-bit_covers i =
-    codes ".names" ++ bits_of i ++ name (codes "s") i ++ codes "\n001 1\n010 1\n100 1\n111 1\n"
-    ++ codes ".names" ++ bits_of i ++ name (codes "d") i ++ codes "\n000 0\n011 0\n101 0\n110 0\n"
-    ++ codes ".names" ++ name (codes "s") i ++ name (codes "n") i ++ codes "\n0 1\n"
-    ++ codes ".names" ++ bits_of i ++ name (codes "c") (i + 1) ++ codes "\n11- 1\n1-1 1\n-11 1\n"
+bit_covers i = sum_cover i ++ zeros_cover i ++ complement_cover i ++ carry_cover i
 
 unfoldable pub gen_text : ℕ → List ℕ
 gen_text k =

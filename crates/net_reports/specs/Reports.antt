@@ -3,7 +3,7 @@ use Rattle.std.specs.Prelude.{◌≡◌, ℕ, ◌==◌, Bool, List, [], ◌++◌
 use Rattle.std.specs.List.{enumerate_from, flat_map, zip}
 use Rattle.std.specs.Fmt.{decimal}
 use Rattle.function_laws.specs.Kinds.{BddFunction}
-use Rattle.function_laws.specs.Sizes.{Orders, size}
+use Rattle.function_laws.specs.Sizes.{size}
 use Rattle.blif_net.specs.declared.net.Net.{Net}
 use Rattle.blif_net.specs.Networks.{signal_value}
 use Rattle.net_reports.specs.Classes.{AreClasses, Function}

@@ -1,5 +1,5 @@
 -- The classes of a stored diagram's roots, by their indices.
-use Rattle.std.specs.Prelude.{◌==◌, List, ℤ, nat_abs, slice_index_or, map}
+use Rattle.std.specs.Prelude.{◌==◌, List, ℤ, pos, nat_abs, slice_index_or, map}
 use Rattle.std.specs.Int.{is_negative}
 use Rattle.std.specs.List.{position_or_len}
 use Rattle.function_laws.specs.Values.{differs}
@@ -12,7 +12,7 @@ use Rattle.net_reports.specs.declared.classes.Class.{Class}
 abbrev pub class_among : List ℤ → ℤ → Class
 class_among roots root =
     let first = position_or_len (λ other. nat_abs other == nat_abs root) roots in
-    record { first = first; complement = differs (is_negative root) (is_negative (slice_index_or roots first root)) }
+    record { first = first; complement = differs (is_negative root) (is_negative (slice_index_or roots first (pos 0))) }
 
 -- the functions of the roots
 abbrev pub root_functions : Dump → List Function

@@ -1,6 +1,8 @@
 //! Which of a stored diagram's roots are equal up to complement.
 
-ghost use Rattle.std.specs.Prelude.{◌≡◌, List as ListOf, ℕ, IfOk, length, map};
+ghost use Rattle.std.specs.Prelude.{◌≡◌, ◌<◌, List as ListOf, ℕ, pos, nat_abs, IfOk, length, map, slice_index_or};
+ghost use Rattle.std.specs.Int.{is_negative};
+ghost use Rattle.function_laws.specs.Values.{differs};
 ghost use Rattle.dddmp_text.specs.WellMade.{IsWellMade};
 ghost use Rattle.dump_sizes.specs.Under.{IsUnder};
 ghost use Rattle.net_reports.specs.Classes.{AreClasses};
@@ -17,6 +19,22 @@ pub struct Class {
     pub complement: bool,
 }
 
+/// The magnitude of a root.
+fn magnitude(root: &i32) -> usize
+    ensures { result ≡ nat_abs root.now }
+{
+    root.unsigned_abs() as usize
+}
+
+/// The class of a root, from the first root of its magnitude.
+fn class_from(roots: &[i32], root: &i32, first: usize) -> Class
+    requires { first < length roots.now }
+    ensures { result ≡ record { first = first; complement = differs (is_negative root.now) (is_negative (slice_index_or roots.now first (pos 0))) } }
+{
+    let complement = (*root < 0) != (roots[first] < 0);
+    Class { first, complement }
+}
+
 /// The classes of a dump's roots. Roots are equal up to complement exactly where their indices have one magnitude, so that it
 /// takes time in proportion to the node lines and the roots.
 pub fn classes_of(alloc: Global, dump: &Dump) -> Result<Vec<Class>, Memory>
@@ -28,11 +46,10 @@ pub fn classes_of(alloc: Global, dump: &Dump) -> Result<Vec<Class>, Memory>
     let mut firsts: Vec<Option<usize>> = vec![in alloc; None; dump.nodes.as_slice().len() + 2]?;
     let mut classes = Vec::with_capacity(alloc, roots.len())?;
     for (place, root) in roots.iter().enumerate() {
-        let index = root.unsigned_abs() as usize;
+        let index = magnitude(root);
         let first = firsts[index].unwrap_or(place);
         firsts[index] = Some(first);
-        let complement = root.is_negative() != roots[first].is_negative();
-        classes.push(Class { first, complement })?;
+        classes.push(class_from(roots, root, first))?;
     }
     Ok(classes)
 }

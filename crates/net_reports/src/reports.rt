@@ -34,7 +34,13 @@ fn put_outputs(
     ensures { OnOk result (text.new.items ≡ text.old.items ++ out_lines (map (λ output. output.name) outputs.now) classes.now) }
 {
     for (number, output) in outputs.iter().enumerate() {
-        put_output(alloc, text, number, output.name.as_slice(), &classes[number])?;
+        put_output(
+            alloc,
+            text,
+            number,
+            output.name.as_slice(),
+            &classes[number],
+        )?;
     }
     Ok(())
 }
@@ -89,12 +95,7 @@ fn count_firsts(classes: &[Class]) -> usize
 
 /// The summary of a network: how many inputs, outputs, classes of outputs and nodes it has.
 #[tactic(auto, unfolding(crate::specs::Reports::summary_text))]
-pub fn summary(
-    alloc: Global,
-    net: &Net,
-    classes: &[Class],
-    nodes: usize,
-) -> Result<Vec<u8>, Memory>
+pub fn summary(alloc: Global, net: &Net, classes: &[Class], nodes: usize) -> Result<Vec<u8>, Memory>
     ensures text { IfOk result (λ text. text.items ≡ summary_text (length net.now.inputs) (length net.now.outputs) (count_firsts classes.now) nodes) }
     ensures summary { IfOk result (λ text. (order : ListOf ℕ)
         → AreClasses (length net.now.inputs) (output_functions net.now) classes.now
