@@ -20,7 +20,8 @@ use Rattle.function_laws.proofs.PartLaws.{half_part}
 use Rattle.function_laws.proofs.LackingParts.{Free, Free-more, Free-part}
 use Rattle.function_laws.proofs.ValueLemmas.{cofactor-free}
 use Rattle.dump_sizes.specs.Under.{IsUnder, functions_of}
-use Rattle.dump_sizes.proofs.Lines.{Indexed, at_line, at_one, earlier, indexed, one_is, within}
+use Rattle.dump_sizes.proofs.LineValues.{Indexed, at_line, at_one, indexed, within}
+use Rattle.dump_sizes.proofs.Lines.{earlier, one_is}
 use Rattle.dump_sizes.proofs.Standing.{depends, free_before, of_order, one_free, there}
 use Rattle.dump_sizes.proofs.Shown.{Contains-In, In-all_parts, IsUpTo, all_parts-In, all_shown, at_index, else_up_to, free_up_to, part_up_to, signed_up_to, then_up_to, up_to_twice}
 

@@ -1,5 +1,7 @@
 mod Counted
+pub mod LineValues
 mod Lines
+mod Listed
 mod Rows
 mod Shown
 mod Standing
