@@ -20,8 +20,7 @@ use Rattle.function_laws.proofs.PartLaws.{half_part}
 use Rattle.function_laws.proofs.LackingParts.{Free, Free-more, Free-part}
 use Rattle.function_laws.proofs.ValueLemmas.{cofactor-free}
 use Rattle.dump_sizes.specs.Under.{IsUnder, functions_of}
-use Rattle.dump_sizes.proofs.LineValues.{Indexed, at_line, at_one, indexed, within}
-use Rattle.dump_sizes.proofs.Lines.{earlier, one_is}
+use Rattle.dump_sizes.proofs.Lines.{Indexed, at_line, at_one, earlier, indexed, one_is, within}
 use Rattle.dump_sizes.proofs.Standing.{depends, free_before, of_order, one_free, there}
 use Rattle.dump_sizes.proofs.Shown.{Contains-In, In-all_parts, IsUpTo, all_parts-In, all_shown, at_index, else_up_to, free_up_to, part_up_to, signed_up_to, then_up_to, up_to_twice}
 
@@ -217,7 +216,7 @@ module _ (dump : Dump) (well : IsWellMade dump) (orders : Orders) (under : IsUnd
       well.distinct i j true lower inside (λ k.
       sym (not_not (line_value dump (i + 2) k)) ∙ ap not (same_values (λ k. not (line_value dump (i + 2) k)) (line_value dump (j + 2)) e k))
 
-  both_apart : (i j : ℕ) → Indexed dump i → Indexed dump j → i < j → (at_index dump i ≡ at_index dump j) ⊎ (opposite (at_index dump i) ≡ at_index dump j) → ⊥
+  pub both_apart : (i j : ℕ) → Indexed dump i → Indexed dump j → i < j → (at_index dump i ≡ at_index dump j) ⊎ (opposite (at_index dump i) ≡ at_index dump j) → ⊥
   both_apart _ _ at_one at_one lower e = omega arith
   both_apart _ _ at_one (at_line place line at) lower e = one_apart place (within dump place line at) e
   both_apart _ _ (at_line place line at) at_one lower e = omega arith

@@ -1,7 +1,7 @@
-mod Counted
+pub mod Counted
 pub mod LineValues
-mod Lines
+pub mod Lines
 mod Listed
 mod Rows
-mod Shown
-mod Standing
+pub mod Shown
+pub mod Standing

@@ -7,7 +7,7 @@ use Rattle.dddmp_text.specs.WellMade.{IsWellMade}
 use Rattle.dddmp_text.proofs.Walks.{IsEarlier, are_earlier}
 use Rattle.function_laws.specs.Values.{choice, constant}
 use Rattle.dump_sizes.proofs.LineValues as values
-use Rattle.dump_sizes.proofs.LineValues.{low_of, within}
+pub use Rattle.dump_sizes.proofs.LineValues.{Indexed, at_line, at_one, indexed, low_of, signed_value, within}
 
 module _ (dump : Dump) (well : IsWellMade dump) where
   pub earlier : (place : ℕ) (line : Line) → slice_get dump.nodes place ≡ Some line → IsEarlier line (place + 2)

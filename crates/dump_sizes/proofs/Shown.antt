@@ -13,7 +13,7 @@ use Rattle.function_laws.proofs.DistinctLemmas.{In, In-left, In-right, In-append
 use Rattle.function_laws.proofs.PartLaws.{Above, whole_part}
 use Rattle.function_laws.proofs.LackingParts.{Free, Free-opposite, opposite-opposite, part-opposite, part_there}
 use Rattle.dump_sizes.specs.Under.{IsUnder, functions_of}
-use Rattle.dump_sizes.proofs.LineValues.{signed_value}
+use Rattle.dump_sizes.proofs.Lines.{signed_value}
 use Rattle.dump_sizes.proofs.Standing.{depends, else_is, free_before, then_is, there}
 
 -- of an index

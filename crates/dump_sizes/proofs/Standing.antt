@@ -9,8 +9,7 @@ use Rattle.function_laws.specs.Values.{IsFree, IsOf, cofactor}
 use Rattle.function_laws.specs.SiftedOrders.{place_of}
 use Rattle.function_laws.proofs.ValueLemmas.{IsFree-choice_other, cofactor-choice_false, cofactor-choice_true, cofactor-free}
 use Rattle.dump_sizes.specs.Under.{IsUnder}
-use Rattle.dump_sizes.proofs.LineValues.{Indexed, at_line, at_one, indexed, low_of, signed_value, within}
-use Rattle.dump_sizes.proofs.Lines.{earlier, line_is, one_is}
+use Rattle.dump_sizes.proofs.Lines.{Indexed, at_line, at_one, earlier, indexed, line_is, low_of, one_is, signed_value, within}
 
 module _ (dump : Dump) (well : IsWellMade dump) where
   free_signed : (z : ℤ) (u : ℕ) → IsFree (line_value dump (nat_abs z)) u → IsFree (signed_value dump z) u
