@@ -216,14 +216,13 @@ module _ (dump : Dump) (well : IsWellMade dump) (orders : Orders) (under : IsUnd
       well.distinct i j true lower inside (λ k.
       sym (not_not (line_value dump (i + 2) k)) ∙ ap not (same_values (λ k. not (line_value dump (i + 2) k)) (line_value dump (j + 2)) e k))
 
-  -- no two of the indices have one function, or opposite ones
   pub both_apart : (i j : ℕ) → Indexed dump i → Indexed dump j → i < j → (at_index dump i ≡ at_index dump j) ⊎ (opposite (at_index dump i) ≡ at_index dump j) → ⊥
   both_apart _ _ at_one at_one lower e = omega arith
   both_apart _ _ at_one (at_line place line at) lower e = one_apart place (within dump place line at) e
   both_apart _ _ (at_line place line at) at_one lower e = omega arith
   both_apart _ _ (at_line place line at) (at_line other child here) lower e = lines_apart place other (omega arith) (within dump other child here) e
 
-  -- nor are any two of them one
+  -- no two of the indices have one function
   apart : (i j : ℕ) → 1 ≤ i → i < j → j < 2 + length dump.nodes → is_one orders (at_index dump i) (at_index dump j) ≡ true → ⊥
   apart i j low lower high one =
       let first = indexed dump i low (omega arith) in
