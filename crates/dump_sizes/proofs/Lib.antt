@@ -1,5 +1,7 @@
-mod Counted
-mod Lines
+pub mod Counted
+pub mod LineValues
+pub mod Lines
+mod Listed
 mod Rows
-mod Shown
-mod Standing
+pub mod Shown
+pub mod Standing

@@ -1,0 +1,13 @@
+//! Reports of networks: the classes of their outputs, and the texts that tell of them.
+#![tactic(auto)]
+
+mod classes;
+mod generated;
+mod lines;
+mod patterns;
+mod reports;
+
+pub use classes::{Class, classes_of};
+pub use generated::gen_text;
+pub use patterns::{Evaluation, padded};
+pub use reports::{report, summary};
