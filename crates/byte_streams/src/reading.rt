@@ -2,7 +2,7 @@
 
 ghost use Rattle.std.specs.Prelude.{◌≡◌, ◌^◌, ◌+◌, ◌<◌, ◌≤◌, ◌++◌, ℕ, List, [], length, IfSome, IfOk, OnOk, OnErr, vec_len, IsErrOf, IfErr, ◌≢◌};
 ghost use Rattle.std.specs.Io.KnownBytes.{Consumes, IsAtEnd};
-ghost use Rattle.net_jobs.specs.Causes.{Rose};
+ghost use Rattle.byte_streams.specs.Causes.{Rose};
 
 use crate::Source;
 use std::alloc::{AllocError, Global};
@@ -19,7 +19,7 @@ pub enum ReadStop {
 }
 
 impl From<AllocError> for ReadStop {
-    ghost use Rattle.net_jobs.specs.declared.reading.ReadStop.TheVariants.{Memory};
+    ghost use Rattle.byte_streams.specs.declared.reading.ReadStop.TheVariants.{Memory};
 
     ghost from_gives = { λ _ e. e ≡ Memory };
 

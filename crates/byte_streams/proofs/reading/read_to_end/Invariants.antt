@@ -1,6 +1,6 @@
 use Rattle.std.proofs.Common.{vec_len, ◌-◌, ◌+◌, ◌≡◌, ◌≤◌}
 use Rattle.std.specs.Io.KnownBytes.{Consumes}
-use Rattle.net_jobs.proofs.reading.read_to_end.Given as goal
+use Rattle.byte_streams.proofs.reading.read_to_end.Given as goal
 
 abbrev pub invariant-loop-text : goal.invariant-loop-text
 invariant-loop-text g l = record {

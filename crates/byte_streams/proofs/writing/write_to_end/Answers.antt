@@ -1,6 +1,6 @@
 use Rattle.std.proofs.Common.{arith}
-use Rattle.net_jobs.proofs.Known.{appends_part}
-use Rattle.net_jobs.proofs.writing.write_to_end.Goals as goal
+use Rattle.byte_streams.proofs.Known.{appends_part}
+use Rattle.byte_streams.proofs.writing.write_to_end.Goals as goal
 
 pub loop-done-preserved : goal.loop-done-preserved
 loop-done-preserved g c =

@@ -3,7 +3,7 @@
 ghost use Rattle.std.specs.Prelude.{List, ℕ, Option};
 ghost use Rattle.std.specs.Io.{ReadsAtMost};
 ghost use Rattle.std.specs.Io.KnownBytes.{ReadConsumes};
-ghost use Rattle.net_jobs.specs.Causes.{HasCause};
+ghost use Rattle.byte_streams.specs.Causes.{HasCause};
 
 /// A read or a write that failed.
 #[derive(Debug, Clone, Copy, PartialEq, Eq)]

@@ -3,7 +3,7 @@
 ghost use Rattle.std.specs.Prelude.{◌≡◌, ◌<◌, List, ℕ, Option, length};
 ghost use Rattle.std.specs.Io.{WritesAtMost};
 ghost use Rattle.std.specs.Io.KnownBytes.{WriteAppends};
-ghost use Rattle.net_jobs.specs.Causes.{HasCause, Rose};
+ghost use Rattle.byte_streams.specs.Causes.{HasCause, Rose};
 
 use crate::Failed;
 

@@ -1,6 +1,6 @@
 use Rattle.std.proofs.Common.{◌≡◌, ℕ, ◌+◌, ◌-◌, ◌≤◌, List, ◌++◌, length, take, drop, ap, sym, ◌∙◌, arith, length-take, length-drop}
 use Rattle.std.proofs.lemmas.List.{take-append-drop, take_at, drop-drop}
-use Rattle.net_jobs.proofs.memory.give.Goals as goal
+use Rattle.byte_streams.proofs.memory.give.Goals as goal
 
 given : (xs part rest : List ℕ) (r n : ℕ) → r + n ≤ length xs → part ≡ take (r + n - r) (drop r xs) → drop r xs ≡ take n (part ++ rest) ++ drop (r + n) xs
 given xs part rest r n fits e =

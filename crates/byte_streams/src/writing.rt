@@ -2,7 +2,7 @@
 
 ghost use Rattle.std.specs.Prelude.{◌≡◌, ◌≤◌, OnOk, OnErr};
 ghost use Rattle.std.specs.Io.KnownBytes.{Appends};
-ghost use Rattle.net_jobs.specs.Causes.{HasCause, AppendsFront};
+ghost use Rattle.byte_streams.specs.Causes.{HasCause, AppendsFront};
 
 use crate::{Failed, Sink};
 
