@@ -71,6 +71,12 @@ Leads lines from index to = (dump : Dump) → Begins lines dump → Numbers dump
 abbrev pub next : List Line → ℕ
 next lines = 2 + length lines
 
+-- a slot of a BDD that has no number yet
+pub record IsOpen (p : Plain) (numbers : List ℕ) (s : ℕ) (node : Node) : Type 0 where
+  pub word : slots p s ≡ Some (Inner node)
+  pub is_bdd : Is Bdd (plain_view p) (plain s)
+  pub fresh : number numbers s ≡ 0
+
 -- How far a slot has come that was met when `from` came next: its children aren't walked yet, or the first, or both.
 pub data IsMet (numbers : List ℕ) (lines : List Line) (node : Node) (from : ℕ) : Type 0 where
   at_first : from ≡ next lines → IsMet numbers lines node from
@@ -82,17 +88,11 @@ pub data IsMet (numbers : List ℕ) (lines : List Line) (node : Node) (from : �
 -- met from the one below.
 pub data IsPath (p : Plain) (numbers : List ℕ) (lines : List Line) (start root : ℕ) : List ℕ → ℕ → ℕ → Type 0 where
   bottom : IsPath p numbers lines start root [] root start
-  by_hi : {stack front : List ℕ} {s from : ℕ} (node : Node) → stack ≡ front ++ s ∷ [] → slots p s ≡ Some (Inner node)
+  by_hi : {stack front : List ℕ} {s from : ℕ} (node : Node) → stack ≡ front ++ s ∷ [] → IsOpen p numbers s node
       → IsPath p numbers lines start root front s from → IsPath p numbers lines start root stack node.hi from
-  by_lo : {stack front : List ℕ} {s from to : ℕ} (node : Node) → stack ≡ front ++ s ∷ [] → slots p s ≡ Some (Inner node)
+  by_lo : {stack front : List ℕ} {s from to : ℕ} (node : Node) → stack ≡ front ++ s ∷ [] → IsOpen p numbers s node
       → 1 ≤ number numbers node.hi → Leads lines from (number numbers node.hi) to
       → IsPath p numbers lines start root front s from → IsPath p numbers lines start root stack node.lo.index to
-
--- a slot of a BDD that has no number yet
-pub record IsOpen (p : Plain) (numbers : List ℕ) (s : ℕ) (node : Node) : Type 0 where
-  pub word : slots p s ≡ Some (Inner node)
-  pub is_bdd : Is Bdd (plain_view p) (plain s)
-  pub fresh : number numbers s ≡ 0
 
 -- the stack is empty and the root has its number, or it leads down to an open slot
 pub data IsOnWay (p : Plain) (numbers : List ℕ) (lines : List Line) (start root : ℕ) (stack : List ℕ) : Type 0 where
