@@ -1,6 +1,6 @@
 -- A step of the walk: down to a child, or back from a slot that is left.
-use Rattle.std.proofs.Common.{◌≡◌, ◌≢◌, ◌⊎◌, inl, inr, ℕ, zero, suc, ◌+◌, ◌-◌, ◌*◌, ◌<◌, ◌≤◌, List, [], ◌∷◌, ◌++◌, Some, length, set, nat_abs, slice_get, refl, sym, ap, ◌∙◌, subst, arith}
-use Rattle.std.proofs.lemmas.List.{get_or-set_same, length_push, same_from_push}
+use Rattle.std.proofs.Common.{◌≡◌, ◌≢◌, ◌⊎◌, inl, inr, ℕ, zero, suc, ◌+◌, ◌-◌, ◌*◌, ◌<◌, ◌≤◌, List, [], ◌∷◌, ◌++◌, Some, length, set, nat_abs, slice_get, take, refl, sym, ap, ◌∙◌, subst, arith}
+use Rattle.std.proofs.lemmas.List.{get_or-set_same, length_push, same_from_push, take_at}
 use Rattle.edge_bits.specs.declared.edges.Kind.TheVariants.{Bdd}
 use Rattle.edge_bits.specs.declared.edges.Line.{Line}
 use Rattle.edge_bits.specs.declared.words.Node.{Node}
@@ -23,6 +23,12 @@ Leads-more lines line from index to leads = λ dump begins. leads dump (λ i l h
 push_nil : (front : List ℕ) (x : ℕ) → [] ≡ front ++ x ∷ [] → ⊥
 push_nil [] x e = cc
 push_nil (y ∷ front) x e = cc
+
+-- what is left of a stack without its top
+pub popped : (front left stack : List ℕ) (top n : ℕ) → stack ≡ front ++ top ∷ [] → left ≡ take n stack → n ≡ length stack - 1 → left ≡ front
+popped front left stack top n e rest count =
+    let long : n ≡ length front = omega (arith, count, ap (λ (xs : List ℕ). length xs) e, length_push front top) in
+    rest ∙ ap (λ m. take m stack) long ∙ ap (take (length front)) e ∙ take_at front (top ∷ []) (length front) refl
 
 module _ (p : Plain) (st : IsStore p) where
   -- the slots on a stack stand one below the other

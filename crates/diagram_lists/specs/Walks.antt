@@ -8,7 +8,7 @@ use Rattle.edge_bits.specs.declared.words.Node.{Node}
 use Rattle.edge_bits.specs.declared.words.Word.TheVariants.{Inner}
 use Rattle.edge_bits.specs.Reading.{plain}
 use Rattle.dddmp_text.specs.declared.dump.Dump.{Dump}
-use Rattle.dddmp_text.specs.WellMade.{Numbers}
+use Rattle.dddmp_text.specs.WellMade.{Numbers, NumbersAll}
 use Rattle.node_store.specs.Views.{Is}
 use Rattle.node_slots.specs.Stores.{Plain, plain_view, slots}
 use Rattle.diagram_lists.specs.declared.walk.Walk.{Walk}
@@ -66,6 +66,10 @@ Begins lines dump = (i : ℕ) (line : Line) → slice_get lines i ≡ Some line 
 -- in each dump with these first lines a walk from the index leads from the one number to the other
 abbrev pub Leads : List Line → ℕ → ℕ → ℕ → Type 0
 Leads lines from index to = (dump : Dump) → Begins lines dump → Numbers dump from index to
+
+-- and so a walk from each root in turn
+abbrev pub LeadsAll : List Line → ℕ → List ℤ → ℕ → Type 0
+LeadsAll lines from roots to = (dump : Dump) → Begins lines dump → NumbersAll dump from roots to
 
 -- the number that comes next
 abbrev pub next : List Line → ℕ

@@ -2,7 +2,7 @@ use Rattle.std.proofs.Common.{rules, ◌≡◌, ◌∙◌, ◌+◌, ◌<◌, ◌
 use Rattle.edge_bits.specs.declared.edges.Line.{Line}
 use Rattle.diagram_lists.specs.Walks.{Extends, IsOnWay, line_of, next, steps_left}
 use Rattle.diagram_lists.proofs.Numberings.{left_extends}
-use Rattle.diagram_lists.proofs.Paths.{back, back_fewer, down, down_fewer, open_at}
+use Rattle.diagram_lists.proofs.Paths.{back, back_fewer, down, down_fewer, open_at, popped}
 use Rattle.diagram_lists.proofs.Slots.{inside, stands}
 use Rattle.diagram_lists.proofs.walk.Walk.step.Goals as goal
 
@@ -59,4 +59,15 @@ returns-in_ok-leave-in-None-clause-extended c =
     (left_extends w.numbers.items w.lines c.args.slot (next w.lines) (line_of w.numbers.items node) o.1.fresh))
 
 pub returns-in_ok-leave-in-None-clause-way : goal.returns-in_ok-leave-in-None-clause-way
-returns-in_ok-leave-in-None-clause-way c = λ start root way. ?
+returns-in_ok-leave-in-None-clause-way c = λ start root way.
+    let p = c.args.store.now in let w = c.args.self.now in let r = c.requires in let node = c.node_in-node.result in
+    let e = c.in_ok-leave-in-None.ensures in
+    let numbers = w.numbers.items in
+    let lines = w.lines ++ line_of numbers node ∷ [] in
+    let stack_is : c.pop-slot.new.self.items ≡ r.top.0 =
+        popped r.top.0 c.pop-slot.new.self.items c.leave.new.self.stack.items c.args.slot _ (e.stack ∙ r.top.1) c.pop-slot.ensures.rest (search rules) in
+    subst (λ (stack : List ℕ). IsOnWay p c.leave.new.self.numbers.items c.leave.new.self.lines start root stack) (sym stack_is)
+    (subst (λ (ns : List ℕ). IsOnWay p ns c.leave.new.self.lines start root r.top.0) (sym e.numbers)
+    (subst (λ (ls : List Line). IsOnWay p (set numbers c.args.slot (next w.lines)) ls start root r.top.0) (sym e.lines)
+    (back p r.store numbers w.lines r.walk start root w.stack.items r.top.0 c.args.slot node r.top.1 c.node_in-node.ensures
+    c.in-None.ensures.none.0 c.in-None.ensures.none.1 way)))
