@@ -1,5 +1,5 @@
 -- The variables of a store from the top.
-use Rattle.std.proofs.Common.{◌≡◌, ℕ, ◌<◌, cond, length, sym, ap, ◌∙◌, arith}
+use Rattle.std.proofs.Common.{◌≡◌, ℕ, cond, length, sym, ap, ◌∙◌, arith}
 use Rattle.std.specs.Prelude.{slice_index}
 use Rattle.std.proofs.lemmas.Bool.{lt-ltb}
 use Rattle.edge_bits.specs.declared.edges.Kind.TheVariants.{Bdd}

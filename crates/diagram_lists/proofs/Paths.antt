@@ -1,5 +1,5 @@
 -- A step of the walk: down to a child, or back from a slot that is left.
-use Rattle.std.proofs.Common.{◌≡◌, ◌≢◌, ◌⊎◌, inl, inr, ℕ, zero, suc, ◌+◌, ◌-◌, ◌*◌, ◌<◌, ◌≤◌, List, [], ◌∷◌, ◌++◌, Some, length, set, nat_abs, slice_get, take, refl, sym, ap, ◌∙◌, subst, arith}
+use Rattle.std.proofs.Common.{◌≡◌, ◌⊎◌, inl, inr, ℕ, ◌+◌, ◌-◌, ◌*◌, ◌<◌, ◌≤◌, List, [], ◌∷◌, ◌++◌, Some, length, set, nat_abs, slice_get, take, refl, sym, ap, ◌∙◌, subst, arith}
 use Rattle.std.proofs.lemmas.List.{get_or-set_same, length_push, same_from_push, take_at}
 use Rattle.edge_bits.specs.declared.edges.Kind.TheVariants.{Bdd}
 use Rattle.edge_bits.specs.declared.edges.Line.{Line}
@@ -9,7 +9,7 @@ use Rattle.edge_bits.specs.Reading.{plain}
 use Rattle.dddmp_text.specs.WellMade.{Numbers, fresh, numbered}
 use Rattle.node_store.specs.Views.{Is}
 use Rattle.node_slots.specs.Stores.{IsStore, Plain, plain_view, slots, top_in}
-use Rattle.diagram_lists.specs.Walks.{Begins, Extends, IsMet, IsNumbering, IsOnWay, IsOpen, IsPath, Leads, arrived, at_first, at_top, behind_hi, behind_lo, bottom, by_hi, by_lo, line_of, next, number, steps_left, unnumbered}
+use Rattle.diagram_lists.specs.Walks.{Begins, IsMet, IsNumbering, IsOnWay, IsOpen, IsPath, Leads, arrived, at_first, at_top, behind_hi, behind_lo, bottom, by_hi, by_lo, line_of, next, number, steps_left, unnumbered}
 use Rattle.diagram_lists.proofs.Numberings.{got_front, got_last, left_extends, magnitude, number_below, number_other, one_fewer}
 use Rattle.diagram_lists.proofs.Slots.{inside, one_or_node, stands}
 

@@ -1,9 +1,8 @@
 -- What a store says of the nodes of its BDDs.
-use Rattle.std.proofs.Common.{◌≡◌, ◌⊎◌, inl, inr, ℕ, ◌<◌, Bool, length, Some, ℤ, refl, sym, arith}
+use Rattle.std.proofs.Common.{◌≡◌, ◌⊎◌, inl, inr, ℕ, ◌<◌, Bool, length, Some, ℤ, refl, arith}
 use Rattle.edge_bits.specs.declared.edges.Edge.{Edge}
 use Rattle.edge_bits.specs.declared.edges.Kind.TheVariants.{Bdd}
 use Rattle.edge_bits.specs.declared.words.Node.{Node}
-use Rattle.edge_bits.specs.declared.words.Word.{Word}
 use Rattle.edge_bits.specs.declared.words.Word.TheVariants.{Inner}
 use Rattle.edge_bits.specs.Reading.{plain}
 use Rattle.node_store.specs.ViewLaws.{Is-from}
@@ -11,7 +10,7 @@ use Rattle.node_store.specs.Views.{Is, IsInner, IsLeafOf, logic_one, logic_zero,
 use Rattle.node_slots.specs.Stores.{IsStore, Plain, content_of, level_in, plain_view, slots, top_in}
 use Rattle.node_slots.proofs.Answering.{edge_word}
 use Rattle.node_slots.proofs.Calls.{opens_word}
-use Rattle.node_slots.proofs.Canonical.{NodeSlot, leaf_or_node}
+use Rattle.node_slots.proofs.Canonical.{leaf_or_node}
 use Rattle.node_slots.proofs.Flips.{unflip}
 use Rattle.node_slots.proofs.Reading.{in_words}
 use Rattle.node_slots.proofs.Settling.{slot_denotes}

@@ -1,4 +1,4 @@
-use Rattle.std.proofs.Common.{◌≡◌, ◌∙◌, ◌+◌, ◌<◌, ◌++◌, ◌∷◌, [], List, ℕ, ap, sym, arith, length, take, get_or}
+use Rattle.std.proofs.Common.{◌∙◌, ◌<◌, ◌++◌, ◌∷◌, [], List, ℕ, ap, sym, arith, length, take}
 use Rattle.std.proofs.lemmas.List.{take_more}
 use Rattle.diagram_lists.proofs.Orders.{as_many, variable_at}
 use Rattle.diagram_lists.proofs.lister.order_of.Goals as goal

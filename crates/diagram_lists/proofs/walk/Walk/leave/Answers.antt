@@ -1,4 +1,4 @@
-use Rattle.std.proofs.Common.{rules, ◌≡◌, ◌∙◌, ◌+◌, ◌++◌, ◌∷◌, [], List, ℕ, ap, sym, subst, arith, length, set}
+use Rattle.std.proofs.Common.{rules, ◌≡◌, ◌+◌, ◌++◌, ◌∷◌, [], List, ℕ, ap, sym, subst, arith, length, set}
 use Rattle.std.proofs.lemmas.List.{length_push}
 use Rattle.edge_bits.specs.declared.edges.Line.{Line}
 use Rattle.diagram_lists.specs.Walks.{IsNumbering, line_of, next}

@@ -1,8 +1,8 @@
-use Rattle.std.proofs.Common.{rules, ◌≡◌, ◌∙◌, ◌+◌, ◌<◌, ◌++◌, ◌∷◌, [], List, ℕ, ap, sym, subst, arith, length, set}
+use Rattle.std.proofs.Common.{rules, ◌≡◌, ◌∙◌, ◌<◌, ◌++◌, ◌∷◌, [], List, ℕ, sym, subst, arith, set}
 use Rattle.edge_bits.specs.declared.edges.Line.{Line}
 use Rattle.diagram_lists.specs.Walks.{Extends, IsOnWay, line_of, next, steps_left}
 use Rattle.diagram_lists.proofs.Numberings.{left_extends}
-use Rattle.diagram_lists.proofs.Paths.{back, back_fewer, down, down_fewer, open_at, popped}
+use Rattle.diagram_lists.proofs.Paths.{back, down, down_fewer, open_at, popped}
 use Rattle.diagram_lists.proofs.Slots.{inside, stands}
 use Rattle.diagram_lists.proofs.walk.Walk.step.Goals as goal
 
@@ -65,7 +65,7 @@ returns-in_ok-leave-in-None-clause-way c = λ start root way.
     let numbers = w.numbers.items in
     let lines = w.lines ++ line_of numbers node ∷ [] in
     let stack_is : c.pop-slot.new.self.items ≡ r.top.0 =
-        popped r.top.0 c.pop-slot.new.self.items c.leave.new.self.stack.items c.args.slot _ (e.stack ∙ r.top.1) c.pop-slot.ensures.rest (search rules) in
+    popped r.top.0 c.pop-slot.new.self.items c.leave.new.self.stack.items c.args.slot _ (e.stack ∙ r.top.1) c.pop-slot.ensures.rest (search rules) in
     subst (λ (stack : List ℕ). IsOnWay p c.leave.new.self.numbers.items c.leave.new.self.lines start root stack) (sym stack_is)
     (subst (λ (ns : List ℕ). IsOnWay p ns c.leave.new.self.lines start root r.top.0) (sym e.numbers)
     (subst (λ (ls : List Line). IsOnWay p (set numbers c.args.slot (next w.lines)) ls start root r.top.0) (sym e.lines)

@@ -1,4 +1,4 @@
-use Rattle.std.proofs.Common.{rules, ◌≡◌, ◌∙◌, ◌+◌, ◌<◌, ◌≤◌, ◌++◌, ◌∷◌, [], List, ℕ, ap, sym, subst, arith, length}
+use Rattle.std.proofs.Common.{rules, ◌≡◌, ◌≤◌, ◌∷◌, [], List, ℕ, sym, subst, arith}
 use Rattle.diagram_lists.specs.Walks.{IsOnWay, next, number}
 use Rattle.diagram_lists.proofs.Numberings.{Extends-refl, Extends-trans, number_below}
 use Rattle.diagram_lists.proofs.Paths.{already, sets_out}
