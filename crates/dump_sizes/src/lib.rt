@@ -6,6 +6,10 @@ ghost use Rattle.dddmp_text.specs.WellMade.{IsWellMade};
 ghost use Rattle.function_laws.specs.Sizes.{Orders, size};
 ghost use Rattle.dump_sizes.specs.Under.{IsUnder, functions_of};
 
+mod listings;
+
+pub use listings::Listing;
+
 use dddmp_text::Dump;
 
 /// The size of the roots' functions under any order that the dump stands under: one for each node line and one for the
