@@ -2,5 +2,6 @@
 #![tactic(auto)]
 
 mod lister;
+mod walk;
 
 pub use lister::list;

@@ -216,7 +216,7 @@ module _ (dump : Dump) (well : IsWellMade dump) (orders : Orders) (under : IsUnd
       well.distinct i j true lower inside (λ k.
       sym (not_not (line_value dump (i + 2) k)) ∙ ap not (same_values (λ k. not (line_value dump (i + 2) k)) (line_value dump (j + 2)) e k))
 
-  both_apart : (i j : ℕ) → Indexed dump i → Indexed dump j → i < j → (at_index dump i ≡ at_index dump j) ⊎ (opposite (at_index dump i) ≡ at_index dump j) → ⊥
+  pub both_apart : (i j : ℕ) → Indexed dump i → Indexed dump j → i < j → (at_index dump i ≡ at_index dump j) ⊎ (opposite (at_index dump i) ≡ at_index dump j) → ⊥
   both_apart _ _ at_one at_one lower e = omega arith
   both_apart _ _ at_one (at_line place line at) lower e = one_apart place (within dump place line at) e
   both_apart _ _ (at_line place line at) at_one lower e = omega arith

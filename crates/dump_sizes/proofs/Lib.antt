@@ -1,5 +1,8 @@
-mod Counted
-mod Lines
+pub mod Counted
+pub mod Identifiers
+pub mod LineValues
+pub mod Lines
+pub mod Listed
 mod Rows
-mod Shown
-mod Standing
+pub mod Shown
+pub mod Standing
