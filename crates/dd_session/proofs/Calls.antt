@@ -128,6 +128,7 @@ called old held new x table table' spare spare' call reply place same took told 
           number_is = refl;
           adds_are = adds_are y.change old.adds ∙ ap (λ n. old.adds + n) drew.counted;
           few = (let a = rows_few y.change old.rows in let b = drew.counted in omega (arith, a, b));
+          noted_are = refl;
         }))
 
 -- want of memory

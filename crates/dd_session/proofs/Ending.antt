@@ -11,6 +11,7 @@ use Rattle.function_laws.specs.SessionEntries.{Each, IsByPlace, entries_of}
 use Rattle.function_laws.proofs.PlaceOrder.{one_order}
 use Rattle.seat_guard.specs.declared.view.Gone.{Gone}
 use Rattle.seat_guard.specs.declared.view.Draws.{Draws}
+use Rattle.seat_guard.specs.Notes.{IsNotedIn}
 use Rattle.seat_guard.specs.Views.{sizes_for}
 use Rattle.seat_guard.specs.Rule.{AllBack, Whole}
 use Rattle.seat_guard.proofs.RowCounts.{each_map}
@@ -48,6 +49,7 @@ history_of m d n k sessions vars elements given gone all first whole = (
     count = sym (ap (λ (l : List Entry). length l) (one_log d (sizes_for d.vars d.elements) n k (all_back m d sessions given gone all) first whole)) ∙ first.count;
     each = λ k s at. whole.each k (gone_as s) (ap (λ (l : List Gone). get_elem? l k) gone ∙ at_map gone_as sessions k s at);
     rows = λ k s at. ap (λ (z : Sizes). (table_after (opening z) whole.log).live s.number) (λ i. sizes_for (sym vars i) (sym elements i)) ∙ whole.rows k (gone_as s) (ap (λ (l : List Gone). get_elem? l k) gone ∙ at_map gone_as sessions k s at);
+    noted = λ k s at. subst (λ (z : Sizes). Each (IsNotedIn z whole.log) s.noted) (λ i. sizes_for (vars i) (elements i)) (whole.noted k (gone_as s) (ap (λ (l : List Gone). get_elem? l k) gone ∙ at_map gone_as sessions k s at));
     no_other = λ p other. dite (dec_lt p m.sessions)
         (λ below. let c = all.covered p below in absurd (other c.0 c.1 c.2 c.3))
         (λ above. whole.beyond p (omega (arith, above, given)));

@@ -16,3 +16,4 @@ pub mod Turning
 pub mod SessionLaws
 pub mod RestrictLaws
 pub mod WalkingLemmas
+pub mod ListingLaws

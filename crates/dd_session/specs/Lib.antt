@@ -2,5 +2,6 @@ pub mod Sessions
 pub mod Walking
 pub mod Works
 pub mod Requests
+pub mod Listings
 pub mod Turns
 pub mod Managing

@@ -5,7 +5,7 @@ use lib.ListN.{get_elem?}
 use Rattle.function_laws.specs.declared.history.Entry.{Entry}
 use Rattle.function_laws.specs.EntryOrders.{opening_orders, orders_from}
 use Rattle.function_laws.specs.Histories.{IsLegal, table_after}
-use Rattle.function_laws.specs.SessionEntries.{entries_of}
+use Rattle.function_laws.specs.SessionEntries.{Each, entries_of}
 use Rattle.function_laws.specs.Tables.{opening}
 use Rattle.node_store.specs.Contents.{Content}
 use Rattle.node_slots.specs.Held.{Alone}
@@ -16,6 +16,7 @@ use Rattle.seat_guard.specs.declared.seat.Pass.{Pass}
 use Rattle.seat_guard.specs.declared.seat.Rest.{Rest}
 use Rattle.seat_guard.specs.declared.view.Draws.{Draws}
 use Rattle.seat_guard.specs.declared.view.Gone.{Gone}
+use Rattle.seat_guard.specs.Notes.{IsNotedIn}
 use Rattle.seat_guard.specs.Passes.{known, resting}
 pub use Rattle.seat_guard.specs.Views.{sizes_for, stands_for}
 use Rattle.shared_store.specs.declared.shared.Shared.{Shared}
@@ -46,7 +47,7 @@ IsClosing d = (d.closing ≡ true) × (d.gone ≡ []) × (d.given ≡ d.sessions
 
 -- a session that has made no call
 abbrev pub newcomer : Managed → ℕ → Seen
-newcomer m number = record { manager = m; number = number; rows = []; adds = 0; spare = 0; entries = []; stored = []; due = None }
+newcomer m number = record { manager = m; number = number; rows = []; adds = 0; spare = 0; entries = []; stored = []; due = None; noted = [] }
 
 -- the first n sessions, as they are opened
 abbrev pub newcomers : Managed → ℕ → List Seen
@@ -75,6 +76,8 @@ pub record IsHistoryOf (m : Managed) (sessions : List Seen) (n : ℕ) : Type 0 w
   pub each : (k : ℕ) (s : Seen) → get_elem? sessions k ≡ some s → entries_of s.number log ≡ s.entries
   -- the table that the history leaves has these rows of each session
   pub rows : (k : ℕ) (s : Seen) → get_elem? sessions k ≡ some s → (table_after (opening (sizes_for m.vars m.elements)) log).live s.number ≡ stands_for s.rows
+  -- the orders that a session noted at a place are those that the calls below that place leave
+  pub noted : (k : ℕ) (s : Seen) → get_elem? sessions k ≡ some s → Each (IsNotedIn (sizes_for m.vars m.elements) log) s.noted
   pub no_other : (p : ℕ) → ((k : ℕ) (s : Seen) → get_elem? sessions k ≡ some s → s.number ≡ p → ⊥) → entries_of p log ≡ []
 
 -- What a sweep left in use, of a store whose orders are those that the entries leave, and in which nothing holds a slot any more.
@@ -95,7 +98,7 @@ pub record IsClosed (m : Managed) (sessions : List Seen) (calls left : ℕ) : Ty
 
 -- what is left of a session as it comes back
 abbrev pub gone_as : Seen → Gone
-gone_as s = record { session = s.number; rows = s.rows; entries = s.entries }
+gone_as s = record { session = s.number; rows = s.rows; entries = s.entries; noted = s.noted }
 
 abbrev pub is_posted : Fetched → Bool
 is_posted = turns.is_posted

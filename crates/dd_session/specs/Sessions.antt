@@ -14,6 +14,7 @@ use Rattle.function_laws.specs.SessionEntries.{entry}
 use Rattle.function_laws.specs.Tables.{Table, same_name}
 use Rattle.function_laws.specs.Steps.{IsAllowed, after}
 use Rattle.seat_guard.specs.declared.view.Held.{Held}
+use Rattle.seat_guard.specs.declared.view.Noted.{Noted}
 use Rattle.seat_guard.specs.declared.view.Row.{Row}
 use Rattle.seat_guard.specs.Views.{sizes_for, stands_for}
 pub use Rattle.shared_store.specs.Sharing.{kind_of}
@@ -44,6 +45,8 @@ pub record Seen : Type 0 where
   -- the functions that its last turn stored, and the one that was due at the last Full before the end of that turn
   pub stored : List Function
   pub due : Option Function
+  -- what it noted of the orders, the oldest first
+  pub noted : List Noted
 
 -- The table of functions has what the session sees, and has not been given further names by it.
 pub record SeenIn (s : Seen) (t : Table) : Type 0 where
@@ -70,6 +73,7 @@ pub record Called (old new : Seen) (call : Call) (reply : Reply) (place : ℕ) :
   -- it gave the names that the reply has, and has at most so many rows more
   pub adds_are : new.adds ≡ old.adds + names_in reply
   pub few : length new.rows ≤ length old.rows + names_in reply
+  pub noted_are : new.noted ≡ old.noted
 
 -- want of memory leaves all as it was; what is stored may be more, and so may the room for rows
 abbrev pub IsAsBefore : Seen → Seen → Type 0

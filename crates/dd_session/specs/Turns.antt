@@ -68,6 +68,7 @@ seen_by table d spare = record {
   entries = d.entries;
   stored = d.stored;
   due = d.due;
+  noted = d.noted;
 }
 
 abbrev pub seen_of : Pass Shared → Book → Seen

@@ -1,6 +1,6 @@
 //! The calls on rows and on the board, and the sweep.
 
-ghost use Rattle.std.specs.Prelude.{◌≡◌, ◌⊎◌, ◌+◌, ◌<◌, ◌≤◌, Some};
+ghost use Rattle.std.specs.Prelude.{◌≡◌, ◌⊎◌, ◌+◌, ◌<◌, ◌≤◌, length, Some};
 ghost use Rattle.edge_bits.specs.declared.edges.Kind.{Kind as KindOf};
 ghost use Rattle.function_laws.specs.declared.history.Call.TheVariants as calls;
 ghost use Rattle.function_laws.specs.declared.history.Reply.TheVariants as replies;
@@ -74,6 +74,7 @@ pub fn drop_row<R: Wait>(
     ensures keeps { Keeps (known pass.new) book.new }
     ensures told { Called (seen_of pass.old book.old) (seen_of pass.new book.new) (calls.DropRow h) replies.Done result.place }
     ensures stored { StoresNothing (seen_of pass.new book.new) }
+    ensures fewer { length (known pass.new).rows + 1 ≡ length (known pass.old).rows }
     ensures spare { book.new.rows.spare ≡ book.old.rows.spare + 1 }
 {
     let mut shared = guard.take(rt, pass);

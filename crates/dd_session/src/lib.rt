@@ -13,6 +13,7 @@ mod family_calls;
 mod family_constants;
 mod family_makes;
 mod family_operations;
+mod listing;
 mod makes;
 mod manager;
 mod nodeless;

@@ -1,18 +1,21 @@
 //! The calls of a session on its rows and on the board, and what it tells of itself.
 
-ghost use Rattle.std.specs.Prelude.{◌≡◌, ◌+◌, ◌<◌, ◌≤◌, ◌↔◌, max, length, IsTrue, OnOk, OnErr, IsOk};
+ghost use Rattle.std.specs.Prelude.{◌≡◌, ◌+◌, ◌<◌, ◌≤◌, ◌↔◌, max, length, All, IsTrue, MatchResult, OnOk, OnErr, IsOk};
 ghost use Rattle.edge_bits.specs.declared.edges.Kind.{Kind as KindOf};
+ghost use Rattle.edge_bits.specs.declared.edges.Kind.TheVariants as kinds;
 ghost use Rattle.function_laws.specs.declared.history.Call.TheVariants as calls;
 ghost use Rattle.function_laws.specs.declared.history.Reply.TheVariants as replies;
-ghost use Rattle.dd_session.specs.Sessions.{Called, HasRoom, IsLive, IsLiveAs, fulls_in};
+ghost use Rattle.dd_session.specs.Sessions.{Called, HasRoom, IsAsBefore, IsLive, IsLiveAs, fulls_in};
+ghost use Rattle.dd_session.specs.Listings.{IsListed};
 ghost use Rattle.dd_session.specs.Works.{IsSweepOf, StoresNothing};
 ghost use Rattle.dd_session.specs.Managing.{is_posted};
 
 use crate::answers::{Fetched, Placed};
-use crate::changes;
 use crate::manager::Manager;
 use crate::session::Session;
+use crate::{changes, listing};
 use dead_sweep::Swept;
+use dump_sizes::Listing;
 use edge_bits::{Kind, Memory};
 use handle_count::H;
 use std::sync::Wait;
@@ -90,6 +93,7 @@ impl Session {
         requires live { IsLive self.old h }
         ensures told { Called self.old self.new (calls.DropRow h) replies.Done result.place }
         ensures stored { StoresNothing self.new }
+        ensures fewer { length self.new.rows + 1 ≡ length self.old.rows }
         ensures spare { self.new.spare ≡ self.old.spare + 1 }
     {
         changes::drop_row(rt, &manager.guard, &mut self.pass, &mut self.book, h)
@@ -144,6 +148,24 @@ impl Session {
             cell,
             other,
         )
+    }
+
+    /// The nodes of some rows under the order of the variables that the calls of all sessions below a place leave, which the
+    /// session notes. It draws no place itself. Want of memory leaves the session as it was.
+    pub fn list<R: Wait>(
+        &mut self,
+        rt: &R,
+        manager: &Manager,
+        rows: &[H],
+    ) -> Result<Listing, Memory>
+        requires own { self.old.manager ≡ manager.now }
+        requires live { All (IsLiveAs kinds.Bdd self.old) rows.now }
+        ensures told { MatchResult result (IsListed self.old self.new rows.now) (λ _. IsAsBefore self.old self.new) }
+        ensures stored { StoresNothing self.new }
+        ensures spare { self.new.spare ≡ self.old.spare }
+    {
+        let alloc = manager.allocator();
+        listing::list(rt, alloc, &manager.guard, &mut self.pass, &self.book, rows)
     }
 
     /// Frees the slots that nothing reaches.

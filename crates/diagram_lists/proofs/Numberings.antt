@@ -102,25 +102,25 @@ one_fewer numbers s lower lt fresh =
 pub left : (p : Plain) → IsStore p → (numbers : List ℕ) (lines : List Line) (s : ℕ) (node : Node) → IsNumbering p numbers lines → IsOpen p numbers s node
     → 1 ≤ number numbers node.hi → 1 ≤ number numbers node.lo.index
     → IsNumbering p (set numbers s (next lines)) (lines ++ line_of numbers node ∷ [])
-left p st numbers lines s node n open_ hi lo = record {
+left p st numbers lines s node n is_open hi lo = record {
   as_many = length-set numbers s (next lines) ∙ n.as_many;
-  constant = number_other numbers s (next lines) 0 (λ e. let one = n.constant in let none : number numbers 0 ≡ 0 = ap (number numbers) e ∙ open_.fresh in omega (arith, one, none)) ∙ n.constant;
+  constant = number_other numbers s (next lines) 0 (λ e. let one = n.constant in let none : number numbers 0 ≡ 0 = ap (number numbers) e ∙ is_open.fresh in omega (arith, one, none)) ∙ n.constant;
   nodes = λ t has. by_slot t has (cases_eq t s);
   each = λ i lt. by_line i lt (cases_eq i (length lines));
-  count = (let fewer = one_fewer numbers s (length lines) fits open_.fresh in
+  count = (let fewer = one_fewer numbers s (length lines) fits is_open.fresh in
       let all = n.count in
       let long = length_push lines (line_of numbers node) in
       omega (arith, fewer, all, long, length-set numbers s (next lines)));
 }
   where
     fits : s < length numbers
-    fits = let lt = inside p st s open_.is_bdd in let as_many = n.as_many in omega arith
+    fits = let lt = inside p st s is_open.is_bdd in let as_many = n.as_many in omega arith
 
     here : number (set numbers s (next lines)) s ≡ next lines
     here = get_or-set_same numbers s (next lines) 0 fits
 
     more : Extends numbers (set numbers s (next lines)) lines (lines ++ line_of numbers node ∷ [])
-    more = left_extends numbers lines s (next lines) (line_of numbers node) open_.fresh
+    more = left_extends numbers lines s (next lines) (line_of numbers node) is_open.fresh
 
     own_line : HasLine p (set numbers s (next lines)) (lines ++ line_of numbers node ∷ []) s
     own_line =
@@ -131,8 +131,8 @@ left p st numbers lines s node n open_ hi lo = record {
         let back : (next lines) - 2 ≡ length lines = omega arith in
         record {
           node = node;
-          word = open_.word;
-          is_bdd = open_.is_bdd;
+          word = is_open.word;
+          is_bdd = is_open.is_bdd;
           later = omega (arith, here);
           line = ap (λ k. slice_get (lines ++ line_of numbers node ∷ []) (k - 2)) here ∙ ap (slice_get (lines ++ line_of numbers node ∷ [])) back
               ∙ got_last lines (line_of numbers node) ∙ ap (λ l. Some l) (sym (same_line numbers (set numbers s (next lines)) node hi_is lo_is));

@@ -34,13 +34,13 @@ module _ (p : Plain) (st : IsStore p) where
   -- the slots on a stack stand one below the other
   pub deep : {numbers : List ℕ} {lines : List Line} {start root : ℕ} (stack : List ℕ) (s from : ℕ) → IsPath p numbers lines start root stack s from → length stack ≤ top_in p s
   deep _ _ _ bottom = omega arith
-  deep _ _ _ (by_hi {stack} {front} {s} {from} node e open_ rest) =
+  deep _ _ _ (by_hi {stack} {front} {s} {from} node e is_open rest) =
       let low = deep front s from rest in
-      let below = (stands p st s node open_.word open_.is_bdd).hi_lower in
+      let below = (stands p st s node is_open.word is_open.is_bdd).hi_lower in
       omega (arith, ap (λ (xs : List ℕ). length xs) e, length_push front s, low, below)
-  deep _ _ _ (by_lo {stack} {front} {s} {from} node e open_ has leads rest) =
+  deep _ _ _ (by_lo {stack} {front} {s} {from} node e is_open has leads rest) =
       let low = deep front s from rest in
-      let below = (stands p st s node open_.word open_.is_bdd).lo_lower in
+      let below = (stands p st s node is_open.word is_open.is_bdd).lo_lower in
       omega (arith, ap (λ (xs : List ℕ). length xs) e, length_push front s, low, below)
 
   module _ (numbers : List ℕ) (lines : List Line) (n : IsNumbering p numbers lines) where
@@ -83,15 +83,15 @@ module _ (p : Plain) (st : IsStore p) where
     -- the slot on the top is open
     pub open_at : (start root : ℕ) (stack front : List ℕ) (slot : ℕ) → stack ≡ front ++ slot ∷ [] → IsOnWay p numbers lines start root stack → (node : Node) × IsOpen p numbers slot node
     open_at start root stack front slot is (arrived e has leads) = absurd (push_nil front slot (sym e ∙ is))
-    open_at start root stack front slot is (at_top other top from node e open_ met path) =
-        subst (λ s. (node : Node) × IsOpen p numbers s node) (same_from_push other front top slot (sym e ∙ is)).1 (node, open_)
+    open_at start root stack front slot is (at_top other top from node e is_open met path) =
+        subst (λ s. (node : Node) × IsOpen p numbers s node) (same_from_push other front top slot (sym e ∙ is)).1 (node, is_open)
 
     -- there is room on the stack
     low_enough : (start root : ℕ) (stack front : List ℕ) (slot : ℕ) → stack ≡ front ++ slot ∷ [] → IsOnWay p numbers lines start root stack → length stack ≤ length p.variable_levels
     low_enough start root stack front slot is (arrived e has leads) = absurd (push_nil front slot (sym e ∙ is))
-    low_enough start root stack front slot is (at_top other top from node e open_ met path) =
+    low_enough start root stack front slot is (at_top other top from node e is_open met path) =
         let low = deep other top from path in
-        let within = (stands p st top node open_.word open_.is_bdd).within in
+        let within = (stands p st top node is_open.word is_open.is_bdd).within in
         omega (arith, ap (λ (xs : List ℕ). length xs) e, length_push other top, low, within)
 
     pub down_fewer : (start root : ℕ) (stack front : List ℕ) (slot child : ℕ) → stack ≡ front ++ slot ∷ [] → IsOnWay p numbers lines start root stack
@@ -105,16 +105,16 @@ module _ (p : Plain) (st : IsStore p) where
         → IsMet numbers lines node from → IsPath p numbers lines start root front top from
         → number numbers child ≡ 0 → (child ≡ node.hi) ⊎ ((child ≡ node.lo.index) × (1 ≤ number numbers node.hi))
         → IsOnWay p numbers lines start root (stack ++ child ∷ [])
-    down_from start root stack front top from child node e open_ met path none (inl is) =
+    down_from start root stack front top from child node e is_open met path none (inl is) =
         let at : number numbers node.hi ≡ 0 = ap (number numbers) (sym is) ∙ none in
-        let o = opens node.hi (stands p st top node open_.word open_.is_bdd).hi_is at in
+        let o = opens node.hi (stands p st top node is_open.word is_open.is_bdd).hi_is at in
         subst (λ c. IsOnWay p numbers lines start root (stack ++ c ∷ [])) (sym is)
-        (at_top stack node.hi from o.0 refl o.1 (at_first (first_of met at)) (by_hi node e open_ path))
-    down_from start root stack front top from child node e open_ met path none (inr (is, has)) =
+        (at_top stack node.hi from o.0 refl o.1 (at_first (first_of met at)) (by_hi node e is_open path))
+    down_from start root stack front top from child node e is_open met path none (inr (is, has)) =
         let at : number numbers node.lo.index ≡ 0 = ap (number numbers) (sym is) ∙ none in
-        let o = opens node.lo.index (stands p st top node open_.word open_.is_bdd).lo_is at in
+        let o = opens node.lo.index (stands p st top node is_open.word is_open.is_bdd).lo_is at in
         subst (λ c. IsOnWay p numbers lines start root (stack ++ c ∷ [])) (sym is)
-        (at_top stack node.lo.index (next lines) o.0 refl o.1 (at_first refl) (by_lo node e open_ has (hi_led met has at) path))
+        (at_top stack node.lo.index (next lines) o.0 refl o.1 (at_first refl) (by_lo node e is_open has (hi_led met has at) path))
 
     -- of one slot there is one node
     one_node : (s t : ℕ) (one other : Node) → slots p s ≡ Some (Inner one) → slots p t ≡ Some (Inner other) → s ≡ t → one ≡ other
@@ -124,18 +124,18 @@ module _ (p : Plain) (st : IsStore p) where
         → number numbers child ≡ 0 → (child ≡ node.hi) ⊎ ((child ≡ node.lo.index) × (1 ≤ number numbers node.hi))
         → IsOnWay p numbers lines start root stack → IsOnWay p numbers lines start root (stack ++ child ∷ [])
     down start root stack front slot child node is word none which (arrived e has leads) = absurd (push_nil front slot (sym e ∙ is))
-    down start root stack front slot child node is word none which (at_top other top from own e open_ met path) =
+    down start root stack front slot child node is word none which (at_top other top from own e is_open met path) =
         let same = same_from_push other front top slot (sym e ∙ is) in
-        let node_is : node ≡ own = sym (one_node top slot own node open_.word word same.1) in
-        down_from start root stack other top from child own e open_ met path none
+        let node_is : node ≡ own = sym (one_node top slot own node is_open.word word same.1) in
+        down_from start root stack other top from child own e is_open met path none
         (subst (λ (x : Node). (child ≡ x.hi) ⊎ ((child ≡ x.lo.index) × (1 ≤ number numbers x.hi))) node_is which)
 
     -- what stands on the stack stays so where a lower slot is left
     open_kept : (top v s : ℕ) (node : Node) → top_in p s < top_in p top → IsOpen p numbers s node → IsOpen p (set numbers top v) s node
-    open_kept top v s node lower open_ = record {
-      word = open_.word;
-      is_bdd = open_.is_bdd;
-      fresh = number_other numbers top v s (λ e. let same = ap (top_in p) e in omega (arith, same, lower)) ∙ open_.fresh;
+    open_kept top v s node lower is_open = record {
+      word = is_open.word;
+      is_bdd = is_open.is_bdd;
+      fresh = number_other numbers top v s (λ e. let same = ap (top_in p) e in omega (arith, same, lower)) ∙ is_open.fresh;
     }
 
     module _ (top v : ℕ) (line : Line) (none : number numbers top ≡ 0) where
@@ -149,13 +149,13 @@ module _ (p : Plain) (st : IsStore p) where
       path_kept : {start root : ℕ} (stack : List ℕ) (s from : ℕ) → top_in p s ≤ top_in p top → IsPath p numbers lines start root stack s from
           → IsPath p (set numbers top v) (lines ++ line ∷ []) start root stack s from
       path_kept _ _ _ lower bottom = bottom
-      path_kept _ _ _ lower (by_hi {stack} {front} {s} {from} node e open_ rest) =
-          let below = (stands p st s node open_.word open_.is_bdd).hi_lower in
-          by_hi node e (open_kept top v s node (omega (arith, below, lower)) open_) (path_kept front s from (omega (arith, below, lower)) rest)
-      path_kept _ _ _ lower (by_lo {stack} {front} {s} {from} {to} node e open_ has leads rest) =
-          let below = (stands p st s node open_.word open_.is_bdd).lo_lower in
+      path_kept _ _ _ lower (by_hi {stack} {front} {s} {from} node e is_open rest) =
+          let below = (stands p st s node is_open.word is_open.is_bdd).hi_lower in
+          by_hi node e (open_kept top v s node (omega (arith, below, lower)) is_open) (path_kept front s from (omega (arith, below, lower)) rest)
+      path_kept _ _ _ lower (by_lo {stack} {front} {s} {from} {to} node e is_open has leads rest) =
+          let below = (stands p st s node is_open.word is_open.is_bdd).lo_lower in
           let hi = leads_kept node.hi from to has leads in
-          by_lo node e (open_kept top v s node (omega (arith, below, lower)) open_) hi.0 hi.1 (path_kept front s from (omega (arith, below, lower)) rest)
+          by_lo node e (open_kept top v s node (omega (arith, below, lower)) is_open) hi.0 hi.1 (path_kept front s from (omega (arith, below, lower)) rest)
 
     -- the slot that is left is numbered
     led : (from : ℕ) (node : Node) → IsMet numbers lines node from → 1 ≤ number numbers node.hi → 1 ≤ number numbers node.lo.index
@@ -175,10 +175,10 @@ module _ (p : Plain) (st : IsStore p) where
     back_from : (start root : ℕ) (front : List ℕ) (top from : ℕ) (node : Node) → IsOpen p numbers top node → 1 ≤ number numbers node.hi → 1 ≤ number numbers node.lo.index
         → IsMet numbers lines node from → IsPath p numbers lines start root front top from
         → IsOnWay p (set numbers top (next lines)) (lines ++ line_of numbers node ∷ []) start root front
-    back_from start root front top from node open_ hi lo met path = by_path front top from here there refl path
+    back_from start root front top from node is_open hi lo met path = by_path front top from here there refl path
       where
         here : number (set numbers top (next lines)) top ≡ next lines
-        here = get_or-set_same numbers top (next lines) 0 (let lt = inside p st top open_.is_bdd in let as_many = n.as_many in omega arith)
+        here = get_or-set_same numbers top (next lines) 0 (let lt = inside p st top is_open.is_bdd in let as_many = n.as_many in omega arith)
 
         there : Leads (lines ++ line_of numbers node ∷ []) from (number (set numbers top (next lines)) top) (next (lines ++ line_of numbers node ∷ []))
         there = subst (λ i. Leads (lines ++ line_of numbers node ∷ []) from i (next (lines ++ line_of numbers node ∷ []))) (sym here) (led from node met hi lo)
@@ -188,27 +188,27 @@ module _ (p : Plain) (st : IsStore p) where
             → s ≡ top → IsPath p numbers lines start root below s started
             → IsOnWay p (set numbers top (next lines)) (lines ++ line_of numbers node ∷ []) start root below
         by_path _ _ _ at leads same bottom = arrived refl (omega (arith, at)) leads
-        by_path _ _ _ at leads same (by_hi {stack} {front} {s} {from} parent e open2 rest) =
-            let lower = (stands p st s parent open2.word open2.is_bdd).hi_lower in
+        by_path _ _ _ at leads same (by_hi {stack} {front} {s} {from} parent e parent_open rest) =
+            let lower = (stands p st s parent parent_open.word parent_open.is_bdd).hi_lower in
             let level : top_in p parent.hi ≡ top_in p top = ap (top_in p) same in
-            at_top front s from parent e (open_kept top (next lines) s parent (omega (arith, lower, level)) open2) (behind_hi (omega (arith, at)) leads)
-            (path_kept top (next lines) (line_of numbers node) open_.fresh front s from (omega (arith, lower, level)) rest)
-        by_path _ _ _ at leads same (by_lo {stack} {front} {s} {from} {to} parent e open2 has first rest) =
-            let lower = (stands p st s parent open2.word open2.is_bdd).lo_lower in
+            at_top front s from parent e (open_kept top (next lines) s parent (omega (arith, lower, level)) parent_open) (behind_hi (omega (arith, at)) leads)
+            (path_kept top (next lines) (line_of numbers node) is_open.fresh front s from (omega (arith, lower, level)) rest)
+        by_path _ _ _ at leads same (by_lo {stack} {front} {s} {from} {to} parent e parent_open has first rest) =
+            let lower = (stands p st s parent parent_open.word parent_open.is_bdd).lo_lower in
             let level : top_in p parent.lo.index ≡ top_in p top = ap (top_in p) same in
-            let high = leads_kept top (next lines) (line_of numbers node) open_.fresh parent.hi from to has first in
-            at_top front s from parent e (open_kept top (next lines) s parent (omega (arith, lower, level)) open2) (behind_lo to high.0 high.1 (omega (arith, at)) leads)
-            (path_kept top (next lines) (line_of numbers node) open_.fresh front s from (omega (arith, lower, level)) rest)
+            let high = leads_kept top (next lines) (line_of numbers node) is_open.fresh parent.hi from to has first in
+            at_top front s from parent e (open_kept top (next lines) s parent (omega (arith, lower, level)) parent_open) (behind_lo to high.0 high.1 (omega (arith, at)) leads)
+            (path_kept top (next lines) (line_of numbers node) is_open.fresh front s from (omega (arith, lower, level)) rest)
 
     pub back : (start root : ℕ) (stack front : List ℕ) (slot : ℕ) (node : Node) → stack ≡ front ++ slot ∷ [] → slots p slot ≡ Some (Inner node)
         → 1 ≤ number numbers node.hi → 1 ≤ number numbers node.lo.index → IsOnWay p numbers lines start root stack
         → IsOnWay p (set numbers slot (next lines)) (lines ++ line_of numbers node ∷ []) start root front
     back start root stack front slot node is word hi lo (arrived e has leads) = absurd (push_nil front slot (sym e ∙ is))
-    back start root stack front slot node is word hi lo (at_top other top from own e open_ met path) =
+    back start root stack front slot node is word hi lo (at_top other top from own e is_open met path) =
         let same = same_from_push other front top slot (sym e ∙ is) in
-        let own_is : own ≡ node = one_node top slot own node open_.word word same.1 in
+        let own_is : own ≡ node = one_node top slot own node is_open.word word same.1 in
         let met_is : IsMet numbers lines node from = subst (λ x. IsMet numbers lines x from) own_is met in
-        let open_is : IsOpen p numbers top node = subst (IsOpen p numbers top) own_is open_ in
+        let open_is : IsOpen p numbers top node = subst (IsOpen p numbers top) own_is is_open in
         subst (λ (f : List ℕ). IsOnWay p (set numbers slot (next lines)) (lines ++ line_of numbers node ∷ []) start root f) same.0
         (subst (λ s. IsOnWay p (set numbers s (next lines)) (lines ++ line_of numbers node ∷ []) start root other) same.1
         (back_from start root other top from node open_is hi lo met_is path))

@@ -1,6 +1,6 @@
 //! The listing of a store's BDDs.
 
-ghost use Rattle.std.specs.Prelude.{◌≡◌, All, IfOk, OnOk, map};
+ghost use Rattle.std.specs.Prelude.{◌≡◌, All, IfOk, map};
 ghost use Rattle.edge_bits.specs.declared.edges.Kind.TheVariants.{Bdd};
 ghost use Rattle.dump_sizes.specs.Listings.{IsListing};
 ghost use Rattle.node_store.specs.Views.{Is, bdd_at};

@@ -1,6 +1,6 @@
 //! The walk that numbers the nodes of a store's BDDs.
 
-ghost use Rattle.std.specs.Prelude.{◌≡◌, ◌⊎◌, ◌<◌, ◌≤◌, ◌+◌, ◌^◌, ◌++◌, ◌∷◌, [], ℕ, List as ListOf, IfOk, OnOk, IfSome, IfNone, Some, length, slice_set, vec_len};
+ghost use Rattle.std.specs.Prelude.{◌≡◌, ◌⊎◌, ◌<◌, ◌≤◌, ◌+◌, ◌^◌, ◌++◌, ◌∷◌, [], ℕ, List as ListOf, IfOk, OnOk, IfSome, IfNone, Some, length, slice_set};
 ghost use Rattle.edge_bits.specs.declared.edges.Kind.TheVariants.{Bdd};
 ghost use Rattle.edge_bits.specs.declared.words.Node.{Node as NodeOf};
 ghost use Rattle.edge_bits.specs.declared.words.Word.TheVariants as words;
@@ -15,13 +15,13 @@ use std::alloc::Global;
 
 /// A walk over the nodes of a store in depth. It leaves a node behind its then child and its else child, and numbers it then.
 #[derive(Drop)]
-pub struct Walk {
+pub(crate) struct Walk {
     /// The number of each slot, 1 for the constant, and 0 where it has none yet.
-    pub numbers: Vec<u32>,
+    pub(crate) numbers: Vec<u32>,
     /// The lines of the numbers from 2 on.
-    pub lines: List<Line>,
+    pub(crate) lines: List<Line>,
     /// The slots that were met and aren't left, from the root on.
-    pub stack: Vec<u32>,
+    pub(crate) stack: Vec<u32>,
 }
 
 /// The node of a slot.
@@ -37,7 +37,7 @@ fn node_in(store: &PlainStore, slot: u32) -> Node
 
 impl Walk {
     /// A walk over a store of so many slots, of which the constant alone has a number.
-    pub fn new(alloc: Global, slots: u32) -> Result<Walk, Memory>
+    pub(crate) fn new(alloc: Global, slots: u32) -> Result<Walk, Memory>
         requires { 0 < slots }
         ensures walk { IfOk result (λ walk. (p : Plain) → length p.words ≡ slots → IsWalk p walk) }
         ensures lines { IfOk result (λ walk. walk.lines ≡ []) }
@@ -60,7 +60,7 @@ impl Walk {
     }
 
     /// The index of an edge, negative where it is complemented.
-    pub fn index_of(&self, edge: Edge) -> i32
+    pub(crate) fn index_of(&self, edge: Edge) -> i32
         requires within { edge.index < length self.now.numbers.items }
         requires small { number self.now.numbers.items edge.index < 2 ^ 31 }
         ensures { result ≡ index_of self.now.numbers.items edge }
@@ -138,7 +138,7 @@ impl Walk {
     }
 
     /// Numbers a slot, and all below it that have no number yet.
-    pub fn walk_from(&mut self, store: &PlainStore, root: u32) -> Result<(), Memory>
+    pub(crate) fn walk_from(&mut self, store: &PlainStore, root: u32) -> Result<(), Memory>
         requires store { IsStore store.now }
         requires walk { IsWalk store.now self.old }
         requires stack { self.old.stack.items ≡ [] }

@@ -20,15 +20,18 @@ use Rattle.seat_guard.specs.declared.view.Telling.{Telling}
 use Rattle.seat_guard.specs.declared.view.Gone.{Gone}
 use Rattle.seat_guard.specs.declared.view.Draws.{Draws}
 use Rattle.seat_guard.specs.declared.view.Leaving.{Leaving}
-use Rattle.seat_guard.specs.Views.{told_of, MayTell, stands_for, cell_in, sizes_for, blank, session_of, holding, letting_go, gone_of, with_gone, one_more}
+use Rattle.seat_guard.specs.Views.{told_of, MayTell, stands_for, cell_in, sizes_for, blank, session_of, holding, letting_go, gone_of, with_gone, one_more, orders_of, note_of, noting}
 use Rattle.function_laws.specs.SessionEntries.{Each, entries_of, entry}
 use Rattle.function_laws.specs.Sizes.{Orders}
+use Rattle.function_laws.specs.EntryOrders.{opening_orders, orders_from}
+use Rattle.seat_guard.specs.Notes.{IsNotedIn}
 use Rattle.seat_guard.specs.Journal.{IsLeftRow, LiveFits, Fits, Journal}
 use Rattle.seat_guard.specs.Sifted.{Carries, IsOfOther, IsOfRow, IsOfCell, IsKnown, carried_by}
 use Rattle.seat_guard.specs.Rule.{AllBack, Whole}
 use Rattle.function_laws.proofs.SessionEntryLemmas.{put_at, put_here, put_else, entries_same, entries_other}
 use Rattle.function_laws.proofs.ApartLemmas.{after_apart}
 use Rattle.seat_guard.proofs.RowCounts.{at_end, each_append, each_map, each_set, off, not_true}
+use Rattle.seat_guard.proofs.NoteLemmas.{notes-longer, noted-now}
 use Rattle.seat_guard.proofs.NameSteps.{given-after, known-left, stand-after}
 
 module _ (place turn : ℕ) (ds : List Draws) (start : Sizes) (log : List Entry) (table : Table) (r : Journal place turn ds start log table) where
@@ -68,6 +71,7 @@ module _ (place turn : ℕ) (ds : List Draws) (start : Sizes) (log : List Entry)
               closing = f.closing;
               holder = f.holder;
               rowless = f.rowless;
+              noted = f.noted;
             }) (record {
               live = λ l. record {
                 seated = me.seated;
@@ -82,6 +86,7 @@ module _ (place turn : ℕ) (ds : List Draws) (start : Sizes) (log : List Entry)
               closing = λ c. absurd (true≢false (sym live ∙ ((r.each id d at).closing c).0));
               holder = λ h. live;
               rowless = λ l c. absurd (true≢false (sym live ∙ l));
+              noted = (r.each id d at).noted;
             });
       }
 
@@ -112,6 +117,7 @@ module _ (place turn : ℕ) (ds : List Draws) (start : Sizes) (log : List Entry)
               closing = f.closing;
               holder = f.holder;
               rowless = f.rowless;
+              noted = f.noted;
             }) (record {
               live = λ l. record {
                 seated = me.seated;
@@ -126,6 +132,7 @@ module _ (place turn : ℕ) (ds : List Draws) (start : Sizes) (log : List Entry)
               closing = λ c. absurd (true≢false (sym live ∙ ((r.each id d at).closing c).0));
               holder = λ h. absurd (off h);
               rowless = λ l c. absurd (true≢false (sym live ∙ l));
+              noted = (r.each id d at).noted;
             });
       }
 
@@ -189,12 +196,13 @@ module _ (place turn : ℕ) (ds : List Draws) (start : Sizes) (log : List Entry)
                     no_row = (aside p away).0 ∙ a.no_row;
                     no_name = (aside p away).1 ∙ a.no_name;
                   };
-                  back = λ i y there. let a = k.back i y there in let away : y.session ≢ d.session = λ is. some-ne-none id (sym me.seated ∙ (ap r.seat (sym is) ∙ a.1)) in (a.0, a.1, other y.session away ∙ a.2, (aside y.session away).0 ∙ a.3);
+                  back = λ i y there. let a = k.back i y there in let away : y.session ≢ d.session = λ is. some-ne-none id (sym me.seated ∙ (ap r.seat (sym is) ∙ a.1)) in (a.0, a.1, other y.session away ∙ a.2, (aside y.session away).0 ∙ a.3, notes-longer start log (e ∷ []) y.noted a.4);
                   left = each_map (IsLeftRow table r.seat f.given) (IsLeftRow u r.seat f.given) (λ row a. let away : a.0 ≢ d.session = λ is. some-ne-none id (sym me.seated ∙ (ap r.seat (sym is) ∙ a.2)) in (a.0, a.1, a.2, ap (λ (k : Name → std.Option Function). k row.name) (aside a.0 away).0 ∙ a.3)) f.rows k.left;
                 },
               );
               holder = fits.holder;
               rowless = fits.rowless;
+              noted = notes-longer start log (e ∷ []) f.noted fits.noted;
             }) (record {
               live = λ l. record {
                 seated = me.seated;
@@ -209,7 +217,40 @@ module _ (place turn : ℕ) (ds : List Draws) (start : Sizes) (log : List Entry)
               closing = λ c. absurd (true≢false (sym live ∙ ((r.each id d at).closing c).0));
               holder = λ h. live;
               rowless = λ l c. absurd (true≢false (sym live ∙ l));
+              noted = notes-longer start log (e ∷ []) d.noted (r.each id d at).noted;
             });
+      }
+
+  -- the orders are noted
+  pub notes_it : (id : ℕ) (d : Draws) → get_elem? ds id ≡ some d → d.holds ≡ true → orders_of d ≡ orders_from (opening_orders start) log → Journal place turn (set ds id (noting d place)) start log table
+  notes_it id d at holds now =
+      let f = r.each id d at in
+      let live = f.holder holds in
+      let me = f.live live in record {
+        seat = r.seat;
+        legal = r.legal;
+        leaves = r.leaves;
+        fixed = r.fixed;
+        drawn = r.drawn;
+        bounded = r.bounded;
+        beyond = r.beyond;
+        carried = r.carried;
+        each = each_set (Fits turn start log table r.seat) ds id (noting d place) (λ j e apart here. r.each j e here) (record {
+          live = λ l. record {
+            seated = me.seated;
+            below = me.below;
+            mine = me.mine;
+            agrees = record { sizes_are = me.agrees.sizes_are; live = me.agrees.live; fresh = me.agrees.fresh; cells = me.agrees.cells };
+            held = me.held;
+            given = me.given;
+            stand = me.stand;
+            others = me.others;
+          };
+          closing = λ c. absurd (true≢false (sym live ∙ (f.closing c).0));
+          holder = f.holder;
+          rowless = f.rowless;
+          noted = each_append (IsNotedIn start log) d.noted (note_of d place ∷ []) f.noted (noted-now start log d place r.drawn now, tt);
+        });
       }
 
   -- the closing seat gives a seat to the next session
@@ -229,6 +270,7 @@ module _ (place turn : ℕ) (ds : List Draws) (start : Sizes) (log : List Entry)
         closing = λ c. absurd (apart ((g.closing c).1 ∙ sym fits.1));
         holder = g.holder;
         rowless = g.rowless;
+        noted = g.noted;
       }) (record {
         live = λ l. absurd (true≢false (sym l ∙ fits.0));
         closing = λ c. (
@@ -243,12 +285,13 @@ module _ (place turn : ℕ) (ds : List Draws) (start : Sizes) (log : List Entry)
               no_row = a.no_row;
               no_name = a.no_name;
             };
-            back = λ i y there. let a = k.back i y there in let below = a.0 in (omega (arith, below), put_else r.seat d.given y.session (some n) (λ e. omega (arith, e, below)) ∙ a.1, a.2, a.3);
+            back = λ i y there. let a = k.back i y there in let below = a.0 in (omega (arith, below), put_else r.seat d.given y.session (some n) (λ e. omega (arith, e, below)) ∙ a.1, a.2, a.3, a.4);
             left = each_map (IsLeftRow table r.seat d.given) (IsLeftRow table seat (suc d.given)) (λ row a. let below = a.1 in (a.0, omega (arith, below), put_else r.seat d.given a.0 (some n) (λ e. omega (arith, e, below)) ∙ a.2, a.3)) d.rows k.left;
           },
         );
         holder = λ h. absurd (true≢false (sym ((r.each id d at).holder h) ∙ fits.0));
         rowless = (r.each id d at).rowless;
+        noted = (r.each id d at).noted;
       }) in
       record {
         seat = seat;
@@ -274,6 +317,7 @@ module _ (place turn : ℕ) (ds : List Draws) (start : Sizes) (log : List Entry)
               closing = λ c. absurd (off c);
               holder = λ h. absurd (off h);
               rowless = λ l c. refl;
+              noted = tt;
             })) (at_end (set ds id (one_more d)) (session_of d) f j here);
       }
 
@@ -301,7 +345,7 @@ module _ (place turn : ℕ) (ds : List Draws) (start : Sizes) (log : List Entry)
         carried = r.carried;
         each = each_set (Fits turn start log table seat) (set ds id (with_gone d e)) other blank
             (λ j f off_other here. each_set (λ i y. i ≢ other → Fits turn start log table seat i y) ds id (with_gone d e)
-            (λ i y off_id here' off_other'. let g = r.each i y here' in record { live = still i y off_other' g.live; closing = λ c. absurd (off_id ((g.closing c).1 ∙ sym fits.1)); holder = g.holder; rowless = g.rowless })
+            (λ i y off_id here' off_other'. let g = r.each i y here' in record { live = still i y off_other' g.live; closing = λ c. absurd (off_id ((g.closing c).1 ∙ sym fits.1)); holder = g.holder; rowless = g.rowless; noted = g.noted })
             (λ off_other'. record {
               live = λ l. absurd (true≢false (sym l ∙ fits.0));
               closing = λ c. (
@@ -312,8 +356,8 @@ module _ (place turn : ℕ) (ds : List Draws) (start : Sizes) (log : List Entry)
                   start_is = k.start_is;
                   later = λ p le. let a = k.later p le in record { no_seat = none_kept p a.no_seat; no_entry = a.no_entry; no_row = a.no_row; no_name = a.no_name };
                   back = λ i y lies. ⊎_elim
-                      (λ (was : get_elem? d.gone i ≡ some y). let a = k.back i y was in (a.0, none_kept y.session a.1, a.2, a.3))
-                      (λ (new : gone_of e ≡ y). subst (λ (z : Gone). (z.session < d.given) × (seat z.session ≡ none) × (entries_of z.session log ≡ z.entries) × (table.live z.session ≡ stands_for z.rows)) new (given, put_here r.seat e.session none, them.mine, them.agrees.live))
+                      (λ (was : get_elem? d.gone i ≡ some y). let a = k.back i y was in (a.0, none_kept y.session a.1, a.2, a.3, a.4))
+                      (λ (new : gone_of e ≡ y). subst (λ (z : Gone). (z.session < d.given) × (seat z.session ≡ none) × (entries_of z.session log ≡ z.entries) × (table.live z.session ≡ stands_for z.rows) × Each (IsNotedIn start log) z.noted) new (given, put_here r.seat e.session none, them.mine, them.agrees.live, (r.each other e at_other).noted))
                       (at_snoc d.gone (gone_of e) y i lies);
                   left = each_append (IsLeftRow table seat d.given) d.rows e.rows
                       (each_map (IsLeftRow table r.seat d.given) (IsLeftRow table seat d.given) (λ row a. (a.0, a.1, none_kept a.0 a.2, a.3)) d.rows k.left)
@@ -322,9 +366,10 @@ module _ (place turn : ℕ) (ds : List Draws) (start : Sizes) (log : List Entry)
               );
               holder = (r.each id d at).holder;
               rowless = λ l c. absurd (true≢false (sym is ∙ c));
+              noted = (r.each id d at).noted;
             })
             j f here off_other)
-            (record { live = λ l. absurd (off l); closing = λ c. absurd (off c); holder = λ h. absurd (off h); rowless = λ l c. refl });
+            (record { live = λ l. absurd (off l); closing = λ c. absurd (off c); holder = λ h. absurd (off h); rowless = λ l c. refl; noted = tt });
       }
 
   -- the turn word becomes another, where it was 0
@@ -343,6 +388,7 @@ module _ (place turn : ℕ) (ds : List Draws) (start : Sizes) (log : List Entry)
       closing = f.closing;
       holder = f.holder;
       rowless = f.rowless;
+      noted = f.noted;
     };
   }
 
@@ -358,6 +404,7 @@ module _ (place turn : ℕ) (ds : List Draws) (start : Sizes) (log : List Entry)
         each = λ i g there. (k.back i g there).2;
         rows = λ i g there. ap (λ (z : Sizes). (table_after (opening z) log).live g.session) start_is ∙ ap (λ (t : Table). t.live g.session) r.leaves ∙ (k.back i g there).3;
         beyond = λ p le. (k.later p le).no_entry;
+        noted = λ i g there. subst (λ (z : Sizes). Each (IsNotedIn z log) g.noted) k.start_is (k.back i g there).4;
       }
 
   -- once all have come back, the other seats have no row

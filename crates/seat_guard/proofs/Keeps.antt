@@ -22,18 +22,20 @@ use Rattle.seat_guard.specs.declared.view.Gone.{Gone}
 use Rattle.seat_guard.specs.declared.view.Draws.{Draws}
 use Rattle.seat_guard.specs.declared.view.Leaving.{Leaving}
 use Rattle.seat_guard.specs.declared.view.View.{View}
-use Rattle.seat_guard.specs.Views.{told_of, MayTell, cell_in, sizes_for, viewed, blank, session_of, holding, letting_go, with_gone, one_more}
+use Rattle.seat_guard.specs.Views.{told_of, MayTell, cell_in, sizes_for, viewed, blank, session_of, holding, letting_go, with_gone, one_more, noting}
 use Rattle.function_laws.specs.SessionEntries.{Each, entry}
 use Rattle.function_laws.specs.Sizes.{Orders}
 use Rattle.function_laws.specs.EntryOrders.{opening_orders, orders_after, orders_from}
 use Rattle.function_laws.proofs.OrderLemmas.{orders_from-append}
 use Rattle.seat_guard.specs.Sifted.{IsOfOther}
+use Rattle.seat_guard.specs.declared.view.Noted.{Noted}
+use Rattle.seat_guard.specs.Notes.{IsNotedIn}
 use Rattle.seat_guard.specs.Journal.{IsLeftRow, Fits, Journal}
 use Rattle.seat_guard.specs.Turn.{AreSized, IsKeptCell, IsSized, KeepsRows, Serves, Turn, row_count, cells_count}
-use Rattle.seat_guard.specs.Rule.{Rule, AllBack, ended, took, gave, drew, closed}
+use Rattle.seat_guard.specs.Rule.{Rule, AllBack, ended, took, gave, drew, looked, closed}
 use Rattle.function_laws.proofs.SessionEntryLemmas.{places_low, short}
 use Rattle.seat_guard.proofs.RowCounts.{at_end, each_set, not_true, row_count-append, all_count-set, all_count-same, all_count-append, all_count-only}
-use Rattle.seat_guard.proofs.Journals.{one_holder, held_turn, takes_it, gives_it, draws_it, splits_it, joins_it, turns, whole_of, others_empty, rows_apart}
+use Rattle.seat_guard.proofs.Journals.{one_holder, held_turn, takes_it, gives_it, draws_it, splits_it, joins_it, notes_it, turns, whole_of, others_empty, rows_apart}
 use Rattle.seat_guard.proofs.Allotments.{allotted-join, allotted-one, allotted-set, allotted-split, cells_count-most, few-after, named-most}
 use Rattle.seat_guard.specs.Allots.{Allotted}
 use Rattle.seat_guard.proofs.Turns.{finds_it, away_with, comes_home, draws_away, IsAsBefore, sized_set, stays_so}
@@ -277,6 +279,39 @@ module _ {S : Type 0} (keeps_it : S → Held → Type 0) (board : S → List (st
         (refl, λ c. whole_of (get_or s.words 0 0) (get_or s.words 1 0) (ds_of s.views) r.start r.log r.table j id d (seat_of s id me.0 at) c),
       )
 
+  pub looks_at : (slots id : ℕ) (me : Sat S) → me.0.draws.holds ≡ true → Allows TheRule slots id me 0 (λ n. n) (looked (step slots 0 0 0 none) me)
+  looks_at slots id me holds s r long at small =
+      let d = me.0.draws in
+      let here = seat_of s id me.0 at in
+      let n : ℕ = get_or s.words 0 0 in
+      let j : Journal n (get_or s.words 1 0) (ds_of s.views) r.start r.log r.table = r.journal in
+      let mine_now = (j.each id d here).live ((j.each id d here).holder holds) in
+      let w = viewed (noting d n) in
+      let views : ds_of (set s.views id w) ≡ set (ds_of s.views) id w.draws = map-set (λ (v : View). v.draws) s.views id w in
+      let now_left : Orders = orders_from (opening_orders r.start) r.log in
+      let rule : TheRule (record { words = s.words; homes = s.homes; views = set s.views id w }) = record {
+        wide = r.wide;
+        long = r.long;
+        start = r.start;
+        slots = r.slots;
+        log = r.log;
+        table = r.table;
+        journal = subst (λ (l : List Draws). Journal n (get_or s.words 1 0) l r.start r.log r.table) (sym views)
+            (notes_it n (get_or s.words 1 0) (ds_of s.views) r.start r.log r.table j id d here holds (r.turn.ordered id d here holds));
+        turn = subst (λ (l : List Draws). Turn keeps_it board counts count orders r.slots (get_or s.words 1 0) (get_elem? s.homes 0) l r.table now_left) (sym views)
+            (stays_so keeps_it board counts count orders r.slots (get_or s.words 1 0) (get_elem? s.homes 0) (ds_of s.views) (set (ds_of s.views) id w.draws) r.table now_left r.turn
+            (each_set (IsAsBefore keeps_it board counts count orders r.slots (ds_of s.views)) (ds_of s.views) id w.draws (λ i f apart lies. inl (f, lies, refl, refl, refl, refl)) (inl (d, here, refl, refl, refl, refl)))
+            (λ k. all_count-same k (ds_of s.views) id d w.draws here refl));
+        rows = subst Allotted (sym views) (allotted-set (ds_of s.views) id d w.draws here r.rows refl (r.rows.each id d here));
+        sized = subst (AreSized r.slots) (sym views) (sized_set r.slots (ds_of s.views) id w.draws r.sized (r.sized id d here));
+      } in (
+        w,
+        keeps,
+        tt,
+        subst (λ (l : List ℕ). TheRule (record { words = l; homes = s.homes; views = set s.views id w })) (sym (set-get_or s.words 0 0)) rule,
+        (refl, refl, λ k e l. subst (λ (z : List Entry × ℕ). std.All (λ (e : Entry). e.place < z.1) z.0) (λ i. (mine_now.mine i, from_zero (length r.log) n j.drawn i)) (places_low r.log 0 (opening r.start) d.session j.legal) k e l),
+      )
+
   pub splits : (id : ℕ) (v : View) → v.draws.closing ≡ true → v.draws.given < 64 → Splits TheRule id v (viewed (one_more v.draws)) (viewed (session_of v.draws))
   splits id v is room s r at =
       let d = v.draws in
@@ -350,9 +385,9 @@ module _ {S : Type 0} (keeps_it : S → Held → Type 0) (board : S → List (st
   none_counted k (std.Some held ∷ cells) none_there = absurd (let a : std.Some held.function ≡ std.None = none_there zero in cc)
 
   -- the table as it is made
-  pub starts : (x : S) (d : Draws) → orders x ≡ opening_orders (sizes_for d.vars d.elements) → counts x ≡ (d.vars, d.elements, d.slots) → ((k : ℕ) → count x k ≡ 0) → d.closing ≡ true → d.live ≡ false → d.holds ≡ false → d.rows ≡ [] → d.given ≡ 0 → d.gone ≡ [] → length (board x) ≡ 256 → cell_in (board x) ≡ (λ (i : ℕ). std.None) → Each (IsKeptCell keeps_it board counts count orders x) (board x)
+  pub starts : (x : S) (d : Draws) → orders x ≡ opening_orders (sizes_for d.vars d.elements) → counts x ≡ (d.vars, d.elements, d.slots) → ((k : ℕ) → count x k ≡ 0) → d.closing ≡ true → d.live ≡ false → d.holds ≡ false → d.rows ≡ [] → d.given ≡ 0 → d.gone ≡ [] → d.noted ≡ [] → length (board x) ≡ 256 → cell_in (board x) ≡ (λ (i : ℕ). std.None) → Each (IsKeptCell keeps_it board counts count orders x) (board x)
       → TheRule (record { words = 0 ∷ 0 ∷ []; homes = some (std.Some x) ∷ []; views = viewed d ∷ [] })
-  starts x d ordered sizes zeros is dead free rows given gone len empty kept = record {
+  starts x d ordered sizes zeros is dead free rows given gone notes len empty kept = record {
     wide = refl;
     long = refl;
     start = sizes_for d.vars d.elements;
@@ -400,5 +435,6 @@ module _ {S : Type 0} (keeps_it : S → Held → Type 0) (board : S → List (st
         );
         holder = λ h. absurd (true≢false (sym h ∙ free));
         rowless = λ _ _. rows;
+        noted = subst (λ (l : List Noted). Each (IsNotedIn (sizes_for d.vars d.elements) []) l) (sym notes) tt;
       })
       one (suc id) e at = absurd (some-ne-none e (sym at))

@@ -1,5 +1,6 @@
 pub mod RowCounts
 pub mod NameSteps
+pub mod NoteLemmas
 pub mod Journals
 pub mod Turns
 pub mod Allotments

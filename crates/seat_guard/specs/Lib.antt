@@ -1,5 +1,6 @@
 pub mod Sifted
 pub mod Allots
+pub mod Notes
 pub mod Views
 pub mod Journal
 pub mod Turn

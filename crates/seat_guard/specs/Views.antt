@@ -16,6 +16,7 @@ use Rattle.seat_guard.specs.declared.view.Change.{Change}
 use Rattle.seat_guard.specs.declared.view.Change.TheVariants.{Nothing, Adds, Takes, Posts}
 use Rattle.seat_guard.specs.declared.view.Telling.{Telling}
 use Rattle.seat_guard.specs.declared.view.Leaving.{Leaving}
+use Rattle.seat_guard.specs.declared.view.Noted.{Noted}
 use Rattle.seat_guard.specs.declared.view.Gone.{Gone}
 use Rattle.seat_guard.specs.declared.view.Draws.{Draws}
 use Rattle.seat_guard.specs.declared.view.View.{View}
@@ -115,6 +116,7 @@ blank = record {
   stored = [];
   due = None;
   entries = [];
+  noted = [];
   closing = false;
   sessions = 0;
   given = 0;
@@ -154,12 +156,19 @@ letting_go d x = record d {
   due = x.due;
 }
 
+-- it notes the orders, which it knows as it has the turn, at the place n
+abbrev pub note_of : Draws → ℕ → Noted
+note_of d n = record { place = n; variable_order = d.variable_order; element_order = d.element_order }
+
+abbrev pub noting : Draws → ℕ → Draws
+noting d n = record d { noted = d.noted ++ note_of d n ∷ [] }
+
 -- each of these functions is one that a node had as the turn was taken, or is told as stored
 abbrev pub AreTold : Draws → List Function → List Function → Type 0
 AreTold d stored functions = (f : Function) → Contains functions f → Contains d.functions f ⊎ Contains stored f
 
 abbrev pub gone_of : Draws → Gone
-gone_of d = record { session = d.session; rows = d.rows; entries = d.entries }
+gone_of d = record { session = d.session; rows = d.rows; entries = d.entries; noted = d.noted }
 
 abbrev pub with_gone : Draws → Draws → Draws
 with_gone d e = record d { rows = d.rows ++ e.rows; gone = d.gone ++ gone_of e ∷ [] }

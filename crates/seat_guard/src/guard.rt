@@ -2,13 +2,13 @@
 ghost use Rattle.std.specs.Prelude.{◌≡◌, ◌+◌, ◌<◌, ◌≤◌, ◌^◌, ℕ, List, [], ◌∷◌, ◌++◌, length, true, false, IfOk, Option, None, Some, All};
 ghost use Rattle.function_laws.specs.declared.history.Entry.{Entry};
 ghost use Rattle.seat_guard.specs.declared.view.Held.{Held};
-ghost use Rattle.seat_guard.specs.Views.{sizes_for, session_of, holding, letting_go, one_more, with_gone, told_of, AreTold, MayTell};
+ghost use Rattle.seat_guard.specs.Views.{sizes_for, session_of, holding, letting_go, one_more, with_gone, told_of, noting, AreTold, MayTell};
 ghost use Rattle.seat_guard.specs.Rule.{AllBack, Ends, Whole};
 ghost use Rattle.seat_guard.specs.Turn.{Serves};
 ghost use Rattle.seat_guard.specs.Passes.{known, in_hand, IsPassOf, IsIdle};
 
 use crate::content::Content;
-use crate::plays::{Back, Draw, End, Give, Last, Next, Take};
+use crate::plays::{Back, Draw, End, Give, Last, Look, Next, Take};
 use crate::seat::{Guard, Pass};
 use crate::told::{Leaves, Told};
 use crossbeam_utils::Backoff;
@@ -87,6 +87,16 @@ impl<S: Content> Guard<S> {
         self.table
             .shared
             .fetch_add::<Draw<E>>(&mut pass.seat, JOURNAL, 1)
+    }
+
+    /// Notes the orders, at the number of the calls so far: those that the entries below this place leave. It draws no place.
+    pub fn look(&self, pass: &mut Pass<S>) -> u64
+        requires own { IsPassOf self.now pass.old × ((known pass.old).holds ≡ true) }
+        ensures own { IsPassOf self.now pass.new × (in_hand pass.new ≡ in_hand pass.old) }
+        ensures noted { known pass.new ≡ noting (known pass.old) result }
+        ensures later { All (λ (e : Entry). e.place < result) (known pass.old).entries }
+    {
+        self.table.shared.load::<Look>(&mut pass.seat, JOURNAL)
     }
 
     /// Puts what all share and the turn back, and notes what was stored since the turn was taken, and what was due at the last Full.

@@ -41,6 +41,14 @@ impl<S, E: Told> Play<Option<S>, View> for Draw<E> {
     ghost then = { drew E.told };
 }
 
+pub struct Look;
+
+impl<S> Play<Option<S>, View> for Look {
+    ghost use Rattle.seat_guard.specs.Rule.{looked};
+
+    ghost then = { looked };
+}
+
 pub struct Last;
 
 impl<S> Play<Option<S>, View> for Last {

@@ -80,3 +80,12 @@ returns-clause-told g c =
 
 pub returns-clause-stored : goal.returns-clause-stored
 returns-clause-stored g c = drew_nothing (known c.args.pass.now) (known c.take-shared.new.pass) c.take-shared.result (record { others = c.take-shared.ensures.took.0; is = c.take-shared.ensures.took.1; serves = c.take-shared.ensures.took.2; many = c.take-shared.ensures.board }) (known c.finish-place.new.pass) c.lower.new.self _ c.finish-place.result (stores_recounted c.take-shared.result c.lower.new.self (functions-recounted c.take-shared.result c.lower.new.self c.lower.ensures.rest)) c.finish-place.ensures.drew
+
+pub returns-clause-fewer : goal.returns-clause-fewer
+returns-clause-fewer g c =
+    let d = known c.args.pass.now in
+    let h = finds_row d c.args.book.now.rows c.args.h c.requires.keeps.rows c.requires.live.0 c.requires.live.1 in
+    let one = (fewer c.args.h d.rows h.0 c.requires.keeps.rows.apart h.1).0 in
+    let left = ap (λ (z : Draws). length z.rows) c.finish-place.ensures.drew.left in
+    let took = ap (λ (z : Draws). length (without c.args.h z.rows)) c.take-shared.ensures.took.1 in
+    omega (arith, one, left, took)
