@@ -8,7 +8,7 @@ use Rattle.edge_bits.specs.declared.words.Node.{Node}
 use Rattle.edge_bits.specs.declared.words.Word.TheVariants.{Inner}
 use Rattle.edge_bits.specs.Reading.{plain}
 use Rattle.dddmp_text.specs.declared.dump.Dump.{Dump}
-use Rattle.dddmp_text.specs.WellMade.{Numbers}
+use Rattle.dddmp_text.specs.WellMade.{Numbers, NumbersAll}
 use Rattle.node_store.specs.Views.{Is}
 use Rattle.node_slots.specs.Stores.{Plain, plain_view, slots}
 use Rattle.diagram_lists.specs.declared.walk.Walk.{Walk}
@@ -67,9 +67,19 @@ Begins lines dump = (i : ℕ) (line : Line) → slice_get lines i ≡ Some line 
 abbrev pub Leads : List Line → ℕ → ℕ → ℕ → Type 0
 Leads lines from index to = (dump : Dump) → Begins lines dump → Numbers dump from index to
 
+-- and so a walk from each root in turn
+abbrev pub LeadsAll : List Line → ℕ → List ℤ → ℕ → Type 0
+LeadsAll lines from roots to = (dump : Dump) → Begins lines dump → NumbersAll dump from roots to
+
 -- the number that comes next
 abbrev pub next : List Line → ℕ
 next lines = 2 + length lines
+
+-- a slot of a BDD that has no number yet
+pub record IsOpen (p : Plain) (numbers : List ℕ) (s : ℕ) (node : Node) : Type 0 where
+  pub word : slots p s ≡ Some (Inner node)
+  pub is_bdd : Is Bdd (plain_view p) (plain s)
+  pub fresh : number numbers s ≡ 0
 
 -- How far a slot has come that was met when `from` came next: its children aren't walked yet, or the first, or both.
 pub data IsMet (numbers : List ℕ) (lines : List Line) (node : Node) (from : ℕ) : Type 0 where
@@ -82,17 +92,11 @@ pub data IsMet (numbers : List ℕ) (lines : List Line) (node : Node) (from : �
 -- met from the one below.
 pub data IsPath (p : Plain) (numbers : List ℕ) (lines : List Line) (start root : ℕ) : List ℕ → ℕ → ℕ → Type 0 where
   bottom : IsPath p numbers lines start root [] root start
-  by_hi : {stack front : List ℕ} {s from : ℕ} (node : Node) → stack ≡ front ++ s ∷ [] → slots p s ≡ Some (Inner node)
+  by_hi : {stack front : List ℕ} {s from : ℕ} (node : Node) → stack ≡ front ++ s ∷ [] → IsOpen p numbers s node
       → IsPath p numbers lines start root front s from → IsPath p numbers lines start root stack node.hi from
-  by_lo : {stack front : List ℕ} {s from to : ℕ} (node : Node) → stack ≡ front ++ s ∷ [] → slots p s ≡ Some (Inner node)
+  by_lo : {stack front : List ℕ} {s from to : ℕ} (node : Node) → stack ≡ front ++ s ∷ [] → IsOpen p numbers s node
       → 1 ≤ number numbers node.hi → Leads lines from (number numbers node.hi) to
       → IsPath p numbers lines start root front s from → IsPath p numbers lines start root stack node.lo.index to
-
--- a slot of a BDD that has no number yet
-pub record IsOpen (p : Plain) (numbers : List ℕ) (s : ℕ) (node : Node) : Type 0 where
-  pub word : slots p s ≡ Some (Inner node)
-  pub is_bdd : Is Bdd (plain_view p) (plain s)
-  pub fresh : number numbers s ≡ 0
 
 -- the stack is empty and the root has its number, or it leads down to an open slot
 pub data IsOnWay (p : Plain) (numbers : List ℕ) (lines : List Line) (start root : ℕ) (stack : List ℕ) : Type 0 where

@@ -1,6 +1,6 @@
 //! The listing of a store's BDDs.
 
-ghost use Rattle.std.specs.Prelude.{◌≡◌, All, IfOk, OnOk, map};
+ghost use Rattle.std.specs.Prelude.{◌≡◌, All, IfOk, map};
 ghost use Rattle.edge_bits.specs.declared.edges.Kind.TheVariants.{Bdd};
 ghost use Rattle.dump_sizes.specs.Listings.{IsListing};
 ghost use Rattle.node_store.specs.Views.{Is, bdd_at};
@@ -29,8 +29,8 @@ pub fn list(alloc: Global, store: &PlainStore, edges: &[Edge]) -> Result<Listing
     requires { All (Is Bdd (plain_view store.now)) edges.now }
     ensures { IfOk result (IsListing store.now.variables_at (map (bdd_at (plain_view store.now)) edges.now)) }
 {
+    let mut walk = Walk::new(alloc, store.limit())?;
     let order = order_of(alloc, store)?;
-    let mut walk = Walk::new(alloc, store)?;
     let mut roots = Elements::new(alloc);
     for edge in edges {
         walk.walk_from(store, edge.index())?;

@@ -1,12 +1,12 @@
 //! The walk that numbers the nodes of a store's BDDs.
 
-ghost use Rattle.std.specs.Prelude.{◌≡◌, ◌⊎◌, ◌<◌, ◌≤◌, ◌+◌, ◌++◌, ◌∷◌, [], ℕ, List as ListOf, IfOk, OnOk, IfSome, IfNone, Some, length, slice_set, vec_len};
+ghost use Rattle.std.specs.Prelude.{◌≡◌, ◌⊎◌, ◌<◌, ◌≤◌, ◌+◌, ◌^◌, ◌++◌, ◌∷◌, [], ℕ, List as ListOf, IfOk, OnOk, IfSome, IfNone, Some, length, slice_set};
 ghost use Rattle.edge_bits.specs.declared.edges.Kind.TheVariants.{Bdd};
 ghost use Rattle.edge_bits.specs.declared.words.Node.{Node as NodeOf};
 ghost use Rattle.edge_bits.specs.declared.words.Word.TheVariants as words;
 ghost use Rattle.edge_bits.specs.Reading.{plain};
 ghost use Rattle.node_store.specs.Views.{Is};
-ghost use Rattle.node_slots.specs.Stores.{IsStore, plain_view, slots};
+ghost use Rattle.node_slots.specs.Stores.{IsStore, Plain, plain_view, slots};
 ghost use Rattle.diagram_lists.specs.Walks.{Extended, IsOpen, IsWalk, Leads, OnWay, index_of, line_of, next, number, steps_left};
 
 use edge_bits::{Edge, Line, List, Memory, Node, Word, unpack};
@@ -15,13 +15,13 @@ use std::alloc::Global;
 
 /// A walk over the nodes of a store in depth. It leaves a node behind its then child and its else child, and numbers it then.
 #[derive(Drop)]
-pub struct Walk {
+pub(crate) struct Walk {
     /// The number of each slot, 1 for the constant, and 0 where it has none yet.
-    pub numbers: Vec<u32>,
+    pub(crate) numbers: Vec<u32>,
     /// The lines of the numbers from 2 on.
-    pub lines: List<Line>,
+    pub(crate) lines: List<Line>,
     /// The slots that were met and aren't left, from the root on.
-    pub stack: Vec<u32>,
+    pub(crate) stack: Vec<u32>,
 }
 
 /// The node of a slot.
@@ -36,13 +36,14 @@ fn node_in(store: &PlainStore, slot: u32) -> Node
 }
 
 impl Walk {
-    /// No slot but the constant has a number.
-    pub fn new(alloc: Global, store: &PlainStore) -> Result<Walk, Memory>
-        ensures walk { IfOk result (IsWalk store.now) }
+    /// A walk over a store of so many slots, of which the constant alone has a number.
+    pub(crate) fn new(alloc: Global, slots: u32) -> Result<Walk, Memory>
+        requires { 0 < slots }
+        ensures walk { IfOk result (λ walk. (p : Plain) → length p.words ≡ slots → IsWalk p walk) }
         ensures lines { IfOk result (λ walk. walk.lines ≡ []) }
         ensures stack { IfOk result (λ walk. walk.stack.items ≡ []) }
     {
-        let mut numbers = vec![in alloc; 0u32; store.limit() as usize]?;
+        let mut numbers = vec![in alloc; 0u32; slots as usize]?;
         numbers[0] = 1;
         Ok(Walk {
             numbers,
@@ -59,7 +60,7 @@ impl Walk {
     }
 
     /// The index of an edge, negative where it is complemented.
-    pub fn index_of(&self, edge: Edge) -> i32
+    pub(crate) fn index_of(&self, edge: Edge) -> i32
         requires within { edge.index < length self.now.numbers.items }
         requires small { number self.now.numbers.items edge.index < 2 ^ 31 }
         ensures { result ≡ index_of self.now.numbers.items edge }
@@ -69,12 +70,12 @@ impl Walk {
     }
 
     /// The first child of a node that has no number yet.
-    fn open_child(&self, node: Node) -> Option<u32>
-        requires hi { node.hi < length self.now.numbers.items }
-        requires lo { node.lo.index < length self.now.numbers.items }
+    fn open_child(&self, node: &Node) -> Option<u32>
+        requires hi { node.now.hi < length self.now.numbers.items }
+        requires lo { node.now.lo.index < length self.now.numbers.items }
         ensures some { IfSome result (λ child. (number self.now.numbers.items child ≡ 0)
-            × ((child ≡ node.hi) ⊎ ((child ≡ node.lo.index) × (1 ≤ number self.now.numbers.items node.hi)))) }
-        ensures none { IfNone result ((1 ≤ number self.now.numbers.items node.hi) × (1 ≤ number self.now.numbers.items node.lo.index)) }
+            × ((child ≡ node.now.hi) ⊎ ((child ≡ node.now.lo.index) × (1 ≤ number self.now.numbers.items node.now.hi)))) }
+        ensures none { IfNone result ((1 ≤ number self.now.numbers.items node.now.hi) × (1 ≤ number self.now.numbers.items node.now.lo.index)) }
     {
         if self.number(node.hi) == 0 {
             Some(node.hi)
@@ -86,15 +87,15 @@ impl Walk {
     }
 
     /// Numbers the node of an open slot whose children have numbers.
-    fn leave(&mut self, store: &PlainStore, slot: u32, node: Node) -> Result<(), Memory>
+    fn leave(&mut self, store: &PlainStore, slot: u32, node: &Node) -> Result<(), Memory>
         requires store { IsStore store.now }
         requires walk { IsWalk store.now self.old }
-        requires open { IsOpen store.now self.old.numbers.items slot node }
-        requires hi { 1 ≤ number self.old.numbers.items node.hi }
-        requires lo { 1 ≤ number self.old.numbers.items node.lo.index }
+        requires open { IsOpen store.now self.old.numbers.items slot node.now }
+        requires hi { 1 ≤ number self.old.numbers.items node.now.hi }
+        requires lo { 1 ≤ number self.old.numbers.items node.now.lo.index }
         ensures walk { OnOk result (IsWalk store.now self.new) }
         ensures numbers { OnOk result (self.new.numbers.items ≡ slice_set self.old.numbers.items slot (next self.old.lines)) }
-        ensures lines { OnOk result (self.new.lines ≡ self.old.lines ++ line_of self.old.numbers.items node ∷ []) }
+        ensures lines { OnOk result (self.new.lines ≡ self.old.lines ++ line_of self.old.numbers.items node.now ∷ []) }
         ensures stack { OnOk result (self.new.stack.items ≡ self.old.stack.items) }
     {
         let line = Line {
@@ -126,10 +127,10 @@ impl Walk {
         ensures fewer { OnOk result (steps_left store.now self.new.numbers.items self.new.stack.items < steps_left store.now self.old.numbers.items self.old.stack.items) }
     {
         let node = node_in(store, slot);
-        match self.open_child(node) {
+        match self.open_child(&node) {
             Some(child) => self.stack.push(child)?,
             None => {
-                self.leave(store, slot, node)?;
+                self.leave(store, slot, &node)?;
                 let _slot = self.stack.pop();
             }
         }
@@ -137,7 +138,7 @@ impl Walk {
     }
 
     /// Numbers a slot, and all below it that have no number yet.
-    pub fn walk_from(&mut self, store: &PlainStore, root: u32) -> Result<(), Memory>
+    pub(crate) fn walk_from(&mut self, store: &PlainStore, root: u32) -> Result<(), Memory>
         requires store { IsStore store.now }
         requires walk { IsWalk store.now self.old }
         requires stack { self.old.stack.items ≡ [] }

@@ -1,7 +1,8 @@
 pub mod Counted
+pub mod Identifiers
 pub mod LineValues
 pub mod Lines
-mod Listed
+pub mod Listed
 mod Rows
 pub mod Shown
 pub mod Standing

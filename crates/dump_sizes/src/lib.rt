@@ -8,9 +8,8 @@ ghost use Rattle.dump_sizes.specs.Under.{IsUnder, functions_of};
 
 mod listings;
 
-pub use listings::Listing;
-
 use dddmp_text::Dump;
+pub use listings::Listing;
 
 /// The size of the roots' functions under any order that the dump stands under: one for each node line and one for the
 /// constant, or none where there are no roots.

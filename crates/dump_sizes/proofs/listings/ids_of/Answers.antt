@@ -20,8 +20,8 @@ loop-var-preserved c =
     let long : length c.in_ok-marks.marks.items ≡ c.args.vars = ap length c.in_ok-marks.ensures ∙ length-map-range_with_len has 0 c.args.vars in
     let same : 0 + v ≡ v = omega arith in
     let told : c.index.result.now ≡ has v =
-        c.index.ensures ∙ ap (λ (marks : List Bool). get_or marks v c.index.result.now) c.in_ok-marks.ensures
-        ∙ get_or-map-range_with_len has 0 c.args.vars v v c.index.result.now c.loop-var-test.true same in
+    c.index.ensures ∙ ap (λ (marks : List Bool). get_or marks v c.index.result.now) c.in_ok-marks.ensures
+    ∙ get_or-map-range_with_len has 0 c.args.vars v v c.index.result.now c.loop-var-test.true same in
     let more = ids_more v c.args.lines.now in
     elim c.if-index.branch [
       | then-index+in_ok-push w ↦ w.ids-is ∙ w.in_ok-push.ensures.ok ∙ ap (λ (ids : List ℕ). ids ++ v ∷ []) c.loop-var.invariant

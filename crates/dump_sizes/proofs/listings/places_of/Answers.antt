@@ -18,7 +18,7 @@ loop-var-preserved c =
     let less : get_or vars i 0 < n = c.requires.below i 0 c.loop-var-test.true in
     let same : 0 + get_or vars i 0 ≡ get_or vars i 0 = omega arith in
     let told : c.index.result.now ≡ place (get_or vars i 0) =
-        c.index.ensures ∙ ap (λ (places : List ℕ). get_or places (get_or vars i 0) c.index.result.now) c.in_ok-places.ensures
-        ∙ get_or-map-range_with_len place 0 n (get_or vars i 0) (get_or vars i 0) c.index.result.now less same in
+    c.index.ensures ∙ ap (λ (places : List ℕ). get_or places (get_or vars i 0) c.index.result.now) c.in_ok-places.ensures
+    ∙ get_or-map-range_with_len place 0 n (get_or vars i 0) (get_or vars i 0) c.index.result.now less same in
     c.in_ok-push.ensures.ok ∙ ap (λ (found : List ℕ). found ++ c.index.result.now ∷ []) c.loop-var.invariant
     ∙ ap (λ v. map place (take i vars) ++ v ∷ []) told ∙ sym (map_more place vars i 0 c.loop-var-test.true)
