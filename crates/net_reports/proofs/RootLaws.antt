@@ -15,6 +15,8 @@ use Rattle.function_laws.specs.Kinds.{BddFunction, opposite}
 use Rattle.function_laws.specs.Sizes.{Orders}
 use Rattle.function_laws.specs.Values.{IsOf, differs, negation}
 use Rattle.function_laws.proofs.WidthLemmas.{same_everywhere}
+use Rattle.dump_sizes.specs.declared.listings.Listing.{Listing}
+use Rattle.dump_sizes.specs.Listings.{IsListing, dump_of}
 use Rattle.dump_sizes.specs.Under.{IsUnder}
 use Rattle.dump_sizes.proofs.Lines.{Indexed, indexed}
 use Rattle.dump_sizes.proofs.Standing.{of_order}
@@ -182,3 +184,10 @@ module _ (dump : Dump) (well : IsWellMade dump) (order : List ℕ) (under : IsUn
         subst (λ (c : Class). IsClass (length order) (root_functions dump) i c) (sym (mapped_at (class_among dump.roots) dump.roots i class (pos 0) at within))
         (is_class i (get_or dump.roots i (pos 0)) (slice_get-get_or dump.roots i (pos 0) within));
   }
+
+-- of a listing
+pub listed_classes : (order : List ℕ) (functions : List Function) (listing : Listing) → IsListing order functions listing
+    → AreClasses (length order) functions (map (class_among listing.roots) listing.roots)
+listed_classes order functions listing is =
+    subst (λ (found : List Function). AreClasses (length order) found (map (class_among listing.roots) listing.roots)) is.roots
+    (are_classes (dump_of listing) is.writable.well_made order is.under)

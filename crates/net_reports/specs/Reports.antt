@@ -1,13 +1,18 @@
--- The report of a network, and its summary.
+-- The report of a network or of a stored diagram, and the summary of a network.
 use Rattle.std.specs.Prelude.{◌≡◌, ℕ, ◌==◌, Bool, List, [], ◌++◌, codes, length, map, count_by, if◌then◌else◌}
-use Rattle.std.specs.List.{enumerate_from, flat_map, zip}
+use Rattle.std.specs.List.{enumerate_from, flat_map, range_with_len, zip}
 use Rattle.std.specs.Fmt.{decimal}
 use Rattle.function_laws.specs.Kinds.{BddFunction}
 use Rattle.function_laws.specs.Sizes.{size}
 use Rattle.blif_net.specs.declared.net.Net.{Net}
 use Rattle.blif_net.specs.Networks.{signal_value}
+use Rattle.dddmp_text.specs.declared.dump.Dump.{Dump}
+use Rattle.dddmp_text.specs.Written.{written}
+use Rattle.dump_sizes.specs.declared.listings.Listing.{Listing}
+use Rattle.dump_sizes.specs.Listings.{IsListing, dump_of}
 use Rattle.net_reports.specs.Classes.{AreClasses, Function}
 use Rattle.net_reports.specs.Evaluations.{evaluation_at}
+use Rattle.net_reports.specs.RootClasses.{root_functions}
 use Rattle.net_reports.specs.declared.classes.Class.{Class}
 use Rattle.net_reports.specs.declared.patterns.Evaluation.{Evaluation}
 
@@ -34,11 +39,15 @@ eval_line pattern values = codes "eval " ++ map digit pattern ++ codes " -> " ++
 abbrev pub order_line : List ℕ → List ℕ
 order_line order = codes "order" ++ flat_map (λ v. codes " " ++ decimal v) order ++ codes "\n"
 
+-- the lines behind those of the outputs
+abbrev pub rest_text : List Evaluation → List ℕ → ℕ → List ℕ
+rest_text evaluations order nodes =
+    flat_map (λ one. eval_line one.pattern one.values) evaluations ++ order_line order ++ count_line (codes "nodes") nodes
+
 -- the text of a report of so many inputs, and of the outputs' names and classes
 unfoldable pub report_text : ℕ → List (List ℕ) → List Class → List Evaluation → List ℕ → ℕ → List ℕ
 report_text inputs names classes evaluations order nodes =
-    count_line (codes "inputs") inputs ++ count_line (codes "outputs") (length names) ++ out_lines names classes
-    ++ flat_map (λ one. eval_line one.pattern one.values) evaluations ++ order_line order ++ count_line (codes "nodes") nodes
+    count_line (codes "inputs") inputs ++ count_line (codes "outputs") (length names) ++ out_lines names classes ++ rest_text evaluations order nodes
 
 -- the outputs that are their own first
 abbrev pub count_firsts : List Class → ℕ
@@ -91,3 +100,22 @@ net_subject net order patterns = record {
   order = order;
   patterns = patterns;
 }
+
+-- `r0`, `r1`, ..
+abbrev pub root_names : ℕ → List (List ℕ)
+root_names count = map (λ i. codes "r" ++ decimal i) (range_with_len 0 count)
+
+abbrev pub dump_subject : Dump → List ℕ → List (List Bool) → Subject
+dump_subject dump order patterns = record {
+  n = dump.nvars;
+  names = root_names (length dump.roots);
+  functions = root_functions dump;
+  order = order;
+  patterns = patterns;
+}
+
+-- The text that follows a report where the outputs are stored: that of a listing of their functions under the order.
+pub record IsStored (subject : Subject) (text : List ℕ) : Type 0 where
+  pub listing : Listing
+  pub listed : IsListing subject.order subject.functions listing
+  pub bytes : text ≡ written (dump_of listing)

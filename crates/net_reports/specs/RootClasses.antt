@@ -1,4 +1,4 @@
--- The classes of a stored diagram's roots, by their indices.
+-- The classes of roots of a stored diagram, by their indices.
 use Rattle.std.specs.Prelude.{◌==◌, List, ℤ, pos, nat_abs, slice_index_or, map}
 use Rattle.std.specs.Int.{is_negative}
 use Rattle.std.specs.List.{position_or_len}

@@ -1,14 +1,14 @@
-//! Which of a stored diagram's roots are equal up to complement.
+//! Which of a listing's functions are equal up to complement.
 
 ghost use Rattle.std.specs.Prelude.{◌≡◌, ◌<◌, List as ListOf, ℕ, pos, nat_abs, IfOk, length, map, slice_index_or};
 ghost use Rattle.std.specs.Int.{is_negative};
 ghost use Rattle.function_laws.specs.Values.{differs};
 ghost use Rattle.dddmp_text.specs.WellMade.{IsWellMade};
-ghost use Rattle.dump_sizes.specs.Under.{IsUnder};
-ghost use Rattle.net_reports.specs.Classes.{AreClasses};
-ghost use Rattle.net_reports.specs.RootClasses.{class_among, root_functions};
+ghost use Rattle.dump_sizes.specs.Listings.{IsListing, dump_of};
+ghost use Rattle.net_reports.specs.Classes.{AreClasses, Function};
+ghost use Rattle.net_reports.specs.RootClasses.{class_among};
 
-use dddmp_text::Dump;
+use dump_sizes::Listing;
 use edge_bits::Memory;
 use std::alloc::Global;
 
@@ -35,15 +35,15 @@ fn class_from(roots: &[i32], root: &i32, first: usize) -> Class
     Class { first, complement }
 }
 
-/// The classes of a dump's roots. Roots are equal up to complement exactly where their indices have one magnitude, so that it
-/// takes time in proportion to the node lines and the roots.
-pub fn classes_of(alloc: Global, dump: &Dump) -> Result<Vec<Class>, Memory>
-    requires { IsWellMade dump.now }
-    ensures by_index { IfOk result (λ classes. classes.items ≡ map (class_among dump.now.roots) dump.now.roots) }
-    ensures by_function { IfOk result (λ classes. (order : ListOf ℕ) → IsUnder order dump.now → AreClasses (length order) (root_functions dump.now) classes.items) }
+/// The classes of the functions of a listing. They are equal up to complement exactly where their indices have one magnitude, so
+/// that it takes time in proportion to the node lines and the roots.
+pub fn classes_of(alloc: Global, listing: &Listing) -> Result<Vec<Class>, Memory>
+    requires { IsWellMade (dump_of listing.now) }
+    ensures by_index { IfOk result (λ classes. classes.items ≡ map (class_among listing.now.roots) listing.now.roots) }
+    ensures by_function { IfOk result (λ classes. (order : ListOf ℕ) (functions : ListOf Function) → IsListing order functions listing.now → AreClasses (length order) functions classes.items) }
 {
-    let roots = dump.roots.as_slice();
-    let mut firsts: Vec<Option<usize>> = vec![in alloc; None; dump.nodes.as_slice().len() + 2]?;
+    let roots = listing.roots.as_slice();
+    let mut firsts: Vec<Option<usize>> = vec![in alloc; None; listing.nodes.as_slice().len() + 2]?;
     let mut classes = Vec::with_capacity(alloc, roots.len())?;
     for (place, root) in roots.iter().enumerate() {
         let index = magnitude(root);

@@ -1,4 +1,4 @@
-//! Reports of networks: the classes of their outputs, and the texts that tell of them.
+//! Reports of networks and of stored diagrams: the classes of their outputs, and the texts that tell of them.
 #![tactic(auto)]
 
 mod classes;
@@ -6,8 +6,10 @@ mod generated;
 mod lines;
 mod patterns;
 mod reports;
+mod storing;
 
 pub use classes::{Class, classes_of};
 pub use generated::gen_text;
 pub use patterns::{Evaluation, padded};
-pub use reports::{report, summary};
+pub use reports::{dump_report, report, summary};
+pub use storing::stored;

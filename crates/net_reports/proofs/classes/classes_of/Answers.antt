@@ -3,11 +3,12 @@ use Rattle.std.specs.Int.{is_negative}
 use Rattle.std.specs.Option.{unwrap_or}
 use Rattle.std.proofs.lemmas.List.{get_or_read, length-set, map_more, take_all}
 use Rattle.function_laws.specs.Values.{differs}
+use Rattle.dump_sizes.specs.Listings.{dump_of}
 use Rattle.net_reports.specs.Classes.{AreClasses}
-use Rattle.net_reports.specs.RootClasses.{class_among, root_functions}
+use Rattle.net_reports.specs.RootClasses.{class_among}
 use Rattle.net_reports.specs.declared.classes.Class.{Class}
 use Rattle.net_reports.proofs.Firsts.{AreFirsts, class_is, first_within, known, magnitude, next}
-use Rattle.net_reports.proofs.RootLaws.{are_classes, index_within}
+use Rattle.net_reports.proofs.RootLaws.{index_within, listed_classes}
 use Rattle.net_reports.proofs.classes.classes_of.Goals as goal
 
 pub index-requires : goal.index-requires
@@ -16,7 +17,7 @@ index-requires c =
       arith,
       c.loop-place.firsts.ok.0,
       c.loop-place.invariant.long,
-      index_within c.args.dump.now c.requires c.as_slice-roots.result.now c.loop-place.place c.magnitude-index.result c.as_slice-roots.ensures c.loop-place-test.true c.magnitude-index.ensures,
+      index_within (dump_of c.args.listing.now) c.requires c.as_slice-roots.result.now c.loop-place.place c.magnitude-index.result c.as_slice-roots.ensures c.loop-place-test.true c.magnitude-index.ensures,
     )
 
 pub index_mut-requires : goal.index_mut-requires
@@ -25,19 +26,19 @@ index_mut-requires c =
       arith,
       c.loop-place.firsts.ok.0,
       c.loop-place.invariant.long,
-      index_within c.args.dump.now c.requires c.as_slice-roots.result.now c.loop-place.place c.magnitude-index.result c.as_slice-roots.ensures c.loop-place-test.true c.magnitude-index.ensures,
+      index_within (dump_of c.args.listing.now) c.requires c.as_slice-roots.result.now c.loop-place.place c.magnitude-index.result c.as_slice-roots.ensures c.loop-place-test.true c.magnitude-index.ensures,
     )
 
 pub class_from-requires : goal.class_from-requires
 class_from-requires c =
-    let roots = c.args.dump.now.roots in
+    let roots = c.args.listing.now.roots in
     let moved : length c.as_slice-roots.result.now ≡ length roots = ap (λ (all : List ℤ). length all) c.as_slice-roots.ensures in
     let inside : c.loop-place.place < length roots = omega (arith, moved, c.loop-place-test.true) in
     let index : c.magnitude-index.result < length c.loop-place.firsts.items =
     omega (
       arith,
       c.loop-place.invariant.long,
-      index_within c.args.dump.now c.requires c.as_slice-roots.result.now c.loop-place.place c.magnitude-index.result c.as_slice-roots.ensures c.loop-place-test.true c.magnitude-index.ensures,
+      index_within (dump_of c.args.listing.now) c.requires c.as_slice-roots.result.now c.loop-place.place c.magnitude-index.result c.as_slice-roots.ensures c.loop-place-test.true c.magnitude-index.ensures,
     ) in
     omega (
       arith,
@@ -49,7 +50,7 @@ class_from-requires c =
 
 pub loop-place-preserved : goal.loop-place-preserved
 loop-place-preserved c =
-    let roots = c.args.dump.now.roots in
+    let roots = c.args.listing.now.roots in
     let shown = c.as_slice-roots.result.now in
     let place = c.loop-place.place in
     let index = c.magnitude-index.result in
@@ -60,7 +61,7 @@ loop-place-preserved c =
     let inside : place < length roots = omega (arith, moved, c.loop-place-test.true) in
     let index_is : index ≡ magnitude roots place = c.magnitude-index.ensures ∙ ap (λ (all : List ℤ). nat_abs (get_or all place (pos 0))) c.as_slice-roots.ensures in
     let within : index < length firsts =
-    omega (arith, c.loop-place.invariant.long, index_within c.args.dump.now c.requires shown place index c.as_slice-roots.ensures c.loop-place-test.true c.magnitude-index.ensures) in
+    omega (arith, c.loop-place.invariant.long, index_within (dump_of c.args.listing.now) c.requires shown place index c.as_slice-roots.ensures c.loop-place-test.true c.magnitude-index.ensures) in
     let class_at : List ℤ → ℕ → Class =
     λ all at. record { first = at; complement = differs (is_negative (get_or all place (pos 0))) (is_negative (get_or all at (pos 0))) } in
     let class_is_due : c.class_from.result ≡ class_among roots (get_or roots place (pos 0)) =
@@ -77,9 +78,9 @@ loop-place-preserved c =
     }
 
 pub returns-clause-by_function : goal.returns-clause-by_function
-returns-clause-by_function c = λ order under.
-    let dump = c.args.dump.now in
-    let all : length dump.roots ≡ length c.as_slice-roots.result.now = sym (ap (λ (roots : List ℤ). length roots) c.as_slice-roots.ensures) in
-    subst (λ (classes : List Class). AreClasses (length order) (root_functions dump) classes)
-    (sym (c.loop-place.invariant.classes ∙ ap (map (class_among dump.roots)) (take_all c.loop-place.place dump.roots (omega (arith, all, c.loop-place-test.false)))))
-    (are_classes dump c.requires order under)
+returns-clause-by_function c = λ order functions is.
+    let roots = c.args.listing.now.roots in
+    let all : length roots ≡ length c.as_slice-roots.result.now = sym (ap (λ (roots : List ℤ). length roots) c.as_slice-roots.ensures) in
+    subst (λ (classes : List Class). AreClasses (length order) functions classes)
+    (sym (c.loop-place.invariant.classes ∙ ap (map (class_among roots)) (take_all c.loop-place.place roots (omega (arith, all, c.loop-place-test.false)))))
+    (listed_classes order functions c.args.listing.now is)

@@ -10,7 +10,7 @@ pub returns-clause-report : goal.returns-clause-report
 unfolding report_text
 returns-clause-report c = λ classes values nodes.
     let net = c.args.net.now in
-    let text : c.put_count.new.text.items ≡ report_text (length net.inputs) (output_names net) c.args.classes.now c.args.evaluations.now c.args.order.now c.args.nodes =
+    let text : c.put_rest.new.text.items ≡ report_text (length net.inputs) (output_names net) c.args.classes.now c.args.evaluations.now c.args.order.now c.args.nodes =
     grind (arith, common_steps) in
     record {
       classes = c.args.classes.now;
