@@ -4,7 +4,9 @@ pub mod Arranging
 pub mod Completeness
 pub mod Split
 pub mod Joining
+pub mod Faultless
 pub mod Distinct
+pub mod Bounds
 pub mod OneNet
 pub mod Ordered
 pub mod Cycles

@@ -1,10 +1,9 @@
 -- A text is read line by line.
-use Rattle.std.proofs.Common.{◌≡◌, ℕ, List, [], ◌∷◌, ◌++◌, Option, Some, None, refl, ap, sym, ◌∙◌, subst, append_assoc, append-nil}
+use Rattle.std.proofs.Common.{◌≡◌, ℕ, List, [], ◌∷◌, ◌++◌, Some, None, refl, ap, sym, ◌∙◌, subst, append_assoc, append-nil}
 use Rattle.std.specs.Prelude.{option_map}
 use Rattle.blif_net.specs.declared.draft.Draft.{Draft}
 use Rattle.blif_net.specs.declared.faults.BlifError.{BlifError}
 use Rattle.blif_net.specs.declared.faults.BlifError.TheVariants as errors
-use Rattle.blif_net.specs.declared.faults.BlifFault.{BlifFault}
 use Rattle.blif_net.specs.declared.faults.FaultKind.{FaultKind}
 use Rattle.blif_net.specs.declared.faults.Stop.{Stop}
 use Rattle.blif_net.specs.declared.faults.Stop.TheVariants as stops
@@ -14,6 +13,7 @@ use Rattle.blif_net.specs.Circuits.{Context, after_line, at_start, behind, circu
 use Rattle.blif_net.specs.Faults.{HasFault, fault_in, fault_of, fault_on, faulty_line, first_of, last_number, line_fault, undefined_line, cyclic_cover, no_outputs}
 use Rattle.blif_net.specs.Networks.{IsBlifText, IsNetOf}
 use Rattle.blif_net.specs.Drafts.{HasFaultIn, IsDraftOf, IsNetFrom, IsReadFrom, StopsLine, TakesLine, Use, names_said, stopped_at, uses_by, uses_in, with_uses}
+use Rattle.blif_net.proofs.Faultless.{none_first}
 
 -- lines and one behind them
 behind_last : (c : Context) (lines : List Line) (line : Line) → behind c (lines ++ line ∷ []) ≡ after_line (behind c lines) line
@@ -25,15 +25,11 @@ uses_last : (uses : List Use) (lines : List Line) (line : Line) → uses_by uses
 uses_last uses [] line = refl
 uses_last uses (x ∷ lines) line = uses_last (with_uses x.number uses (names_said (said x))) lines line
 
-first_none : (a b : Option BlifFault) → first_of a b ≡ None → (a ≡ None) × (b ≡ None)
-first_none None b h = (refl, h)
-first_none (Some f) b h = cc
-
 first_faulty : (c : Context) (lines : List Line) (line : Line) (more : List Line) → faulty_line c lines ≡ None → faulty_line c (lines ++ line ∷ more) ≡ faulty_line (behind c lines) (line ∷ more)
 unfolding behind faulty_line
 first_faulty c [] line more h = refl
 first_faulty c (x ∷ lines) line more h =
-    let both = first_none (option_map (fault_on x) (line_fault c x)) (faulty_line (after_line c x) lines) h in
+    let both = none_first (option_map (fault_on x) (line_fault c x)) (faulty_line (after_line c x) lines) h in
     ap (λ t. first_of t (faulty_line (after_line c x) (lines ++ line ∷ more))) both.0 ∙ first_faulty (after_line c x) lines line more both.1
 
 none_there : (c : Context) (line : Line) → line_fault c line ≡ None → faulty_line c (line ∷ []) ≡ None

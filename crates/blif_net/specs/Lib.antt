@@ -4,6 +4,7 @@ pub mod Faults
 pub mod Networks
 pub mod Readings
 pub mod Cycles
+pub mod Bounds
 pub mod Names
 pub mod Statements
 pub mod Covers

@@ -1,6 +1,7 @@
 //! The reader of networks, line by line.
 
 ghost use Rattle.std.specs.Prelude.{◌≡◌, List as ListOf, IfOk, IfErr};
+ghost use Rattle.blif_net.specs.Bounds.{NetworksAreBounded};
 ghost use Rattle.blif_net.specs.Cycles.{CyclesAreFound};
 ghost use Rattle.blif_net.specs.Drafts.{HasFaultIn, IsClosedFrom, IsNetFrom, stopped_at};
 ghost use Rattle.blif_net.specs.Faults.{HasFault, last_number};
@@ -95,4 +96,10 @@ pub fn texts_have_one_reading()
 /// A cover of a text is told as cyclic exactly where it lies on a cycle or depends on one.
 pub fn cyclic_covers_are_found()
     ensures { CyclesAreFound }
+{}
+
+/// Each network of a text has one output at least and no more inputs, signals and outputs than a text may declare; its gates read
+/// inputs and gates before them, and each output is a signal of it.
+pub fn networks_are_bounded()
+    ensures { NetworksAreBounded }
 {}

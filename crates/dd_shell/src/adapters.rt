@@ -25,7 +25,7 @@ impl<R: Read> Reading<R> {
 impl<R: Read> Source for Reading<R> {
     ghost use Rattle.std.specs.Io.{ReadsAtMost};
     ghost use Rattle.std.specs.Io.KnownBytes.{ReadConsumes};
-    ghost use Rattle.net_jobs.specs.Causes.{HasCause};
+    ghost use Rattle.byte_streams.specs.Causes.{HasCause};
 
     ghost left = { λ s. R.remaining s.inner };
 
@@ -68,7 +68,7 @@ impl<W: Write> Writing<W> {
 impl<W: Write> Sink for Writing<W> {
     ghost use Rattle.std.specs.Io.{WritesAtMost};
     ghost use Rattle.std.specs.Io.KnownBytes.{WriteAppends};
-    ghost use Rattle.net_jobs.specs.Causes.{HasCause, Rose};
+    ghost use Rattle.byte_streams.specs.Causes.{HasCause, Rose};
 
     ghost written = { λ s. W.contents s.inner };
 

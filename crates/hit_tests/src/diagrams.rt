@@ -2,6 +2,7 @@
 
 ghost use Rattle.std.specs.Prelude.{◌≡◌, ◌<◌, IfOk};
 ghost use Rattle.edge_bits.specs.declared.edges.Kind.TheVariants.{Add, Bdd, Zdd};
+ghost use Rattle.node_store.specs.Three.{AreThree};
 ghost use Rattle.node_store.specs.Views.{AreTwo, Grown, Is};
 
 use add_ops::from_bdd;
@@ -10,7 +11,26 @@ use ite_core::xor;
 use node_store::{Grow, Stop};
 use zdd_ops::{base, change, empty, union};
 
-/// Two edges: of the variables or elements with an even number and of those with an odd one, or of the sets of even and of odd size.
+/// The last variable or element with an even number: an operation on it goes down through all levels but the last.
+pub const LAST: u32 = 62;
+
+/// The parity of the 32 variables with an even number, that of the 32 with an odd one, and the last even variable.
+#[derive(Clone, Copy, Drop)]
+pub struct Truths {
+    pub even: Edge,
+    pub odd: Edge,
+    pub last: Edge,
+}
+
+/// The same two parities with the values 0 and 1 as numbers, and the first of them as a condition.
+#[derive(Clone, Copy, Drop)]
+pub struct Numbers {
+    pub condition: Edge,
+    pub even: Edge,
+    pub odd: Edge,
+}
+
+/// Two families: of the elements with an even number and of those with an odd one, or of the sets of even and of odd size.
 #[derive(Clone, Copy, Drop)]
 pub struct Pair {
     pub even: Edge,
@@ -43,27 +63,32 @@ fn parity<G: Grow>(store: &mut G, odd: u32) -> Result<Edge, Stop>
     Ok(sum)
 }
 
-/// The parity of the 32 even variables and that of the 32 odd ones.
-pub fn parities<G: Grow>(store: &mut G) -> Result<Pair, Stop>
+/// Boolean functions to operate on.
+pub fn truth_operands<G: Grow>(store: &mut G) -> Result<Truths, Stop>
     requires { (G.view store.old).vars ≡ 64 }
     ensures vars { (G.view store.new).vars ≡ 64 }
-    ensures two { IfOk result (λ p. AreTwo Bdd (G.view store.new) p.even p.odd) }
+    ensures three { IfOk result (λ t. AreThree Bdd (G.view store.new) t.even t.odd t.last) }
 {
     let even = parity(store, 0)?;
     let odd = parity(store, 1)?;
-    Ok(Pair { even, odd })
+    let last = store.projection(LAST);
+    Ok(Truths { even, odd, last })
 }
 
-/// The same, with the values 0 and 1 as numbers.
-pub fn numbers<G: Grow>(store: &mut G) -> Result<Pair, Stop>
+/// Functions of numbers to operate on.
+pub fn number_operands<G: Grow>(store: &mut G) -> Result<Numbers, Stop>
     requires { (G.view store.old).vars ≡ 64 }
     ensures vars { (G.view store.new).vars ≡ 64 }
-    ensures two { IfOk result (λ p. AreTwo Add (G.view store.new) p.even p.odd) }
+    ensures three { IfOk result (λ n. AreThree Add (G.view store.new) n.condition n.even n.odd) }
 {
-    let truths = parities(store)?;
+    let truths = truth_operands(store)?;
     let even = from_bdd(store, truths.even)?;
     let odd = from_bdd(store, truths.odd)?;
-    Ok(Pair { even, odd })
+    Ok(Numbers {
+        condition: truths.even,
+        even,
+        odd,
+    })
 }
 
 /// The families of all sets of even and of odd size, with one element more.

@@ -1,34 +1,81 @@
-//! Operations on families of sets.
+//! Operations on families of sets: each is run on all sets of even and of odd size, whose parts are two at each level.
 
-use crate::diagrams::{Pair, even_sets, sets};
+ghost use Rattle.std.specs.Prelude.{◌≡◌};
+ghost use Rattle.edge_bits.specs.declared.edges.Kind.TheVariants.{Zdd};
+ghost use Rattle.node_store.specs.Views.{AreTwo};
+
+use crate::diagrams::{LAST, Pair, even_sets, sets};
 use crate::watched::Watched;
 use edge_bits::Edge;
+use node_store::{Grow, Stop};
+use std::alloc::Global;
+use std::process::Abort;
 use std::test::Fail;
-use zdd_ops::{diff, meet, product, quotient, union};
+use zdd_ops::{change, diff, meet, product, quotient, subset0, subset1, union};
+
+/// An operation that remembers its answers.
+#[derive(Clone, Copy, Drop)]
+enum Operation {
+    Union,
+    Meet,
+    Diff,
+    Subset1,
+    Subset0,
+    Change,
+}
+
+/// The operation, where it goes through all levels: at the last even element, where it takes one.
+fn perform<G: Grow>(store: &mut G, operation: Operation, operands: Pair) -> Result<Edge, Stop>
+    requires elements { (G.view store.old).elements ≡ 64 }
+    requires two { AreTwo Zdd (G.view store.old) operands.even operands.odd }
+{
+    let Pair { even, odd } = operands;
+    match operation {
+        Operation::Union => union(store, even, odd),
+        Operation::Meet => meet(store, even, odd),
+        Operation::Diff => diff(store, even, odd),
+        Operation::Subset1 => subset1(store, even, LAST),
+        Operation::Subset0 => subset0(store, even, LAST),
+        Operation::Change => change(store, even, LAST),
+    }
+}
+
+/// Runs the operation in a store that ends the test where it forgets.
+fn watch<R: Abort + Drop>(rt: R, alloc: Global, operation: Operation) -> Result<(), Fail> {
+    let mut store = Watched::new(rt, alloc, 0, 64)?;
+    let operands = sets(&mut store, 0)?;
+    let _answer = perform(&mut store, operation, operands)?;
+    Ok(())
+}
 
 #[test]
 fn union_remembers(rt: HostRuntime) -> Result<(), Fail> {
-    let mut store = Watched::new(&rt, rt.alloc(), 0, 64)?;
-    let Pair { even, odd } = sets(&mut store, 0)?;
-    let _all = union(&mut store, even, odd)?;
-    Ok(())
+    watch(&rt, rt.alloc(), Operation::Union)
 }
 
 #[test]
 fn meet_remembers(rt: HostRuntime) -> Result<(), Fail> {
-    let mut store = Watched::new(&rt, rt.alloc(), 0, 64)?;
-    let Pair { even, odd } = sets(&mut store, 0)?;
-    // No size is both even and odd.
-    assert!(rt; meet(&mut store, even, odd)? == Edge::empty_family());
-    Ok(())
+    watch(&rt, rt.alloc(), Operation::Meet)
 }
 
 #[test]
 fn diff_remembers(rt: HostRuntime) -> Result<(), Fail> {
-    let mut store = Watched::new(&rt, rt.alloc(), 0, 64)?;
-    let Pair { even, odd } = sets(&mut store, 0)?;
-    assert!(rt; diff(&mut store, even, odd)? == even);
-    Ok(())
+    watch(&rt, rt.alloc(), Operation::Diff)
+}
+
+#[test]
+fn subset1_remembers(rt: HostRuntime) -> Result<(), Fail> {
+    watch(&rt, rt.alloc(), Operation::Subset1)
+}
+
+#[test]
+fn subset0_remembers(rt: HostRuntime) -> Result<(), Fail> {
+    watch(&rt, rt.alloc(), Operation::Subset0)
+}
+
+#[test]
+fn change_remembers(rt: HostRuntime) -> Result<(), Fail> {
+    watch(&rt, rt.alloc(), Operation::Change)
 }
 
 #[test]

@@ -6,6 +6,8 @@ mod diagrams;
 #[cfg(test)]
 mod families;
 #[cfg(test)]
-mod parities;
+mod numbers;
+#[cfg(test)]
+mod truths;
 #[cfg(test)]
 mod watched;

@@ -7,7 +7,6 @@ pub mod EndLemmas
 pub mod Gathering
 pub mod Halving
 pub mod History
-pub mod Known
 pub mod Lifting
 pub mod ListLemmas
 pub mod LoopLemmas

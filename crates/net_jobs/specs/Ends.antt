@@ -12,7 +12,7 @@ use Rattle.job_text.specs.declared.faults.FaultKind.TheVariants as kinds
 use Rattle.job_text.specs.Grammar.{IsJobText}
 use Rattle.job_text.specs.Faults.{IsFaultText}
 use Rattle.job_text.specs.Histories.{IsPlayed}
-use Rattle.net_jobs.specs.Causes.{Rose}
+use Rattle.byte_streams.specs.Causes.{Rose}
 use Rattle.net_jobs.specs.declared.status.Status.{Status}
 use Rattle.net_jobs.specs.declared.status.Status.TheVariants as status
 

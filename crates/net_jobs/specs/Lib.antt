@@ -1,4 +1,3 @@
-pub mod Causes
 pub mod Codes
 pub mod Ends
 pub mod Plays

@@ -6,7 +6,7 @@ ghost use Rattle.std.specs.Io.KnownBytes.{Appends};
 ghost use Rattle.command_words.specs.declared.order.Order.TheVariants.{Play};
 ghost use Rattle.job_text.specs.Grammar.{IsJob};
 ghost use Rattle.job_text.specs.Histories.{IsPlayed, left_text};
-ghost use Rattle.net_jobs.specs.Causes.{Rose, AppendsFront};
+ghost use Rattle.byte_streams.specs.Causes.{Rose, AppendsFront};
 ghost use Rattle.net_jobs.specs.Ends.{Due, IsComplete, PlaysAlone, asked_of, fault_line, kind_word};
 ghost use Rattle.net_jobs.specs.Refusals.{refusal_line, status_of};
 ghost use Rattle.net_jobs.specs.declared.status.Status.{Status};
@@ -14,11 +14,8 @@ ghost use Rattle.net_jobs.specs.declared.status.Status.TheVariants.{Memory as Wa
 
 use crate::gate::Gate;
 use crate::playing::play;
-use crate::reading::{ReadStop, read_to_end};
-use crate::sink::Sink;
-use crate::source::Source;
 use crate::status::Status;
-use crate::writing::write_to_end;
+use byte_streams::{ReadStop, Sink, Source, read_to_end, write_to_end};
 use command_words::{Order, read_words};
 use dd_session::{Config, Manager, OpenFault};
 use edge_bits::Memory;

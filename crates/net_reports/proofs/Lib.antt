@@ -1,0 +1,6 @@
+mod Evaluated
+mod Firsts
+mod Padding
+mod RootLaws
+mod Rows
+mod Texts

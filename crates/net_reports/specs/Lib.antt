@@ -1,0 +1,5 @@
+pub mod Classes
+pub mod RootClasses
+pub mod Evaluations
+pub mod Reports
+pub mod GenTexts

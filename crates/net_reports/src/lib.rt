@@ -1,0 +1,15 @@
+//! Reports of networks and of stored diagrams: the classes of their outputs, and the texts that tell of them.
+#![tactic(auto)]
+
+mod classes;
+mod generated;
+mod lines;
+mod patterns;
+mod reports;
+mod storing;
+
+pub use classes::{Class, classes_of};
+pub use generated::gen_text;
+pub use patterns::{Evaluation, padded};
+pub use reports::{dump_report, report, summary};
+pub use storing::stored;
