@@ -8,6 +8,8 @@ mod families;
 #[cfg(test)]
 mod full_tables;
 #[cfg(test)]
+mod listings;
+#[cfg(test)]
 mod many_sessions;
 #[cfg(test)]
 mod numbers;

@@ -225,7 +225,7 @@ fn quantify<R: Abort + Wait>(rt: &R, manager: &Manager, session: &mut Session, a
 }
 
 /// A manager of two variables, and its one session.
-fn open_two(alloc: Global) -> Result<(Manager, Session), OpenFault>
+pub fn open_two(alloc: Global) -> Result<(Manager, Session), OpenFault>
     ensures { IfOk result (λ r. (r.1.manager ≡ r.0) × (r.0.vars ≡ 2)) }
 {
     let config = Config {
