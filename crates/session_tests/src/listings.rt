@@ -1,15 +1,23 @@
-//! A session lists the nodes of its rows.
+//! A session lists the nodes of its rows, and the listing is told of.
 
-ghost use Rattle.std.specs.Prelude.{◌≡◌};
+ghost use Rattle.std.specs.Prelude.{◌≡◌, ◌<◌, ◌^◌, length};
+ghost use Rattle.dddmp_text.specs.WellMade.{IsWritable};
+ghost use Rattle.dump_sizes.specs.Listings.{dump_of};
 
 use crate::calls::{and, ready, var};
 use crate::operations::open_two;
 use dd_session::{H, Manager, Session};
 use dump_sizes::Listing;
 use edge_bits::{Kind, Line};
+use net_reports::{Class, classes_of, padded, stored};
+use std::alloc::Global;
 use std::process::Abort;
 use std::sync::Wait;
 use std::test::Fail;
+
+/// The exclusive disjunction of two variables and its complement, as they are stored.
+const STORED: &str =
+    ".ver DDDMP-2.0\n.mode A\n.varinfo 0\n.nnodes 3\n.nvars 2\n.nsuppvars 2\n.ids 0 1\n.permids 0 1\n.nroots 2\n.rootids -3 3\n.nodes\n1 T 1 0 0\n2 1 1 1 -1\n3 0 0 2 -2\n.end\n";
 
 /// The exclusive disjunction of two rows.
 fn xor<R: Abort + Wait>(rt: &R, manager: &Manager, session: &mut Session, f: H, g: H) -> H
@@ -44,17 +52,54 @@ fn list<R: Abort + Wait>(
     second: H,
 ) -> Listing
     requires own { session.old.manager ≡ manager.now }
-    ensures { (session.new.manager ≡ session.old.manager) × (session.new.number ≡ session.old.number) }
+    ensures own { (session.new.manager ≡ session.old.manager) × (session.new.number ≡ session.old.number) }
+    ensures writable { IsWritable (dump_of result) }
+    ensures few { length result.order < 2 ^ 32 }
 {
     ready(rt, session, Kind::Bdd, first, second);
-    match session.list(rt, manager, &[first, second]) {
-        Ok(listing) => listing,
-        Err(_) => panic!(rt; "no memory"),
-    }
+    let Ok(listing) = session.list(rt, manager, &[first, second]) else {
+        panic!(rt; "no memory");
+    };
+    listing
 }
 
 fn line(var: u32, hi: u32, lo: i32) -> Line {
     Line { var, hi, lo }
+}
+
+/// What is told of the exclusive disjunction of two variables and its complement: they have three nodes and are one class, and
+/// are stored as in a worked example.
+fn told_of(rt: &impl Abort, alloc: Global, listing: Listing)
+    requires writable { IsWritable (dump_of listing) }
+    requires few { length listing.order < 2 ^ 32 }
+{
+    assert_eq!(rt; listing.node_count(), 3);
+    let Ok(classes) = classes_of(alloc, &listing) else {
+        panic!(rt; "no memory");
+    };
+    assert!(rt; classes.as_slice() == [class(false), class(true)].as_slice());
+    let Ok(text) = stored(alloc, listing) else {
+        panic!(rt; "no memory");
+    };
+    assert!(rt; text.as_slice() == STORED.as_bytes());
+}
+
+/// The class of the first function, or of its complement.
+fn class(complement: bool) -> Class {
+    Class {
+        first: 0,
+        complement,
+    }
+}
+
+/// A listing as a stored diagram has the variables of its lines.
+fn dumped(rt: &impl Abort, alloc: Global, listing: Listing)
+    requires { length listing.order < 2 ^ 32 }
+{
+    let Ok(dump) = listing.into_dump(alloc) else {
+        panic!(rt; "no memory");
+    };
+    assert!(rt; dump.nvars == 2 && dump.ids.as_slice() == [0, 1].as_slice());
 }
 
 /// A function and its complement have the same lines, behind those that their arcs lead to, and no call is drawn.
@@ -73,11 +118,23 @@ fn rows_are_listed(rt: HostRuntime) -> Result<(), Fail> {
     assert!(rt; listing.order.as_slice() == [0, 1].as_slice());
     assert!(rt; listing.nodes.as_slice() == [line(1, 1, -1), line(0, 2, -2)].as_slice());
     assert!(rt; listing.roots.as_slice() == [-3, 3].as_slice());
+    told_of(&rt, rt.alloc(), listing);
     let Some(both) = and(&rt, &manager, &mut session, a, b) else {
         panic!(rt; "full");
     };
     let listing = list(&rt, &manager, &mut session, both, b);
     assert!(rt; listing.nodes.as_slice() == [line(1, 1, -1), line(0, 2, -1)].as_slice());
     assert!(rt; listing.roots.as_slice() == [3, 2].as_slice());
+    dumped(&rt, rt.alloc(), listing);
+    Ok(())
+}
+
+/// A pattern that is too short is filled up with zeros, and one that is too long is cut.
+#[test]
+fn patterns_are_padded(rt: HostRuntime) -> Result<(), Fail> {
+    let long = padded(rt.alloc(), 3, &[true])?;
+    assert!(rt; long.as_slice() == [true, false, false].as_slice());
+    let short = padded(rt.alloc(), 1, &[false, true])?;
+    assert!(rt; short.as_slice() == [false].as_slice());
     Ok(())
 }
