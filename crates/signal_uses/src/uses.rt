@@ -1,9 +1,9 @@
 //! The last gate that reads each signal of a network, of the gates that some outputs need.
 
-ghost use Rattle.std.specs.Prelude.{◌≡◌, ◌+◌, ◌<◌, ◌≤◌, ◌^◌, length, slice_index, All, IfOk, ℕ};
+ghost use Rattle.std.specs.Prelude.{◌≡◌, ◌≢◌, ◌⊎◌, ◌+◌, ◌<◌, ◌≤◌, ◌^◌, length, replicate, slice_index, All, IfOk, ℕ};
 ghost use Rattle.blif_net.specs.Bounds.{signal_count};
 ghost use Rattle.blif_net.specs.Networks.{IsOrdered};
-ghost use Rattle.signal_uses.specs.Uses.{AreLastUses, KnowsReads, Raises};
+ghost use Rattle.signal_uses.specs.Uses.{AreLastUses, IsReader, KnowsReads, Raises};
 
 use blif_net::Net;
 use edge_bits::Memory;
@@ -14,7 +14,7 @@ pub const TO_THE_END: u32 = u32::MAX;
 
 /// So many zeros.
 fn none_used(alloc: Global, count: usize) -> Result<Vec<u32>, AllocError>
-    ensures { IfOk result (λ last. (length last.items ≡ count)) }
+    ensures { IfOk result (λ last. last.items ≡ replicate count 0) }
 {
     vec![in alloc; 0u32; count]
 }
@@ -38,6 +38,7 @@ fn follow(last: &mut [u32], net: &Net)
     ensures long { length last.new ≡ signal_count net.now }
     ensures raised { (signal : ℕ) → slice_index last.old signal ≤ slice_index last.new signal }
     ensures reads { KnowsReads net.now 0 last.new }
+    ensures told { (signal : ℕ) → slice_index last.new signal ≢ 0 → (slice_index last.new signal ≡ slice_index last.old signal) ⊎ IsReader net.now last.new signal (slice_index last.new signal) }
 {
     let inputs = net.inputs().len();
     let mut left = net.gates().len();
@@ -50,6 +51,18 @@ fn follow(last: &mut [u32], net: &Net)
     }
 }
 
+/// Notes the last uses of all signals, of which none is noted.
+fn note(last: &mut [u32], net: &Net, own: &[u32])
+    requires ordered { IsOrdered net.now }
+    requires none { last.old ≡ replicate (signal_count net.now) 0 }
+    requires few { signal_count net.now < 2 ^ 32 }
+    requires own { All (λ signal. signal < signal_count net.now) own.now }
+    ensures { AreLastUses net.now own.now last.new }
+{
+    raise(last, own, TO_THE_END);
+    follow(last, net);
+}
+
 /// By signal, the last gate that reads it, by its own signal: of the gates that these outputs' signals need. It is 0 for a
 /// signal that is not needed, and the greatest number for one of the outputs'.
 pub fn last_uses(alloc: Global, net: &Net, own: &[u32]) -> Result<Vec<u32>, Memory>
@@ -59,7 +72,6 @@ pub fn last_uses(alloc: Global, net: &Net, own: &[u32]) -> Result<Vec<u32>, Memo
     ensures { IfOk result (λ last. AreLastUses net.now own.now last.items) }
 {
     let mut last = none_used(alloc, net.inputs().len() + net.gates().len())?;
-    raise(&mut last, own, TO_THE_END);
-    follow(&mut last, net);
+    note(&mut last, net, own);
     Ok(last)
 }

@@ -1,7 +1,7 @@
 use Rattle.std.proofs.Common.{◌≡◌, ◌<◌, ◌+◌, ◌-◌, ◌∙◌, ap, arith, subst, sym, length, All, List, ℕ, get_or}
 use Rattle.blif_net.specs.declared.net.Cover.{Cover}
 use Rattle.signal_uses.specs.Uses.{Raises}
-use Rattle.signal_uses.proofs.UseLemmas.{follows-more, reads_before}
+use Rattle.signal_uses.proofs.UseLemmas.{follows-more, reads_before, told-more}
 use Rattle.signal_uses.proofs.uses.follow.Goals as goal
 
 -- the signals that the gate at hand reads
@@ -29,4 +29,6 @@ loop-left-preserved-then-last-reader-ne0 c =
       raised = λ s. omega (arith, c.loop-left.invariant.raised s, raises.raised s);
       reads = follows-more net i c.index-gates-left.result c.loop-left.last c.raise.new.last c.requires.ordered (omega (arith, c.loop-left.invariant.within, c.loop-left-test.true))
           (λ j gate from at used. c.loop-left.invariant.reads j gate (omega (arith, from, c.loop-left-test.true)) at used) raises;
+      told = told-more net i c.index-gates-left.result c.args.last.now c.loop-left.last c.raise.new.last (omega (arith, c.loop-left.invariant.within, c.loop-left-test.true))
+          (λ none. c.if-last-reader-ne0.true (ap (λ n. get_or c.loop-left.last n 0) reader ∙ none)) c.loop-left.invariant.told raises;
     }

@@ -1,5 +1,6 @@
-use Rattle.std.proofs.Common.{◌≡◌, ◌≤◌, length, ℕ, slice_index}
-use Rattle.signal_uses.specs.Uses.{KnowsReads}
+use Rattle.std.proofs.Common.{◌≡◌, ◌≢◌, ◌≤◌, length, ℕ, slice_index}
+use Rattle.std.specs.Prelude.{◌⊎◌}
+use Rattle.signal_uses.specs.Uses.{IsReader, KnowsReads}
 use Rattle.blif_net.specs.Bounds.{signal_count}
 use Rattle.signal_uses.proofs.uses.follow.Given as goal
 
@@ -10,6 +11,7 @@ invariant-loop-left l = record {
   long : length l.last ≡ signal_count l.net;
   raised : (signal : ℕ) → slice_index l.fn.last signal ≤ slice_index l.last signal;
   reads : KnowsReads l.net l.left l.last;
+  told : (signal : ℕ) → slice_index l.last signal ≢ 0 → (slice_index l.last signal ≡ slice_index l.fn.last signal) ⊎ IsReader l.net l.last signal (slice_index l.last signal);
 }
 
 abbrev pub decreases-loop-left : goal.decreases-loop-left
