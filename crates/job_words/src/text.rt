@@ -1,10 +1,10 @@
 //! Lines and words.
 
-ghost use Rattle.std.specs.Prelude.{◌≡◌, ◌∷◌, [], ◌++◌, ◌<◌, ◌≤◌, ◌^◌, ◌-◌, min, length, IfOk, MatchOption, ◌||◌, IfSome, IfNone, Some, None, true, false, position, ◌==◌};
+ghost use Rattle.std.specs.Prelude.{◌≡◌, ◌∷◌, [], ◌++◌, ◌<◌, ◌≤◌, ◌^◌, ◌-◌, min, length, IfOk, MatchOption, ◌&&◌, ◌||◌, int_le, int_lt, IfSome, IfNone, Some, None, true, false, position, ◌==◌};
 ghost use Rattle.std.specs.List.{list_all, before_first, position_or_len};
 ghost use Rattle.std.specs.Str.Parse.{digits_value};
 ghost use Rattle.job_words.specs.Text.{is_bit, is_bits, bits_in, bit_word, is_whole, lines_of, split_words, some_word, line_words, is_allowed, is_separator, is_number, is_negative, magnitude, is_integer, integer_value, IsInteger, is_name, is_letter, is_name_byte};
-ghost use Rattle.function_laws.specs.Numbers.{is_value};
+ghost use Rattle.edge_bits.specs.Permanent.{least_value, value_end};
 ghost use Rattle.std.specs.Char.{is_ascii_digit};
 
 use edge_bits::{LEAST_VALUE, List, VALUE_END};
@@ -210,8 +210,8 @@ pub fn is_integer(word: &[u8]) -> bool
 /// The value of a whole number from -2^46 to 2^46 - 1; none for others.
 pub fn integer_value(word: &[u8]) -> Option<i64>
     requires { is_integer word.now ≡ true }
-    ensures some { IfSome result (λ w. IsInteger word.now w × (is_value w ≡ true)) }
-    ensures none { IfNone result (is_value (integer_value word.now) ≡ false) }
+    ensures some { IfSome result (λ w. IsInteger word.now w × ((int_le least_value w && int_lt w value_end) ≡ true)) }
+    ensures none { IfNone result ((int_le least_value (integer_value word.now) && int_lt (integer_value word.now) value_end) ≡ false) }
 {
     let size = digits_value(magnitude(word)) as i64;
     let value = if is_negative(word) { -size } else { size };
