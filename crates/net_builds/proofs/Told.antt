@@ -1,0 +1,162 @@
+-- What is told of the functions of names.
+use Rattle.std.proofs.Common.{◌≡◌, ℕ, ◌+◌, ◌<◌, ◌^◌, Bool, List, [], ◌∷◌, ◌++◌, Some, length, get_or, map, take, refl, ap, ap₂, sym, ◌∙◌, subst, arith}
+use Rattle.std.proofs.lemmas.List.{length-map, map_more}
+use Rattle.std.proofs.lemmas.Simd.{map-map}
+use Rattle.function_laws.specs.declared.history.Function.TheVariants.{Bdd}
+use Rattle.function_laws.specs.declared.history.Name.{Name}
+use Rattle.function_laws.specs.Lists.{truth}
+use Rattle.function_laws.proofs.ListLemmas.{truth-list_of}
+use Rattle.blif_net.specs.declared.net.Net.{Net}
+use Rattle.dump_sizes.specs.declared.listings.Listing.{Listing}
+use Rattle.net_reports.specs.Classes.{AreClasses}
+use Rattle.net_reports.specs.Evaluations.{assignment, evaluation_at, values_at}
+use Rattle.net_reports.specs.Reports.{count_firsts, node_count, output_names, report_text, summary_text}
+use Rattle.net_reports.specs.declared.classes.Class.{Class}
+use Rattle.net_reports.specs.declared.patterns.Evaluation.{Evaluation}
+use Rattle.net_builds.specs.Builds.{Reports, SumsUp}
+use Rattle.net_builds.specs.Handings.{IsTold}
+use Rattle.net_builds.specs.Standings.{Asks, IsLive, IsQuiet, Lists, Standing, values_of}
+use Rattle.net_builds.specs.Tellings.{evaluation_in, value_in, values_in}
+use Rattle.net_builds.proofs.StandingLemmas.{gains_none, gains_then, live_list, still_live}
+use Rattle.net_builds.proofs.Mapped.{length_same, map_same}
+use Rattle.net_builds.proofs.SameReports.{assignment_below}
+
+pub asks_none : (a : Standing) → Asks a a
+asks_none a = record { works = gains_none IsQuiet a; kept = λ other. refl; rows = omega arith }
+
+pub asks_on : (a b c : Standing) → Asks a b → Asks b c → Asks a c
+asks_on a b c first second = record {
+  works = gains_then IsQuiet a b c first.works second.works;
+  kept = λ other. second.kept other ∙ first.kept other;
+  rows = omega (arith, first.rows, second.rows);
+}
+
+pub held_asked : (a b : Standing) → Asks a b → (name : Name) → IsLive a name → IsLive b name
+held_asked a b asks name held = still_live a b name asks.works.more (asks.kept name) held
+
+-- what names stand for has one value where it stands for the same
+values_asked : (a b : Standing) → Asks a b → (names : List Name) (k : ℕ) → values_in b names k ≡ values_in a names k
+values_asked a b asks names k = map_same (λ name. value_in k (b.stands name)) (λ name. value_in k (a.stands name)) (λ name. ap (value_in k) (asks.kept name)) names
+
+evaluation_asked : (a b : Standing) → Asks a b → (names : List Name) (pattern : List Bool) → evaluation_in b names pattern ≡ evaluation_in a names pattern
+evaluation_asked a b asks names pattern =
+    let with_values : List Bool → Evaluation = λ values. record { pattern = pattern; values = values } in
+    ap with_values (values_asked a b asks names (assignment b.vars pattern) ∙ ap (λ vars. values_in a names (assignment vars pattern)) asks.works.vars_are)
+
+-- one more of the names is valued
+pub values_more : (a b : Standing) (names : List Name) (i k : ℕ) (no_name : Name) (value : Bool) (before after : List Bool) → i < length names → Asks a b
+    → before ≡ values_in a (take i names) k → value ≡ value_in k (b.stands (get_or names i no_name)) → after ≡ before ++ value ∷ []
+    → after ≡ values_in a (take (i + 1) names) k
+values_more a b names i k no_name value before after inside asks so_far next is =
+    is ∙ ap₂ (λ (values : List Bool) (one : Bool). values ++ one ∷ []) so_far (next ∙ ap (value_in k) (asks.kept (get_or names i no_name)))
+    ∙ sym (map_more (λ (name : Name). value_in k (a.stands name)) names i no_name inside)
+
+-- one more of the patterns is evaluated at
+pub evaluations_more : (a b : Standing) (names : List Name) (patterns : List (List Bool)) (i : ℕ) (pattern seen : List Bool) (one : Evaluation) (before after : List Evaluation)
+    → i < length patterns → pattern ≡ get_or patterns i pattern → seen ≡ pattern → Asks a b → before ≡ map (evaluation_in a names) (take i patterns)
+    → one ≡ evaluation_in b names seen → after ≡ before ++ one ∷ [] → after ≡ map (evaluation_in a names) (take (i + 1) patterns)
+evaluations_more a b names patterns i pattern seen one before after inside at same asks so_far next is =
+    is ∙ ap₂ (λ (all : List Evaluation) (last : Evaluation). all ++ last ∷ []) so_far (next ∙ evaluation_asked a b asks names seen ∙ ap (evaluation_in a names) (same ∙ at))
+    ∙ sym (map_more (evaluation_in a names) patterns i pattern inside)
+
+-- the value of a held name
+pub value_held : (s : Standing) (name : Name) (k : ℕ) (value : Bool) → IsLive s name → ((f : List Bool) → s.stands name ≡ Some (Bdd f) → value ≡ truth f k)
+    → value ≡ value_in k (s.stands name)
+value_held s name k value held is =
+    let list = live_list s name held in
+    is list.0 list.1 ∙ ap (value_in k) (sym list.1)
+
+value_of_row : (n k : ℕ) (f : ℕ → Bool) → k < 2 ^ n → value_in k (values_of n f) ≡ f k
+value_of_row n k f below = truth-list_of (2 ^ n) k f below
+
+-- the functions that names stand for have the names' values
+values_told : (s : Standing) (names : List Name) (functions : List (ℕ → Bool)) → map s.stands names ≡ map (values_of s.vars) functions
+    → (pattern : List Bool) → values_in s names (assignment s.vars pattern) ≡ values_at s.vars functions pattern
+values_told s names functions stand pattern =
+    let k = assignment s.vars pattern in
+    sym (map-map (value_in k) s.stands names) ∙ ap (map (value_in k)) stand ∙ map-map (value_in k) (values_of s.vars) functions
+    ∙ map_same (λ (f : ℕ → Bool). value_in k (values_of s.vars f)) (λ (f : ℕ → Bool). f k) (λ f. value_of_row s.vars k f (assignment_below s.vars pattern)) functions
+
+evaluations_told : (s : Standing) (names : List Name) (functions : List (ℕ → Bool)) → map s.stands names ≡ map (values_of s.vars) functions
+    → (patterns : List (List Bool)) → map (evaluation_in s names) patterns ≡ map (evaluation_at s.vars functions) patterns
+evaluations_told s names functions stand patterns =
+    map_same (evaluation_in s names) (evaluation_at s.vars functions)
+    (λ pattern. ap (λ values. record { pattern = pattern; values = values }) (values_told s names functions stand pattern)) patterns
+
+stands_in : (old mid : Standing) (names : List Name) (listing : Listing) (lists : Lists old mid names listing) → map mid.stands names ≡ map (values_of mid.vars) lists.functions
+stands_in old mid names listing lists = subst (λ (s : Standing). map s.stands names ≡ map (values_of s.vars) lists.functions) (sym lists.new_is) lists.stand
+
+stands_on : (mid new : Standing) (names : List Name) (functions : List (ℕ → Bool)) → Asks mid new → map mid.stands names ≡ map (values_of mid.vars) functions
+    → map new.stands names ≡ map (values_of new.vars) functions
+stands_on mid new names functions asks stand =
+    map_same new.stands mid.stands asks.kept names ∙ stand ∙ ap (λ vars. map (values_of vars) functions) (sym asks.works.vars_are)
+
+-- what is told of a listing, after some calls that change nothing
+pub is_told : (Tells : List (ℕ → Bool) → List ℕ → List ℕ → Type 0) (old mid new : Standing) (names : List Name) (listing : Listing) (text : List ℕ)
+    (lists : Lists old mid names listing) → Asks mid new → Tells lists.functions listing.order text → IsTold Tells old new names text
+is_told Tells old mid new names listing text lists asks tells = record {
+  vars_are = asks.works.vars_are ∙ ap (λ (s : Standing). s.vars) lists.new_is;
+  number_is = asks.works.number_is ∙ ap (λ (s : Standing). s.number) lists.new_is;
+  note = record { place = lists.place; order = listing.order };
+  notes_are = asks.works.notes_are ∙ ap (λ (s : Standing). s.notes) lists.new_is;
+  gained = asks.works.gained;
+  entries_are = asks.works.entries_are ∙ ap (λ (s : Standing). s.entries ++ asks.works.gained) lists.new_is;
+  quiet = asks.works.each;
+  more = omega (arith, asks.works.more, ap (λ (s : Standing). s.adds) lists.new_is);
+  kept = λ other. asks.kept other ∙ ap (λ (s : Standing). s.stands other) lists.new_is;
+  functions = lists.functions;
+  stand = stands_on mid new names lists.functions asks (stands_in old mid names listing lists);
+  tells = tells;
+}
+
+-- what is listed stays held
+pub held_listed : (old mid : Standing) (names : List Name) (listing : Listing) → Lists old mid names listing → (name : Name) → IsLive old name → IsLive mid name
+held_listed old mid names listing lists name held =
+    still_live old mid name (omega (arith, ap (λ (s : Standing). s.adds) lists.new_is)) (ap (λ (s : Standing). s.stands name) lists.new_is) held
+
+-- a listing has as many functions as there are names, and as many classes
+pub many_classes : (seen classes : List Class) (old mid : Standing) (names : List Name) (listing : Listing) (lists : Lists old mid names listing) → seen ≡ classes
+    → AreClasses (length listing.order) lists.functions classes → length seen ≡ length names
+many_classes seen classes old mid names listing lists same are =
+    ap length same ∙ are.as_many ∙ sym (length_same old.stands (values_of old.vars) names lists.functions lists.stand)
+
+-- the classes of a listing are those of the functions
+classes_told : (old mid : Standing) (names : List Name) (listing : Listing) (lists : Lists old mid names listing) (n : ℕ) (classes : List Class) → old.vars ≡ n
+    → AreClasses (length listing.order) lists.functions classes → AreClasses n lists.functions classes
+classes_told old mid names listing lists n classes vars are =
+    subst (λ m. AreClasses m lists.functions classes) (lists.wide ∙ vars) are
+
+pub reported : (net : Net) (patterns : List (List Bool)) (old mid : Standing) (names : List Name) (listing : Listing) (lists : Lists old mid names listing)
+    (classes : List Class) (nodes : ℕ) (text : List ℕ) → old.vars ≡ length net.inputs → AreClasses (length listing.order) lists.functions classes
+    → nodes ≡ node_count listing.order lists.functions
+    → (seen : List Class) (all : List Evaluation) (order : List ℕ) → seen ≡ classes → all ≡ map (evaluation_in mid names) patterns → order ≡ listing.order
+    → text ≡ report_text (length net.inputs) (output_names net) seen all order nodes
+    → Reports net patterns lists.functions listing.order text
+reported net patterns old mid names listing lists classes nodes text vars are count seen all order same_classes same_evaluations same_order is =
+    let n = length net.inputs in
+    let mid_vars : mid.vars ≡ n = ap (λ (s : Standing). s.vars) lists.new_is ∙ vars in
+    let evaluations : map (evaluation_in mid names) patterns ≡ map (evaluation_at n lists.functions) patterns =
+    evaluations_told mid names lists.functions (stands_in old mid names listing lists) patterns ∙ ap (λ m. map (evaluation_at m lists.functions) patterns) mid_vars in
+    record {
+      classes = classes;
+      are_classes = classes_told old mid names listing lists n classes vars are;
+      bytes = is ∙ ap (λ (cs : List Class). report_text n (output_names net) cs all order nodes) same_classes
+          ∙ ap (λ (es : List Evaluation). report_text n (output_names net) classes es order nodes) (same_evaluations ∙ evaluations)
+          ∙ ap (λ (vs : List ℕ). report_text n (output_names net) classes (map (evaluation_at n lists.functions) patterns) vs nodes) same_order
+          ∙ ap (λ m. report_text n (output_names net) classes (map (evaluation_at n lists.functions) patterns) listing.order m) count;
+    }
+
+pub summed_up : (net : Net) (old mid : Standing) (names : List Name) (listing : Listing) (lists : Lists old mid names listing)
+    (classes : List Class) (nodes : ℕ) (text : List ℕ) → old.vars ≡ length net.inputs → AreClasses (length listing.order) lists.functions classes
+    → nodes ≡ node_count listing.order lists.functions
+    → (seen : List Class) → seen ≡ classes → text ≡ summary_text (length net.inputs) (length net.outputs) (count_firsts seen) nodes
+    → SumsUp net lists.functions listing.order text
+summed_up net old mid names listing lists classes nodes text vars are count seen same_classes is =
+    let n = length net.inputs in
+    record {
+      classes = classes;
+      are_classes = classes_told old mid names listing lists n classes vars are;
+      bytes = is ∙ ap (λ (cs : List Class). summary_text n (length net.outputs) (count_firsts cs) nodes) same_classes
+          ∙ ap (λ m. summary_text n m (count_firsts classes) nodes) (sym (length-map net.outputs (λ output. output.name)))
+          ∙ ap (λ m. summary_text n (length (output_names net)) (count_firsts classes) m) count;
+    }

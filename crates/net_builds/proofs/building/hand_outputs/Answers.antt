@@ -1,0 +1,16 @@
+use Rattle.std.proofs.Common.{◌+◌, ◌≤◌, ◌^◌, List, length, subst, sym, All}
+use Rattle.function_laws.specs.declared.history.Name.{Name}
+use Rattle.net_builds.specs.Standings.{IsLive}
+use Rattle.net_builds.proofs.Built.{all_held, room_to_hand}
+use Rattle.net_builds.proofs.building.hand_outputs.Goals as goal
+
+pub hand_over-requires-clause-room : goal.hand_over-requires-clause-room
+hand_over-requires-clause-room g c =
+    let mid = g.H.Host.standing c.build_outputs.new.session in
+    subst (λ (names : List Name). mid.rows + length names ≤ 2 ^ 25) (sym c.deref.ensures.value)
+    (room_to_hand c.args.net.now (g.H.Host.standing c.args.session.now) mid c.in_ok-names.names.items c.requires.bounded c.in_ok-names.ensures.built)
+
+pub hand_over-requires-clause-held : goal.hand_over-requires-clause-held
+hand_over-requires-clause-held g c =
+    let mid = g.H.Host.standing c.build_outputs.new.session in
+    subst (All (IsLive mid)) (sym c.deref.ensures.value) (all_held mid c.args.net.now c.args.net.now.outputs c.in_ok-names.names.items c.in_ok-names.ensures.built.holds)

@@ -1,0 +1,66 @@
+use Rattle.std.proofs.Common.{◌≡◌, ◌-◌, ◌+◌, ◌<◌, ℕ, List, length, get_or, ap, sym, subst, ◌∙◌, arith, Some, All}
+use Rattle.std.specs.Prelude.{slice_get}
+use Rattle.std.proofs.Math.ListN.{set}
+use Rattle.std.proofs.lemmas.Option.{slice_get-get_or}
+use Rattle.blif_net.specs.declared.net.Cover.{Cover}
+use Rattle.blif_net.specs.Bounds.{signal_count}
+use Rattle.blif_net.specs.Networks.{cover_value, signal_value}
+use Rattle.net_builds.specs.Building.{BuildsTo}
+use Rattle.net_builds.specs.Signals.{HaveValues}
+use Rattle.net_builds.proofs.SignalSteps.{builds_more, built_made, gate_rows, gate_value, gate_values, reads_signals}
+use Rattle.net_builds.proofs.rows.make_gate.Given as given
+use Rattle.net_builds.proofs.rows.make_gate.Goals as goal
+use Rattle.net_builds.proofs.rows.make_gate.Goals.{After-index-gates-signal, After-as_slice}
+
+-- the gate is the one of the signal
+gate_at : (g : given.Over) (c : After-index-gates-signal g) → slice_get c.args.net.now.gates (c.args.signal - length c.args.net.now.inputs) ≡ Some c.index-gates-signal.result
+gate_at g c =
+    let gate = c.index-gates-signal.result in
+    let i = c.args.signal - length c.args.net.now.inputs in
+    let is : get_or c.args.net.now.gates i gate ≡ gate =
+    sym (c.index-gates-signal.is ∙ ap (λ (gates : List Cover). get_or gates (c.args.signal - length c.inputs.result.now) gate) c.gates.ensures
+    ∙ ap (λ (n : ℕ). get_or c.args.net.now.gates (c.args.signal - n) gate) (ap length c.inputs.ensures)) in
+    slice_get-get_or c.args.net.now.gates i gate (omega (arith, c.requires.gate, c.requires.within)) ∙ ap Some is
+
+place : (g : given.Over) (c : After-index-gates-signal g) → c.args.signal ≡ length c.args.net.now.inputs + (c.args.signal - length c.args.net.now.inputs)
+place g c = omega (arith, c.requires.gate)
+
+pub cover-requires-clause-rows : goal.cover-requires-clause-rows
+cover-requires-clause-rows g c =
+    let here = (goal.at.cover-requires-clause-rows g c).After-index-gates-signal in
+    let net = c.args.net.now in
+    gate_rows net c.args.last.now c.requires.plan c.args.signal (c.args.signal - length net.inputs) c.index-gates-signal.result (gate_at g here) (place g here)
+    (g.H.Host.standing c.args.session.now) c.args.rows.now c.if-last-signal-eq0.false c.requires.built
+
+-- the gate's row was made
+made : (g : given.Over) (c : After-as_slice g) → slice_get c.args.net.now.gates (c.args.signal - length c.args.net.now.inputs) ≡ Some c.index-gates-signal.result
+    → BuildsTo c.args.net.now c.args.last.now (c.args.signal + 1) (g.H.Host.standing c.args.session.now) (g.H.Host.standing c.cover.new.session) (set c.args.rows.now c.args.signal (Some c.in_ok-cover.field-0))
+made g c at =
+    let net = c.args.net.now in
+    let last = c.args.last.now in
+    let signal = c.args.signal in
+    let i = signal - length net.inputs in
+    let gate = c.index-gates-signal.result in
+    let old = g.H.Host.standing c.args.session.now in
+    let rows = c.args.rows.now in
+    let place : signal ≡ length net.inputs + i = omega (arith, c.requires.gate) in
+    let values : HaveValues old rows (signal_value net) gate.ins =
+    gate_values net last c.requires.plan signal i gate at place old rows c.if-last-signal-eq0.false c.requires.built in
+    built_made net last signal old (g.H.Host.standing c.cover.new.session) rows c.in_ok-cover.field-0 (λ k. cover_value gate (λ input. signal_value net input k)) c.requires.within
+    (gate_value net last c.requires.plan signal i gate at place) c.requires.built (c.in_ok-cover.ensures.made (signal_value net) values)
+
+pub let_go_all_read-requires-clause-built : goal.let_go_all_read-requires-clause-built
+let_go_all_read-requires-clause-built g c = (made g (goal.at.let_go_all_read-requires-clause-built g c).After-as_slice (gate_at g (goal.at.let_go_all_read-requires-clause-built g c).After-index-gates-signal)).built
+
+pub let_go_all_read-requires-clause-within : goal.let_go_all_read-requires-clause-within
+let_go_all_read-requires-clause-within g c =
+    let here = (goal.at.let_go_all_read-requires-clause-within g c).After-index-gates-signal in
+    let net = c.args.net.now in
+    subst (λ (ins : List ℕ). All (λ input. input < signal_count net) ins) (sym c.as_slice.ensures)
+    (reads_signals net c.args.last.now c.requires.plan c.args.signal (c.args.signal - length net.inputs) c.index-gates-signal.result (gate_at g here) (place g here))
+
+pub returns-clause-built : goal.returns-clause-built
+returns-clause-built g c =
+    builds_more c.args.net.now c.args.last.now (c.args.signal + 1) (c.args.signal + 1) (g.H.Host.standing c.args.session.now) (g.H.Host.standing c.cover.new.session)
+    (g.H.Host.standing c.let_go_all_read.new.session) (set c.args.rows.now c.args.signal (Some c.in_ok-cover.field-0)) c.let_go_all_read.new.rows
+    (made g (goal.at.returns-clause-built g c).After-as_slice (gate_at g (goal.at.returns-clause-built g c).After-index-gates-signal)) c.let_go_all_read.ensures.built

@@ -1,0 +1,26 @@
+use Rattle.std.proofs.Common.{◌<◌, ◌≤◌, ◌+◌, ℕ, List, ap, get_or, length, arith}
+use Rattle.std.proofs.lemmas.List.{get_or_default}
+use mathlib.Core.Logic.{dite}
+use native.Mathlib.Decide.{ℕ_discrete}
+use Rattle.net_builds.proofs.SignalSteps.{builds_more}
+use Rattle.net_builds.proofs.rows.make_outputs.Goals as goal
+
+-- one signal more is behind
+behind_more : (own : List ℕ) (number next later : ℕ) → number < length own → next ≤ later → get_or own number 0 < later
+    → ((i d : ℕ) → i < number → get_or own i d < next) → (i d : ℕ) → i < number + 1 → get_or own i d < later
+behind_more own number next later within more here behind i d less = dite (ℕ_discrete i number)
+    (λ e. omega (arith, ap (λ k. get_or own k d) e, get_or_default own number d 0 within, here))
+    (λ apart. omega (arith, behind i d (omega (arith, less, apart)), more))
+
+pub loop-number-preserved : goal.loop-number-preserved
+loop-number-preserved g c = record {
+  own = c.make_up_to.ensures.own;
+  built = builds_more c.args.net.now c.args.last.now c.loop-number.next c.in_ok-next.next (g.H.Host.standing c.args.session.now) (g.H.Host.standing c.loop-number.session)
+      (g.H.Host.standing c.make_up_to.new.session) c.loop-number.rows c.make_up_to.new.rows c.loop-number.invariant.built c.in_ok-next.ensures.built;
+  later = omega (arith, c.loop-number.invariant.later, c.in_ok-next.ensures.behind.1);
+  behind = behind_more c.args.own.now c.loop-number.number c.loop-number.next c.in_ok-next.next (omega (arith, c.loop-number-test.true)) c.in_ok-next.ensures.behind.1
+      c.in_ok-next.ensures.behind.0 c.loop-number.invariant.behind;
+}
+
+pub returns-clause-behind : goal.returns-clause-behind
+returns-clause-behind g c k d less = c.loop-number.invariant.behind k d (omega (arith, less, c.loop-number-test.false))

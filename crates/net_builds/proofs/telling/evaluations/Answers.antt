@@ -1,0 +1,26 @@
+use Rattle.std.proofs.Common.{Bool, List}
+use Rattle.std.proofs.lemmas.List.Elements.{All-weaker}
+use Rattle.net_builds.specs.Standings.{IsLive}
+use Rattle.net_builds.proofs.Told.{asks_on, evaluations_more, held_asked}
+use Rattle.net_builds.proofs.telling.evaluations.Goals as goal
+
+pub evaluate-requires-clause-held : goal.evaluate-requires-clause-held
+evaluate-requires-clause-held g c =
+    let old = g.H.Host.standing c.args.session.now in
+    let now = g.H.Host.standing c.loop-pattern.session in
+    All-weaker (IsLive old) (IsLive now) (held_asked old now c.loop-pattern.invariant.asks) c.args.names.now c.requires.held
+
+pub loop-pattern-preserved : goal.loop-pattern-preserved
+loop-pattern-preserved g c =
+    let old = g.H.Host.standing c.args.session.now in
+    let now = g.H.Host.standing c.loop-pattern.session in
+    let pattern : List Bool = c.pattern-item.result in
+    let seen : List Bool = c.as_slice.result.now in
+    let asks = c.loop-pattern.invariant.asks in
+    record {
+      own = c.in_ok-evaluation.ensures.own;
+      asks = asks_on old now (g.H.Host.standing c.evaluate.new.session) asks c.in_ok-evaluation.ensures.asks;
+      evaluations = evaluations_more old now c.args.names.now c.args.patterns.now c.loop-pattern.pattern-index pattern seen c.in_ok-evaluation.evaluation
+          c.loop-pattern.evaluations.items c.push.new.self.items c.loop-pattern-test.true c.pattern-item.is c.as_slice.ensures asks c.loop-pattern.invariant.evaluations
+          c.in_ok-evaluation.ensures.evaluation c.in_ok-push.ensures.items;
+    }

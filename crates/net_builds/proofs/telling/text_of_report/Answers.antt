@@ -1,0 +1,45 @@
+use Rattle.std.proofs.Common.{[], List, ℕ, ◌∙◌}
+use Rattle.std.proofs.lemmas.List.Elements.{All-weaker}
+use Rattle.net_reports.specs.declared.classes.Class.{Class}
+use Rattle.net_reports.specs.declared.patterns.Evaluation.{Evaluation}
+use Rattle.net_builds.specs.Builds.{Reports}
+use Rattle.net_builds.specs.Standings.{IsLive}
+use Rattle.net_builds.proofs.Told.{held_listed, is_told, many_classes, reported}
+use Rattle.net_builds.proofs.telling.text_of_report.Goals as goal
+
+pub evaluations-requires-clause-held : goal.evaluations-requires-clause-held
+evaluations-requires-clause-held g c =
+    let old = g.H.Host.standing c.args.session.now in
+    let mid = g.H.Host.standing c.list.new.session in
+    All-weaker (IsLive old) (IsLive mid) (held_listed old mid c.args.names.now c.in_ok-listing.listing c.in_ok-listing.ensures.lists) c.args.names.now c.requires.held
+
+pub report-requires : goal.report-requires
+report-requires g c =
+    let lists = c.in_ok-listing.ensures.lists in
+    let listing = c.in_ok-listing.listing in
+    let seen : List Class = c.deref.result.now in
+    let classes : List Class = c.in_ok-classes.classes.items in
+    many_classes seen classes (g.H.Host.standing c.args.session.now) (g.H.Host.standing c.list.new.session) c.args.names.now listing lists c.deref.ensures.value
+    (c.in_ok-classes.ensures.by_function listing.order lists.functions lists.is_listing)
+    ∙ c.requires.many
+
+pub returns-clause-told : goal.returns-clause-told
+returns-clause-told g c =
+    let net = c.args.net.now in
+    let old = g.H.Host.standing c.args.session.now in
+    let mid = g.H.Host.standing c.list.new.session in
+    let new = g.H.Host.standing c.evaluations.new.session in
+    let names = c.args.names.now in
+    let patterns = c.args.patterns.now in
+    let listing = c.in_ok-listing.listing in
+    let lists = c.in_ok-listing.ensures.lists in
+    let classes : List Class = c.in_ok-classes.classes.items in
+    let seen : List Class = c.deref.result.now in
+    let all : List Evaluation = c.deref-2.result.now in
+    let order : List ℕ = c.as_slice-order.result.now in
+    let text : List ℕ = c.in_ok-text.text.items in
+    is_told (Reports net patterns) old mid new names listing text lists c.in_ok-evaluations.ensures.asks
+    (reported net patterns old mid names listing lists classes c.node_count-nodes.result text c.requires.vars
+    (c.in_ok-classes.ensures.by_function listing.order lists.functions lists.is_listing)
+    (c.node_count-nodes.ensures (record { variables = listing.order; elements = [] }) lists.functions lists.is_listing) seen all order c.deref.ensures.value
+    (c.deref-2.ensures.value ∙ c.in_ok-evaluations.ensures.evaluations) c.as_slice-order.ensures c.in_ok-text.ensures.text)

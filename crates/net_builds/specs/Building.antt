@@ -1,0 +1,43 @@
+-- The functions of a network's signals while they are built, in the order of the signals.
+use Rattle.std.specs.Prelude.{◌≡◌, ℕ, ◌<◌, ◌≤◌, List, Option, Some, None, length, map, replicate, slice_index, slice_index_or}
+use Rattle.blif_net.specs.declared.net.Net.{Net}
+use Rattle.blif_net.specs.Bounds.{IsBounded, signal_count}
+use Rattle.blif_net.specs.Networks.{signal_value}
+use Rattle.function_laws.specs.declared.history.Name.{Name}
+use Rattle.net_builds.specs.declared.signals.Ledger.{Ledger}
+use Rattle.net_builds.specs.Standings.{Holds, Standing, Works}
+use Rattle.signal_uses.specs.Uses.{AreLastUses, KnowsReads}
+
+-- the row of a signal, if it has one
+abbrev pub row_at : List (Option Name) → ℕ → Option Name
+row_at rows signal = slice_index_or rows signal None
+
+-- of each signal it is noted up to which gate it is used
+pub record IsPlan (net : Net) (last : List ℕ) : Type 0 where
+  pub bounded : IsBounded net
+  pub long : length last ≡ signal_count net
+  pub reads : KnowsReads net 0 last
+
+-- The signals below the next one are built: those that it or a later gate uses have rows, and no row is of a later signal. Each row
+-- stands for the signal's function, and is newer than those of earlier signals.
+pub record IsBuilt (net : Net) (last : List ℕ) (next : ℕ) (s : Standing) (rows : List (Option Name)) : Type 0 where
+  pub vars : s.vars ≡ length net.inputs
+  pub long : length rows ≡ signal_count net
+  pub within : next ≤ signal_count net
+  pub there : (signal : ℕ) → signal < next → next ≤ slice_index last signal → (name : Name) × (row_at rows signal ≡ Some name)
+  pub ahead : (signal : ℕ) → next ≤ signal → row_at rows signal ≡ None
+  pub held : (signal : ℕ) (name : Name) → row_at rows signal ≡ Some name → Holds s name (signal_value net signal)
+  pub rising : (a b : ℕ) (one other : Name) → a < b → row_at rows a ≡ Some one → row_at rows b ≡ Some other → one.generation < other.generation
+  pub few : s.rows ≤ next
+
+-- the session worked, and the signals below the next one are built
+pub record BuildsTo (net : Net) (last : List ℕ) (next : ℕ) (old new : Standing) (rows : List (Option Name)) : Type 0 where
+  pub works : Works old new
+  pub built : IsBuilt net last next new rows
+
+-- The memory of a building whose first call is not made: no signal has a row.
+pub record IsBegun (net : Net) (ledger : Ledger) : Type 0 where
+  pub own : ledger.own.items ≡ map (λ output. output.signal) net.outputs
+  pub last : AreLastUses net ledger.own.items ledger.last.items
+  pub rows : ledger.rows.items ≡ replicate (signal_count net) None
+  pub names : length ledger.names.items ≡ length net.outputs

@@ -1,0 +1,144 @@
+-- What is seen of a session that builds functions, and what its calls leave.
+use Rattle.std.specs.Prelude.{◌≡◌, ℕ, ◌+◌, ◌<◌, ◌≤◌, ◌^◌, Bool, false, List, [], ◌∷◌, ◌++◌, All, Option, Some, length, map}
+use Rattle.dump_sizes.specs.declared.listings.Listing.{Listing}
+use Rattle.dump_sizes.specs.Listings.{IsListing}
+use Rattle.function_laws.specs.declared.history.Call.TheVariants as calls
+use Rattle.function_laws.specs.declared.history.Entry.{Entry}
+use Rattle.function_laws.specs.declared.history.Function.{Function}
+use Rattle.function_laws.specs.declared.history.Function.TheVariants.{Bdd}
+use Rattle.function_laws.specs.declared.history.Name.{Name}
+use Rattle.function_laws.specs.declared.history.Reply.TheVariants as replies
+use Rattle.function_laws.specs.EntryOrders.{orders_after}
+use Rattle.function_laws.specs.Handovers.{is_numbered, posts_to}
+use Rattle.function_laws.specs.Lists.{list_of}
+use Rattle.function_laws.specs.SessionEntries.{entry}
+use Rattle.function_laws.specs.Sizes.{Orders}
+use Rattle.net_builds.specs.declared.host.Stop.{Stop}
+use Rattle.net_builds.specs.declared.host.Stop.TheVariants as stops
+
+-- the order of the variables that a session noted, and the place in the history at which it did
+pub record Note : Type 0 where
+  pub place : ℕ
+  pub order : List ℕ
+
+-- What is seen of a session.
+pub record Standing : Type 0 where
+  -- how many variables its functions have
+  pub vars : ℕ
+  -- which session of the history it is
+  pub number : ℕ
+  -- how many names it has given: each has a generation below that
+  pub adds : ℕ
+  -- how many rows are live
+  pub rows : ℕ
+  -- what a name stands for
+  pub stands : Name → Option Function
+  -- its calls, in its order
+  pub entries : List Entry
+  -- what it noted of the order, the oldest first
+  pub notes : List Note
+
+-- the list of the values of a function of so many variables, as a row stands for it
+abbrev pub values_of : ℕ → (ℕ → Bool) → Option Function
+values_of vars f = Some (Bdd (list_of (2 ^ vars) f))
+
+-- the name stands for this function of the variables
+pub record Holds (s : Standing) (name : Name) (f : ℕ → Bool) : Type 0 where
+  pub stands : s.stands name ≡ values_of s.vars f
+  pub given : name.generation < s.adds
+
+-- the name stands for some function of the variables
+abbrev pub IsHeld : Standing → Name → Type 0
+IsHeld s name = (f : ℕ → Bool) × Holds s name f
+
+-- the name stands for a list of truth values, of whatever length
+abbrev pub IsLive : Standing → Name → Type 0
+IsLive s name = (f : List Bool) × (s.stands name ≡ Some (Bdd f)) × (name.generation < s.adds)
+
+-- the session may make one more row
+abbrev pub HasRoom : Standing → Type 0
+HasRoom s = s.rows < 2 ^ 25
+
+-- the entry adds no variable and leaves the order as it is
+pub record IsPlain (e : Entry) : Type 0 where
+  pub unnumbered : is_numbered e.reply ≡ false
+  pub ordered : (orders : Orders) → orders_after orders e.call e.reply ≡ orders
+
+-- and posts to no cell
+pub record IsQuiet (e : Entry) : Type 0 where
+  pub plain : IsPlain e
+  pub posts : (cell : ℕ) → posts_to cell e.call ≡ false
+
+-- Some calls were made, each of which is such an entry. The session gave no name twice, and noted nothing.
+pub record Gains (P : Entry → Type 0) (old new : Standing) : Type 0 where
+  pub vars_are : new.vars ≡ old.vars
+  pub number_is : new.number ≡ old.number
+  pub notes_are : new.notes ≡ old.notes
+  pub gained : List Entry
+  pub entries_are : new.entries ≡ old.entries ++ gained
+  pub each : All P gained
+  pub more : old.adds ≤ new.adds
+
+-- calls were made that add no variable, leave the order and post to no cell
+abbrev pub Works : Standing → Standing → Type 0
+Works = Gains IsQuiet
+
+-- each name that was given before stands for what it stood for
+abbrev pub KeepsAll : Standing → Standing → Type 0
+KeepsAll old new = (other : Name) → other.generation < old.adds → new.stands other ≡ old.stands other
+
+-- the name is new, and stands for the function
+pub record Makes (old new : Standing) (name : Name) (f : ℕ → Bool) : Type 0 where
+  pub works : Works old new
+  pub holds : Holds new name f
+  pub newer : old.adds ≤ name.generation
+  pub kept : KeepsAll old new
+  pub rows : new.rows ≤ old.rows + 1
+
+-- the name was let go, and each other one stands for what it stood for
+pub record LetsGo (old new : Standing) (gone : Name) : Type 0 where
+  pub works : Works old new
+  pub kept : (other : Name) → (other.generation ≡ gone.generation → ⊥) → new.stands other ≡ old.stands other
+  pub rows : new.rows + 1 ≡ old.rows
+
+-- a call told something, and changed no row
+pub record Asks (old new : Standing) : Type 0 where
+  pub works : Works old new
+  pub kept : (other : Name) → new.stands other ≡ old.stands other
+  pub rows : new.rows ≤ old.rows
+
+-- a refusal has a call of the session behind it, or is want of memory
+abbrev pub IsCaused : {F : Type 0} → (F → Type 0) → Stop F → Type 0
+IsCaused refused stops.Memory = Unit {0}
+IsCaused refused (stops.Full full) = refused full
+
+-- one call was made, at a place above the earlier ones; it changed no row
+pub record Posts (old new : Standing) (from : Name) (place : ℕ) : Type 0 where
+  pub vars_are : new.vars ≡ old.vars
+  pub number_is : new.number ≡ old.number
+  pub notes_are : new.notes ≡ old.notes
+  pub adds_are : new.adds ≡ old.adds
+  pub rows : new.rows ≤ old.rows
+  pub entries_are : new.entries ≡ old.entries ++ entry place old.number (calls.Post 0 from) replies.Done ∷ []
+  pub kept : (other : Name) → new.stands other ≡ old.stands other
+
+-- the name was fetched from the board's first cell, which had a function of truth values posted
+pub record Fetches (old new : Standing) (kind to : Name) (posted : Bool) (place : ℕ) : Type 0 where
+  pub vars_are : new.vars ≡ old.vars
+  pub number_is : new.number ≡ old.number
+  pub notes_are : new.notes ≡ old.notes
+  pub more : old.adds ≤ new.adds
+  pub entries_are : new.entries ≡ old.entries ++ entry place old.number (calls.Fetch 0 kind) (replies.Fetched to posted) ∷ []
+  pub newer : old.adds ≤ to.generation
+  pub held : IsLive new to
+  pub kept : KeepsAll old new
+  pub rows : new.rows ≤ old.rows + 1
+
+-- The listing of what some names stand for, in their order. The session noted the order of the variables.
+pub record Lists (old new : Standing) (names : List Name) (listing : Listing) : Type 0 where
+  pub place : ℕ
+  pub new_is : new ≡ record old { notes = old.notes ++ record { place = place; order = listing.order } ∷ [] }
+  pub functions : List (ℕ → Bool)
+  pub stand : map old.stands names ≡ map (values_of old.vars) functions
+  pub wide : length listing.order ≡ old.vars
+  pub is_listing : IsListing listing.order functions listing

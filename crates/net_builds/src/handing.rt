@@ -1,0 +1,98 @@
+//! The handing over of built functions to the first session.
+
+ghost use Rattle.std.specs.Prelude.{◌≡◌, ◌+◌, ◌≤◌, ◌^◌, [], ◌∷◌, ◌++◌, true, length, All, IfErr, IfOk};
+ghost use Rattle.net_builds.specs.Handings.{AreInTurn, HandsOver};
+ghost use Rattle.net_builds.specs.Standings.{HasRoom, IsCaused, IsLive};
+
+use crate::host::{Host, Stop};
+use function_laws::Name;
+use std::alloc::Global;
+use std::sync::Wait;
+
+/// A function that went from one session to another by the first cell of the board: the name under which it was built, the name
+/// under which it was fetched, the places of the two calls, and the name that the fetch had beside.
+#[derive(Debug, Clone, Copy, PartialEq, Eq, Drop)]
+pub struct Handover {
+    pub from: Name,
+    pub to: Name,
+    pub other: Name,
+    pub post: u64,
+    pub fetch: u64,
+}
+
+/// Goes on where the condition holds, and waits for ever where it does not.
+fn wait_unless<R: Wait>(rt: &R, holds: bool)
+    ensures { holds ≡ true }
+{
+    if holds {
+        return;
+    }
+    for _ in rt.forever() {}
+    unreachable!()
+}
+
+/// Whether a handover comes behind the earlier ones.
+fn is_behind(earlier: &[Handover], next: &Handover) -> bool
+    ensures { result ≡ true → AreInTurn 0 earlier.now → AreInTurn 0 (next.now ∷ []) → AreInTurn 0 (earlier.now ++ next.now ∷ []) }
+{
+    match earlier.last() {
+        None => true,
+        Some(last) => last.fetch < next.post,
+    }
+}
+
+/// Hands over one name: posts it and fetches it. It waits for ever where the fetch finds nothing posted, or lies below the post.
+fn hand_one<R: Wait, H: Host>(
+    rt: &R,
+    host: &H,
+    session: &mut H::Session,
+    name: Name,
+) -> Result<Handover, Stop<H::Full>>
+    requires own { H.has host.now session.old }
+    requires room { HasRoom (H.standing session.old) }
+    requires held { IsLive (H.standing session.old) name }
+    ensures own { H.has host.now session.new }
+    ensures handed { IfOk result (λ handover. HandsOver (H.standing session.old) (H.standing session.new) (name ∷ []) (handover ∷ [])) }
+    ensures caused { IfErr result (IsCaused (H.refused session.new)) }
+{
+    let posted = host.post(session, name);
+    let fetched = host.fetch(session, name)?;
+    wait_unless(rt, fetched.value.posted);
+    wait_unless(rt, posted.place < fetched.place);
+    Ok(Handover {
+        from: name,
+        to: fetched.value.name,
+        other: name,
+        post: posted.place,
+        fetch: fetched.place,
+    })
+}
+
+/// Hands over names one after another: each is posted and fetched, the fetch above the post and below the next post. Where the
+/// places are not so, or a fetch finds nothing posted, it waits for ever.
+pub fn hand_over<R: Wait, H: Host>(
+    rt: &R,
+    alloc: Global,
+    host: &H,
+    session: &mut H::Session,
+    names: &[Name],
+) -> Result<Vec<Handover>, Stop<H::Full>>
+    requires own { H.has host.now session.old }
+    requires room { (H.standing session.old).rows + length names.now ≤ 2 ^ 25 }
+    requires held { All (IsLive (H.standing session.old)) names.now }
+    ensures own { H.has host.now session.new }
+    ensures handed { IfOk result (λ handovers. HandsOver (H.standing session.old) (H.standing session.new) names.now handovers.items) }
+    ensures caused { IfErr result (IsCaused (H.refused session.new)) }
+{
+    let Ok(mut handovers) = Vec::with_capacity(alloc, names.len()) else {
+        return Err(Stop::Memory);
+    };
+    for name in names {
+        let next = hand_one(rt, host, session, *name)?;
+        wait_unless(rt, is_behind(&handovers, &next));
+        let Ok(()) = handovers.push(next) else {
+            return Err(Stop::Memory);
+        };
+    }
+    Ok(handovers)
+}

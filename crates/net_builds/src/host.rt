@@ -1,0 +1,162 @@
+//! A manager, as a session sees it that builds functions of truth values.
+
+use dump_sizes::Listing;
+use edge_bits::Memory;
+use function_laws::Name;
+
+/// Why a session was refused: want of memory, or no slot was free for a node.
+#[derive(Debug, Clone, Copy, PartialEq, Eq, Drop)]
+pub enum Stop<F> {
+    Memory,
+    Full(F),
+}
+
+/// The name that was fetched, and whether it stands for what was posted.
+#[derive(Debug, Clone, Copy, PartialEq, Eq, Drop)]
+pub struct Fetched {
+    pub name: Name,
+    pub posted: bool,
+}
+
+/// An answer, and its place in the history.
+#[derive(Debug, Clone, Copy, PartialEq, Eq, Drop)]
+pub struct Placed<T> {
+    pub place: u64,
+    pub value: T,
+}
+
+/// A manager of functions. Its sessions hold functions under names, and each call of a session is an entry of the history. A
+/// session that has made all the calls that it may make waits for ever in place of a further one.
+pub trait Host {
+    ghost use Rattle.std.specs.Prelude.{◌≡◌, ◌<◌, ℕ, Bool, List, Some, IfErr, IfOk, All, length};
+    ghost use Rattle.function_laws.specs.declared.history.Function.TheVariants.{Bdd};
+    ghost use Rattle.function_laws.specs.Lists.{truth};
+    ghost use Rattle.function_laws.specs.Values.{assignment_of, conjunction, constant, disjunction, negation, projection};
+    ghost use Rattle.net_builds.specs.Standings.{Asks, Fetches, HasRoom, Holds, IsCaused, IsHeld, IsLive, LetsGo, Lists, Makes, Posts, Standing};
+
+    /// Whose calls they are.
+    type Session;
+
+    /// What tells of a refused call.
+    type Full;
+
+    /// What is seen of a session.
+    ghost standing: { Self.Session → Standing };
+
+    /// The session is one of this manager.
+    ghost has: { Self → Self.Session → Type 0 };
+
+    /// Some call of the session was refused so.
+    ghost refused: { Self.Session → Self.Full → Type 0 };
+
+    /// Called with an output's number, from 0 on, before that output is built. It tells nothing and changes nothing.
+    fn pass(&self, output: u32);
+
+    /// A constant, under a new name.
+    fn constant(&self, session: &mut Self::Session, value: bool) -> Result<Name, Stop<Self::Full>>
+        requires own { has self.now session.old }
+        requires room { HasRoom (standing session.old) }
+        ensures own { has self.now session.new }
+        ensures made { IfOk result (λ name. Makes (standing session.old) (standing session.new) name (constant value)) }
+        ensures caused { IfErr result (IsCaused (refused session.new)) };
+
+    /// The projection of a variable, under a new name.
+    fn projection(
+        &self,
+        session: &mut Self::Session,
+        variable: u32,
+    ) -> Result<Name, Stop<Self::Full>>
+        requires own { has self.now session.old }
+        requires room { HasRoom (standing session.old) }
+        requires variable { variable < (standing session.old).vars }
+        ensures own { has self.now session.new }
+        ensures made { IfOk result (λ name. Makes (standing session.old) (standing session.new) name (projection variable)) }
+        ensures caused { IfErr result (IsCaused (refused session.new)) };
+
+    /// The complement of a function, under a new name.
+    fn complement(&self, session: &mut Self::Session, f: Name) -> Result<Name, Stop<Self::Full>>
+        requires own { has self.now session.old }
+        requires room { HasRoom (standing session.old) }
+        requires held { IsHeld (standing session.old) f }
+        ensures own { has self.now session.new }
+        ensures made { IfOk result (λ name. (a : ℕ → Bool) → Holds (standing session.old) f a → Makes (standing session.old) (standing session.new) name (negation a)) }
+        ensures caused { IfErr result (IsCaused (refused session.new)) };
+
+    /// The conjunction of two functions, under a new name.
+    fn conjunction(
+        &self,
+        session: &mut Self::Session,
+        f: Name,
+        g: Name,
+    ) -> Result<Name, Stop<Self::Full>>
+        requires own { has self.now session.old }
+        requires room { HasRoom (standing session.old) }
+        requires first { IsHeld (standing session.old) f }
+        requires second { IsHeld (standing session.old) g }
+        ensures own { has self.now session.new }
+        ensures made { IfOk result (λ name. (a b : ℕ → Bool) → Holds (standing session.old) f a → Holds (standing session.old) g b → Makes (standing session.old) (standing session.new) name (conjunction a b)) }
+        ensures caused { IfErr result (IsCaused (refused session.new)) };
+
+    /// The disjunction of two functions, under a new name.
+    fn disjunction(
+        &self,
+        session: &mut Self::Session,
+        f: Name,
+        g: Name,
+    ) -> Result<Name, Stop<Self::Full>>
+        requires own { has self.now session.old }
+        requires room { HasRoom (standing session.old) }
+        requires first { IsHeld (standing session.old) f }
+        requires second { IsHeld (standing session.old) g }
+        ensures own { has self.now session.new }
+        ensures made { IfOk result (λ name. (a b : ℕ → Bool) → Holds (standing session.old) f a → Holds (standing session.old) g b → Makes (standing session.old) (standing session.new) name (disjunction a b)) }
+        ensures caused { IfErr result (IsCaused (refused session.new)) };
+
+    /// Lets a name go.
+    fn let_go(&self, session: &mut Self::Session, f: Name)
+        requires own { has self.now session.old }
+        requires room { HasRoom (standing session.old) }
+        requires held { IsHeld (standing session.old) f }
+        ensures own { has self.now session.new }
+        ensures gone { LetsGo (standing session.old) (standing session.new) f };
+
+    /// The value of a function, where bit i is the value of variable i.
+    fn value(&self, session: &mut Self::Session, f: Name, bits: &[bool]) -> bool
+        requires own { has self.now session.old }
+        requires room { HasRoom (standing session.old) }
+        requires held { IsLive (standing session.old) f }
+        requires long { length bits.now ≡ (standing session.old).vars }
+        ensures own { has self.now session.new }
+        ensures asks { Asks (standing session.old) (standing session.new) }
+        ensures value { (a : List Bool) → (standing session.old).stands f ≡ Some (Bdd a) → result ≡ truth a (assignment_of bits.now) };
+
+    /// Puts a function into the first cell of the board, in place of what was there.
+    fn post(&self, session: &mut Self::Session, f: Name) -> Placed<()>
+        requires own { has self.now session.old }
+        requires room { HasRoom (standing session.old) }
+        requires held { IsLive (standing session.old) f }
+        ensures own { has self.now session.new }
+        ensures posts { Posts (standing session.old) (standing session.new) f result.place };
+
+    /// The function in the first cell of the board under a new name, or that of another name where the cell has none.
+    fn fetch(
+        &self,
+        session: &mut Self::Session,
+        other: Name,
+    ) -> Result<Placed<Fetched>, Stop<Self::Full>>
+        requires own { has self.now session.old }
+        requires room { HasRoom (standing session.old) }
+        requires held { IsLive (standing session.old) other }
+        ensures own { has self.now session.new }
+        ensures fetches { IfOk result (λ placed. Fetches (standing session.old) (standing session.new) other placed.value.name placed.value.posted placed.place) }
+        ensures caused { IfErr result (IsCaused (refused session.new)) };
+
+    /// The listing of some functions, under the order of the variables that the entries below some place leave. It is no call
+    /// of the history.
+    fn list(&self, session: &mut Self::Session, names: &[Name]) -> Result<Listing, Memory>
+        requires own { has self.now session.old }
+        requires room { HasRoom (standing session.old) }
+        requires held { All (IsLive (standing session.old)) names.now }
+        ensures own { has self.now session.new }
+        ensures lists { IfOk result (λ listing. Lists (standing session.old) (standing session.new) names.now listing) };
+}

@@ -1,0 +1,203 @@
+//! The function of a cover, from the rows of the signals that it reads.
+
+ghost use Rattle.std.specs.Prelude.{◌≡◌, ◌≢◌, ◌+◌, ◌<◌, ◌≤◌, ◌^◌, Some, ℕ, Bool, IfErr, IfOk, length, slice_get};
+ghost use Rattle.blif_net.specs.Networks.{cover_value};
+ghost use Rattle.blif_net.specs.declared.net.Literal.TheVariants.{Any};
+ghost use Rattle.function_laws.specs.Values.{conjunction, disjunction, negation};
+ghost use Rattle.net_builds.specs.Products.{Replaces, match_any, match_at, with_fit};
+ghost use Rattle.net_builds.specs.Signals.{HaveRows, HaveValues};
+ghost use Rattle.net_builds.specs.Standings.{Holds, IsCaused, IsHeld, Makes};
+
+use crate::host::{Host, Stop};
+use blif_net::{Cover, Cube, Literal};
+use function_laws::Name;
+
+/// The row of a signal.
+fn row_of(rows: &[Option<Name>], signal: u32) -> Name
+    requires row { (name : Name) × (slice_get rows.now signal ≡ Some (Some name)) }
+    ensures { slice_get rows.now signal ≡ Some (Some result) }
+{
+    match rows[signal as usize] {
+        Some(name) => name,
+        None => unreachable!(),
+    }
+}
+
+/// The literal at a place.
+fn literal_at(literals: &[Literal], at: usize) -> Literal
+    requires { at < length literals.now }
+    ensures { slice_get literals.now at ≡ Some result }
+{
+    literals[at]
+}
+
+/// The product with the complement of a row.
+fn with_complement<H: Host>(
+    host: &H,
+    session: &mut H::Session,
+    row: Name,
+    product: Name,
+) -> Result<Name, Stop<H::Full>>
+    requires own { H.has host.now session.old }
+    requires room { (H.standing session.old).rows + 3 ≤ 2 ^ 25 }
+    requires row { IsHeld (H.standing session.old) row }
+    requires product { IsHeld (H.standing session.old) product }
+    ensures own { H.has host.now session.new }
+    ensures made { IfOk result (λ name. (f g : ℕ → Bool) → Holds (H.standing session.old) row f → Holds (H.standing session.old) product g → Makes (H.standing session.old) (H.standing session.new) name (conjunction (negation f) g)) }
+    ensures caused { IfErr result (IsCaused (H.refused session.new)) }
+{
+    let factor = host.complement(session, row)?;
+    let name = host.conjunction(session, factor, product)?;
+    host.let_go(session, factor);
+    Ok(name)
+}
+
+/// The product with a literal of this row in front, which asks something of it.
+fn with_factor<H: Host>(
+    host: &H,
+    session: &mut H::Session,
+    literal: Literal,
+    row: Name,
+    product: Name,
+) -> Result<Name, Stop<H::Full>>
+    requires own { H.has host.now session.old }
+    requires room { (H.standing session.old).rows + 3 ≤ 2 ^ 25 }
+    requires row { IsHeld (H.standing session.old) row }
+    requires product { IsHeld (H.standing session.old) product }
+    requires asks { literal ≢ Any }
+    ensures own { H.has host.now session.new }
+    ensures made { IfOk result (λ name. (f g : ℕ → Bool) → Holds (H.standing session.old) row f → Holds (H.standing session.old) product g → Makes (H.standing session.old) (H.standing session.new) name (with_fit literal f g)) }
+    ensures caused { IfErr result (IsCaused (H.refused session.new)) }
+{
+    match literal {
+        Literal::Zero => with_complement(host, session, row, product),
+        Literal::One => host.conjunction(session, row, product),
+        Literal::Any => unreachable!(),
+    }
+}
+
+/// The product with a literal of this row in front. The product is let go; where the literal asks nothing it stays as it is.
+fn with_literal<H: Host>(
+    host: &H,
+    session: &mut H::Session,
+    literal: Literal,
+    row: Name,
+    product: Name,
+) -> Result<Name, Stop<H::Full>>
+    requires own { H.has host.now session.old }
+    requires room { (H.standing session.old).rows + 3 ≤ 2 ^ 25 }
+    requires row { IsHeld (H.standing session.old) row }
+    requires product { IsHeld (H.standing session.old) product }
+    ensures own { H.has host.now session.new }
+    ensures made { IfOk result (λ name. (f g : ℕ → Bool) → Holds (H.standing session.old) row f → Holds (H.standing session.old) product g → Replaces (H.standing session.old) (H.standing session.new) product name (with_fit literal f g)) }
+    ensures caused { IfErr result (IsCaused (H.refused session.new)) }
+{
+    if literal == Literal::Any {
+        return Ok(product);
+    }
+    let name = with_factor(host, session, literal, row, product)?;
+    host.let_go(session, product);
+    Ok(name)
+}
+
+/// The product of a row's literals, from the last on, under a new name.
+fn product<H: Host>(
+    host: &H,
+    session: &mut H::Session,
+    literals: &[Literal],
+    ins: &[u32],
+    rows: &[Option<Name>],
+) -> Result<Name, Stop<H::Full>>
+    requires own { H.has host.now session.old }
+    requires room { (H.standing session.old).rows + 4 ≤ 2 ^ 25 }
+    requires rows { HaveRows (H.standing session.old) rows.now ins.now }
+    ensures own { H.has host.now session.new }
+    ensures made { IfOk result (λ name. (values : ℕ → ℕ → Bool) → HaveValues (H.standing session.old) rows.now values ins.now → Makes (H.standing session.old) (H.standing session.new) name (match_at values ins.now literals.now)) }
+    ensures caused { IfErr result (IsCaused (H.refused session.new)) }
+{
+    let mut product = host.constant(session, true)?;
+    let mut at = literals.len().min(ins.len());
+    while at > 0 {
+        at -= 1;
+        let literal = literal_at(literals, at);
+        let row = row_of(rows, ins[at]);
+        product = with_literal(host, session, literal, row, product)?;
+    }
+    Ok(product)
+}
+
+/// The sum with the product of a row behind. The sum and the product are let go.
+fn with_product<H: Host>(
+    host: &H,
+    session: &mut H::Session,
+    cube: &Cube,
+    ins: &[u32],
+    rows: &[Option<Name>],
+    sum: Name,
+) -> Result<Name, Stop<H::Full>>
+    requires own { H.has host.now session.old }
+    requires room { (H.standing session.old).rows + 4 ≤ 2 ^ 25 }
+    requires rows { HaveRows (H.standing session.old) rows.now ins.now }
+    requires sum { IsHeld (H.standing session.old) sum }
+    ensures own { H.has host.now session.new }
+    ensures made { IfOk result (λ name. (values : ℕ → ℕ → Bool) (f : ℕ → Bool) → HaveValues (H.standing session.old) rows.now values ins.now → Holds (H.standing session.old) sum f → Replaces (H.standing session.old) (H.standing session.new) sum name (disjunction f (match_at values ins.now cube.now.literals))) }
+    ensures caused { IfErr result (IsCaused (H.refused session.new)) }
+{
+    let product = product(host, session, cube.literals.as_slice(), ins, rows)?;
+    let name = host.disjunction(session, sum, product)?;
+    host.let_go(session, product);
+    host.let_go(session, sum);
+    Ok(name)
+}
+
+/// The disjunction of a cover's rows, from the first on, under a new name.
+fn sum<H: Host>(
+    host: &H,
+    session: &mut H::Session,
+    cubes: &[Cube],
+    ins: &[u32],
+    rows: &[Option<Name>],
+) -> Result<Name, Stop<H::Full>>
+    requires own { H.has host.now session.old }
+    requires room { (H.standing session.old).rows + 5 ≤ 2 ^ 25 }
+    requires rows { HaveRows (H.standing session.old) rows.now ins.now }
+    ensures own { H.has host.now session.new }
+    ensures made { IfOk result (λ name. (values : ℕ → ℕ → Bool) → HaveValues (H.standing session.old) rows.now values ins.now → Makes (H.standing session.old) (H.standing session.new) name (match_any values ins.now cubes.now)) }
+    ensures caused { IfErr result (IsCaused (H.refused session.new)) }
+{
+    let mut sum = host.constant(session, false)?;
+    for cube in cubes {
+        sum = with_product(host, session, cube, ins, rows, sum)?;
+    }
+    Ok(sum)
+}
+
+/// The function of a cover, under a new name: the disjunction of its rows from the first on, each the product of its literals from
+/// the last on, and the complement of that where the rows tell where the cover is 0.
+pub fn cover<H: Host>(
+    host: &H,
+    session: &mut H::Session,
+    gate: &Cover,
+    rows: &[Option<Name>],
+) -> Result<Name, Stop<H::Full>>
+    requires own { H.has host.now session.old }
+    requires room { (H.standing session.old).rows + 5 ≤ 2 ^ 25 }
+    requires rows { HaveRows (H.standing session.old) rows.now gate.now.ins }
+    ensures own { H.has host.now session.new }
+    ensures made { IfOk result (λ name. (values : ℕ → ℕ → Bool) → HaveValues (H.standing session.old) rows.now values gate.now.ins → Makes (H.standing session.old) (H.standing session.new) name (λ k. cover_value gate.now (λ signal. values signal k))) }
+    ensures caused { IfErr result (IsCaused (H.refused session.new)) }
+{
+    let sum = sum(
+        host,
+        session,
+        gate.rows.as_slice(),
+        gate.ins.as_slice(),
+        rows,
+    )?;
+    if gate.on {
+        return Ok(sum);
+    }
+    let name = host.complement(session, sum)?;
+    host.let_go(session, sum);
+    Ok(name)
+}

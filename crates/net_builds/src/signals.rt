@@ -1,0 +1,127 @@
+//! The functions of a network's outputs.
+
+ghost use Rattle.std.specs.Prelude.{◌≡◌, length, map, replicate, IfErr, IfOk, None};
+ghost use Rattle.blif_net.specs.Bounds.{IsBounded, signal_count};
+ghost use Rattle.net_builds.specs.Building.{IsBegun};
+ghost use Rattle.net_builds.specs.Signals.{BuildsOutputs};
+ghost use Rattle.net_builds.specs.Standings.{IsCaused};
+ghost use Rattle.signal_uses.specs.Uses.{AreLastUses};
+
+use crate::host::{Host, Stop};
+use crate::rows::{make_inputs, make_outputs, note_names};
+use blif_net::Net;
+use edge_bits::Memory;
+use function_laws::Name;
+use signal_uses::last_uses;
+use std::alloc::{AllocError, Global};
+
+/// What is noted while outputs are built: the outputs' signals, the last use of each signal, the signals' rows, and the outputs'
+/// names.
+#[derive(Drop)]
+struct Ledger {
+    own: Vec<u32>,
+    last: Vec<u32>,
+    rows: Vec<Option<Name>>,
+    names: Vec<Name>,
+}
+
+/// The outputs' signals.
+fn output_signals(alloc: Global, net: &Net) -> Result<Vec<u32>, AllocError>
+    ensures { IfOk result (λ own. own.items ≡ map (λ output. output.signal) net.now.outputs) }
+{
+    net.outputs()
+        .iter()
+        .map(|output| output.signal)
+        .collect(alloc)
+}
+
+/// So many signals without a row.
+fn no_rows(alloc: Global, count: usize) -> Result<Vec<Option<Name>>, AllocError>
+    ensures { IfOk result (λ rows. rows.items ≡ replicate count None) }
+{
+    vec![in alloc; None; count]
+}
+
+/// So many names, of no row.
+fn no_names(alloc: Global, count: usize) -> Result<Vec<Name>, AllocError>
+    ensures { IfOk result (λ names. length names.items ≡ count) }
+{
+    vec![in alloc; Name {
+        row: 0,
+        generation: 0
+    }; count]
+}
+
+/// All the memory that the building needs.
+fn begin(alloc: Global, net: &Net) -> Result<Ledger, Memory>
+    requires { IsBounded net.now }
+    ensures { IfOk result (IsBegun net.now) }
+{
+    let own = output_signals(alloc, net)?;
+    let last = last_uses(alloc, net, &own)?;
+    let rows = no_rows(alloc, last.len())?;
+    let names = no_names(alloc, own.len())?;
+    Ok(Ledger {
+        own,
+        last,
+        rows,
+        names,
+    })
+}
+
+/// Builds the outputs and notes their names, where no signal has a row yet.
+fn build_all<H: Host>(
+    host: &H,
+    session: &mut H::Session,
+    net: &Net,
+    own: &[u32],
+    last: &[u32],
+    rows: &mut [Option<Name>],
+    names: &mut [Name],
+) -> Result<(), Stop<H::Full>>
+    requires own { H.has host.now session.old }
+    requires bounded { IsBounded net.now }
+    requires vars { (H.standing session.old).vars ≡ length net.now.inputs }
+    requires none { (H.standing session.old).rows ≡ 0 }
+    requires signals { own.now ≡ map (λ output. output.signal) net.now.outputs }
+    requires last { AreLastUses net.now own.now last.now }
+    requires rows { rows.old ≡ replicate (signal_count net.now) None }
+    requires names { length names.old ≡ length net.now.outputs }
+    ensures own { H.has host.now session.new }
+    ensures built { IfOk result (λ _. BuildsOutputs net.now (H.standing session.old) (H.standing session.new) names.new) }
+    ensures caused { IfErr result (IsCaused (H.refused session.new)) }
+{
+    make_inputs(host, session, net, last, rows)?;
+    make_outputs(host, session, net, last, rows, own)?;
+    note_names(names, rows, own);
+    Ok(())
+}
+
+/// The names of the outputs' functions, in the outputs' order. Only gates that some output needs are built, each when the first
+/// output asks for it, and a signal's row is let go behind the last gate that reads it.
+pub fn build_outputs<H: Host>(
+    alloc: Global,
+    host: &H,
+    session: &mut H::Session,
+    net: &Net,
+) -> Result<Vec<Name>, Stop<H::Full>>
+    requires own { H.has host.now session.old }
+    requires bounded { IsBounded net.now }
+    requires vars { (H.standing session.old).vars ≡ length net.now.inputs }
+    requires none { (H.standing session.old).rows ≡ 0 }
+    ensures own { H.has host.now session.new }
+    ensures built { IfOk result (λ names. BuildsOutputs net.now (H.standing session.old) (H.standing session.new) names.items) }
+    ensures caused { IfErr result (IsCaused (H.refused session.new)) }
+{
+    let Ok(begun) = begin(alloc, net) else {
+        return Err(Stop::Memory);
+    };
+    let Ledger {
+        own,
+        last,
+        mut rows,
+        mut names,
+    } = begun;
+    build_all(host, session, net, &own, &last, &mut rows, &mut names)?;
+    Ok(names)
+}

@@ -1,0 +1,182 @@
+//! What is told of the functions of a network's outputs.
+
+ghost use Rattle.std.specs.Prelude.{◌≡◌, length, map, All, IfErr, IfOk, OnOk};
+ghost use Rattle.function_laws.specs.Values.{assignment_of};
+ghost use Rattle.net_builds.specs.Builds.{Reports, SumsUp};
+ghost use Rattle.net_builds.specs.Handings.{IsTold};
+ghost use Rattle.net_builds.specs.Standings.{Asks, HasRoom, IsCaused, IsLive};
+ghost use Rattle.net_builds.specs.Tellings.{evaluation_in, values_in};
+
+use crate::host::{Host, Stop};
+use blif_net::Net;
+use edge_bits::{List, Memory};
+use function_laws::Name;
+use net_reports::{Evaluation, classes_of, padded, report, summary};
+use std::alloc::Global;
+
+/// The value of each name's function at an assignment.
+fn values<H: Host>(
+    alloc: Global,
+    host: &H,
+    session: &mut H::Session,
+    names: &[Name],
+    bits: &[bool],
+) -> Result<List<bool>, Memory>
+    requires own { H.has host.now session.old }
+    requires room { HasRoom (H.standing session.old) }
+    requires held { All (IsLive (H.standing session.old)) names.now }
+    requires long { length bits.now ≡ (H.standing session.old).vars }
+    ensures own { H.has host.now session.new }
+    ensures asks { OnOk result (Asks (H.standing session.old) (H.standing session.new)) }
+    ensures values { IfOk result (λ values. values ≡ values_in (H.standing session.old) names.now (assignment_of bits.now)) }
+{
+    let mut values = List::new(alloc);
+    for name in names {
+        values.push(host.value(session, *name, bits))?;
+    }
+    Ok(values)
+}
+
+/// A pattern, and the value of each name's function there.
+fn evaluate<H: Host>(
+    alloc: Global,
+    host: &H,
+    session: &mut H::Session,
+    names: &[Name],
+    inputs: usize,
+    pattern: &[bool],
+) -> Result<Evaluation, Memory>
+    requires own { H.has host.now session.old }
+    requires room { HasRoom (H.standing session.old) }
+    requires held { All (IsLive (H.standing session.old)) names.now }
+    requires vars { (H.standing session.old).vars ≡ inputs }
+    ensures own { H.has host.now session.new }
+    ensures asks { OnOk result (Asks (H.standing session.old) (H.standing session.new)) }
+    ensures evaluation { IfOk result (λ evaluation. evaluation ≡ evaluation_in (H.standing session.old) names.now pattern.now) }
+{
+    let bits = padded(alloc, inputs, pattern)?;
+    let values = values(alloc, host, session, names, &bits)?;
+    let pattern = List::from_vec(Vec::from_slice(alloc, pattern)?);
+    Ok(Evaluation { pattern, values })
+}
+
+/// The patterns in turn, with the values of each name's function.
+fn evaluations<H: Host>(
+    alloc: Global,
+    host: &H,
+    session: &mut H::Session,
+    names: &[Name],
+    inputs: usize,
+    patterns: &[List<bool>],
+) -> Result<Vec<Evaluation>, Memory>
+    requires own { H.has host.now session.old }
+    requires room { HasRoom (H.standing session.old) }
+    requires held { All (IsLive (H.standing session.old)) names.now }
+    requires vars { (H.standing session.old).vars ≡ inputs }
+    ensures own { H.has host.now session.new }
+    ensures asks { OnOk result (Asks (H.standing session.old) (H.standing session.new)) }
+    ensures evaluations { IfOk result (λ evaluations. evaluations.items ≡ map (evaluation_in (H.standing session.old) names.now) patterns.now) }
+{
+    let mut evaluations = Vec::new(alloc);
+    for pattern in patterns {
+        let evaluation = evaluate(alloc, host, session, names, inputs, pattern.as_slice())?;
+        evaluations.push(evaluation)?;
+    }
+    Ok(evaluations)
+}
+
+/// The text of a report, from the names of the outputs' functions.
+fn text_of_report<H: Host>(
+    alloc: Global,
+    host: &H,
+    session: &mut H::Session,
+    net: &Net,
+    names: &[Name],
+    patterns: &[List<bool>],
+) -> Result<Vec<u8>, Memory>
+    requires own { H.has host.now session.old }
+    requires room { HasRoom (H.standing session.old) }
+    requires vars { (H.standing session.old).vars ≡ length net.now.inputs }
+    requires held { All (IsLive (H.standing session.old)) names.now }
+    requires many { length names.now ≡ length net.now.outputs }
+    ensures own { H.has host.now session.new }
+    ensures told { IfOk result (λ text. IsTold (Reports net.now patterns.now) (H.standing session.old) (H.standing session.new) names.now text.items) }
+{
+    let listing = host.list(session, names)?;
+    let inputs = net.inputs().len();
+    let evaluations = evaluations(alloc, host, session, names, inputs, patterns)?;
+    let classes = classes_of(alloc, &listing)?;
+    let nodes = listing.node_count();
+    let order = listing.order.as_slice();
+    let text = report(alloc, net, &classes, &evaluations, order, nodes)?;
+    Ok(text)
+}
+
+/// The report of a network whose outputs' functions have these names, with the outputs' values at each pattern.
+pub fn tell_report<H: Host>(
+    alloc: Global,
+    host: &H,
+    session: &mut H::Session,
+    net: &Net,
+    names: &[Name],
+    patterns: &[List<bool>],
+) -> Result<Vec<u8>, Stop<H::Full>>
+    requires own { H.has host.now session.old }
+    requires room { HasRoom (H.standing session.old) }
+    requires vars { (H.standing session.old).vars ≡ length net.now.inputs }
+    requires held { All (IsLive (H.standing session.old)) names.now }
+    requires many { length names.now ≡ length net.now.outputs }
+    ensures own { H.has host.now session.new }
+    ensures told { IfOk result (λ text. IsTold (Reports net.now patterns.now) (H.standing session.old) (H.standing session.new) names.now text.items) }
+    ensures caused { IfErr result (IsCaused (H.refused session.new)) }
+{
+    match text_of_report(alloc, host, session, net, names, patterns) {
+        Ok(text) => Ok(text),
+        Err(Memory) => Err(Stop::Memory),
+    }
+}
+
+/// The text of a summary, from the names of the outputs' functions.
+fn text_of_summary<H: Host>(
+    alloc: Global,
+    host: &H,
+    session: &mut H::Session,
+    net: &Net,
+    names: &[Name],
+) -> Result<Vec<u8>, Memory>
+    requires own { H.has host.now session.old }
+    requires room { HasRoom (H.standing session.old) }
+    requires vars { (H.standing session.old).vars ≡ length net.now.inputs }
+    requires held { All (IsLive (H.standing session.old)) names.now }
+    requires many { length names.now ≡ length net.now.outputs }
+    ensures own { H.has host.now session.new }
+    ensures told { IfOk result (λ text. IsTold (SumsUp net.now) (H.standing session.old) (H.standing session.new) names.now text.items) }
+{
+    let listing = host.list(session, names)?;
+    let classes = classes_of(alloc, &listing)?;
+    let text = summary(alloc, net, &classes, listing.node_count())?;
+    Ok(text)
+}
+
+/// The summary of a network whose outputs' functions have these names.
+pub fn tell_summary<H: Host>(
+    alloc: Global,
+    host: &H,
+    session: &mut H::Session,
+    net: &Net,
+    names: &[Name],
+) -> Result<Vec<u8>, Stop<H::Full>>
+    requires own { H.has host.now session.old }
+    requires room { HasRoom (H.standing session.old) }
+    requires vars { (H.standing session.old).vars ≡ length net.now.inputs }
+    requires held { All (IsLive (H.standing session.old)) names.now }
+    requires many { length names.now ≡ length net.now.outputs }
+    ensures own { H.has host.now session.new }
+    ensures told { IfOk result (λ text. IsTold (SumsUp net.now) (H.standing session.old) (H.standing session.new) names.now text.items) }
+    ensures caused { IfErr result (IsCaused (H.refused session.new)) }
+{
+    match text_of_summary(alloc, host, session, net, names) {
+        Ok(text) => Ok(text),
+        Err(Memory) => Err(Stop::Memory),
+    }
+}
