@@ -19,6 +19,11 @@ def is_legal(job, history):
         return False
 
 
+def plays(row):
+    """Whether what is due is a history."""
+    return row.words == ["play"]
+
+
 def went(program, row):
     """What a run says against the row, or nothing."""
     run = subprocess.run([program, *row.words], input=row.job.encode("latin-1"), capture_output=True)
@@ -26,7 +31,7 @@ def went(program, row):
     if run.returncode != row.status or run.stderr or not row.is_legal and text != row.text:
         return f"status {run.returncode}, {run.stderr!r} on standard error, and this text:\n{text}"
     try:
-        return "" if row.status or is_legal(row.job, text) else f"no legal history:\n{text}"
+        return "" if row.status or not plays(row) or is_legal(row.job, text) else f"no legal history:\n{text}"
     except TooLarge:
         return ""
 
@@ -62,7 +67,7 @@ def main(program, *files):
         if fault:
             print(f"NOT AS DUE {row.name}: {fault}")
             faults += 1
-        elif row.status == 0 and not row.is_legal:
+        elif row.status == 0 and plays(row) and not row.is_legal:
             try:
                 judge(row.job, row.text)
             except TooLarge:

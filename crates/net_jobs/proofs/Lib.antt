@@ -1,3 +1,4 @@
+pub mod BuiltHistories
 pub mod CallLaws
 pub mod CanLemmas
 pub mod CompleteLemmas
@@ -7,6 +8,7 @@ pub mod EndLemmas
 pub mod Gathering
 pub mod Halving
 pub mod History
+pub mod HostLaws
 pub mod Lifting
 pub mod ListLemmas
 pub mod LoopLemmas

@@ -6,6 +6,8 @@ use Rattle.net_jobs.specs.declared.status.Status.TheVariants as status
 abbrev pub code_of : Status → ℕ
 code_of status.Ok = 0
 code_of status.Usage = 2
+code_of status.Blif = 3
+code_of status.Full = 4
 code_of status.Memory = 5
 code_of status.ReadFault = 6
 code_of status.WriteFault = 7

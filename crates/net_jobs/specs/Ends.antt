@@ -1,10 +1,17 @@
 -- How a run may end: each status with its cause, and the text that is told.
-use Rattle.std.specs.Prelude.{◌≡◌, ℕ, ◌≤◌, ◌⊎◌, List, ◌++◌, Option, Some, None, IsSome, length, codes, option_and_then, if◌then◌else◌}
+use Rattle.std.specs.Prelude.{◌≡◌, ℕ, ◌+◌, ◌==◌, ◌≤◌, ◌⊎◌, ◌&&◌, Bool, true, false, not, List, [], ◌++◌, Option, Some, None, length, codes, option_and_then, if◌then◌else◌}
 use Rattle.std.specs.Io.KnownBytes.{Consumes, IsAtEnd}
 use Rattle.std.specs.Fmt.{decimal}
+use Rattle.std.specs.List.{range_with_len}
+use Rattle.blif_net.specs.declared.faults.BlifFault.{BlifFault}
+use Rattle.blif_net.specs.declared.faults.FaultKind.{FaultKind as BlifKind}
+use Rattle.blif_net.specs.declared.faults.FaultKind.TheVariants as blif_kinds
+use Rattle.blif_net.specs.declared.net.Net.{Net}
+use Rattle.blif_net.specs.Faults.{fault_of}
+use Rattle.blif_net.specs.Networks.{IsBlifText}
 use Rattle.command_words.specs.declared.order.Order.{Order}
 use Rattle.command_words.specs.declared.order.Order.TheVariants.{Play, Build, Load, Gen}
-use Rattle.command_words.specs.Orders.{is_play, order_of}
+use Rattle.command_words.specs.Orders.{is_play, order_of, usual_limit}
 use Rattle.job_text.specs.declared.job.Job.{Job}
 use Rattle.job_text.specs.declared.faults.JobFault.{JobFault}
 use Rattle.job_text.specs.declared.faults.FaultKind.{FaultKind}
@@ -13,23 +20,28 @@ use Rattle.job_text.specs.Grammar.{IsJobText}
 use Rattle.job_text.specs.Faults.{IsFaultText}
 use Rattle.job_text.specs.Histories.{IsPlayed}
 use Rattle.byte_streams.specs.Causes.{Rose}
+use Rattle.net_reports.specs.GenTexts.{gen_text}
+use Rattle.net_reports.specs.Reports.{IsReport, IsSummary, net_subject}
 use Rattle.net_jobs.specs.declared.status.Status.{Status}
 use Rattle.net_jobs.specs.declared.status.Status.TheVariants as status
 
--- the commands that run: `play`
+-- the commands that run: `play`, and `build` and `gen` with one worker, without a sift and without a stored text behind the report
+abbrev pub runs : Order → Bool
+runs Play = true
+runs (Build workers limit options) = (workers == 1) && not options.sift && not options.store
+runs (Load patterns) = false
+runs (Gen workers bits) = workers == 1
+
 abbrev pub if_it_runs : Order → Option Order
-if_it_runs Play = Some Play
-if_it_runs (Build workers limit options) = None
-if_it_runs (Load patterns) = None
-if_it_runs (Gen workers bits) = None
+if_it_runs order = if runs order then Some order else None
 
 -- What the words ask for, of the commands that run. What asks for another command is no command yet.
 unfoldable pub asked_of : List (List ℕ) → Option Order
 asked_of words = option_and_then if_it_runs (order_of words)
 
--- it is `play` where the words are `play` alone, and nothing else is asked for by any words
+-- `play` is asked for by the word `play` alone, and by no other words
 abbrev pub PlaysAlone : List (List ℕ) → Type 0
-PlaysAlone words = asked_of words ≡ (if is_play words then Some Play else None)
+PlaysAlone words = (is_play words ≡ true → asked_of words ≡ Some Play) × (is_play words ≡ false → asked_of words ≡ Some Play → ⊥)
 
 -- These bytes are all of the input, as far as the source tells: it had them left, is at its end, and they are not too many.
 pub record IsWhole (left rest : Option (List ℕ)) (bytes : List ℕ) : Type 0 where
@@ -37,7 +49,7 @@ pub record IsWhole (left rest : Option (List ℕ)) (bytes : List ℕ) : Type 0 w
   pub end : IsAtEnd rest
   pub short : length bytes ≤ 67108864
 
--- the name of a kind of fault
+-- the name of a kind of fault of a job
 abbrev pub kind_word : FaultKind → List ℕ
 kind_word kinds.Word = codes "word"
 kind_word kinds.Name = codes "name"
@@ -49,19 +61,77 @@ kind_word kinds.Again = codes "again"
 abbrev pub fault_line : JobFault → List ℕ
 fault_line fault = codes "fault: job " ++ decimal fault.line ++ codes " " ++ kind_word fault.what ++ codes "\n"
 
+-- the name of a kind of fault of a network's text
+abbrev pub blif_word : BlifKind → List ℕ
+blif_word blif_kinds.Word = codes "word"
+blif_word blif_kinds.Row = codes "row"
+blif_word blif_kinds.Mixed = codes "mixed"
+blif_word blif_kinds.Twice = codes "twice"
+blif_word blif_kinds.TooMany = codes "too-many"
+blif_word blif_kinds.LeftOut = codes "left-out"
+blif_word blif_kinds.Undefined = codes "undefined"
+blif_word blif_kinds.Cycle = codes "cycle"
+blif_word blif_kinds.NoOutputs = codes "no-outputs"
+
+abbrev pub blif_line : BlifFault → List ℕ
+blif_line fault = codes "fault: blif " ++ decimal fault.line ++ codes " " ++ blif_word fault.what ++ codes "\n"
+
+-- so many slots are in use, of so many
+abbrev pub full_line : ℕ → ℕ → List ℕ
+full_line in_use limit = codes "fault: full " ++ decimal in_use ++ codes " of " ++ decimal limit ++ codes "\n"
+
+-- the command reads the source
+abbrev pub Reads : Option Order → Type 0
+Reads None = ⊥
+Reads (Some Play) = Unit {0}
+Reads (Some (Build workers limit options)) = Unit {0}
+Reads (Some (Load patterns)) = Unit {0}
+Reads (Some (Gen workers bits)) = ⊥
+
+-- the variables of a network in the order of its inputs
+abbrev pub rising : Net → List ℕ
+rising net = range_with_len 0 (length net.inputs)
+
+-- What a command tells: `play` the history of the job that it read, `build` the report of the network that it read, `gen` the summary of the network that is made. The source had `left` left when the run began and has `rest` left.
+abbrev pub IsDone : Option Order → Option (List ℕ) → Option (List ℕ) → List ℕ → Type 0
+IsDone None left rest text = ⊥
+IsDone (Some Play) left rest text = (bytes : List ℕ) × (job : Job) × IsWhole left rest bytes × IsJobText bytes job × IsPlayed job text
+IsDone (Some (Build workers limit options)) left rest text =
+    (bytes : List ℕ) × (net : Net) × IsWhole left rest bytes × IsBlifText bytes net × IsReport (net_subject net (rising net) options.patterns) text
+IsDone (Some (Load patterns)) left rest text = ⊥
+IsDone (Some (Gen workers bits)) left rest text =
+    (rest ≡ left) × (net : Net) × IsBlifText (gen_text bits) net × IsSummary (net_subject net (rising net) []) text
+
+-- What is told of a full manager: 5 slots, one for each input and the limit are in use, of as many.
+abbrev pub IsFilled : Option Order → Option (List ℕ) → Option (List ℕ) → List ℕ → Type 0
+IsFilled None left rest text = ⊥
+IsFilled (Some Play) left rest text = ⊥
+IsFilled (Some (Build workers limit options)) left rest text =
+    (bytes : List ℕ) × (net : Net) × IsWhole left rest bytes × IsBlifText bytes net × (text ≡ full_line (5 + length net.inputs + limit) (5 + length net.inputs + limit))
+IsFilled (Some (Load patterns)) left rest text = ⊥
+IsFilled (Some (Gen workers bits)) left rest text =
+    (rest ≡ left) × (net : Net) × IsBlifText (gen_text bits) net × (text ≡ full_line (5 + length net.inputs + usual_limit) (5 + length net.inputs + usual_limit))
+
+-- a fault of the text of a network that was to be built
+abbrev pub IsFaulty : Option Order → Option (List ℕ) → Option (List ℕ) → List ℕ → Type 0
+IsFaulty (Some (Build workers limit options)) left rest text =
+    (bytes : List ℕ) × (fault : BlifFault) × IsWhole left rest bytes × (fault_of bytes ≡ Some fault) × (text ≡ blif_line fault)
+IsFaulty _ left rest text = ⊥
+
 -- What there is to tell: a status with its cause, and its text. The source had `left` left when the run began and has `rest`
 -- left; `failed` says that its count of faults rose. Want of memory alone has no cause. A failing sink is told of by itself.
 abbrev pub Due : Option Order → Option (List ℕ) → Option (List ℕ) → Type 0 → Status → List ℕ → Type 0
-Due order left rest failed status.Ok text =
-    (order ≡ Some Play) × (bytes : List ℕ) × (job : Job) × IsWhole left rest bytes × IsJobText bytes job × IsPlayed job text
+Due order left rest failed status.Ok text = IsDone order left rest text
 Due order left rest failed status.Usage text = (order ≡ None) × (text ≡ codes "fault: usage\n")
+Due order left rest failed status.Blif text = IsFaulty order left rest text
+Due order left rest failed status.Full text = IsFilled order left rest text
 Due order left rest failed status.Memory text = text ≡ codes "fault: memory\n"
-Due order left rest failed status.ReadFault text = IsSome order × failed × (text ≡ codes "fault: read\n")
+Due order left rest failed status.ReadFault text = Reads order × failed × (text ≡ codes "fault: read\n")
 Due order left rest failed status.WriteFault text = ⊥
 Due order left rest failed status.Job text =
     (order ≡ Some Play) × (bytes : List ℕ) × (fault : JobFault) × IsWhole left rest bytes × IsFaultText bytes fault.line fault.what × (text ≡ fault_line fault)
 Due order left rest failed status.TooLong text =
-    IsSome order × (bytes : List ℕ) × Consumes left rest bytes × (length bytes ≡ 67108865) × (text ≡ codes "fault: too long\n")
+    Reads order × (bytes : List ℕ) × Consumes left rest bytes × (length bytes ≡ 67108865) × (text ≡ codes "fault: too long\n")
 
 -- Where the words are `play`, the source tells what it has left, which is the text of a job and not too long, and its count of
 -- faults did not rise, there is the history to tell, or want of memory.
@@ -69,3 +139,10 @@ abbrev pub IsComplete : Type 0
 IsComplete = (bytes : List ℕ) (job : Job) (rest : Option (List ℕ)) (before now : ℕ) (ended : Status) (text : List ℕ)
     → IsJobText bytes job → length bytes ≤ 67108864 → (Rose before now → ⊥)
     → Due (Some Play) (Some bytes) rest (Rose before now) ended text → (ended ≡ status.Ok) ⊎ (ended ≡ status.Memory)
+
+-- Where the words ask for a network to be built that the source has left, there is its report to tell, or want of memory, or
+-- that the manager is full; and so it is where they ask for a network that is made.
+abbrev pub IsCompleteForNetworks : Type 0
+IsCompleteForNetworks = (order : Order) (bytes : List ℕ) (net : Net) (rest : Option (List ℕ)) (before now : ℕ) (ended : Status) (text : List ℕ)
+    → (order ≡ Play → ⊥) → IsBlifText bytes net → length bytes ≤ 67108864 → (Rose before now → ⊥)
+    → Due (Some order) (Some bytes) rest (Rose before now) ended text → (ended ≡ status.Ok) ⊎ ((ended ≡ status.Memory) ⊎ (ended ≡ status.Full))

@@ -1,10 +1,13 @@
 -- A refusal's status and line.
 use Rattle.std.specs.Prelude.{ℕ, List, codes}
-use Rattle.net_jobs.specs.declared.top.Refusal.{Refusal}
-use Rattle.net_jobs.specs.declared.top.Refusal.TheVariants as refusal
+use Rattle.net_jobs.specs.declared.refusal.Refusal.{Refusal}
+use Rattle.net_jobs.specs.declared.refusal.Refusal.TheVariants as refusal
 use Rattle.net_jobs.specs.declared.status.Status.{Status}
 use Rattle.net_jobs.specs.declared.status.Status.TheVariants as status
-use Rattle.net_jobs.specs.Ends.{fault_line}
+use Rattle.dd_session.specs.declared.answers.Full.{Full}
+use Rattle.net_builds.specs.declared.host.Stop.{Stop}
+use Rattle.net_builds.specs.declared.host.Stop.TheVariants as stops
+use Rattle.net_jobs.specs.Ends.{blif_line, fault_line, full_line}
 
 abbrev pub status_of : Refusal → Status
 status_of refusal.Usage = status.Usage
@@ -12,6 +15,8 @@ status_of refusal.Memory = status.Memory
 status_of refusal.Read = status.ReadFault
 status_of refusal.TooLong = status.TooLong
 status_of (refusal.Job fault) = status.Job
+status_of (refusal.Blif fault) = status.Blif
+status_of (refusal.Full full) = status.Full
 
 abbrev pub refusal_line : Refusal → List ℕ
 refusal_line refusal.Usage = codes "fault: usage\n"
@@ -19,3 +24,10 @@ refusal_line refusal.Memory = codes "fault: memory\n"
 refusal_line refusal.Read = codes "fault: read\n"
 refusal_line refusal.TooLong = codes "fault: too long\n"
 refusal_line (refusal.Job fault) = fault_line fault
+refusal_line (refusal.Blif fault) = blif_line fault
+refusal_line (refusal.Full full) = full_line full.in_use full.limit
+
+-- what a part's stop is told as
+abbrev pub part_refusal : Stop Full → Refusal
+part_refusal stops.Memory = refusal.Memory
+part_refusal (stops.Full full) = refusal.Full full

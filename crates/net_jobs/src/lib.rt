@@ -2,11 +2,15 @@
 #![tactic(auto)]
 
 mod answering;
+mod finding;
 mod gate;
 mod halves;
+mod hosting;
+mod networks;
 mod operating;
 mod performing;
 mod playing;
+mod refusal;
 mod registers;
 mod said;
 mod section;
@@ -15,7 +19,9 @@ mod top;
 
 pub use byte_streams::{Bytes, Discard, Failed, Pieces, Sink, Source, SureBytes};
 pub use gate::{Gate, Open};
+pub use hosting::SessionHost;
+pub use networks::{PartStop, build, generate};
 pub use playing::play;
 pub use said::Said;
 pub use status::Status;
-pub use top::{plays_are_complete, refuse_memory, run};
+pub use top::{builds_are_complete, plays_are_complete, refuse_memory, run};

@@ -10,6 +10,10 @@ pub enum Status {
     Ok,
     /// The words are not a command.
     Usage,
+    /// The text is not that of a network.
+    Blif,
+    /// A call of a session found no free slot.
+    Full,
     /// Memory was wanting.
     Memory,
     /// A read failed.
@@ -30,6 +34,8 @@ impl Status {
         match self {
             Status::Ok => 0,
             Status::Usage => 2,
+            Status::Blif => 3,
+            Status::Full => 4,
             Status::Memory => 5,
             Status::ReadFault => 6,
             Status::WriteFault => 7,

@@ -12,13 +12,14 @@ mod row;
 mod tests;
 mod told;
 
+use std::random::RandomSource;
 use std::rt::Files;
 use std::sync::Wait;
 use std::thread::Threads;
 use std::{env, fs, io};
 
 /// Plays the rows of a file.
-fn play_file<R: AllocGlobal + Files + Print + Threads + Wait + Sync>(
+fn play_file<R: AllocGlobal + Files + Print + Threads + Wait + Sync + RandomSource>(
     rt: &R,
     file: &str,
 ) -> io::Result<()> {

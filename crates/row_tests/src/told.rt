@@ -4,6 +4,7 @@ use crate::row::{Due, Judge, Row};
 use net_jobs::{Bytes, Gate, Pieces, run};
 use std::alloc::{AllocError, Global};
 use std::fmt;
+use std::random::RandomSource;
 use std::sync::Wait;
 use std::sync::atomic::{AtomicU32, Ordering};
 use std::thread::Threads;
@@ -74,7 +75,7 @@ fn words_of(alloc: Global, line: &str) -> Result<Vec<String>, AllocError> {
 }
 
 /// Runs a command line from the source to the sink.
-fn answer_of<R: Threads + Wait + Sync>(
+fn answer_of<R: Threads + Wait + Sync + RandomSource>(
     rt: &R,
     alloc: Global,
     line: &str,
@@ -96,7 +97,7 @@ fn answer_of<R: Threads + Wait + Sync>(
 }
 
 /// How a row goes that is played, where no line of it is malformed.
-fn outcome_of<R: Threads + Wait + Sync>(
+fn outcome_of<R: Threads + Wait + Sync + RandomSource>(
     rt: &R,
     alloc: Global,
     row: Row,
@@ -124,7 +125,11 @@ fn outcome_of<R: Threads + Wait + Sync>(
 }
 
 /// Plays a row.
-pub fn play<R: Threads + Wait + Sync>(rt: &R, alloc: Global, row: Row) -> Result<Told, AllocError> {
+pub fn play<R: Threads + Wait + Sync + RandomSource>(
+    rt: &R,
+    alloc: Global,
+    row: Row,
+) -> Result<Told, AllocError> {
     let name = row.name.clone()?;
     let outcome = outcome_of(rt, alloc, row)?;
     Ok(Told { name, outcome })

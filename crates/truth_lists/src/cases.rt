@@ -7,6 +7,7 @@ use crate::registers::Register;
 use edge_bits::Memory;
 use std::alloc::{AllocError, Global};
 use std::fmt::Display;
+use std::random::RandomSource;
 use std::sync::Wait;
 use std::thread::Threads;
 use std::{fmt, io};
@@ -44,7 +45,7 @@ pub fn make<C: Command>(job: &mut Job, command: C) -> Result<(), AllocError> {
 }
 
 /// A command for each function.
-pub fn for_each<R: Print + Threads + Wait + Sync, C: Command, F: Fn(u8) -> C>(
+pub fn for_each<R: Print + RandomSource + Threads + Wait + Sync, C: Command, F: Fn(u8) -> C>(
     rt: &R,
     job: Job,
     name: &str,
@@ -59,7 +60,7 @@ pub fn for_each<R: Print + Threads + Wait + Sync, C: Command, F: Fn(u8) -> C>(
 }
 
 /// A command for each pair of functions.
-pub fn for_pairs<R: Print + Threads + Wait + Sync, C: Command, F: Fn(u8, u8) -> C>(
+pub fn for_pairs<R: Print + RandomSource + Threads + Wait + Sync, C: Command, F: Fn(u8, u8) -> C>(
     rt: &R,
     job: Job,
     name: &str,
@@ -74,12 +75,11 @@ pub fn for_pairs<R: Print + Threads + Wait + Sync, C: Command, F: Fn(u8, u8) -> 
 }
 
 /// A command for each function and each variable or element.
-pub fn for_digits<R: Print + Threads + Wait + Sync, C: Command, F: Fn(u8, Digit) -> C>(
-    rt: &R,
-    job: Job,
-    name: &str,
-    command: F,
-) -> io::Result<()>
+pub fn for_digits<
+    R: Print + RandomSource + Threads + Wait + Sync,
+    C: Command,
+    F: Fn(u8, Digit) -> C,
+>(rt: &R, job: Job, name: &str, command: F) -> io::Result<()>
     requires { F.IsAlwaysCallable command }
 {
     tell(rt, job, name, 3 * FUNCTIONS, |job, case| {
@@ -100,7 +100,7 @@ impl Display for Bits {
 }
 
 /// Asks for each value of each function of a table.
-pub fn for_values<R: Print + Threads + Wait + Sync>(
+pub fn for_values<R: Print + RandomSource + Threads + Wait + Sync>(
     rt: &R,
     job: Job,
     name: &str,
@@ -114,13 +114,10 @@ pub fn for_values<R: Print + Threads + Wait + Sync>(
 }
 
 /// Adds all cases to a job, plays it, and prints how many are as due.
-pub fn tell<R: Print + Threads + Wait + Sync, F: Fn(&mut Job, usize) -> Result<(), AllocError>>(
-    rt: &R,
-    mut job: Job,
-    name: &str,
-    cases: usize,
-    add: F,
-) -> io::Result<()>
+pub fn tell<
+    R: Print + RandomSource + Threads + Wait + Sync,
+    F: Fn(&mut Job, usize) -> Result<(), AllocError>,
+>(rt: &R, mut job: Job, name: &str, cases: usize, add: F) -> io::Result<()>
     requires { F.IsAlwaysCallable add }
 {
     for case in 0..cases {

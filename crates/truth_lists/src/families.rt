@@ -9,6 +9,7 @@ use crate::{cases, lists, words};
 use edge_bits::Memory;
 use std::alloc::{AllocError, Global};
 use std::fmt::Display;
+use std::random::RandomSource;
 use std::sync::Wait;
 use std::thread::Threads;
 use std::{fmt, io};
@@ -74,7 +75,10 @@ fn table(alloc: Global) -> Result<Job, AllocError> {
 }
 
 /// Prints how many cases of families are as due.
-pub fn print<R: Print + Threads + Wait + Sync>(rt: &R, alloc: Global) -> io::Result<()> {
+pub fn print<R: Print + RandomSource + Threads + Wait + Sync>(
+    rt: &R,
+    alloc: Global,
+) -> io::Result<()> {
     for_values(rt, table(alloc)?, "members", 's')?;
     tell(rt, table(alloc)?, "empty, base and single", 5, constant)?;
     for_pairs(rt, table(alloc)?, "union", Command::Union)?;

@@ -5,6 +5,7 @@ use crate::registers::Register;
 use net_jobs::{Open, Pieces, SureBytes, run};
 use std::alloc::{AllocError, Global};
 use std::fmt::{Display, Write};
+use std::random::RandomSource;
 use std::sync::Wait;
 use std::thread::Threads;
 
@@ -124,7 +125,10 @@ impl Job {
     }
 
     /// The text of the job's history.
-    pub fn history<R: Threads + Wait + Sync>(&self, rt: &R) -> Result<String, AllocError> {
+    pub fn history<R: RandomSource + Threads + Wait + Sync>(
+        &self,
+        rt: &R,
+    ) -> Result<String, AllocError> {
         let alloc = self.alloc;
         let mut source = SureBytes::new(Vec::from_slice(alloc, self.text.as_bytes())?);
         let mut sink = Pieces::new(Vec::new(alloc), usize::MAX, Vec::new(alloc));
@@ -134,7 +138,10 @@ impl Job {
     }
 
     /// Plays the job, and counts the replies that are as due.
-    pub fn tally<R: Threads + Wait + Sync>(&self, rt: &R) -> Result<Tally, AllocError> {
+    pub fn tally<R: RandomSource + Threads + Wait + Sync>(
+        &self,
+        rt: &R,
+    ) -> Result<Tally, AllocError> {
         let history = self.history(rt)?;
         let mut tally = Tally::NONE;
         for (line, due) in history.lines().zip(&self.due) {

@@ -14,6 +14,7 @@ use std::alloc::{AllocError, Global};
 use std::collections::BTreeMap;
 use std::fmt::Display;
 use std::io;
+use std::random::RandomSource;
 use std::sync::Wait;
 use std::thread::Threads;
 
@@ -300,14 +301,20 @@ impl Functions {
 }
 
 /// Prints how many cases of functions of numbers are as due.
-pub fn print<R: Print + Threads + Wait + Sync>(rt: &R, alloc: Global) -> io::Result<()> {
+pub fn print<R: Print + RandomSource + Threads + Wait + Sync>(
+    rt: &R,
+    alloc: Global,
+) -> io::Result<()> {
     values(rt, alloc)?;
     of_one_variable(rt, alloc)?;
     of_two_variables(rt, alloc)
 }
 
 /// Asks for each value of each function of two variables.
-fn values<R: Print + Threads + Wait + Sync>(rt: &R, alloc: Global) -> io::Result<()> {
+fn values<R: Print + RandomSource + Threads + Wait + Sync>(
+    rt: &R,
+    alloc: Global,
+) -> io::Result<()> {
     let mut functions = Functions::new(alloc, 2, 10_000)?;
     for case in 0..4 * TWOS {
         functions.ask(of_two(case / 4), case % 4)?;
@@ -316,7 +323,10 @@ fn values<R: Print + Threads + Wait + Sync>(rt: &R, alloc: Global) -> io::Result
 }
 
 /// Each operation on all pairs of functions of one variable.
-fn of_one_variable<R: Print + Threads + Wait + Sync>(rt: &R, alloc: Global) -> io::Result<()> {
+fn of_one_variable<R: Print + RandomSource + Threads + Wait + Sync>(
+    rt: &R,
+    alloc: Global,
+) -> io::Result<()> {
     for operation in [
         Operation::Plus,
         Operation::Minus,
@@ -335,7 +345,10 @@ fn of_one_variable<R: Print + Threads + Wait + Sync>(rt: &R, alloc: Global) -> i
 }
 
 /// Commands on functions of two variables.
-fn of_two_variables<R: Print + Threads + Wait + Sync>(rt: &R, alloc: Global) -> io::Result<()> {
+fn of_two_variables<R: Print + RandomSource + Threads + Wait + Sync>(
+    rt: &R,
+    alloc: Global,
+) -> io::Result<()> {
     tried(rt, alloc, 2, "plus", TWOS * TWOS, |case| {
         let (f, g) = (of_two(case / TWOS), of_two(case));
         Command::Pointwise(Operation::Plus, f, g)
@@ -360,7 +373,7 @@ fn of_two_variables<R: Print + Threads + Wait + Sync>(rt: &R, alloc: Global) -> 
 
 /// Adds the commands that end well to one job, and plays each of the others, at which a session stops, in a job of its own.
 /// Prints how many are as due.
-fn tried<R: Print + Threads + Wait + Sync, F: Fn(usize) -> Command>(
+fn tried<R: Print + RandomSource + Threads + Wait + Sync, F: Fn(usize) -> Command>(
     rt: &R,
     alloc: Global,
     variables: u32,
@@ -389,7 +402,7 @@ fn tried<R: Print + Threads + Wait + Sync, F: Fn(usize) -> Command>(
 }
 
 /// Plays a command in a job of its own.
-fn alone<R: Threads + Wait + Sync>(
+fn alone<R: RandomSource + Threads + Wait + Sync>(
     rt: &R,
     alloc: Global,
     variables: u32,

@@ -12,6 +12,7 @@ use crate::{cases, lists, words};
 use edge_bits::Memory;
 use std::alloc::{AllocError, Global};
 use std::fmt::Display;
+use std::random::RandomSource;
 use std::sync::Wait;
 use std::thread::Threads;
 use std::{fmt, io};
@@ -165,7 +166,10 @@ fn of_two(number: usize) -> u8 {
 const STEP: usize = 10_368_889;
 
 /// Prints how many cases of functions of three variables are as due.
-pub fn print<R: Print + Threads + Wait + Sync>(rt: &R, alloc: Global) -> io::Result<()> {
+pub fn print<R: Print + RandomSource + Threads + Wait + Sync>(
+    rt: &R,
+    alloc: Global,
+) -> io::Result<()> {
     for_values(rt, table(alloc)?, "values", 'd')?;
     for_each(rt, table(alloc)?, "not", Command::Not)?;
     for_pairs(rt, table(alloc)?, "and", Command::And)?;
@@ -208,7 +212,10 @@ fn compare(job: &mut Job, f: u8, g: u8) -> Result<(), AllocError> {
 }
 
 /// Choices by a function between two others.
-fn choices_of_functions<R: Print + Threads + Wait + Sync>(rt: &R, alloc: Global) -> io::Result<()> {
+fn choices_of_functions<R: Print + RandomSource + Threads + Wait + Sync>(
+    rt: &R,
+    alloc: Global,
+) -> io::Result<()> {
     tell(
         rt,
         table(alloc)?,
@@ -226,7 +233,10 @@ fn choices_of_functions<R: Print + Threads + Wait + Sync>(rt: &R, alloc: Global)
 }
 
 /// Quantifiers over each list of variables; of two functions, over one list for each pair.
-fn quantifiers<R: Print + Threads + Wait + Sync>(rt: &R, alloc: Global) -> io::Result<()> {
+fn quantifiers<R: Print + RandomSource + Threads + Wait + Sync>(
+    rt: &R,
+    alloc: Global,
+) -> io::Result<()> {
     tell(rt, table(alloc)?, "exists", 16 * FUNCTIONS, |job, case| {
         let [f, ..] = (case / 16).to_le_bytes();
         make(job, Command::Exists(f, Variables(case)))
@@ -241,7 +251,10 @@ fn quantifiers<R: Print + Threads + Wait + Sync>(rt: &R, alloc: Global) -> io::R
 }
 
 /// Functions put for variables.
-fn compositions<R: Print + Threads + Wait + Sync>(rt: &R, alloc: Global) -> io::Result<()> {
+fn compositions<R: Print + RandomSource + Threads + Wait + Sync>(
+    rt: &R,
+    alloc: Global,
+) -> io::Result<()> {
     tell(rt, table(alloc)?, "compose", 3 * PAIRS, |job, case| {
         let [f, g, ..] = (case / 3).to_le_bytes();
         make(job, Command::Compose(f, Digit::of(case), g))
@@ -259,7 +272,10 @@ fn compositions<R: Print + Threads + Wait + Sync>(rt: &R, alloc: Global) -> io::
 }
 
 /// Restrictions of each function to each condition. What they answer is read value by value, and judged.
-fn restrictions<R: Print + Threads + Wait + Sync>(rt: &R, alloc: Global) -> io::Result<()> {
+fn restrictions<R: Print + RandomSource + Threads + Wait + Sync>(
+    rt: &R,
+    alloc: Global,
+) -> io::Result<()> {
     let mut job = table(alloc)?;
     for pair in 0..PAIRS {
         let [f, c, ..] = pair.to_le_bytes();

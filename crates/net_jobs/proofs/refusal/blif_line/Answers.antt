@@ -1,5 +1,5 @@
 use Rattle.std.proofs.Common.{rules, append_assoc}
-use Rattle.net_jobs.proofs.top.job_line.Goals as goal
+use Rattle.net_jobs.proofs.refusal.blif_line.Goals as goal
 
 pub returns : goal.returns
 returns c = simp append_assoc (search rules)

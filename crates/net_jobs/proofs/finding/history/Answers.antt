@@ -2,7 +2,7 @@ use Rattle.std.proofs.Common.{◌≤◌, ◌∙◌, ◌++◌, List, ap, length, 
 use Rattle.dd_session.specs.Managing.{AreAll, IsClosed, Seen, opened}
 use Rattle.net_jobs.specs.Plays.{AllCan, AreNumbered, PlaysIn}
 use Rattle.net_jobs.proofs.Opening.{IsFor, are_all, are_numbered, can_play, few_sessions, is_played, written_back}
-use Rattle.net_jobs.proofs.top.history.Goals as goal
+use Rattle.net_jobs.proofs.finding.history.Goals as goal
 
 pub play-requires-clause-can : goal.play-requires-clause-can
 play-requires-clause-can g c κs within =

@@ -1,0 +1,138 @@
+-- One session that built a network, in the history that the closing of its manager tells.
+use Rattle.std.proofs.Common.{◌≡◌, ◌⊎◌, Bool, Option, ℕ, zero, suc, ◌+◌, ◌*◌, Result, Ok, Err, IfErr, inr, ◌<◌, ◌≤◌, List, [], ◌∷◌, ◌++◌, length, map, take, drop, All, Contains, refl, ap, sym, ◌∙◌, subst, arith}
+use mathlib.Core.Option.{some}
+use lib.ListN.{get_elem?}
+use Rattle.std.proofs.Math.Seq.{take-append_seam}
+use Rattle.std.proofs.lemmas.List.Elements.{All-cons, All-head, All-nil, All-tail}
+use Rattle.std.specs.Prelude.{slice_set}
+use Rattle.blif_net.specs.declared.net.Net.{Net}
+use Rattle.blif_net.specs.Networks.{IsBlifText}
+use Rattle.net_reports.specs.GenTexts.{gen_text}
+use Rattle.function_laws.specs.declared.history.Entry.{Entry}
+use Rattle.function_laws.specs.declared.history.Function.{Function}
+use Rattle.function_laws.specs.declared.history.Name.{Name}
+use Rattle.function_laws.specs.EntryOrders.{opening_orders, orders_from}
+use Rattle.function_laws.specs.Histories.{table_after}
+use Rattle.function_laws.specs.SessionEntries.{Each, entries_of}
+use Rattle.function_laws.specs.Sizes.{Orders}
+use Rattle.function_laws.specs.Tables.{Sizes, opening}
+use Rattle.seat_guard.specs.declared.view.Noted.{Noted}
+use Rattle.seat_guard.specs.Notes.{IsNotedIn}
+use Rattle.dd_session.specs.declared.answers.Full.{Full}
+use Rattle.dd_session.specs.Managing.{AreAll, IsHistoryOf, Managed, Seen, newcomer, sizes_for}
+use Rattle.net_builds.specs.declared.handing.Handover.{Handover}
+use Rattle.net_builds.specs.declared.host.Stop.{Stop}
+use Rattle.net_builds.specs.declared.host.Stop.TheVariants as stops
+use Rattle.net_builds.specs.Builds.{AllGain, Builds, Reports, ReportsAreTrue, SummariesAreTrue, SumsUp}
+use Rattle.net_builds.specs.Builds as builds
+use Rattle.net_builds.specs.Standings.{IsCaused, Note, Standing}
+use Rattle.net_reports.specs.Reports.{IsReport, IsSummary, net_subject}
+use Rattle.net_jobs.specs.Ends.{rising}
+use Rattle.net_jobs.specs.Hosts.{IsRefusedBy, standing_of}
+use Rattle.net_jobs.specs.Networks.{IsRefusedIn}
+
+-- what a note of the orders tells of the variables
+abbrev note_of : Noted → Note
+note_of noted = record { place = noted.place; order = noted.variable_order }
+
+-- a note is right of the history
+abbrev IsRight : Sizes → List Entry → Note → Type 0
+IsRight sizes log note = (orders_from (opening_orders sizes) (take note.place log)).variables ≡ note.order
+
+all_noted : (sizes : Sizes) (log : List Entry) (noted : List Noted) → Each (IsNotedIn sizes log) noted → All (IsRight sizes log) (map note_of noted)
+all_noted sizes log [] each = All-nil (IsRight sizes log)
+all_noted sizes log (note ∷ noted) each =
+    All-cons (IsRight sizes log) (note_of note) (map note_of noted) (ap (λ (o : Orders). o.variables) each.0.1) (all_noted sizes log noted each.1)
+
+-- of one session
+pub history_of : (m : Managed) (s : Seen) (n : ℕ) (h : IsHistoryOf m (s ∷ []) n) → builds.IsHistoryOf (sizes_for m.vars m.elements) h.log (standing_of s ∷ [])
+history_of m s n h = record {
+  legal = h.legal;
+  each = one (λ (t : Standing). entries_of t.number h.log ≡ t.entries) (h.each 0 s refl);
+  rows = one (λ (t : Standing). (name : Name) → (table_after (opening (sizes_for m.vars m.elements)) h.log).live t.number name ≡ t.stands name)
+      (λ name. ap (λ (f : Name → Option Function). f name) (h.rows 0 s refl));
+  noted = one (λ (t : Standing). All (IsRight (sizes_for m.vars m.elements) h.log) t.notes) (all_noted (sizes_for m.vars m.elements) h.log s.noted (h.noted 0 s refl));
+  no_other = λ p apart. h.no_other p (λ k t at is. only k t at p is (All-head (λ (t : Standing). t.number ≡ p → ⊥) (standing_of s) [] apart));
+}
+  where
+    one : (P : Standing → Type 0) → P (standing_of s) → All P (standing_of s ∷ [])
+    one P p = All-cons P (standing_of s) [] p (All-nil P)
+
+    first : (t : Seen) → get_elem? (s ∷ []) 0 ≡ some t → s ≡ t
+    first t at = cc
+
+    none : (k : ℕ) (t : Seen) → get_elem? (s ∷ []) (suc k) ≡ some t → ⊥
+    none zero t at = cc
+    none (suc k) t at = cc
+
+    only : (k : ℕ) (t : Seen) → get_elem? (s ∷ []) k ≡ some t → (p : ℕ) → t.number ≡ p → (s.number ≡ p → ⊥) → ⊥
+    only zero t at p is apart = apart (ap (λ (x : Seen). x.number) (first t at) ∙ is)
+    only (suc k) t at p is apart = none k t at
+
+-- as many sessions as there were gained
+one_more : (handovers : List Handover) (a : Standing) (new : List Seen) → AllGain handovers (a ∷ []) (map standing_of new) → (s : Seen) × (new ≡ s ∷ []) × (s.number ≡ a.number)
+one_more handovers a [] gains = absurd gains
+one_more handovers a (s ∷ []) gains = (s, refl, gains.4)
+one_more handovers a (s ∷ t ∷ rest) gains = absurd gains.5
+
+module _ (m : Managed) (Tells : List (ℕ → Bool) → List ℕ → List ℕ → Type 0) (net : Net) (new : List Seen) (text : List ℕ) (own : All (λ (s : Seen). s.manager ≡ m) new)
+    (built : Builds Tells net (map standing_of (newcomer m 0 ∷ [])) (map standing_of new) text) where
+  abbrev only : (s : Seen) × (new ≡ s ∷ []) × (s.number ≡ 0)
+  only = one_more built.handovers (standing_of (newcomer m 0)) new built.gains
+
+  -- it is all sessions of its manager
+  pub are_all : m.sessions ≡ 1 → AreAll m new
+  are_all one = record {
+    own = own;
+    as_many = ap length only.1 ∙ sym one;
+    covered = λ p less. (0, only.0, ap (λ xs. get_elem? xs 0) only.1, only.2 ∙ (let n = one in omega (arith, n, less)));
+  }
+
+  -- the slice that was lent has it
+  pub written_back : (items : List Seen) (n : ℕ) → items ≡ newcomer m 0 ∷ [] → n ≡ length items → take n (new ++ drop (length new) items) ≡ new
+  written_back items n at long =
+      let many = ap length only.1 in
+      let same = ap (length {A = Seen}) at in ap (λ k. take k (new ++ drop (length new) items)) (omega (arith, long, many, same)) ∙ take-append_seam new (drop (length new) items)
+
+  history : (n : ℕ) (h : IsHistoryOf m new n) → (log : List Entry) × builds.IsHistoryOf (sizes_for m.vars m.elements) log (map standing_of new)
+  history n h =
+      let one : IsHistoryOf m (only.0 ∷ []) n = subst (λ (xs : List Seen). IsHistoryOf m xs n) only.1 h in
+      (one.log, subst (λ (xs : List Seen). builds.IsHistoryOf (sizes_for m.vars m.elements) one.log (map standing_of xs)) (sym only.1) (history_of m only.0 n one))
+
+  vars_are : m.vars ≡ length net.inputs → All (λ (s : Standing). s.vars ≡ length net.inputs) (map standing_of new)
+  vars_are vars =
+      subst (λ (xs : List Seen). All (λ (s : Standing). s.vars ≡ length net.inputs) (map standing_of xs)) (sym only.1)
+      (All-cons (λ (t : Standing). t.vars ≡ length net.inputs) (standing_of only.0) [] (ap (λ (x : Managed). x.vars) (All-head (λ (s : Seen). s.manager ≡ m) only.0 [] (subst (All (λ (s : Seen). s.manager ≡ m)) only.1 own)) ∙ vars) (All-nil (λ (t : Standing). t.vars ≡ length net.inputs)))
+
+  none_before : All (λ (s : Standing). s.entries ≡ []) (map standing_of (newcomer m 0 ∷ []))
+  none_before = All-cons (λ (t : Standing). t.entries ≡ []) (standing_of (newcomer m 0)) [] refl (All-nil (λ (t : Standing). t.entries ≡ []))
+
+-- a call of one of the sessions was refused so
+pub refused_in : (sessions : List Seen) (s : Seen) → Contains sessions s → (stop : Stop Full) → IsCaused (IsRefusedBy s) stop → IsRefusedIn sessions stop
+refused_in sessions s has stops.Memory caused = tt
+refused_in sessions s has (stops.Full full) caused = (s, has, caused)
+
+first_there : (sessions : List Seen) (s : Seen) → length sessions ≡ 1 → Contains (slice_set sessions 0 s) s
+first_there [] s one = absurd (let n = one in omega (arith, n))
+first_there (a ∷ rest) s one = (0, omega arith, refl)
+
+-- and so, where the first session of one was stopped
+pub refused_at_first : {X : Type 0} (bits : ℕ) (net : Net) → IsBlifText (gen_text bits) net → length net.inputs ≡ 2 * bits → (sessions : List Seen) (s : Seen) → length sessions ≡ 1 → (result : Result X (Stop Full))
+    → IfErr result (IsCaused (IsRefusedBy s))
+    → IfErr result (λ stop. (stop ≡ stops.Memory) ⊎ ((made : Net) × IsBlifText (gen_text bits) made × (length made.inputs ≡ 2 * bits) × IsRefusedIn (slice_set sessions 0 s) stop))
+refused_at_first bits net text inputs sessions s one (Ok x) caused = tt
+refused_at_first bits net text inputs sessions s one (Err stop) caused = inr (net, text, inputs, refused_in (slice_set sessions 0 s) s (first_there sessions s one) stop caused)
+
+pub reported : ReportsAreTrue → (m : Managed) (net : Net) (patterns : List (List Bool)) (new : List Seen) (text : List ℕ) (n : ℕ) → m.vars ≡ length net.inputs → All (λ (s : Seen). s.manager ≡ m) new
+    → Builds (Reports net patterns) net (map standing_of (newcomer m 0 ∷ [])) (map standing_of new) text → IsHistoryOf m new n → IsReport (net_subject net (rising net) patterns) text
+reported law m net patterns new text n vars own built h =
+    let is = history m (Reports net patterns) net new text own built n h in
+    law net patterns (sizes_for m.vars m.elements) is.0 (map standing_of (newcomer m 0 ∷ [])) (map standing_of new) text vars
+    (vars_are m (Reports net patterns) net new text own built vars) (none_before m (Reports net patterns) net new text own built) is.1 built
+
+pub summed_up : SummariesAreTrue → (m : Managed) (net : Net) (new : List Seen) (text : List ℕ) (n : ℕ) → m.vars ≡ length net.inputs → All (λ (s : Seen). s.manager ≡ m) new
+    → Builds (SumsUp net) net (map standing_of (newcomer m 0 ∷ [])) (map standing_of new) text → IsHistoryOf m new n → IsSummary (net_subject net (rising net) []) text
+summed_up law m net new text n vars own built h =
+    let is = history m (SumsUp net) net new text own built n h in
+    law net (sizes_for m.vars m.elements) is.0 (map standing_of (newcomer m 0 ∷ [])) (map standing_of new) text vars
+    (vars_are m (SumsUp net) net new text own built vars) (none_before m (SumsUp net) net new text own built) is.1 built

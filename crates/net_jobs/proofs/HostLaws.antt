@@ -1,0 +1,239 @@
+-- What the calls of a session leave of it, as one that builds functions is seen.
+use Rattle.std.proofs.Common.{◌≡◌, ℕ, ◌<◌, ◌^◌, Bool, true, false, List, [], ◌∷◌, ◌++◌, ◌+◌, ℤ, pos, cond, ◌||◌, Option, Some, None, Result, Ok, Err, IfOk, IfErr, MatchResult, length, take_all, eq-eqb, refl, ap, ap₂, sym, subst, ◌∙◌, arith}
+use Rattle.std.specs.Prelude.{Contains}
+use Rattle.std.proofs.lemmas.List.{map-append}
+use Rattle.std.proofs.lemmas.List.Elements.{All-cons, All-nil, Contains-append_right}
+use Rattle.dump_sizes.specs.declared.listings.Listing.{Listing}
+use Rattle.edge_bits.specs.declared.edges.Kind.TheVariants as kinds
+use Rattle.edge_bits.specs.declared.Memory.{Memory}
+use Rattle.edge_bits.specs.Words.{digit}
+use Rattle.function_laws.specs.declared.history.Call.{Call}
+use Rattle.function_laws.specs.declared.history.Call.TheVariants as calls
+use Rattle.function_laws.specs.declared.history.Function.{Function}
+use Rattle.function_laws.specs.declared.history.Function.TheVariants.{Bdd, Add, Zdd}
+use Rattle.function_laws.specs.declared.history.Name.{Name}
+use Rattle.function_laws.specs.declared.history.Reply.{Reply}
+use Rattle.function_laws.specs.declared.history.Reply.TheVariants as replies
+use Rattle.function_laws.specs.Handovers.{posts_to}
+use Rattle.function_laws.specs.Functions.{and_of, not_of, or_of}
+use Rattle.function_laws.specs.Lists.{list_of, truth}
+use Rattle.function_laws.specs.SessionEntries.{entry}
+use Rattle.function_laws.specs.Steps.{as_bdd, makes, outcome, with_one, with_two}
+use Rattle.function_laws.specs.Values.{assignment_of, conjunction, constant, disjunction, negation, projection}
+use Rattle.function_laws.proofs.BridgeLemmas.{and_of-list_of, not_of-list_of, place_two-list_of}
+use Rattle.function_laws.proofs.StepLemmas.{outcome-var}
+use Rattle.dd_session.specs.declared.answers.Full.{Full}
+use Rattle.dd_session.specs.declared.answers.Placed.{Placed}
+use Rattle.dd_session.specs.declared.answers.Refusal.{Refusal}
+use Rattle.dd_session.specs.declared.answers.Refusal.TheVariants as refusals
+use Rattle.dd_session.specs.Listings.{IsListed}
+use Rattle.dd_session.specs.Managing.{stands_for}
+use Rattle.dd_session.specs.Sessions.{Called, Denies, IsAsBefore, IsLive as IsRow, IsLiveAs, Managed, Seen, kind_of}
+use Rattle.dd_session.proofs.SessionLaws.{dropped_stays, evaluated_as, made_as, posted_stays, table_of, valued_stays}
+use Rattle.net_builds.specs.declared.host.Stop.{Stop}
+use Rattle.net_builds.specs.Standings.{Asks, Fetches, IsCaused, IsHeld, IsLive, IsQuiet, LetsGo, Lists, Makes, Posts, Works, values_of}
+use Rattle.net_jobs.specs.Hosts.{IsRefusedBy, named_by, standing_of}
+use Rattle.net_jobs.specs.Saying.{kind_or}
+use Rattle.net_jobs.proofs.CallLaws.{given}
+use Rattle.net_jobs.proofs.CoverLemmas.{name-apart}
+use Rattle.net_jobs.proofs.OutcomeKinds.{is_plain}
+
+-- a name that stands for a list of truth values is that of a row, and so is one that stands for a function
+pub live_is_bdd : (s : Seen) (name : Name) → IsLive (standing_of s) name → IsLiveAs kinds.Bdd s name
+live_is_bdd s name live = (Bdd live.0, live.1, refl)
+
+pub live_is_row : (s : Seen) (name : Name) → IsLive (standing_of s) name → IsRow s name
+live_is_row s name live = (kinds.Bdd, live_is_bdd s name live)
+
+pub held_is_bdd : (s : Seen) (name : Name) → IsHeld (standing_of s) name → IsLiveAs kinds.Bdd s name
+held_is_bdd s name held = (Bdd (list_of (2 ^ s.manager.vars) held.0), held.1.stands, refl)
+
+pub held_is_row : (s : Seen) (name : Name) → IsHeld (standing_of s) name → IsRow s name
+held_is_row s name held = (kinds.Bdd, held_is_bdd s name held)
+
+notes_kept : (old new : Seen) → new.noted ≡ old.noted → (standing_of new).notes ≡ (standing_of old).notes
+notes_kept old new is = λ i. (standing_of (record old { noted = is i })).notes
+
+module _ (old new : Seen) (call : Call) where
+  -- a call that neither posts nor adds a variable
+  module _ (reply : Reply) (place : ℕ) (called : Called old new call reply place) where
+    pub works : IsQuiet (entry place old.number call reply) → Works (standing_of old) (standing_of new)
+    works quiet = record {
+      vars_are = ap (λ (m : Managed). m.vars) called.manager_is;
+      number_is = called.number_is;
+      notes_are = notes_kept old new called.noted_are;
+      gained = entry place old.number call reply ∷ [];
+      entries_are = called.entries_are;
+      each = All-cons IsQuiet (entry place old.number call reply) [] quiet (All-nil IsQuiet);
+      more = omega (arith, called.adds_are);
+    }
+
+  -- a call that made a BDD
+  module _ (name : Name) (place : ℕ) (called : Called old new call (replies.Made name) place) (plain : is_plain call ≡ true) (posts : (cell : ℕ) → posts_to cell call ≡ false) where
+    pub made : (f : ℕ → Bool) → outcome (table_of old called.board) old.number call ≡ Some (makes (Bdd (list_of (2 ^ old.manager.vars) f))) → Makes (standing_of old) (standing_of new) name f
+    made f is =
+        let gave = given old new call (replies.Made name) place called name plain refl in
+        record {
+          works = works (replies.Made name) place called (record { plain = record { unnumbered = refl; ordered = λ orders. refl }; posts = posts });
+          holds = record {
+            stands = made_as old new call name place called (Bdd (list_of (2 ^ old.manager.vars) f)) is ∙ ap (λ (m : Managed). values_of m.vars f) (sym called.manager_is);
+            given = omega (arith, gave.generation, called.adds_are);
+          };
+          newer = omega (arith, gave.generation);
+          kept = λ other below. gave.others other (name-apart other name (λ same. omega (arith, same, below, gave.generation)));
+          rows = called.few;
+        }
+
+  -- what such a call was answered
+  abbrev Tells : Result (Placed Name) Refusal → Type 0
+  Tells told = MatchResult told (λ placed. Called old new call (replies.Made placed.value) placed.place) (Denies old new call)
+
+  module _ (told : Result (Placed Name) Refusal) (tells : Tells told) (result : Result Name (Stop Full)) (is : result ≡ named_by told) where
+    -- what each name has that the call may have made
+    pub named_ok : (P : Name → Type 0) → ((name : Name) (place : ℕ) → Called old new call (replies.Made name) place → P name) → IfOk result P
+    named_ok P holds = subst (λ r. IfOk r P) (sym is) (by told tells)
+      where
+        by : (told : Result (Placed Name) Refusal) → Tells told → IfOk (named_by told) P
+        by (Ok placed) called = holds placed.value placed.place called
+        by (Err refusal) denies = tt
+
+    pub named_caused : IfErr result (IsCaused (IsRefusedBy new))
+    named_caused = subst (λ r. IfErr r (IsCaused (IsRefusedBy new))) (sym is) (by told tells)
+      where
+        by : (told : Result (Placed Name) Refusal) → Tells told → IfErr (named_by told) (IsCaused (IsRefusedBy new))
+        by (Ok placed) called = tt
+        by (Err refusals.Memory) denies = tt
+        by (Err (refusals.Full full)) (called, in_use, limit, need) = record {
+          call = call;
+          refused = subst (λ es. Contains es (entry full.place new.number call (replies.Full full.in_use full.need))) (sym called.entries_are)
+              (Contains-append_right old.entries (entry full.place old.number call (replies.Full full.in_use full.need) ∷ []) (entry full.place new.number call (replies.Full full.in_use full.need))
+              (0, omega arith, ap (λ n. entry full.place n call (replies.Full full.in_use full.need)) (sym called.number_is)));
+          in_use = in_use ∙ ap (λ (m : Managed). m.limit) (sym called.manager_is);
+          limit = limit ∙ ap (λ (m : Managed). m.limit) (sym called.manager_is);
+        }
+
+  -- the session is still one of its manager
+  pub named_own : (told : Result (Placed Name) Refusal) → Tells told → new.manager ≡ old.manager
+  named_own (Ok placed) called = called.manager_is
+  named_own (Err refusals.Memory) denies = ap (λ (s : Seen). s.manager) denies.0
+  named_own (Err (refusals.Full full)) denies = denies.0.manager_is
+
+  -- a call that is refused for want of memory alone
+  pub denied : (told : Result (Placed Name) Refusal)
+      → MatchResult told (λ placed. Called old new call (replies.Made placed.value) placed.place) (λ refusal. (refusal ≡ refusals.Memory) × Denies old new call refusal) → Tells told
+  denied (Ok placed) called = called
+  denied (Err refusal) denies = denies.1
+
+-- what comes of the calls, in a table in which the session is seen
+module _ (s : Seen) (board : ℕ → Option Function) where
+  abbrev size : ℕ
+  size = 2 ^ s.manager.vars
+
+  -- a name that stands for the function f
+  abbrev Stands : Name → (ℕ → Bool) → Type 0
+  Stands name f = stands_for s.rows name ≡ Some (Bdd (list_of size f))
+
+  in_table : (name : Name) (f : Function) → stands_for s.rows name ≡ Some f → (table_of s board).live s.number name ≡ Some f
+  in_table name f stands = ap (λ b. cond b (stands_for s.rows name) None) (eq-eqb s.number s.number refl) ∙ stands
+
+  pub outcome-one : (value : Bool) → value ≡ true → outcome (table_of s board) s.number calls.One ≡ Some (makes (Bdd (list_of size (constant value))))
+  outcome-one value is = ap (λ b. Some (makes (Bdd (list_of size (constant b))))) (sym is)
+
+  pub outcome-zero : (value : Bool) → value ≡ false → outcome (table_of s board) s.number calls.Zero ≡ Some (makes (Bdd (list_of size (constant value))))
+  outcome-zero value is = ap (λ b. Some (makes (Bdd (list_of size (constant b))))) (sym is)
+
+  pub outcome-projection : (v : ℕ) → v < s.manager.vars → outcome (table_of s board) s.number (calls.Var v) ≡ Some (makes (Bdd (list_of size (projection v))))
+  outcome-projection v below = outcome-var (table_of s board) s.number v below
+
+  pub outcome-complement : (a : Name) (f : ℕ → Bool) → Stands a f → outcome (table_of s board) s.number (calls.Not a) ≡ Some (makes (Bdd (list_of size (negation f))))
+  outcome-complement a f stands = ap (λ o. with_one (as_bdd o) (λ x. makes (Bdd (not_of x)))) (in_table a (Bdd (list_of size f)) stands) ∙ ap (λ x. Some (makes (Bdd x))) (not_of-list_of size f)
+
+  module _ (a b : Name) (f g : ℕ → Bool) (first : Stands a f) (second : Stands b g) where
+    pub outcome-conjunction : outcome (table_of s board) s.number (calls.And a b) ≡ Some (makes (Bdd (list_of size (conjunction f g))))
+    outcome-conjunction =
+        ap₂ (λ o p. with_two (as_bdd o) (as_bdd p) (λ x y. makes (Bdd (and_of x y)))) (in_table a (Bdd (list_of size f)) first) (in_table b (Bdd (list_of size g)) second)
+        ∙ ap (λ x. Some (makes (Bdd x))) (and_of-list_of size f g)
+
+    pub outcome-disjunction : outcome (table_of s board) s.number (calls.Or a b) ≡ Some (makes (Bdd (list_of size (disjunction f g))))
+    outcome-disjunction =
+        ap₂ (λ o p. with_two (as_bdd o) (as_bdd p) (λ x y. makes (Bdd (or_of x y)))) (in_table a (Bdd (list_of size f)) first) (in_table b (Bdd (list_of size g)) second)
+        ∙ ap (λ x. Some (makes (Bdd x))) (place_two-list_of (λ x y. x || y) size f g)
+
+module _ (old new : Seen) where
+  pub lets_go : (a : Name) (place : ℕ) → Called old new (calls.DropRow a) replies.Done place → length new.rows + 1 ≡ length old.rows → LetsGo (standing_of old) (standing_of new) a
+  lets_go a place called fewer = record {
+    works = works old new (calls.DropRow a) replies.Done place called (record { plain = record { unnumbered = refl; ordered = λ orders. refl }; posts = λ cell. refl });
+    kept = λ other apart. dropped_stays old new a place called other (name-apart other a apart);
+    rows = fewer;
+  }
+
+  -- the value of a function is asked for
+  module _ (a : Name) (bits : List Bool) (told : ℤ) (place : ℕ) (called : Called old new (calls.Eval a bits) (replies.Value told) place) where
+    pub asks : Asks (standing_of old) (standing_of new)
+    asks = record {
+      works = works old new (calls.Eval a bits) (replies.Value told) place called (record { plain = record { unnumbered = refl; ordered = λ orders. refl }; posts = λ cell. refl });
+      kept = valued_stays old new (calls.Eval a bits) told place called;
+      rows = omega (arith, called.few);
+    }
+
+    pub valued : length bits ≡ old.manager.vars → (f : List Bool) → stands_for old.rows a ≡ Some (Bdd f) → told ≡ pos (digit (truth f (assignment_of bits)))
+    valued long f stands = evaluated_as old new a bits told place called (Bdd f) stands ∙ ap (λ bs. pos (digit (truth f (assignment_of bs)))) (take_all old.manager.vars bits (omega (arith, long)))
+
+  pub posts : (a : Name) (place : ℕ) → Called old new (calls.Post 0 a) replies.Done place → Posts (standing_of old) (standing_of new) a place
+  posts a place called = record {
+    vars_are = ap (λ (m : Managed). m.vars) called.manager_is;
+    number_is = called.number_is;
+    notes_are = notes_kept old new called.noted_are;
+    adds_are = omega (arith, called.adds_are);
+    rows = omega (arith, called.few);
+    entries_are = called.entries_are;
+    kept = posted_stays old new 0 a place called;
+  }
+
+  is_bdd : (f : Function) → kind_of f ≡ kinds.Bdd → (g : List Bool) × (f ≡ Bdd g)
+  is_bdd (Bdd g) is = (g, refl)
+  is_bdd (Add g) is = cc
+  is_bdd (Zdd g) is = cc
+
+  pub fetches : (other to : Name) (posted : Bool) (place : ℕ) → Called old new (calls.Fetch 0 other) (replies.Fetched to posted) place → IsLive (standing_of old) other
+      → Fetches (standing_of old) (standing_of new) other to posted place
+  fetches other to posted place called live =
+      let gave = given old new (calls.Fetch 0 other) (replies.Fetched to posted) place called to refl refl in
+      let bdd = is_bdd gave.function (gave.kind ∙ ap kind_or live.1) in
+      record {
+        vars_are = ap (λ (m : Managed). m.vars) called.manager_is;
+        number_is = called.number_is;
+        notes_are = notes_kept old new called.noted_are;
+        more = omega (arith, called.adds_are);
+        entries_are = called.entries_are;
+        newer = omega (arith, gave.generation);
+        held = (bdd.0, gave.stands ∙ ap Some bdd.1, omega (arith, gave.generation, called.adds_are));
+        kept = λ name below. gave.others name (name-apart name to (λ same. omega (arith, same, below, gave.generation)));
+        rows = called.few;
+      }
+
+  pub lists : (names : List Name) (listing : Listing) → IsListed old new names listing → Lists (standing_of old) (standing_of new) names listing
+  lists names listing is = record {
+    place = is.note.place;
+    new_is = ap standing_of is.new_is ∙ ap (λ notes. record (standing_of old) { notes = notes })
+        (map-append _ old.noted (is.note ∷ []) ∙ ap (λ order. (standing_of old).notes ++ record { place = is.note.place; order = order } ∷ []) (sym is.order_is));
+    functions = is.lists.functions;
+    stand = is.lists.stand;
+    wide = is.lists.wide;
+    is_listing = is.lists.is_listing;
+  }
+
+  module _ (names : List Name) (result : Result Listing Memory) (told : MatchResult result (IsListed old new names) (λ _. IsAsBefore old new)) where
+    pub listed : IfOk result (Lists (standing_of old) (standing_of new) names)
+    listed = by result told
+      where
+        by : (result : Result Listing Memory) → MatchResult result (IsListed old new names) (λ _. IsAsBefore old new) → IfOk result (Lists (standing_of old) (standing_of new) names)
+        by (Ok listing) is = lists names listing is
+        by (Err memory) is = tt
+
+    pub listed_own : new.manager ≡ old.manager
+    listed_own = by result told
+      where
+        by : (result : Result Listing Memory) → MatchResult result (IsListed old new names) (λ _. IsAsBefore old new) → new.manager ≡ old.manager
+        by (Ok listing) is = ap (λ (s : Seen). s.manager) is.new_is
+        by (Err memory) is = ap (λ (s : Seen). s.manager) is.0

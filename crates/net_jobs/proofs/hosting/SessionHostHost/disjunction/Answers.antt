@@ -1,0 +1,25 @@
+use Rattle.std.proofs.Common.{refl, ◌∙◌}
+use Rattle.function_laws.specs.declared.history.Call.TheVariants as calls
+use Rattle.function_laws.specs.Values.{disjunction}
+use Rattle.net_jobs.proofs.HostLaws.{held_is_bdd, made, named_caused, named_ok, named_own, outcome-disjunction}
+use Rattle.net_jobs.proofs.hosting.SessionHostHost.disjunction.Goals as goal
+
+pub or-requires-clause-first : goal.or-requires-clause-first
+or-requires-clause-first g c = held_is_bdd c.args.session.now c.args.f c.requires.first
+
+pub or-requires-clause-second : goal.or-requires-clause-second
+or-requires-clause-second g c = held_is_bdd c.args.session.now c.args.g c.requires.second
+
+pub returns-clause-own : goal.returns-clause-own
+returns-clause-own g c = named_own c.args.session.now c.or.new.self (calls.Or c.args.f c.args.g) c.or.result c.or.ensures.told ∙ c.requires.own
+
+pub returns-clause-made : goal.returns-clause-made
+returns-clause-made g c =
+    let old = c.args.session.now in
+    let new = c.or.new.self in
+    let call = calls.Or c.args.f c.args.g in
+    named_ok old new call c.or.result c.or.ensures.told c.named.result c.named.ensures _
+    (λ name place called a b first second. made old new call name place called refl (λ cell. refl) (disjunction a b) (outcome-disjunction old called.board c.args.f c.args.g a b first.stands second.stands))
+
+pub returns-clause-caused : goal.returns-clause-caused
+returns-clause-caused g c = named_caused c.args.session.now c.or.new.self (calls.Or c.args.f c.args.g) c.or.result c.or.ensures.told c.named.result c.named.ensures

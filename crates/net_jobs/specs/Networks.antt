@@ -1,0 +1,28 @@
+-- What comes of networks that are built.
+use Rattle.std.specs.Prelude.{◌≡◌, ℕ, ◌+◌, List, [], ◌∷◌, Contains}
+use Rattle.dd_session.specs.declared.answers.Full.{Full}
+use Rattle.dd_session.specs.Managing.{Managed, Seen, newcomer}
+use Rattle.net_builds.specs.declared.host.Stop.{Stop}
+use Rattle.net_builds.specs.declared.host.Stop.TheVariants as stops
+use Rattle.net_jobs.specs.Hosts.{IsRefusedBy}
+
+-- a session of the manager that has no live row
+abbrev pub IsFreshOf : Managed → Seen → Type 0
+IsFreshOf m s = (s.manager ≡ m) × (s.rows ≡ [])
+
+-- a manager for so many inputs, and its one session
+pub record IsOpenedFor (inputs limit : ℕ) (m : Managed) (sessions : List Seen) : Type 0 where
+  pub vars : m.vars ≡ inputs
+  pub limit_is : m.limit ≡ 5 + inputs + limit
+  pub one : m.sessions ≡ 1
+  pub sessions_are : sessions ≡ newcomer m 0 ∷ []
+
+-- where it was not want of memory, a call of one of the sessions was refused so
+abbrev pub IsRefusedIn : List Seen → Stop Full → Type 0
+IsRefusedIn sessions stops.Memory = Unit {0}
+IsRefusedIn sessions (stops.Full full) = (s : Seen) × Contains sessions s × IsRefusedBy s full
+
+-- where it was not want of memory, all of so many slots were in use
+abbrev pub IsFilledBy : (ℕ → Type 0) → Stop Full → Type 0
+IsFilledBy AreAll stops.Memory = Unit {0}
+IsFilledBy AreAll (stops.Full full) = (slots : ℕ) × AreAll slots × (full.in_use ≡ slots) × (full.limit ≡ slots)

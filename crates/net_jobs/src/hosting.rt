@@ -1,0 +1,161 @@
+//! The sessions of a manager, as those that build the functions of networks.
+
+ghost use Rattle.std.specs.Prelude.{◌≡◌, ◌<◌, ◌≤◌, ◌^◌, length};
+ghost use Rattle.dd_session.specs.Managing.{is_posted};
+ghost use Rattle.net_builds.specs.Standings.{Fetches, IsLive};
+ghost use Rattle.net_jobs.specs.Hosts.{named_by, standing_of};
+
+use crate::gate::Gate;
+use dd_session::{Full, Manager, Refusal, Session};
+use dump_sizes::Listing;
+use edge_bits::Memory;
+use function_laws::Name;
+use net_builds::{Fetched, Host, Placed, Stop};
+use std::sync::Wait;
+
+/// A manager whose sessions build functions. The gate is passed before each output, with the number of the worker.
+#[derive(Drop)]
+pub struct SessionHost<'a, R, G> {
+    pub rt: &'a R,
+    pub manager: &'a Manager,
+    pub gate: &'a G,
+    pub worker: u32,
+}
+
+/// Waits for ever where the session has made all the calls that it may make.
+fn ready<R: Wait>(rt: &R, session: &Session)
+    ensures { length session.now.entries < 2 ^ 47 }
+{
+    for _ in rt.forever() {
+        if session.calls() < 1 << 47 {
+            return;
+        }
+    }
+    unreachable!()
+}
+
+/// The name that a call made, without its place.
+fn named(told: Result<dd_session::Placed<Name>, Refusal>) -> Result<Name, Stop<Full>>
+    ensures { result ≡ named_by told }
+{
+    match told {
+        Ok(placed) => Ok(placed.value),
+        Err(Refusal::Memory) => Err(Stop::Memory),
+        Err(Refusal::Full(full)) => Err(Stop::Full(full)),
+    }
+}
+
+/// Whether a fetch took what the board had.
+fn was_posted(from: dd_session::Fetched) -> bool
+    ensures { result ≡ is_posted from }
+{
+    match from {
+        dd_session::Fetched::Posted => true,
+        dd_session::Fetched::Empty => false,
+    }
+}
+
+/// Fetches from the first cell of the board. There is room for a row.
+fn fetch_row<R: Wait>(
+    rt: &R,
+    manager: &Manager,
+    session: &mut Session,
+    other: Name,
+) -> Placed<Fetched>
+    requires own { session.old.manager ≡ manager.now }
+    requires room { length session.old.rows < 2 ^ 25 }
+    requires spare { 1 ≤ session.old.spare }
+    requires live { IsLive (standing_of session.old) other }
+    ensures own { session.new.manager ≡ session.old.manager }
+    ensures fetches { Fetches (standing_of session.old) (standing_of session.new) other result.value.name result.value.posted result.place }
+{
+    ready(rt, session);
+    let fetched = session.fetch(rt, manager, 0, other);
+    let (name, from) = fetched.value;
+    let posted = was_posted(from);
+    Placed {
+        place: fetched.place,
+        value: Fetched { name, posted },
+    }
+}
+
+impl<'a, R: Wait, G: Gate> Host for SessionHost<'a, R, G> {
+    ghost use Rattle.std.specs.Prelude.{◌≡◌};
+    ghost use Rattle.net_jobs.specs.Hosts.{IsRefusedBy, standing_of};
+
+    type Session = Session;
+
+    type Full = Full;
+
+    ghost standing = { λ s. standing_of s };
+
+    ghost has = { λ host s. s.manager ≡ host.manager.now };
+
+    ghost refused = { λ s full. IsRefusedBy s full };
+
+    fn pass(&self, output: u32) {
+        self.gate.pass(self.worker, output);
+    }
+
+    fn constant(&self, session: &mut Session, value: bool) -> Result<Name, Stop<Full>> {
+        ready(self.rt, session);
+        if value {
+            named(session.one(self.rt, self.manager))
+        } else {
+            named(session.zero(self.rt, self.manager))
+        }
+    }
+
+    fn projection(&self, session: &mut Session, variable: u32) -> Result<Name, Stop<Full>> {
+        ready(self.rt, session);
+        named(session.var(self.rt, self.manager, variable))
+    }
+
+    fn complement(&self, session: &mut Session, f: Name) -> Result<Name, Stop<Full>> {
+        ready(self.rt, session);
+        named(session.not(self.rt, self.manager, f))
+    }
+
+    fn conjunction(&self, session: &mut Session, f: Name, g: Name) -> Result<Name, Stop<Full>> {
+        ready(self.rt, session);
+        named(session.and(self.rt, self.manager, f, g))
+    }
+
+    fn disjunction(&self, session: &mut Session, f: Name, g: Name) -> Result<Name, Stop<Full>> {
+        ready(self.rt, session);
+        named(session.or(self.rt, self.manager, f, g))
+    }
+
+    fn let_go(&self, session: &mut Session, f: Name) {
+        ready(self.rt, session);
+        let _placed = session.drop_row(self.rt, self.manager, f);
+    }
+
+    fn value(&self, session: &mut Session, f: Name, bits: &[bool]) -> bool {
+        ready(self.rt, session);
+        match session.eval(self.rt, self.manager, f, bits) {
+            Ok(placed) => placed.value != 0,
+            Err(_) => unreachable!(),
+        }
+    }
+
+    fn post(&self, session: &mut Session, f: Name) -> Placed<()> {
+        ready(self.rt, session);
+        let posted = session.post(self.rt, self.manager, 0, f);
+        Placed {
+            place: posted.place,
+            value: (),
+        }
+    }
+
+    fn fetch(&self, session: &mut Session, other: Name) -> Result<Placed<Fetched>, Stop<Full>> {
+        match session.reserve(1) {
+            Ok(()) => Ok(fetch_row(self.rt, self.manager, session, other)),
+            Err(Memory) => Err(Stop::Memory),
+        }
+    }
+
+    fn list(&self, session: &mut Session, names: &[Name]) -> Result<Listing, Memory> {
+        session.list(self.rt, self.manager, names)
+    }
+}

@@ -1,0 +1,175 @@
+//! Networks that are built by the sessions of a manager, and what is told of them.
+
+ghost use Rattle.std.specs.Prelude.{◌≡◌, ◌⊎◌, ◌+◌, ◌*◌, ◌≤◌, [], false, length, map, All, IfErr, IfOk};
+ghost use Rattle.blif_net.specs.Bounds.{IsBounded};
+ghost use Rattle.blif_net.specs.declared.net.Net.{Net as NetOf};
+ghost use Rattle.blif_net.specs.Networks.{IsBlifText};
+ghost use Rattle.command_words.specs.Orders.{usual_limit};
+ghost use Rattle.net_builds.specs.Builds.{Builds, Reports, SumsUp};
+ghost use Rattle.net_reports.specs.GenTexts.{gen_text};
+ghost use Rattle.net_reports.specs.Reports.{IsReport, IsSummary, net_subject};
+ghost use Rattle.net_jobs.specs.Ends.{rising};
+ghost use Rattle.net_jobs.specs.Hosts.{standing_of};
+ghost use Rattle.net_jobs.specs.Networks.{IsFilledBy, IsFreshOf, IsOpenedFor, IsRefusedIn};
+
+use crate::gate::Gate;
+use crate::hosting::SessionHost;
+use blif_net::{BlifError, Net, networks_are_bounded, read};
+use command_words::Options;
+use dd_session::{Config, Full, Manager, OpenFault, Session};
+use edge_bits::Memory;
+use net_builds::{Stop, build_report, build_summary, reports_are_true, summaries_are_true};
+use net_reports::gen_text;
+use std::alloc::Global;
+use std::hash::RandomState;
+use std::random::RandomSource;
+use std::sync::Wait;
+
+/// How many slots there are beyond the permanent ones, where nothing is said.
+const USUAL_LIMIT: u32 = 262_144;
+
+/// Why a part has nothing to tell: want of memory, or a call of a session was refused for a full node table.
+pub type PartStop = Stop<Full>;
+
+/// Builds a network by the one session of a manager, which has no live row: the report of its outputs, with their values at each
+/// pattern. The gate is passed as worker 0 before each output.
+pub fn build<R: Wait, G: Gate>(
+    rt: &R,
+    alloc: Global,
+    manager: &Manager,
+    sessions: &mut [Session],
+    net: &Net,
+    options: &Options,
+    gate: &G,
+) -> Result<Vec<u8>, PartStop>
+    requires one { length sessions.old ≡ 1 }
+    requires fresh { All (IsFreshOf manager.now) sessions.old }
+    requires bounded { IsBounded net.now }
+    requires vars { manager.now.vars ≡ length net.now.inputs }
+    requires unsifted { options.now.sift ≡ false }
+    requires unstored { options.now.store ≡ false }
+    ensures own { All (λ s. s.manager ≡ manager.now) sessions.new }
+    ensures built { IfOk result (λ text. Builds (Reports net.now options.now.patterns) net.now (map standing_of sessions.old) (map standing_of sessions.new) text.items) }
+    ensures full { IfErr result (IsRefusedIn sessions.new) }
+{
+    let host = SessionHost {
+        rt,
+        manager,
+        gate,
+        worker: 0,
+    };
+    let patterns = options.patterns.as_slice();
+    build_report(rt, alloc, &host, &mut sessions[0], net, patterns)
+}
+
+/// The network that is made for so many bits. Its text is read without a fault; what the prover does not know of that is
+/// answered as want of memory.
+fn made<R: RandomSource>(rt: &R, alloc: Global, bits: u32) -> Result<Net, Memory>
+    requires { bits ≤ 256 }
+    ensures text { IfOk result (λ net. IsBlifText (gen_text bits) net) }
+    ensures inputs { IfOk result (λ net. length net.inputs ≡ 2 * bits) }
+{
+    let text = gen_text(alloc, bits)?;
+    let Ok(keys) = RandomState::new(rt) else {
+        return Err(Memory);
+    };
+    match read(alloc, keys, &text) {
+        Ok(net) if net.inputs().len() == 2 * bits as usize => Ok(net),
+        _ => Err(Memory),
+    }
+}
+
+/// Builds the network that is made for so many bits by the one session of a manager, which has no live row and two variables for
+/// each bit: the summary of its outputs. The gate is passed as worker 0 before each output.
+pub fn generate<R: Wait + RandomSource, G: Gate>(
+    rt: &R,
+    alloc: Global,
+    manager: &Manager,
+    sessions: &mut [Session],
+    bits: u32,
+    gate: &G,
+) -> Result<Vec<u8>, PartStop>
+    requires one { length sessions.old ≡ 1 }
+    requires fresh { All (IsFreshOf manager.now) sessions.old }
+    requires bits { bits ≤ 256 }
+    requires vars { manager.now.vars ≡ 2 * bits }
+    ensures own { All (λ s. s.manager ≡ manager.now) sessions.new }
+    ensures built { IfOk result (λ text. (net : NetOf) × IsBlifText (gen_text bits) net × (length net.inputs ≡ 2 * bits) × Builds (SumsUp net) net (map standing_of sessions.old) (map standing_of sessions.new) text.items) }
+    ensures full { IfErr result (λ stop. (stop ≡ Stop.Memory) ⊎ ((net : NetOf) × IsBlifText (gen_text bits) net × (length net.inputs ≡ 2 * bits) × IsRefusedIn sessions.new stop)) }
+{
+    let Ok(net) = made(rt, alloc, bits) else {
+        return Err(PartStop::Memory);
+    };
+    networks_are_bounded();
+    let host = SessionHost {
+        rt,
+        manager,
+        gate,
+        worker: 0,
+    };
+    build_summary(rt, alloc, &host, &mut sessions[0], &net)
+}
+
+/// A manager with one session, for so many inputs and so many slots beyond the permanent ones.
+fn opened(alloc: Global, inputs: u32, limit: u32) -> Result<(Manager, Vec<Session>), Memory>
+    requires inputs { inputs ≤ 1024 }
+    requires limit { limit ≤ 8000000 }
+    ensures { IfOk result (λ r. IsOpenedFor inputs limit r.0 r.1.items) }
+{
+    let config = Config {
+        vars: inputs,
+        elements: 0,
+        limit: 5 + inputs + limit,
+    };
+    match Manager::open(alloc, config, 1) {
+        Ok(opened) => Ok(opened),
+        Err(OpenFault::Memory) => Err(Memory),
+        Err(OpenFault::Config) => unreachable!(),
+    }
+}
+
+/// The report of a network, built in a manager of its own with so many slots beyond the permanent ones. A call bound to
+/// nothing is there for what it tells.
+pub fn report_of<R: Wait, G: Gate>(
+    rt: &R,
+    alloc: Global,
+    net: &Net,
+    limit: u32,
+    options: &Options,
+    gate: &G,
+) -> Result<Vec<u8>, PartStop>
+    requires bounded { IsBounded net.now }
+    requires limit { limit ≤ 8000000 }
+    requires unsifted { options.now.sift ≡ false }
+    requires unstored { options.now.store ≡ false }
+    ensures report { IfOk result (λ text. IsReport (net_subject net.now (rising net.now) options.now.patterns) text.items) }
+    ensures full { IfErr result (IsFilledBy (λ slots. slots ≡ 5 + length net.now.inputs + limit)) }
+{
+    let Ok((manager, mut sessions)) = opened(alloc, net.inputs().len() as u32, limit) else {
+        return Err(PartStop::Memory);
+    };
+    let text = build(rt, alloc, &manager, &mut sessions, net, options, gate)?;
+    let _closed = manager.close(rt, sessions);
+    reports_are_true();
+    Ok(text)
+}
+
+/// The summary of the network that is made for so many bits, built in a manager of its own with the usual number of slots.
+pub fn summary_of<R: Wait + RandomSource, G: Gate>(
+    rt: &R,
+    alloc: Global,
+    bits: u32,
+    gate: &G,
+) -> Result<Vec<u8>, PartStop>
+    requires { bits ≤ 256 }
+    ensures summary { IfOk result (λ text. (net : NetOf) × IsBlifText (gen_text bits) net × IsSummary (net_subject net (rising net) []) text.items) }
+    ensures full { IfErr result (IsFilledBy (λ slots. (net : NetOf) × IsBlifText (gen_text bits) net × (slots ≡ 5 + length net.inputs + usual_limit))) }
+{
+    let Ok((manager, mut sessions)) = opened(alloc, 2 * bits, USUAL_LIMIT) else {
+        return Err(PartStop::Memory);
+    };
+    let text = generate(rt, alloc, &manager, &mut sessions, bits, gate)?;
+    let _closed = manager.close(rt, sessions);
+    summaries_are_true();
+    Ok(text)
+}

@@ -1,0 +1,108 @@
+//! Why a run has nothing to tell but a fault.
+
+ghost use Rattle.std.specs.Prelude.{◌≡◌, ◌++◌, codes, IfOk, string_bytes};
+ghost use Rattle.std.specs.Fmt.{decimal};
+ghost use Rattle.net_jobs.specs.Ends.{blif_word, kind_word};
+ghost use Rattle.net_jobs.specs.Refusals.{refusal_line, status_of};
+
+use crate::status::Status;
+use blif_net::{BlifFault, FaultKind as BlifKind};
+use dd_session::Full;
+use job_text::{FaultKind, JobFault};
+use std::alloc::{AllocError, Global};
+
+/// Why there is no history, no report and no summary to tell.
+#[derive(Debug, Clone, Copy, PartialEq, Eq)]
+pub enum Refusal {
+    Usage,
+    Memory,
+    Read,
+    TooLong,
+    Job(JobFault),
+    Blif(BlifFault),
+    Full(Full),
+}
+
+impl Refusal {
+    /// The status with which a refused run ends.
+    pub fn status(self) -> Status
+        ensures { result ≡ status_of self }
+    {
+        match self {
+            Refusal::Usage => Status::Usage,
+            Refusal::Memory => Status::Memory,
+            Refusal::Read => Status::ReadFault,
+            Refusal::TooLong => Status::TooLong,
+            Refusal::Job(_) => Status::Job,
+            Refusal::Blif(_) => Status::Blif,
+            Refusal::Full(_) => Status::Full,
+        }
+    }
+
+    /// The one line of a refused run.
+    pub fn line(self, alloc: Global) -> Result<String, AllocError>
+        ensures { IfOk result (λ line. string_bytes line ≡ refusal_line self) }
+    {
+        match self {
+            Refusal::Usage => String::from_str(alloc, "fault: usage\n"),
+            Refusal::Memory => String::from_str(alloc, "fault: memory\n"),
+            Refusal::Read => String::from_str(alloc, "fault: read\n"),
+            Refusal::TooLong => String::from_str(alloc, "fault: too long\n"),
+            Refusal::Job(fault) => job_line(alloc, fault.line, kind_name(fault.what)),
+            Refusal::Blif(fault) => blif_line(alloc, fault.line, blif_name(fault.what)),
+            Refusal::Full(full) => full_line(alloc, full.in_use, full.limit),
+        }
+    }
+}
+
+/// The name of a kind of fault of a job.
+fn kind_name(kind: FaultKind) -> &'static str
+    ensures { result.now ≡ kind_word kind }
+{
+    match kind {
+        FaultKind::Word => "word",
+        FaultKind::Name => "name",
+        FaultKind::Kind => "kind",
+        FaultKind::Range => "range",
+        FaultKind::Limit => "limit",
+        FaultKind::Again => "again",
+    }
+}
+
+/// The line of a faulty job.
+fn job_line(alloc: Global, line: u64, kind: &str) -> Result<String, AllocError>
+    ensures { IfOk result (λ text. string_bytes text ≡ codes "fault: job " ++ decimal line ++ codes " " ++ kind.now ++ codes "\n") }
+{
+    format!(in alloc; "fault: job {line} {kind}\n")
+}
+
+/// The name of a kind of fault of a network's text.
+fn blif_name(kind: BlifKind) -> &'static str
+    ensures { result.now ≡ blif_word kind }
+{
+    match kind {
+        BlifKind::Word => "word",
+        BlifKind::Row => "row",
+        BlifKind::Mixed => "mixed",
+        BlifKind::Twice => "twice",
+        BlifKind::TooMany => "too-many",
+        BlifKind::LeftOut => "left-out",
+        BlifKind::Undefined => "undefined",
+        BlifKind::Cycle => "cycle",
+        BlifKind::NoOutputs => "no-outputs",
+    }
+}
+
+/// The line of a faulty network's text.
+fn blif_line(alloc: Global, line: u64, kind: &str) -> Result<String, AllocError>
+    ensures { IfOk result (λ text. string_bytes text ≡ codes "fault: blif " ++ decimal line ++ codes " " ++ kind.now ++ codes "\n") }
+{
+    format!(in alloc; "fault: blif {line} {kind}\n")
+}
+
+/// The line of a full manager.
+fn full_line(alloc: Global, in_use: u32, limit: u32) -> Result<String, AllocError>
+    ensures { IfOk result (λ text. string_bytes text ≡ codes "fault: full " ++ decimal in_use ++ codes " of " ++ decimal limit ++ codes "\n") }
+{
+    format!(in alloc; "fault: full {in_use} of {limit}\n")
+}
