@@ -5,8 +5,8 @@ usage: networks.py PROGRAM DRIVER
   multiplier N   an array multiplier of N by N bits, of gates with two inputs
   gen K          the network that `ddsh gen` makes for K bits, with its summary
 
-The seconds are processor time of whole runs, reading and writing with them, the least of three. BuDDy makes the same functions by its
-operations in the same order, without covers, lets none go and counts no classes. ABC reads the same text, collapses it to diagrams
+The seconds are processor time of whole runs, reading and writing with them, the least of three. BuDDy makes the same products and sums
+in the same order, lets none go and counts no classes; what it takes for its operations alone is told beside (`work`). ABC reads the same text, collapses it to diagrams
 in CUDD with the inputs in their order (`collapse -r`), and prints its statistics.
 """
 import os
@@ -42,13 +42,21 @@ class Network:
         return "\n".join(lines + [".end"]) + "\n"
 
     def program(self):
-        """A gate without rows is the exclusive disjunction of an input with itself."""
-        lines = [f"{self.inputs} {self.inputs + len(self.gates)}"]
-        lines += [f"v {i} {i}" for i in range(self.inputs)]
+        """The products and the sums that `ddsh build` makes; a gate without rows is an input and its complement."""
+        steps, spare = [], self.inputs + len(self.gates)
         for number, (op, operands) in enumerate(self.gates):
             made = self.inputs + number
-            lines.append(f"{op} {made} " + " ".join(map(str, operands)) if op in ROWS else f"x {made} 0 0")
-        return "\n".join(lines) + "\n"
+            if op == "x":
+                one, other = operands
+                steps += [f"n {spare} {other}", f"a {spare + 1} {one} {spare}", f"n {spare + 2} {one}",
+                          f"a {spare + 3} {spare + 2} {other}", f"o {made} {spare + 1} {spare + 3}"]
+                spare += 4
+            elif op == "z":
+                steps += [f"n {spare} 0", f"a {made} 0 {spare}"]
+                spare += 1
+            else:
+                steps.append(f"{op} {made} " + " ".join(map(str, operands)))
+        return "\n".join([f"{self.inputs} {spare}", *(f"v {i} {i}" for i in range(self.inputs)), *steps]) + "\n"
 
 
 def added(net, a, b, carry):
@@ -98,32 +106,34 @@ def least(words, text):
     return min(run[1] for run in runs), max(run[2] for run in runs), told
 
 
-def line(name, told, ours, other, others):
-    nodes = told.strip().split("\n")[-1]
-    print(f"{name:<16}{nodes:>14}{ours[0]:>9.3f}{ours[1]:>6.0f}", end="")
-    for seconds, room in (other, others):
-        ratio = f"{ours[0] / seconds:.2f}" if seconds else "-"
-        print(f"{seconds:>9.3f}{room:>6.0f}{ratio:>8}", end="")
-    print(flush=True)
+def ratio(ours, other):
+    return f"{ours / other:.2f}" if other else "-"
+
+
+def line(name, ours, buddy, abc):
+    nodes = ours[2].strip().split("\n")[-1]
+    work = buddy[2].split()[0]
+    print(f"{name:<16}{nodes:>14}{ours[0]:>9.3f}{ours[1]:>6.0f}{buddy[0]:>9.3f}{work:>9}{buddy[1]:>6.0f}{ratio(ours[0], buddy[0]):>8}"
+          f"{abc[0]:>9.3f}{abc[1]:>6.0f}{ratio(ours[0], abc[0]):>8}", flush=True)
 
 
 def main():
     program, driver = sys.argv[1:]
     abc = shutil.which("berkeley-abc") or shutil.which("abc")
-    print(f"{'network':<16}{'':>14}{'ddsh s':>9}{'MB':>6}{'BuDDy s':>9}{'MB':>6}{'ratio':>8}{'ABC s':>9}{'MB':>6}{'ratio':>8}")
+    print(f"{'network':<16}{'':>14}{'ddsh s':>9}{'MB':>6}{'BuDDy s':>9}{'work s':>9}{'MB':>6}{'ratio':>8}{'ABC s':>9}{'MB':>6}{'ratio':>8}")
     networks = [("multiplier 8", multiplier(8), ["build", "--limit", "8000000"]), ("multiplier 10", multiplier(10), ["build", "--limit", "8000000"]),
                 ("gen 64", generated(64), ["gen", "64"]), ("gen 128", generated(128), ["gen", "128"]), ("gen 256", generated(256), ["gen", "256"])]
     for name, net, words in networks:
         text = net.text()
         ours = least([program, *words], text if words[0] == "build" else "")
         other = least([driver], net.program())
-        others = (0.0, 0.0)
+        others = (0.0, 0.0, "")
         if abc:
             with tempfile.NamedTemporaryFile("w", suffix=".blif") as file:
                 file.write(text)
                 file.flush()
                 others = least([abc, "-q", f"read_blif {file.name}; strash; collapse -r; print_stats"], "")
-        line(name, ours[2], ours, other, others)
+        line(name, ours, other, others)
 
 
 main()
