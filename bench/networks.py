@@ -101,9 +101,10 @@ def timed(words, text):
 
 
 def least(words, text):
+    """The least seconds of some runs with what that run wrote, and the greatest size."""
     runs = [timed(words, text) for _ in range(RUNS)]
-    told = runs[0][3] if runs[0][0] == 0 else f"status {runs[0][0]}"
-    return min(run[1] for run in runs), max(run[2] for run in runs), told
+    status, seconds, _, told = min(runs, key=lambda run: run[1])
+    return seconds, max(run[2] for run in runs), told if status == 0 else f"status {status}"
 
 
 def ratio(ours, other):
