@@ -21,6 +21,9 @@ use Rattle.node_store.specs.declared.grow.Stop.{Stop}
 use Rattle.node_store.specs.Listed.{listed, listed_at}
 use Rattle.node_store.specs.Views.{View, Denotes, Grown, Is}
 use Rattle.node_store.specs.ViewLaws.{Is-from, values_at-is}
+use Rattle.seat_guard.specs.declared.seat.Guard.{Guard}
+use Rattle.seat_guard.specs.declared.seat.Pass.{Pass}
+use Rattle.seat_guard.specs.declared.seat.Rest.{Rest}
 use Rattle.seat_guard.specs.declared.view.Change.{Change}
 use Rattle.seat_guard.specs.declared.view.Change.TheVariants.{Nothing, Adds, Takes, Posts}
 use Rattle.seat_guard.specs.declared.view.Draws.{Draws}
@@ -28,6 +31,7 @@ use Rattle.seat_guard.specs.declared.view.Held.{Held}
 use Rattle.seat_guard.specs.declared.view.Leaving.{Leaving}
 use Rattle.seat_guard.specs.declared.view.Row.{Row}
 use Rattle.seat_guard.specs.declared.view.Telling.{Telling}
+use Rattle.seat_guard.specs.Passes.{IsPassOf, known, resting}
 use Rattle.seat_guard.specs.Turn.{KeepsRows}
 use Rattle.seat_guard.specs.Views.{Agrees, adds_after, cell_in, holding, letting_go, rows_after, without}
 use Rattle.shared_store.specs.declared.shared.Shared.{Shared}
@@ -40,17 +44,23 @@ use Rattle.dd_session.specs.declared.answers.Full.{Full}
 use Rattle.dd_session.specs.declared.answers.Placed.{Placed}
 use Rattle.dd_session.specs.declared.answers.Refusal.{Refusal}
 use Rattle.dd_session.specs.declared.answers.Refusal.TheVariants as refusals
-use Rattle.dd_session.specs.Sessions.{Called, Denies, IsAsBefore, fulls_in}
+use Rattle.dd_session.specs.declared.book.Book.{Book}
+use Rattle.dd_session.specs.Sessions.{Called, Denies, IsAsBefore, Managed, Seen, fulls_in}
 use Rattle.dd_session.specs.Works.{HasRows, IsOfWork, StoresWork}
-use Rattle.dd_session.specs.Turns.{Gives, HasValue, IsCausedBy, IsRefused, MayBeFull, Notes, Stands, Tied, Told, Tried, seen_by, names_by}
+use Rattle.dd_session.specs.Turns.{Gives, HasValue, IsCausedBy, IsRefused, IsSeatOf, MayBeFull, Notes, Stands, Tied, Told, Took, Tried, managed_by, names_by, seen_by, seen_of}
 use Rattle.dd_session.proofs.Tying.{tied_room, tied_same}
 
--- what the taker of the turn knows
-pub record Took (d e : Draws) (x : Shared) : Type 0 where
-  pub others : List Held
-  pub is : e ≡ holding d (board x) others (orders x) (functions x)
-  pub serves : Serving x e
-  pub many : length (board x) ≡ 256
+-- from what a taking of the turn tells
+pub took_of : {d e : Draws} {x : Shared} → (others : List Held) × (e ≡ holding d (board x) others (orders x) (functions x)) × Serving x e → length (board x) ≡ 256 → Took d e x
+took_of took many = record { others = took.0; is = took.1; serves = took.2; many = many }
+
+-- a session's seat is seen as the session
+pub seat_of : {s : Seen} (p : Pass Shared) (book : Book) → seen_of p book ≡ s → IsSeatOf s (known p)
+seat_of p book is = record { table = p.seat.table_id; spare = book.rows.spare; is = sym is }
+
+-- its pass is one of its manager
+pub same_table : {s : Seen} {m : Managed} (g : Guard Shared) (r : Rest Shared) (p : Pass Shared) (book : Book) → seen_of p book ≡ s → s.manager ≡ m → managed_by g.table.shared.table_id (resting r) ≡ m → IsPassOf g p
+same_table g r p book seen own managed = ap (λ (s : Seen). s.manager.table) seen ∙ ap (λ (m : Managed). m.table) own ∙ sym (ap (λ (m : Managed). m.table) managed)
 
 -- a table that agrees with the one who has the turn agreed before
 agrees_before : (d e : Draws) (x : Shared) → Took d e x → d.holds ≡ false → (t : Table) → Agrees e t → Agrees d t

@@ -22,8 +22,8 @@ use Rattle.add_ops.specs.declared.arithmetic.Overflow.{Overflow}
 use Rattle.seat_guard.specs.declared.view.Draws.{Draws}
 use Rattle.shared_store.specs.declared.shared.Shared.{Shared}
 use Rattle.shared_store.specs.Sharing.{view_of}
-use Rattle.dd_session.specs.Turns.{Gives, HasExact, IsExact, MayBeFull, Tried, exact_answers}
-use Rattle.dd_session.proofs.Calls.{Took, gives_held, listed-made}
+use Rattle.dd_session.specs.Turns.{Gives, HasExact, IsExact, MayBeFull, Took, Tried, exact_answers}
+use Rattle.dd_session.proofs.Calls.{gives_held, listed-made}
 
 -- values in range, and one out of range
 needs_nodes : (o : Option (List ℤ)) → needs_no_node (in_range o) ≡ false

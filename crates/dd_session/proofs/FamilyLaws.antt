@@ -4,7 +4,6 @@ use Rattle.edge_bits.specs.Reading.{element_of}
 use Rattle.edge_bits.specs.declared.edges.Edge.{Edge}
 use Rattle.edge_bits.specs.declared.edges.Kind.TheVariants as kinds
 use Rattle.function_laws.specs.declared.history.Name.{Name}
-use Rattle.function_laws.specs.declared.history.Call.{Call}
 use Rattle.function_laws.specs.declared.history.Call.TheVariants as calls
 use Rattle.function_laws.specs.Families.{change, diff, meet, product, quotient, single, subset0, subset1, union}
 use Rattle.function_laws.specs.Steps.{makes, outcome}
@@ -12,7 +11,7 @@ use Rattle.function_laws.specs.Tables.{Table}
 use Rattle.node_store.specs.Contents.{IsSound}
 use Rattle.node_store.specs.Listed.{listed, listed_at}
 use Rattle.node_store.specs.Views.{View, AreTwo, Denotes, Is, family_at}
-use Rattle.node_store.specs.ViewLaws.{values_at-is}
+use Rattle.node_store.specs.ViewLaws.{Is-from, values_at-is}
 use Rattle.node_slots.specs.Stores.{IsStore}
 use Rattle.node_slots.proofs.Settling.{base-without}
 use Rattle.node_slots.specs.Wholes.{content_view}
@@ -23,25 +22,27 @@ use Rattle.shared_store.specs.declared.shared.Shared.{Shared}
 use Rattle.shared_store.specs.Sharing.{view_of}
 use Rattle.dd_session.specs.Requests.{terminal_call, terminal_edge, terminal_family}
 use Rattle.dd_session.specs.Turns.{Gives, HasValue, IsEdgeOf, Stands}
-use Rattle.dd_session.proofs.Calls.{Took, gives_held, stands_taken}
 use Rattle.dd_session.proofs.NumberLaws.{held_at}
 use Rattle.dd_session.proofs.Outcomes.{elements}
 
 -- the families of no operand
-pub terminal_denotes : (x : Shared) (b : Bool) → IsSound (content_view x.store) → Denotes kinds.Zdd (view_of x) (terminal_edge b) (terminal_family b)
+terminal_denotes : (x : Shared) (b : Bool) → IsSound (content_view x.store) → Denotes kinds.Zdd (view_of x) (terminal_edge b) (terminal_family b)
 terminal_denotes x true sound = record { is = sound.base_family; beyond = λ v from. base-without (element_of v); fits = tt }
 terminal_denotes x false sound = record { is = sound.empty_family; beyond = λ v from a has. refl; fits = tt }
 
-pub gives_terminal : (old held : Draws) (x : Shared) → Took old held x → old.holds ≡ false → (b : Bool) (call : Call) → IsSound (content_view x.store) → call ≡ terminal_call b
-    → Gives held call (makes (listed_at kinds.Zdd (view_of x) (terminal_edge b)))
-gives_terminal old held x took idle b call sound is =
-    subst (λ (y : Call). Gives held y (makes (listed_at kinds.Zdd (view_of x) (terminal_edge b)))) (sym is)
-    (gives_held old held x (terminal_call b) (makes (listed_at kinds.Zdd (view_of x) (terminal_edge b))) took idle
-    (λ t agrees. by b t (elements old t x agrees (stands_taken old held x took)) ∙ ap (λ (f : ℕ → Bool). Some (makes (listed kinds.Zdd (view_of x) f))) (sym (values_at-is kinds.Zdd (terminal_denotes x b sound)))))
+pub told_terminal : (d : Draws) (b : Bool) (x : Shared) → IsSound (content_view x.store) → Stands x d → (e : Edge) → e ≡ terminal_edge b
+    → Is kinds.Zdd (view_of x) e × Gives d (terminal_call b) (makes (listed_at kinds.Zdd (view_of x) e))
+told_terminal d b x sound stands e is = subst (λ (i : Edge). Is kinds.Zdd (view_of x) i × Gives d (terminal_call b) (makes (listed_at kinds.Zdd (view_of x) i))) (sym is) (
+  Is-from kinds.Zdd denotes,
+  λ t agrees. by b t (elements d t x agrees stands) ∙ ap (λ (f : ℕ → Bool). Some (makes (listed kinds.Zdd (view_of x) f))) (sym (values_at-is kinds.Zdd denotes)),
+)
   where
-    by : (b : Bool) (t : Table) → t.sizes.elements ≡ (view_of x).elements → outcome t old.session (terminal_call b) ≡ Some (makes (listed kinds.Zdd (view_of x) (terminal_family b)))
-    by true t same = outcome-base (view_of x) t.sizes t.cells (t.live old.session) same
-    by false t same = outcome-empty (view_of x) t.sizes t.cells (t.live old.session) same
+    denotes : Denotes kinds.Zdd (view_of x) (terminal_edge b) (terminal_family b)
+    denotes = terminal_denotes x b sound
+
+    by : (b : Bool) (t : Table) → t.sizes.elements ≡ (view_of x).elements → outcome t d.session (terminal_call b) ≡ Some (makes (listed kinds.Zdd (view_of x) (terminal_family b)))
+    by true t same = outcome-base (view_of x) t.sizes t.cells (t.live d.session) same
+    by false t same = outcome-empty (view_of x) t.sizes t.cells (t.live d.session) same
 
 module _ (d : Draws) where
   -- an element of the manager is one of the store

@@ -24,8 +24,7 @@ use Rattle.shared_store.specs.Storing.{IsLeaving}
 use Rattle.dd_session.specs.declared.book.Book.{Book}
 use Rattle.dd_session.specs.Listings.{IsListed, ListsRows}
 use Rattle.dd_session.specs.Sessions.{IsNamed, edge_in, fulls_in}
-use Rattle.dd_session.specs.Turns.{Keeps, Stands, seen_by}
-use Rattle.dd_session.proofs.Calls.{Took}
+use Rattle.dd_session.specs.Turns.{Keeps, Stands, Took, seen_by}
 use Rattle.dd_session.proofs.Naming.{own_edge}
 use Rattle.dd_session.proofs.Serving.{serves-same}
 use Rattle.dd_session.proofs.Tying.{tied_same}

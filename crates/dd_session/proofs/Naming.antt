@@ -16,8 +16,8 @@ use Rattle.seat_guard.specs.declared.view.Row.{Row}
 use Rattle.seat_guard.specs.declared.view.Draws.{Draws}
 use Rattle.seat_guard.specs.Views.{stands_for}
 use Rattle.shared_store.specs.Sharing.{keeps, kind_of, view_of}
-use Rattle.dd_session.specs.Sessions.{IsNamed, edge_in, edge_or, held_as}
-use Rattle.dd_session.specs.Turns.{IsEdgeOf, Tied, live_as}
+use Rattle.dd_session.specs.Sessions.{IsNamed, Seen, edge_in, edge_or, held_as}
+use Rattle.dd_session.specs.Turns.{IsEdgeOf, IsSeatOf, Tied, live_as}
 
 pub both_true : (x y : Bool) → (x && y) ≡ true → (x ≡ true) × (y ≡ true)
 both_true true true e = (refl, refl)
@@ -84,6 +84,12 @@ own_edge d name k named x stands =
     let w = view_of x in
     subst (λ (y : Kind × Edge). Is y.0 w y.1 × (stands_for d.rows name ≡ Some (listed_at y.0 w y.1))) (λ i. (kind i, sym same i))
     (kept.0, held_stands d.rows name ∙ ap (option_map (λ (z : Held). z.function)) h.1 ∙ ap Some (sym kept.1))
+
+-- in each seat that is seen as the session
+pub edge_seen : (s : Seen) (d : Draws) → IsSeatOf s d → (k : Kind) (name : Name) (e : Edge) → e ≡ edge_in s.rows name → IsNamed k s.rows name → IsEdgeOf k d name e
+edge_seen s d seat k name e is named =
+    let rows : s.rows ≡ d.rows = ap (λ (z : Seen). z.rows) seat.is in
+    subst (IsEdgeOf k d name) (sym (is ∙ ap (λ rs. edge_in rs name) rows)) (own_edge d name k (subst (λ rs. IsNamed k rs name) rows named))
 
 module _ (d : Draws) (rows : RowMap) (name : Name) (tied : Tied d rows) where
   -- a name that stands for something finds a row

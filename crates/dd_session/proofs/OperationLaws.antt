@@ -31,8 +31,8 @@ use Rattle.ite_core.proofs.OutcomeLaws.{outcome-and, outcome-cofactor, outcome-i
 use Rattle.quantify_ops.specs.Composed.{composed_at}
 use Rattle.quantify_ops.specs.Quantified.{both_at}
 use Rattle.quantify_ops.proofs.OutcomeLaws.{outcome-and_exists, outcome-compose, outcome-exists, outcome-forall, outcome-support, outcome-vector_compose}
-use Rattle.dd_session.specs.Turns.{Gives, HasValue, IsEdgeOf, Stands}
-use Rattle.dd_session.proofs.Calls.{Took, gives_held, stands_taken}
+use Rattle.dd_session.specs.Turns.{Gives, HasValue, IsEdgeOf, Stands, Took}
+use Rattle.dd_session.proofs.Calls.{gives_held, stands_taken}
 use Rattle.dd_session.proofs.Outcomes.{live, vars}
 
 module _ (d : Draws) where

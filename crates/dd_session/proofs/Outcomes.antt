@@ -7,17 +7,18 @@ use Rattle.edge_bits.specs.declared.edges.Kind.{Kind}
 use Rattle.edge_bits.specs.declared.edges.Kind.TheVariants as kinds
 use Rattle.function_laws.specs.declared.history.Name.{Name}
 use Rattle.function_laws.specs.declared.history.Function.{Function}
-use Rattle.function_laws.specs.declared.history.Call.{Call}
 use Rattle.function_laws.specs.declared.history.Call.TheVariants as calls
 use Rattle.function_laws.specs.Steps.{compares, makes, outcome, shows, with_one}
 use Rattle.function_laws.specs.Tables.{Sizes, Table}
 use Rattle.function_laws.specs.Kinds.{BddFunction, flipped}
 use Rattle.function_laws.specs.Values.{assignment_of, constant, negation, projection}
+use Rattle.node_store.specs.Contents.{IsSound}
 use Rattle.node_store.specs.Listed.{listed, listed_at, number_of}
 use Rattle.node_store.specs.Views.{View, Denotes, Is, bdd_at, levels, values_at}
 use Rattle.node_store.specs.ViewLaws.{Denotes-flip, Is-from, values_at-is}
 use Rattle.node_store.proofs.ListedLaws.{same-listed}
 use Rattle.node_store.proofs.Outcomes.{outcome-eval, outcome-same}
+use Rattle.node_slots.specs.Wholes.{content_view}
 use Rattle.seat_guard.specs.declared.view.Draws.{Draws}
 use Rattle.seat_guard.specs.Views.{Agrees, stands_for}
 use Rattle.shared_store.specs.declared.shared.Shared.{Shared}
@@ -25,9 +26,9 @@ use Rattle.shared_store.specs.Sharing.{view_of, orders}
 use Rattle.ite_core.proofs.OutcomeLaws.{outcome-not, outcome-one, outcome-zero, outcome-var}
 use Rattle.shared_store.specs.Lasting.{Lasts}
 use Rattle.dd_session.specs.Requests.{truth_call}
-use Rattle.dd_session.specs.Turns.{Gives, IsEdgeOf, Stands, managed_by}
+use Rattle.dd_session.specs.Turns.{Gives, IsEdgeOf, Stands, Took, managed_by}
 use Rattle.dd_session.specs.Walking.{bits_of}
-use Rattle.dd_session.proofs.Calls.{Took, gives_held, stands_of, stands_taken}
+use Rattle.dd_session.proofs.Calls.{gives_held, stands_of, stands_taken}
 
 module _ (d : Draws) where
   -- what a row's name stands for, in a table that agrees
@@ -60,32 +61,34 @@ module _ (old held : Draws) (x : Shared) (took : Took old held x) (idle : old.ho
   stands_held_as k a e edge = ap (λ (z : Draws). stands_for z.rows a) took.is ∙ (edge x (stands_taken old held x took)).1
 
 -- the complement of a row
-pub gives_not : (old held : Draws) (x : Shared) → Took old held x → old.holds ≡ false → (a : Name) (e e' : Edge) → e' ≡ record e { complement = not e.complement } → IsEdgeOf kinds.Bdd old a e
-    → Is kinds.Bdd (view_of x) e' × Gives held (calls.Not a) (makes (listed_at kinds.Bdd (view_of x) e'))
-gives_not old held x took idle a e e' is edge =
-    let s = edge x (stands_taken old held x took) in
+pub told_not : (d : Draws) (a : Name) (e e' : Edge) → e' ≡ record e { complement = not e.complement } → IsEdgeOf kinds.Bdd d a e → (x : Shared) → Stands x d
+    → Is kinds.Bdd (view_of x) e' × Gives d (calls.Not a) (makes (listed_at kinds.Bdd (view_of x) e'))
+told_not d a e e' is edge x stands =
+    let s = edge x stands in
     let w = view_of x in
     let denotes : Denotes kinds.Bdd w e' (negation (bdd_at w e)) = subst (λ (i : Edge). Denotes kinds.Bdd w i (negation (bdd_at w e))) (sym is) (Denotes-flip s.0) in (
       Is-from kinds.Bdd denotes,
-      gives_held old held x (calls.Not a) (makes (listed_at kinds.Bdd w e')) took idle
-          (λ t agrees. outcome-not w t.sizes t.cells (t.live old.session) a e (live old t a (listed_at kinds.Bdd w e) agrees s.1) ∙ ap (λ (f : ℕ → Bool). Some (makes (listed kinds.Bdd w f))) (sym (values_at-is kinds.Bdd denotes))),
+      λ t agrees. outcome-not w t.sizes t.cells (t.live d.session) a e (live d t a (listed_at kinds.Bdd w e) agrees s.1) ∙ ap (λ (f : ℕ → Bool). Some (makes (listed kinds.Bdd w f))) (sym (values_at-is kinds.Bdd denotes)),
     )
 
 -- the constants
-pub truth_denotes : (w : View) (b : Bool) → w.content true_slot ≡ Some (BddFunction (constant true)) → Denotes kinds.Bdd w (truth_edge b) (constant b)
+truth_denotes : (w : View) (b : Bool) → w.content true_slot ≡ Some (BddFunction (constant true)) → Denotes kinds.Bdd w (truth_edge b) (constant b)
 truth_denotes w true is = record { is = is; beyond = λ v from k c. refl; fits = tt }
 truth_denotes w false is = record { is = ap (flipped true) is; beyond = λ v from k c. refl; fits = tt }
 
-pub gives_truth : (old held : Draws) (x : Shared) → Took old held x → old.holds ≡ false → (b : Bool) (call : Call) → (view_of x).content true_slot ≡ Some (BddFunction (constant true)) → call ≡ truth_call b
-    → Gives held call (makes (listed_at kinds.Bdd (view_of x) (truth_edge b)))
-gives_truth old held x took idle b call sound is =
-    subst (λ (y : Call). Gives held y (makes (listed_at kinds.Bdd (view_of x) (truth_edge b)))) (sym is)
-    (gives_held old held x (truth_call b) (makes (listed_at kinds.Bdd (view_of x) (truth_edge b))) took idle
-    (λ t agrees. by b t (vars old t x agrees (stands_taken old held x took)) ∙ ap (λ (f : ℕ → Bool). Some (makes (listed kinds.Bdd (view_of x) f))) (sym (values_at-is kinds.Bdd (truth_denotes (view_of x) b sound)))))
+pub told_truth : (d : Draws) (b : Bool) (x : Shared) → IsSound (content_view x.store) → Stands x d → (e : Edge) → e ≡ truth_edge b
+    → Is kinds.Bdd (view_of x) e × Gives d (truth_call b) (makes (listed_at kinds.Bdd (view_of x) e))
+told_truth d b x sound stands e is = subst (λ (i : Edge). Is kinds.Bdd (view_of x) i × Gives d (truth_call b) (makes (listed_at kinds.Bdd (view_of x) i))) (sym is) (
+  Is-from kinds.Bdd denotes,
+  λ t agrees. by b t (vars d t x agrees stands) ∙ ap (λ (f : ℕ → Bool). Some (makes (listed kinds.Bdd (view_of x) f))) (sym (values_at-is kinds.Bdd denotes)),
+)
   where
-    by : (b : Bool) (t : Table) → t.sizes.variables ≡ (view_of x).vars → outcome t old.session (truth_call b) ≡ Some (makes (listed kinds.Bdd (view_of x) (constant b)))
-    by true t vars = outcome-one (view_of x) t.sizes t.cells (t.live old.session) vars
-    by false t vars = outcome-zero (view_of x) t.sizes t.cells (t.live old.session) vars
+    denotes : Denotes kinds.Bdd (view_of x) (truth_edge b) (constant b)
+    denotes = truth_denotes (view_of x) b sound.logic_one
+
+    by : (b : Bool) (t : Table) → t.sizes.variables ≡ (view_of x).vars → outcome t d.session (truth_call b) ≡ Some (makes (listed kinds.Bdd (view_of x) (constant b)))
+    by true t vars = outcome-one (view_of x) t.sizes t.cells (t.live d.session) vars
+    by false t vars = outcome-zero (view_of x) t.sizes t.cells (t.live d.session) vars
 
 -- a projection
 pub gives_var : (old held : Draws) (x y : Shared) → Took old held x → old.holds ≡ false → Lasts x y → orders y ≡ orders x → (v : ℕ) (e : Edge) → v < old.vars → Denotes kinds.Bdd (view_of y) e (projection v)

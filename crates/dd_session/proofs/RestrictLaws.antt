@@ -23,10 +23,10 @@ use Rattle.shared_store.specs.Sharing.{view_of}
 use Rattle.dd_session.specs.declared.answers.Placed.{Placed}
 use Rattle.dd_session.specs.declared.answers.Refusal.{Refusal}
 use Rattle.dd_session.specs.declared.answers.Refusal.TheVariants as refusals
-use Rattle.dd_session.specs.Requests.{truths_of}
+use Rattle.dd_session.specs.declared.request.Adding.TheVariants.{Chosen}
 use Rattle.dd_session.specs.Sessions.{Called, Denies}
-use Rattle.dd_session.specs.Turns.{Chooses, Gives, IsEdgeOf, IsRefused, MayBeFull, Stands, Told, Tried, seen_by}
-use Rattle.dd_session.proofs.Calls.{Took, as_before, called, denied, gives_held, stands_of}
+use Rattle.dd_session.specs.Turns.{AddsRow, Gives, IsEdgeOf, IsRefused, MayBeFull, Stands, Told, Took, Tried, seen_by}
+use Rattle.dd_session.proofs.Calls.{as_before, called, denied, gives_held, stands_of}
 use Rattle.dd_session.proofs.Outcomes.{live}
 
 module _ (d e : Draws) (x y : Shared) (made : Result Edge Stop) (took : Took d e x) (idle : d.holds ≡ false) (a b : Name) (i j : Edge) (first : IsEdgeOf kinds.Bdd d a i) (second : IsEdgeOf kinds.Bdd d b j)
@@ -45,20 +45,23 @@ module _ (d e : Draws) (x y : Shared) (made : Result Edge Stop) (took : Took d e
   restrict_may_full t agrees = (restricts (list_of (2 ^ v.vars) (bdd_at v i)) (list_of (2 ^ v.vars) (bdd_at v j)), gives t agrees, refl)
 
   pub restrict_chooses : (r : Result Edge Stop) → IfOk r (Restricted v (view_of y) i j)
-      → IfOk r (λ edge. Is kinds.Bdd (view_of y) edge × Chooses e (calls.Restrict a b) (truths_of (listed_at kinds.Bdd (view_of y) edge)))
+      → IfOk r (λ edge. Is kinds.Bdd (view_of y) edge × AddsRow e (view_of y) (calls.Restrict a b) Chosen (record { kind = kinds.Bdd; edge = edge }))
   restrict_chooses (Err s) is = tt
   restrict_chooses (Ok edge) is =
       let made : List Bool = list_of (2 ^ (view_of y).vars) (bdd_at (view_of y) edge) in
       let list : made ≡ list_of (2 ^ v.vars) (bdd_at (view_of y) edge) = ap (λ n. list_of (2 ^ n) (bdd_at (view_of y) edge)) tried.ran.grown.vars in (
         is.answer,
-        record {
-          f = list_of (2 ^ v.vars) (bdd_at v i);
-          c = list_of (2 ^ v.vars) (bdd_at v j);
-          gives = gives;
-          long = ap length list ∙ length-list_of (2 ^ v.vars) (bdd_at (view_of y) edge) ∙ sym (length-list_of (2 ^ v.vars) (bdd_at v i));
-          says = subst (λ g. Restricts (length (list_of (2 ^ v.vars) (bdd_at v i))) (truth (list_of (2 ^ v.vars) (bdd_at v i))) (truth (list_of (2 ^ v.vars) (bdd_at v j))) (truth g)) (sym list)
-              (Restricts-list_of v.vars (bdd_at v i) (bdd_at v j) (bdd_at (view_of y) edge) is.restricts);
-        },
+        (
+          refl,
+          record {
+            f = list_of (2 ^ v.vars) (bdd_at v i);
+            c = list_of (2 ^ v.vars) (bdd_at v j);
+            gives = gives;
+            long = ap length list ∙ length-list_of (2 ^ v.vars) (bdd_at (view_of y) edge) ∙ sym (length-list_of (2 ^ v.vars) (bdd_at v i));
+            says = subst (λ g. Restricts (length (list_of (2 ^ v.vars) (bdd_at v i))) (truth (list_of (2 ^ v.vars) (bdd_at v i))) (truth (list_of (2 ^ v.vars) (bdd_at v j))) (truth g)) (sym list)
+                (Restricts-list_of v.vars (bdd_at v i) (bdd_at v j) (bdd_at (view_of y) edge) is.restricts);
+          },
+        ),
       )
 
 -- what it is for its caller

@@ -44,7 +44,7 @@ use Rattle.dd_session.specs.declared.request.Answer.{Answer}
 use Rattle.dd_session.specs.declared.request.Answer.TheVariants.{Added, Dropped, Posted, Truth, Value, Done, Overflow, Full}
 use Rattle.dd_session.specs.Requests.{added_as, call_of, change_of, is_refusal, reply_of, truths_of}
 use Rattle.dd_session.specs.Sessions.{fulls_in, is_full, names_in}
-use Rattle.dd_session.specs.Turns.{AddsRow, Chooses, Drew, Gives, MayBeFull, Notes, live_as, names_by}
+use Rattle.dd_session.specs.Turns.{AddsRow, Chooses, Drew, Gives, IsAdded, MayBeFull, Notes, Told, live_as, names_by}
 use Rattle.dd_session.proofs.Naming.{cond_none, same_name-eq}
 use Rattle.dd_session.proofs.RequestLemmas.{carries_none, orders_stay}
 use Rattle.dd_session.proofs.Serving.{KnowsAs, listed-on}
@@ -403,3 +403,9 @@ knows_posted d w i a cell = record { rows_are = refl; cells_are = refl; others_a
 -- a drop takes a row
 pub knows_dropped : (d : Draws) (a : Name) → KnowsAs d (told_of d 0 (record { call = calls.DropRow a; reply = replies.Done; change = Takes a })) (without a d.rows) d.cells
 knows_dropped d a = record { rows_are = refl; cells_are = refl; others_are = refl; counts_are = (refl, refl, refl); orders_are = refl }
+
+-- what a new row is told as
+pub added-told : (d d' : Draws) (call : Call) (adding : Adding) (name : Name) (w : View) (place : ℕ) (cell : Cell) → Told d d' call (added_as w adding name cell) place → IsAdded d d' call adding name place
+added-told d d' call Made name w place cell told = told
+added-told d d' call Chosen name w place cell told = (truths_of (listed_at cell.kind w cell.edge), told)
+added-told d d' call (Taken posted) name w place cell told = told

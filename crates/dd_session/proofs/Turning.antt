@@ -25,8 +25,7 @@ use Rattle.shared_store.specs.Storing.{IsLeaving, StoresOnly}
 use Rattle.shared_store.proofs.Storing.{stored-only}
 use Rattle.dd_session.specs.declared.book.Book.{Book}
 use Rattle.dd_session.specs.Sessions.{fulls_in, held_as}
-use Rattle.dd_session.specs.Turns.{Drew, Keeps, Notes, Tied, function_of, live_as}
-use Rattle.dd_session.proofs.Calls.{Took}
+use Rattle.dd_session.specs.Turns.{Drew, Keeps, Notes, Tied, Took, function_of, live_as}
 use Rattle.dd_session.proofs.Letting.{board_count, cells-at}
 use Rattle.dd_session.proofs.Tying.{finds-more, longer_by, tied_same}
 use Rattle.dd_session.proofs.Naming.{same_name-refl}

@@ -1,5 +1,5 @@
 -- What the functions over a seat and its rows say.
-use Rattle.std.specs.Prelude.{◌≡◌, Bool, ◌==◌, ℕ, ◌+◌, ◌≤◌, ◌<◌, ◌^◌, List, [], ◌∷◌, All, length, option_map, Option, Some, None, true, false, ℤ, Result, Ok, Err, IfOk, IsErrOf}
+use Rattle.std.specs.Prelude.{◌≡◌, Bool, ◌==◌, ℕ, ◌+◌, ◌≤◌, ◌<◌, ◌^◌, List, [], ◌∷◌, All, length, option_map, Option, Some, None, true, false, ℤ, Result, Ok, Err, IfOk, IsErrOf, max}
 use Rattle.add_ops.specs.declared.arithmetic.Overflow.{Overflow}
 use Rattle.atomic_table.specs.Seated.{TableId}
 use Rattle.edge_bits.specs.declared.edges.Edge.{Edge}
@@ -37,11 +37,11 @@ use Rattle.seat_guard.specs.Passes.{IsPassOf, in_hand, known}
 use Rattle.seat_guard.specs.Turn.{KeepsRows, one_if, row_count}
 use Rattle.seat_guard.specs.declared.view.Change.{Change}
 use Rattle.seat_guard.specs.declared.view.Change.TheVariants.{Adds}
-use Rattle.seat_guard.specs.Views.{Agrees, MayTell, letting_go, stands_for, told_of}
+use Rattle.seat_guard.specs.Views.{Agrees, MayTell, holding, letting_go, stands_for, told_of}
 use Rattle.shared_store.specs.declared.shared.Cell.{Cell}
 use Rattle.shared_store.specs.declared.shared.Shared.{Shared}
 use Rattle.shared_store.specs.Lasting.{Lasts}
-use Rattle.shared_store.specs.Sharing.{board, count, counts, due, keeps, kind_of, orders, view_of}
+use Rattle.shared_store.specs.Sharing.{Serving, board, count, counts, due, functions, keeps, kind_of, orders, view_of}
 use Rattle.shared_store.specs.Storing.{IsLeaving, IsListedWork, StoresOnly}
 use Rattle.dd_session.specs.declared.answers.Fetched.{Fetched}
 use Rattle.dd_session.specs.declared.answers.Fetched.TheVariants.{Posted, Empty}
@@ -70,6 +70,12 @@ seen_by table d spare = record {
   due = d.due;
   noted = d.noted;
 }
+
+-- a seat that is seen as this session
+pub record IsSeatOf (s : Seen) (d : Draws) : Type 0 where
+  pub table : TableId
+  pub spare : ℕ
+  pub is : s ≡ seen_by table d spare
 
 abbrev pub seen_of : Pass Shared → Book → Seen
 seen_of p book = seen_by p.seat.table_id (known p) book.rows.spare
@@ -117,6 +123,21 @@ IsReady p = ((known p).live ≡ true) × ((known p).holds ≡ false) × (in_hand
 abbrev pub IsHolding : Guard Shared → Pass Shared → Type 0
 IsHolding g p = IsPassOf g p × ((known p).live ≡ true) × ((known p).holds ≡ true) × (in_hand p ≡ (0, None) ∷ []) × (length (known p).cells ≡ 256)
 
+-- what the taker of the turn knows
+pub record Took (d e : Draws) (x : Shared) : Type 0 where
+  pub others : List Held
+  pub is : e ≡ holding d (board x) others (orders x) (functions x)
+  pub serves : Serving x e
+  pub many : length (board x) ≡ 256
+
+-- the turn was taken, with room for one more row
+pub record Started (g : Guard Shared) (p p' : Pass Shared) (book book' : Book) (x : Shared) : Type 0 where
+  pub holds : IsHolding g p'
+  pub took : Took (known p) (known p') x
+  pub keeps : Keeps (known p') book'
+  pub spare : book'.rows.spare ≡ max book.rows.spare 1
+  pub few : (k : ℕ) → count x k ≤ 2 ^ 31 + 256
+
 -- a store that keeps the seat's rows
 pub record Stands (x : Shared) (d : Draws) : Type 0 where
   pub rows_kept : KeepsRows keeps board counts count orders x d.rows
@@ -149,6 +170,12 @@ pub record Drew (d d' : Draws) (y : Shared) (x : Telling) (place : ℕ) : Type 0
 -- the same, where the telling has this call and this reply
 abbrev pub Told : Draws → Draws → Call → Reply → ℕ → Type 0
 Told d d' call reply place = (y : Shared) × (x : Telling) × (x.call ≡ call) × (x.reply ≡ reply) × Drew d d' y x place
+
+-- what a new row is told as, by how it came to be
+abbrev pub IsAdded : Draws → Draws → Call → Adding → Name → ℕ → Type 0
+IsAdded d d' call Made name place = Told d d' call (replies.Made name) place
+IsAdded d d' call Chosen name place = (g : List Bool) × Told d d' call (replies.Chose name g) place
+IsAdded d d' call (Taken posted) name place = Told d d' call (replies.Fetched name posted) place
 
 -- what the seat notes as stored, and as due, is as if this content had been given back
 abbrev pub Notes : Draws → Draws → Shared → Type 0

@@ -12,7 +12,7 @@ ghost use Rattle.dd_session.specs.Turns.{Drew, IsEdgeOf, IsHolding, Tied};
 
 use crate::book::Book;
 use crate::request::{Answer, Request};
-use edge_bits::{Edge, Kind};
+use edge_bits::Edge;
 use function_laws::Name;
 use seat_guard::seat::{Guard, Pass};
 use seat_guard::told::Told as Tells;
@@ -28,16 +28,6 @@ pub fn edge_at(pass: &Pass<Shared>, book: &Book, name: Name) -> Edge
 {
     let _ = pass;
     book.rows.edge(name)
-}
-
-/// The kind of a row's edge.
-pub fn kind_at(pass: &Pass<Shared>, book: &Book, name: Name) -> Kind
-    requires tied { Tied (known pass.now) book.now.rows }
-    requires live { (k : KindOf) × IsNamed k (known pass.now).rows name }
-    ensures { (k : KindOf) → IsNamed k (known pass.now).rows name → result ≡ k }
-{
-    let _ = pass;
-    book.rows.kind(name)
 }
 
 // Draws the place of the call, with what it was answered.

@@ -1,19 +1,18 @@
 //! Operations on numbers whose values may be out of range: a try, and where no slot was free a sweep and another try, in one turn.
 
-ghost use Rattle.std.specs.Prelude.{◌≡◌, ◌+◌, ◌≤◌, ◌^◌, ℕ, [], max, true, IsTrue, MatchResult, IfOk, IsErrOf, Some};
+ghost use Rattle.std.specs.Prelude.{◌≡◌, ◌+◌, ◌≤◌, ◌^◌, ℕ, [], IsTrue, MatchResult, IfOk, IsErrOf, Some};
 ghost use Rattle.edge_bits.specs.declared.edges.Kind.TheVariants as kinds;
 ghost use Rattle.function_laws.specs.declared.history.Function.{Function};
 ghost use Rattle.function_laws.specs.Steps.{makes, may_be_full, overflows};
 ghost use Rattle.node_slots.specs.Stores.{IsStore};
 ghost use Rattle.node_store.specs.Listed.{listed_at};
 ghost use Rattle.node_store.specs.Views.{Is};
-ghost use Rattle.seat_guard.specs.Passes.{IsIdle, IsPassOf, in_hand, known};
+ghost use Rattle.seat_guard.specs.Passes.{IsPassOf, in_hand, known};
 ghost use Rattle.shared_store.specs.Lasting.{Lasts};
 ghost use Rattle.shared_store.specs.Sharing.{Serving, count, due, orders, view_of};
 ghost use Rattle.dd_session.specs.Requests.{call_of};
-ghost use Rattle.dd_session.specs.Sessions.{Called, Denies, told_as};
-ghost use Rattle.dd_session.specs.Works.{StoresWork};
-ghost use Rattle.dd_session.specs.Turns.{Gives, HasExact, HasPlace, IsCausedBy, IsHolding, IsRefused, Keeps, MayBeFull, Notes, Ran, Stands, Told, Tried, exact_answers, seen_of};
+ghost use Rattle.dd_session.specs.Sessions.{told_as};
+ghost use Rattle.dd_session.specs.Turns.{Gives, HasPlace, IsCausedBy, IsHolding, IsRefused, Keeps, MayBeFull, Notes, Ran, Told, Tried, exact_answers};
 
 use crate::answers::{Placed, Refusal};
 use crate::book::Book;
@@ -25,7 +24,6 @@ use function_laws::Name;
 use node_slots::{PlainStore, Stop};
 use seat_guard::seat::{Guard, Pass};
 use shared_store::{Cell, Shared, put_back};
-use std::sync::Wait;
 
 /// An operation of the store on functions of numbers, with the edges that it works on.
 pub trait ExactOperation {
@@ -78,7 +76,7 @@ fn try_again<O: ExactOperation>(
 }
 
 /// A try, and where no slot was free a sweep and another try.
-fn attempt<O: ExactOperation>(
+pub fn attempt<O: ExactOperation>(
     mut shared: Shared,
     operation: &O,
 ) -> (Shared, Result<Result<Edge, Overflow>, Stop>)
@@ -93,7 +91,7 @@ fn attempt<O: ExactOperation>(
 }
 
 /// What an operation leaves that made an edge, found a value out of range, or was refused.
-fn settle(
+pub fn settle(
     guard: &Guard<Shared>,
     pass: &mut Pass<Shared>,
     book: &mut Book,
@@ -141,32 +139,4 @@ fn settle(
             Err(Refusal::Memory)
         }
     }
-}
-
-/// An operation whose answer is a new row, or Overflow.
-pub fn operate<R: Wait, O: ExactOperation>(
-    rt: &R,
-    guard: &Guard<Shared>,
-    pass: &mut Pass<Shared>,
-    book: &mut Book,
-    request: Request<'_>,
-    operation: &O,
-) -> Result<Placed<Result<Name, Overflow>>, Refusal>
-    requires idle { IsIdle guard.now pass.old }
-    requires keeps { Keeps (known pass.old) book.old }
-    requires place { HasPlace (known pass.old) }
-    requires may { IsTrue (may_be_full (call_of request)) }
-    requires told { (x : Shared) → IsStore x.store → Stands x (known pass.old) → O.stands operation.now (view_of x) × HasExact (known pass.old) (view_of x) (call_of request) (O.value operation.now (view_of x)) }
-    ensures idle { IsIdle guard.now pass.new }
-    ensures keeps { Keeps (known pass.new) book.new }
-    ensures told { MatchResult result (λ placed. Called (seen_of pass.old book.old) (seen_of pass.new book.new) (call_of request.entry) (told_as placed.value) placed.place) (Denies (seen_of pass.old book.old) (seen_of pass.new book.new) (call_of request.entry)) }
-    ensures stored { StoresWork (O.work operation.now) (seen_of pass.old book.old) (seen_of pass.new book.new) result }
-    ensures spare { MatchResult result (λ placed. MatchResult placed.value (λ name. book.new.rows.spare + 1 ≡ max book.old.rows.spare 1) (λ _. book.new.rows.spare ≡ max book.old.rows.spare 1)) (λ refusal. book.old.rows.spare ≤ book.new.rows.spare) }
-{
-    let Ok(()) = book.rows.reserve(1) else {
-        return Err(Refusal::Memory);
-    };
-    let shared = guard.take(rt, pass);
-    let (shared, made) = attempt(shared, operation);
-    settle(guard, pass, book, shared, request, made)
 }

@@ -15,9 +15,11 @@ ghost use Rattle.dd_session.specs.Sessions.{Called, Denies, HasRoom, IsLiveAs, e
 ghost use Rattle.dd_session.specs.Works.{StoresWork, no_work};
 
 use crate::answers::{Placed, Refusal};
+use crate::family_operations;
 use crate::manager::Manager;
+use crate::request::Request;
 use crate::session::Session;
-use crate::{family_constants, family_makes};
+use edge_bits::{Edge, Kind};
 use handle_count::H;
 use std::sync::Wait;
 
@@ -30,7 +32,7 @@ impl Session {
         ensures stored { StoresWork no_work self.old self.new result }
         ensures spare { MatchResult result (λ placed. self.new.spare + 1 ≡ max self.old.spare 1) (λ refusal. self.old.spare ≤ self.new.spare) }
     {
-        family_constants::terminal(rt, &manager.guard, &mut self.pass, &mut self.book, false)
+        self.add_known(rt, manager, Request::Empty, Kind::Zdd, Edge::empty_family())
     }
 
     /// The family of the combination of no element, as a new row.
@@ -41,7 +43,7 @@ impl Session {
         ensures stored { StoresWork no_work self.old self.new result }
         ensures spare { MatchResult result (λ placed. self.new.spare + 1 ≡ max self.old.spare 1) (λ refusal. self.old.spare ≤ self.new.spare) }
     {
-        family_constants::terminal(rt, &manager.guard, &mut self.pass, &mut self.book, true)
+        self.add_known(rt, manager, Request::Base, Kind::Zdd, Edge::base_family())
     }
 
     /// The family of the combination of one element, as a new row.
@@ -58,7 +60,8 @@ impl Session {
         ensures stored { StoresWork (λ w. value_of_single e) self.old self.new result }
         ensures spare { MatchResult result (λ placed. self.new.spare + 1 ≡ max self.old.spare 1) (λ refusal. self.old.spare ≤ self.new.spare) }
     {
-        family_makes::single(rt, &manager.guard, &mut self.pass, &mut self.book, e)
+        let operation = family_operations::Single { element: e };
+        self.operate(rt, manager, Request::Single(e), Kind::Zdd, &operation)
     }
 
     /// The members of either of two rows, as a new row.
@@ -77,7 +80,11 @@ impl Session {
         ensures stored { StoresWork (value_of_two kinds.Zdd (λ a b. a || b) (edge_in self.old.rows p) (edge_in self.old.rows q)) self.old self.new result }
         ensures spare { MatchResult result (λ placed. self.new.spare + 1 ≡ max self.old.spare 1) (λ refusal. self.old.spare ≤ self.new.spare) }
     {
-        family_makes::union(rt, &manager.guard, &mut self.pass, &mut self.book, p, q)
+        let operation = family_operations::Union {
+            p: self.edge(p),
+            q: self.edge(q),
+        };
+        self.operate(rt, manager, Request::Union(p, q), Kind::Zdd, &operation)
     }
 
     /// The members of both of two rows, as a new row.
@@ -96,7 +103,11 @@ impl Session {
         ensures stored { StoresWork (value_of_two kinds.Zdd (λ a b. a && b) (edge_in self.old.rows p) (edge_in self.old.rows q)) self.old self.new result }
         ensures spare { MatchResult result (λ placed. self.new.spare + 1 ≡ max self.old.spare 1) (λ refusal. self.old.spare ≤ self.new.spare) }
     {
-        family_makes::meet(rt, &manager.guard, &mut self.pass, &mut self.book, p, q)
+        let operation = family_operations::Meet {
+            p: self.edge(p),
+            q: self.edge(q),
+        };
+        self.operate(rt, manager, Request::Meet(p, q), Kind::Zdd, &operation)
     }
 
     /// The members of the first of two rows that the second lacks, as a new row.
@@ -115,7 +126,11 @@ impl Session {
         ensures stored { StoresWork (value_of_two kinds.Zdd (λ a b. a && not b) (edge_in self.old.rows p) (edge_in self.old.rows q)) self.old self.new result }
         ensures spare { MatchResult result (λ placed. self.new.spare + 1 ≡ max self.old.spare 1) (λ refusal. self.old.spare ≤ self.new.spare) }
     {
-        family_makes::diff(rt, &manager.guard, &mut self.pass, &mut self.book, p, q)
+        let operation = family_operations::Diff {
+            p: self.edge(p),
+            q: self.edge(q),
+        };
+        self.operate(rt, manager, Request::Diff(p, q), Kind::Zdd, &operation)
     }
 
     /// The members of a row with an element, without it, as a new row.
@@ -134,7 +149,11 @@ impl Session {
         ensures stored { StoresWork (subset_work subset1_of (first_element + e) (edge_in self.old.rows p)) self.old self.new result }
         ensures spare { MatchResult result (λ placed. self.new.spare + 1 ≡ max self.old.spare 1) (λ refusal. self.old.spare ≤ self.new.spare) }
     {
-        family_makes::subset1(rt, &manager.guard, &mut self.pass, &mut self.book, p, e)
+        let operation = family_operations::Subset1 {
+            p: self.edge(p),
+            element: e,
+        };
+        self.operate(rt, manager, Request::Subset1(p, e), Kind::Zdd, &operation)
     }
 
     /// The members of a row without an element, as a new row.
@@ -153,7 +172,11 @@ impl Session {
         ensures stored { StoresWork (subset_work subset0_of (first_element + e) (edge_in self.old.rows p)) self.old self.new result }
         ensures spare { MatchResult result (λ placed. self.new.spare + 1 ≡ max self.old.spare 1) (λ refusal. self.old.spare ≤ self.new.spare) }
     {
-        family_makes::subset0(rt, &manager.guard, &mut self.pass, &mut self.book, p, e)
+        let operation = family_operations::Subset0 {
+            p: self.edge(p),
+            element: e,
+        };
+        self.operate(rt, manager, Request::Subset0(p, e), Kind::Zdd, &operation)
     }
 
     /// The members of a row with an element toggled in each, as a new row.
@@ -172,7 +195,11 @@ impl Session {
         ensures stored { StoresWork (subset_work change_of (first_element + e) (edge_in self.old.rows p)) self.old self.new result }
         ensures spare { MatchResult result (λ placed. self.new.spare + 1 ≡ max self.old.spare 1) (λ refusal. self.old.spare ≤ self.new.spare) }
     {
-        family_makes::change(rt, &manager.guard, &mut self.pass, &mut self.book, p, e)
+        let operation = family_operations::Change {
+            p: self.edge(p),
+            element: e,
+        };
+        self.operate(rt, manager, Request::Change(p, e), Kind::Zdd, &operation)
     }
 
     /// The unions of a member of each of two rows, as a new row.
@@ -191,7 +218,11 @@ impl Session {
         ensures stored { StoresWork (product_work (edge_in self.old.rows p) (edge_in self.old.rows q)) self.old self.new result }
         ensures spare { MatchResult result (λ placed. self.new.spare + 1 ≡ max self.old.spare 1) (λ refusal. self.old.spare ≤ self.new.spare) }
     {
-        family_makes::product(rt, &manager.guard, &mut self.pass, &mut self.book, p, q)
+        let operation = family_operations::Product {
+            p: self.edge(p),
+            q: self.edge(q),
+        };
+        self.operate(rt, manager, Request::Product(p, q), Kind::Zdd, &operation)
     }
 
     /// What gives, with each member of the second of two rows and disjoint from it, a member of the first; it is empty where the second is, as a new row.
@@ -210,6 +241,10 @@ impl Session {
         ensures stored { StoresWork (quotient_work (edge_in self.old.rows p) (edge_in self.old.rows q)) self.old self.new result }
         ensures spare { MatchResult result (λ placed. self.new.spare + 1 ≡ max self.old.spare 1) (λ refusal. self.old.spare ≤ self.new.spare) }
     {
-        family_makes::quotient(rt, &manager.guard, &mut self.pass, &mut self.book, p, q)
+        let operation = family_operations::Quotient {
+            p: self.edge(p),
+            q: self.edge(q),
+        };
+        self.operate(rt, manager, Request::Quotient(p, q), Kind::Zdd, &operation)
     }
 }

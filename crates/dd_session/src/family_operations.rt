@@ -1,5 +1,16 @@
 //! The operations on families, each with the edges that it works on.
 
+ghost use Rattle.std.specs.Prelude.{◌||◌, ◌&&◌, not, ◌+◌, ◌^◌};
+ghost use Rattle.edge_bits.specs.Permanent.{first_element};
+ghost use Rattle.edge_bits.specs.declared.edges.Kind.TheVariants.{Zdd};
+ghost use Rattle.function_laws.specs.Families.{single, union, meet, diff, subset1, subset0, change, product, quotient};
+ghost use Rattle.node_store.specs.Two.{value_of_two};
+ghost use Rattle.node_store.specs.Views.{Denotes, AreTwo, family_at, Is};
+ghost use Rattle.zdd_ops.specs.Elements.{IsElement, value_of_single};
+ghost use Rattle.zdd_ops.specs.Products.{product_work};
+ghost use Rattle.zdd_ops.specs.Quotients.{quotient_work};
+ghost use Rattle.zdd_ops.specs.Subsets.{subset_work};
+
 use crate::operating::Operation;
 use edge_bits::Edge;
 use node_slots::{PlainStore, Stop};
@@ -11,11 +22,6 @@ pub struct Single {
 }
 
 impl Operation for Single {
-    ghost use Rattle.edge_bits.specs.declared.edges.Kind.TheVariants.{Zdd};
-    ghost use Rattle.function_laws.specs.Families.{single};
-    ghost use Rattle.node_store.specs.Views.{Denotes};
-    ghost use Rattle.zdd_ops.specs.Elements.{IsElement, value_of_single};
-
     ghost kind = { Zdd };
 
     ghost stands = { λ op w. IsElement w op.element };
@@ -37,12 +43,6 @@ pub struct Union {
 }
 
 impl Operation for Union {
-    ghost use Rattle.std.specs.Prelude.{◌||◌};
-    ghost use Rattle.edge_bits.specs.declared.edges.Kind.TheVariants.{Zdd};
-    ghost use Rattle.function_laws.specs.Families.{union};
-    ghost use Rattle.node_store.specs.Two.{value_of_two};
-    ghost use Rattle.node_store.specs.Views.{AreTwo, Denotes, family_at};
-
     ghost kind = { Zdd };
 
     ghost stands = { λ op w. AreTwo Zdd w op.p op.q };
@@ -64,12 +64,6 @@ pub struct Meet {
 }
 
 impl Operation for Meet {
-    ghost use Rattle.std.specs.Prelude.{◌&&◌};
-    ghost use Rattle.edge_bits.specs.declared.edges.Kind.TheVariants.{Zdd};
-    ghost use Rattle.function_laws.specs.Families.{meet};
-    ghost use Rattle.node_store.specs.Two.{value_of_two};
-    ghost use Rattle.node_store.specs.Views.{AreTwo, Denotes, family_at};
-
     ghost kind = { Zdd };
 
     ghost stands = { λ op w. AreTwo Zdd w op.p op.q };
@@ -91,12 +85,6 @@ pub struct Diff {
 }
 
 impl Operation for Diff {
-    ghost use Rattle.std.specs.Prelude.{◌&&◌, not};
-    ghost use Rattle.edge_bits.specs.declared.edges.Kind.TheVariants.{Zdd};
-    ghost use Rattle.function_laws.specs.Families.{diff};
-    ghost use Rattle.node_store.specs.Two.{value_of_two};
-    ghost use Rattle.node_store.specs.Views.{AreTwo, Denotes, family_at};
-
     ghost kind = { Zdd };
 
     ghost stands = { λ op w. AreTwo Zdd w op.p op.q };
@@ -118,14 +106,6 @@ pub struct Subset1 {
 }
 
 impl Operation for Subset1 {
-    ghost use Rattle.std.specs.Prelude.{◌+◌};
-    ghost use Rattle.edge_bits.specs.Permanent.{first_element};
-    ghost use Rattle.edge_bits.specs.declared.edges.Kind.TheVariants.{Zdd};
-    ghost use Rattle.function_laws.specs.Families.{subset1};
-    ghost use Rattle.node_store.specs.Views.{Denotes, Is, family_at};
-    ghost use Rattle.zdd_ops.specs.Elements.{IsElement};
-    ghost use Rattle.zdd_ops.specs.Subsets.{subset_work};
-
     ghost kind = { Zdd };
 
     ghost stands = { λ op w. Is Zdd w op.p × IsElement w op.element };
@@ -147,14 +127,6 @@ pub struct Subset0 {
 }
 
 impl Operation for Subset0 {
-    ghost use Rattle.std.specs.Prelude.{◌+◌};
-    ghost use Rattle.edge_bits.specs.Permanent.{first_element};
-    ghost use Rattle.edge_bits.specs.declared.edges.Kind.TheVariants.{Zdd};
-    ghost use Rattle.function_laws.specs.Families.{subset0};
-    ghost use Rattle.node_store.specs.Views.{Denotes, Is, family_at};
-    ghost use Rattle.zdd_ops.specs.Elements.{IsElement};
-    ghost use Rattle.zdd_ops.specs.Subsets.{subset_work};
-
     ghost kind = { Zdd };
 
     ghost stands = { λ op w. Is Zdd w op.p × IsElement w op.element };
@@ -176,14 +148,6 @@ pub struct Change {
 }
 
 impl Operation for Change {
-    ghost use Rattle.std.specs.Prelude.{◌+◌};
-    ghost use Rattle.edge_bits.specs.Permanent.{first_element};
-    ghost use Rattle.edge_bits.specs.declared.edges.Kind.TheVariants.{Zdd};
-    ghost use Rattle.function_laws.specs.Families.{change};
-    ghost use Rattle.node_store.specs.Views.{Denotes, Is, family_at};
-    ghost use Rattle.zdd_ops.specs.Elements.{IsElement};
-    ghost use Rattle.zdd_ops.specs.Subsets.{subset_work};
-
     ghost kind = { Zdd };
 
     ghost stands = { λ op w. Is Zdd w op.p × IsElement w op.element };
@@ -205,12 +169,6 @@ pub struct Product {
 }
 
 impl Operation for Product {
-    ghost use Rattle.std.specs.Prelude.{◌^◌};
-    ghost use Rattle.edge_bits.specs.declared.edges.Kind.TheVariants.{Zdd};
-    ghost use Rattle.function_laws.specs.Families.{product};
-    ghost use Rattle.node_store.specs.Views.{AreTwo, Denotes, family_at};
-    ghost use Rattle.zdd_ops.specs.Products.{product_work};
-
     ghost kind = { Zdd };
 
     ghost stands = { λ op w. AreTwo Zdd w op.p op.q };
@@ -232,12 +190,6 @@ pub struct Quotient {
 }
 
 impl Operation for Quotient {
-    ghost use Rattle.std.specs.Prelude.{◌^◌};
-    ghost use Rattle.edge_bits.specs.declared.edges.Kind.TheVariants.{Zdd};
-    ghost use Rattle.function_laws.specs.Families.{quotient};
-    ghost use Rattle.node_store.specs.Views.{AreTwo, Denotes, family_at};
-    ghost use Rattle.zdd_ops.specs.Quotients.{quotient_work};
-
     ghost kind = { Zdd };
 
     ghost stands = { λ op w. AreTwo Zdd w op.p op.q };

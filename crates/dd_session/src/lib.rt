@@ -2,31 +2,26 @@
 #![tactic(auto)]
 
 mod answers;
+mod bdd_calls;
 mod book;
-mod changes;
 mod closing;
-mod constants;
 mod drawing;
-mod exact_makes;
 mod exact_operating;
 mod family_calls;
-mod family_constants;
-mod family_makes;
 mod family_operations;
+mod fetching;
 mod listing;
-mod makes;
 mod manager;
 mod nodeless;
 mod number_calls;
-mod number_makes;
 mod number_operations;
 mod operating;
 mod operations;
 mod own_rows;
 mod request;
-mod restricting;
 mod session;
 mod settling;
+mod starting;
 mod walking;
 
 pub use add_ops::Overflow;

@@ -16,9 +16,11 @@ ghost use Rattle.dd_session.specs.Works.{StoresWork};
 
 use crate::answers::{Placed, Refusal};
 use crate::manager::Manager;
+use crate::number_operations;
+use crate::request::Request;
 use crate::session::Session;
-use crate::{exact_makes, number_makes};
 use add_ops::Overflow;
+use edge_bits::Kind;
 use handle_count::H;
 use std::sync::Wait;
 
@@ -37,7 +39,8 @@ impl Session {
         ensures stored { StoresWork (λ w. value_of_constant value) self.old self.new result }
         ensures spare { MatchResult result (λ placed. self.new.spare + 1 ≡ max self.old.spare 1) (λ refusal. self.old.spare ≤ self.new.spare) }
     {
-        number_makes::constant(rt, &manager.guard, &mut self.pass, &mut self.book, value)
+        let operation = number_operations::Constant { value };
+        self.operate(rt, manager, Request::Constant(value), Kind::Add, &operation)
     }
 
     /// The function that is 1 where a row holds and 0 elsewhere, as a new row.
@@ -54,7 +57,8 @@ impl Session {
         ensures stored { StoresWork (value_of_one kinds.Bdd kinds.Add (λ b. if b then pos 1 else pos 0) (edge_in self.old.rows f)) self.old self.new result }
         ensures spare { MatchResult result (λ placed. self.new.spare + 1 ≡ max self.old.spare 1) (λ refusal. self.old.spare ≤ self.new.spare) }
     {
-        number_makes::from_bdd(rt, &manager.guard, &mut self.pass, &mut self.book, f)
+        let operation = number_operations::FromBdd { f: self.edge(f) };
+        self.operate(rt, manager, Request::FromBdd(f), Kind::Add, &operation)
     }
 
     /// The lesser value of two rows at each assignment, as a new row.
@@ -73,7 +77,11 @@ impl Session {
         ensures stored { StoresWork (value_of_two kinds.Add (λ a b. if int_le a b then a else b) (edge_in self.old.rows f) (edge_in self.old.rows g)) self.old self.new result }
         ensures spare { MatchResult result (λ placed. self.new.spare + 1 ≡ max self.old.spare 1) (λ refusal. self.old.spare ≤ self.new.spare) }
     {
-        number_makes::min(rt, &manager.guard, &mut self.pass, &mut self.book, f, g)
+        let operation = number_operations::Min {
+            f: self.edge(f),
+            g: self.edge(g),
+        };
+        self.operate(rt, manager, Request::Min(f, g), Kind::Add, &operation)
     }
 
     /// The greater value of two rows at each assignment, as a new row.
@@ -92,7 +100,11 @@ impl Session {
         ensures stored { StoresWork (value_of_two kinds.Add (λ a b. if int_le b a then a else b) (edge_in self.old.rows f) (edge_in self.old.rows g)) self.old self.new result }
         ensures spare { MatchResult result (λ placed. self.new.spare + 1 ≡ max self.old.spare 1) (λ refusal. self.old.spare ≤ self.new.spare) }
     {
-        number_makes::max(rt, &manager.guard, &mut self.pass, &mut self.book, f, g)
+        let operation = number_operations::Max {
+            f: self.edge(f),
+            g: self.edge(g),
+        };
+        self.operate(rt, manager, Request::Max(f, g), Kind::Add, &operation)
     }
 
     /// The first of two rows where it is at least the second, and 0 elsewhere, as a new row.
@@ -111,7 +123,11 @@ impl Session {
         ensures stored { StoresWork (value_of_two kinds.Add (λ a b. if int_le b a then a else pos 0) (edge_in self.old.rows f) (edge_in self.old.rows g)) self.old self.new result }
         ensures spare { MatchResult result (λ placed. self.new.spare + 1 ≡ max self.old.spare 1) (λ refusal. self.old.spare ≤ self.new.spare) }
     {
-        number_makes::threshold(rt, &manager.guard, &mut self.pass, &mut self.book, f, g)
+        let operation = number_operations::Threshold {
+            f: self.edge(f),
+            g: self.edge(g),
+        };
+        self.operate(rt, manager, Request::Threshold(f, g), Kind::Add, &operation)
     }
 
     /// The second of three rows where the first, a BDD, holds, and the third elsewhere, as a new row.
@@ -132,7 +148,12 @@ impl Session {
         ensures stored { StoresWork (value_of_three kinds.Add (edge_in self.old.rows f) (edge_in self.old.rows g) (edge_in self.old.rows h)) self.old self.new result }
         ensures spare { MatchResult result (λ placed. self.new.spare + 1 ≡ max self.old.spare 1) (λ refusal. self.old.spare ≤ self.new.spare) }
     {
-        number_makes::add_ite(rt, &manager.guard, &mut self.pass, &mut self.book, f, g, h)
+        let operation = number_operations::AddIte {
+            f: self.edge(f),
+            g: self.edge(g),
+            h: self.edge(h),
+        };
+        self.operate(rt, manager, Request::AddIte(f, g, h), Kind::Add, &operation)
     }
 
     /// Where a row is at least a number, which may be any, as a new row.
@@ -150,7 +171,17 @@ impl Session {
         ensures stored { StoresWork (value_of_one kinds.Add kinds.Bdd (λ z. int_le value z) (edge_in self.old.rows f)) self.old self.new result }
         ensures spare { MatchResult result (λ placed. self.new.spare + 1 ≡ max self.old.spare 1) (λ refusal. self.old.spare ≤ self.new.spare) }
     {
-        number_makes::at_least(rt, &manager.guard, &mut self.pass, &mut self.book, f, value)
+        let operation = number_operations::AtLeast {
+            f: self.edge(f),
+            value,
+        };
+        self.operate(
+            rt,
+            manager,
+            Request::AtLeast(f, value),
+            Kind::Bdd,
+            &operation,
+        )
     }
 
     /// Where a row is not 0, as a new row.
@@ -167,7 +198,8 @@ impl Session {
         ensures stored { StoresWork (value_of_one kinds.Add kinds.Bdd (λ z. not (is_zero z)) (edge_in self.old.rows f)) self.old self.new result }
         ensures spare { MatchResult result (λ placed. self.new.spare + 1 ≡ max self.old.spare 1) (λ refusal. self.old.spare ≤ self.new.spare) }
     {
-        number_makes::pattern(rt, &manager.guard, &mut self.pass, &mut self.book, f)
+        let operation = number_operations::Pattern { f: self.edge(f) };
+        self.operate(rt, manager, Request::Pattern(f), Kind::Bdd, &operation)
     }
 
     /// The sum of two rows, as a new row, or Overflow where a value is below -2^46 or above 2^46 - 1.
@@ -186,7 +218,11 @@ impl Session {
         ensures stored { StoresWork (value_of_two kinds.Add (λ a b. a +ℤ b) (edge_in self.old.rows f) (edge_in self.old.rows g)) self.old self.new result }
         ensures spare { MatchResult result (λ placed. MatchResult placed.value (λ name. self.new.spare + 1 ≡ max self.old.spare 1) (λ _. self.new.spare ≡ max self.old.spare 1)) (λ refusal. self.old.spare ≤ self.new.spare) }
     {
-        exact_makes::plus(rt, &manager.guard, &mut self.pass, &mut self.book, f, g)
+        let operation = number_operations::Plus {
+            f: self.edge(f),
+            g: self.edge(g),
+        };
+        self.operate_exactly(rt, manager, Request::Plus(f, g), &operation)
     }
 
     /// The first of two rows less the second, as a new row, or Overflow where a value is below -2^46 or above 2^46 - 1.
@@ -205,7 +241,11 @@ impl Session {
         ensures stored { StoresWork (value_of_two kinds.Add (λ a b. a -ℤ b) (edge_in self.old.rows f) (edge_in self.old.rows g)) self.old self.new result }
         ensures spare { MatchResult result (λ placed. MatchResult placed.value (λ name. self.new.spare + 1 ≡ max self.old.spare 1) (λ _. self.new.spare ≡ max self.old.spare 1)) (λ refusal. self.old.spare ≤ self.new.spare) }
     {
-        exact_makes::minus(rt, &manager.guard, &mut self.pass, &mut self.book, f, g)
+        let operation = number_operations::Minus {
+            f: self.edge(f),
+            g: self.edge(g),
+        };
+        self.operate_exactly(rt, manager, Request::Minus(f, g), &operation)
     }
 
     /// The product of two rows, as a new row, or Overflow where a value is below -2^46 or above 2^46 - 1.
@@ -224,7 +264,11 @@ impl Session {
         ensures stored { StoresWork (value_of_two kinds.Add (λ a b. a *ℤ b) (edge_in self.old.rows f) (edge_in self.old.rows g)) self.old self.new result }
         ensures spare { MatchResult result (λ placed. MatchResult placed.value (λ name. self.new.spare + 1 ≡ max self.old.spare 1) (λ _. self.new.spare ≡ max self.old.spare 1)) (λ refusal. self.old.spare ≤ self.new.spare) }
     {
-        exact_makes::times(rt, &manager.guard, &mut self.pass, &mut self.book, f, g)
+        let operation = number_operations::Times {
+            f: self.edge(f),
+            g: self.edge(g),
+        };
+        self.operate_exactly(rt, manager, Request::Times(f, g), &operation)
     }
 
     /// The sum of both cofactors of a row by a variable, as a new row, or Overflow where a value is below -2^46 or above 2^46 - 1.
@@ -243,6 +287,10 @@ impl Session {
         ensures stored { StoresWork (value_of_sum (edge_in self.old.rows f) v) self.old self.new result }
         ensures spare { MatchResult result (λ placed. MatchResult placed.value (λ name. self.new.spare + 1 ≡ max self.old.spare 1) (λ _. self.new.spare ≡ max self.old.spare 1)) (λ refusal. self.old.spare ≤ self.new.spare) }
     {
-        exact_makes::sum_over(rt, &manager.guard, &mut self.pass, &mut self.book, f, v)
+        let operation = number_operations::SumOver {
+            f: self.edge(f),
+            var: v,
+        };
+        self.operate_exactly(rt, manager, Request::SumOver(f, v), &operation)
     }
 }

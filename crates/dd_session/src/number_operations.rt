@@ -1,5 +1,17 @@
 //! The operations on functions of numbers, each with the edges that it works on.
 
+ghost use Rattle.std.specs.Prelude.{if◌then◌else◌, pos, int_le, not, ◌+ℤ◌, ◌-ℤ◌, ◌*ℤ◌};
+ghost use Rattle.edge_bits.specs.Words.{IsLeafValue};
+ghost use Rattle.edge_bits.specs.declared.edges.Kind.TheVariants.{Add, Bdd};
+ghost use Rattle.function_laws.specs.Numbers.{from_truth, lesser, greater, threshold, at_least, is_zero, pattern, plus, minus, times, sum_over};
+ghost use Rattle.function_laws.specs.Values.{constant, if_then_else};
+ghost use Rattle.node_store.specs.Three.{AreThree, value_of_three};
+ghost use Rattle.node_store.specs.Two.{value_of_two};
+ghost use Rattle.node_store.specs.Views.{Denotes, Is, bdd_at, AreTwo, add_at, IsVariable};
+ghost use Rattle.add_ops.specs.Conversions.{value_of_one};
+ghost use Rattle.add_ops.specs.Leaves.{value_of_constant};
+ghost use Rattle.add_ops.specs.Sums.{value_of_sum};
+
 use crate::exact_operating::ExactOperation;
 use crate::operating::Operation;
 use add_ops::Overflow;
@@ -13,12 +25,6 @@ pub struct Constant {
 }
 
 impl Operation for Constant {
-    ghost use Rattle.edge_bits.specs.Words.{IsLeafValue};
-    ghost use Rattle.edge_bits.specs.declared.edges.Kind.TheVariants.{Add};
-    ghost use Rattle.function_laws.specs.Values.{constant};
-    ghost use Rattle.node_store.specs.Views.{Denotes};
-    ghost use Rattle.add_ops.specs.Leaves.{value_of_constant};
-
     ghost kind = { Add };
 
     ghost stands = { λ op w. IsLeafValue op.value };
@@ -39,12 +45,6 @@ pub struct FromBdd {
 }
 
 impl Operation for FromBdd {
-    ghost use Rattle.std.specs.Prelude.{if◌then◌else◌, pos};
-    ghost use Rattle.edge_bits.specs.declared.edges.Kind.TheVariants.{Add, Bdd};
-    ghost use Rattle.function_laws.specs.Numbers.{from_truth};
-    ghost use Rattle.node_store.specs.Views.{Denotes, Is, bdd_at};
-    ghost use Rattle.add_ops.specs.Conversions.{value_of_one};
-
     ghost kind = { Add };
 
     ghost stands = { λ op w. Is Bdd w op.f };
@@ -66,12 +66,6 @@ pub struct Min {
 }
 
 impl Operation for Min {
-    ghost use Rattle.std.specs.Prelude.{if◌then◌else◌, int_le};
-    ghost use Rattle.edge_bits.specs.declared.edges.Kind.TheVariants.{Add};
-    ghost use Rattle.function_laws.specs.Numbers.{lesser};
-    ghost use Rattle.node_store.specs.Two.{value_of_two};
-    ghost use Rattle.node_store.specs.Views.{AreTwo, Denotes, add_at};
-
     ghost kind = { Add };
 
     ghost stands = { λ op w. AreTwo Add w op.f op.g };
@@ -93,12 +87,6 @@ pub struct Max {
 }
 
 impl Operation for Max {
-    ghost use Rattle.std.specs.Prelude.{if◌then◌else◌, int_le};
-    ghost use Rattle.edge_bits.specs.declared.edges.Kind.TheVariants.{Add};
-    ghost use Rattle.function_laws.specs.Numbers.{greater};
-    ghost use Rattle.node_store.specs.Two.{value_of_two};
-    ghost use Rattle.node_store.specs.Views.{AreTwo, Denotes, add_at};
-
     ghost kind = { Add };
 
     ghost stands = { λ op w. AreTwo Add w op.f op.g };
@@ -120,12 +108,6 @@ pub struct Threshold {
 }
 
 impl Operation for Threshold {
-    ghost use Rattle.std.specs.Prelude.{if◌then◌else◌, int_le, pos};
-    ghost use Rattle.edge_bits.specs.declared.edges.Kind.TheVariants.{Add};
-    ghost use Rattle.function_laws.specs.Numbers.{threshold};
-    ghost use Rattle.node_store.specs.Two.{value_of_two};
-    ghost use Rattle.node_store.specs.Views.{AreTwo, Denotes, add_at};
-
     ghost kind = { Add };
 
     ghost stands = { λ op w. AreTwo Add w op.f op.g };
@@ -148,11 +130,6 @@ pub struct AddIte {
 }
 
 impl Operation for AddIte {
-    ghost use Rattle.edge_bits.specs.declared.edges.Kind.TheVariants.{Add};
-    ghost use Rattle.function_laws.specs.Values.{if_then_else};
-    ghost use Rattle.node_store.specs.Three.{AreThree, value_of_three};
-    ghost use Rattle.node_store.specs.Views.{Denotes, add_at, bdd_at};
-
     ghost kind = { Add };
 
     ghost stands = { λ op w. AreThree Add w op.f op.g op.h };
@@ -174,12 +151,6 @@ pub struct AtLeast {
 }
 
 impl Operation for AtLeast {
-    ghost use Rattle.std.specs.Prelude.{int_le};
-    ghost use Rattle.edge_bits.specs.declared.edges.Kind.TheVariants.{Add, Bdd};
-    ghost use Rattle.function_laws.specs.Numbers.{at_least};
-    ghost use Rattle.node_store.specs.Views.{Denotes, Is, add_at};
-    ghost use Rattle.add_ops.specs.Conversions.{value_of_one};
-
     ghost kind = { Bdd };
 
     ghost stands = { λ op w. Is Add w op.f };
@@ -200,12 +171,6 @@ pub struct Pattern {
 }
 
 impl Operation for Pattern {
-    ghost use Rattle.std.specs.Prelude.{not};
-    ghost use Rattle.edge_bits.specs.declared.edges.Kind.TheVariants.{Add, Bdd};
-    ghost use Rattle.function_laws.specs.Numbers.{is_zero, pattern};
-    ghost use Rattle.node_store.specs.Views.{Denotes, Is, add_at};
-    ghost use Rattle.add_ops.specs.Conversions.{value_of_one};
-
     ghost kind = { Bdd };
 
     ghost stands = { λ op w. Is Add w op.f };
@@ -227,12 +192,6 @@ pub struct Plus {
 }
 
 impl ExactOperation for Plus {
-    ghost use Rattle.std.specs.Prelude.{◌+ℤ◌};
-    ghost use Rattle.edge_bits.specs.declared.edges.Kind.TheVariants.{Add};
-    ghost use Rattle.function_laws.specs.Numbers.{plus};
-    ghost use Rattle.node_store.specs.Two.{value_of_two};
-    ghost use Rattle.node_store.specs.Views.{AreTwo, add_at};
-
     ghost stands = { λ op w. AreTwo Add w op.f op.g };
 
     ghost value = { λ op v. plus (add_at v op.f) (add_at v op.g) };
@@ -252,12 +211,6 @@ pub struct Minus {
 }
 
 impl ExactOperation for Minus {
-    ghost use Rattle.std.specs.Prelude.{◌-ℤ◌};
-    ghost use Rattle.edge_bits.specs.declared.edges.Kind.TheVariants.{Add};
-    ghost use Rattle.function_laws.specs.Numbers.{minus};
-    ghost use Rattle.node_store.specs.Two.{value_of_two};
-    ghost use Rattle.node_store.specs.Views.{AreTwo, add_at};
-
     ghost stands = { λ op w. AreTwo Add w op.f op.g };
 
     ghost value = { λ op v. minus (add_at v op.f) (add_at v op.g) };
@@ -277,12 +230,6 @@ pub struct Times {
 }
 
 impl ExactOperation for Times {
-    ghost use Rattle.std.specs.Prelude.{◌*ℤ◌};
-    ghost use Rattle.edge_bits.specs.declared.edges.Kind.TheVariants.{Add};
-    ghost use Rattle.function_laws.specs.Numbers.{times};
-    ghost use Rattle.node_store.specs.Two.{value_of_two};
-    ghost use Rattle.node_store.specs.Views.{AreTwo, add_at};
-
     ghost stands = { λ op w. AreTwo Add w op.f op.g };
 
     ghost value = { λ op v. times (add_at v op.f) (add_at v op.g) };
@@ -302,11 +249,6 @@ pub struct SumOver {
 }
 
 impl ExactOperation for SumOver {
-    ghost use Rattle.edge_bits.specs.declared.edges.Kind.TheVariants.{Add};
-    ghost use Rattle.function_laws.specs.Numbers.{sum_over};
-    ghost use Rattle.node_store.specs.Views.{Is, IsVariable, add_at};
-    ghost use Rattle.add_ops.specs.Sums.{value_of_sum};
-
     ghost stands = { λ op w. Is Add w op.f × IsVariable Add w op.var };
 
     ghost value = { λ op v. sum_over (add_at v op.f) op.var };

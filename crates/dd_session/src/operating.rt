@@ -1,27 +1,14 @@
 //! Operations that store nodes: a try, and where no slot was free a sweep and another try, in one turn.
 
-ghost use Rattle.std.specs.Prelude.{◌≡◌, ◌+◌, ◌≤◌, max, length, true, IsTrue, MatchResult, IfOk};
-ghost use Rattle.function_laws.specs.declared.history.Reply.TheVariants as replies;
-ghost use Rattle.function_laws.specs.Steps.{may_be_full};
+ghost use Rattle.std.specs.Prelude.{◌≡◌};
 ghost use Rattle.node_slots.specs.Stores.{IsStore};
-ghost use Rattle.seat_guard.specs.Passes.{IsIdle, known};
 ghost use Rattle.shared_store.specs.Lasting.{Lasts};
 ghost use Rattle.shared_store.specs.Sharing.{orders, view_of};
-ghost use Rattle.dd_session.specs.Requests.{call_of};
-ghost use Rattle.dd_session.specs.Sessions.{Called, Denies};
-ghost use Rattle.dd_session.specs.Works.{StoresWork};
-ghost use Rattle.dd_session.specs.Turns.{HasPlace, HasValue, Keeps, Ran, Stands, Tried, seen_of};
+ghost use Rattle.dd_session.specs.Turns.{Ran, Tried};
 
-use crate::answers::{Placed, Refusal};
-use crate::book::Book;
-use crate::request::Request;
-use crate::settling::settle;
-use edge_bits::{Edge, Kind};
-use function_laws::Name;
+use edge_bits::Edge;
 use node_slots::{PlainStore, Stop};
-use seat_guard::seat::{Guard, Pass};
 use shared_store::Shared;
-use std::sync::Wait;
 
 /// An operation of the store, with the edges that it works on.
 pub trait Operation {
@@ -79,34 +66,4 @@ pub fn attempt<O: Operation>(mut shared: Shared, operation: &O) -> (Shared, Resu
         return try_again(shared, operation);
     }
     (shared, made)
-}
-
-/// An operation whose answer is a new row.
-pub fn operate<R: Wait, O: Operation>(
-    rt: &R,
-    guard: &Guard<Shared>,
-    pass: &mut Pass<Shared>,
-    book: &mut Book,
-    request: Request<'_>,
-    kind: Kind,
-    operation: &O,
-) -> Result<Placed<Name>, Refusal>
-    requires idle { IsIdle guard.now pass.old }
-    requires keeps { Keeps (known pass.old) book.old }
-    requires place { HasPlace (known pass.old) }
-    requires kind { kind ≡ O.kind }
-    requires may { IsTrue (may_be_full (call_of request)) }
-    requires told { (x : Shared) → IsStore x.store → Stands x (known pass.old) → O.stands operation.now (view_of x) × HasValue kind (O.answers operation.now (view_of x)) (known pass.old) (view_of x) (call_of request) }
-    ensures idle { IsIdle guard.now pass.new }
-    ensures keeps { Keeps (known pass.new) book.new }
-    ensures told { MatchResult result (λ placed. Called (seen_of pass.old book.old) (seen_of pass.new book.new) (call_of request.entry) (replies.Made placed.value) placed.place) (Denies (seen_of pass.old book.old) (seen_of pass.new book.new) (call_of request.entry)) }
-    ensures stored { StoresWork (O.work operation.now) (seen_of pass.old book.old) (seen_of pass.new book.new) result }
-    ensures spare { MatchResult result (λ placed. book.new.rows.spare + 1 ≡ max book.old.rows.spare 1) (λ refusal. book.old.rows.spare ≤ book.new.rows.spare) }
-{
-    let Ok(()) = book.rows.reserve(1) else {
-        return Err(Refusal::Memory);
-    };
-    let shared = guard.take(rt, pass);
-    let (shared, made) = attempt(shared, operation);
-    settle(guard, pass, book, shared, request, kind, made)
 }

@@ -1,5 +1,19 @@
 //! The operations on BDDs, each with the edges that it works on.
 
+ghost use Rattle.std.specs.List.{All};
+ghost use Rattle.std.specs.Prelude.{◌&&◌, ◌||◌};
+ghost use Rattle.edge_bits.specs.declared.edges.Kind.TheVariants.{Bdd};
+ghost use Rattle.function_laws.specs.Values.{conjunction, disjunction, differs, exclusive, exists_all, forall_all, support as support_of};
+ghost use Rattle.node_store.specs.Three.{AreThree, ite_at, value_of_three};
+ghost use Rattle.node_store.specs.Two.{value_of_two};
+ghost use Rattle.node_store.specs.Views.{AreTwo, Denotes, bdd_at, Is, IsVariable};
+ghost use Rattle.ite_core.specs.Cofactors.{cofactor_at, value_of_cofactor};
+ghost use Rattle.quantify_ops.specs.Composed.{composed_at, value_of_compose};
+ghost use Rattle.quantify_ops.specs.Quantified.{both_at};
+ghost use Rattle.quantify_ops.specs.Restricted.{Restricted, work_of_restrict};
+ghost use Rattle.quantify_ops.specs.Substituted.{AreSubstituted, substituted_at, value_of_vector_compose};
+ghost use Rattle.quantify_ops.specs.Works.{work_of_exists, work_of_forall, work_of_and_exists, value_of_support};
+
 use crate::operating::Operation;
 use edge_bits::Edge;
 use node_slots::{PlainStore, Stop};
@@ -12,12 +26,6 @@ pub struct And {
 }
 
 impl Operation for And {
-    ghost use Rattle.std.specs.Prelude.{◌&&◌};
-    ghost use Rattle.edge_bits.specs.declared.edges.Kind.TheVariants.{Bdd};
-    ghost use Rattle.function_laws.specs.Values.{conjunction};
-    ghost use Rattle.node_store.specs.Two.{value_of_two};
-    ghost use Rattle.node_store.specs.Views.{AreTwo, Denotes, bdd_at};
-
     ghost kind = { Bdd };
 
     ghost stands = { λ op w. AreTwo Bdd w op.f op.g };
@@ -39,12 +47,6 @@ pub struct Or {
 }
 
 impl Operation for Or {
-    ghost use Rattle.std.specs.Prelude.{◌||◌};
-    ghost use Rattle.edge_bits.specs.declared.edges.Kind.TheVariants.{Bdd};
-    ghost use Rattle.function_laws.specs.Values.{disjunction};
-    ghost use Rattle.node_store.specs.Two.{value_of_two};
-    ghost use Rattle.node_store.specs.Views.{AreTwo, Denotes, bdd_at};
-
     ghost kind = { Bdd };
 
     ghost stands = { λ op w. AreTwo Bdd w op.f op.g };
@@ -66,11 +68,6 @@ pub struct Xor {
 }
 
 impl Operation for Xor {
-    ghost use Rattle.edge_bits.specs.declared.edges.Kind.TheVariants.{Bdd};
-    ghost use Rattle.function_laws.specs.Values.{differs, exclusive};
-    ghost use Rattle.node_store.specs.Two.{value_of_two};
-    ghost use Rattle.node_store.specs.Views.{AreTwo, Denotes, bdd_at};
-
     ghost kind = { Bdd };
 
     ghost stands = { λ op w. AreTwo Bdd w op.f op.g };
@@ -93,10 +90,6 @@ pub struct Ite {
 }
 
 impl Operation for Ite {
-    ghost use Rattle.edge_bits.specs.declared.edges.Kind.TheVariants.{Bdd};
-    ghost use Rattle.node_store.specs.Three.{AreThree, ite_at, value_of_three};
-    ghost use Rattle.node_store.specs.Views.{Denotes};
-
     ghost kind = { Bdd };
 
     ghost stands = { λ op w. AreThree Bdd w op.f op.g op.h };
@@ -119,10 +112,6 @@ pub struct Cofactor {
 }
 
 impl Operation for Cofactor {
-    ghost use Rattle.edge_bits.specs.declared.edges.Kind.TheVariants.{Bdd};
-    ghost use Rattle.ite_core.specs.Cofactors.{cofactor_at, value_of_cofactor};
-    ghost use Rattle.node_store.specs.Views.{Denotes, Is, IsVariable};
-
     ghost kind = { Bdd };
 
     ghost stands = { λ op w. Is Bdd w op.f × IsVariable Bdd w op.var };
@@ -144,12 +133,6 @@ pub struct Exists<'a> {
 }
 
 impl<'a> Operation for Exists<'a> {
-    ghost use Rattle.std.specs.List.{All};
-    ghost use Rattle.edge_bits.specs.declared.edges.Kind.TheVariants.{Bdd};
-    ghost use Rattle.function_laws.specs.Values.{exists_all};
-    ghost use Rattle.quantify_ops.specs.Works.{work_of_exists};
-    ghost use Rattle.node_store.specs.Views.{Denotes, Is, IsVariable, bdd_at};
-
     ghost kind = { Bdd };
 
     ghost stands = { λ op w. Is Bdd w op.f × All (IsVariable Bdd w) op.vars.now };
@@ -171,12 +154,6 @@ pub struct Forall<'a> {
 }
 
 impl<'a> Operation for Forall<'a> {
-    ghost use Rattle.std.specs.List.{All};
-    ghost use Rattle.edge_bits.specs.declared.edges.Kind.TheVariants.{Bdd};
-    ghost use Rattle.function_laws.specs.Values.{forall_all};
-    ghost use Rattle.quantify_ops.specs.Works.{work_of_forall};
-    ghost use Rattle.node_store.specs.Views.{Denotes, Is, IsVariable, bdd_at};
-
     ghost kind = { Bdd };
 
     ghost stands = { λ op w. Is Bdd w op.f × All (IsVariable Bdd w) op.vars.now };
@@ -199,13 +176,6 @@ pub struct AndExists<'a> {
 }
 
 impl<'a> Operation for AndExists<'a> {
-    ghost use Rattle.std.specs.List.{All};
-    ghost use Rattle.edge_bits.specs.declared.edges.Kind.TheVariants.{Bdd};
-    ghost use Rattle.function_laws.specs.Values.{exists_all};
-    ghost use Rattle.quantify_ops.specs.Quantified.{both_at};
-    ghost use Rattle.quantify_ops.specs.Works.{work_of_and_exists};
-    ghost use Rattle.node_store.specs.Views.{AreTwo, Denotes, IsVariable};
-
     ghost kind = { Bdd };
 
     ghost stands = { λ op w. AreTwo Bdd w op.f op.g × All (IsVariable Bdd w) op.vars.now };
@@ -228,10 +198,6 @@ pub struct Compose {
 }
 
 impl Operation for Compose {
-    ghost use Rattle.edge_bits.specs.declared.edges.Kind.TheVariants.{Bdd};
-    ghost use Rattle.quantify_ops.specs.Composed.{composed_at, value_of_compose};
-    ghost use Rattle.node_store.specs.Views.{AreTwo, Denotes, IsVariable};
-
     ghost kind = { Bdd };
 
     ghost stands = { λ op w. AreTwo Bdd w op.f op.g × IsVariable Bdd w op.var };
@@ -252,11 +218,6 @@ pub struct Support {
 }
 
 impl Operation for Support {
-    ghost use Rattle.edge_bits.specs.declared.edges.Kind.TheVariants.{Bdd};
-    ghost use Rattle.function_laws.specs.Values.{support as support_of};
-    ghost use Rattle.quantify_ops.specs.Works.{value_of_support};
-    ghost use Rattle.node_store.specs.Views.{Denotes, Is, bdd_at};
-
     ghost kind = { Bdd };
 
     ghost stands = { λ op w. Is Bdd w op.f };
@@ -278,10 +239,6 @@ pub struct VectorCompose<'a> {
 }
 
 impl<'a> Operation for VectorCompose<'a> {
-    ghost use Rattle.edge_bits.specs.declared.edges.Kind.TheVariants.{Bdd};
-    ghost use Rattle.node_store.specs.Views.{Denotes};
-    ghost use Rattle.quantify_ops.specs.Substituted.{AreSubstituted, substituted_at, value_of_vector_compose};
-
     ghost kind = { Bdd };
 
     ghost stands = { λ op w. AreSubstituted w op.f op.pairs.now };
@@ -303,10 +260,6 @@ pub struct Restrict {
 }
 
 impl Operation for Restrict {
-    ghost use Rattle.edge_bits.specs.declared.edges.Kind.TheVariants.{Bdd};
-    ghost use Rattle.node_store.specs.Views.{AreTwo};
-    ghost use Rattle.quantify_ops.specs.Restricted.{Restricted, work_of_restrict};
-
     ghost kind = { Bdd };
 
     ghost stands = { λ op w. AreTwo Bdd w op.f op.g };

@@ -11,13 +11,18 @@ ghost use Rattle.dd_session.specs.Works.{IsSweepOf, StoresNothing};
 ghost use Rattle.dd_session.specs.Managing.{is_posted};
 
 use crate::answers::{Fetched, Placed};
+use crate::drawing::finish;
+use crate::fetching::{choose, fetched};
+use crate::listing;
 use crate::manager::Manager;
+use crate::request::{Adding, Answer, Request};
 use crate::session::Session;
-use crate::{changes, listing};
+use crate::settling::add_row;
 use dead_sweep::Swept;
 use dump_sizes::Listing;
 use edge_bits::{Kind, Memory};
 use handle_count::H;
+use shared_store::Cell;
 use std::sync::Wait;
 
 impl Session {
@@ -83,7 +88,20 @@ impl Session {
         ensures stored { StoresNothing self.new }
         ensures spare { self.new.spare + 1 ≡ self.old.spare }
     {
-        changes::copy(rt, &manager.guard, &mut self.pass, &mut self.book, h)
+        let cell = Cell {
+            kind: self.kind(h),
+            edge: self.edge(h),
+        };
+        let shared = manager.guard.take(rt, &mut self.pass);
+        add_row(
+            &manager.guard,
+            &mut self.pass,
+            &mut self.book,
+            shared,
+            Request::Copy(h),
+            Adding::Made,
+            cell,
+        )
     }
 
     /// Lets a row go. Its name is live no more.
@@ -96,7 +114,18 @@ impl Session {
         ensures fewer { length self.new.rows + 1 ≡ length self.old.rows }
         ensures spare { self.new.spare ≡ self.old.spare + 1 }
     {
-        changes::drop_row(rt, &manager.guard, &mut self.pass, &mut self.book, h)
+        let mut shared = manager.guard.take(rt, &mut self.pass);
+        let (_kind, edge) = self.book.rows.remove(h);
+        shared.lower(edge);
+        let place = finish(
+            &manager.guard,
+            &mut self.pass,
+            &mut self.book,
+            shared,
+            Request::DropRow(h),
+            Answer::Dropped(h),
+        );
+        Placed { place, value: () }
     }
 
     /// Whether two rows of one kind have one function.
@@ -108,7 +137,19 @@ impl Session {
         ensures stored { StoresNothing self.new }
         ensures spare { self.new.spare ≡ self.old.spare }
     {
-        changes::same(rt, &manager.guard, &mut self.pass, &mut self.book, f, g)
+        let first = self.edge(f);
+        let second = self.edge(g);
+        let shared = manager.guard.take(rt, &mut self.pass);
+        let told = shared.store.same(first, second);
+        let place = finish(
+            &manager.guard,
+            &mut self.pass,
+            &mut self.book,
+            shared,
+            Request::Same(f, g),
+            Answer::Truth(told),
+        );
+        Placed { place, value: told }
     }
 
     /// Puts the function of a row into a cell of the board, in place of what was there.
@@ -120,7 +161,20 @@ impl Session {
         ensures stored { StoresNothing self.new }
         ensures spare { self.new.spare ≡ self.old.spare }
     {
-        changes::post(rt, &manager.guard, &mut self.pass, &mut self.book, cell, h)
+        let kind = self.kind(h);
+        let edge = self.edge(h);
+        let mut shared = manager.guard.take(rt, &mut self.pass);
+        shared.set_cell(cell, Cell { kind, edge });
+        let number = u32::from(cell);
+        let place = finish(
+            &manager.guard,
+            &mut self.pass,
+            &mut self.book,
+            shared,
+            Request::Post(number, h),
+            Answer::Posted(number, Cell { kind, edge }),
+        );
+        Placed { place, value: () }
     }
 
     /// A new row with the function of a cell, and Posted, where that has the kind of another row; else with the other's, and
@@ -140,14 +194,26 @@ impl Session {
         ensures stored { StoresNothing self.new }
         ensures spare { self.new.spare + 1 ≡ self.old.spare }
     {
-        changes::fetch(
-            rt,
+        let own = Cell {
+            kind: self.kind(other),
+            edge: self.edge(other),
+        };
+        let shared = manager.guard.take(rt, &mut self.pass);
+        let (chosen, posted) = choose(shared.cell(cell), own);
+        let request = Request::Fetch(u32::from(cell), other);
+        let made = add_row(
             &manager.guard,
             &mut self.pass,
             &mut self.book,
-            cell,
-            other,
-        )
+            shared,
+            request,
+            Adding::Taken(posted),
+            chosen,
+        );
+        Placed {
+            place: made.place,
+            value: (made.value, fetched(posted)),
+        }
     }
 
     /// The nodes of some rows under the order of the variables that the calls of all sessions below a place leave, which the
@@ -177,6 +243,19 @@ impl Session {
         ensures stored { StoresNothing self.new }
         ensures spare { self.new.spare ≡ self.old.spare }
     {
-        changes::sweep(rt, &manager.guard, &mut self.pass, &mut self.book)
+        let shared = manager.guard.take(rt, &mut self.pass);
+        let (shared, swept) = shared.sweep();
+        let place = finish(
+            &manager.guard,
+            &mut self.pass,
+            &mut self.book,
+            shared,
+            Request::Sweep,
+            Answer::Done,
+        );
+        Placed {
+            place,
+            value: swept,
+        }
     }
 }

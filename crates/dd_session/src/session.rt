@@ -1,31 +1,38 @@
-//! A session, as its callers see it.
+//! A session, and what its calls have in common.
 
-ghost use Rattle.std.specs.Prelude.{◌≡◌, ◌+◌, ◌<◌, ◌≤◌, ◌&&◌, ◌||◌, max, map, true, Bool, List, IfOk, IsOk, MatchResult, All, length};
-ghost use Rattle.edge_bits.specs.declared.edges.Kind.{Kind};
+ghost use Rattle.std.specs.Prelude.{◌≡◌, ◌+◌, ◌≤◌, max, map, IsTrue, IfOk, MatchResult, All};
+ghost use Rattle.edge_bits.specs.declared.edges.Kind.{Kind as KindOf};
 ghost use Rattle.edge_bits.specs.declared.edges.Kind.TheVariants as kinds;
-ghost use Rattle.function_laws.specs.declared.history.Call.TheVariants as calls;
 ghost use Rattle.function_laws.specs.declared.history.Reply.TheVariants as replies;
-ghost use Rattle.function_laws.specs.Steps.{are_distinct};
-ghost use Rattle.function_laws.specs.Values.{differs};
-ghost use Rattle.ite_core.specs.Cofactors.{value_of_cofactor};
-ghost use Rattle.node_store.specs.Three.{value_of_three};
-ghost use Rattle.node_store.specs.Two.{value_of_two};
-ghost use Rattle.quantify_ops.specs.Composed.{value_of_compose};
-ghost use Rattle.quantify_ops.specs.Restricted.{work_of_restrict};
-ghost use Rattle.quantify_ops.specs.Substituted.{value_of_vector_compose};
-ghost use Rattle.quantify_ops.specs.Works.{value_of_support, work_of_and_exists, work_of_exists, work_of_forall};
-ghost use Rattle.dd_session.specs.Sessions.{Called, Denies, HasRoom, IsAsBefore, IsLiveAs, edge_in, with_edge};
-ghost use Rattle.dd_session.specs.Walking.{bits_of};
-ghost use Rattle.dd_session.specs.Works.{StoresNothing, StoresWork, no_work};
+ghost use Rattle.function_laws.specs.Steps.{makes, may_be_full};
+ghost use Rattle.node_store.specs.Contents.{IsSound};
+ghost use Rattle.node_store.specs.Listed.{listed_at};
+ghost use Rattle.node_store.specs.Views.{Is};
+ghost use Rattle.node_slots.specs.Stores.{IsStore};
+ghost use Rattle.node_slots.specs.Wholes.{content_view};
+ghost use Rattle.seat_guard.specs.declared.view.Draws.{Draws};
+ghost use Rattle.shared_store.specs.Sharing.{view_of};
+ghost use Rattle.dd_session.specs.Requests.{call_of};
+ghost use Rattle.dd_session.specs.Sessions.{Called, Denies, HasRoom, IsLive, IsLiveAs, edge_in, told_as, with_edge};
+ghost use Rattle.dd_session.specs.Turns.{Gives, HasExact, HasValue, IsEdgeOf, IsSeatOf, Stands};
+ghost use Rattle.dd_session.specs.Works.{StoresWork, no_work};
 
-use crate::answers::{Again, Placed, Refusal};
+use crate::answers::{Placed, Refusal};
 use crate::book::Book;
+use crate::drawing::edge_at;
+use crate::exact_operating;
+use crate::exact_operating::ExactOperation;
 use crate::manager::Manager;
-use crate::{constants, makes, nodeless, restricting};
-use edge_bits::Memory;
+use crate::operating::{Operation, attempt};
+use crate::request::{Adding, Request};
+use crate::settling::{add_row, settle};
+use crate::starting::start;
+use add_ops::Overflow;
+use edge_bits::{Edge, Kind, Memory};
 use handle_count::H;
 use seat_guard::seat::Pass;
-use shared_store::Shared;
+use shared_store::{Cell, Shared};
+use std::alloc::Global;
 use std::marker::Model;
 use std::sync::Wait;
 
@@ -48,351 +55,125 @@ impl Model for Session {
 }
 
 impl Session {
-    /// Logic one, as a new row.
-    pub fn one<R: Wait>(&mut self, rt: &R, manager: &Manager) -> Result<Placed<H>, Refusal>
-        requires own { self.old.manager ≡ manager.now }
-        requires room { HasRoom self.old }
-        ensures told { MatchResult result (λ placed. Called self.old self.new calls.One (replies.Made placed.value) placed.place) (λ refusal. (refusal ≡ Refusal.Memory) × Denies self.old self.new calls.One refusal) }
-        ensures stored { StoresWork no_work self.old self.new result }
-        ensures spare { MatchResult result (λ placed. self.new.spare + 1 ≡ max self.old.spare 1) (λ refusal. self.old.spare ≤ self.new.spare) }
+    /// The edge of a row.
+    pub(crate) fn edge(&self, h: H) -> Edge
+        requires { IsLive self.now h }
+        ensures edge { (k : KindOf) → IsLiveAs k self.now h → (d : Draws) → IsSeatOf self.now d → IsEdgeOf k d h result }
+        ensures own { result ≡ edge_in self.now.rows h }
     {
-        constants::truth(rt, &manager.guard, &mut self.pass, &mut self.book, true)
+        edge_at(&self.pass, &self.book, h)
     }
 
-    /// Logic zero, as a new row.
-    pub fn zero<R: Wait>(&mut self, rt: &R, manager: &Manager) -> Result<Placed<H>, Refusal>
-        requires own { self.old.manager ≡ manager.now }
-        requires room { HasRoom self.old }
-        ensures told { MatchResult result (λ placed. Called self.old self.new calls.Zero (replies.Made placed.value) placed.place) (λ refusal. (refusal ≡ Refusal.Memory) × Denies self.old self.new calls.Zero refusal) }
-        ensures stored { StoresWork no_work self.old self.new result }
-        ensures spare { MatchResult result (λ placed. self.new.spare + 1 ≡ max self.old.spare 1) (λ refusal. self.old.spare ≤ self.new.spare) }
-    {
-        constants::truth(rt, &manager.guard, &mut self.pass, &mut self.book, false)
-    }
-
-    /// The projection of a variable, as a new row.
-    pub fn var<R: Wait>(&mut self, rt: &R, manager: &Manager, v: u32) -> Result<Placed<H>, Refusal>
-        requires own { self.old.manager ≡ manager.now }
-        requires room { HasRoom self.old }
-        requires variable { v < manager.now.vars }
-        ensures told { MatchResult result (λ placed. Called self.old self.new (calls.Var v) (replies.Made placed.value) placed.place) (λ refusal. (refusal ≡ Refusal.Memory) × Denies self.old self.new (calls.Var v) refusal) }
-        ensures stored { StoresWork no_work self.old self.new result }
-        ensures spare { MatchResult result (λ placed. self.new.spare + 1 ≡ max self.old.spare 1) (λ refusal. self.old.spare ≤ self.new.spare) }
-    {
-        constants::var(rt, &manager.guard, &mut self.pass, &mut self.book, v)
-    }
-
-    /// The conjunction of two rows, as a new row.
-    pub fn and<R: Wait>(
-        &mut self,
-        rt: &R,
-        manager: &Manager,
-        f: H,
-        g: H,
-    ) -> Result<Placed<H>, Refusal>
-        requires own { self.old.manager ≡ manager.now }
-        requires room { HasRoom self.old }
-        requires first { IsLiveAs kinds.Bdd self.old f }
-        requires second { IsLiveAs kinds.Bdd self.old g }
-        ensures told { MatchResult result (λ placed. Called self.old self.new (calls.And f g) (replies.Made placed.value) placed.place) (Denies self.old self.new (calls.And f g)) }
-        ensures stored { StoresWork (value_of_two kinds.Bdd (λ a b. a && b) (edge_in self.old.rows f) (edge_in self.old.rows g)) self.old self.new result }
-        ensures spare { MatchResult result (λ placed. self.new.spare + 1 ≡ max self.old.spare 1) (λ refusal. self.old.spare ≤ self.new.spare) }
-    {
-        makes::and(rt, &manager.guard, &mut self.pass, &mut self.book, f, g)
-    }
-
-    /// The disjunction of two rows, as a new row.
-    pub fn or<R: Wait>(
-        &mut self,
-        rt: &R,
-        manager: &Manager,
-        f: H,
-        g: H,
-    ) -> Result<Placed<H>, Refusal>
-        requires own { self.old.manager ≡ manager.now }
-        requires room { HasRoom self.old }
-        requires first { IsLiveAs kinds.Bdd self.old f }
-        requires second { IsLiveAs kinds.Bdd self.old g }
-        ensures told { MatchResult result (λ placed. Called self.old self.new (calls.Or f g) (replies.Made placed.value) placed.place) (Denies self.old self.new (calls.Or f g)) }
-        ensures stored { StoresWork (value_of_two kinds.Bdd (λ a b. a || b) (edge_in self.old.rows f) (edge_in self.old.rows g)) self.old self.new result }
-        ensures spare { MatchResult result (λ placed. self.new.spare + 1 ≡ max self.old.spare 1) (λ refusal. self.old.spare ≤ self.new.spare) }
-    {
-        makes::or(rt, &manager.guard, &mut self.pass, &mut self.book, f, g)
-    }
-
-    /// The function that holds where just one of two rows does, as a new row.
-    pub fn xor<R: Wait>(
-        &mut self,
-        rt: &R,
-        manager: &Manager,
-        f: H,
-        g: H,
-    ) -> Result<Placed<H>, Refusal>
-        requires own { self.old.manager ≡ manager.now }
-        requires room { HasRoom self.old }
-        requires first { IsLiveAs kinds.Bdd self.old f }
-        requires second { IsLiveAs kinds.Bdd self.old g }
-        ensures told { MatchResult result (λ placed. Called self.old self.new (calls.Xor f g) (replies.Made placed.value) placed.place) (Denies self.old self.new (calls.Xor f g)) }
-        ensures stored { StoresWork (value_of_two kinds.Bdd differs (edge_in self.old.rows f) (edge_in self.old.rows g)) self.old self.new result }
-        ensures spare { MatchResult result (λ placed. self.new.spare + 1 ≡ max self.old.spare 1) (λ refusal. self.old.spare ≤ self.new.spare) }
-    {
-        makes::xor(rt, &manager.guard, &mut self.pass, &mut self.book, f, g)
-    }
-
-    /// The second of three rows where the first holds, and the third elsewhere, as a new row.
-    pub fn ite<R: Wait>(
-        &mut self,
-        rt: &R,
-        manager: &Manager,
-        f: H,
-        g: H,
-        h: H,
-    ) -> Result<Placed<H>, Refusal>
-        requires own { self.old.manager ≡ manager.now }
-        requires room { HasRoom self.old }
-        requires first { IsLiveAs kinds.Bdd self.old f }
-        requires second { IsLiveAs kinds.Bdd self.old g }
-        requires third { IsLiveAs kinds.Bdd self.old h }
-        ensures told { MatchResult result (λ placed. Called self.old self.new (calls.Ite f g h) (replies.Made placed.value) placed.place) (Denies self.old self.new (calls.Ite f g h)) }
-        ensures stored { StoresWork (value_of_three kinds.Bdd (edge_in self.old.rows f) (edge_in self.old.rows g) (edge_in self.old.rows h)) self.old self.new result }
-        ensures spare { MatchResult result (λ placed. self.new.spare + 1 ≡ max self.old.spare 1) (λ refusal. self.old.spare ≤ self.new.spare) }
-    {
-        makes::ite(rt, &manager.guard, &mut self.pass, &mut self.book, f, g, h)
-    }
-
-    /// A row with a variable set to a bit, as a new row.
-    pub fn cofactor<R: Wait>(
-        &mut self,
-        rt: &R,
-        manager: &Manager,
-        f: H,
-        v: u32,
-        bit: bool,
-    ) -> Result<Placed<H>, Refusal>
-        requires own { self.old.manager ≡ manager.now }
-        requires room { HasRoom self.old }
-        requires first { IsLiveAs kinds.Bdd self.old f }
-        requires variable { v < self.old.manager.vars }
-        ensures told { MatchResult result (λ placed. Called self.old self.new (calls.Cofactor f v bit) (replies.Made placed.value) placed.place) (Denies self.old self.new (calls.Cofactor f v bit)) }
-        ensures stored { StoresWork (value_of_cofactor (edge_in self.old.rows f) v bit) self.old self.new result }
-        ensures spare { MatchResult result (λ placed. self.new.spare + 1 ≡ max self.old.spare 1) (λ refusal. self.old.spare ≤ self.new.spare) }
-    {
-        makes::cofactor(
-            rt,
-            &manager.guard,
-            &mut self.pass,
-            &mut self.book,
-            f,
-            v,
-            bit,
-        )
-    }
-
-    /// The disjunction of both cofactors of a row by each variable of a list, which may have one twice, as a new row.
-    pub fn exists<R: Wait>(
-        &mut self,
-        rt: &R,
-        manager: &Manager,
-        f: H,
-        vars: &[u32],
-    ) -> Result<Placed<H>, Refusal>
-        requires own { self.old.manager ≡ manager.now }
-        requires room { HasRoom self.old }
-        requires first { IsLiveAs kinds.Bdd self.old f }
-        requires variables { All (λ v. v < self.old.manager.vars) vars.now }
-        ensures told { MatchResult result (λ placed. Called self.old self.new (calls.Exists f vars.now) (replies.Made placed.value) placed.place) (Denies self.old self.new (calls.Exists f vars.now)) }
-        ensures stored { StoresWork (work_of_exists (edge_in self.old.rows f) vars.now) self.old self.new result }
-        ensures spare { MatchResult result (λ placed. self.new.spare + 1 ≡ max self.old.spare 1) (λ refusal. self.old.spare ≤ self.new.spare) }
-    {
-        makes::exists(rt, &manager.guard, &mut self.pass, &mut self.book, f, vars)
-    }
-
-    /// The conjunction of both cofactors of a row by each variable of a list, which may have one twice, as a new row.
-    pub fn forall<R: Wait>(
-        &mut self,
-        rt: &R,
-        manager: &Manager,
-        f: H,
-        vars: &[u32],
-    ) -> Result<Placed<H>, Refusal>
-        requires own { self.old.manager ≡ manager.now }
-        requires room { HasRoom self.old }
-        requires first { IsLiveAs kinds.Bdd self.old f }
-        requires variables { All (λ v. v < self.old.manager.vars) vars.now }
-        ensures told { MatchResult result (λ placed. Called self.old self.new (calls.Forall f vars.now) (replies.Made placed.value) placed.place) (Denies self.old self.new (calls.Forall f vars.now)) }
-        ensures stored { StoresWork (work_of_forall (edge_in self.old.rows f) vars.now) self.old self.new result }
-        ensures spare { MatchResult result (λ placed. self.new.spare + 1 ≡ max self.old.spare 1) (λ refusal. self.old.spare ≤ self.new.spare) }
-    {
-        makes::forall(rt, &manager.guard, &mut self.pass, &mut self.book, f, vars)
-    }
-
-    /// `exists` of the conjunction of two rows, as a new row.
-    pub fn and_exists<R: Wait>(
-        &mut self,
-        rt: &R,
-        manager: &Manager,
-        f: H,
-        g: H,
-        vars: &[u32],
-    ) -> Result<Placed<H>, Refusal>
-        requires own { self.old.manager ≡ manager.now }
-        requires room { HasRoom self.old }
-        requires first { IsLiveAs kinds.Bdd self.old f }
-        requires second { IsLiveAs kinds.Bdd self.old g }
-        requires variables { All (λ v. v < self.old.manager.vars) vars.now }
-        ensures told { MatchResult result (λ placed. Called self.old self.new (calls.AndExists f g vars.now) (replies.Made placed.value) placed.place) (Denies self.old self.new (calls.AndExists f g vars.now)) }
-        ensures stored { StoresWork (work_of_and_exists (edge_in self.old.rows f) (edge_in self.old.rows g) vars.now) self.old self.new result }
-        ensures spare { MatchResult result (λ placed. self.new.spare + 1 ≡ max self.old.spare 1) (λ refusal. self.old.spare ≤ self.new.spare) }
-    {
-        makes::and_exists(
-            rt,
-            &manager.guard,
-            &mut self.pass,
-            &mut self.book,
-            f,
-            g,
-            vars,
-        )
-    }
-
-    /// A row with another put for a variable, as a new row.
-    pub fn compose<R: Wait>(
-        &mut self,
-        rt: &R,
-        manager: &Manager,
-        f: H,
-        v: u32,
-        g: H,
-    ) -> Result<Placed<H>, Refusal>
-        requires own { self.old.manager ≡ manager.now }
-        requires room { HasRoom self.old }
-        requires first { IsLiveAs kinds.Bdd self.old f }
-        requires second { IsLiveAs kinds.Bdd self.old g }
-        requires variable { v < self.old.manager.vars }
-        ensures told { MatchResult result (λ placed. Called self.old self.new (calls.Compose f v g) (replies.Made placed.value) placed.place) (Denies self.old self.new (calls.Compose f v g)) }
-        ensures stored { StoresWork (value_of_compose (edge_in self.old.rows f) v (edge_in self.old.rows g)) self.old self.new result }
-        ensures spare { MatchResult result (λ placed. self.new.spare + 1 ≡ max self.old.spare 1) (λ refusal. self.old.spare ≤ self.new.spare) }
-    {
-        makes::compose(rt, &manager.guard, &mut self.pass, &mut self.book, f, v, g)
-    }
-
-    /// The product of the variables on which a row depends, as a new row.
-    pub fn support<R: Wait>(
-        &mut self,
-        rt: &R,
-        manager: &Manager,
-        f: H,
-    ) -> Result<Placed<H>, Refusal>
-        requires own { self.old.manager ≡ manager.now }
-        requires room { HasRoom self.old }
-        requires first { IsLiveAs kinds.Bdd self.old f }
-        ensures told { MatchResult result (λ placed. Called self.old self.new (calls.Support f) (replies.Made placed.value) placed.place) (Denies self.old self.new (calls.Support f)) }
-        ensures stored { StoresWork (value_of_support (edge_in self.old.rows f)) self.old self.new result }
-        ensures spare { MatchResult result (λ placed. self.new.spare + 1 ≡ max self.old.spare 1) (λ refusal. self.old.spare ≤ self.new.spare) }
-    {
-        makes::support(rt, &manager.guard, &mut self.pass, &mut self.book, f)
-    }
-
-    /// The complement of a row, as a new row.
-    pub fn not<R: Wait>(&mut self, rt: &R, manager: &Manager, f: H) -> Result<Placed<H>, Refusal>
-        requires own { self.old.manager ≡ manager.now }
-        requires room { HasRoom self.old }
-        requires first { IsLiveAs kinds.Bdd self.old f }
-        ensures told { MatchResult result (λ placed. Called self.old self.new (calls.Not f) (replies.Made placed.value) placed.place) (λ refusal. (refusal ≡ Refusal.Memory) × Denies self.old self.new (calls.Not f) refusal) }
-        ensures stored { StoresWork no_work self.old self.new result }
-        ensures spare { MatchResult result (λ placed. self.new.spare + 1 ≡ max self.old.spare 1) (λ refusal. self.old.spare ≤ self.new.spare) }
-    {
-        nodeless::not(rt, &manager.guard, &mut self.pass, &mut self.book, f)
-    }
-
-    /// Whether the second of two rows is true wherever the first is. It makes no node, so that only want of memory leaves it
-    /// without an answer.
-    pub fn leq<R: Wait>(
-        &mut self,
-        rt: &R,
-        manager: &Manager,
-        f: H,
-        g: H,
-    ) -> Result<Placed<bool>, Memory>
-        requires own { self.old.manager ≡ manager.now }
-        requires room { HasRoom self.old }
-        requires first { IsLiveAs kinds.Bdd self.old f }
-        requires second { IsLiveAs kinds.Bdd self.old g }
-        ensures told { MatchResult result (λ placed. Called self.old self.new (calls.Leq f g) (replies.Truth placed.value) placed.place) (λ _. IsAsBefore self.old self.new) }
-        ensures stored { StoresNothing self.new }
-        ensures spare { self.new.spare ≡ self.old.spare }
-    {
-        nodeless::leq(rt, &manager.guard, &mut self.pass, &mut self.book, f, g)
-    }
-
-    /// A row with other rows put for variables, all at once, as a new row. No variable stands twice.
-    pub fn vector_compose<R: Wait>(
-        &mut self,
-        rt: &R,
-        manager: &Manager,
-        f: H,
+    /// The variables of some pairs with the edges of their rows.
+    pub(crate) fn edges(
+        &self,
+        alloc: Global,
         pairs: &[(u32, H)],
+    ) -> Result<Vec<(u32, Edge)>, Memory>
+        requires { All (λ pair. IsLiveAs kinds.Bdd self.now pair.1) pairs.now }
+        ensures { IfOk result (λ edges. edges.items ≡ map (with_edge self.now.rows) pairs.now) }
+    {
+        let mut edges = Vec::new(alloc);
+        for pair in pairs {
+            edges.push((pair.0, self.edge(pair.1)))?;
+        }
+        Ok(edges)
+    }
+
+    /// An operation whose answer is a new row.
+    pub(crate) fn operate<R: Wait, O: Operation>(
+        &mut self,
+        rt: &R,
+        manager: &Manager,
+        request: Request<'_>,
+        kind: Kind,
+        operation: &O,
     ) -> Result<Placed<H>, Refusal>
         requires own { self.old.manager ≡ manager.now }
         requires room { HasRoom self.old }
-        requires first { IsLiveAs kinds.Bdd self.old f }
-        requires variables { All (λ pair. pair.0 < self.old.manager.vars) pairs.now }
-        requires others { All (λ pair. IsLiveAs kinds.Bdd self.old pair.1) pairs.now }
-        requires distinct { are_distinct (map (λ pair. pair.0) pairs.now) ≡ true }
-        ensures told { MatchResult result (λ placed. Called self.old self.new (calls.VectorCompose f pairs.now) (replies.Made placed.value) placed.place) (Denies self.old self.new (calls.VectorCompose f pairs.now)) }
-        ensures stored { StoresWork (value_of_vector_compose (edge_in self.old.rows f) (map (with_edge self.old.rows) pairs.now)) self.old self.new result }
+        requires kind { kind ≡ O.kind }
+        requires may { IsTrue (may_be_full (call_of request)) }
+        requires told { (d : Draws) → IsSeatOf self.old d → (x : Shared) → IsStore x.store → Stands x d → O.stands operation.now (view_of x) × HasValue kind (O.answers operation.now (view_of x)) d (view_of x) (call_of request) }
+        ensures told { MatchResult result (λ placed. Called self.old self.new (call_of request.entry) (replies.Made placed.value) placed.place) (Denies self.old self.new (call_of request.entry)) }
+        ensures stored { StoresWork (O.work operation.now) self.old self.new result }
         ensures spare { MatchResult result (λ placed. self.new.spare + 1 ≡ max self.old.spare 1) (λ refusal. self.old.spare ≤ self.new.spare) }
     {
-        let alloc = manager.allocator();
-        makes::vector_compose(
-            rt,
-            alloc,
+        let Ok(shared) = start(rt, &manager.guard, &mut self.pass, &mut self.book) else {
+            return Err(Refusal::Memory);
+        };
+        let (shared, made) = attempt(shared, operation);
+        settle(
             &manager.guard,
             &mut self.pass,
             &mut self.book,
-            f,
-            pairs,
+            shared,
+            request,
+            Adding::Made,
+            kind,
+            made,
         )
     }
 
-    /// One of the functions that agree with a row where another holds (Coudert and Madre 1990), as a new row: it depends on no
-    /// variable on which the first does not. Another order of the variables may give another such function.
-    pub fn restrict<R: Wait>(
+    /// An operation whose answer is a new row, or Overflow.
+    pub(crate) fn operate_exactly<R: Wait, O: ExactOperation>(
         &mut self,
         rt: &R,
         manager: &Manager,
-        f: H,
-        g: H,
+        request: Request<'_>,
+        operation: &O,
+    ) -> Result<Placed<Result<H, Overflow>>, Refusal>
+        requires own { self.old.manager ≡ manager.now }
+        requires room { HasRoom self.old }
+        requires may { IsTrue (may_be_full (call_of request)) }
+        requires told { (d : Draws) → IsSeatOf self.old d → (x : Shared) → IsStore x.store → Stands x d → O.stands operation.now (view_of x) × HasExact d (view_of x) (call_of request) (O.value operation.now (view_of x)) }
+        ensures told { MatchResult result (λ placed. Called self.old self.new (call_of request.entry) (told_as placed.value) placed.place) (Denies self.old self.new (call_of request.entry)) }
+        ensures stored { StoresWork (O.work operation.now) self.old self.new result }
+        ensures spare { MatchResult result (λ placed. MatchResult placed.value (λ name. self.new.spare + 1 ≡ max self.old.spare 1) (λ _. self.new.spare ≡ max self.old.spare 1)) (λ refusal. self.old.spare ≤ self.new.spare) }
+    {
+        let Ok(shared) = start(rt, &manager.guard, &mut self.pass, &mut self.book) else {
+            return Err(Refusal::Memory);
+        };
+        let (shared, made) = exact_operating::attempt(shared, operation);
+        exact_operating::settle(
+            &manager.guard,
+            &mut self.pass,
+            &mut self.book,
+            shared,
+            request,
+            made,
+        )
+    }
+
+    /// A new row of an edge that needs no new node. The call bound to `_sound` is there for what it tells: what stands in the
+    /// permanent slots.
+    pub(crate) fn add_known<R: Wait>(
+        &mut self,
+        rt: &R,
+        manager: &Manager,
+        request: Request<'_>,
+        kind: Kind,
+        edge: Edge,
     ) -> Result<Placed<H>, Refusal>
         requires own { self.old.manager ≡ manager.now }
         requires room { HasRoom self.old }
-        requires first { IsLiveAs kinds.Bdd self.old f }
-        requires second { IsLiveAs kinds.Bdd self.old g }
-        ensures told { MatchResult result (λ placed. (chosen : List Bool) × Called self.old self.new (calls.Restrict f g) (replies.Chose placed.value chosen) placed.place) (Denies self.old self.new (calls.Restrict f g)) }
-        ensures stored { StoresWork (work_of_restrict (edge_in self.old.rows f) (edge_in self.old.rows g)) self.old self.new result }
+        requires told { (d : Draws) → IsSeatOf self.old d → (x : Shared) → IsSound (content_view x.store) → Stands x d → Is kind (view_of x) edge × Gives d (call_of request) (makes (listed_at kind (view_of x) edge)) }
+        ensures told { MatchResult result (λ placed. Called self.old self.new (call_of request.entry) (replies.Made placed.value) placed.place) (λ refusal. (refusal ≡ Refusal.Memory) × Denies self.old self.new (call_of request.entry) refusal) }
+        ensures stored { StoresWork no_work self.old self.new result }
         ensures spare { MatchResult result (λ placed. self.new.spare + 1 ≡ max self.old.spare 1) (λ refusal. self.old.spare ≤ self.new.spare) }
     {
-        restricting::restrict(rt, &manager.guard, &mut self.pass, &mut self.book, f, g)
-    }
-
-    /// The value of a row: of a BDD 0 or 1, and of an ADD its number, where bit i is the value of variable i; of a family 1 where the
-    /// elements whose bits are set are a member, and 0 else. While sessions take turns it is never refused.
-    pub fn eval<R: Wait>(
-        &mut self,
-        rt: &R,
-        manager: &Manager,
-        f: H,
-        bits: &[bool],
-    ) -> Result<Placed<i64>, Again>
-        requires own { self.old.manager ≡ manager.now }
-        requires room { HasRoom self.old }
-        requires live { (k : Kind) × IsLiveAs k self.old f × (length bits.now ≡ bits_of k self.old.manager) }
-        ensures ok { IsOk result }
-        ensures told { IfOk result (λ placed. Called self.old self.new (calls.Eval f bits.now) (replies.Value placed.value) placed.place) }
-        ensures stored { StoresNothing self.new }
-        ensures spare { self.new.spare ≡ self.old.spare }
-    {
-        let placed = nodeless::eval(rt, &manager.guard, &mut self.pass, &mut self.book, f, bits);
-        Ok(placed)
+        let Ok(shared) = start(rt, &manager.guard, &mut self.pass, &mut self.book) else {
+            return Err(Refusal::Memory);
+        };
+        let _sound = shared.store.limit();
+        let cell = Cell { kind, edge };
+        Ok(add_row(
+            &manager.guard,
+            &mut self.pass,
+            &mut self.book,
+            shared,
+            request,
+            Adding::Made,
+            cell,
+        ))
     }
 }

@@ -1,15 +1,14 @@
 //! What a call leaves that adds a row, or that was refused.
 
-ghost use Rattle.std.specs.Prelude.{◌≡◌, ◌+◌, ◌<◌, ◌≤◌, ◌^◌, [], length, true, false, IfOk, IsErrOf, IsTrue, MatchResult, Some};
+ghost use Rattle.std.specs.Prelude.{◌≡◌, ◌+◌, ◌<◌, ◌≤◌, ◌^◌, [], IfOk, IsErrOf, IsTrue, MatchResult, Some};
 ghost use Rattle.function_laws.specs.declared.history.Function.{Function};
 ghost use Rattle.function_laws.specs.declared.history.Reply.TheVariants as replies;
-ghost use Rattle.function_laws.specs.Steps.{makes, may_be_full, overflows};
-ghost use Rattle.node_store.specs.Listed.{listed_at};
+ghost use Rattle.function_laws.specs.Steps.{may_be_full, overflows};
 ghost use Rattle.node_store.specs.Views.{Is};
 ghost use Rattle.seat_guard.specs.Passes.{IsPassOf, in_hand, known};
 ghost use Rattle.shared_store.specs.Sharing.{Serving, count, due, view_of};
 ghost use Rattle.dd_session.specs.Requests.{added_as, call_of};
-ghost use Rattle.dd_session.specs.Turns.{AddsRow, Gives, HasPlace, IsCausedBy, IsHolding, IsRefused, Keeps, MayBeFull, Notes, Told};
+ghost use Rattle.dd_session.specs.Turns.{AddsRow, Gives, HasPlace, IsAdded, IsCausedBy, IsHolding, IsRefused, Keeps, MayBeFull, Notes, Told};
 
 use crate::answers::{Full, Placed, Refusal};
 use crate::book::Book;
@@ -114,6 +113,7 @@ pub fn settle(
     book: &mut Book,
     shared: Shared,
     request: Request<'_>,
+    adding: Adding,
     kind: Kind,
     made: Result<Edge, Stop>,
 ) -> Result<Placed<Name>, Refusal>
@@ -123,11 +123,11 @@ pub fn settle(
     requires place { HasPlace (known pass.old) }
     requires spare { 1 ≤ book.old.rows.spare }
     requires few { IfOk made (λ edge. count shared edge.index ≤ 2 ^ 31 + 256) }
-    requires ok { IfOk made (λ edge. Is kind (view_of shared) edge × Gives (known pass.old) (call_of request) (makes (listed_at kind (view_of shared) edge))) }
+    requires ok { IfOk made (λ edge. Is kind (view_of shared) edge × AddsRow (known pass.old) (view_of shared) (call_of request) adding (record { kind = kind; edge = edge })) }
     requires full { IsErrOf made Stop.Full → IsTrue (may_be_full (call_of request)) × MayBeFull (known pass.old) (call_of request) × ((f : Function) × (due shared ≡ Some f)) }
     ensures own { IsPassOf guard.now pass.new × (in_hand pass.new ≡ []) }
     ensures keeps { Keeps (known pass.new) book.new }
-    ensures told { MatchResult result (λ placed. Told (known pass.old) (known pass.new) (call_of request.entry) (replies.Made placed.value) placed.place) (IsRefused (known pass.old) (known pass.new) (call_of request.entry)) }
+    ensures told { MatchResult result (λ placed. IsAdded (known pass.old) (known pass.new) (call_of request.entry) adding placed.value placed.place) (IsRefused (known pass.old) (known pass.new) (call_of request.entry)) }
     ensures notes { Notes (known pass.old) (known pass.new) shared }
     ensures spare { MatchResult result (λ placed. book.new.rows.spare + 1 ≡ book.old.rows.spare) (λ refusal. book.new.rows.spare ≡ book.old.rows.spare) }
     ensures cause { IsCausedBy made result }
@@ -135,7 +135,7 @@ pub fn settle(
     match made {
         Ok(edge) => {
             let cell = Cell { kind, edge };
-            Ok(add_row(guard, pass, book, shared, request, Adding::Made, cell))
+            Ok(add_row(guard, pass, book, shared, request, adding, cell))
         }
         Err(Stop::Full) => Err(Refusal::Full(be_full(guard, pass, book, shared, request))),
         Err(Stop::Memory) => {

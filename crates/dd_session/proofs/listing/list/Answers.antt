@@ -6,7 +6,8 @@ use Rattle.seat_guard.specs.declared.view.Draws.{Draws}
 use Rattle.seat_guard.specs.Passes.{known}
 use Rattle.dd_session.specs.Listings.{ListsRows}
 use Rattle.dd_session.specs.Sessions.{IsNamed}
-use Rattle.dd_session.proofs.Calls.{Took, keeps_taken}
+use Rattle.dd_session.specs.Turns.{Took}
+use Rattle.dd_session.proofs.Calls.{keeps_taken, took_of}
 use Rattle.dd_session.proofs.ListingLaws.{is_listed, keeps_uncalled}
 use Rattle.dd_session.proofs.Turning.{stored_nothing, stores_same}
 use Rattle.dd_session.proofs.listing.list.Goals as goal
@@ -15,7 +16,7 @@ pub listing_of-requires-clause-tied : goal.listing_of-requires-clause-tied
 listing_of-requires-clause-tied g c =
     let d = known c.args.pass.now in
     let e = known c.take-shared.new.pass in
-    let t : Took d e c.take-shared.result = record { others = c.take-shared.ensures.took.0; is = c.take-shared.ensures.took.1; serves = c.take-shared.ensures.took.2; many = c.take-shared.ensures.board } in
+    let t : Took d e c.take-shared.result = took_of c.take-shared.ensures.took c.take-shared.ensures.board in
     let k = c.requires.keeps in
     (keeps_taken d e c.take-shared.result c.args.book.now.rows c.args.book.now.rows c.args.book.now.calls c.args.book.now.fulls t k.rows k.calls k.fulls refl refl).0
 
@@ -35,13 +36,13 @@ returns-in-Ok-clause-keeps g c =
 pub returns-in-Ok-clause-told : goal.returns-in-Ok-clause-told
 returns-in-Ok-clause-told g c =
     let e = known c.take-shared.new.pass in
-    let t : Took (known c.args.pass.now) e c.take-shared.result = record { others = c.take-shared.ensures.took.0; is = c.take-shared.ensures.took.1; serves = c.take-shared.ensures.took.2; many = c.take-shared.ensures.board } in
+    let t : Took (known c.args.pass.now) e c.take-shared.result = took_of c.take-shared.ensures.took c.take-shared.ensures.board in
     is_listed (known c.args.pass.now) e (known c.note.new.pass) c.take-shared.result c.args.pass.now.seat.table_id c.note.new.pass.seat.table_id c.args.book.now.rows.spare c.note.result c.note.ensures.gave.0 c.args.rows.now c.in-Ok.listing
     (c.note.ensures.own.0 ∙ sym c.requires.idle.0) t c.note.ensures.gave.1 c.note.ensures.later
     (subst (λ (r : Result Listing Memory). IfOk r (λ listing. (listing.order ≡ e.variable_order) × ListsRows e.vars e.rows c.args.rows.now listing)) c.in-Ok.is c.listing_of.ensures)
 
 pub returns-in-Ok-clause-stored : goal.returns-in-Ok-clause-stored
-returns-in-Ok-clause-stored g c = let gave = c.note.ensures.gave in stored_nothing (known c.args.pass.now) (known c.take-shared.new.pass) c.take-shared.result (record { others = c.take-shared.ensures.took.0; is = c.take-shared.ensures.took.1; serves = c.take-shared.ensures.took.2; many = c.take-shared.ensures.board }) (known c.note.new.pass) c.take-shared.result gave.0 (stores_same c.take-shared.result) (ap (λ (d : Draws). d.stored) gave.1) gave.2
+returns-in-Ok-clause-stored g c = let gave = c.note.ensures.gave in stored_nothing (known c.args.pass.now) (known c.take-shared.new.pass) c.take-shared.result (took_of c.take-shared.ensures.took c.take-shared.ensures.board) (known c.note.new.pass) c.take-shared.result gave.0 (stores_same c.take-shared.result) (ap (λ (d : Draws). d.stored) gave.1) gave.2
 
 pub returns-in-Err-clause-stored : goal.returns-in-Err-clause-stored
-returns-in-Err-clause-stored g c = let gave = c.put_back.ensures.gave in stored_nothing (known c.args.pass.now) (known c.take-shared.new.pass) c.take-shared.result (record { others = c.take-shared.ensures.took.0; is = c.take-shared.ensures.took.1; serves = c.take-shared.ensures.took.2; many = c.take-shared.ensures.board }) (known c.put_back.new.pass) c.take-shared.result gave.0 (stores_same c.take-shared.result) (ap (λ (d : Draws). d.stored) gave.1) gave.2
+returns-in-Err-clause-stored g c = let gave = c.put_back.ensures.gave in stored_nothing (known c.args.pass.now) (known c.take-shared.new.pass) c.take-shared.result (took_of c.take-shared.ensures.took c.take-shared.ensures.board) (known c.put_back.new.pass) c.take-shared.result gave.0 (stores_same c.take-shared.result) (ap (λ (d : Draws). d.stored) gave.1) gave.2

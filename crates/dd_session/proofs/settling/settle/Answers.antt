@@ -2,6 +2,8 @@ use Rattle.std.proofs.Common.{ap, sym, ◌∙◌, arith, length}
 use Rattle.seat_guard.specs.Passes.{known}
 use Rattle.seat_guard.specs.declared.view.Draws.{Draws}
 use Rattle.dd_session.specs.Sessions.{fulls_in}
+use Rattle.dd_session.specs.Requests.{call_of}
+use Rattle.dd_session.proofs.Tellings.{added-told}
 use Rattle.dd_session.proofs.Tying.{tied_same}
 use Rattle.dd_session.proofs.settling.settle.Goals as goal
 
@@ -18,3 +20,6 @@ returns-in-Err-Memory-clause-keeps c =
 
 pub returns-in-Err-Memory-clause-notes : goal.returns-in-Err-Memory-clause-notes
 returns-in-Err-Memory-clause-notes c = let gave = c.put_back.ensures.gave in (gave.0, ap (λ (z : Draws). z.stored) gave.1, ap (λ (z : Draws). z.due) gave.1, gave.2)
+
+pub returns-in-Ok-clause-told : goal.returns-in-Ok-clause-told
+returns-in-Ok-clause-told c = added-told (known c.args.pass.now) (known c.add_row.new.pass) (call_of c.args.request) c.args.adding c.add_row.result.value _ c.add_row.result.place _ c.add_row.ensures.told

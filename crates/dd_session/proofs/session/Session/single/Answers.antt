@@ -1,9 +1,7 @@
-use Rattle.std.proofs.Common.{subst}
-use Rattle.zdd_ops.specs.Elements.{value_of_single}
+use Rattle.std.proofs.Common.{◌<◌, subst}
+use Rattle.dd_session.proofs.FamilyLaws.{told_single}
 use Rattle.dd_session.specs.Sessions.{Seen}
-use Rattle.dd_session.specs.Turns.{seen_of}
-use Rattle.dd_session.specs.Works.{StoresWork}
 use Rattle.dd_session.proofs.session.Session.single.Goals as goal
 
-pub returns-clause-stored : goal.returns-clause-stored
-returns-clause-stored g c = subst (λ (s : Seen). StoresWork (λ w. value_of_single c.args.e) s (seen_of c.single.new.pass c.single.new.book) c.single.result) c.self.view_is c.single.ensures.stored
+pub operate-requires-clause-told : goal.operate-requires-clause-told
+operate-requires-clause-told g c = λ d seat. told_single d c.args.e (subst (λ (s : Seen). c.args.e < s.manager.elements) seat.is c.requires.element)

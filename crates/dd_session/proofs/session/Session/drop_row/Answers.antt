@@ -1,0 +1,104 @@
+use Rattle.std.proofs.Common.{◌==◌, List, refl, ap, sym, subst, ◌∙◌, arith, length, rules}
+use Rattle.function_laws.specs.declared.history.Call.TheVariants as calls
+use Rattle.function_laws.specs.declared.history.Reply.TheVariants as replies
+use Rattle.edge_bits.specs.declared.edges.Edge.{Edge}
+use Rattle.seat_guard.specs.Passes.{known}
+use Rattle.seat_guard.specs.Turn.{one_if, row_count}
+use Rattle.seat_guard.specs.Views.{stands_for, without}
+use Rattle.seat_guard.specs.declared.view.Row.{Row}
+use Rattle.seat_guard.specs.declared.view.Change.TheVariants.{Takes}
+use Rattle.seat_guard.specs.declared.view.Draws.{Draws}
+use Rattle.shared_store.specs.Sharing.{count}
+use Rattle.shared_store.proofs.Stored.{functions-recounted}
+use Rattle.dd_session.specs.Turns.{Tied, Took, IsReady}
+use Rattle.dd_session.specs.Sessions.{IsLive, Seen}
+use Rattle.dd_session.proofs.Calls.{called, took_of, same_table}
+use Rattle.dd_session.proofs.Naming.{finds_row, finds_some}
+use Rattle.dd_session.proofs.Serving.{serves-taken}
+use Rattle.dd_session.proofs.Tellings.{knows_dropped, may_drop}
+use Rattle.dd_session.proofs.Turning.{drew_nothing, removed_edge, row_counted, stores_recounted}
+use Rattle.dd_session.proofs.Tying.{fewer, longer_by, tied_less}
+use Rattle.dd_session.proofs.session.Session.drop_row.Goals as goal
+
+pub remove-kind-requires : goal.remove-kind-requires
+remove-kind-requires g c =
+    let live = subst (λ (s : Seen). IsLive s c.args.h) (sym c.self.view_is) c.requires.live in
+    finds_some (known c.self.inside.pass) c.self.inside.book.rows c.args.h c.self.invariant.1.rows live
+
+pub lower-requires : goal.lower-requires
+lower-requires g c =
+    let live = subst (λ (s : Seen). IsLive s c.args.h) (sym c.self.view_is) c.requires.live in
+    let d = known c.self.inside.pass in
+    let e = known c.take-shared.new.pass in
+    let x = c.take-shared.result in
+    let t : Took d e x = took_of c.take-shared.ensures.took c.take-shared.ensures.board in
+    let h = finds_row d c.self.inside.book.rows c.args.h c.self.invariant.1.rows live.0 live.1 in
+    let same = removed_edge d c.self.inside.book.rows c.remove-kind.new.self c.args.h h.0 c.remove-kind.result.0 c.remove-kind.result.1 c.self.invariant.1.rows h.1 c.remove-kind.ensures.removed c.remove-kind.ensures.gone in
+    let some = row_counted d e x t c.args.h h.0 h.1 in
+    let at = ap (λ (z : Edge). count x z.index) same in
+    omega (arith, some, at)
+
+pub finish-place-requires-clause-step : goal.finish-place-requires-clause-step
+finish-place-requires-clause-step g c =
+    let live = subst (λ (s : Seen). IsLive s c.args.h) (sym c.self.view_is) c.requires.live in
+    may_drop (known c.take-shared.new.pass) c.args.h live.1.0 (ap (λ (z : Draws). stands_for z.rows c.args.h) c.take-shared.ensures.took.1 ∙ live.1.1)
+
+pub finish-place-requires-clause-serves : goal.finish-place-requires-clause-serves
+finish-place-requires-clause-serves g c =
+    let live = subst (λ (s : Seen). IsLive s c.args.h) (sym c.self.view_is) c.requires.live in
+    let d = known c.self.inside.pass in
+    let e = known c.take-shared.new.pass in
+    let x = c.take-shared.result in
+    let t : Took d e x = took_of c.take-shared.ensures.took c.take-shared.ensures.board in
+    let h = finds_row d c.self.inside.book.rows c.args.h c.self.invariant.1.rows live.0 live.1 in
+    let same = removed_edge d c.self.inside.book.rows c.remove-kind.new.self c.args.h h.0 c.remove-kind.result.0 c.remove-kind.result.1 c.self.invariant.1.rows h.1 c.remove-kind.ensures.removed c.remove-kind.ensures.gone in
+    let rows = ap (λ (z : Draws). z.rows) t.is in
+    let less = (fewer c.args.h d.rows h.0 c.self.invariant.1.rows.apart h.1).1 in
+    serves-taken x c.lower.new.self c.lower.ensures.rest.view e _ c.args.h c.remove-kind.result.1 t.serves (knows_dropped e c.args.h) c.lower.ensures.rest.cells
+    (λ k.
+    let f = less k in
+    let m = ap (λ (z : Edge). one_if (z.index == k)) same in
+    let a = ap (λ (l : List Row). row_count k (without c.args.h l)) rows in
+    let b = ap (row_count k) rows in
+    omega (arith, f, m, a, b)) c.lower.ensures.count c.lower.ensures.rest.orders_are
+
+pub invariant_of-self : goal.invariant_of-self
+invariant_of-self g c =
+    let live = subst (λ (s : Seen). IsLive s c.args.h) (sym c.self.view_is) c.requires.live in
+    let d = known c.self.inside.pass in
+    let e = known c.take-shared.new.pass in
+    let x = c.take-shared.result in
+    let t : Took d e x = took_of c.take-shared.ensures.took c.take-shared.ensures.board in
+    let h = finds_row d c.self.inside.book.rows c.args.h c.self.invariant.1.rows live.0 live.1 in
+    let same = removed_edge d c.self.inside.book.rows c.remove-kind.new.self c.args.h h.0 c.remove-kind.result.0 c.remove-kind.result.1 c.self.invariant.1.rows h.1 c.remove-kind.ensures.removed c.remove-kind.ensures.gone in
+    let ready : IsReady c.finish-place.new.pass = search rules in
+    let new = known c.finish-place.new.pass in
+    let left = c.finish-place.ensures.drew.left in (
+      ready,
+      record {
+        rows = subst (Tied new) (sym c.finish-place.ensures.rows)
+            (tied_less c.args.h d new c.self.inside.book.rows c.remove-kind.new.self h.0 _ c.self.invariant.1.rows h.1 refl same (ap (λ (z : Draws). z.rows) left ∙ ap (λ (z : Draws). without c.args.h z.rows) t.is) (ap (λ (z : Draws). z.adds) left ∙ ap (λ (z : Draws). z.adds) t.is)
+            (let a = longer_by e new _ (ap (λ (z : Draws). z.entries) left) in let b = ap (λ (z : Draws). length z.entries) t.is in omega (arith, a, b)) c.remove-kind.ensures.removed c.remove-kind.ensures.gone c.remove-kind.ensures.adds);
+        calls = c.finish-place.ensures.calls.0;
+        fulls = c.finish-place.ensures.calls.1;
+      },
+    )
+
+pub returns-clause-told : goal.returns-clause-told
+returns-clause-told g c =
+    rw (← c.self.view_is) (called (known c.self.inside.pass) (known c.take-shared.new.pass) (known c.finish-place.new.pass) c.take-shared.result _ _ _ _ (calls.DropRow c.args.h) replies.Done c.finish-place.result (c.finish-place.ensures.own.0 ∙ sym (same_table c.manager.inside.guard c.manager.inside.closing c.self.inside.pass c.self.inside.book c.self.view_is c.requires.own c.manager.view_is))
+    (took_of c.take-shared.ensures.took c.take-shared.ensures.board) (c.lower.new.self, record { call = calls.DropRow c.args.h; reply = replies.Done; change = Takes c.args.h }, refl, refl, c.finish-place.ensures.drew))
+
+pub returns-clause-stored : goal.returns-clause-stored
+returns-clause-stored g c = drew_nothing (known c.self.inside.pass) (known c.take-shared.new.pass) c.take-shared.result (took_of c.take-shared.ensures.took c.take-shared.ensures.board) (known c.finish-place.new.pass) c.lower.new.self _ c.finish-place.result (stores_recounted c.take-shared.result c.lower.new.self (functions-recounted c.take-shared.result c.lower.new.self c.lower.ensures.rest)) c.finish-place.ensures.drew
+
+pub returns-clause-fewer : goal.returns-clause-fewer
+returns-clause-fewer g c =
+    let live = subst (λ (s : Seen). IsLive s c.args.h) (sym c.self.view_is) c.requires.live in
+    let d = known c.self.inside.pass in
+    let h = finds_row d c.self.inside.book.rows c.args.h c.self.invariant.1.rows live.0 live.1 in
+    let one = (fewer c.args.h d.rows h.0 c.self.invariant.1.rows.apart h.1).0 in
+    let left = ap (λ (z : Draws). length z.rows) c.finish-place.ensures.drew.left in
+    let took = ap (λ (z : Draws). length (without c.args.h z.rows)) c.take-shared.ensures.took.1 in
+    let seen = ap (λ (s : Seen). length s.rows) c.self.view_is in
+    omega (arith, one, left, took, seen)

@@ -1,0 +1,9 @@
+use Rattle.edge_bits.specs.declared.edges.Kind.TheVariants as kinds
+use Rattle.dd_session.proofs.NumberLaws.{told_plus}
+use Rattle.dd_session.proofs.session.Session.plus.Goals as goal
+
+pub operate_exactly-requires-clause-told : goal.operate_exactly-requires-clause-told
+operate_exactly-requires-clause-told g c = λ d seat. told_plus d c.args.f c.args.g c.edge.result c.edge-2.result (c.edge.ensures.edge kinds.Add c.requires.first d seat) (c.edge-2.ensures.edge kinds.Add c.requires.second d seat)
+
+pub returns-clause-stored : goal.returns-clause-stored
+returns-clause-stored g c = rw (← c.edge.ensures.own, ← c.edge-2.ensures.own) c.operate_exactly.ensures.stored

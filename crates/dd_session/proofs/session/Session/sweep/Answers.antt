@@ -1,0 +1,40 @@
+use Rattle.std.proofs.Common.{refl, sym, ◌∙◌, rules, subst}
+use Rattle.function_laws.specs.declared.history.Call.TheVariants as calls
+use Rattle.function_laws.specs.declared.history.Reply.TheVariants as replies
+use Rattle.seat_guard.specs.Passes.{known}
+use Rattle.shared_store.proofs.Lasting.{serves-lasts}
+use Rattle.dd_session.specs.declared.request.Request.TheVariants as requests
+use Rattle.dd_session.specs.Works.{HasRows}
+use Rattle.shared_store.specs.Sharing.{view_of}
+use Rattle.dd_session.proofs.Calls.{called, has_rows, stands_taken, took_of, same_table}
+use Rattle.dd_session.proofs.Serving.{serves-same}
+use Rattle.dd_session.proofs.Tellings.{knows_quiet, may_sweep, quiet}
+use Rattle.dd_session.proofs.Turning.{drew_nothing, kept_book}
+use Rattle.dd_session.proofs.session.Session.sweep.Goals as goal
+
+pub finish-place-requires-clause-step : goal.finish-place-requires-clause-step
+finish-place-requires-clause-step g c = may_sweep (known c.take-shared.new.pass)
+
+pub finish-place-requires-clause-serves : goal.finish-place-requires-clause-serves
+finish-place-requires-clause-serves g c =
+    let e = known c.take-shared.new.pass in
+    serves-same c.sweep-shared.result.0 e _ (serves-lasts c.take-shared.result c.sweep-shared.result.0 c.sweep-shared.ensures.lasts e c.sweep-shared.ensures.orders c.take-shared.ensures.took.2) (knows_quiet e requests.Sweep replies.Done (λ name n e. cc))
+
+pub invariant_of-self : goal.invariant_of-self
+invariant_of-self g c = (search rules, kept_book (known c.self.inside.pass) (known c.take-shared.new.pass) c.take-shared.result (took_of c.take-shared.ensures.took c.take-shared.ensures.board) (known c.finish-place.new.pass) _ _ c.finish-place.result c.self.inside.book c.finish-place.new.book c.self.invariant.1 c.finish-place.ensures.drew refl refl c.finish-place.ensures.rows c.finish-place.ensures.calls)
+
+pub returns-clause-told : goal.returns-clause-told
+returns-clause-told g c =
+    rw (← c.self.view_is) (called (known c.self.inside.pass) (known c.take-shared.new.pass) (known c.finish-place.new.pass) c.take-shared.result _ _ _ _ calls.Sweep replies.Done c.finish-place.result (c.finish-place.ensures.own.0 ∙ sym (same_table c.manager.inside.guard c.manager.inside.closing c.self.inside.pass c.self.inside.book c.self.view_is c.requires.own c.manager.view_is))
+    (took_of c.take-shared.ensures.took c.take-shared.ensures.board) (c.sweep-shared.result.0, quiet calls.Sweep replies.Done, refl, refl, c.finish-place.ensures.drew))
+
+pub returns-clause-stored : goal.returns-clause-stored
+returns-clause-stored g c = drew_nothing (known c.self.inside.pass) (known c.take-shared.new.pass) c.take-shared.result (took_of c.take-shared.ensures.took c.take-shared.ensures.board) (known c.finish-place.new.pass) _ _ c.finish-place.result c.sweep-shared.ensures.stored c.finish-place.ensures.drew
+
+pub returns-clause-swept : goal.returns-clause-swept
+returns-clause-swept g c = record {
+  before = c.take-shared.result;
+  after = c.sweep-shared.result.0;
+  has = subst (HasRows (view_of c.take-shared.result)) c.self.view_is (has_rows _ (known c.self.inside.pass) _ c.take-shared.result (stands_taken (known c.self.inside.pass) (known c.take-shared.new.pass) c.take-shared.result (took_of c.take-shared.ensures.took c.take-shared.ensures.board)));
+  is_swept = c.sweep-shared.ensures.swept;
+}
