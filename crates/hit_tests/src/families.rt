@@ -40,12 +40,19 @@ fn perform<G: Grow>(store: &mut G, operation: Operation, operands: Pair) -> Resu
     }
 }
 
+/// Makes the operands and runs the operation.
+fn run<G: Grow>(store: &mut G, operation: Operation) -> Result<(), Fail>
+    requires { (G.view store.old).elements ≡ 64 }
+{
+    let operands = sets(store, 0)?;
+    let _answer = perform(store, operation, operands)?;
+    Ok(())
+}
+
 /// Runs the operation in a store that ends the test where it forgets.
 fn watch<R: Abort + Drop>(rt: R, alloc: Global, operation: Operation) -> Result<(), Fail> {
     let mut store = Watched::new(rt, alloc, 0, 64)?;
-    let operands = sets(&mut store, 0)?;
-    let _answer = perform(&mut store, operation, operands)?;
-    Ok(())
+    run(&mut store, operation)
 }
 
 #[test]
@@ -78,19 +85,33 @@ fn change_remembers(rt: HostRuntime) -> Result<(), Fail> {
     watch(&rt, rt.alloc(), Operation::Change)
 }
 
+/// Multiplies two families.
+fn multiply<G: Grow>(store: &mut G) -> Result<(), Fail>
+    requires { (G.view store.old).elements ≡ 64 }
+{
+    let Pair { even, odd } = even_sets(store)?;
+    let _both = product(store, even, odd)?;
+    Ok(())
+}
+
+/// Divides the product of two families by the second: the quotient is the first.
+fn divide<G: Grow>(rt: &impl Abort, store: &mut G) -> Result<(), Fail>
+    requires { (G.view store.old).elements ≡ 64 }
+{
+    let Pair { even, odd } = even_sets(store)?;
+    let both = product(store, even, odd)?;
+    assert!(rt; quotient(store, both, odd)? == even);
+    Ok(())
+}
+
 #[test]
 fn product_remembers(rt: HostRuntime) -> Result<(), Fail> {
     let mut store = Watched::new(&rt, rt.alloc(), 0, 64)?;
-    let Pair { even, odd } = even_sets(&mut store)?;
-    let _both = product(&mut store, even, odd)?;
-    Ok(())
+    multiply(&mut store)
 }
 
 #[test]
 fn quotient_remembers(rt: HostRuntime) -> Result<(), Fail> {
     let mut store = Watched::new(&rt, rt.alloc(), 0, 64)?;
-    let Pair { even, odd } = even_sets(&mut store)?;
-    let both = product(&mut store, even, odd)?;
-    assert!(rt; quotient(&mut store, both, odd)? == even);
-    Ok(())
+    divide(&rt, &mut store)
 }

@@ -61,12 +61,19 @@ fn perform<G: Grow>(
     }
 }
 
+/// Makes the operands and runs the operation.
+fn run<G: Grow>(store: &mut G, operation: Operation) -> Result<(), Fail>
+    requires { (G.view store.old).vars ≡ 64 }
+{
+    let operands = number_operands(store)?;
+    let _answer = perform(store, operation, operands)??;
+    Ok(())
+}
+
 /// Runs the operation in a store that ends the test where it forgets.
 fn watch<R: Abort + Drop>(rt: R, alloc: Global, operation: Operation) -> Result<(), Fail> {
     let mut store = Watched::new(rt, alloc, 64, 0)?;
-    let operands = number_operands(&mut store)?;
-    let _answer = perform(&mut store, operation, operands)??;
-    Ok(())
+    run(&mut store, operation)
 }
 
 #[test]

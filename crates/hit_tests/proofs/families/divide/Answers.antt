@@ -1,6 +1,6 @@
 use Rattle.edge_bits.specs.declared.edges.Kind.TheVariants.{Zdd}
 use Rattle.node_store.specs.ViewLaws.{Is-from, Is-grown}
-use Rattle.hit_tests.proofs.families.quotient_remembers.Goals as goal
+use Rattle.hit_tests.proofs.families.divide.Goals as goal
 
 pub quotient-requires : goal.quotient-requires
 quotient-requires g c = record {
