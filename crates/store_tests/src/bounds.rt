@@ -10,6 +10,7 @@ use edge_bits::{Edge, Kind};
 use node_slots::{Grow, PlainStore};
 use std::alloc::Global;
 use std::marker::Model;
+use std::process::Abort;
 use std::test::Fail;
 
 /// The least value that a leaf can have, -2^46; the greatest is one less than its opposite.
@@ -109,30 +110,32 @@ fn leaf_of(store: &mut PlainStore, value: i64) -> Result<Edge, Fail>
     Ok(add_ops::constant(store, value)?)
 }
 
-#[test]
-fn values_are_at_least_what_is_below_the_range(rt: HostRuntime) -> Result<(), Fail> {
-    let mut functions = Functions::new(rt.alloc())?;
+/// Compares each function with the bound.
+fn compare_each(
+    rt: &impl Abort,
+    functions: &mut Functions,
+    bound: i64,
+    everywhere: bool,
+) -> Result<(), Fail> {
     for number in 0..FUNCTIONS {
-        let everywhere = Edge::truth(true);
-        assert_eq!(rt;
-            functions.at_least(values_of(number), i64::MIN)?,
-            everywhere,
-            "{number}"
-        );
+        let part = functions.at_least(values_of(number), bound)?;
+        assert_eq!(rt; part, Edge::truth(everywhere), "{number}");
     }
     Ok(())
 }
 
+/// Compares all functions with a bound that their values are at least everywhere, or nowhere.
+fn compare_all(rt: &impl Abort, alloc: Global, bound: i64, everywhere: bool) -> Result<(), Fail> {
+    let mut functions = Functions::new(alloc)?;
+    compare_each(rt, &mut functions, bound, everywhere)
+}
+
+#[test]
+fn values_are_at_least_what_is_below_the_range(rt: HostRuntime) -> Result<(), Fail> {
+    compare_all(&rt, rt.alloc(), i64::MIN, true)
+}
+
 #[test]
 fn no_value_is_at_least_what_is_above_the_range(rt: HostRuntime) -> Result<(), Fail> {
-    let mut functions = Functions::new(rt.alloc())?;
-    for number in 0..FUNCTIONS {
-        let nowhere = Edge::truth(false);
-        assert_eq!(rt;
-            functions.at_least(values_of(number), i64::MAX)?,
-            nowhere,
-            "{number}"
-        );
-    }
-    Ok(())
+    compare_all(&rt, rt.alloc(), i64::MAX, false)
 }

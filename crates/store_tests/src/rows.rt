@@ -29,6 +29,26 @@ fn remove(rt: &impl Abort, rows: &mut Rows, h: H, edge: Edge)
     assert!(rt; !rows.is_live(h));
 }
 
+/// Adds and removes a million rows, where there is room for one.
+fn add_and_remove(rt: &impl Abort, rows: &mut Rows)
+    requires room { rows.old.spare ≡ 1 }
+    requires adds { rows.old.adds ≡ 3 }
+{
+    for i in 0..1_000_000u32 {
+        let edge = Edge::new(i % 8_000_000, i % 2 == 1);
+        let h = add(rt, rows, edge);
+        assert_eq!(rt; rows.spare(), 0);
+        remove(rt, rows, h, edge);
+    }
+    assert_eq!(rt; rows.live(), 3);
+}
+
+/// The first row is as it was.
+fn is_first(rt: &impl Abort, rows: &Rows, first: H) {
+    assert!(rt; rows.is_live(first));
+    assert!(rt; rows.edge(first) == Edge::new(7, true));
+}
+
 /// Room for four rows is room for a million adds, of which four at most are live at once.
 #[test]
 fn a_million_adds(rt: HostRuntime) -> Result<(), Fail> {
@@ -37,14 +57,7 @@ fn a_million_adds(rt: HostRuntime) -> Result<(), Fail> {
     let first = add(&rt, &mut rows, Edge::new(7, true));
     add(&rt, &mut rows, Edge::new(7, false));
     add(&rt, &mut rows, Edge::new(8, false));
-    for i in 0..1_000_000u32 {
-        let edge = Edge::new(i % 8_000_000, i % 2 == 1);
-        let h = add(&rt, &mut rows, edge);
-        assert_eq!(rt; rows.spare(), 0);
-        remove(&rt, &mut rows, h, edge);
-    }
-    assert_eq!(rt; rows.live(), 3);
-    assert!(rt; rows.is_live(first));
-    assert!(rt; rows.edge(first) == Edge::new(7, true));
+    add_and_remove(&rt, &mut rows);
+    is_first(&rt, &rows, first);
     Ok(())
 }

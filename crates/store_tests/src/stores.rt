@@ -1,6 +1,6 @@
 //! A store of a few slots: conjunctions, leaves, and nodes of each kind.
 
-ghost use Rattle.std.specs.Prelude.{IfSome};
+ghost use Rattle.std.specs.Prelude.{◌≡◌, IfSome};
 ghost use Rattle.edge_bits.specs.declared.edges.Kind.TheVariants.{Bdd};
 ghost use Rattle.node_slots.specs.Stores.{plain_view};
 ghost use Rattle.node_store.specs.Three.{AreThree};
@@ -8,6 +8,7 @@ ghost use Rattle.node_store.specs.Three.{AreThree};
 use edge_bits::{Edge, FIRST_ELEMENT, FIRST_PROJECTION, Kind, Node, VALUE_END};
 use ite_core::and;
 use node_slots::{Grow, Opened, PlainStore, Stop, Whole};
+use std::process::Abort;
 use std::test::Fail;
 
 /// The node of a product: its else arc leads to logic zero.
@@ -40,39 +41,49 @@ fn first_variables(store: &mut PlainStore) -> Option<Variables>
     Some(Variables { a, b, c })
 }
 
-#[test]
-fn conjunctions_to_the_last_slot(rt: HostRuntime) -> Result<(), Fail> {
-    // Eight permanent slots, one for b and c, and one for all three.
-    let mut store = PlainStore::new(rt.alloc(), 3, 0, 10)?;
-    let Some(Variables { a, b, c }) = first_variables(&mut store) else {
+/// Slots in a store with two free slots: one for b and c, and one for all three.
+fn fill_with_products(rt: &impl Abort, store: &mut PlainStore) -> Result<(), Fail> {
+    let Some(Variables { a, b, c }) = first_variables(store) else {
         return Err(Fail::new("no three variables"));
     };
     assert_eq!(rt; store.in_use(), 8);
-    let Ok(bc) = and(&mut store, b, c) else {
+    let Ok(bc) = and(store, b, c) else {
         return Err(Fail::new("refused with two free slots"));
     };
     assert_eq!(rt; store.in_use(), 9);
-    let Ok(abc) = and(&mut store, a, bc) else {
+    let Ok(abc) = and(store, a, bc) else {
         return Err(Fail::new("refused with one free slot"));
     };
     assert_eq!(rt; store.in_use(), 10);
-    assert!(rt; and(&mut store, bc, a) == Ok(abc));
-    // The tables find what a walk over all words finds.
-    assert_eq!(rt; store.find_by_walk(node(1, 7)), Some(bc.index()));
-    assert_eq!(rt; store.find_by_walk(node(0, bc.index())), Some(abc.index()));
-    assert_eq!(rt; store.find_by_walk(node(0, 6)), None);
-    assert!(rt; and(&mut store, a, b) == Err(Stop::Full));
+    assert!(rt; and(store, bc, a) == Ok(abc));
+    found_by_walk(rt, store, bc.index(), abc.index());
+    assert!(rt; and(store, a, b) == Err(Stop::Full));
     assert_eq!(rt; store.in_use(), store.limit());
     Ok(())
 }
 
+/// The tables find what a walk over all words finds.
+fn found_by_walk(rt: &impl Abort, store: &PlainStore, two: u32, three: u32) {
+    assert_eq!(rt; store.find_by_walk(node(1, 7)), Some(two));
+    assert_eq!(rt; store.find_by_walk(node(0, two)), Some(three));
+    assert_eq!(rt; store.find_by_walk(node(0, 6)), None);
+}
+
 #[test]
-fn leaves_and_nodes_of_each_kind(rt: HostRuntime) -> Result<(), Fail> {
+fn conjunctions_to_the_last_slot(rt: HostRuntime) -> Result<(), Fail> {
+    // Eight permanent slots, and two more.
+    let mut store = PlainStore::new(rt.alloc(), 3, 0, 10)?;
+    fill_with_products(&rt, &mut store)
+}
+
+/// A leaf, a node over it and the family of one combination, in a store with three free slots.
+fn fill_with_each_kind(rt: &impl Abort, store: &mut PlainStore) -> Result<(), Fail>
+    requires vars { (plain_view store.old).vars ≡ 1 }
+    requires elements { (plain_view store.old).elements ≡ 1 }
+{
     let empty = Edge::empty_family();
     let base = Edge::base_family();
     let zero = Edge::number_zero();
-    // Six permanent slots, and three for the leaf, the node over it and the family of one combination.
-    let mut store = PlainStore::new(rt.alloc(), 1, 1, 9)?;
     let _levels = store.levels(Kind::Add);
     let Ok(leaf) = store.leaf(21) else {
         return Err(Fail::new("no leaf with three free slots"));
@@ -90,6 +101,13 @@ fn leaves_and_nodes_of_each_kind(rt: HostRuntime) -> Result<(), Fail> {
     assert!(rt; store.leaf(0) == Ok(zero));
     assert!(rt; store.leaf(42) == Err(Stop::Full));
     Ok(())
+}
+
+#[test]
+fn leaves_and_nodes_of_each_kind(rt: HostRuntime) -> Result<(), Fail> {
+    // Six permanent slots, and three more.
+    let mut store = PlainStore::new(rt.alloc(), 1, 1, 9)?;
+    fill_with_each_kind(&rt, &mut store)
 }
 
 /// Raises the count of a slot with a word.
@@ -142,8 +160,15 @@ fn free(store: &mut PlainStore, slot: u32) -> bool {
     may
 }
 
+/// The slots of the product of two variables, and of that of all three.
+#[derive(Clone, Copy, Drop)]
+struct Slots {
+    two: u32,
+    three: u32,
+}
+
 /// The products of the second and the third variable, and of all three, if there are slots for them.
-fn products(store: &mut PlainStore) -> Option<(Edge, Edge)> {
+fn products(store: &mut PlainStore) -> Option<Slots> {
     let Variables { a, b, c } = first_variables(store)?;
     let Ok(two) = and(store, b, c) else {
         return None;
@@ -151,57 +176,106 @@ fn products(store: &mut PlainStore) -> Option<(Edge, Edge)> {
     let Ok(three) = and(store, a, two) else {
         return None;
     };
-    Some((two, three))
+    Some(Slots {
+        two: two.index(),
+        three: three.index(),
+    })
+}
+
+/// Those products, in a store with slots for them.
+fn filled(rt: &impl Abort, store: &mut PlainStore) -> Slots {
+    match products(store) {
+        Some(slots) => slots,
+        None => panic!(rt; "refused with two free slots"),
+    }
+}
+
+/// A permanent slot, one that a node names and one that is held are not freed.
+fn keep_held(rt: &impl Abort, store: &mut PlainStore, slots: Slots) {
+    let Slots { two, three } = slots;
+    assert!(rt; !free(store, 4));
+    assert!(rt; !free(store, two));
+    raise(store, three);
+    assert_eq!(rt; store.count_of(three), 1);
+    assert!(rt; !free(store, three));
+    lower(store, three);
+}
+
+/// Frees both products, first the one that names the other.
+fn free_both(rt: &impl Abort, store: &mut PlainStore, slots: Slots) {
+    let Slots { two, three } = slots;
+    assert!(rt; free(store, three));
+    assert!(rt; free(store, two));
+    assert_eq!(rt; store.in_use(), 8);
+    assert_eq!(rt; store.generation_of(two), 1);
+    assert_eq!(rt; store.generation_of(5), 0);
+    assert_eq!(rt; store.find_by_walk(node(1, 7)), None);
+}
+
+/// Takes the two free slots again, first the one that was freed last.
+fn take_again(rt: &impl Abort, store: &mut PlainStore, slots: Slots) {
+    let Slots { two, three } = slots;
+    assert_eq!(rt; leaf_slot(rt, store), two);
+    assert!(rt; products(store).is_none());
+    assert_eq!(rt; store.find_by_walk(node(1, 7)), Some(three));
+    assert_eq!(rt; store.in_use(), 10);
+}
+
+/// Frees the slot of the leaf, which is then in its third generation.
+fn free_leaf(rt: &impl Abort, store: &mut PlainStore, slot: u32) {
+    assert!(rt; free(store, slot));
+    assert_eq!(rt; store.in_use(), 9);
+    assert_eq!(rt; store.generation_of(slot), 2);
+}
+
+/// The slot of a leaf.
+fn leaf_slot(rt: &impl Abort, store: &mut PlainStore) -> u32 {
+    match store.leaf(21) {
+        Ok(leaf) => leaf.index(),
+        Err(_) => panic!(rt; "no leaf with two free slots"),
+    }
+}
+
+/// Fills a store with two free slots, frees both and takes them again.
+fn fill_and_free(rt: &impl Abort, store: &mut PlainStore) {
+    let slots = filled(rt, store);
+    assert!(rt; store.leaf(21) == Err(Stop::Full));
+    keep_held(rt, store, slots);
+    free_both(rt, store, slots);
+    take_again(rt, store, slots);
+    free_leaf(rt, store, slots.two);
 }
 
 #[test]
 fn freed_slots_are_taken_again(rt: HostRuntime) -> Result<(), Fail> {
     let mut store = PlainStore::new(rt.alloc(), 3, 0, 10)?;
-    let Some((two, three)) = products(&mut store) else {
-        return Err(Fail::new("refused with two free slots"));
-    };
-    assert!(rt; store.leaf(21) == Err(Stop::Full));
-    // A permanent slot, one that a node names and one that is held are not freed.
-    assert!(rt; !free(&mut store, 4));
-    assert!(rt; !free(&mut store, two.index()));
-    raise(&mut store, three.index());
-    assert_eq!(rt; store.count_of(three.index()), 1);
-    assert!(rt; !free(&mut store, three.index()));
-    lower(&mut store, three.index());
-    assert!(rt; free(&mut store, three.index()));
-    assert!(rt; free(&mut store, two.index()));
-    assert_eq!(rt; store.in_use(), 8);
-    assert_eq!(rt; store.generation_of(two.index()), 1);
-    assert_eq!(rt; store.generation_of(5), 0);
-    assert_eq!(rt; store.find_by_walk(node(1, 7)), None);
-    // The slot that was freed last is taken first.
-    let Ok(leaf) = store.leaf(21) else {
-        return Err(Fail::new("no leaf with two free slots"));
-    };
-    assert_eq!(rt; leaf.index(), two.index());
-    assert!(rt; products(&mut store).is_none());
-    assert_eq!(rt; store.find_by_walk(node(1, 7)), Some(three.index()));
-    assert_eq!(rt; store.in_use(), 10);
-    assert!(rt; free(&mut store, leaf.index()));
-    assert_eq!(rt; store.in_use(), 9);
-    assert_eq!(rt; store.generation_of(two.index()), 2);
+    fill_and_free(&rt, &mut store);
     Ok(())
+}
+
+/// Sees that the product of all three is pinned, and not freed.
+fn refuse_to_free(rt: &impl Abort, store: &mut PlainStore, slots: Slots) {
+    let Slots { two, three } = slots;
+    assert!(rt; store.is_pinned(three) && !store.is_pinned(two));
+    assert_eq!(rt; store.count_of(three), 0);
+    assert!(rt; !free(store, three));
+}
+
+/// Sees that the slot is no longer pinned, and frees it.
+fn free_unpinned(rt: &impl Abort, store: &mut PlainStore, slot: u32) {
+    assert!(rt; !store.is_pinned(slot));
+    assert!(rt; free(store, slot));
+    assert_eq!(rt; store.in_use(), 9);
 }
 
 #[test]
 fn a_pinned_slot_is_not_freed(rt: HostRuntime) -> Result<(), Fail> {
     let mut store = PlainStore::new(rt.alloc(), 3, 0, 10)?;
-    let Some((two, three)) = products(&mut store) else {
-        return Err(Fail::new("refused with two free slots"));
-    };
-    let mut store = pin(store, three.index());
-    assert!(rt; store.is_pinned(three.index()) && !store.is_pinned(two.index()));
-    assert_eq!(rt; store.count_of(three.index()), 0);
-    assert!(rt; !free(&mut store, three.index()));
-    let mut store = unpin(store, three.index());
-    assert!(rt; !store.is_pinned(three.index()));
-    assert!(rt; free(&mut store, three.index()));
-    assert_eq!(rt; store.in_use(), 9);
+    let slots = filled(&rt, &mut store);
+    let mut store = pin(store, slots.three);
+    refuse_to_free(&rt, &mut store, slots);
+    let mut store = unpin(store, slots.three);
+    free_unpinned(&rt, &mut store, slots.three);
     Ok(())
 }
 
@@ -222,18 +296,25 @@ fn node_over(store: &mut PlainStore, value: u32) -> Option<u32> {
     Some(node.index())
 }
 
-/// As many nodes at one level as there are leaves below them, and a second look at each.
+/// Asks for as many nodes at one level as there are leaves below them.
+fn ask_for_all(rt: &impl Abort, store: &mut PlainStore) {
+    for value in 2..20_002 {
+        assert!(rt; node_over(store, value).is_some());
+    }
+}
+
+/// Makes the nodes, and looks at each a second time.
+fn ask_twice(rt: &impl Abort, store: &mut PlainStore) {
+    ask_for_all(rt, store);
+    assert_eq!(rt; store.in_use(), 40_006);
+    assert_eq!(rt; node_over(store, 20_001), Some(40_005));
+    ask_for_all(rt, store);
+    assert_eq!(rt; store.in_use(), 40_006);
+}
+
 #[test]
 fn many_nodes_at_one_level(rt: HostRuntime) -> Result<(), Fail> {
     let mut store = PlainStore::new(rt.alloc(), 1, 0, 100_000)?;
-    for value in 2..20_002 {
-        assert!(rt; node_over(&mut store, value).is_some());
-    }
-    assert_eq!(rt; store.in_use(), 40_006);
-    assert_eq!(rt; node_over(&mut store, 20_001), Some(40_005));
-    for value in 2..20_002 {
-        assert!(rt; node_over(&mut store, value).is_some());
-    }
-    assert_eq!(rt; store.in_use(), 40_006);
+    ask_twice(&rt, &mut store);
     Ok(())
 }

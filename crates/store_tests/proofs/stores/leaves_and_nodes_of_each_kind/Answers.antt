@@ -1,43 +1,9 @@
-use Rattle.std.proofs.Common.{◌≡◌, ◌∙◌, ap, length, pos, arith}
+use Rattle.std.proofs.Common.{◌∙◌, ap, length}
 use Rattle.std.proofs.lemmas.List.FromFn.{length-range_with_len}
-use Rattle.edge_bits.specs.declared.edges.Kind.TheVariants.{Add, Zdd}
-use Rattle.node_slots.specs.Stores.{plain_view}
-use Rattle.node_store.specs.ViewLaws.{Denotes-grown, Grown-trans, Is-from, Is-grown, Permanent-grown}
-use Rattle.store_tests.proofs.StoreLemmas.{can_make_numbers, can_make_single, denotes_zero}
 use Rattle.store_tests.proofs.stores.leaves_and_nodes_of_each_kind.Goals as goal
 
-pub make-requires : goal.make-requires
-make-requires g c =
-    let w = plain_view c.levels-levels.new.self in
-    let w1 = plain_view c.leaf.new.self in
-    let vars : w1.vars ≡ 1 = c.leaf.ensures.grown.vars ∙ c.levels-levels.ensures.kept.grown.vars ∙ ap length c.in_ok-store.ensures.variable_levels ∙ length-range_with_len 0 1 in
-    let zero = Denotes-grown Add c.leaf.ensures.grown (denotes_zero w c.number_zero-zero.result c.levels-levels.ensures.permanent c.number_zero-zero.ensures) in
-    let numbers = can_make_numbers w1 c.in-Ok.leaf c.number_zero-zero.result (pos 21) (pos 0) (omega (arith, vars)) c.in-Ok.ensures.ok zero in
-    (Add, numbers)
+pub fill_with_each_kind-requires-clause-vars : goal.fill_with_each_kind-requires-clause-vars
+fill_with_each_kind-requires-clause-vars g c = ap length c.in_ok-store.ensures.variable_levels ∙ length-range_with_len 0 1
 
-pub make-requires-2 : goal.make-requires-2
-make-requires-2 g c =
-    let w = plain_view c.levels-levels.new.self in
-    let w2 = plain_view c.make.new.self in
-    let grown = Grown-trans c.leaf.ensures.grown c.make.ensures.grown in
-    let elements : w2.elements ≡ 1 = grown.elements ∙ c.levels-levels.ensures.kept.grown.elements ∙ ap length c.in_ok-store.ensures.element_levels ∙ length-range_with_len 0 1 in
-    let single = can_make_single w2 c.base_family-base.result c.empty_family-empty.result (Permanent-grown grown c.levels-levels.ensures.permanent) (omega (arith, elements)) c.base_family-base.ensures c.empty_family-empty.ensures in
-    (Zdd, single)
-
-pub open-requires : goal.open-requires
-open-requires g c =
-    let w = plain_view c.levels-levels.new.self in
-    let w1 = plain_view c.leaf.new.self in
-    let vars : w1.vars ≡ 1 = c.leaf.ensures.grown.vars ∙ c.levels-levels.ensures.kept.grown.vars ∙ ap length c.in_ok-store.ensures.variable_levels ∙ length-range_with_len 0 1 in
-    let zero = Denotes-grown Add c.leaf.ensures.grown (denotes_zero w c.number_zero-zero.result c.levels-levels.ensures.permanent c.number_zero-zero.ensures) in
-    let numbers = can_make_numbers w1 c.in-Ok.leaf c.number_zero-zero.result (pos 21) (pos 0) (omega (arith, vars)) c.in-Ok.ensures.ok zero in
-    (Add, Is-grown Add c.make-2.ensures.grown (Is-from Add (c.in-Ok-make.ensures.ok Add numbers)))
-
-pub open-requires-2 : goal.open-requires-2
-open-requires-2 g c =
-    let w = plain_view c.levels-levels.new.self in
-    let w2 = plain_view c.make.new.self in
-    let grown = Grown-trans c.leaf.ensures.grown c.make.ensures.grown in
-    let elements : w2.elements ≡ 1 = grown.elements ∙ c.levels-levels.ensures.kept.grown.elements ∙ ap length c.in_ok-store.ensures.element_levels ∙ length-range_with_len 0 1 in
-    let single = can_make_single w2 c.base_family-base.result c.empty_family-empty.result (Permanent-grown grown c.levels-levels.ensures.permanent) (omega (arith, elements)) c.base_family-base.ensures c.empty_family-empty.ensures in
-    (Zdd, Is-grown Zdd c.open.ensures.kept.grown (Is-from Zdd (c.in-Ok-make-2.ensures.ok Zdd single)))
+pub fill_with_each_kind-requires-clause-elements : goal.fill_with_each_kind-requires-clause-elements
+fill_with_each_kind-requires-clause-elements g c = ap length c.in_ok-store.ensures.element_levels ∙ length-range_with_len 0 1

@@ -1,5 +1,5 @@
 use Rattle.std.proofs.Common.{◌≡◌, ◌+◌, ◌≤◌}
-use Rattle.store_tests.proofs.rows.a_million_adds.Given as goal
+use Rattle.store_tests.proofs.rows.add_and_remove.Given as goal
 
 abbrev pub invariant-loop-i : goal.invariant-loop-i
 invariant-loop-i g l = record {

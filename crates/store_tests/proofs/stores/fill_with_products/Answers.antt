@@ -1,6 +1,6 @@
 use Rattle.edge_bits.specs.declared.edges.Kind.TheVariants.{Bdd}
 use Rattle.node_store.specs.ViewLaws.{Grown-trans, Is-from, Is-grown}
-use Rattle.store_tests.proofs.stores.conjunctions_to_the_last_slot.Goals as goal
+use Rattle.store_tests.proofs.stores.fill_with_products.Goals as goal
 
 pub and-requires : goal.and-requires
 and-requires g c = record { first = c.in-Some.ensures.first; second = c.in-Some.ensures.second }
