@@ -9,6 +9,7 @@ use seat_guard::seat::{Guard, Pass};
 use seat_guard::view::Opening;
 use std::alloc::{AllocError, Global};
 use std::marker::Brand;
+use std::process::Abort;
 use std::sync::Wait;
 use std::test::Fail;
 use std::thread::{Threads, join};
@@ -119,12 +120,17 @@ fn two<R: Threads + Wait + Sync>(rt: &R, alloc: Global, times: u32) -> Result<To
     })
 }
 
+/// All of 20,000 turns of each session are told.
+fn is_whole(rt: &impl Abort, told: &Told) {
+    assert_eq!(rt; told.calls, 40_000);
+    assert_eq!(rt; told.turns, 40_000);
+    assert!(rt; told.above == (20_000, 20_000));
+}
+
 /// No turn is lost, no place is drawn twice, and each session's places rise.
 #[test]
 fn two_threads_take_turns(rt: HostRuntime) -> Result<(), Fail> {
     let told = two(&rt, rt.alloc(), 20_000)?;
-    assert_eq!(rt; told.calls, 40_000);
-    assert_eq!(rt; told.turns, 40_000);
-    assert!(rt; told.above == (20_000, 20_000));
+    is_whole(&rt, &told);
     Ok(())
 }

@@ -1,8 +1,8 @@
 use Rattle.std.proofs.Common.{ℕ, ap, arith}
-use Rattle.seat_tests.proofs.boards.a_cell_is_counted.Goals as goal
+use Rattle.seat_tests.proofs.boards.fill_cell.Goals as goal
 
 pub set_cell-requires-clause-few : goal.set_cell-requires-clause-few
 set_cell-requires-clause-few g c =
     let i = ap (λ (f : ℕ → ℕ). f c.new-edge.result.index) c.levels-permanent.ensures.kept.grown.counts in
-    let z = c.in_ok-shared.ensures.uncounted c.new-edge.result.index in
+    let z = c.requires.uncounted c.new-edge.result.index in
     omega (arith, i, z)
