@@ -134,6 +134,7 @@ def main():
         ("chain", ["110000", "101010"]),
         ("far_chain", ["100100", "111000"]),
         ("faults", ["110000", "100000", "000011"]),
+        ("arbiter", ["1010000000", "1010010000"]),
     ]:
         with open(f"examples/{name}.blif") as file:
             jobs.append((name, file.read(), patterns))
