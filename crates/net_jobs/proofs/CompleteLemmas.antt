@@ -4,12 +4,11 @@ use Rattle.std.specs.Io.KnownBytes.{Consumes}
 use Rattle.blif_net.specs.declared.faults.BlifFault.{BlifFault}
 use Rattle.blif_net.specs.Faults.{fault_of}
 use Rattle.blif_net.specs.Networks.{IsBlifText}
-use Rattle.command_words.specs.declared.order.Order.{Order}
-use Rattle.command_words.specs.declared.order.Order.TheVariants.{Play, Build, Load, Gen}
+use Rattle.command_words.specs.declared.order.Options.{Options}
 use Rattle.job_text.specs.Faults.{IsFaultText}
 use Rattle.job_text.proofs.OneReading.{job_or_fault}
 use Rattle.net_jobs.specs.declared.status.Status.TheVariants as status
-use Rattle.net_jobs.specs.Ends.{IsComplete, IsCompleteForNetworks, IsWhole}
+use Rattle.net_jobs.specs.Ends.{IsComplete, IsCompleteForBuilds, IsCompleteForMade, IsWhole}
 
 whole_is : (bytes other : List ℕ) (rest : Option (List ℕ)) → IsWhole (Some bytes) rest other → other ≡ bytes
 whole_is bytes other None w = absurd w.taken
@@ -35,20 +34,25 @@ is_complete bytes job rest before now status.TooLong text is short none due = ab
 faultless : (bytes other : List ℕ) (fault : BlifFault) → fault_of bytes ≡ None → other ≡ bytes → fault_of other ≡ Some fault → ⊥
 faultless bytes other fault none same is = cc
 
-no_play : (o : Order) → Some o ≡ Some Play → o ≡ Play
-no_play o e = cc
-
-pub is_complete_for_networks : IsCompleteForNetworks
-is_complete_for_networks order bytes net rest before now status.Ok text other is short none due = inl refl
-is_complete_for_networks order bytes net rest before now status.Usage text other is short none due = cc
-is_complete_for_networks (Build workers limit options) bytes net rest before now status.Blif text other is short none due =
+pub is_complete_for_builds : IsCompleteForBuilds
+is_complete_for_builds workers limit options bytes net rest before now status.Ok text is short none due = inl refl
+is_complete_for_builds workers limit options bytes net rest before now status.Usage text is short none due = cc
+is_complete_for_builds workers limit options bytes net rest before now status.Blif text is short none due =
     absurd (faultless bytes due.0 due.1 is.faultless (whole_is bytes due.0 rest due.2) due.3)
-is_complete_for_networks Play bytes net rest before now status.Blif text other is short none due = absurd due
-is_complete_for_networks (Load patterns) bytes net rest before now status.Blif text other is short none due = absurd due
-is_complete_for_networks (Gen workers bits) bytes net rest before now status.Blif text other is short none due = absurd due
-is_complete_for_networks order bytes net rest before now status.Full text other is short none due = inr (inr refl)
-is_complete_for_networks order bytes net rest before now status.Memory text other is short none due = inr (inl refl)
-is_complete_for_networks order bytes net rest before now status.ReadFault text other is short none due = absurd (none due.1)
-is_complete_for_networks order bytes net rest before now status.WriteFault text other is short none due = absurd due
-is_complete_for_networks order bytes net rest before now status.Job text other is short none due = absurd (other (no_play order due.0))
-is_complete_for_networks order bytes net rest before now status.TooLong text other is short none due = absurd (not_too_long bytes due.1 rest due.2 short due.3)
+is_complete_for_builds workers limit options bytes net rest before now status.Full text is short none due = inr (inl refl)
+is_complete_for_builds workers limit options bytes net rest before now status.Memory text is short none due = inr (inr refl)
+is_complete_for_builds workers limit options bytes net rest before now status.ReadFault text is short none due = absurd (none due.1)
+is_complete_for_builds workers limit options bytes net rest before now status.WriteFault text is short none due = absurd due
+is_complete_for_builds workers limit options bytes net rest before now status.Job text is short none due = cc
+is_complete_for_builds workers limit options bytes net rest before now status.TooLong text is short none due = absurd (not_too_long bytes due.1 rest due.2 short due.3)
+
+pub is_complete_for_made : IsCompleteForMade
+is_complete_for_made workers bits left rest before now status.Ok text due = inl refl
+is_complete_for_made workers bits left rest before now status.Usage text due = cc
+is_complete_for_made workers bits left rest before now status.Blif text due = absurd due
+is_complete_for_made workers bits left rest before now status.Full text due = inr (inl refl)
+is_complete_for_made workers bits left rest before now status.Memory text due = inr (inr refl)
+is_complete_for_made workers bits left rest before now status.ReadFault text due = absurd due.0
+is_complete_for_made workers bits left rest before now status.WriteFault text due = absurd due
+is_complete_for_made workers bits left rest before now status.Job text due = cc
+is_complete_for_made workers bits left rest before now status.TooLong text due = absurd due.0

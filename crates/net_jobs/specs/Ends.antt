@@ -9,6 +9,7 @@ use Rattle.blif_net.specs.declared.faults.FaultKind.TheVariants as blif_kinds
 use Rattle.blif_net.specs.declared.net.Net.{Net}
 use Rattle.blif_net.specs.Faults.{fault_of}
 use Rattle.blif_net.specs.Networks.{IsBlifText}
+use Rattle.command_words.specs.declared.order.Options.{Options}
 use Rattle.command_words.specs.declared.order.Order.{Order}
 use Rattle.command_words.specs.declared.order.Order.TheVariants.{Play, Build, Load, Gen}
 use Rattle.command_words.specs.Orders.{is_play, order_of, usual_limit}
@@ -140,9 +141,15 @@ IsComplete = (bytes : List ℕ) (job : Job) (rest : Option (List ℕ)) (before n
     → IsJobText bytes job → length bytes ≤ 67108864 → (Rose before now → ⊥)
     → Due (Some Play) (Some bytes) rest (Rose before now) ended text → (ended ≡ status.Ok) ⊎ (ended ≡ status.Memory)
 
--- Where the words ask for a network to be built that the source has left, there is its report to tell, or want of memory, or
--- that the manager is full; and so it is where they ask for a network that is made.
-abbrev pub IsCompleteForNetworks : Type 0
-IsCompleteForNetworks = (order : Order) (bytes : List ℕ) (net : Net) (rest : Option (List ℕ)) (before now : ℕ) (ended : Status) (text : List ℕ)
-    → (order ≡ Play → ⊥) → IsBlifText bytes net → length bytes ≤ 67108864 → (Rose before now → ⊥)
-    → Due (Some order) (Some bytes) rest (Rose before now) ended text → (ended ≡ status.Ok) ⊎ ((ended ≡ status.Memory) ⊎ (ended ≡ status.Full))
+-- Where the words ask for a network to be built, the source tells what it has left, which is the text of one and not too long, and
+-- its count of faults did not rise, there is the report to tell, that the manager is full, or want of memory.
+abbrev pub IsCompleteForBuilds : Type 0
+IsCompleteForBuilds = (workers limit : ℕ) (options : Options) (bytes : List ℕ) (net : Net) (rest : Option (List ℕ)) (before now : ℕ) (ended : Status) (text : List ℕ)
+    → IsBlifText bytes net → length bytes ≤ 67108864 → (Rose before now → ⊥)
+    → Due (Some (Build workers limit options)) (Some bytes) rest (Rose before now) ended text → (ended ≡ status.Ok) ⊎ ((ended ≡ status.Full) ⊎ (ended ≡ status.Memory))
+
+-- Where they ask for a network that is made, whatever the source has left and whether or not it fails, there is the summary to
+-- tell, that the manager is full, or want of memory.
+abbrev pub IsCompleteForMade : Type 0
+IsCompleteForMade = (workers bits : ℕ) (left rest : Option (List ℕ)) (before now : ℕ) (ended : Status) (text : List ℕ)
+    → Due (Some (Gen workers bits)) left rest (Rose before now) ended text → (ended ≡ status.Ok) ⊎ ((ended ≡ status.Full) ⊎ (ended ≡ status.Memory))

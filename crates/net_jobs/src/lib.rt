@@ -24,4 +24,6 @@ pub use networks::{PartStop, build, generate};
 pub use playing::play;
 pub use said::Said;
 pub use status::Status;
-pub use top::{builds_are_complete, plays_are_complete, refuse_memory, run};
+pub use top::{
+    builds_are_complete, made_networks_are_complete, plays_are_complete, refuse_memory, run,
+};

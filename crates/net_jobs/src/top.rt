@@ -5,7 +5,7 @@ ghost use Rattle.std.specs.Io.KnownBytes.{Appends};
 ghost use Rattle.command_words.specs.declared.order.Order.TheVariants.{Gen};
 ghost use Rattle.command_words.specs.Orders.{IsInRange};
 ghost use Rattle.byte_streams.specs.Causes.{Rose, AppendsFront};
-ghost use Rattle.net_jobs.specs.Ends.{Due, IsComplete, IsCompleteForNetworks, PlaysAlone, asked_of, runs};
+ghost use Rattle.net_jobs.specs.Ends.{Due, IsComplete, IsCompleteForBuilds, IsCompleteForMade, PlaysAlone, asked_of, runs};
 ghost use Rattle.net_jobs.specs.Refusals.{refusal_line, status_of};
 ghost use Rattle.net_jobs.specs.declared.status.Status.{Status};
 ghost use Rattle.net_jobs.specs.declared.status.Status.TheVariants.{Memory as WantOfMemory, WriteFault};
@@ -153,7 +153,12 @@ pub fn plays_are_complete()
 {}
 
 /// Where the text is that of a network and nothing failed, a run of `build` tells its report, that the manager is full, or want of
-/// memory; a run of `gen` with such bounds the summary, or one of the two.
+/// memory.
 pub fn builds_are_complete()
-    ensures { IsCompleteForNetworks }
+    ensures { IsCompleteForBuilds }
+{}
+
+/// A run of `gen` tells the summary, that the manager is full, or want of memory, whatever becomes of the source.
+pub fn made_networks_are_complete()
+    ensures { IsCompleteForMade }
 {}

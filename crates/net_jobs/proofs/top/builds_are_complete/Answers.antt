@@ -1,5 +1,5 @@
-use Rattle.net_jobs.proofs.CompleteLemmas.{is_complete_for_networks}
+use Rattle.net_jobs.proofs.CompleteLemmas.{is_complete_for_builds}
 use Rattle.net_jobs.proofs.top.builds_are_complete.Goals as goal
 
 pub returns : goal.returns
-returns c = is_complete_for_networks
+returns c = is_complete_for_builds
