@@ -1,10 +1,12 @@
 //! What each step on the table tells.
+
 use crate::content::Content;
 use crate::told::{Leaves, Told};
 use crate::view::View;
 use atomic_table::{Join, Play, Split};
 use std::marker::PhantomData;
 
+/// The turn is taken.
 pub struct Take;
 
 impl<S: Content> Play<Option<S>, View> for Take {
@@ -13,6 +15,7 @@ impl<S: Content> Play<Option<S>, View> for Take {
     ghost then = { took S.keeps S.board S.counts S.count S.orders S.functions };
 }
 
+/// It is taken for good, once all sessions have come back.
 pub struct End;
 
 impl<S: Content> Play<Option<S>, View> for End {
@@ -21,6 +24,7 @@ impl<S: Content> Play<Option<S>, View> for End {
     ghost then = { ended S.keeps S.board S.counts S.count S.orders };
 }
 
+/// It is given back, with what was stored meanwhile.
 pub struct Give<E> {
     leaving: PhantomData<E>,
 }
@@ -31,6 +35,7 @@ impl<S, E: Leaves> Play<Option<S>, View> for Give<E> {
     ghost then = { gave E.leaving };
 }
 
+/// A call draws its place.
 pub struct Draw<E> {
     told: PhantomData<E>,
 }
@@ -41,6 +46,7 @@ impl<S, E: Told> Play<Option<S>, View> for Draw<E> {
     ghost then = { drew E.told };
 }
 
+/// The orders are noted.
 pub struct Look;
 
 impl<S> Play<Option<S>, View> for Look {
@@ -49,6 +55,7 @@ impl<S> Play<Option<S>, View> for Look {
     ghost then = { looked };
 }
 
+/// The calls of all sessions are told.
 pub struct Last;
 
 impl<S> Play<Option<S>, View> for Last {
@@ -57,6 +64,7 @@ impl<S> Play<Option<S>, View> for Last {
     ghost then = { closed };
 }
 
+/// The next session gets a seat of its own.
 pub struct Next;
 
 impl Split<View> for Next {
@@ -67,6 +75,7 @@ impl Split<View> for Next {
     ghost right = { λ v. viewed (session_of v.draws) };
 }
 
+/// A session's seat is taken in.
 pub struct Back;
 
 impl Join<View> for Back {
