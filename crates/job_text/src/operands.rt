@@ -112,7 +112,7 @@ impl Operands {
     }
 
     /// What an operation does with them.
-    pub fn act(self, alloc: Global, operation: Operation) -> Result<Act, AllocError>
+    pub fn act(mut self, alloc: Global, operation: Operation) -> Result<Act, AllocError>
         ensures { IfOk result (λ act. act ≡ act_of operation self) }
     {
         if operation.is_logical() {
@@ -122,10 +122,24 @@ impl Operands {
         }
     }
 
+    /// The variables, which are taken out.
+    fn take_variables(&mut self, alloc: Global) -> List<u32>
+        ensures { result ≡ self.old.variables }
+    {
+        std::mem::replace(&mut self.variables, List::new(alloc))
+    }
+
+    /// The bits, which are taken out.
+    fn take_bits(&mut self, alloc: Global) -> List<bool>
+        ensures { result ≡ self.old.bits }
+    {
+        std::mem::replace(&mut self.bits, List::new(alloc))
+    }
+
     /// What an operation on BDDs or on diagrams of any kind does with them.
-    fn logical_act(self, alloc: Global, operation: Operation) -> Result<Act, AllocError>
+    fn logical_act(&mut self, alloc: Global, operation: Operation) -> Result<Act, AllocError>
         requires { is_logical operation ≡ true }
-        ensures { IfOk result (λ act. act ≡ act_of operation self) }
+        ensures { IfOk result (λ act. act ≡ act_of operation self.old) }
     {
         let a = self.register(0);
         let b = self.register(1);
@@ -143,9 +157,9 @@ impl Operands {
             Operation::Xor => Act::Xor(a, b),
             Operation::Ite => Act::Ite(a, b, c),
             Operation::Cofactor => Act::Cofactor(a, v, bit),
-            Operation::Exists => Act::Exists(a, self.variables),
-            Operation::Forall => Act::Forall(a, self.variables),
-            Operation::AndExists => Act::AndExists(a, b, self.variables),
+            Operation::Exists => Act::Exists(a, self.take_variables(alloc)),
+            Operation::Forall => Act::Forall(a, self.take_variables(alloc)),
+            Operation::AndExists => Act::AndExists(a, b, self.take_variables(alloc)),
             Operation::Compose => Act::Compose(a, v, b),
             Operation::VectorCompose => vector_compose(alloc, &self.registers, &self.variables)?,
             Operation::Restrict => Act::Restrict(a, b),
@@ -156,7 +170,7 @@ impl Operands {
             Operation::Drop => Act::Drop(a),
             Operation::Same => Act::Same(a, b),
             Operation::Leq => Act::Leq(a, b),
-            Operation::Eval => Act::Eval(a, self.bits),
+            Operation::Eval => Act::Eval(a, self.take_bits(alloc)),
             Operation::Sweep => Act::Sweep,
             _ => unreachable!(),
         };
@@ -164,9 +178,9 @@ impl Operands {
     }
 
     /// What an operation on ADDs or families does with them.
-    fn other_act(self, operation: Operation) -> Act
+    fn other_act(&self, operation: Operation) -> Act
         requires { is_logical operation ≡ false }
-        ensures { result ≡ act_of operation self }
+        ensures { result ≡ act_of operation self.now }
     {
         let a = self.register(0);
         let b = self.register(1);
