@@ -23,7 +23,7 @@ use Rattle.shared_store.specs.Sharing.{view_of}
 use Rattle.dd_session.specs.Requests.{terminal_call, terminal_edge, terminal_family}
 use Rattle.dd_session.specs.Turns.{Gives, HasValue, IsEdgeOf, Stands}
 use Rattle.dd_session.proofs.NumberLaws.{held_at}
-use Rattle.dd_session.proofs.Outcomes.{elements}
+use Rattle.dd_session.proofs.Outcomes.{elements, has_value}
 
 -- the families of no operand
 terminal_denotes : (x : Shared) (b : Bool) → IsSound (content_view x.store) → Denotes kinds.Zdd (view_of x) (terminal_edge b) (terminal_family b)
@@ -54,7 +54,7 @@ module _ (d : Draws) where
 
   pub told_single : (e : ℕ) → e < d.elements → (x : Shared) → IsStore x.store → Stands x d → IsElement (view_of x) e × HasValue kinds.Zdd (λ u edge. Denotes kinds.Zdd u edge (single e)) d (view_of x) (calls.Single e)
   told_single e lt x of stands = let w = view_of x in let element = element_in x of stands e lt in
-      (element, (single e, (λ t agrees. outcome-single w t.sizes t.cells (t.live d.session) (elements d t x agrees stands) e element.in_range), λ u edge denotes. denotes))
+      (element, has_value kinds.Zdd d (view_of x) (calls.Single e) (single e) (λ t agrees. outcome-single w t.sizes t.cells (t.live d.session) (elements d t x agrees stands) e element.in_range))
 
   -- an operation by one element
   module _ (a : Name) (i : Edge) (first : IsEdgeOf kinds.Zdd d a i) (e : ℕ) (lt : e < d.elements) (x : Shared) (of : IsStore x.store) (stands : Stands x d) where
@@ -65,34 +65,13 @@ module _ (d : Draws) where
     element = element_in x of stands e lt
 
     pub told_subset1 : (Is kinds.Zdd w₁ i × IsElement w₁ e) × HasValue kinds.Zdd (λ u edge. Denotes kinds.Zdd u edge (subset1 (family_at w₁ i) e)) d w₁ (calls.Subset1 a e)
-    told_subset1 = (
-      ((first x stands).0, element),
-      (
-        subset1 (family_at w₁ i) e,
-        (λ t agrees. outcome-subset1 w₁ t.sizes t.cells (t.live d.session) (elements d t x agrees stands) a e i element.in_range (held_at d kinds.Zdd a i first x stands t agrees)),
-        λ u edge denotes. denotes,
-      ),
-    )
+    told_subset1 = (((first x stands).0, element), has_value kinds.Zdd d w₁ (calls.Subset1 a e) (subset1 (family_at w₁ i) e) (λ t agrees. outcome-subset1 w₁ t.sizes t.cells (t.live d.session) (elements d t x agrees stands) a e i element.in_range (held_at d kinds.Zdd a i first x stands t agrees)))
 
     pub told_subset0 : (Is kinds.Zdd w₁ i × IsElement w₁ e) × HasValue kinds.Zdd (λ u edge. Denotes kinds.Zdd u edge (subset0 (family_at w₁ i) e)) d w₁ (calls.Subset0 a e)
-    told_subset0 = (
-      ((first x stands).0, element),
-      (
-        subset0 (family_at w₁ i) e,
-        (λ t agrees. outcome-subset0 w₁ t.sizes t.cells (t.live d.session) (elements d t x agrees stands) a e i element.in_range (held_at d kinds.Zdd a i first x stands t agrees)),
-        λ u edge denotes. denotes,
-      ),
-    )
+    told_subset0 = (((first x stands).0, element), has_value kinds.Zdd d w₁ (calls.Subset0 a e) (subset0 (family_at w₁ i) e) (λ t agrees. outcome-subset0 w₁ t.sizes t.cells (t.live d.session) (elements d t x agrees stands) a e i element.in_range (held_at d kinds.Zdd a i first x stands t agrees)))
 
     pub told_change : (Is kinds.Zdd w₁ i × IsElement w₁ e) × HasValue kinds.Zdd (λ u edge. Denotes kinds.Zdd u edge (change (family_at w₁ i) e)) d w₁ (calls.Change a e)
-    told_change = (
-      ((first x stands).0, element),
-      (
-        change (family_at w₁ i) e,
-        (λ t agrees. outcome-change w₁ t.sizes t.cells (t.live d.session) (elements d t x agrees stands) a e i element.in_range (held_at d kinds.Zdd a i first x stands t agrees)),
-        λ u edge denotes. denotes,
-      ),
-    )
+    told_change = (((first x stands).0, element), has_value kinds.Zdd d w₁ (calls.Change a e) (change (family_at w₁ i) e) (λ t agrees. outcome-change w₁ t.sizes t.cells (t.live d.session) (elements d t x agrees stands) a e i element.in_range (held_at d kinds.Zdd a i first x stands t agrees)))
 
   -- and on two families
   module _ (a b : Name) (e i : Edge) (first : IsEdgeOf kinds.Zdd d a e) (second : IsEdgeOf kinds.Zdd d b i) (x : Shared) (of : IsStore x.store) (stands : Stands x d) where
@@ -103,51 +82,16 @@ module _ (d : Draws) where
     two = record { first = (first x stands).0; second = (second x stands).0 }
 
     pub told_union : AreTwo kinds.Zdd w e i × HasValue kinds.Zdd (λ u edge. Denotes kinds.Zdd u edge (union (family_at w e) (family_at w i))) d w (calls.Union a b)
-    told_union = (
-      two,
-      (
-        union (family_at w e) (family_at w i),
-        (λ t agrees. outcome-union w t.sizes t.cells (t.live d.session) a b e i (held_at d kinds.Zdd a e first x stands t agrees) (held_at d kinds.Zdd b i second x stands t agrees)),
-        λ u edge denotes. denotes,
-      ),
-    )
+    told_union = (two, has_value kinds.Zdd d w (calls.Union a b) (union (family_at w e) (family_at w i)) (λ t agrees. outcome-union w t.sizes t.cells (t.live d.session) a b e i (held_at d kinds.Zdd a e first x stands t agrees) (held_at d kinds.Zdd b i second x stands t agrees)))
 
     pub told_meet : AreTwo kinds.Zdd w e i × HasValue kinds.Zdd (λ u edge. Denotes kinds.Zdd u edge (meet (family_at w e) (family_at w i))) d w (calls.Meet a b)
-    told_meet = (
-      two,
-      (
-        meet (family_at w e) (family_at w i),
-        (λ t agrees. outcome-meet w t.sizes t.cells (t.live d.session) a b e i (held_at d kinds.Zdd a e first x stands t agrees) (held_at d kinds.Zdd b i second x stands t agrees)),
-        λ u edge denotes. denotes,
-      ),
-    )
+    told_meet = (two, has_value kinds.Zdd d w (calls.Meet a b) (meet (family_at w e) (family_at w i)) (λ t agrees. outcome-meet w t.sizes t.cells (t.live d.session) a b e i (held_at d kinds.Zdd a e first x stands t agrees) (held_at d kinds.Zdd b i second x stands t agrees)))
 
     pub told_diff : AreTwo kinds.Zdd w e i × HasValue kinds.Zdd (λ u edge. Denotes kinds.Zdd u edge (diff (family_at w e) (family_at w i))) d w (calls.Diff a b)
-    told_diff = (
-      two,
-      (
-        diff (family_at w e) (family_at w i),
-        (λ t agrees. outcome-diff w t.sizes t.cells (t.live d.session) a b e i (held_at d kinds.Zdd a e first x stands t agrees) (held_at d kinds.Zdd b i second x stands t agrees)),
-        λ u edge denotes. denotes,
-      ),
-    )
+    told_diff = (two, has_value kinds.Zdd d w (calls.Diff a b) (diff (family_at w e) (family_at w i)) (λ t agrees. outcome-diff w t.sizes t.cells (t.live d.session) a b e i (held_at d kinds.Zdd a e first x stands t agrees) (held_at d kinds.Zdd b i second x stands t agrees)))
 
     pub told_product : AreTwo kinds.Zdd w e i × HasValue kinds.Zdd (λ u edge. Denotes kinds.Zdd u edge (product (2 ^ w.elements) (family_at w e) (family_at w i))) d w (calls.Product a b)
-    told_product = (
-      two,
-      (
-        product (2 ^ w.elements) (family_at w e) (family_at w i),
-        (λ t agrees. outcome-product w t.sizes t.cells (t.live d.session) a b e i (held_at d kinds.Zdd a e first x stands t agrees) (held_at d kinds.Zdd b i second x stands t agrees)),
-        λ u edge denotes. denotes,
-      ),
-    )
+    told_product = (two, has_value kinds.Zdd d w (calls.Product a b) (product (2 ^ w.elements) (family_at w e) (family_at w i)) (λ t agrees. outcome-product w t.sizes t.cells (t.live d.session) a b e i (held_at d kinds.Zdd a e first x stands t agrees) (held_at d kinds.Zdd b i second x stands t agrees)))
 
     pub told_quotient : AreTwo kinds.Zdd w e i × HasValue kinds.Zdd (λ u edge. Denotes kinds.Zdd u edge (quotient (2 ^ w.elements) (family_at w e) (family_at w i))) d w (calls.Quotient a b)
-    told_quotient = (
-      two,
-      (
-        quotient (2 ^ w.elements) (family_at w e) (family_at w i),
-        (λ t agrees. outcome-quotient w t.sizes t.cells (t.live d.session) a b e i (held_at d kinds.Zdd a e first x stands t agrees) (held_at d kinds.Zdd b i second x stands t agrees)),
-        λ u edge denotes. denotes,
-      ),
-    )
+    told_quotient = (two, has_value kinds.Zdd d w (calls.Quotient a b) (quotient (2 ^ w.elements) (family_at w e) (family_at w i)) (λ t agrees. outcome-quotient w t.sizes t.cells (t.live d.session) a b e i (held_at d kinds.Zdd a e first x stands t agrees) (held_at d kinds.Zdd b i second x stands t agrees)))

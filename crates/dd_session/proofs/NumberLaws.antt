@@ -20,7 +20,7 @@ use Rattle.shared_store.specs.declared.shared.Shared.{Shared}
 use Rattle.shared_store.specs.Sharing.{view_of}
 use Rattle.dd_session.specs.Turns.{HasExact, HasValue, IsEdgeOf, Stands}
 use Rattle.dd_session.proofs.OperationLaws.{variable_in}
-use Rattle.dd_session.proofs.Outcomes.{live, vars}
+use Rattle.dd_session.proofs.Outcomes.{has_value, live, vars}
 
 -- what a row's name stands for, in a table that agrees
 pub held_at : (d : Draws) (k : Kind) (a : Name) (e : Edge) → IsEdgeOf k d a e → (x : Shared) → Stands x d → (t : Table) → Agrees d t → t.live d.session a ≡ Some (listed_at k (view_of x) e)
@@ -29,23 +29,16 @@ held_at d k a e edge x stands t agrees = live d t a (listed_at k (view_of x) e) 
 module _ (d : Draws) where
   pub told_constant : (v : ℤ) → IsLeafValue v → (x : Shared) → IsStore x.store → Stands x d → IsLeafValue v × HasValue kinds.Add (λ u edge. Denotes kinds.Add u edge (constant v)) d (view_of x) (calls.Constant v)
   told_constant v fits x of stands = let w = view_of x in
-      (fits, (constant v, (λ t agrees. outcome-constant w t.sizes t.cells (t.live d.session) (vars d t x agrees stands) v fits), λ u edge denotes. denotes))
+      (fits, has_value kinds.Add d (view_of x) (calls.Constant v) (constant v) (λ t agrees. outcome-constant w t.sizes t.cells (t.live d.session) (vars d t x agrees stands) v fits))
 
   pub told_from_bdd : (a : Name) (e : Edge) → IsEdgeOf kinds.Bdd d a e → (x : Shared) → IsStore x.store → Stands x d
       → Is kinds.Bdd (view_of x) e × HasValue kinds.Add (λ u edge. Denotes kinds.Add u edge (from_truth (bdd_at (view_of x) e))) d (view_of x) (calls.FromBdd a)
   told_from_bdd a e first x of stands = let w = view_of x in
-      ((first x stands).0, (from_truth (bdd_at w e), (λ t agrees. outcome-from_bdd w t.sizes t.cells (t.live d.session) a e (held_at d kinds.Bdd a e first x stands t agrees)), λ u edge denotes. denotes))
+      ((first x stands).0, has_value kinds.Add d (view_of x) (calls.FromBdd a) (from_truth (bdd_at (view_of x) e)) (λ t agrees. outcome-from_bdd w t.sizes t.cells (t.live d.session) a e (held_at d kinds.Bdd a e first x stands t agrees)))
 
   pub told_add_ite : (a b c : Name) (e i j : Edge) → IsEdgeOf kinds.Bdd d a e → IsEdgeOf kinds.Add d b i → IsEdgeOf kinds.Add d c j → (x : Shared) → IsStore x.store → Stands x d
       → AreThree kinds.Add (view_of x) e i j × HasValue kinds.Add (λ u edge. Denotes kinds.Add u edge (if_then_else (bdd_at (view_of x) e) (add_at (view_of x) i) (add_at (view_of x) j))) d (view_of x) (calls.AddIte a b c)
-  told_add_ite a b c e i j first second third x of stands = let w = view_of x in (
-    record { condition = (first x stands).0; first = (second x stands).0; second = (third x stands).0 },
-    (
-      if_then_else (bdd_at w e) (add_at w i) (add_at w j),
-      (λ t agrees. outcome-add_ite w t.sizes t.cells (t.live d.session) a b c e i j (held_at d kinds.Bdd a e first x stands t agrees) (held_at d kinds.Add b i second x stands t agrees) (held_at d kinds.Add c j third x stands t agrees)),
-      λ u edge denotes. denotes,
-    ),
-  )
+  told_add_ite a b c e i j first second third x of stands = let w = view_of x in (record { condition = (first x stands).0; first = (second x stands).0; second = (third x stands).0 }, has_value kinds.Add d (view_of x) (calls.AddIte a b c) (if_then_else (bdd_at (view_of x) e) (add_at (view_of x) i) (add_at (view_of x) j)) (λ t agrees. outcome-add_ite w t.sizes t.cells (t.live d.session) a b c e i j (held_at d kinds.Bdd a e first x stands t agrees) (held_at d kinds.Add b i second x stands t agrees) (held_at d kinds.Add c j third x stands t agrees)))
 
   -- an operation on one function of numbers
   module _ (a : Name) (e : Edge) (first : IsEdgeOf kinds.Add d a e) (x : Shared) (of : IsStore x.store) (stands : Stands x d) where
@@ -53,25 +46,13 @@ module _ (d : Draws) where
     w₁ = view_of x
 
     pub told_at_least : (v : ℤ) → Is kinds.Add w₁ e × HasValue kinds.Bdd (λ u edge. Denotes kinds.Bdd u edge (at_least (add_at w₁ e) v)) d w₁ (calls.AtLeast a v)
-    told_at_least v = (
-      (first x stands).0,
-      (at_least (add_at w₁ e) v, (λ t agrees. outcome-at_least w₁ t.sizes t.cells (t.live d.session) a e (held_at d kinds.Add a e first x stands t agrees) v), λ u edge denotes. denotes),
-    )
+    told_at_least v = ((first x stands).0, has_value kinds.Bdd d w₁ (calls.AtLeast a v) (at_least (add_at w₁ e) v) (λ t agrees. outcome-at_least w₁ t.sizes t.cells (t.live d.session) a e (held_at d kinds.Add a e first x stands t agrees) v))
 
     pub told_pattern : Is kinds.Add w₁ e × HasValue kinds.Bdd (λ u edge. Denotes kinds.Bdd u edge (pattern (add_at w₁ e))) d w₁ (calls.Pattern a)
-    told_pattern = (
-      (first x stands).0,
-      (pattern (add_at w₁ e), (λ t agrees. outcome-pattern w₁ t.sizes t.cells (t.live d.session) a e (held_at d kinds.Add a e first x stands t agrees)), λ u edge denotes. denotes),
-    )
+    told_pattern = ((first x stands).0, has_value kinds.Bdd d w₁ (calls.Pattern a) (pattern (add_at w₁ e)) (λ t agrees. outcome-pattern w₁ t.sizes t.cells (t.live d.session) a e (held_at d kinds.Add a e first x stands t agrees)))
 
     pub told_sum_over : (v : ℕ) → v < d.vars → (Is kinds.Add w₁ e × IsVariable kinds.Add w₁ v) × HasExact d w₁ (calls.SumOver a v) (sum_over (add_at w₁ e) v)
-    told_sum_over v lt = let var = variable_in d x of stands v lt in (
-      ((first x stands).0, var),
-      (
-        IsOf-sum w₁.vars v (add_at w₁ e) var.1 (first x stands).0.beyond,
-        λ t agrees. outcome-sum_over w₁ t.sizes t.cells (t.live d.session) a e (held_at d kinds.Add a e first x stands t agrees) (vars d t x agrees stands) v var.1,
-      ),
-    )
+    told_sum_over v lt = let var = variable_in d x of stands v lt in (((first x stands).0, var), (IsOf-sum w₁.vars v (add_at w₁ e) var.1 (first x stands).0.beyond, λ t agrees. outcome-sum_over w₁ t.sizes t.cells (t.live d.session) a e (held_at d kinds.Add a e first x stands t agrees) (vars d t x agrees stands) v var.1))
 
   -- and on two
   module _ (a b : Name) (e i : Edge) (first : IsEdgeOf kinds.Add d a e) (second : IsEdgeOf kinds.Add d b i) (x : Shared) (of : IsStore x.store) (stands : Stands x d) where
@@ -82,58 +63,19 @@ module _ (d : Draws) where
     two = record { first = (first x stands).0; second = (second x stands).0 }
 
     pub told_min : AreTwo kinds.Add w e i × HasValue kinds.Add (λ u edge. Denotes kinds.Add u edge (lesser (add_at w e) (add_at w i))) d w (calls.Min a b)
-    told_min = (
-      two,
-      (
-        lesser (add_at w e) (add_at w i),
-        (λ t agrees. outcome-min w t.sizes t.cells (t.live d.session) a b e i (held_at d kinds.Add a e first x stands t agrees) (held_at d kinds.Add b i second x stands t agrees)),
-        λ u edge denotes. denotes,
-      ),
-    )
+    told_min = (two, has_value kinds.Add d w (calls.Min a b) (lesser (add_at w e) (add_at w i)) (λ t agrees. outcome-min w t.sizes t.cells (t.live d.session) a b e i (held_at d kinds.Add a e first x stands t agrees) (held_at d kinds.Add b i second x stands t agrees)))
 
     pub told_max : AreTwo kinds.Add w e i × HasValue kinds.Add (λ u edge. Denotes kinds.Add u edge (greater (add_at w e) (add_at w i))) d w (calls.Max a b)
-    told_max = (
-      two,
-      (
-        greater (add_at w e) (add_at w i),
-        (λ t agrees. outcome-max w t.sizes t.cells (t.live d.session) a b e i (held_at d kinds.Add a e first x stands t agrees) (held_at d kinds.Add b i second x stands t agrees)),
-        λ u edge denotes. denotes,
-      ),
-    )
+    told_max = (two, has_value kinds.Add d w (calls.Max a b) (greater (add_at w e) (add_at w i)) (λ t agrees. outcome-max w t.sizes t.cells (t.live d.session) a b e i (held_at d kinds.Add a e first x stands t agrees) (held_at d kinds.Add b i second x stands t agrees)))
 
     pub told_threshold : AreTwo kinds.Add w e i × HasValue kinds.Add (λ u edge. Denotes kinds.Add u edge (threshold (add_at w e) (add_at w i))) d w (calls.Threshold a b)
-    told_threshold = (
-      two,
-      (
-        threshold (add_at w e) (add_at w i),
-        (λ t agrees. outcome-threshold w t.sizes t.cells (t.live d.session) a b e i (held_at d kinds.Add a e first x stands t agrees) (held_at d kinds.Add b i second x stands t agrees)),
-        λ u edge denotes. denotes,
-      ),
-    )
+    told_threshold = (two, has_value kinds.Add d w (calls.Threshold a b) (threshold (add_at w e) (add_at w i)) (λ t agrees. outcome-threshold w t.sizes t.cells (t.live d.session) a b e i (held_at d kinds.Add a e first x stands t agrees) (held_at d kinds.Add b i second x stands t agrees)))
 
     pub told_plus : AreTwo kinds.Add w e i × HasExact d w (calls.Plus a b) (plus (add_at w e) (add_at w i))
-    told_plus = (
-      two,
-      (
-        IsOf-place (λ m n. m +ℤ n) w.vars (add_at w e) (add_at w i) two.first.beyond two.second.beyond,
-        λ t agrees. outcome-plus w t.sizes t.cells (t.live d.session) a b e i (held_at d kinds.Add a e first x stands t agrees) (held_at d kinds.Add b i second x stands t agrees),
-      ),
-    )
+    told_plus = (two, (IsOf-place (λ m n. m +ℤ n) w.vars (add_at w e) (add_at w i) two.first.beyond two.second.beyond, λ t agrees. outcome-plus w t.sizes t.cells (t.live d.session) a b e i (held_at d kinds.Add a e first x stands t agrees) (held_at d kinds.Add b i second x stands t agrees)))
 
     pub told_minus : AreTwo kinds.Add w e i × HasExact d w (calls.Minus a b) (minus (add_at w e) (add_at w i))
-    told_minus = (
-      two,
-      (
-        IsOf-place (λ m n. m -ℤ n) w.vars (add_at w e) (add_at w i) two.first.beyond two.second.beyond,
-        λ t agrees. outcome-minus w t.sizes t.cells (t.live d.session) a b e i (held_at d kinds.Add a e first x stands t agrees) (held_at d kinds.Add b i second x stands t agrees),
-      ),
-    )
+    told_minus = (two, (IsOf-place (λ m n. m -ℤ n) w.vars (add_at w e) (add_at w i) two.first.beyond two.second.beyond, λ t agrees. outcome-minus w t.sizes t.cells (t.live d.session) a b e i (held_at d kinds.Add a e first x stands t agrees) (held_at d kinds.Add b i second x stands t agrees)))
 
     pub told_times : AreTwo kinds.Add w e i × HasExact d w (calls.Times a b) (times (add_at w e) (add_at w i))
-    told_times = (
-      two,
-      (
-        IsOf-place (λ m n. m *ℤ n) w.vars (add_at w e) (add_at w i) two.first.beyond two.second.beyond,
-        λ t agrees. outcome-times w t.sizes t.cells (t.live d.session) a b e i (held_at d kinds.Add a e first x stands t agrees) (held_at d kinds.Add b i second x stands t agrees),
-      ),
-    )
+    told_times = (two, (IsOf-place (λ m n. m *ℤ n) w.vars (add_at w e) (add_at w i) two.first.beyond two.second.beyond, λ t agrees. outcome-times w t.sizes t.cells (t.live d.session) a b e i (held_at d kinds.Add a e first x stands t agrees) (held_at d kinds.Add b i second x stands t agrees)))

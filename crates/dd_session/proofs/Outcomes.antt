@@ -7,10 +7,11 @@ use Rattle.edge_bits.specs.declared.edges.Kind.{Kind}
 use Rattle.edge_bits.specs.declared.edges.Kind.TheVariants as kinds
 use Rattle.function_laws.specs.declared.history.Name.{Name}
 use Rattle.function_laws.specs.declared.history.Function.{Function}
+use Rattle.function_laws.specs.declared.history.Call.{Call}
 use Rattle.function_laws.specs.declared.history.Call.TheVariants as calls
 use Rattle.function_laws.specs.Steps.{compares, makes, outcome, shows, with_one}
 use Rattle.function_laws.specs.Tables.{Sizes, Table}
-use Rattle.function_laws.specs.Kinds.{BddFunction, flipped}
+use Rattle.function_laws.specs.Kinds.{BddFunction, ValueOf, flipped}
 use Rattle.function_laws.specs.Values.{assignment_of, constant, negation, projection}
 use Rattle.node_store.specs.Contents.{IsSound}
 use Rattle.node_store.specs.Listed.{listed, listed_at, number_of}
@@ -26,7 +27,7 @@ use Rattle.shared_store.specs.Sharing.{view_of, orders}
 use Rattle.ite_core.proofs.OutcomeLaws.{outcome-not, outcome-one, outcome-zero, outcome-var}
 use Rattle.shared_store.specs.Lasting.{Lasts}
 use Rattle.dd_session.specs.Requests.{truth_call}
-use Rattle.dd_session.specs.Turns.{Gives, IsEdgeOf, Stands, Took, managed_by}
+use Rattle.dd_session.specs.Turns.{Gives, HasValue, IsEdgeOf, Stands, Took, managed_by}
 use Rattle.dd_session.specs.Walking.{bits_of}
 use Rattle.dd_session.proofs.Calls.{gives_held, stands_of, stands_taken}
 
@@ -37,6 +38,10 @@ module _ (d : Draws) where
 
   pub vars : (t : Table) (x : Shared) → Agrees d t → Stands x d → t.sizes.variables ≡ (view_of x).vars
   vars t x agrees stands = ap (λ (z : Sizes). z.variables) agrees.sizes_are ∙ sym (ap (λ (p : ℕ × ℕ × ℕ). p.0) stands.counts_are)
+
+-- an operation whose answers denote what the call makes
+pub has_value : (k : Kind) (d : Draws) (w : View) (call : Call) (f : ℕ → ValueOf k) → Gives d call (makes (listed k w f)) → HasValue k (λ u edge. Denotes k u edge f) d w call
+has_value k d w call f gives = (f, gives, λ u edge denotes. denotes)
 
 -- the calls on rows and cells
 module _ (old held : Draws) (x : Shared) (took : Took old held x) (idle : old.holds ≡ false) where

@@ -1,4 +1,4 @@
-use Rattle.std.proofs.Common.{◌≡◌, refl, sym, subst, ◌∙◌, ap, length, rules, SFits, w64}
+use Rattle.std.proofs.Common.{◌≡◌, refl, sym, subst, ◌∙◌, length, rules, SFits, w64}
 use Rattle.std.proofs.lemmas.Int.{to_z-of_z}
 use mir.Val.{of_z, to_z}
 use Rattle.function_laws.specs.declared.history.Call.TheVariants as calls
@@ -45,7 +45,7 @@ finish-place-requires-clause-step g c =
     let at = assignment_of c.args.bits.now in
     let fit : SFits w64 c.walked-value.result = search rules in
     may_show e (requests.Eval c.args.f c.args.bits) (number_of k (values_at k (view_of x) c.edge-edge.result at)) (to_z w64 (of_z w64 c.walked-value.result))
-    (to_z-of_z w64 c.walked-value.result fit ∙ c.walked-value.ensures.value ∙ ap (λ (j : Kind). number_of j (values_at j (view_of x) c.edge-edge.result at)) (c.kind-kind.ensures k live.1))
+    (subst (λ (j : Kind). to_z w64 (of_z w64 c.walked-value.result) ≡ number_of j (values_at j (view_of x) c.edge-edge.result at)) (c.kind-kind.ensures k live.1) (to_z-of_z w64 c.walked-value.result fit ∙ c.walked-value.ensures.value))
     (gives_eval d e x t c.self.invariant.0.1 k c.args.f c.edge-edge.result c.args.bits.now (walked_bits c.self.inside.pass.seat.table_id d e x t k c.args.bits.now (subst (λ (s : Seen). length c.args.bits.now ≡ bits_of live.0 s.manager) (sym c.self.view_is) live.2)) (c.edge-edge.ensures.edge k live.1 (known c.self.inside.pass) (seat_of c.self.inside.pass c.self.inside.book c.self.view_is)))
 
 pub finish-place-requires-clause-serves : goal.finish-place-requires-clause-serves
