@@ -94,24 +94,21 @@ fn open_sessions(
     Ok(all)
 }
 
-/// A manager with numbers in range, and its sessions.
-fn open_in_range(
+/// The manager of a new table, and its sessions.
+fn with_sessions(
     alloc: Global,
-    config: Config,
+    guard: Guard<Shared>,
+    mut closing: Pass<Shared>,
+    ended: Vec<Rows>,
     sessions: u32,
 ) -> Result<(Manager, Vec<Session>), Memory>
-    requires { IsConfig config.vars config.elements config.limit sessions }
-    ensures { IfOk result (λ r. (r.0.vars ≡ config.vars) × (r.0.elements ≡ config.elements) × (r.0.limit ≡ config.limit) × (r.0.sessions ≡ sessions) × (r.1.items ≡ opened r.0)) }
+    requires own { IsPassOf guard closing × (in_hand closing ≡ []) }
+    requires closing { ((known closing).closing ≡ true) × ((known closing).gone ≡ []) × ((known closing).rows ≡ []) }
+    requires first { (known closing).given ≡ 0 }
+    requires room { (sessions ≡ (known closing).sessions) × (sessions ≤ 64) }
+    requires ended { (ended.items ≡ []) × (sessions ≤ vec_capacity ended) }
+    ensures { IfOk result (λ r. (r.0 ≡ managed_by guard.table.shared.table_id (known closing)) × (r.1.items ≡ opened r.0)) }
 {
-    let shared = Shared::new(alloc, config.vars, config.elements, config.limit)?;
-    let key = Opening {
-        vars: config.vars,
-        elements: config.elements,
-        slots: config.limit,
-        sessions,
-    };
-    let ended = Vec::with_capacity(alloc, sessions as usize)?;
-    let (guard, mut closing) = open(alloc, shared, &key)?;
     let all = open_sessions(alloc, &guard, &mut closing, sessions)?;
     let closing = closing.rest().ok_or(Memory)?;
     Ok((
@@ -122,6 +119,27 @@ fn open_in_range(
         },
         all,
     ))
+}
+
+/// A manager with numbers in range, and its sessions.
+fn open_in_range(
+    alloc: Global,
+    config: Config,
+    sessions: u32,
+) -> Result<(Manager, Vec<Session>), Memory>
+    requires { IsConfig config.vars config.elements config.limit sessions }
+    ensures { IfOk result (λ r. (r.0.vars ≡ config.vars) × (r.0.elements ≡ config.elements) × (r.0.limit ≡ config.limit) × (r.0.sessions ≡ sessions) × (r.1.items ≡ opened r.0)) }
+{
+    let key = Opening {
+        vars: config.vars,
+        elements: config.elements,
+        slots: config.limit,
+        sessions,
+    };
+    let ended = Vec::with_capacity(alloc, sessions as usize)?;
+    let shared = Shared::new(alloc, config.vars, config.elements, config.limit)?;
+    let (guard, closing) = open(alloc, shared, &key)?;
+    with_sessions(alloc, guard, closing, ended, sessions)
 }
 
 /// How many calls there were, and how many slots were left in use.
