@@ -2,8 +2,9 @@
 
 usage: sessions.py PROGRAM EXAMPLE..
 
-Each example is played some times, and so is a job of 64 sections with 200 calls each. Then come two long jobs of one section:
-one that makes more dead nodes than there are slots, and one that makes and drops many registers.
+Each example is played some times, and so is a job of 64 sections with 200 calls each. A comment behind `eval`, `same` or `leq` begins
+with the reply that is due. Then come two long jobs of one section: one that makes more dead nodes than there are slots, and one that
+makes and drops many registers.
 """
 import random
 import subprocess
@@ -20,6 +21,22 @@ def played(program, job):
     if run.returncode or run.stderr:
         raise Illegal(f"status {run.returncode}, {run.stderr!r} on standard error")
     return run.stdout.decode()
+
+
+def said(job):
+    """The calls with a comment behind them, each with the reply that it says."""
+    for line in job.split("\n"):
+        call, _, comment = line.partition("#")
+        words = call.split()
+        if words[:1] and words[0] in ("eval", "same", "leq") and comment.split():
+            yield " ".join(words), comment.split()[0].rstrip(":")
+
+
+def judge_with_comments(job, history):
+    judge(job, history)
+    for call, reply in said(job):
+        if f" {call} -> {reply}\n" not in history:
+            raise Illegal(f"a comment says {reply} of {call}")
 
 
 class Section:
@@ -120,7 +137,7 @@ def main(program, *examples):
     for name, job, runs in jobs:
         for _ in range(runs):
             try:
-                judge(job, played(program, job))
+                judge_with_comments(job, played(program, job))
             except Illegal as fault:
                 print(f"NO LEGAL HISTORY of {name}: {fault}")
                 faults += 1
