@@ -6,27 +6,43 @@ mod rows;
 mod told;
 
 use blif_net::read;
+use rows::Row;
 use std::hash::RandomState;
 use std::random::RandomSource;
 use std::rt::Files;
 use std::{env, fs, io};
 
-/// Reads the texts of a file's rows.
-fn read_file<R: AllocGlobal + Files + Print + RandomSource>(rt: &R, file: &str) -> io::Result<()> {
+/// Prints whether what was told of a row is due, and else what was told.
+fn show<R: AllocGlobal + Print>(rt: &R, row: &Row, told: &[u8]) -> io::Result<()> {
+    let name = row.name.as_str();
+    if told == row.due.as_slice() {
+        return println!(rt; "ok {name}");
+    }
+    let came = String::from_utf8_lossy(rt.alloc(), told)?;
+    println!(rt; "NOT AS DUE {name}\n{came}")
+}
+
+/// Reads the text of a row.
+fn read_row<R: AllocGlobal + Print + RandomSource>(rt: &R, row: &Row) -> io::Result<()> {
     let alloc = rt.alloc();
-    let text = fs::read_to_string(rt, file)?;
-    for row in rows::rows(alloc, text.as_str())? {
-        let keys = RandomState::new(rt)?;
-        let told = told::told(alloc, read(alloc, keys, row.text.as_slice()))?;
-        let name = row.name.as_str();
-        if told.as_slice() == row.due.as_slice() {
-            println!(rt; "ok {name}")?;
-        } else {
-            let came = String::from_utf8_lossy(alloc, told.as_slice())?;
-            println!(rt; "NOT AS DUE {name}\n{came}")?;
-        }
+    let keys = RandomState::new(rt)?;
+    let told = told::told(alloc, read(alloc, keys, row.text.as_slice()))?;
+    show(rt, row, told.as_slice())
+}
+
+/// Reads the texts of rows.
+fn read_rows<R: AllocGlobal + Print + RandomSource>(rt: &R, rows: &[Row]) -> io::Result<()> {
+    for row in rows {
+        read_row(rt, row)?;
     }
     Ok(())
+}
+
+/// Reads the texts of a file's rows.
+fn read_file<R: AllocGlobal + Files + Print + RandomSource>(rt: &R, file: &str) -> io::Result<()> {
+    let text = fs::read_to_string(rt, file)?;
+    let rows = rows::rows(rt.alloc(), text.as_str())?;
+    read_rows(rt, rows.as_slice())
 }
 
 fn main(rt: HostRuntime) -> io::Result<()> {

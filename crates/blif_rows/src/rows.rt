@@ -29,18 +29,23 @@ fn escaped(piece: &str) -> Option<(u8, &str)> {
     Some((byte, rest))
 }
 
+/// Adds the bytes for which a piece behind a `%` stands.
+fn add_piece(bytes: &mut Vec<u8>, piece: &str) -> Result<(), AllocError> {
+    match escaped(piece) {
+        Some((byte, rest)) => {
+            bytes.push(byte)?;
+            bytes.extend_from_slice(rest.as_bytes())
+        }
+        None => bytes.extend_from_slice(piece.as_bytes()),
+    }
+}
+
 /// Adds the bytes for which a line stands.
 fn add_bytes(bytes: &mut Vec<u8>, line: &str) -> Result<(), AllocError> {
     let mut pieces = line.split('%');
     bytes.extend_from_slice(pieces.next().unwrap_or("").as_bytes())?;
     for piece in pieces {
-        match escaped(piece) {
-            Some((byte, rest)) => {
-                bytes.push(byte)?;
-                bytes.extend_from_slice(rest.as_bytes())?;
-            }
-            None => bytes.extend_from_slice(piece.as_bytes())?,
-        }
+        add_piece(bytes, piece)?;
     }
     Ok(())
 }
@@ -58,6 +63,15 @@ fn add_line(bytes: &mut Vec<u8>, line: &str) -> Result<(), AllocError> {
 }
 
 impl Row {
+    /// A row of which only the name is said.
+    fn new(alloc: Global, name: &str) -> Result<Row, AllocError> {
+        Ok(Row {
+            name: name.to_string(alloc)?,
+            text: Vec::new(alloc),
+            due: Vec::new(alloc),
+        })
+    }
+
     /// Takes what a line says of the row.
     fn say(&mut self, word: &str, rest: &str) -> Result<(), AllocError> {
         match word {
@@ -72,20 +86,29 @@ impl Row {
     }
 }
 
+/// Begins the row that a line names, or takes what a line says of the last one.
+fn add_to(rows: &mut Vec<Row>, alloc: Global, line: &str) -> Result<(), AllocError> {
+    let (word, rest) = line.split_once(' ').unwrap_or((line, ""));
+    if word == "row" {
+        let row = Row::new(alloc, rest)?;
+        rows.push(row)?;
+    } else if let Some(row) = rows.last_mut() {
+        row.say(word, rest)?;
+    }
+    Ok(())
+}
+
+/// Adds the rows of a file.
+fn add_rows(rows: &mut Vec<Row>, alloc: Global, text: &str) -> Result<(), AllocError> {
+    for line in text.lines() {
+        add_to(rows, alloc, line)?;
+    }
+    Ok(())
+}
+
 /// The rows of a file, in order.
 pub fn rows(alloc: Global, text: &str) -> Result<Vec<Row>, AllocError> {
-    let mut rows: Vec<Row> = Vec::new(alloc);
-    for line in text.lines() {
-        let (word, rest) = line.split_once(' ').unwrap_or((line, ""));
-        if word == "row" {
-            rows.push(Row {
-                name: rest.to_string(alloc)?,
-                text: Vec::new(alloc),
-                due: Vec::new(alloc),
-            })?;
-        } else if let Some(row) = rows.last_mut() {
-            row.say(word, rest)?;
-        }
-    }
+    let mut rows = Vec::new(alloc);
+    add_rows(&mut rows, alloc, text)?;
     Ok(rows)
 }

@@ -1,6 +1,6 @@
 //! What was read, as lines.
 
-use blif_net::{BlifError, Cover, Literal, Net};
+use blif_net::{BlifError, Cover, Literal, Net, Output};
 use std::alloc::{AllocError, Global};
 
 fn add_number(text: &mut Vec<u8>, alloc: Global, number: u32) -> Result<(), AllocError> {
@@ -36,36 +36,62 @@ fn add_rows(text: &mut Vec<u8>, gate: &Cover) -> Result<(), AllocError> {
     Ok(())
 }
 
-/// Adds a network.
-fn add_net(text: &mut Vec<u8>, alloc: Global, net: &Net) -> Result<(), AllocError> {
+/// Adds the names of the inputs.
+fn add_inputs(text: &mut Vec<u8>, net: &Net) -> Result<(), AllocError> {
     text.extend_from_slice("inputs".as_bytes())?;
     for name in net.inputs() {
         text.push(b' ')?;
         text.extend_from_slice(name.as_slice())?;
     }
     text.push(b'\n')?;
+    Ok(())
+}
+
+/// Adds an output: its name and its signal.
+fn add_output(text: &mut Vec<u8>, alloc: Global, output: &Output) -> Result<(), AllocError> {
+    text.extend_from_slice("output ".as_bytes())?;
+    text.extend_from_slice(output.name.as_slice())?;
+    add_number(text, alloc, output.signal)?;
+    text.push(b'\n')?;
+    Ok(())
+}
+
+/// Adds the outputs.
+fn add_outputs(text: &mut Vec<u8>, alloc: Global, net: &Net) -> Result<(), AllocError> {
+    for output in net.outputs() {
+        add_output(text, alloc, output)?;
+    }
+    Ok(())
+}
+
+/// Adds a network.
+fn add_net(text: &mut Vec<u8>, alloc: Global, net: &Net) -> Result<(), AllocError> {
+    add_inputs(text, net)?;
     for gate in net.gates() {
         add_gate(text, alloc, gate)?;
     }
-    for output in net.outputs() {
-        text.extend_from_slice("output ".as_bytes())?;
-        text.extend_from_slice(output.name.as_slice())?;
-        add_number(text, alloc, output.signal)?;
-        text.push(b'\n')?;
+    add_outputs(text, alloc, net)
+}
+
+/// Adds what is told of what was read.
+fn add_told(
+    text: &mut Vec<u8>,
+    alloc: Global,
+    read: &Result<Net, BlifError>,
+) -> Result<(), AllocError> {
+    match read {
+        Ok(net) => add_net(text, alloc, net),
+        Err(BlifError::Memory) => text.extend_from_slice("memory\n".as_bytes()),
+        Err(BlifError::Fault(fault)) => {
+            let line = format!(in alloc; "fault {fault}\n")?;
+            text.extend_from_slice(line.as_bytes())
+        }
     }
-    Ok(())
 }
 
 /// What is told of what was read.
 pub fn told(alloc: Global, read: Result<Net, BlifError>) -> Result<Vec<u8>, AllocError> {
     let mut text = Vec::new(alloc);
-    match read {
-        Ok(net) => add_net(&mut text, alloc, &net)?,
-        Err(BlifError::Memory) => text.extend_from_slice("memory\n".as_bytes())?,
-        Err(BlifError::Fault(fault)) => {
-            let line = format!(in alloc; "fault {fault}\n")?;
-            text.extend_from_slice(line.as_bytes())?;
-        }
-    }
+    add_told(&mut text, alloc, &read)?;
     Ok(text)
 }
