@@ -107,16 +107,29 @@ impl Row {
     }
 }
 
+/// Begins the row that a line names, or takes what a line says of the last one.
+fn add_to(rows: &mut Vec<Row>, alloc: Global, line: &str) -> Result<(), AllocError> {
+    let (word, rest) = line.split_once(' ').unwrap_or((line, ""));
+    if word == "row" {
+        let row = Row::new(alloc, rest)?;
+        rows.push(row)?;
+    } else if let Some(row) = rows.last_mut() {
+        row.say(alloc, word, rest)?;
+    }
+    Ok(())
+}
+
+/// Adds the rows of a file.
+fn add_rows(rows: &mut Vec<Row>, alloc: Global, text: &str) -> Result<(), AllocError> {
+    for line in text.lines() {
+        add_to(rows, alloc, line)?;
+    }
+    Ok(())
+}
+
 /// The rows of a file, in order.
 pub fn rows(alloc: Global, text: &str) -> Result<Vec<Row>, AllocError> {
-    let mut rows: Vec<Row> = Vec::new(alloc);
-    for line in text.lines() {
-        let (word, rest) = line.split_once(' ').unwrap_or((line, ""));
-        if word == "row" {
-            rows.push(Row::new(alloc, rest)?)?;
-        } else if let Some(row) = rows.last_mut() {
-            row.say(alloc, word, rest)?;
-        }
-    }
+    let mut rows = Vec::new(alloc);
+    add_rows(&mut rows, alloc, text)?;
     Ok(rows)
 }

@@ -4,7 +4,7 @@ use crate::rows::Row;
 use blif_net::{BlifError, Net, read};
 use edge_bits::Memory;
 use net_reports::{report, summary};
-use std::alloc::{AllocError, Global};
+use std::alloc::Global;
 use std::hash::RandomState;
 use std::io;
 use std::random::RandomSource;
@@ -27,24 +27,24 @@ fn report_and_summary(alloc: Global, net: &Net, row: &Row) -> Result<Vec<u8>, Me
     Ok(text)
 }
 
-/// What is written where nothing else can be.
-fn memory(alloc: Global) -> Result<Vec<u8>, AllocError> {
-    Vec::from_slice(alloc, b"memory\n")
+/// The report and the summary of a network that was read, or why it was not.
+fn written_of(alloc: Global, read: &Result<Net, BlifError>, row: &Row) -> Result<Vec<u8>, Memory> {
+    match read {
+        Ok(net) => report_and_summary(alloc, net, row),
+        Err(BlifError::Memory) => Err(Memory),
+        Err(BlifError::Fault(fault)) => {
+            let line = format!(in alloc; "fault {fault}\n")?;
+            Ok(line.into_bytes())
+        }
+    }
 }
 
 /// The report and the summary of a row's network, or why it was not read.
 pub fn written<R: AllocGlobal + RandomSource>(rt: &R, row: &Row) -> io::Result<Vec<u8>> {
     let alloc = rt.alloc();
     let keys = RandomState::new(rt)?;
-    match read(alloc, keys, row.text.as_slice()) {
-        Ok(net) => match report_and_summary(alloc, &net, row) {
-            Ok(text) => Ok(text),
-            Err(Memory) => Ok(memory(alloc)?),
-        },
-        Err(BlifError::Memory) => Ok(memory(alloc)?),
-        Err(BlifError::Fault(fault)) => {
-            let line = format!(in alloc; "fault {fault}\n")?;
-            Ok(line.into_bytes())
-        }
+    match written_of(alloc, &read(alloc, keys, row.text.as_slice()), row) {
+        Ok(text) => Ok(text),
+        Err(Memory) => Ok(Vec::from_slice(alloc, b"memory\n")?),
     }
 }
