@@ -52,7 +52,7 @@ fn load_told(alloc: Global, patterns: &List<List<bool>>) -> Result<String, Alloc
 }
 
 /// The command with its numbers, flags and patterns in a fixed order.
-pub fn told(alloc: Global, order: Option<Order>) -> Result<String, AllocError> {
+pub fn told(alloc: Global, order: &Option<Order>) -> Result<String, AllocError> {
     match order {
         None => String::from_str(alloc, "nothing"),
         Some(Order::Play) => String::from_str(alloc, "play"),
@@ -62,8 +62,8 @@ pub fn told(alloc: Global, order: Option<Order>) -> Result<String, AllocError> {
                 limit,
                 options,
             },
-        ) => build_told(alloc, workers, limit, &options),
-        Some(Order::Load { patterns }) => load_told(alloc, &patterns),
+        ) => build_told(alloc, *workers, *limit, options),
+        Some(Order::Load { patterns }) => load_told(alloc, patterns),
         Some(Order::Gen { workers, bits }) => format!(in alloc; "gen {workers} {bits}"),
     }
 }
