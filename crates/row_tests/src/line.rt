@@ -38,14 +38,20 @@ fn escaped(text: &str) -> Option<(u8, &str)> {
     Some((byte, rest))
 }
 
+/// Adds the bytes for which a piece behind a `\` stands.
+fn add_piece(bytes: &mut Vec<u8>, piece: &str) -> Result<(), LineError> {
+    let (byte, rest) = escaped(piece).ok_or(LineError::Malformed)?;
+    bytes.push(byte)?;
+    bytes.extend_from_slice(rest.as_bytes())?;
+    Ok(())
+}
+
 /// Adds the bytes for which a line stands.
 pub fn add_bytes(bytes: &mut Vec<u8>, line: &str) -> Result<(), LineError> {
     let mut pieces = line.split('\\');
     bytes.extend_from_slice(pieces.next().unwrap_or("").as_bytes())?;
     for piece in pieces {
-        let (byte, rest) = escaped(piece).ok_or(LineError::Malformed)?;
-        bytes.push(byte)?;
-        bytes.extend_from_slice(rest.as_bytes())?;
+        add_piece(bytes, piece)?;
     }
     Ok(())
 }
@@ -62,6 +68,24 @@ pub fn add_line(bytes: &mut Vec<u8>, line: &str) -> Result<(), LineError> {
     }
 }
 
+/// Adds whether a call fails.
+fn add_call(fails: &mut Vec<bool>, call: u8) -> Result<(), LineError> {
+    match call {
+        b'0' => fails.push(false)?,
+        b'1' => fails.push(true)?,
+        _ => return Err(LineError::Malformed),
+    }
+    Ok(())
+}
+
+/// Adds for each of some calls whether it fails.
+fn add_calls(fails: &mut Vec<bool>, calls: &str) -> Result<(), LineError> {
+    for call in calls.bytes() {
+        add_call(fails, call)?;
+    }
+    Ok(())
+}
+
 /// `STEP`, or `STEP CALLS`.
 pub fn parse_pace(alloc: Global, text: &str) -> Result<Pace, LineError> {
     let (step, calls) = text.split_once(' ').unwrap_or((text, "0"));
@@ -69,12 +93,6 @@ pub fn parse_pace(alloc: Global, text: &str) -> Result<Pace, LineError> {
         .parse::<NonZeroUsize>()
         .map_err(|_| LineError::Malformed)?;
     let mut fails = Vec::new(alloc);
-    for call in calls.bytes() {
-        match call {
-            b'0' => fails.push(false)?,
-            b'1' => fails.push(true)?,
-            _ => return Err(LineError::Malformed),
-        }
-    }
+    add_calls(&mut fails, calls)?;
     Ok(Pace { step, fails })
 }

@@ -12,11 +12,32 @@ mod row;
 mod tests;
 mod told;
 
+use row::Row;
 use std::random::RandomSource;
 use std::rt::Files;
 use std::sync::Wait;
 use std::thread::Threads;
 use std::{env, fs, io};
+
+/// Plays a row.
+fn play_row<R: AllocGlobal + Print + Threads + Wait + Sync + RandomSource>(
+    rt: &R,
+    row: Row,
+) -> io::Result<()> {
+    let told = told::play(rt, rt.alloc(), row)?;
+    println!(rt; "{told}")
+}
+
+/// Plays rows, in order.
+fn play_rows<R: AllocGlobal + Print + Threads + Wait + Sync + RandomSource>(
+    rt: &R,
+    rows: Vec<Row>,
+) -> io::Result<()> {
+    for row in rows {
+        play_row(rt, row)?;
+    }
+    Ok(())
+}
 
 /// Plays the rows of a file.
 fn play_file<R: AllocGlobal + Files + Print + Threads + Wait + Sync + RandomSource>(
@@ -24,11 +45,8 @@ fn play_file<R: AllocGlobal + Files + Print + Threads + Wait + Sync + RandomSour
     file: &str,
 ) -> io::Result<()> {
     let text = fs::read_to_string(rt, file)?;
-    for row in reader::rows(rt.alloc(), text.as_str())? {
-        let told = told::play(rt, rt.alloc(), row)?;
-        println!(rt; "{told}")?;
-    }
-    Ok(())
+    let rows = reader::rows(rt.alloc(), text.as_str())?;
+    play_rows(rt, rows)
 }
 
 fn main(rt: HostRuntime) -> io::Result<()> {

@@ -132,6 +132,23 @@ impl Reading {
         }
         Ok(())
     }
+
+    /// Reads a line.
+    fn read(&mut self, line: &str) -> Result<(), AllocError> {
+        match self.take(line) {
+            Ok(()) => Ok(()),
+            Err(LineError::Malformed) => self.keep_malformed(line),
+            Err(LineError::Memory) => Err(AllocError),
+        }
+    }
+
+    /// Reads all lines of a text.
+    fn read_all(&mut self, text: &str) -> Result<(), AllocError> {
+        for line in text.lines() {
+            self.read(line)?;
+        }
+        Ok(())
+    }
 }
 
 /// The rows of a file, in order.
@@ -142,13 +159,7 @@ pub fn rows(alloc: Global, text: &str) -> Result<Vec<Row>, AllocError> {
         head: Vec::new(alloc),
         is_head_open: true,
     };
-    for line in text.lines() {
-        match reading.take(line) {
-            Ok(()) => {}
-            Err(LineError::Malformed) => reading.keep_malformed(line)?,
-            Err(LineError::Memory) => return Err(AllocError),
-        }
-    }
+    reading.read_all(text)?;
     let Reading { rows, .. } = reading;
     Ok(rows)
 }

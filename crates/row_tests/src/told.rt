@@ -65,12 +65,19 @@ impl Due {
     }
 }
 
+/// Adds the words of a command line.
+fn add_words(words: &mut Vec<String>, alloc: Global, line: &str) -> Result<(), AllocError> {
+    for word in line.split_whitespace() {
+        let word = word.to_string(alloc)?;
+        words.push(word)?;
+    }
+    Ok(())
+}
+
 /// The words of a command line.
 fn words_of(alloc: Global, line: &str) -> Result<Vec<String>, AllocError> {
     let mut words = Vec::new(alloc);
-    for word in line.split_whitespace() {
-        words.push(word.to_string(alloc)?)?;
-    }
+    add_words(&mut words, alloc, line)?;
     Ok(words)
 }
 
@@ -79,21 +86,30 @@ fn answer_of<R: Threads + Wait + Sync + RandomSource>(
     rt: &R,
     alloc: Global,
     line: &str,
-    mut source: Bytes,
-    mut sink: Pieces,
+    source: &mut Bytes,
+    sink: &mut Pieces,
 ) -> Result<Answer, AllocError> {
     let words = words_of(alloc, line)?;
     let gate = Counting {
         passed: AtomicU32::new(0),
         others: AtomicU32::new(0),
     };
-    let status = run(rt, alloc, &words, &mut source, &mut sink, &gate);
+    let status = run(rt, alloc, &words, source, sink, &gate);
     Ok(Answer {
         status: status.code(),
         passed: gate.passed.load(Ordering::SeqCst),
         others: gate.others.load(Ordering::SeqCst),
         text: Vec::from_slice(alloc, sink.written())?,
     })
+}
+
+/// How a row went that was played.
+fn judged(alloc: Global, due: &Due, answer: Answer) -> Result<Outcome, AllocError> {
+    if due.is_met_by(&answer) {
+        return Ok(Outcome::AsDue);
+    }
+    let text = String::from_utf8_lossy(alloc, answer.text.as_slice())?;
+    Ok(Outcome::NotAsDue { answer, text })
 }
 
 /// How a row goes that is played, where no line of it is malformed.
@@ -114,14 +130,10 @@ fn outcome_of<R: Threads + Wait + Sync + RandomSource>(
     if let Some(line) = malformed {
         return Ok(Outcome::Malformed { line });
     }
-    let source = Bytes::new(input, source.step.get(), source.fails);
-    let sink = Pieces::new(Vec::new(alloc), sink.step.get(), sink.fails);
-    let answer = answer_of(rt, alloc, words.as_str(), source, sink)?;
-    if due.is_met_by(&answer) {
-        return Ok(Outcome::AsDue);
-    }
-    let text = String::from_utf8_lossy(alloc, answer.text.as_slice())?;
-    Ok(Outcome::NotAsDue { answer, text })
+    let mut source = Bytes::new(input, source.step.get(), source.fails);
+    let mut sink = Pieces::new(Vec::new(alloc), sink.step.get(), sink.fails);
+    let answer = answer_of(rt, alloc, words.as_str(), &mut source, &mut sink)?;
+    judged(alloc, &due, answer)
 }
 
 /// Plays a row.
