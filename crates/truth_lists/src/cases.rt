@@ -113,6 +113,32 @@ pub fn for_values<R: Print + RandomSource + Threads + Wait + Sync>(
     })
 }
 
+/// Adds all cases to a job.
+fn add_all<F: Fn(&mut Job, usize) -> Result<(), AllocError>>(
+    job: &mut Job,
+    cases: usize,
+    add: F,
+) -> Result<(), AllocError>
+    requires { F.IsAlwaysCallable add }
+{
+    for case in 0..cases {
+        add(job, case)?;
+    }
+    Ok(())
+}
+
+/// Adds all cases to a job that is lent, plays it, and prints how many are as due.
+fn tell_of<
+    R: Print + RandomSource + Threads + Wait + Sync,
+    F: Fn(&mut Job, usize) -> Result<(), AllocError>,
+>(rt: &R, job: &mut Job, name: &str, cases: usize, add: F) -> io::Result<()>
+    requires { F.IsAlwaysCallable add }
+{
+    add_all(job, cases, add)?;
+    let tally = job.tally(rt)?;
+    show(rt, name, cases, tally)
+}
+
 /// Adds all cases to a job, plays it, and prints how many are as due.
 pub fn tell<
     R: Print + RandomSource + Threads + Wait + Sync,
@@ -120,10 +146,7 @@ pub fn tell<
 >(rt: &R, mut job: Job, name: &str, cases: usize, add: F) -> io::Result<()>
     requires { F.IsAlwaysCallable add }
 {
-    for case in 0..cases {
-        add(&mut job, case)?;
-    }
-    show(rt, name, cases, job.tally(rt)?)
+    tell_of(rt, &mut job, name, cases, add)
 }
 
 /// Prints how many cases are as due.

@@ -132,17 +132,11 @@ impl Job {
         let alloc = self.alloc;
         let mut source = SureBytes::new(Vec::from_slice(alloc, self.text.as_bytes())?);
         let mut sink = Pieces::new(Vec::new(alloc), usize::MAX, Vec::new(alloc));
-        let words = vec![in alloc; String::from_str(alloc, "play")?]?;
-        let _status = run(rt, alloc, &words, &mut source, &mut sink, &Open);
-        String::from_utf8_lossy(alloc, sink.written())
+        played(rt, alloc, &mut source, &mut sink)
     }
 
-    /// Plays the job, and counts the replies that are as due.
-    pub fn tally<R: RandomSource + Threads + Wait + Sync>(
-        &self,
-        rt: &R,
-    ) -> Result<Tally, AllocError> {
-        let history = self.history(rt)?;
+    /// Counts the lines of a history that are as due.
+    fn count(&self, history: &str) -> Tally {
         let mut tally = Tally::NONE;
         for (line, due) in history.lines().zip(&self.due) {
             let reply = Reply::in_line(line);
@@ -151,6 +145,27 @@ impl Job {
                 words: due.words.map(|due| reply == Some(due)),
             });
         }
-        Ok(tally)
+        tally
     }
+
+    /// Plays the job, and counts the replies that are as due.
+    pub fn tally<R: RandomSource + Threads + Wait + Sync>(
+        &self,
+        rt: &R,
+    ) -> Result<Tally, AllocError> {
+        let history = self.history(rt)?;
+        Ok(self.count(&history))
+    }
+}
+
+/// What is written where the job of a source is played.
+fn played<R: RandomSource + Threads + Wait + Sync>(
+    rt: &R,
+    alloc: Global,
+    source: &mut SureBytes,
+    sink: &mut Pieces,
+) -> Result<String, AllocError> {
+    let words = vec![in alloc; String::from_str(alloc, "play")?]?;
+    let _status = run(rt, alloc, &words, source, sink, &Open);
+    String::from_utf8_lossy(alloc, sink.written())
 }

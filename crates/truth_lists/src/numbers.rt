@@ -174,6 +174,22 @@ impl Command {
     }
 }
 
+/// Adds the projections of so many variables, in registers v0 and so on.
+fn add_variables(job: &mut Job, variables: u32) -> Result<(), AllocError> {
+    for variable in 0..variables {
+        job.tell(&format_args!("v{variable} = var {variable}"))?;
+    }
+    Ok(())
+}
+
+/// A job of so many variables and slots, with their projections.
+fn with_variables(alloc: Global, variables: u32, limit: u32) -> Result<Job, AllocError> {
+    let head = format!(in alloc; "vars {variables}")?;
+    let mut job = Job::new(alloc, &head, limit)?;
+    add_variables(&mut job, variables)?;
+    Ok(job)
+}
+
 /// A job, and the functions of numbers that have registers in it.
 #[derive(Drop)]
 struct Functions {
@@ -184,13 +200,8 @@ struct Functions {
 impl Functions {
     /// A job of so many variables and slots, without functions.
     fn new(alloc: Global, variables: u32, limit: u32) -> Result<Functions, AllocError> {
-        let head = format!(in alloc; "vars {variables}")?;
-        let mut job = Job::new(alloc, &head, limit)?;
-        for variable in 0..variables {
-            job.tell(&format_args!("v{variable} = var {variable}"))?;
-        }
         Ok(Functions {
-            job,
+            job: with_variables(alloc, variables, limit)?,
             registers: BTreeMap::new(alloc),
         })
     }
@@ -311,15 +322,35 @@ pub fn print<R: Print + RandomSource + Threads + Wait + Sync>(
 }
 
 /// Asks for each value of each function of two variables.
+fn ask_all(functions: &mut Functions) -> Result<(), AllocError> {
+    for case in 0..4 * TWOS {
+        functions.ask(of_two(case / 4), case % 4)?;
+    }
+    Ok(())
+}
+
+/// Prints how many values of functions of two variables are as due.
 fn values<R: Print + RandomSource + Threads + Wait + Sync>(
     rt: &R,
     alloc: Global,
 ) -> io::Result<()> {
     let mut functions = Functions::new(alloc, 2, 10_000)?;
-    for case in 0..4 * TWOS {
-        functions.ask(of_two(case / 4), case % 4)?;
-    }
-    show(rt, "numbers", 4 * TWOS, functions.job.tally(rt)?)
+    ask_all(&mut functions)?;
+    let tally = functions.job.tally(rt)?;
+    show(rt, "numbers", 4 * TWOS, tally)
+}
+
+/// An operation on all pairs of functions of one variable.
+fn on_pairs<R: Print + RandomSource + Threads + Wait + Sync>(
+    rt: &R,
+    alloc: Global,
+    operation: Operation,
+) -> io::Result<()> {
+    let name = format!(in alloc; "{} of one variable", operation.word())?;
+    tried(rt, alloc, 1, &name, ONES * ONES, |case| {
+        let (f, g) = (of_one(case / ONES), of_one(case));
+        Command::Pointwise(operation, f, g)
+    })
 }
 
 /// Each operation on all pairs of functions of one variable.
@@ -335,11 +366,7 @@ fn of_one_variable<R: Print + RandomSource + Threads + Wait + Sync>(
         Operation::Max,
         Operation::Threshold,
     ] {
-        let name = format!(in alloc; "{} of one variable", operation.word())?;
-        tried(rt, alloc, 1, &name, ONES * ONES, |case| {
-            let (f, g) = (of_one(case / ONES), of_one(case));
-            Command::Pointwise(operation, f, g)
-        })?;
+        on_pairs(rt, alloc, operation)?;
     }
     Ok(())
 }
@@ -371,8 +398,45 @@ fn of_two_variables<R: Print + RandomSource + Threads + Wait + Sync>(
     })
 }
 
-/// Adds the commands that end well to one job, and plays each of the others, at which a session stops, in a job of its own.
-/// Prints how many are as due.
+/// Adds a command that ends well to the shared job, and plays any other, at which a session stops, in a job of its own.
+fn try_one<R: RandomSource + Threads + Wait + Sync>(
+    rt: &R,
+    alloc: Global,
+    variables: u32,
+    shared: &mut Functions,
+    command: Command,
+) -> Result<Tally, AllocError> {
+    let made = command.made(alloc)?;
+    if let (Made::Overflow, _) | (_, Made::Overflow) = (made.lists, made.words) {
+        return alone(rt, alloc, variables, command, made);
+    }
+    shared.add(command, made)?;
+    Ok(Tally::NONE)
+}
+
+/// Tries commands on functions of so many variables, and tells how many are as due.
+fn try_all<R: RandomSource + Threads + Wait + Sync, F: Fn(usize) -> Command>(
+    rt: &R,
+    variables: u32,
+    shared: &mut Functions,
+    cases: usize,
+    command_of: F,
+) -> Result<Tally, AllocError>
+    requires { F.IsAlwaysCallable command_of }
+{
+    let alloc = shared.job.alloc();
+    if variables == 2 {
+        shared.add_truths()?;
+    }
+    let mut tally = Tally::NONE;
+    for case in 0..cases {
+        tally.add(try_one(rt, alloc, variables, shared, command_of(case))?);
+    }
+    tally.add(shared.job.tally(rt)?);
+    Ok(tally)
+}
+
+/// Tries commands, and prints how many are as due.
 fn tried<R: Print + RandomSource + Threads + Wait + Sync, F: Fn(usize) -> Command>(
     rt: &R,
     alloc: Global,
@@ -384,20 +448,7 @@ fn tried<R: Print + RandomSource + Threads + Wait + Sync, F: Fn(usize) -> Comman
     requires { F.IsAlwaysCallable command_of }
 {
     let mut shared = Functions::new(alloc, variables, 10_000)?;
-    if variables == 2 {
-        shared.add_truths()?;
-    }
-    let mut tally = Tally::NONE;
-    for case in 0..cases {
-        let command = command_of(case);
-        let made = command.made(alloc)?;
-        if let (Made::Overflow, _) | (_, Made::Overflow) = (made.lists, made.words) {
-            tally.add(alone(rt, alloc, variables, command, made)?);
-        } else {
-            shared.add(command, made)?;
-        }
-    }
-    tally.add(shared.job.tally(rt)?);
+    let tally = try_all(rt, variables, &mut shared, cases, command_of)?;
     show(rt, name, cases, tally)
 }
 

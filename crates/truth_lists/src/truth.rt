@@ -271,18 +271,33 @@ fn compositions<R: Print + RandomSource + Threads + Wait + Sync>(
     )
 }
 
+/// Adds restrictions of each function to each condition.
+fn restrict_all(job: &mut Job) -> Result<(), AllocError> {
+    for pair in 0..PAIRS {
+        let [f, c, ..] = pair.to_le_bytes();
+        restrict(job, f, c)?;
+    }
+    Ok(())
+}
+
+/// The history of these restrictions.
+fn restrict_history<R: RandomSource + Threads + Wait + Sync>(
+    rt: &R,
+    alloc: Global,
+) -> Result<String, AllocError> {
+    let mut job = table(alloc)?;
+    restrict_all(&mut job)?;
+    job.history(rt)
+}
+
 /// Restrictions of each function to each condition. What they answer is read value by value, and judged.
 fn restrictions<R: Print + RandomSource + Threads + Wait + Sync>(
     rt: &R,
     alloc: Global,
 ) -> io::Result<()> {
-    let mut job = table(alloc)?;
-    for pair in 0..PAIRS {
-        let [f, c, ..] = pair.to_le_bytes();
-        restrict(&mut job, f, c)?;
-    }
-    let history = job.history(rt)?;
-    show(rt, "restrict", PAIRS, judged(alloc, history.as_str())?)
+    let history = restrict_history(rt, alloc)?;
+    let tally = judged(alloc, history.as_str())?;
+    show(rt, "restrict", PAIRS, tally)
 }
 
 /// Whether a function may be the answer of a restrict, for each triple of functions of the first two variables.
@@ -311,9 +326,8 @@ fn restrict(job: &mut Job, f: u8, c: u8) -> Result<(), AllocError> {
     Ok(())
 }
 
-/// How many of the answers that a history tells, eight values each, may be given.
-fn judged(alloc: Global, history: &str) -> Result<Tally, AllocError> {
-    let values: Vec<bool> = history.lines().filter_map(value_in).collect(alloc)?;
+/// How many of the answers, eight values each, may be given.
+fn judge(values: &[bool]) -> Tally {
     let mut tally = Tally::NONE;
     for (pair, values) in values.chunks(8).enumerate() {
         let [f, c, ..] = pair.to_le_bytes();
@@ -323,7 +337,13 @@ fn judged(alloc: Global, history: &str) -> Result<Tally, AllocError> {
             words: Some(words::restricts(f, c, answer)),
         });
     }
-    Ok(tally)
+    tally
+}
+
+/// How many of the answers that a history tells may be given.
+fn judged(alloc: Global, history: &str) -> Result<Tally, AllocError> {
+    let values: Vec<bool> = history.lines().filter_map(value_in).collect(alloc)?;
+    Ok(judge(values.as_slice()))
 }
 
 /// The value that a line of a history tells, if it tells one.
