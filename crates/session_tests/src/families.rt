@@ -201,18 +201,26 @@ fn open_two(alloc: Global) -> Result<(Manager, Session), OpenFault>
     }
 }
 
+/// Calls each operation on the families of one of two elements, or on their union.
+fn call_each<R: Abort + Wait>(rt: &R, manager: &Manager, session: &mut Session)
+    requires own { session.old.manager ≡ manager.now }
+    requires elements { manager.now.elements ≡ 2 }
+{
+    let p = single(rt, manager, session, 0);
+    let q = single(rt, manager, session, 1);
+    let either = unite(rt, manager, session, p, q);
+    meet_and_differ(rt, manager, session, p, q, either);
+    by_element(rt, manager, session, p, q, either);
+    multiply_and_divide(rt, manager, session, p, q);
+    constants(rt, manager, session, p);
+    assert_eq!(rt; session.fulls(), 0);
+}
+
 #[test]
 fn each_operation_on_families_makes_a_row(rt: HostRuntime) -> Result<(), Fail> {
     let Ok((manager, mut session)) = open_two(rt.alloc()) else {
         panic!(rt; "not opened");
     };
-    let p = single(&rt, &manager, &mut session, 0);
-    let q = single(&rt, &manager, &mut session, 1);
-    let either = unite(&rt, &manager, &mut session, p, q);
-    meet_and_differ(&rt, &manager, &mut session, p, q, either);
-    by_element(&rt, &manager, &mut session, p, q, either);
-    multiply_and_divide(&rt, &manager, &mut session, p, q);
-    constants(&rt, &manager, &mut session, p);
-    assert_eq!(rt; session.fulls(), 0);
+    call_each(&rt, &manager, &mut session);
     Ok(())
 }

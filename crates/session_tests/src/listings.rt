@@ -67,6 +67,16 @@ fn line(var: u32, hi: u32, lo: i32) -> Line {
     Line { var, hi, lo }
 }
 
+/// Both functions of a listing are one class, the second as the complement.
+fn is_one_class(rt: &impl Abort, alloc: Global, listing: &Listing)
+    requires { IsWritable (dump_of listing.now) }
+{
+    let Ok(classes) = classes_of(alloc, listing) else {
+        panic!(rt; "no memory");
+    };
+    assert!(rt; classes.as_slice() == [class(false), class(true)].as_slice());
+}
+
 /// What is told of the exclusive disjunction of two variables and its complement: they have three nodes and are one class, and
 /// are stored as in a worked example.
 fn told_of(rt: &impl Abort, alloc: Global, listing: Listing)
@@ -74,10 +84,7 @@ fn told_of(rt: &impl Abort, alloc: Global, listing: Listing)
     requires few { length listing.order < 2 ^ 32 }
 {
     assert_eq!(rt; listing.node_count(), 3);
-    let Ok(classes) = classes_of(alloc, &listing) else {
-        panic!(rt; "no memory");
-    };
-    assert!(rt; classes.as_slice() == [class(false), class(true)].as_slice());
+    is_one_class(rt, alloc, &listing);
     let Ok(text) = stored(alloc, listing) else {
         panic!(rt; "no memory");
     };
@@ -102,7 +109,54 @@ fn dumped(rt: &impl Abort, alloc: Global, listing: Listing)
     assert!(rt; dump.nvars == 2 && dump.ids.as_slice() == [0, 1].as_slice());
 }
 
-/// A function and its complement have the same lines, behind those that their arcs lead to, and no call is drawn.
+/// A listing has these lines and roots.
+fn has_lines(rt: &impl Abort, listing: &Listing, nodes: &[Line], roots: &[i32]) {
+    assert!(rt; listing.nodes.as_slice() == nodes);
+    assert!(rt; listing.roots.as_slice() == roots);
+}
+
+/// The exclusive disjunction of two rows and its complement have the same lines, behind those that their arcs lead to, and no
+/// call is drawn.
+fn list_with_complement<R: Abort + Wait>(
+    rt: &R,
+    alloc: Global,
+    manager: &Manager,
+    session: &mut Session,
+    a: H,
+    b: H,
+)
+    requires own { session.old.manager ≡ manager.now }
+    ensures { (session.new.manager ≡ session.old.manager) × (session.new.number ≡ session.old.number) }
+{
+    let either = xor(rt, manager, session, a, b);
+    let alike = not(rt, manager, session, either);
+    let calls = session.calls();
+    let listing = list(rt, manager, session, either, alike);
+    assert_eq!(rt; session.calls(), calls);
+    assert!(rt; listing.order.as_slice() == [0, 1].as_slice());
+    has_lines(rt, &listing, &[line(1, 1, -1), line(0, 2, -2)], &[-3, 3]);
+    told_of(rt, alloc, listing);
+}
+
+/// The conjunction of two rows and the second of them: the line of the second stands first.
+fn list_with_part<R: Abort + Wait>(
+    rt: &R,
+    alloc: Global,
+    manager: &Manager,
+    session: &mut Session,
+    a: H,
+    b: H,
+)
+    requires own { session.old.manager ≡ manager.now }
+{
+    let Some(both) = and(rt, manager, session, a, b) else {
+        panic!(rt; "full");
+    };
+    let listing = list(rt, manager, session, both, b);
+    has_lines(rt, &listing, &[line(1, 1, -1), line(0, 2, -1)], &[3, 2]);
+    dumped(rt, alloc, listing);
+}
+
 #[test]
 fn rows_are_listed(rt: HostRuntime) -> Result<(), Fail> {
     let Ok((manager, mut session)) = open_two(rt.alloc()) else {
@@ -110,31 +164,27 @@ fn rows_are_listed(rt: HostRuntime) -> Result<(), Fail> {
     };
     let a = var(&rt, &manager, &mut session, 0);
     let b = var(&rt, &manager, &mut session, 1);
-    let either = xor(&rt, &manager, &mut session, a, b);
-    let alike = not(&rt, &manager, &mut session, either);
-    let calls = session.calls();
-    let listing = list(&rt, &manager, &mut session, either, alike);
-    assert_eq!(rt; session.calls(), calls);
-    assert!(rt; listing.order.as_slice() == [0, 1].as_slice());
-    assert!(rt; listing.nodes.as_slice() == [line(1, 1, -1), line(0, 2, -2)].as_slice());
-    assert!(rt; listing.roots.as_slice() == [-3, 3].as_slice());
-    told_of(&rt, rt.alloc(), listing);
-    let Some(both) = and(&rt, &manager, &mut session, a, b) else {
-        panic!(rt; "full");
-    };
-    let listing = list(&rt, &manager, &mut session, both, b);
-    assert!(rt; listing.nodes.as_slice() == [line(1, 1, -1), line(0, 2, -1)].as_slice());
-    assert!(rt; listing.roots.as_slice() == [3, 2].as_slice());
-    dumped(&rt, rt.alloc(), listing);
+    list_with_complement(&rt, rt.alloc(), &manager, &mut session, a, b);
+    list_with_part(&rt, rt.alloc(), &manager, &mut session, a, b);
+    Ok(())
+}
+
+/// A pattern is this one when it has so many bits.
+fn is_padded(
+    rt: &impl Abort,
+    alloc: Global,
+    len: usize,
+    bits: &[bool],
+    wanted: &[bool],
+) -> Result<(), Fail> {
+    let found = padded(alloc, len, bits)?;
+    assert!(rt; found.as_slice() == wanted);
     Ok(())
 }
 
 /// A pattern that is too short is filled up with zeros, and one that is too long is cut.
 #[test]
 fn patterns_are_padded(rt: HostRuntime) -> Result<(), Fail> {
-    let long = padded(rt.alloc(), 3, &[true])?;
-    assert!(rt; long.as_slice() == [true, false, false].as_slice());
-    let short = padded(rt.alloc(), 1, &[false, true])?;
-    assert!(rt; short.as_slice() == [false].as_slice());
-    Ok(())
+    is_padded(&rt, rt.alloc(), 3, &[true], &[true, false, false])?;
+    is_padded(&rt, rt.alloc(), 1, &[false, true], &[false])
 }

@@ -77,7 +77,68 @@ fn value_is<R: Abort + Wait>(
     assert_eq!(rt; eval(rt, manager, session, f, &bits), value);
 }
 
-/// What one session holds stays right while another fills the table and sweeps.
+/// Two variables, and their conjunction.
+#[derive(Clone, Copy, Drop)]
+struct Held {
+    a: H,
+    b: H,
+    both: H,
+}
+
+/// Makes rows of the first two variables.
+fn hold<R: Abort + Wait>(rt: &R, manager: &Manager, session: &mut Session) -> Held
+    requires own { session.old.manager ≡ manager.now }
+    requires variables { manager.now.vars ≡ 4 }
+    ensures { (session.new.manager ≡ session.old.manager) × (session.new.number ≡ session.old.number) }
+{
+    let a = var(rt, manager, session, 0);
+    let b = var(rt, manager, session, 1);
+    let Some(both) = and(rt, manager, session, a, b) else {
+        panic!(rt; "full");
+    };
+    Held { a, b, both }
+}
+
+/// Makes a row of the last two variables, drops it and sweeps.
+fn drop_and_sweep<R: Abort + Wait>(rt: &R, manager: &Manager, session: &mut Session)
+    requires own { session.old.manager ≡ manager.now }
+    requires variables { manager.now.vars ≡ 4 }
+{
+    let c = var(rt, manager, session, 2);
+    let d = var(rt, manager, session, 3);
+    let Some(dropped) = and(rt, manager, session, c, d) else {
+        panic!(rt; "full");
+    };
+    assert_eq!(rt; sweep(rt, manager, session), 11);
+    drop_row(rt, manager, session, dropped);
+    assert_eq!(rt; sweep(rt, manager, session), 10);
+}
+
+/// The rows that were held are as they were.
+fn still_held<R: Abort + Wait>(rt: &R, manager: &Manager, session: &mut Session, held: Held)
+    requires own { session.old.manager ≡ manager.now }
+    requires variables { manager.now.vars ≡ 4 }
+{
+    let Held { a, b, both } = held;
+    let Some(again) = and(rt, manager, session, b, a) else {
+        panic!(rt; "full");
+    };
+    assert!(rt; same(rt, manager, session, both, again));
+    assert!(rt; !same(rt, manager, session, both, a));
+    value_is(rt, manager, session, both, true, 1);
+    value_is(rt, manager, session, both, false, 0);
+}
+
+/// What one session holds stays right while another makes rows and sweeps.
+fn outlast<R: Abort + Wait>(rt: &R, manager: &Manager, session: &mut Session, other: &mut Session)
+    requires own { (session.old.manager ≡ manager.now) × (other.old.manager ≡ manager.now) }
+    requires variables { manager.now.vars ≡ 4 }
+{
+    let held = hold(rt, manager, session);
+    drop_and_sweep(rt, manager, other);
+    still_held(rt, manager, session, held);
+}
+
 #[test]
 fn handles_outlast_sweeps_of_others(rt: HostRuntime) -> Result<(), Fail> {
     let Ok((manager, mut sessions)) = open_four(rt.alloc(), 2) else {
@@ -86,25 +147,6 @@ fn handles_outlast_sweeps_of_others(rt: HostRuntime) -> Result<(), Fail> {
     let (Some(mut other), Some(mut session)) = (sessions.pop(), sessions.pop()) else {
         panic!(rt; "no two sessions");
     };
-    let a = var(&rt, &manager, &mut session, 0);
-    let b = var(&rt, &manager, &mut session, 1);
-    let Some(held) = and(&rt, &manager, &mut session, a, b) else {
-        panic!(rt; "full");
-    };
-    let c = var(&rt, &manager, &mut other, 2);
-    let d = var(&rt, &manager, &mut other, 3);
-    let Some(dropped) = and(&rt, &manager, &mut other, c, d) else {
-        panic!(rt; "full");
-    };
-    assert_eq!(rt; sweep(&rt, &manager, &mut other), 11);
-    drop_row(&rt, &manager, &mut other, dropped);
-    assert_eq!(rt; sweep(&rt, &manager, &mut other), 10);
-    let Some(again) = and(&rt, &manager, &mut session, b, a) else {
-        panic!(rt; "full");
-    };
-    assert!(rt; same(&rt, &manager, &mut session, held, again));
-    assert!(rt; !same(&rt, &manager, &mut session, held, a));
-    value_is(&rt, &manager, &mut session, held, true, 1);
-    value_is(&rt, &manager, &mut session, held, false, 0);
+    outlast(&rt, &manager, &mut session, &mut other);
     Ok(())
 }

@@ -267,20 +267,39 @@ fn open_two(alloc: Global) -> Result<(Manager, Session), OpenFault>
     }
 }
 
+/// Calls each operation on constants, or on a function of two variables.
+fn call_each<R: Abort + Wait>(rt: &R, manager: &Manager, session: &mut Session)
+    requires own { session.old.manager ≡ manager.now }
+    requires variables { manager.now.vars ≡ 2 }
+{
+    let two = constant(rt, manager, session, 2);
+    let three = constant(rt, manager, session, 3);
+    add_and_multiply(rt, manager, session, two, three);
+    choose(rt, manager, session, two, three);
+    let f = two_or_three(rt, manager, session, two, three);
+    bound_and_sum(rt, manager, session, f);
+    from_and_back(rt, manager, session);
+    assert_eq!(rt; session.fulls(), 0);
+}
+
 #[test]
 fn each_operation_on_numbers_makes_a_row(rt: HostRuntime) -> Result<(), Fail> {
     let Ok((manager, mut session)) = open_two(rt.alloc()) else {
         panic!(rt; "not opened");
     };
-    let two = constant(&rt, &manager, &mut session, 2);
-    let three = constant(&rt, &manager, &mut session, 3);
-    add_and_multiply(&rt, &manager, &mut session, two, three);
-    choose(&rt, &manager, &mut session, two, three);
-    let f = two_or_three(&rt, &manager, &mut session, two, three);
-    bound_and_sum(&rt, &manager, &mut session, f);
-    from_and_back(&rt, &manager, &mut session);
-    assert_eq!(rt; session.fulls(), 0);
+    call_each(&rt, &manager, &mut session);
     Ok(())
+}
+
+/// Calls operations whose values are out of range, and none of which is told Full.
+fn leave_all<R: Abort + Wait>(rt: &R, manager: &Manager, session: &mut Session)
+    requires own { session.old.manager ≡ manager.now }
+    requires variables { manager.now.vars ≡ 2 }
+{
+    leave_the_range(rt, manager, session);
+    let two = constant(rt, manager, session, 2);
+    leave_it_twice(rt, manager, session, two);
+    assert_eq!(rt; session.fulls(), 0);
 }
 
 #[test]
@@ -288,9 +307,6 @@ fn values_out_of_range_add_no_row(rt: HostRuntime) -> Result<(), Fail> {
     let Ok((manager, mut session)) = open_two(rt.alloc()) else {
         panic!(rt; "not opened");
     };
-    leave_the_range(&rt, &manager, &mut session);
-    let two = constant(&rt, &manager, &mut session, 2);
-    leave_it_twice(&rt, &manager, &mut session, two);
-    assert_eq!(rt; session.fulls(), 0);
+    leave_all(&rt, &manager, &mut session);
     Ok(())
 }

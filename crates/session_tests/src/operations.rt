@@ -257,19 +257,27 @@ fn constants<R: Abort + Wait>(rt: &R, manager: &Manager, session: &mut Session, 
     xor(rt, manager, session, a, a, zero.value);
 }
 
+/// Calls each operation on two variables, or on their conjunction.
+fn call_each<R: Abort + Wait>(rt: &R, manager: &Manager, session: &mut Session)
+    requires own { session.old.manager ≡ manager.now }
+    requires variables { manager.now.vars ≡ 2 }
+{
+    let a = var(rt, manager, session, 0);
+    let b = var(rt, manager, session, 1);
+    let Some(both) = and(rt, manager, session, a, b) else {
+        panic!(rt; "full");
+    };
+    constants(rt, manager, session, a);
+    operate(rt, manager, session, a, b, both);
+    quantify(rt, manager, session, a, b, both);
+    assert_eq!(rt; session.fulls(), 0);
+}
+
 #[test]
 fn each_operation_makes_a_row(rt: HostRuntime) -> Result<(), Fail> {
     let Ok((manager, mut session)) = open_two(rt.alloc()) else {
         panic!(rt; "not opened");
     };
-    let a = var(&rt, &manager, &mut session, 0);
-    let b = var(&rt, &manager, &mut session, 1);
-    let Some(both) = and(&rt, &manager, &mut session, a, b) else {
-        panic!(rt; "full");
-    };
-    constants(&rt, &manager, &mut session, a);
-    operate(&rt, &manager, &mut session, a, b, both);
-    quantify(&rt, &manager, &mut session, a, b, both);
-    assert_eq!(rt; session.fulls(), 0);
+    call_each(&rt, &manager, &mut session);
     Ok(())
 }
