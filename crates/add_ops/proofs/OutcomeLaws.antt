@@ -8,14 +8,19 @@ use Rattle.edge_bits.specs.Words.{IsLeafValue}
 use Rattle.edge_bits.specs.Assignments.{set_bit}
 use Rattle.edge_bits.proofs.AssignmentLemmas.{set_bit-below}
 use Rattle.function_laws.specs.declared.history.Name.{Name}
-use Rattle.function_laws.specs.declared.history.Call.TheVariants.{AddIte, AtLeast, Constant, FromBdd, Pattern, SumOver, Plus, Minus, Times, Min, Max, Threshold}
+use Rattle.function_laws.specs.declared.history.Call.TheVariants.{Makes}
+use Rattle.function_laws.specs.declared.making.Making.TheVariants as makings
+use Rattle.function_laws.specs.declared.making.BddMaking.TheVariants as bdds
+use Rattle.function_laws.specs.declared.making.AddMaking.TheVariants as adds
+use Rattle.function_laws.specs.declared.making.ExactMaking.TheVariants as exacts
 use Rattle.function_laws.specs.declared.history.Function.{Function}
 use Rattle.function_laws.specs.declared.history.Function.TheVariants.{Add, Bdd}
 use Rattle.function_laws.specs.Lists.{list_of, truth, whole}
 use Rattle.function_laws.specs.Values.{IsOf, cofactor, constant, if_then_else}
-use Rattle.function_laws.specs.Numbers.{at_least, exactly, from_truth, greater, is_zero, lesser, minus, pattern, plus, sum_over, threshold, times}
-use Rattle.function_laws.specs.Functions.{add_ite_of, at_least_of, from_bdd_of, pattern_of, sum_of, max_of, min_of, minus_of, plus_of, threshold_of, times_of}
-use Rattle.function_laws.specs.Steps.{in_range, makes, outcome_of, as_add, as_bdd, when, with_one, with_two, with_three}
+use Rattle.function_laws.specs.Numbers.{at_least, exactly, from_truth, is_zero, pattern, sum_over}
+use Rattle.function_laws.specs.Functions.{add_ite_of, at_least_of, from_bdd_of, pattern_of, sum_of}
+use Rattle.function_laws.specs.Outcomes.{in_range, makes, as_add, as_bdd, when, with_one, with_two, with_three}
+use Rattle.function_laws.specs.Steps.{outcome_of}
 use Rattle.function_laws.specs.Tables.{Sizes}
 use Rattle.function_laws.proofs.ListLemmas.{length-list_of, list_of-same, truth-list_of, whole-list_of}
 use Rattle.function_laws.proofs.NumberLemmas.{is_value-true}
@@ -50,62 +55,45 @@ IsOf-sum n v f within of_f = IsOf-place (λ x y. x +ℤ y) n (cofactor f v true)
     part b u from = IsFree-cofactor_other f u v b (omega (arith, from, within)) (of_f u from)
 
 module _ (w : View) (z : Sizes) (cells : ℕ → Option Function) (live : Name → Option Function) where
-  pub outcome-constant : z.variables ≡ w.vars → (x : ℤ) → IsLeafValue x → outcome_of z cells live (Constant x) ≡ Some (makes (Add (list_of (2 ^ w.vars) (constant x))))
+  pub outcome-constant : z.variables ≡ w.vars → (x : ℤ) → IsLeafValue x → outcome_of z cells live (Makes (makings.Add (adds.Constant x))) ≡ Some (makes (Add (list_of (2 ^ w.vars) (constant x))))
   outcome-constant vars x fits = ap₂ (λ c n. when c (Some (makes (Add (list_of (2 ^ n) (constant x)))))) (is_value-true x fits.0 fits.1) vars
 
-  pub outcome-from_bdd : (a : Name) (e : Edge) → live a ≡ Some (listed_at kinds.Bdd w e) → outcome_of z cells live (FromBdd a) ≡ Some (makes (Add (list_of (2 ^ w.vars) (from_truth (bdd_at w e)))))
+  pub outcome-from_bdd : (a : Name) (e : Edge) → live a ≡ Some (listed_at kinds.Bdd w e) → outcome_of z cells live (Makes (makings.Add (adds.FromBdd a))) ≡ Some (makes (Add (list_of (2 ^ w.vars) (from_truth (bdd_at w e)))))
   outcome-from_bdd a e stands =
       ap (λ x. with_one (as_bdd x) (λ f. makes (Add (from_bdd_of f)))) stands
       ∙ ap (λ f. Some (makes (Add f))) (one_listed (λ b. cond b (pos 1) (pos 0)) false (2 ^ w.vars) (bdd_at w e))
 
   pub outcome-add_ite : (a b c : Name) (e d i : Edge) → live a ≡ Some (listed_at kinds.Bdd w e) → live b ≡ Some (listed_at kinds.Add w d) → live c ≡ Some (listed_at kinds.Add w i)
-      → outcome_of z cells live (AddIte a b c) ≡ Some (makes (Add (list_of (2 ^ w.vars) (if_then_else (bdd_at w e) (add_at w d) (add_at w i)))))
+      → outcome_of z cells live (Makes (makings.Add (adds.AddIte a b c))) ≡ Some (makes (Add (list_of (2 ^ w.vars) (if_then_else (bdd_at w e) (add_at w d) (add_at w i)))))
   outcome-add_ite a b c e d i first second third =
       ap₂ (λ x y. with_three (as_bdd x) (as_add y) (as_add (live c)) (λ f g h. makes (Add (add_ite_of f g h)))) first second
       ∙ ap (λ x. with_three (Some (list_of (2 ^ w.vars) (bdd_at w e))) (Some (list_of (2 ^ w.vars) (add_at w d))) (as_add x) (λ f g h. makes (Add (add_ite_of f g h)))) third
       ∙ ap (λ f. Some (makes (Add f))) (ite_listed (2 ^ w.vars) (bdd_at w e) (add_at w d) (add_at w i))
 
   module _ (a : Name) (e : Edge) (stands : live a ≡ Some (listed_at kinds.Add w e)) where
-    pub outcome-sum_over : z.variables ≡ w.vars → (v : ℕ) → v < w.vars → outcome_of z cells live (SumOver a v) ≡ Some (in_range (exactly (list_of (2 ^ w.vars) (sum_over (add_at w e) v))))
+    pub outcome-sum_over : z.variables ≡ w.vars → (v : ℕ) → v < w.vars → outcome_of z cells live (Makes (makings.Exact (exacts.SumOver a v))) ≡ Some (in_range (exactly (list_of (2 ^ w.vars) (sum_over (add_at w e) v))))
     outcome-sum_over vars v within =
         ap₂ (λ c x. when c (with_one (as_add x) (λ f. in_range (sum_of f v)))) (lt-ltb v z.variables (omega (arith, within, vars))) stands
         ∙ ap (λ f. Some (in_range (exactly f))) (sum_listed w.vars v (add_at w e) within)
 
-    pub outcome-at_least : (x : ℤ) → outcome_of z cells live (AtLeast a x) ≡ Some (makes (Bdd (list_of (2 ^ w.vars) (at_least (add_at w e) x))))
+    pub outcome-at_least : (x : ℤ) → outcome_of z cells live (Makes (makings.Bdd (bdds.AtLeast a x))) ≡ Some (makes (Bdd (list_of (2 ^ w.vars) (at_least (add_at w e) x))))
     outcome-at_least x =
         ap (λ y. with_one (as_add y) (λ f. makes (Bdd (at_least_of f x)))) stands ∙ ap (λ f. Some (makes (Bdd f))) (one_listed (int_le x) (pos 0) (2 ^ w.vars) (add_at w e))
 
-    pub outcome-pattern : outcome_of z cells live (Pattern a) ≡ Some (makes (Bdd (list_of (2 ^ w.vars) (pattern (add_at w e)))))
+    pub outcome-pattern : outcome_of z cells live (Makes (makings.Bdd (bdds.Pattern a))) ≡ Some (makes (Bdd (list_of (2 ^ w.vars) (pattern (add_at w e)))))
     outcome-pattern =
         ap (λ x. with_one (as_add x) (λ f. makes (Bdd (pattern_of f)))) stands ∙ ap (λ f. Some (makes (Bdd f))) (one_listed (λ x. not (is_zero x)) (pos 0) (2 ^ w.vars) (add_at w e))
 
   module _ (a b : Name) (e d : Edge) (first : live a ≡ Some (listed_at kinds.Add w e)) (second : live b ≡ Some (listed_at kinds.Add w d)) where
-    pub outcome-plus : outcome_of z cells live (Plus a b) ≡ Some (in_range (exactly (list_of (2 ^ w.vars) (plus (add_at w e) (add_at w d)))))
-    outcome-plus =
-        ap₂ (λ x y. with_two (as_add x) (as_add y) (λ f g. in_range (plus_of f g))) first second
-        ∙ ap (λ f. Some (in_range (exactly f))) (two_listed (λ x y. x +ℤ y) (pos 0) (pos 0) (2 ^ w.vars) (add_at w e) (add_at w d))
+    -- what an operation gives, place by place, and what one gives whose values may be out of range
+    pub outcome-placed : (op : ℤ → ℤ → ℤ) → with_two (as_add (live a)) (as_add (live b)) (λ f g. makes (Add (list_of (length f) (λ k. op (whole f k) (whole g k)))))
+        ≡ Some (makes (Add (list_of (2 ^ w.vars) (λ k. op (add_at w e k) (add_at w d k)))))
+    outcome-placed op =
+        ap₂ (λ x y. with_two (as_add x) (as_add y) (λ f g. makes (Add (list_of (length f) (λ k. op (whole f k) (whole g k)))))) first second
+        ∙ ap (λ f. Some (makes (Add f))) (two_listed op (pos 0) (pos 0) (2 ^ w.vars) (add_at w e) (add_at w d))
 
-    pub outcome-minus : outcome_of z cells live (Minus a b) ≡ Some (in_range (exactly (list_of (2 ^ w.vars) (minus (add_at w e) (add_at w d)))))
-    outcome-minus =
-        ap₂ (λ x y. with_two (as_add x) (as_add y) (λ f g. in_range (minus_of f g))) first second
-        ∙ ap (λ f. Some (in_range (exactly f))) (two_listed (λ x y. x -ℤ y) (pos 0) (pos 0) (2 ^ w.vars) (add_at w e) (add_at w d))
-
-    pub outcome-times : outcome_of z cells live (Times a b) ≡ Some (in_range (exactly (list_of (2 ^ w.vars) (times (add_at w e) (add_at w d)))))
-    outcome-times =
-        ap₂ (λ x y. with_two (as_add x) (as_add y) (λ f g. in_range (times_of f g))) first second
-        ∙ ap (λ f. Some (in_range (exactly f))) (two_listed (λ x y. x *ℤ y) (pos 0) (pos 0) (2 ^ w.vars) (add_at w e) (add_at w d))
-
-    pub outcome-min : outcome_of z cells live (Min a b) ≡ Some (makes (Add (list_of (2 ^ w.vars) (lesser (add_at w e) (add_at w d)))))
-    outcome-min =
-        ap₂ (λ x y. with_two (as_add x) (as_add y) (λ f g. makes (Add (min_of f g)))) first second
-        ∙ ap (λ f. Some (makes (Add f))) (two_listed (λ x y. cond (int_le x y) x y) (pos 0) (pos 0) (2 ^ w.vars) (add_at w e) (add_at w d))
-
-    pub outcome-max : outcome_of z cells live (Max a b) ≡ Some (makes (Add (list_of (2 ^ w.vars) (greater (add_at w e) (add_at w d)))))
-    outcome-max =
-        ap₂ (λ x y. with_two (as_add x) (as_add y) (λ f g. makes (Add (max_of f g)))) first second
-        ∙ ap (λ f. Some (makes (Add f))) (two_listed (λ x y. cond (int_le y x) x y) (pos 0) (pos 0) (2 ^ w.vars) (add_at w e) (add_at w d))
-
-    pub outcome-threshold : outcome_of z cells live (Threshold a b) ≡ Some (makes (Add (list_of (2 ^ w.vars) (threshold (add_at w e) (add_at w d)))))
-    outcome-threshold =
-        ap₂ (λ x y. with_two (as_add x) (as_add y) (λ f g. makes (Add (threshold_of f g)))) first second
-        ∙ ap (λ f. Some (makes (Add f))) (two_listed (λ x y. cond (int_le y x) x (pos 0)) (pos 0) (pos 0) (2 ^ w.vars) (add_at w e) (add_at w d))
+    pub outcome-exact : (op : ℤ → ℤ → ℤ) → with_two (as_add (live a)) (as_add (live b)) (λ f g. in_range (exactly (list_of (length f) (λ k. op (whole f k) (whole g k)))))
+        ≡ Some (in_range (exactly (list_of (2 ^ w.vars) (λ k. op (add_at w e k) (add_at w d k)))))
+    outcome-exact op =
+        ap₂ (λ x y. with_two (as_add x) (as_add y) (λ f g. in_range (exactly (list_of (length f) (λ k. op (whole f k) (whole g k)))))) first second
+        ∙ ap (λ f. Some (in_range (exactly f))) (two_listed op (pos 0) (pos 0) (2 ^ w.vars) (add_at w e) (add_at w d))

@@ -9,7 +9,7 @@ use Rattle.function_laws.specs.Values.{IsFree, choice, cofactor, projection}
 use Rattle.function_laws.proofs.ValueLemmas.{everywhere, cofactor-choice_true, cofactor-choice_false}
 use Rattle.function_laws.specs.Kinds.{Denoted, AddFunction, ValueOf, function_of, opposite, values_of}
 use Rattle.node_store.specs.Memo.{NumberHolds, MemoHolds, SumHolds}
-use Rattle.node_store.specs.Numbers.{sum_over_number}
+use Rattle.node_store.specs.declared.numbers.TheConstants as numbers
 use Rattle.node_store.specs.Two.{Overflows, place_at, value_of_two}
 use Rattle.node_store.specs.Views.{View, CanMake, Denotes, Grown, Is, IsInner, IsKey, IsLeaf, IsVariable, add_at, node_values}
 use Rattle.node_store.specs.ViewLaws.{Grown-trans, Is-from, Is-grown, IsBelow-inner, IsVariable-grown, Splits-grown, level-grown, top-grown, values_at-grown, values_at-is}
@@ -86,18 +86,18 @@ SplitsAbove-grown f y x hi lo n d i =
     }
 
 -- the key
-pub sum_key : (w : View) (f p : Edge) (v : ℕ) → Denotes Bdd w p (projection v) → Is Add w f → IsKey w (record { op = sum_over_number; f = f; g = p; h = f })
+pub sum_key : (w : View) (f p : Edge) (v : ℕ) → Denotes Bdd w p (projection v) → Is Add w f → IsKey w (record { op = numbers.SUM_OVER; f = f; g = p; h = f })
 sum_key w f p v literal d = record { least = omega arith; most = omega arith; f = (Add, d); g = (Bdd, Is-from Bdd literal); h = (Add, d) }
 
-pub sum_memo : (w : View) (f p : Edge) (v : ℕ) (e : Edge) → Denotes Bdd w p (projection v) → Is Add w f → IsVariable Add w v → Denotes Add w e (summed_at w f v) → MemoHolds w (record { op = sum_over_number; f = f; g = p; h = f }) e
+pub sum_memo : (w : View) (f p : Edge) (v : ℕ) (e : Edge) → Denotes Bdd w p (projection v) → Is Add w f → IsVariable Add w v → Denotes Add w e (summed_at w f v) → MemoHolds w (record { op = numbers.SUM_OVER; f = f; g = p; h = f }) e
 unfolding NumberHolds
 sum_memo w f p v e same d vn a = record { variable = v; in_range = vn; projection = same; f = d; answer = a }
 
-sum_holds : (w : View) (f p e : Edge) → MemoHolds w (record { op = sum_over_number; f = f; g = p; h = f }) e → SumHolds w (record { op = sum_over_number; f = f; g = p; h = f }) e
+sum_holds : (w : View) (f p e : Edge) → MemoHolds w (record { op = numbers.SUM_OVER; f = f; g = p; h = f }) e → SumHolds w (record { op = numbers.SUM_OVER; f = f; g = p; h = f }) e
 unfolding NumberHolds
 sum_holds w f p e h = h
 
-pub sum_hit : (w : View) (f p : Edge) (v : ℕ) (e : Edge) → Denotes Bdd w p (projection v) → MemoHolds w (record { op = sum_over_number; f = f; g = p; h = f }) e → Denotes Add w e (summed_at w f v)
+pub sum_hit : (w : View) (f p : Edge) (v : ℕ) (e : Edge) → Denotes Bdd w p (projection v) → MemoHolds w (record { op = numbers.SUM_OVER; f = f; g = p; h = f }) e → Denotes Add w e (summed_at w f v)
 sum_hit w f p v e same holds =
     let h = sum_holds w f p e holds in
     let variable : h.variable ≡ v = same_variable h.variable v (sym (values_at-is Bdd h.projection) ∙ values_at-is Bdd same) in

@@ -8,14 +8,14 @@ use Rattle.computed_cache.specs.declared.Key.{Key}
 use Rattle.function_laws.specs.Numbers.{at_least, from_truth, is_zero, pattern}
 use Rattle.function_laws.specs.Values.{constant}
 use Rattle.node_store.specs.Memo.{NumberHolds}
-use Rattle.node_store.specs.Numbers.{from_bdd_number, pattern_number}
+use Rattle.node_store.specs.declared.numbers.TheConstants as numbers
 use Rattle.node_store.specs.Views.{View, Denotes, IsLeafOf, Permanent, logic_one, logic_zero, number}
 use Rattle.node_store.specs.ViewLaws.{Denotes-truth}
 use Rattle.add_ops.specs.Conversions.{IsKeyOf}
 use Rattle.add_ops.proofs.LeafLaws.{one_leaf, order_passed, zero_leaf}
 
 -- the keys
-pub from_truth_key : (f : Edge) (key : Key) → key ≡ record { op = from_bdd_number; f = f; g = f; h = f } → IsKeyOf Bdd Add (λ b. if b then pos 1 else pos 0) f key
+pub from_truth_key : (f : Edge) (key : Key) → key ≡ record { op = numbers.FROM_BDD; f = f; g = f; h = f } → IsKeyOf Bdd Add (λ b. if b then pos 1 else pos 0) f key
 unfolding NumberHolds
 from_truth_key f key is = rw is (record {
   is_key = λ w d. record { least = omega arith; most = omega arith; f = (Bdd, d); g = (Bdd, d); h = (Bdd, d) };
@@ -23,7 +23,7 @@ from_truth_key f key is = rw is (record {
   hit = λ w e holds. holds.answer;
 })
 
-pub pattern_key : (f : Edge) (key : Key) → key ≡ record { op = pattern_number; f = f; g = f; h = f } → IsKeyOf Add Bdd (λ z. not (is_zero z)) f key
+pub pattern_key : (f : Edge) (key : Key) → key ≡ record { op = numbers.PATTERN; f = f; g = f; h = f } → IsKeyOf Add Bdd (λ z. not (is_zero z)) f key
 unfolding NumberHolds
 pattern_key f key is = rw is (record {
   is_key = λ w d. record { least = omega arith; most = omega arith; f = (Add, d); g = (Add, d); h = (Add, d) };

@@ -12,7 +12,7 @@ mod summation;
 mod truths;
 
 pub use arithmetic::Overflow;
+pub use choices::{max, min, threshold};
 pub use operations::{
-    add_ite, at_least, constant, from_bdd, max, min, minus, pattern, plus, sum_over, threshold,
-    times,
+    add_ite, at_least, constant, from_bdd, minus, pattern, plus, sum_over, times,
 };

@@ -3,7 +3,7 @@
 ghost use Rattle.std.specs.Prelude.{◌+ℤ◌, ◌-ℤ◌, ◌*ℤ◌, if◌then◌else◌, int_le, not, pos};
 ghost use Rattle.edge_bits.specs.Words.{IsLeafValue};
 ghost use Rattle.edge_bits.specs.declared.edges.Kind.TheVariants.{Add, Bdd};
-ghost use Rattle.function_laws.specs.Numbers.{at_least as reaches, from_truth, greater, is_zero, lesser, minus as difference_of, pattern as pattern_of, plus as sum_of, sum_over as sum_over_of, threshold as threshold_of, times as product_of};
+ghost use Rattle.function_laws.specs.Numbers.{at_least as reaches, from_truth, is_zero, minus as difference_of, pattern as pattern_of, plus as sum_of, sum_over as sum_over_of, times as product_of};
 ghost use Rattle.function_laws.specs.Values.{constant as constant_of, if_then_else};
 ghost use Rattle.node_store.specs.Operations.{Calls, halts};
 ghost use Rattle.node_store.specs.Three.{AreThree, value_of_three};
@@ -15,7 +15,6 @@ ghost use Rattle.add_ops.specs.Leaves.{value_of_constant};
 ghost use Rattle.add_ops.specs.Sums.{value_of_sum};
 
 use crate::arithmetic::{Addition, Overflow, Subtraction, exactly};
-use crate::choices::{Maximum, Minimum, Reaching};
 use crate::conversion::{OneOperand, RememberedOperand};
 use crate::products::Multiplication;
 use crate::selection::Selection;
@@ -61,33 +60,6 @@ pub fn times<G: Grow>(store: &mut G, f: Edge, g: Edge) -> Result<Result<Edge, Ov
 {
     let op = Multiplication;
     exactly(in_scratch(store, TwoOperands { op, f, g }))
-}
-
-/// The lesser value of two functions at each assignment. What it stores are parts of that function by the first variables of the order.
-pub fn min<G: Grow>(store: &mut G, f: Edge, g: Edge) -> Result<Edge, Stop>
-    requires { AreTwo Add (G.view store.old) f g }
-    ensures { Calls Add (lesser (add_at (G.view store.old) f) (add_at (G.view store.old) g)) (value_of_two Add (λ a b. if int_le a b then a else b) f g (G.view store.old)) (G.view store.old) (G.view store.new) (halts result) }
-{
-    let op = Minimum;
-    without_overflow(in_scratch(store, TwoOperands { op, f, g }))
-}
-
-/// The greater value of two functions at each assignment. What it stores are parts of that function by the first variables of the order.
-pub fn max<G: Grow>(store: &mut G, f: Edge, g: Edge) -> Result<Edge, Stop>
-    requires { AreTwo Add (G.view store.old) f g }
-    ensures { Calls Add (greater (add_at (G.view store.old) f) (add_at (G.view store.old) g)) (value_of_two Add (λ a b. if int_le b a then a else b) f g (G.view store.old)) (G.view store.old) (G.view store.new) (halts result) }
-{
-    let op = Maximum;
-    without_overflow(in_scratch(store, TwoOperands { op, f, g }))
-}
-
-/// The value of the first function where it is at least that of the second, and 0 elsewhere. What it stores are parts of that function by the first variables of the order.
-pub fn threshold<G: Grow>(store: &mut G, f: Edge, g: Edge) -> Result<Edge, Stop>
-    requires { AreTwo Add (G.view store.old) f g }
-    ensures { Calls Add (threshold_of (add_at (G.view store.old) f) (add_at (G.view store.old) g)) (value_of_two Add (λ a b. if int_le b a then a else pos 0) f g (G.view store.old)) (G.view store.old) (G.view store.new) (halts result) }
-{
-    let op = Reaching;
-    without_overflow(in_scratch(store, TwoOperands { op, f, g }))
 }
 
 /// The function that is 1 where a truth function holds, and 0 elsewhere. What it stores are parts of that function by the first variables of the order.

@@ -1,7 +1,7 @@
 //! Sums of a function of numbers over a variable.
 
 ghost use Rattle.std.specs.Prelude.{◌≡◌, IfOk, IsErrOf, true};
-ghost use Rattle.node_store.specs.Numbers.{sum_over_number};
+ghost use Rattle.node_store.specs.declared.numbers.TheConstants as numbers;
 ghost use Rattle.node_store.specs.Splits.{CanJoin};
 ghost use Rattle.node_store.specs.Views.{Kept, Rose};
 ghost use Rattle.node_store.specs.Work.{IsWork, Moves};
@@ -164,7 +164,7 @@ fn find<G: Grow>(store: &mut G, f: Edge, var: u32) -> Found
 }
 
 fn key_of(f: Edge, projection: Edge) -> Key
-    ensures { result ≡ record { op = sum_over_number; f = f; g = projection; h = f } }
+    ensures { result ≡ record { op = numbers.SUM_OVER; f = f; g = projection; h = f } }
 {
     Key {
         op: numbers::SUM_OVER,

@@ -14,7 +14,8 @@ use Rattle.function_laws.specs.declared.history.Reply.{Reply}
 use Rattle.function_laws.specs.declared.history.Reply.TheVariants as replies
 use Rattle.function_laws.specs.declared.history.Name.{Name}
 use Rattle.function_laws.specs.Kinds.{Denoted, ValueOf}
-use Rattle.function_laws.specs.Steps.{Outcome, makes, outcome}
+use Rattle.function_laws.specs.Outcomes.{Outcome, makes}
+use Rattle.function_laws.specs.Steps.{outcome}
 use Rattle.function_laws.specs.Tables.{Table, same_name}
 use Rattle.handle_count.specs.RowMaps.{RowMap}
 use Rattle.node_store.specs.declared.grow.Stop.{Stop}
@@ -210,13 +211,13 @@ pub answers_make : (k : Kind) (d e : Draws) (x y : Shared) (call : Call) (Answer
     → (r : Result Edge Stop) → IfOk r (Answers (view_of tried.from) (view_of y)) → IfOk r (λ edge. Is k (view_of y) edge × Gives e call (makes (listed_at k (view_of y) edge)))
 answers_make k d e x y call Answers Work made took idle tried value (Err s) is = tt
 answers_make k d e x y call Answers Work made took idle tried value (Ok edge) is =
-    let denotes = value.2 (view_of y) edge is in (
+    let denotes = value.denotes (view_of y) edge is in (
       Is-from k denotes,
-      gives_held d e x call (makes (listed_at k (view_of y) edge)) took idle (subst (λ (f : Function). Gives d call (makes f)) (listed-made k (view_of tried.from) (view_of y) edge value.0 tried.ran.grown denotes) value.1),
+      gives_held d e x call (makes (listed_at k (view_of y) edge)) took idle (subst (λ (f : Function). Gives d call (makes f)) (listed-made k (view_of tried.from) (view_of y) edge value.value tried.ran.grown denotes) value.gives),
     )
 
 pub may_full : (k : Kind) (d e : Draws) (x : Shared) (v : View) (call : Call) (Answers : View → Edge → Type 0) → Took d e x → d.holds ≡ false → HasValue k Answers d v call → MayBeFull e call
-may_full k d e x v call Answers took idle value t agrees = (makes (listed k v value.0), gives_held d e x call (makes (listed k v value.0)) took idle value.1 t agrees, refl)
+may_full k d e x v call Answers took idle value t agrees = (makes (listed k v value.value), gives_held d e x call (makes (listed k v value.value)) took idle value.gives t agrees, refl)
 
 -- rows of which the room changed, and a seat that has the turn
 pub keeps_taken : (d e : Draws) (x : Shared) (rows rows' : RowMap) (calls fulls : ℕ) → Took d e x → Tied d rows → calls ≡ length d.entries → fulls ≡ fulls_in d.entries → rows'.live ≡ rows.live → rows'.adds ≡ rows.adds

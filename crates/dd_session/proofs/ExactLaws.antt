@@ -10,7 +10,8 @@ use Rattle.function_laws.specs.declared.history.Call.{Call}
 use Rattle.function_laws.specs.Kinds.{Denoted, Fits}
 use Rattle.function_laws.specs.Lists.{all_below, list_of}
 use Rattle.function_laws.specs.Numbers.{exactly, is_value}
-use Rattle.function_laws.specs.Steps.{Outcome, in_range, makes, needs_no_node, overflows}
+use Rattle.function_laws.specs.Outcomes.{Outcome, in_range, makes, overflows}
+use Rattle.function_laws.specs.Steps.{needs_no_node}
 use Rattle.function_laws.specs.Values.{IsOf, constant}
 use Rattle.function_laws.proofs.ListLemmas.{false-all_below, get_or-list_of, length-list_of, list_of-same, true-all_below}
 use Rattle.function_laws.proofs.WidthLemmas.{same-from_lists}
@@ -60,12 +61,12 @@ module _ (d e : Draws) (x y : Shared) (call : Call) (value : View → ℕ → �
   f = value from
 
   gives : (o : Outcome) → in_range (exactly (list_of (2 ^ from.vars) f)) ≡ o → Gives e call o
-  gives o is = gives_held d e x call o took idle (subst (Gives d call) is has.1)
+  gives o is = gives_held d e x call o took idle (subst (Gives d call) is has.gives)
 
   pub exact_makes : (r : Result (Result Edge Overflow) Stop) → IfOk r (IsExact f (view_of y))
       → IfOk r (λ told. MatchResult told (λ edge. Is kinds.Add (view_of y) edge × Gives e call (makes (listed_at kinds.Add (view_of y) edge))) (λ _. Gives e call overflows))
   exact_makes (Err s) is = tt
-  exact_makes (Ok (Err o)) is = gives overflows (out_of_range from.vars f has.0 is.0 is.1)
+  exact_makes (Ok (Err o)) is = gives overflows (out_of_range from.vars f has.is_of is.0 is.1)
   exact_makes (Ok (Ok edge)) is = (
     Is-from kinds.Add is,
     gives (makes (listed_at kinds.Add (view_of y) edge)) (all_in_range from.vars f is.fits ∙ ap makes (listed-made kinds.Add from (view_of y) edge f tried.ran.grown is)),

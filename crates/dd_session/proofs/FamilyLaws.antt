@@ -5,8 +5,11 @@ use Rattle.edge_bits.specs.declared.edges.Edge.{Edge}
 use Rattle.edge_bits.specs.declared.edges.Kind.TheVariants as kinds
 use Rattle.function_laws.specs.declared.history.Name.{Name}
 use Rattle.function_laws.specs.declared.history.Call.TheVariants as calls
+use Rattle.function_laws.specs.declared.making.Making.TheVariants as makings
+use Rattle.function_laws.specs.declared.making.ZddMaking.TheVariants as zdds
 use Rattle.function_laws.specs.Families.{change, diff, meet, product, quotient, single, subset0, subset1, union}
-use Rattle.function_laws.specs.Steps.{makes, outcome}
+use Rattle.function_laws.specs.Outcomes.{makes}
+use Rattle.function_laws.specs.Steps.{outcome}
 use Rattle.function_laws.specs.Tables.{Table}
 use Rattle.node_store.specs.Contents.{IsSound}
 use Rattle.node_store.specs.Listed.{listed, listed_at}
@@ -52,9 +55,9 @@ module _ (d : Draws) where
       let n : (view_of x).elements ≡ d.elements = ap (λ (p : ℕ × ℕ × ℕ). p.1) stands.counts_are in
       record { few = omega (arith, few, n, lt); in_range = omega (arith, n, lt) }
 
-  pub told_single : (e : ℕ) → e < d.elements → (x : Shared) → IsStore x.store → Stands x d → IsElement (view_of x) e × HasValue kinds.Zdd (λ u edge. Denotes kinds.Zdd u edge (single e)) d (view_of x) (calls.Single e)
+  pub told_single : (e : ℕ) → e < d.elements → (x : Shared) → IsStore x.store → Stands x d → IsElement (view_of x) e × HasValue kinds.Zdd (λ u edge. Denotes kinds.Zdd u edge (single e)) d (view_of x) (calls.Makes (makings.Zdd (zdds.Single e)))
   told_single e lt x of stands = let w = view_of x in let element = element_in x of stands e lt in
-      (element, has_value kinds.Zdd d (view_of x) (calls.Single e) (single e) (λ t agrees. outcome-single w t.sizes t.cells (t.live d.session) (elements d t x agrees stands) e element.in_range))
+      (element, has_value kinds.Zdd d (view_of x) (calls.Makes (makings.Zdd (zdds.Single e))) (single e) (λ t agrees. outcome-single w t.sizes t.cells (t.live d.session) (elements d t x agrees stands) e element.in_range))
 
   -- an operation by one element
   module _ (a : Name) (i : Edge) (first : IsEdgeOf kinds.Zdd d a i) (e : ℕ) (lt : e < d.elements) (x : Shared) (of : IsStore x.store) (stands : Stands x d) where
@@ -64,14 +67,14 @@ module _ (d : Draws) where
     element : IsElement w₁ e
     element = element_in x of stands e lt
 
-    pub told_subset1 : (Is kinds.Zdd w₁ i × IsElement w₁ e) × HasValue kinds.Zdd (λ u edge. Denotes kinds.Zdd u edge (subset1 (family_at w₁ i) e)) d w₁ (calls.Subset1 a e)
-    told_subset1 = (((first x stands).0, element), has_value kinds.Zdd d w₁ (calls.Subset1 a e) (subset1 (family_at w₁ i) e) (λ t agrees. outcome-subset1 w₁ t.sizes t.cells (t.live d.session) (elements d t x agrees stands) a e i element.in_range (held_at d kinds.Zdd a i first x stands t agrees)))
+    pub told_subset1 : (Is kinds.Zdd w₁ i × IsElement w₁ e) × HasValue kinds.Zdd (λ u edge. Denotes kinds.Zdd u edge (subset1 (family_at w₁ i) e)) d w₁ (calls.Makes (makings.Zdd (zdds.Subset1 a e)))
+    told_subset1 = (((first x stands).0, element), has_value kinds.Zdd d w₁ (calls.Makes (makings.Zdd (zdds.Subset1 a e))) (subset1 (family_at w₁ i) e) (λ t agrees. outcome-subset1 w₁ t.sizes t.cells (t.live d.session) (elements d t x agrees stands) a e i element.in_range (held_at d kinds.Zdd a i first x stands t agrees)))
 
-    pub told_subset0 : (Is kinds.Zdd w₁ i × IsElement w₁ e) × HasValue kinds.Zdd (λ u edge. Denotes kinds.Zdd u edge (subset0 (family_at w₁ i) e)) d w₁ (calls.Subset0 a e)
-    told_subset0 = (((first x stands).0, element), has_value kinds.Zdd d w₁ (calls.Subset0 a e) (subset0 (family_at w₁ i) e) (λ t agrees. outcome-subset0 w₁ t.sizes t.cells (t.live d.session) (elements d t x agrees stands) a e i element.in_range (held_at d kinds.Zdd a i first x stands t agrees)))
+    pub told_subset0 : (Is kinds.Zdd w₁ i × IsElement w₁ e) × HasValue kinds.Zdd (λ u edge. Denotes kinds.Zdd u edge (subset0 (family_at w₁ i) e)) d w₁ (calls.Makes (makings.Zdd (zdds.Subset0 a e)))
+    told_subset0 = (((first x stands).0, element), has_value kinds.Zdd d w₁ (calls.Makes (makings.Zdd (zdds.Subset0 a e))) (subset0 (family_at w₁ i) e) (λ t agrees. outcome-subset0 w₁ t.sizes t.cells (t.live d.session) (elements d t x agrees stands) a e i element.in_range (held_at d kinds.Zdd a i first x stands t agrees)))
 
-    pub told_change : (Is kinds.Zdd w₁ i × IsElement w₁ e) × HasValue kinds.Zdd (λ u edge. Denotes kinds.Zdd u edge (change (family_at w₁ i) e)) d w₁ (calls.Change a e)
-    told_change = (((first x stands).0, element), has_value kinds.Zdd d w₁ (calls.Change a e) (change (family_at w₁ i) e) (λ t agrees. outcome-change w₁ t.sizes t.cells (t.live d.session) (elements d t x agrees stands) a e i element.in_range (held_at d kinds.Zdd a i first x stands t agrees)))
+    pub told_change : (Is kinds.Zdd w₁ i × IsElement w₁ e) × HasValue kinds.Zdd (λ u edge. Denotes kinds.Zdd u edge (change (family_at w₁ i) e)) d w₁ (calls.Makes (makings.Zdd (zdds.Change a e)))
+    told_change = (((first x stands).0, element), has_value kinds.Zdd d w₁ (calls.Makes (makings.Zdd (zdds.Change a e))) (change (family_at w₁ i) e) (λ t agrees. outcome-change w₁ t.sizes t.cells (t.live d.session) (elements d t x agrees stands) a e i element.in_range (held_at d kinds.Zdd a i first x stands t agrees)))
 
   -- and on two families
   module _ (a b : Name) (e i : Edge) (first : IsEdgeOf kinds.Zdd d a e) (second : IsEdgeOf kinds.Zdd d b i) (x : Shared) (of : IsStore x.store) (stands : Stands x d) where
@@ -81,17 +84,17 @@ module _ (d : Draws) where
     two : AreTwo kinds.Zdd w e i
     two = record { first = (first x stands).0; second = (second x stands).0 }
 
-    pub told_union : AreTwo kinds.Zdd w e i × HasValue kinds.Zdd (λ u edge. Denotes kinds.Zdd u edge (union (family_at w e) (family_at w i))) d w (calls.Union a b)
-    told_union = (two, has_value kinds.Zdd d w (calls.Union a b) (union (family_at w e) (family_at w i)) (λ t agrees. outcome-union w t.sizes t.cells (t.live d.session) a b e i (held_at d kinds.Zdd a e first x stands t agrees) (held_at d kinds.Zdd b i second x stands t agrees)))
+    pub told_union : AreTwo kinds.Zdd w e i × HasValue kinds.Zdd (λ u edge. Denotes kinds.Zdd u edge (union (family_at w e) (family_at w i))) d w (calls.Makes (makings.Zdd (zdds.Union a b)))
+    told_union = (two, has_value kinds.Zdd d w (calls.Makes (makings.Zdd (zdds.Union a b))) (union (family_at w e) (family_at w i)) (λ t agrees. outcome-union w t.sizes t.cells (t.live d.session) a b e i (held_at d kinds.Zdd a e first x stands t agrees) (held_at d kinds.Zdd b i second x stands t agrees)))
 
-    pub told_meet : AreTwo kinds.Zdd w e i × HasValue kinds.Zdd (λ u edge. Denotes kinds.Zdd u edge (meet (family_at w e) (family_at w i))) d w (calls.Meet a b)
-    told_meet = (two, has_value kinds.Zdd d w (calls.Meet a b) (meet (family_at w e) (family_at w i)) (λ t agrees. outcome-meet w t.sizes t.cells (t.live d.session) a b e i (held_at d kinds.Zdd a e first x stands t agrees) (held_at d kinds.Zdd b i second x stands t agrees)))
+    pub told_meet : AreTwo kinds.Zdd w e i × HasValue kinds.Zdd (λ u edge. Denotes kinds.Zdd u edge (meet (family_at w e) (family_at w i))) d w (calls.Makes (makings.Zdd (zdds.Meet a b)))
+    told_meet = (two, has_value kinds.Zdd d w (calls.Makes (makings.Zdd (zdds.Meet a b))) (meet (family_at w e) (family_at w i)) (λ t agrees. outcome-meet w t.sizes t.cells (t.live d.session) a b e i (held_at d kinds.Zdd a e first x stands t agrees) (held_at d kinds.Zdd b i second x stands t agrees)))
 
-    pub told_diff : AreTwo kinds.Zdd w e i × HasValue kinds.Zdd (λ u edge. Denotes kinds.Zdd u edge (diff (family_at w e) (family_at w i))) d w (calls.Diff a b)
-    told_diff = (two, has_value kinds.Zdd d w (calls.Diff a b) (diff (family_at w e) (family_at w i)) (λ t agrees. outcome-diff w t.sizes t.cells (t.live d.session) a b e i (held_at d kinds.Zdd a e first x stands t agrees) (held_at d kinds.Zdd b i second x stands t agrees)))
+    pub told_diff : AreTwo kinds.Zdd w e i × HasValue kinds.Zdd (λ u edge. Denotes kinds.Zdd u edge (diff (family_at w e) (family_at w i))) d w (calls.Makes (makings.Zdd (zdds.Diff a b)))
+    told_diff = (two, has_value kinds.Zdd d w (calls.Makes (makings.Zdd (zdds.Diff a b))) (diff (family_at w e) (family_at w i)) (λ t agrees. outcome-diff w t.sizes t.cells (t.live d.session) a b e i (held_at d kinds.Zdd a e first x stands t agrees) (held_at d kinds.Zdd b i second x stands t agrees)))
 
-    pub told_product : AreTwo kinds.Zdd w e i × HasValue kinds.Zdd (λ u edge. Denotes kinds.Zdd u edge (product (2 ^ w.elements) (family_at w e) (family_at w i))) d w (calls.Product a b)
-    told_product = (two, has_value kinds.Zdd d w (calls.Product a b) (product (2 ^ w.elements) (family_at w e) (family_at w i)) (λ t agrees. outcome-product w t.sizes t.cells (t.live d.session) a b e i (held_at d kinds.Zdd a e first x stands t agrees) (held_at d kinds.Zdd b i second x stands t agrees)))
+    pub told_product : AreTwo kinds.Zdd w e i × HasValue kinds.Zdd (λ u edge. Denotes kinds.Zdd u edge (product (2 ^ w.elements) (family_at w e) (family_at w i))) d w (calls.Makes (makings.Zdd (zdds.Product a b)))
+    told_product = (two, has_value kinds.Zdd d w (calls.Makes (makings.Zdd (zdds.Product a b))) (product (2 ^ w.elements) (family_at w e) (family_at w i)) (λ t agrees. outcome-product w t.sizes t.cells (t.live d.session) a b e i (held_at d kinds.Zdd a e first x stands t agrees) (held_at d kinds.Zdd b i second x stands t agrees)))
 
-    pub told_quotient : AreTwo kinds.Zdd w e i × HasValue kinds.Zdd (λ u edge. Denotes kinds.Zdd u edge (quotient (2 ^ w.elements) (family_at w e) (family_at w i))) d w (calls.Quotient a b)
-    told_quotient = (two, has_value kinds.Zdd d w (calls.Quotient a b) (quotient (2 ^ w.elements) (family_at w e) (family_at w i)) (λ t agrees. outcome-quotient w t.sizes t.cells (t.live d.session) a b e i (held_at d kinds.Zdd a e first x stands t agrees) (held_at d kinds.Zdd b i second x stands t agrees)))
+    pub told_quotient : AreTwo kinds.Zdd w e i × HasValue kinds.Zdd (λ u edge. Denotes kinds.Zdd u edge (quotient (2 ^ w.elements) (family_at w e) (family_at w i))) d w (calls.Makes (makings.Zdd (zdds.Quotient a b)))
+    told_quotient = (two, has_value kinds.Zdd d w (calls.Makes (makings.Zdd (zdds.Quotient a b))) (quotient (2 ^ w.elements) (family_at w e) (family_at w i)) (λ t agrees. outcome-quotient w t.sizes t.cells (t.live d.session) a b e i (held_at d kinds.Zdd a e first x stands t agrees) (held_at d kinds.Zdd b i second x stands t agrees)))

@@ -11,9 +11,12 @@ use Rattle.edge_bits.specs.declared.edges.Edge.{Edge}
 use Rattle.edge_bits.specs.declared.edges.Kind.TheVariants as kinds
 use Rattle.function_laws.specs.declared.history.Name.{Name}
 use Rattle.function_laws.specs.declared.history.Call.TheVariants as calls
+use Rattle.function_laws.specs.declared.making.Making.TheVariants as makings
+use Rattle.function_laws.specs.declared.making.BddMaking.TheVariants as bdds
 use Rattle.function_laws.specs.Functions.{leq_of}
 use Rattle.function_laws.specs.Lists.{list_of}
-use Rattle.function_laws.specs.Steps.{are_distinct, as_bdd, bdds_of, tells}
+use Rattle.function_laws.specs.Makings.{are_distinct, bdds_of}
+use Rattle.function_laws.specs.Outcomes.{as_bdd, tells}
 use Rattle.function_laws.proofs.BridgeLemmas.{leq_of-list_of}
 use Rattle.node_store.specs.Memo.{Implies}
 use Rattle.function_laws.specs.Tables.{Table}
@@ -58,19 +61,19 @@ module _ (d : Draws) where
     own t agrees = live d t a (listed_at kinds.Bdd w₁ e) agrees (first x stands).1
 
     pub told_cofactor : (v : ℕ) (bit : Bool) → v < d.vars
-        → (Is kinds.Bdd w₁ e × IsVariable kinds.Bdd w₁ v) × HasValue kinds.Bdd (λ u edge. Denotes kinds.Bdd u edge (cofactor_at w₁ e v bit)) d w₁ (calls.Cofactor a v bit)
-    told_cofactor v bit lt = let var = variable_in x of stands v lt in (((first x stands).0, var), has_value kinds.Bdd d w₁ (calls.Cofactor a v bit) (cofactor_at w₁ e v bit) (λ t agrees. outcome-cofactor w₁ t.sizes t.cells (t.live d.session) (vars d t x agrees stands) a v bit e var.1 (own t agrees)))
+        → (Is kinds.Bdd w₁ e × IsVariable kinds.Bdd w₁ v) × HasValue kinds.Bdd (λ u edge. Denotes kinds.Bdd u edge (cofactor_at w₁ e v bit)) d w₁ (calls.Makes (makings.Bdd (bdds.Cofactor a v bit)))
+    told_cofactor v bit lt = let var = variable_in x of stands v lt in (((first x stands).0, var), has_value kinds.Bdd d w₁ (calls.Makes (makings.Bdd (bdds.Cofactor a v bit))) (cofactor_at w₁ e v bit) (λ t agrees. outcome-cofactor w₁ t.sizes t.cells (t.live d.session) (vars d t x agrees stands) a v bit e var.1 (own t agrees)))
 
     pub told_exists : (vs : List ℕ) → All (λ v. v < d.vars) vs
-        → (Is kinds.Bdd w₁ e × All (IsVariable kinds.Bdd w₁) vs) × HasValue kinds.Bdd (λ u edge. Denotes kinds.Bdd u edge (exists_all (bdd_at w₁ e) vs)) d w₁ (calls.Exists a vs)
-    told_exists vs all = (((first x stands).0, variables_in x of stands vs all), has_value kinds.Bdd d w₁ (calls.Exists a vs) (exists_all (bdd_at w₁ e) vs) (λ t agrees. outcome-exists w₁ t.sizes t.cells (t.live d.session) (vars d t x agrees stands) a vs e (variables_within x of stands vs all) (own t agrees)))
+        → (Is kinds.Bdd w₁ e × All (IsVariable kinds.Bdd w₁) vs) × HasValue kinds.Bdd (λ u edge. Denotes kinds.Bdd u edge (exists_all (bdd_at w₁ e) vs)) d w₁ (calls.Makes (makings.Bdd (bdds.Exists a vs)))
+    told_exists vs all = (((first x stands).0, variables_in x of stands vs all), has_value kinds.Bdd d w₁ (calls.Makes (makings.Bdd (bdds.Exists a vs))) (exists_all (bdd_at w₁ e) vs) (λ t agrees. outcome-exists w₁ t.sizes t.cells (t.live d.session) (vars d t x agrees stands) a vs e (variables_within x of stands vs all) (own t agrees)))
 
     pub told_forall : (vs : List ℕ) → All (λ v. v < d.vars) vs
-        → (Is kinds.Bdd w₁ e × All (IsVariable kinds.Bdd w₁) vs) × HasValue kinds.Bdd (λ u edge. Denotes kinds.Bdd u edge (forall_all (bdd_at w₁ e) vs)) d w₁ (calls.Forall a vs)
-    told_forall vs all = (((first x stands).0, variables_in x of stands vs all), has_value kinds.Bdd d w₁ (calls.Forall a vs) (forall_all (bdd_at w₁ e) vs) (λ t agrees. outcome-forall w₁ t.sizes t.cells (t.live d.session) (vars d t x agrees stands) a vs e (variables_within x of stands vs all) (own t agrees)))
+        → (Is kinds.Bdd w₁ e × All (IsVariable kinds.Bdd w₁) vs) × HasValue kinds.Bdd (λ u edge. Denotes kinds.Bdd u edge (forall_all (bdd_at w₁ e) vs)) d w₁ (calls.Makes (makings.Bdd (bdds.Forall a vs)))
+    told_forall vs all = (((first x stands).0, variables_in x of stands vs all), has_value kinds.Bdd d w₁ (calls.Makes (makings.Bdd (bdds.Forall a vs))) (forall_all (bdd_at w₁ e) vs) (λ t agrees. outcome-forall w₁ t.sizes t.cells (t.live d.session) (vars d t x agrees stands) a vs e (variables_within x of stands vs all) (own t agrees)))
 
-    pub told_support : Is kinds.Bdd w₁ e × HasValue kinds.Bdd (λ u edge. Denotes kinds.Bdd u edge (support w₁.vars (bdd_at w₁ e))) d w₁ (calls.Support a)
-    told_support = ((first x stands).0, has_value kinds.Bdd d w₁ (calls.Support a) (support w₁.vars (bdd_at w₁ e)) (λ t agrees. outcome-support w₁ t.sizes t.cells (t.live d.session) (vars d t x agrees stands) a e (own t agrees)))
+    pub told_support : Is kinds.Bdd w₁ e × HasValue kinds.Bdd (λ u edge. Denotes kinds.Bdd u edge (support w₁.vars (bdd_at w₁ e))) d w₁ (calls.Makes (makings.Bdd (bdds.Support a)))
+    told_support = ((first x stands).0, has_value kinds.Bdd d w₁ (calls.Makes (makings.Bdd (bdds.Support a))) (support w₁.vars (bdd_at w₁ e)) (λ t agrees. outcome-support w₁ t.sizes t.cells (t.live d.session) (vars d t x agrees stands) a e (own t agrees)))
 
   -- and on two
   module _ (a b : Name) (e i : Edge) (first : IsEdgeOf kinds.Bdd d a e) (second : IsEdgeOf kinds.Bdd d b i) (x : Shared) (of : IsStore x.store) (stands : Stands x d) where
@@ -80,8 +83,8 @@ module _ (d : Draws) where
     two : AreTwo kinds.Bdd w e i
     two = record { first = (first x stands).0; second = (second x stands).0 }
 
-    pub told_and : AreTwo kinds.Bdd w e i × HasValue kinds.Bdd (λ v edge. Denotes kinds.Bdd v edge (conjunction (bdd_at w e) (bdd_at w i))) d w (calls.And a b)
-    told_and = (two, has_value kinds.Bdd d w (calls.And a b) (conjunction (bdd_at w e) (bdd_at w i)) (λ t agrees. outcome-and w t.sizes t.cells (t.live d.session) a b e i (live d t a (listed_at kinds.Bdd w e) agrees (first x stands).1) (live d t b (listed_at kinds.Bdd w i) agrees (second x stands).1)))
+    pub told_and : AreTwo kinds.Bdd w e i × HasValue kinds.Bdd (λ v edge. Denotes kinds.Bdd v edge (conjunction (bdd_at w e) (bdd_at w i))) d w (calls.Makes (makings.Bdd (bdds.And a b)))
+    told_and = (two, has_value kinds.Bdd d w (calls.Makes (makings.Bdd (bdds.And a b))) (conjunction (bdd_at w e) (bdd_at w i)) (λ t agrees. outcome-and w t.sizes t.cells (t.live d.session) a b e i (live d t a (listed_at kinds.Bdd w e) agrees (first x stands).1) (live d t b (listed_at kinds.Bdd w i) agrees (second x stands).1)))
 
     abbrev own_first : (t : Table) → Agrees d t → t.live d.session a ≡ Some (listed_at kinds.Bdd w e)
     own_first t agrees = live d t a (listed_at kinds.Bdd w e) agrees (first x stands).1
@@ -89,27 +92,27 @@ module _ (d : Draws) where
     abbrev own_second : (t : Table) → Agrees d t → t.live d.session b ≡ Some (listed_at kinds.Bdd w i)
     own_second t agrees = live d t b (listed_at kinds.Bdd w i) agrees (second x stands).1
 
-    pub told_or : AreTwo kinds.Bdd w e i × HasValue kinds.Bdd (λ v edge. Denotes kinds.Bdd v edge (disjunction (bdd_at w e) (bdd_at w i))) d w (calls.Or a b)
-    told_or = (two, has_value kinds.Bdd d w (calls.Or a b) (disjunction (bdd_at w e) (bdd_at w i)) (λ t agrees. outcome-or w t.sizes t.cells (t.live d.session) a b e i (own_first t agrees) (own_second t agrees)))
+    pub told_or : AreTwo kinds.Bdd w e i × HasValue kinds.Bdd (λ v edge. Denotes kinds.Bdd v edge (disjunction (bdd_at w e) (bdd_at w i))) d w (calls.Makes (makings.Bdd (bdds.Or a b)))
+    told_or = (two, has_value kinds.Bdd d w (calls.Makes (makings.Bdd (bdds.Or a b))) (disjunction (bdd_at w e) (bdd_at w i)) (λ t agrees. outcome-or w t.sizes t.cells (t.live d.session) a b e i (own_first t agrees) (own_second t agrees)))
 
-    pub told_xor : AreTwo kinds.Bdd w e i × HasValue kinds.Bdd (λ v edge. Denotes kinds.Bdd v edge (exclusive (bdd_at w e) (bdd_at w i))) d w (calls.Xor a b)
-    told_xor = (two, has_value kinds.Bdd d w (calls.Xor a b) (exclusive (bdd_at w e) (bdd_at w i)) (λ t agrees. outcome-xor w t.sizes t.cells (t.live d.session) a b e i (own_first t agrees) (own_second t agrees)))
+    pub told_xor : AreTwo kinds.Bdd w e i × HasValue kinds.Bdd (λ v edge. Denotes kinds.Bdd v edge (exclusive (bdd_at w e) (bdd_at w i))) d w (calls.Makes (makings.Bdd (bdds.Xor a b)))
+    told_xor = (two, has_value kinds.Bdd d w (calls.Makes (makings.Bdd (bdds.Xor a b))) (exclusive (bdd_at w e) (bdd_at w i)) (λ t agrees. outcome-xor w t.sizes t.cells (t.live d.session) a b e i (own_first t agrees) (own_second t agrees)))
 
     pub told_and_exists : (vs : List ℕ) → All (λ v. v < d.vars) vs
-        → (AreTwo kinds.Bdd w e i × All (IsVariable kinds.Bdd w) vs) × HasValue kinds.Bdd (λ u edge. Denotes kinds.Bdd u edge (exists_all (both_at w e i) vs)) d w (calls.AndExists a b vs)
-    told_and_exists vs all = ((two, variables_in x of stands vs all), has_value kinds.Bdd d w (calls.AndExists a b vs) (exists_all (both_at w e i) vs) (λ t agrees. outcome-and_exists w t.sizes t.cells (t.live d.session) a b e i (own_first t agrees) (own_second t agrees) (vars d t x agrees stands) vs (variables_within x of stands vs all)))
+        → (AreTwo kinds.Bdd w e i × All (IsVariable kinds.Bdd w) vs) × HasValue kinds.Bdd (λ u edge. Denotes kinds.Bdd u edge (exists_all (both_at w e i) vs)) d w (calls.Makes (makings.Bdd (bdds.AndExists a b vs)))
+    told_and_exists vs all = ((two, variables_in x of stands vs all), has_value kinds.Bdd d w (calls.Makes (makings.Bdd (bdds.AndExists a b vs))) (exists_all (both_at w e i) vs) (λ t agrees. outcome-and_exists w t.sizes t.cells (t.live d.session) a b e i (own_first t agrees) (own_second t agrees) (vars d t x agrees stands) vs (variables_within x of stands vs all)))
 
     pub told_compose : (v : ℕ) → v < d.vars
-        → (AreTwo kinds.Bdd w e i × IsVariable kinds.Bdd w v) × HasValue kinds.Bdd (λ u edge. Denotes kinds.Bdd u edge (composed_at w e v i)) d w (calls.Compose a v b)
-    told_compose v lt = let var = variable_in x of stands v lt in ((two, var), has_value kinds.Bdd d w (calls.Compose a v b) (composed_at w e v i) (λ t agrees. outcome-compose w t.sizes t.cells (t.live d.session) a b e i (own_first t agrees) (own_second t agrees) (vars d t x agrees stands) v var.1))
+        → (AreTwo kinds.Bdd w e i × IsVariable kinds.Bdd w v) × HasValue kinds.Bdd (λ u edge. Denotes kinds.Bdd u edge (composed_at w e v i)) d w (calls.Makes (makings.Bdd (bdds.Compose a v b)))
+    told_compose v lt = let var = variable_in x of stands v lt in ((two, var), has_value kinds.Bdd d w (calls.Makes (makings.Bdd (bdds.Compose a v b))) (composed_at w e v i) (λ t agrees. outcome-compose w t.sizes t.cells (t.live d.session) a b e i (own_first t agrees) (own_second t agrees) (vars d t x agrees stands) v var.1))
 
   -- and on three
   module _ (a b c : Name) (e i j : Edge) (first : IsEdgeOf kinds.Bdd d a e) (second : IsEdgeOf kinds.Bdd d b i) (third : IsEdgeOf kinds.Bdd d c j) (x : Shared) (of : IsStore x.store) (stands : Stands x d) where
     abbrev w₃ : View
     w₃ = view_of x
 
-    pub told_ite : AreThree kinds.Bdd w₃ e i j × HasValue kinds.Bdd (λ v edge. Denotes kinds.Bdd v edge (ite_at kinds.Bdd w₃ e i j)) d w₃ (calls.Ite a b c)
-    told_ite = (record { condition = (first x stands).0; first = (second x stands).0; second = (third x stands).0 }, has_value kinds.Bdd d w₃ (calls.Ite a b c) (ite_at kinds.Bdd w₃ e i j) (λ t agrees. outcome-ite w₃ t.sizes t.cells (t.live d.session) a b c e i j (live d t a (listed_at kinds.Bdd w₃ e) agrees (first x stands).1) (live d t b (listed_at kinds.Bdd w₃ i) agrees (second x stands).1) (live d t c (listed_at kinds.Bdd w₃ j) agrees (third x stands).1)))
+    pub told_ite : AreThree kinds.Bdd w₃ e i j × HasValue kinds.Bdd (λ v edge. Denotes kinds.Bdd v edge (ite_at kinds.Bdd w₃ e i j)) d w₃ (calls.Makes (makings.Bdd (bdds.Ite a b c)))
+    told_ite = (record { condition = (first x stands).0; first = (second x stands).0; second = (third x stands).0 }, has_value kinds.Bdd d w₃ (calls.Makes (makings.Bdd (bdds.Ite a b c))) (ite_at kinds.Bdd w₃ e i j) (λ t agrees. outcome-ite w₃ t.sizes t.cells (t.live d.session) a b c e i j (live d t a (listed_at kinds.Bdd w₃ e) agrees (first x stands).1) (live d t b (listed_at kinds.Bdd w₃ i) agrees (second x stands).1) (live d t c (listed_at kinds.Bdd w₃ j) agrees (third x stands).1)))
 
 -- the rows that are put for variables
 edge_variables : (rows : List Row) (pairs : List (ℕ × Name)) → map (λ pair. pair.0) (map (with_edge rows) pairs) ≡ map (λ pair. pair.0) pairs
@@ -132,7 +135,7 @@ module _ (d : Draws) (x : Shared) (of : IsStore x.store) (stands : Stands x d) w
   pub told_vector_compose : (a : Name) (e : Edge) → IsEdgeOf kinds.Bdd d a e → (pairs : List (ℕ × Name)) → All (λ pair. pair.0 < d.vars) pairs → All (λ pair. IsNamed kinds.Bdd d.rows pair.1) pairs
       → are_distinct (map (λ pair. pair.0) pairs) ≡ true
       → AreSubstituted w₄ e (map (with_edge d.rows) pairs)
-      × HasValue kinds.Bdd (λ u edge. Denotes kinds.Bdd u edge (substituted_at w₄ e (map (with_edge d.rows) pairs))) d w₄ (calls.VectorCompose a pairs)
+      × HasValue kinds.Bdd (λ u edge. Denotes kinds.Bdd u edge (substituted_at w₄ e (map (with_edge d.rows) pairs))) d w₄ (calls.Makes (makings.Bdd (bdds.VectorCompose a pairs)))
   told_vector_compose a e first pairs ranges named distinct =
       let within : All (λ pair. pair.0 < w₄.vars) pairs = λ k pair below. (variable_in d x of stands _ (ranges k pair below)).1 in (
         record {
@@ -140,7 +143,7 @@ module _ (d : Draws) (x : Shared) (of : IsStore x.store) (stands : Stands x d) w
           each = All-map (IsPair w₄) (with_edge d.rows) pairs (λ k pair below. (variable_in d x of stands _ (ranges k pair below), (own_edge d _ kinds.Bdd (named k pair below) x stands).0));
           distinct = ap are_distinct (edge_variables d.rows pairs) ∙ distinct;
         },
-        has_value kinds.Bdd d w₄ (calls.VectorCompose a pairs) (substituted_at w₄ e (map (with_edge d.rows) pairs)) (λ t agrees. outcome-vector_compose w₄ t.sizes t.cells (t.live d.session) (vars d t x agrees stands) a pairs e (map (with_edge d.rows) pairs) within (All-map (λ pair. pair.0 < w₄.vars) (with_edge d.rows) pairs within) distinct (live d t a (listed_at kinds.Bdd w₄ e) agrees (first x stands).1) (pairs_live t pairs named agrees)),
+        has_value kinds.Bdd d w₄ (calls.Makes (makings.Bdd (bdds.VectorCompose a pairs))) (substituted_at w₄ e (map (with_edge d.rows) pairs)) (λ t agrees. outcome-vector_compose w₄ t.sizes t.cells (t.live d.session) (vars d t x agrees stands) a pairs e (map (with_edge d.rows) pairs) within (All-map (λ pair. pair.0 < w₄.vars) (with_edge d.rows) pairs within) distinct (live d t a (listed_at kinds.Bdd w₄ e) agrees (first x stands).1) (pairs_live t pairs named agrees)),
       )
 
 -- an implication, as the turn has been taken

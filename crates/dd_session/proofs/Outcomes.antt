@@ -9,7 +9,10 @@ use Rattle.function_laws.specs.declared.history.Name.{Name}
 use Rattle.function_laws.specs.declared.history.Function.{Function}
 use Rattle.function_laws.specs.declared.history.Call.{Call}
 use Rattle.function_laws.specs.declared.history.Call.TheVariants as calls
-use Rattle.function_laws.specs.Steps.{compares, makes, outcome, shows, with_one}
+use Rattle.function_laws.specs.declared.making.Making.TheVariants as makings
+use Rattle.function_laws.specs.declared.making.BddMaking.TheVariants as bdds
+use Rattle.function_laws.specs.Outcomes.{compares, makes, shows, with_one}
+use Rattle.function_laws.specs.Steps.{outcome}
 use Rattle.function_laws.specs.Tables.{Sizes, Table}
 use Rattle.function_laws.specs.Kinds.{BddFunction, ValueOf, flipped}
 use Rattle.function_laws.specs.Values.{assignment_of, constant, negation, projection}
@@ -41,7 +44,7 @@ module _ (d : Draws) where
 
 -- an operation whose answers denote what the call makes
 pub has_value : (k : Kind) (d : Draws) (w : View) (call : Call) (f : ℕ → ValueOf k) → Gives d call (makes (listed k w f)) → HasValue k (λ u edge. Denotes k u edge f) d w call
-has_value k d w call f gives = (f, gives, λ u edge denotes. denotes)
+has_value k d w call f gives = record { value = f; gives = gives; denotes = λ u edge denotes. denotes }
 
 -- the calls on rows and cells
 module _ (old held : Draws) (x : Shared) (took : Took old held x) (idle : old.holds ≡ false) where
@@ -67,7 +70,7 @@ module _ (old held : Draws) (x : Shared) (took : Took old held x) (idle : old.ho
 
 -- the complement of a row
 pub told_not : (d : Draws) (a : Name) (e e' : Edge) → e' ≡ record e { complement = not e.complement } → IsEdgeOf kinds.Bdd d a e → (x : Shared) → Stands x d
-    → Is kinds.Bdd (view_of x) e' × Gives d (calls.Not a) (makes (listed_at kinds.Bdd (view_of x) e'))
+    → Is kinds.Bdd (view_of x) e' × Gives d (calls.Makes (makings.Bdd (bdds.Not a))) (makes (listed_at kinds.Bdd (view_of x) e'))
 told_not d a e e' is edge x stands =
     let s = edge x stands in
     let w = view_of x in
@@ -97,11 +100,11 @@ told_truth d b x sound stands e is = subst (λ (i : Edge). Is kinds.Bdd (view_of
 
 -- a projection
 pub gives_var : (old held : Draws) (x y : Shared) → Took old held x → old.holds ≡ false → Lasts x y → orders y ≡ orders x → (v : ℕ) (e : Edge) → v < old.vars → Denotes kinds.Bdd (view_of y) e (projection v)
-    → Gives held (calls.Var v) (makes (listed_at kinds.Bdd (view_of y) e))
+    → Gives held (calls.Makes (makings.Bdd (bdds.Var v))) (makes (listed_at kinds.Bdd (view_of y) e))
 gives_var old held x y took idle lasts same v e lt denotes =
     let stands = stands_of old held x y took lasts same in
     let within : v < (view_of y).vars = (let n = ap (λ (p : ℕ × ℕ × ℕ). p.0) stands.counts_are in omega (arith, n, lt)) in
-    gives_held old held x (calls.Var v) (makes (listed_at kinds.Bdd (view_of y) e)) took idle
+    gives_held old held x (calls.Makes (makings.Bdd (bdds.Var v))) (makes (listed_at kinds.Bdd (view_of y) e)) took idle
     (λ t agrees. outcome-var (view_of y) t.sizes t.cells (t.live old.session) (vars old t y agrees stands) v within ∙ ap (λ (f : ℕ → Bool). Some (makes (listed kinds.Bdd (view_of y) f))) (sym (values_at-is kinds.Bdd denotes)))
 
 -- the value at some bits

@@ -6,10 +6,12 @@ use Rattle.edge_bits.specs.declared.edges.Kind.TheVariants as kinds
 use Rattle.function_laws.specs.declared.history.Name.{Name}
 use Rattle.function_laws.specs.declared.history.Call.{Call}
 use Rattle.function_laws.specs.declared.history.Call.TheVariants as calls
+use Rattle.function_laws.specs.declared.making.Making.TheVariants as makings
+use Rattle.function_laws.specs.declared.making.BddMaking.TheVariants as bdds
 use Rattle.function_laws.specs.declared.history.Reply.TheVariants as replies
 use Rattle.function_laws.specs.Lists.{list_of, truth}
 use Rattle.function_laws.specs.Restricting.{Restricts}
-use Rattle.function_laws.specs.Steps.{restricts}
+use Rattle.function_laws.specs.Outcomes.{restricts}
 use Rattle.function_laws.proofs.BoundedRestriction.{Restricts-list_of}
 use Rattle.function_laws.proofs.ListLemmas.{length-list_of}
 use Rattle.node_store.specs.declared.grow.Stop.{Stop}
@@ -37,15 +39,15 @@ module _ (d e : Draws) (x y : Shared) (made : Result Edge Stop) (took : Took d e
   stands : Stands tried.from d
   stands = stands_of d e x tried.from took tried.lasts tried.orders_are
 
-  gives : Gives e (calls.Restrict a b) (restricts (list_of (2 ^ v.vars) (bdd_at v i)) (list_of (2 ^ v.vars) (bdd_at v j)))
-  gives = gives_held d e x (calls.Restrict a b) (restricts (list_of (2 ^ v.vars) (bdd_at v i)) (list_of (2 ^ v.vars) (bdd_at v j))) took idle
+  gives : Gives e (calls.Makes (makings.Bdd (bdds.Restrict a b))) (restricts (list_of (2 ^ v.vars) (bdd_at v i)) (list_of (2 ^ v.vars) (bdd_at v j)))
+  gives = gives_held d e x (calls.Makes (makings.Bdd (bdds.Restrict a b))) (restricts (list_of (2 ^ v.vars) (bdd_at v i)) (list_of (2 ^ v.vars) (bdd_at v j))) took idle
       (λ t agrees. outcome-restrict v t.sizes t.cells (t.live d.session) a b i j (live d t a (listed_at kinds.Bdd v i) agrees (first tried.from stands).1) (live d t b (listed_at kinds.Bdd v j) agrees (second tried.from stands).1))
 
-  pub restrict_may_full : MayBeFull e (calls.Restrict a b)
+  pub restrict_may_full : MayBeFull e (calls.Makes (makings.Bdd (bdds.Restrict a b)))
   restrict_may_full t agrees = (restricts (list_of (2 ^ v.vars) (bdd_at v i)) (list_of (2 ^ v.vars) (bdd_at v j)), gives t agrees, refl)
 
   pub restrict_chooses : (r : Result Edge Stop) → IfOk r (Restricted v (view_of y) i j)
-      → IfOk r (λ edge. Is kinds.Bdd (view_of y) edge × AddsRow e (view_of y) (calls.Restrict a b) Chosen (record { kind = kinds.Bdd; edge = edge }))
+      → IfOk r (λ edge. Is kinds.Bdd (view_of y) edge × AddsRow e (view_of y) (calls.Makes (makings.Bdd (bdds.Restrict a b))) Chosen (record { kind = kinds.Bdd; edge = edge }))
   restrict_chooses (Err s) is = tt
   restrict_chooses (Ok edge) is =
       let made : List Bool = list_of (2 ^ (view_of y).vars) (bdd_at (view_of y) edge) in

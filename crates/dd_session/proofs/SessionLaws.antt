@@ -12,7 +12,8 @@ use Rattle.function_laws.specs.declared.history.Reply.{Reply}
 use Rattle.function_laws.specs.declared.history.Reply.TheVariants as replies
 use Rattle.function_laws.specs.Tables.{Table, same_name}
 use Rattle.function_laws.specs.Lists.{truth}
-use Rattle.function_laws.specs.Steps.{Outcome, makes, restricts, fetches, counts, overflows, is_most, compares, tells, shows, is_done, in_range, outcome, value_at, with_one, with_result, IsAllowed, Replies, after}
+use Rattle.function_laws.specs.Outcomes.{Outcome, makes, restricts, fetches, counts, overflows, is_most, compares, tells, shows, is_done, in_range, with_one}
+use Rattle.function_laws.specs.Steps.{outcome, value_at, with_result, IsAllowed, Replies, after}
 use Rattle.function_laws.specs.Values.{assignment_of}
 use Rattle.seat_guard.specs.Views.{sizes_for, stands_for}
 use Rattle.dd_session.specs.Sessions.{Called, Seen, SeenIn}

@@ -1,6 +1,6 @@
 -- What each call may tell, and what it then is for its caller.
 use Rattle.std.proofs.Common.{◌≡◌, ◌≢◌, ℕ, zero, suc, ◌+◌, ◌<◌, ◌≤◌, ◌^◌, Bool, true, false, cond, ◌&&◌, ◌||◌, ◌==◌, List, [], ◌∷◌, ◌++◌, length, set, Option, Some, None, IsTrue, ◌↔◌, refl, ap, ap₂, sym, subst, ◌∙◌, arith, eq-eqb, ne_eqb, ℤ}
-use Rattle.std.specs.Prelude.{slice_get, nat_lt, All, Contains}
+use Rattle.std.specs.Prelude.{slice_get, All, Contains}
 use Rattle.std.proofs.Math.ListN.{length-set}
 use Rattle.std.proofs.lemmas.Bool.{lt-ltb}
 use mathlib.Core.Logic.{dite}
@@ -18,7 +18,8 @@ use Rattle.function_laws.specs.declared.history.Reply.TheVariants as replies
 use Rattle.function_laws.specs.declared.history.Entry.{Entry}
 use Rattle.function_laws.specs.Kinds.{Denoted}
 use Rattle.function_laws.specs.Tables.{Table, same_name, with_name}
-use Rattle.function_laws.specs.Steps.{Outcome, makes, restricts, fetches, overflows, compares, tells, shows, is_done, may_be_full, with_result, with_one, when, from_cell}
+use Rattle.function_laws.specs.Outcomes.{Outcome, makes, restricts, fetches, overflows, compares, tells, shows, is_done, with_one, when}
+use Rattle.function_laws.specs.Steps.{may_be_full, with_result, from_cell}
 use Rattle.node_store.specs.Listed.{listed_at}
 use Rattle.node_store.specs.Views.{View, Is, values_at}
 use Rattle.handle_count.specs.declared.rows.Held.{Held as Live}

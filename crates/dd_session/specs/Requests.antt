@@ -8,6 +8,10 @@ use Rattle.function_laws.specs.declared.history.Function.TheVariants.{Bdd, Add, 
 use Rattle.function_laws.specs.declared.history.Name.{Name}
 use Rattle.function_laws.specs.declared.history.Call.{Call}
 use Rattle.function_laws.specs.declared.history.Call.TheVariants as calls
+use Rattle.function_laws.specs.declared.making.Making.TheVariants as makings
+use Rattle.function_laws.specs.declared.making.BddMaking.TheVariants as bdds
+use Rattle.function_laws.specs.declared.making.ZddMaking.TheVariants as zdds
+use Rattle.function_laws.specs.Makings.{mapped}
 use Rattle.function_laws.specs.declared.history.Reply.{Reply}
 use Rattle.function_laws.specs.declared.history.Reply.TheVariants as replies
 use Rattle.node_store.specs.Listed.{listed_at}
@@ -25,45 +29,7 @@ use Rattle.dd_session.specs.declared.request.Answer.{Answer}
 use Rattle.dd_session.specs.declared.request.Answer.TheVariants.{Added, Dropped, Posted, Truth, Value, Done, Overflow, Full}
 
 abbrev pub call_of : Request → Call
-call_of requests.One = calls.One
-call_of requests.Zero = calls.Zero
-call_of (requests.Var v) = calls.Var v
-call_of (requests.Not a) = calls.Not a
-call_of (requests.And a b) = calls.And a b
-call_of (requests.Or a b) = calls.Or a b
-call_of (requests.Xor a b) = calls.Xor a b
-call_of (requests.Ite a b c) = calls.Ite a b c
-call_of (requests.Cofactor a v bit) = calls.Cofactor a v bit
-call_of (requests.Exists a vars) = calls.Exists a vars.now
-call_of (requests.Forall a vars) = calls.Forall a vars.now
-call_of (requests.AndExists a b vars) = calls.AndExists a b vars.now
-call_of (requests.Compose a v b) = calls.Compose a v b
-call_of (requests.VectorCompose a pairs) = calls.VectorCompose a pairs.now
-call_of (requests.Restrict a b) = calls.Restrict a b
-call_of (requests.Support a) = calls.Support a
-call_of (requests.Constant x) = calls.Constant x
-call_of (requests.FromBdd a) = calls.FromBdd a
-call_of (requests.Plus a b) = calls.Plus a b
-call_of (requests.Minus a b) = calls.Minus a b
-call_of (requests.Times a b) = calls.Times a b
-call_of (requests.Min a b) = calls.Min a b
-call_of (requests.Max a b) = calls.Max a b
-call_of (requests.Threshold a b) = calls.Threshold a b
-call_of (requests.AddIte a b c) = calls.AddIte a b c
-call_of (requests.SumOver a v) = calls.SumOver a v
-call_of (requests.AtLeast a x) = calls.AtLeast a x
-call_of (requests.Pattern a) = calls.Pattern a
-call_of requests.Empty = calls.Empty
-call_of requests.Base = calls.Base
-call_of (requests.Single e) = calls.Single e
-call_of (requests.Union a b) = calls.Union a b
-call_of (requests.Meet a b) = calls.Meet a b
-call_of (requests.Diff a b) = calls.Diff a b
-call_of (requests.Subset1 a e) = calls.Subset1 a e
-call_of (requests.Subset0 a e) = calls.Subset0 a e
-call_of (requests.Change a e) = calls.Change a e
-call_of (requests.Product a b) = calls.Product a b
-call_of (requests.Quotient a b) = calls.Quotient a b
+call_of (requests.Makes making) = calls.Makes (mapped (λ name. name) (λ vars. vars.now) (λ pairs. pairs.now) making)
 call_of (requests.Copy a) = calls.Copy a
 call_of (requests.DropRow a) = calls.DropRow a
 call_of (requests.Same a b) = calls.Same a b
@@ -75,13 +41,13 @@ call_of requests.Sweep = calls.Sweep
 
 -- the call that makes a constant
 abbrev pub truth_call : Bool → Call
-truth_call true = calls.One
-truth_call false = calls.Zero
+truth_call true = calls.Makes (makings.Bdd bdds.One)
+truth_call false = calls.Makes (makings.Bdd bdds.Zero)
 
 -- the call that makes a family of no operand, the one with a member or the one without
 abbrev pub terminal_call : Bool → Call
-terminal_call true = calls.Base
-terminal_call false = calls.Empty
+terminal_call true = calls.Makes (makings.Zdd zdds.Base)
+terminal_call false = calls.Makes (makings.Zdd zdds.Empty)
 
 abbrev pub terminal_edge : Bool → Edge
 terminal_edge true = base_edge

@@ -16,7 +16,8 @@ use Rattle.function_laws.specs.Restricting.{Restricts}
 use Rattle.function_laws.specs.Lists.{list_of, truth}
 use Rattle.function_laws.specs.Numbers.{exactly}
 use Rattle.function_laws.specs.Values.{IsOf}
-use Rattle.function_laws.specs.Steps.{Outcome, makes, restricts, fetches, in_range, needs_no_node, outcome}
+use Rattle.function_laws.specs.Outcomes.{Outcome, makes, restricts, fetches, in_range}
+use Rattle.function_laws.specs.Steps.{needs_no_node, outcome}
 use Rattle.function_laws.specs.Tables.{Table}
 use Rattle.handle_count.specs.declared.rows.Held.{Held as Live}
 use Rattle.handle_count.specs.RowMaps.{RowMap, find_row}
@@ -216,9 +217,11 @@ AddsRow d w call Made cell = Gives d call (makes (listed_at cell.kind w cell.edg
 AddsRow d w call Chosen cell = (cell.kind ≡ kinds.Bdd) × Chooses d call (truths_of (listed_at cell.kind w cell.edge))
 AddsRow d w call (Taken posted) cell = Gives d call (fetches (listed_at cell.kind w cell.edge) posted)
 
--- an operation's answers denote the function that the call makes
-abbrev pub HasValue : (k : Kind) → (View → Edge → Type 0) → Draws → View → Call → Type 0
-HasValue k Answers d v call = (f : ℕ → ValueOf k) × Gives d call (makes (listed k v f)) × ((w : View) (e : Edge) → Answers w e → Denotes k w e f)
+-- An operation's answers denote the function that the call makes.
+pub record HasValue (k : Kind) (Answers : View → Edge → Type 0) (d : Draws) (v : View) (call : Call) : Type 0 where
+  pub value : ℕ → ValueOf k
+  pub gives : Gives d call (makes (listed k v value))
+  pub denotes : (w : View) (e : Edge) → Answers w e → Denotes k w e value
 
 -- what an operation on numbers answers that makes this function, where each of its values is in range
 abbrev pub IsExact : (ℕ → ℤ) → View → Result Edge Overflow → Type 0
@@ -228,9 +231,10 @@ IsExact f w (Err _) = Overflows kinds.Add f
 abbrev pub exact_answers : (View → ℕ → ℤ) → View → View → Result Edge Overflow → Type 0
 exact_answers value v w told = IsExact (value v) w told
 
--- the call makes this function of the variables, or is told that a value of it is out of range
-abbrev pub HasExact : Draws → View → Call → (ℕ → ℤ) → Type 0
-HasExact d v call f = IsOf v.vars f × Gives d call (in_range (exactly (list_of (2 ^ v.vars) f)))
+-- The call makes this function of the variables, or is told that a value of it is out of range.
+pub record HasExact (d : Draws) (v : View) (call : Call) (f : ℕ → ℤ) : Type 0 where
+  pub is_of : IsOf v.vars f
+  pub gives : Gives d call (in_range (exactly (list_of (2 ^ v.vars) f)))
 
 -- what was asked of the store changed nothing that all share, and stored nothing
 pub record IsAsked (x y : Shared) : Type 0 where

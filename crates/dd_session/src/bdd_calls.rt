@@ -1,59 +1,329 @@
-//! The calls of a session that make a row of BDDs, and the two that tell of rows.
+//! The calls of a session that make a row of BDDs.
 
-ghost use Rattle.std.specs.Prelude.{◌≡◌, ◌+◌, ◌<◌, ◌≤◌, ◌&&◌, ◌||◌, max, map, true, Bool, List, IfOk, IsOk, MatchResult, All, length};
-ghost use Rattle.edge_bits.specs.declared.edges.Kind.{Kind as KindOf};
+ghost use Rattle.std.specs.Prelude.{All, Bool, List, MatchResult, map, max, true, ◌&&◌, ◌+◌, ◌<◌, ◌||◌, ◌≡◌, ◌≤◌};
 ghost use Rattle.edge_bits.specs.declared.edges.Kind.TheVariants as kinds;
 ghost use Rattle.function_laws.specs.declared.history.Call.TheVariants as calls;
+ghost use Rattle.function_laws.specs.declared.making.Making.TheVariants as makings;
+ghost use Rattle.function_laws.specs.declared.making.BddMaking.TheVariants as bdds;
 ghost use Rattle.function_laws.specs.declared.history.Reply.TheVariants as replies;
-ghost use Rattle.function_laws.specs.Steps.{are_distinct};
-ghost use Rattle.function_laws.specs.Values.{differs};
-ghost use Rattle.ite_core.specs.Cofactors.{value_of_cofactor};
-ghost use Rattle.node_store.specs.Three.{value_of_three};
+ghost use Rattle.function_laws.specs.Makings.{are_distinct};
+ghost use Rattle.function_laws.specs.Values.{conjunction, differs, disjunction, exclusive, exists_all, forall_all, support as support_of};
+ghost use Rattle.ite_core.specs.Cofactors.{cofactor_at, value_of_cofactor};
+ghost use Rattle.node_store.specs.Three.{AreThree, ite_at, value_of_three};
 ghost use Rattle.node_store.specs.Two.{value_of_two};
-ghost use Rattle.quantify_ops.specs.Composed.{value_of_compose};
-ghost use Rattle.quantify_ops.specs.Restricted.{work_of_restrict};
-ghost use Rattle.quantify_ops.specs.Substituted.{value_of_vector_compose};
+ghost use Rattle.quantify_ops.specs.Composed.{composed_at, value_of_compose};
+ghost use Rattle.quantify_ops.specs.Restricted.{Restricted, work_of_restrict};
+ghost use Rattle.quantify_ops.specs.Substituted.{AreSubstituted, substituted_at, value_of_vector_compose};
 ghost use Rattle.quantify_ops.specs.Works.{value_of_support, work_of_and_exists, work_of_exists, work_of_forall};
-ghost use Rattle.dd_session.specs.Sessions.{Called, Denies, HasRoom, IsAsBefore, IsLiveAs, edge_in, with_edge};
-ghost use Rattle.dd_session.specs.Walking.{bits_of};
-ghost use Rattle.dd_session.specs.Works.{StoresNothing, StoresWork, no_work};
+ghost use Rattle.dd_session.specs.Sessions.{Called, Denies, HasRoom, IsLiveAs, IsMade, edge_in, with_edge};
+ghost use Rattle.dd_session.specs.Works.{StoresWork, no_work};
+ghost use Rattle.edge_bits.specs.declared.edges.Kind.TheVariants.{Bdd};
+ghost use Rattle.node_store.specs.Views.{AreTwo, Denotes, Is, IsVariable, bdd_at};
+ghost use Rattle.quantify_ops.specs.Quantified.{both_at};
 
-use crate::answers::{Again, Placed, Refusal};
-use crate::drawing::finish;
+use crate::answers::{Placed, Refusal};
 use crate::manager::Manager;
-use crate::nodeless::{implies, projection_in, walked};
-use crate::operating::attempt;
-use crate::operations;
-use crate::request::{Adding, Answer, Request};
+use crate::nodeless::projection_in;
+use crate::operating::{Operation, attempt};
+use crate::request::{Adding, Request};
 use crate::session::Session;
 use crate::settling::{add_row, settle};
 use crate::starting::start;
-use edge_bits::{Edge, Kind, Memory};
+use edge_bits::{Edge, Kind};
+use function_laws::{BddMaking, Making};
 use handle_count::H;
-use shared_store::{Cell, put_back};
+use node_slots::{PlainStore, Stop};
+use shared_store::Cell;
 use std::sync::Wait;
+
+/// The conjunction of two functions.
+#[derive(Drop)]
+pub struct And {
+    pub f: Edge,
+    pub g: Edge,
+}
+
+impl Operation for And {
+    ghost kind = { Bdd };
+
+    ghost stands = { λ op w. AreTwo Bdd w op.f op.g };
+
+    ghost answers = { λ op v w e. Denotes Bdd w e (conjunction (bdd_at v op.f) (bdd_at v op.g)) };
+
+    ghost work = { λ op w. value_of_two Bdd (λ a b. a && b) op.f op.g w };
+
+    fn run(&self, store: &mut PlainStore) -> Result<Edge, Stop> {
+        ite_core::and(store, self.f, self.g)
+    }
+}
+
+/// The disjunction of two functions.
+#[derive(Drop)]
+pub struct Or {
+    pub f: Edge,
+    pub g: Edge,
+}
+
+impl Operation for Or {
+    ghost kind = { Bdd };
+
+    ghost stands = { λ op w. AreTwo Bdd w op.f op.g };
+
+    ghost answers = { λ op v w e. Denotes Bdd w e (disjunction (bdd_at v op.f) (bdd_at v op.g)) };
+
+    ghost work = { λ op w. value_of_two Bdd (λ a b. a || b) op.f op.g w };
+
+    fn run(&self, store: &mut PlainStore) -> Result<Edge, Stop> {
+        ite_core::or(store, self.f, self.g)
+    }
+}
+
+/// The function that holds where just one of two does.
+#[derive(Drop)]
+pub struct Xor {
+    pub f: Edge,
+    pub g: Edge,
+}
+
+impl Operation for Xor {
+    ghost kind = { Bdd };
+
+    ghost stands = { λ op w. AreTwo Bdd w op.f op.g };
+
+    ghost answers = { λ op v w e. Denotes Bdd w e (exclusive (bdd_at v op.f) (bdd_at v op.g)) };
+
+    ghost work = { λ op w. value_of_two Bdd differs op.f op.g w };
+
+    fn run(&self, store: &mut PlainStore) -> Result<Edge, Stop> {
+        ite_core::xor(store, self.f, self.g)
+    }
+}
+
+/// The second of three functions where the first holds, and the third elsewhere.
+#[derive(Drop)]
+pub struct Ite {
+    pub f: Edge,
+    pub g: Edge,
+    pub h: Edge,
+}
+
+impl Operation for Ite {
+    ghost kind = { Bdd };
+
+    ghost stands = { λ op w. AreThree Bdd w op.f op.g op.h };
+
+    ghost answers = { λ op v w e. Denotes Bdd w e (ite_at Bdd v op.f op.g op.h) };
+
+    ghost work = { λ op w. value_of_three Bdd op.f op.g op.h w };
+
+    fn run(&self, store: &mut PlainStore) -> Result<Edge, Stop> {
+        ite_core::ite(store, self.f, self.g, self.h)
+    }
+}
+
+/// A function with a variable set to a bit.
+#[derive(Drop)]
+pub struct Cofactor {
+    pub f: Edge,
+    pub var: u32,
+    pub bit: bool,
+}
+
+impl Operation for Cofactor {
+    ghost kind = { Bdd };
+
+    ghost stands = { λ op w. Is Bdd w op.f × IsVariable Bdd w op.var };
+
+    ghost answers = { λ op v w e. Denotes Bdd w e (cofactor_at v op.f op.var op.bit) };
+
+    ghost work = { λ op w. value_of_cofactor op.f op.var op.bit w };
+
+    fn run(&self, store: &mut PlainStore) -> Result<Edge, Stop> {
+        ite_core::cofactor(store, self.f, self.var, self.bit)
+    }
+}
+
+/// The disjunction of both cofactors of a function by each variable of a list.
+#[derive(Drop)]
+pub struct Exists<'a> {
+    pub f: Edge,
+    pub vars: &'a [u32],
+}
+
+impl<'a> Operation for Exists<'a> {
+    ghost kind = { Bdd };
+
+    ghost stands = { λ op w. Is Bdd w op.f × All (IsVariable Bdd w) op.vars.now };
+
+    ghost answers = { λ op v w e. Denotes Bdd w e (exists_all (bdd_at v op.f) op.vars.now) };
+
+    ghost work = { λ op w. work_of_exists op.f op.vars.now w };
+
+    fn run(&self, store: &mut PlainStore) -> Result<Edge, Stop> {
+        quantify_ops::exists(store, self.f, self.vars)
+    }
+}
+
+/// The conjunction of both cofactors of a function by each variable of a list.
+#[derive(Drop)]
+pub struct Forall<'a> {
+    pub f: Edge,
+    pub vars: &'a [u32],
+}
+
+impl<'a> Operation for Forall<'a> {
+    ghost kind = { Bdd };
+
+    ghost stands = { λ op w. Is Bdd w op.f × All (IsVariable Bdd w) op.vars.now };
+
+    ghost answers = { λ op v w e. Denotes Bdd w e (forall_all (bdd_at v op.f) op.vars.now) };
+
+    ghost work = { λ op w. work_of_forall op.f op.vars.now w };
+
+    fn run(&self, store: &mut PlainStore) -> Result<Edge, Stop> {
+        quantify_ops::forall(store, self.f, self.vars)
+    }
+}
+
+/// The relational product of two functions by the variables of a list.
+#[derive(Drop)]
+pub struct AndExists<'a> {
+    pub f: Edge,
+    pub g: Edge,
+    pub vars: &'a [u32],
+}
+
+impl<'a> Operation for AndExists<'a> {
+    ghost kind = { Bdd };
+
+    ghost stands = { λ op w. AreTwo Bdd w op.f op.g × All (IsVariable Bdd w) op.vars.now };
+
+    ghost answers = { λ op v w e. Denotes Bdd w e (exists_all (both_at v op.f op.g) op.vars.now) };
+
+    ghost work = { λ op w. work_of_and_exists op.f op.g op.vars.now w };
+
+    fn run(&self, store: &mut PlainStore) -> Result<Edge, Stop> {
+        quantify_ops::and_exists(store, self.f, self.g, self.vars)
+    }
+}
+
+/// A function with another put for a variable.
+#[derive(Drop)]
+pub struct Compose {
+    pub f: Edge,
+    pub var: u32,
+    pub g: Edge,
+}
+
+impl Operation for Compose {
+    ghost kind = { Bdd };
+
+    ghost stands = { λ op w. AreTwo Bdd w op.f op.g × IsVariable Bdd w op.var };
+
+    ghost answers = { λ op v w e. Denotes Bdd w e (composed_at v op.f op.var op.g) };
+
+    ghost work = { λ op w. value_of_compose op.f op.var op.g w };
+
+    fn run(&self, store: &mut PlainStore) -> Result<Edge, Stop> {
+        quantify_ops::compose(store, self.f, self.var, self.g)
+    }
+}
+
+/// The product of the variables on which a function depends.
+#[derive(Drop)]
+pub struct Support {
+    pub f: Edge,
+}
+
+impl Operation for Support {
+    ghost kind = { Bdd };
+
+    ghost stands = { λ op w. Is Bdd w op.f };
+
+    ghost answers = { λ op v w e. Denotes Bdd w e (support_of v.vars (bdd_at v op.f)) };
+
+    ghost work = { λ op w. value_of_support op.f w };
+
+    fn run(&self, store: &mut PlainStore) -> Result<Edge, Stop> {
+        quantify_ops::support(store, self.f)
+    }
+}
+
+/// A function with others put for variables, all at once.
+#[derive(Drop)]
+pub struct VectorCompose<'a> {
+    pub f: Edge,
+    pub pairs: &'a [(u32, Edge)],
+}
+
+impl<'a> Operation for VectorCompose<'a> {
+    ghost kind = { Bdd };
+
+    ghost stands = { λ op w. AreSubstituted w op.f op.pairs.now };
+
+    ghost answers = { λ op v w e. Denotes Bdd w e (substituted_at v op.f op.pairs.now) };
+
+    ghost work = { λ op w. value_of_vector_compose op.f op.pairs.now w };
+
+    fn run(&self, store: &mut PlainStore) -> Result<Edge, Stop> {
+        quantify_ops::vector_compose(store, self.f, self.pairs)
+    }
+}
+
+/// One of the functions that agree with a function where another holds.
+#[derive(Drop)]
+pub struct Restrict {
+    pub f: Edge,
+    pub g: Edge,
+}
+
+impl Operation for Restrict {
+    ghost kind = { Bdd };
+
+    ghost stands = { λ op w. AreTwo Bdd w op.f op.g };
+
+    ghost answers = { λ op v w e. Restricted v w op.f op.g e };
+
+    ghost work = { λ op w. work_of_restrict op.f op.g w };
+
+    fn run(&self, store: &mut PlainStore) -> Result<Edge, Stop> {
+        quantify_ops::restrict(store, self.f, self.g)
+    }
+}
 
 impl Session {
     /// Logic one, as a new row.
     pub fn one<R: Wait>(&mut self, rt: &R, manager: &Manager) -> Result<Placed<H>, Refusal>
         requires own { self.old.manager ≡ manager.now }
         requires room { HasRoom self.old }
-        ensures told { MatchResult result (λ placed. Called self.old self.new calls.One (replies.Made placed.value) placed.place) (λ refusal. (refusal ≡ Refusal.Memory) × Denies self.old self.new calls.One refusal) }
+        ensures told { MatchResult result (λ placed. Called self.old self.new (calls.Makes (makings.Bdd bdds.One)) (replies.Made placed.value) placed.place) (λ refusal. (refusal ≡ Refusal.Memory) × Denies self.old self.new (calls.Makes (makings.Bdd bdds.One)) refusal) }
         ensures stored { StoresWork no_work self.old self.new result }
         ensures spare { MatchResult result (λ placed. self.new.spare + 1 ≡ max self.old.spare 1) (λ refusal. self.old.spare ≤ self.new.spare) }
     {
-        self.add_known(rt, manager, Request::One, Kind::Bdd, Edge::truth(true))
+        self.add_known(
+            rt,
+            manager,
+            Request::Makes(Making::Bdd(BddMaking::One)),
+            Kind::Bdd,
+            Edge::truth(true),
+        )
     }
 
     /// Logic zero, as a new row.
     pub fn zero<R: Wait>(&mut self, rt: &R, manager: &Manager) -> Result<Placed<H>, Refusal>
         requires own { self.old.manager ≡ manager.now }
         requires room { HasRoom self.old }
-        ensures told { MatchResult result (λ placed. Called self.old self.new calls.Zero (replies.Made placed.value) placed.place) (λ refusal. (refusal ≡ Refusal.Memory) × Denies self.old self.new calls.Zero refusal) }
+        ensures told { MatchResult result (λ placed. Called self.old self.new (calls.Makes (makings.Bdd bdds.Zero)) (replies.Made placed.value) placed.place) (λ refusal. (refusal ≡ Refusal.Memory) × Denies self.old self.new (calls.Makes (makings.Bdd bdds.Zero)) refusal) }
         ensures stored { StoresWork no_work self.old self.new result }
         ensures spare { MatchResult result (λ placed. self.new.spare + 1 ≡ max self.old.spare 1) (λ refusal. self.old.spare ≤ self.new.spare) }
     {
-        self.add_known(rt, manager, Request::Zero, Kind::Bdd, Edge::truth(false))
+        self.add_known(
+            rt,
+            manager,
+            Request::Makes(Making::Bdd(BddMaking::Zero)),
+            Kind::Bdd,
+            Edge::truth(false),
+        )
     }
 
     /// The projection of a variable, as a new row.
@@ -61,7 +331,7 @@ impl Session {
         requires own { self.old.manager ≡ manager.now }
         requires room { HasRoom self.old }
         requires variable { v < manager.now.vars }
-        ensures told { MatchResult result (λ placed. Called self.old self.new (calls.Var v) (replies.Made placed.value) placed.place) (λ refusal. (refusal ≡ Refusal.Memory) × Denies self.old self.new (calls.Var v) refusal) }
+        ensures told { MatchResult result (λ placed. Called self.old self.new (calls.Makes (makings.Bdd (bdds.Var v))) (replies.Made placed.value) placed.place) (λ refusal. (refusal ≡ Refusal.Memory) × Denies self.old self.new (calls.Makes (makings.Bdd (bdds.Var v))) refusal) }
         ensures stored { StoresWork no_work self.old self.new result }
         ensures spare { MatchResult result (λ placed. self.new.spare + 1 ≡ max self.old.spare 1) (λ refusal. self.old.spare ≤ self.new.spare) }
     {
@@ -78,7 +348,7 @@ impl Session {
             &mut self.pass,
             &mut self.book,
             shared,
-            Request::Var(v),
+            Request::Makes(Making::Bdd(BddMaking::Var(v))),
             Adding::Made,
             cell,
         ))
@@ -96,15 +366,21 @@ impl Session {
         requires room { HasRoom self.old }
         requires first { IsLiveAs kinds.Bdd self.old f }
         requires second { IsLiveAs kinds.Bdd self.old g }
-        ensures told { MatchResult result (λ placed. Called self.old self.new (calls.And f g) (replies.Made placed.value) placed.place) (Denies self.old self.new (calls.And f g)) }
+        ensures told { IsMade self.old self.new (makings.Bdd (bdds.And f g)) result }
         ensures stored { StoresWork (value_of_two kinds.Bdd (λ a b. a && b) (edge_in self.old.rows f) (edge_in self.old.rows g)) self.old self.new result }
         ensures spare { MatchResult result (λ placed. self.new.spare + 1 ≡ max self.old.spare 1) (λ refusal. self.old.spare ≤ self.new.spare) }
     {
-        let operation = operations::And {
+        let operation = And {
             f: self.edge(f),
             g: self.edge(g),
         };
-        self.operate(rt, manager, Request::And(f, g), Kind::Bdd, &operation)
+        self.operate(
+            rt,
+            manager,
+            Request::Makes(Making::Bdd(BddMaking::And(f, g))),
+            Kind::Bdd,
+            &operation,
+        )
     }
 
     /// The disjunction of two rows, as a new row.
@@ -119,15 +395,21 @@ impl Session {
         requires room { HasRoom self.old }
         requires first { IsLiveAs kinds.Bdd self.old f }
         requires second { IsLiveAs kinds.Bdd self.old g }
-        ensures told { MatchResult result (λ placed. Called self.old self.new (calls.Or f g) (replies.Made placed.value) placed.place) (Denies self.old self.new (calls.Or f g)) }
+        ensures told { IsMade self.old self.new (makings.Bdd (bdds.Or f g)) result }
         ensures stored { StoresWork (value_of_two kinds.Bdd (λ a b. a || b) (edge_in self.old.rows f) (edge_in self.old.rows g)) self.old self.new result }
         ensures spare { MatchResult result (λ placed. self.new.spare + 1 ≡ max self.old.spare 1) (λ refusal. self.old.spare ≤ self.new.spare) }
     {
-        let operation = operations::Or {
+        let operation = Or {
             f: self.edge(f),
             g: self.edge(g),
         };
-        self.operate(rt, manager, Request::Or(f, g), Kind::Bdd, &operation)
+        self.operate(
+            rt,
+            manager,
+            Request::Makes(Making::Bdd(BddMaking::Or(f, g))),
+            Kind::Bdd,
+            &operation,
+        )
     }
 
     /// The function that holds where just one of two rows does, as a new row.
@@ -142,15 +424,21 @@ impl Session {
         requires room { HasRoom self.old }
         requires first { IsLiveAs kinds.Bdd self.old f }
         requires second { IsLiveAs kinds.Bdd self.old g }
-        ensures told { MatchResult result (λ placed. Called self.old self.new (calls.Xor f g) (replies.Made placed.value) placed.place) (Denies self.old self.new (calls.Xor f g)) }
+        ensures told { IsMade self.old self.new (makings.Bdd (bdds.Xor f g)) result }
         ensures stored { StoresWork (value_of_two kinds.Bdd differs (edge_in self.old.rows f) (edge_in self.old.rows g)) self.old self.new result }
         ensures spare { MatchResult result (λ placed. self.new.spare + 1 ≡ max self.old.spare 1) (λ refusal. self.old.spare ≤ self.new.spare) }
     {
-        let operation = operations::Xor {
+        let operation = Xor {
             f: self.edge(f),
             g: self.edge(g),
         };
-        self.operate(rt, manager, Request::Xor(f, g), Kind::Bdd, &operation)
+        self.operate(
+            rt,
+            manager,
+            Request::Makes(Making::Bdd(BddMaking::Xor(f, g))),
+            Kind::Bdd,
+            &operation,
+        )
     }
 
     /// The second of three rows where the first holds, and the third elsewhere, as a new row.
@@ -167,16 +455,22 @@ impl Session {
         requires first { IsLiveAs kinds.Bdd self.old f }
         requires second { IsLiveAs kinds.Bdd self.old g }
         requires third { IsLiveAs kinds.Bdd self.old h }
-        ensures told { MatchResult result (λ placed. Called self.old self.new (calls.Ite f g h) (replies.Made placed.value) placed.place) (Denies self.old self.new (calls.Ite f g h)) }
+        ensures told { IsMade self.old self.new (makings.Bdd (bdds.Ite f g h)) result }
         ensures stored { StoresWork (value_of_three kinds.Bdd (edge_in self.old.rows f) (edge_in self.old.rows g) (edge_in self.old.rows h)) self.old self.new result }
         ensures spare { MatchResult result (λ placed. self.new.spare + 1 ≡ max self.old.spare 1) (λ refusal. self.old.spare ≤ self.new.spare) }
     {
-        let operation = operations::Ite {
+        let operation = Ite {
             f: self.edge(f),
             g: self.edge(g),
             h: self.edge(h),
         };
-        self.operate(rt, manager, Request::Ite(f, g, h), Kind::Bdd, &operation)
+        self.operate(
+            rt,
+            manager,
+            Request::Makes(Making::Bdd(BddMaking::Ite(f, g, h))),
+            Kind::Bdd,
+            &operation,
+        )
     }
 
     /// A row with a variable set to a bit, as a new row.
@@ -192,11 +486,11 @@ impl Session {
         requires room { HasRoom self.old }
         requires first { IsLiveAs kinds.Bdd self.old f }
         requires variable { v < self.old.manager.vars }
-        ensures told { MatchResult result (λ placed. Called self.old self.new (calls.Cofactor f v bit) (replies.Made placed.value) placed.place) (Denies self.old self.new (calls.Cofactor f v bit)) }
+        ensures told { IsMade self.old self.new (makings.Bdd (bdds.Cofactor f v bit)) result }
         ensures stored { StoresWork (value_of_cofactor (edge_in self.old.rows f) v bit) self.old self.new result }
         ensures spare { MatchResult result (λ placed. self.new.spare + 1 ≡ max self.old.spare 1) (λ refusal. self.old.spare ≤ self.new.spare) }
     {
-        let operation = operations::Cofactor {
+        let operation = Cofactor {
             f: self.edge(f),
             var: v,
             bit,
@@ -204,7 +498,7 @@ impl Session {
         self.operate(
             rt,
             manager,
-            Request::Cofactor(f, v, bit),
+            Request::Makes(Making::Bdd(BddMaking::Cofactor(f, v, bit))),
             Kind::Bdd,
             &operation,
         )
@@ -222,15 +516,21 @@ impl Session {
         requires room { HasRoom self.old }
         requires first { IsLiveAs kinds.Bdd self.old f }
         requires variables { All (λ v. v < self.old.manager.vars) vars.now }
-        ensures told { MatchResult result (λ placed. Called self.old self.new (calls.Exists f vars.now) (replies.Made placed.value) placed.place) (Denies self.old self.new (calls.Exists f vars.now)) }
+        ensures told { IsMade self.old self.new (makings.Bdd (bdds.Exists f vars.now)) result }
         ensures stored { StoresWork (work_of_exists (edge_in self.old.rows f) vars.now) self.old self.new result }
         ensures spare { MatchResult result (λ placed. self.new.spare + 1 ≡ max self.old.spare 1) (λ refusal. self.old.spare ≤ self.new.spare) }
     {
-        let operation = operations::Exists {
+        let operation = Exists {
             f: self.edge(f),
             vars,
         };
-        self.operate(rt, manager, Request::Exists(f, vars), Kind::Bdd, &operation)
+        self.operate(
+            rt,
+            manager,
+            Request::Makes(Making::Bdd(BddMaking::Exists(f, vars))),
+            Kind::Bdd,
+            &operation,
+        )
     }
 
     /// The conjunction of both cofactors of a row by each variable of a list, which may have one twice, as a new row.
@@ -245,15 +545,21 @@ impl Session {
         requires room { HasRoom self.old }
         requires first { IsLiveAs kinds.Bdd self.old f }
         requires variables { All (λ v. v < self.old.manager.vars) vars.now }
-        ensures told { MatchResult result (λ placed. Called self.old self.new (calls.Forall f vars.now) (replies.Made placed.value) placed.place) (Denies self.old self.new (calls.Forall f vars.now)) }
+        ensures told { IsMade self.old self.new (makings.Bdd (bdds.Forall f vars.now)) result }
         ensures stored { StoresWork (work_of_forall (edge_in self.old.rows f) vars.now) self.old self.new result }
         ensures spare { MatchResult result (λ placed. self.new.spare + 1 ≡ max self.old.spare 1) (λ refusal. self.old.spare ≤ self.new.spare) }
     {
-        let operation = operations::Forall {
+        let operation = Forall {
             f: self.edge(f),
             vars,
         };
-        self.operate(rt, manager, Request::Forall(f, vars), Kind::Bdd, &operation)
+        self.operate(
+            rt,
+            manager,
+            Request::Makes(Making::Bdd(BddMaking::Forall(f, vars))),
+            Kind::Bdd,
+            &operation,
+        )
     }
 
     /// `exists` of the conjunction of two rows, as a new row.
@@ -270,11 +576,11 @@ impl Session {
         requires first { IsLiveAs kinds.Bdd self.old f }
         requires second { IsLiveAs kinds.Bdd self.old g }
         requires variables { All (λ v. v < self.old.manager.vars) vars.now }
-        ensures told { MatchResult result (λ placed. Called self.old self.new (calls.AndExists f g vars.now) (replies.Made placed.value) placed.place) (Denies self.old self.new (calls.AndExists f g vars.now)) }
+        ensures told { IsMade self.old self.new (makings.Bdd (bdds.AndExists f g vars.now)) result }
         ensures stored { StoresWork (work_of_and_exists (edge_in self.old.rows f) (edge_in self.old.rows g) vars.now) self.old self.new result }
         ensures spare { MatchResult result (λ placed. self.new.spare + 1 ≡ max self.old.spare 1) (λ refusal. self.old.spare ≤ self.new.spare) }
     {
-        let operation = operations::AndExists {
+        let operation = AndExists {
             f: self.edge(f),
             g: self.edge(g),
             vars,
@@ -282,7 +588,7 @@ impl Session {
         self.operate(
             rt,
             manager,
-            Request::AndExists(f, g, vars),
+            Request::Makes(Making::Bdd(BddMaking::AndExists(f, g, vars))),
             Kind::Bdd,
             &operation,
         )
@@ -302,11 +608,11 @@ impl Session {
         requires first { IsLiveAs kinds.Bdd self.old f }
         requires second { IsLiveAs kinds.Bdd self.old g }
         requires variable { v < self.old.manager.vars }
-        ensures told { MatchResult result (λ placed. Called self.old self.new (calls.Compose f v g) (replies.Made placed.value) placed.place) (Denies self.old self.new (calls.Compose f v g)) }
+        ensures told { IsMade self.old self.new (makings.Bdd (bdds.Compose f v g)) result }
         ensures stored { StoresWork (value_of_compose (edge_in self.old.rows f) v (edge_in self.old.rows g)) self.old self.new result }
         ensures spare { MatchResult result (λ placed. self.new.spare + 1 ≡ max self.old.spare 1) (λ refusal. self.old.spare ≤ self.new.spare) }
     {
-        let operation = operations::Compose {
+        let operation = Compose {
             f: self.edge(f),
             var: v,
             g: self.edge(g),
@@ -314,7 +620,7 @@ impl Session {
         self.operate(
             rt,
             manager,
-            Request::Compose(f, v, g),
+            Request::Makes(Making::Bdd(BddMaking::Compose(f, v, g))),
             Kind::Bdd,
             &operation,
         )
@@ -330,12 +636,18 @@ impl Session {
         requires own { self.old.manager ≡ manager.now }
         requires room { HasRoom self.old }
         requires first { IsLiveAs kinds.Bdd self.old f }
-        ensures told { MatchResult result (λ placed. Called self.old self.new (calls.Support f) (replies.Made placed.value) placed.place) (Denies self.old self.new (calls.Support f)) }
+        ensures told { IsMade self.old self.new (makings.Bdd (bdds.Support f)) result }
         ensures stored { StoresWork (value_of_support (edge_in self.old.rows f)) self.old self.new result }
         ensures spare { MatchResult result (λ placed. self.new.spare + 1 ≡ max self.old.spare 1) (λ refusal. self.old.spare ≤ self.new.spare) }
     {
-        let operation = operations::Support { f: self.edge(f) };
-        self.operate(rt, manager, Request::Support(f), Kind::Bdd, &operation)
+        let operation = Support { f: self.edge(f) };
+        self.operate(
+            rt,
+            manager,
+            Request::Makes(Making::Bdd(BddMaking::Support(f))),
+            Kind::Bdd,
+            &operation,
+        )
     }
 
     /// The complement of a row, as a new row.
@@ -343,51 +655,18 @@ impl Session {
         requires own { self.old.manager ≡ manager.now }
         requires room { HasRoom self.old }
         requires first { IsLiveAs kinds.Bdd self.old f }
-        ensures told { MatchResult result (λ placed. Called self.old self.new (calls.Not f) (replies.Made placed.value) placed.place) (λ refusal. (refusal ≡ Refusal.Memory) × Denies self.old self.new (calls.Not f) refusal) }
+        ensures told { MatchResult result (λ placed. Called self.old self.new (calls.Makes (makings.Bdd (bdds.Not f))) (replies.Made placed.value) placed.place) (λ refusal. (refusal ≡ Refusal.Memory) × Denies self.old self.new (calls.Makes (makings.Bdd (bdds.Not f))) refusal) }
         ensures stored { StoresWork no_work self.old self.new result }
         ensures spare { MatchResult result (λ placed. self.new.spare + 1 ≡ max self.old.spare 1) (λ refusal. self.old.spare ≤ self.new.spare) }
     {
         let edge = self.edge(f).flip();
-        self.add_known(rt, manager, Request::Not(f), Kind::Bdd, edge)
-    }
-
-    /// Whether the second of two rows is true wherever the first is. It makes no node, so that only want of memory leaves it
-    /// without an answer.
-    pub fn leq<R: Wait>(
-        &mut self,
-        rt: &R,
-        manager: &Manager,
-        f: H,
-        g: H,
-    ) -> Result<Placed<bool>, Memory>
-        requires own { self.old.manager ≡ manager.now }
-        requires room { HasRoom self.old }
-        requires first { IsLiveAs kinds.Bdd self.old f }
-        requires second { IsLiveAs kinds.Bdd self.old g }
-        ensures told { MatchResult result (λ placed. Called self.old self.new (calls.Leq f g) (replies.Truth placed.value) placed.place) (λ _. IsAsBefore self.old self.new) }
-        ensures stored { StoresNothing self.new }
-        ensures spare { self.new.spare ≡ self.old.spare }
-    {
-        let first = self.edge(f);
-        let second = self.edge(g);
-        let mut shared = manager.guard.take(rt, &mut self.pass);
-        match implies(&mut shared, first, second) {
-            Ok(told) => {
-                let place = finish(
-                    &manager.guard,
-                    &mut self.pass,
-                    &mut self.book,
-                    shared,
-                    Request::Leq(f, g),
-                    Answer::Truth(told),
-                );
-                Ok(Placed { place, value: told })
-            }
-            Err(Memory) => {
-                put_back(&manager.guard, &mut self.pass, shared);
-                Err(Memory)
-            }
-        }
+        self.add_known(
+            rt,
+            manager,
+            Request::Makes(Making::Bdd(BddMaking::Not(f))),
+            Kind::Bdd,
+            edge,
+        )
     }
 
     /// A row with other rows put for variables, all at once, as a new row. No variable stands twice.
@@ -404,21 +683,21 @@ impl Session {
         requires variables { All (λ pair. pair.0 < self.old.manager.vars) pairs.now }
         requires others { All (λ pair. IsLiveAs kinds.Bdd self.old pair.1) pairs.now }
         requires distinct { are_distinct (map (λ pair. pair.0) pairs.now) ≡ true }
-        ensures told { MatchResult result (λ placed. Called self.old self.new (calls.VectorCompose f pairs.now) (replies.Made placed.value) placed.place) (Denies self.old self.new (calls.VectorCompose f pairs.now)) }
+        ensures told { IsMade self.old self.new (makings.Bdd (bdds.VectorCompose f pairs.now)) result }
         ensures stored { StoresWork (value_of_vector_compose (edge_in self.old.rows f) (map (with_edge self.old.rows) pairs.now)) self.old self.new result }
         ensures spare { MatchResult result (λ placed. self.new.spare + 1 ≡ max self.old.spare 1) (λ refusal. self.old.spare ≤ self.new.spare) }
     {
         let Ok(edges) = self.edges(manager.allocator(), pairs) else {
             return Err(Refusal::Memory);
         };
-        let operation = operations::VectorCompose {
+        let operation = VectorCompose {
             f: self.edge(f),
             pairs: &edges,
         };
         self.operate(
             rt,
             manager,
-            Request::VectorCompose(f, pairs),
+            Request::Makes(Making::Bdd(BddMaking::VectorCompose(f, pairs))),
             Kind::Bdd,
             &operation,
         )
@@ -437,11 +716,11 @@ impl Session {
         requires room { HasRoom self.old }
         requires first { IsLiveAs kinds.Bdd self.old f }
         requires second { IsLiveAs kinds.Bdd self.old g }
-        ensures told { MatchResult result (λ placed. (chosen : List Bool) × Called self.old self.new (calls.Restrict f g) (replies.Chose placed.value chosen) placed.place) (Denies self.old self.new (calls.Restrict f g)) }
+        ensures told { MatchResult result (λ placed. (chosen : List Bool) × Called self.old self.new (calls.Makes (makings.Bdd (bdds.Restrict f g))) (replies.Chose placed.value chosen) placed.place) (Denies self.old self.new (calls.Makes (makings.Bdd (bdds.Restrict f g)))) }
         ensures stored { StoresWork (work_of_restrict (edge_in self.old.rows f) (edge_in self.old.rows g)) self.old self.new result }
         ensures spare { MatchResult result (λ placed. self.new.spare + 1 ≡ max self.old.spare 1) (λ refusal. self.old.spare ≤ self.new.spare) }
     {
-        let operation = operations::Restrict {
+        let operation = Restrict {
             f: self.edge(f),
             g: self.edge(g),
         };
@@ -454,42 +733,10 @@ impl Session {
             &mut self.pass,
             &mut self.book,
             shared,
-            Request::Restrict(f, g),
+            Request::Makes(Making::Bdd(BddMaking::Restrict(f, g))),
             Adding::Chosen,
             Kind::Bdd,
             made,
         )
-    }
-
-    /// The value of a row: of a BDD 0 or 1, and of an ADD its number, where bit i is the value of variable i; of a family 1 where the
-    /// elements whose bits are set are a member, and 0 else. While sessions take turns it is never refused.
-    pub fn eval<R: Wait>(
-        &mut self,
-        rt: &R,
-        manager: &Manager,
-        f: H,
-        bits: &[bool],
-    ) -> Result<Placed<i64>, Again>
-        requires own { self.old.manager ≡ manager.now }
-        requires room { HasRoom self.old }
-        requires live { (k : KindOf) × IsLiveAs k self.old f × (length bits.now ≡ bits_of k self.old.manager) }
-        ensures ok { IsOk result }
-        ensures told { IfOk result (λ placed. Called self.old self.new (calls.Eval f bits.now) (replies.Value placed.value) placed.place) }
-        ensures stored { StoresNothing self.new }
-        ensures spare { self.new.spare ≡ self.old.spare }
-    {
-        let kind = self.kind(f);
-        let edge = self.edge(f);
-        let mut shared = manager.guard.take(rt, &mut self.pass);
-        let value = walked(&mut shared, kind, edge, bits);
-        let place = finish(
-            &manager.guard,
-            &mut self.pass,
-            &mut self.book,
-            shared,
-            Request::Eval(f, bits),
-            Answer::Value(value),
-        );
-        Ok(Placed { place, value })
     }
 }

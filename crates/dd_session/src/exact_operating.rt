@@ -3,7 +3,8 @@
 ghost use Rattle.std.specs.Prelude.{◌≡◌, ◌+◌, ◌≤◌, ◌^◌, ℕ, [], IsTrue, MatchResult, IfOk, IsErrOf, Some};
 ghost use Rattle.edge_bits.specs.declared.edges.Kind.TheVariants as kinds;
 ghost use Rattle.function_laws.specs.declared.history.Function.{Function};
-ghost use Rattle.function_laws.specs.Steps.{makes, may_be_full, overflows};
+ghost use Rattle.function_laws.specs.Outcomes.{makes, overflows};
+ghost use Rattle.function_laws.specs.Steps.{may_be_full};
 ghost use Rattle.node_slots.specs.Stores.{IsStore};
 ghost use Rattle.node_store.specs.Listed.{listed_at};
 ghost use Rattle.node_store.specs.Views.{Is};

@@ -1,7 +1,8 @@
 //! What a fetch takes, and what is told of it.
 
 ghost use Rattle.std.specs.Prelude.{◌≡◌, ◌⊎◌, Some};
-ghost use Rattle.function_laws.specs.Steps.{fetches, from_cell};
+ghost use Rattle.function_laws.specs.Outcomes.{fetches};
+ghost use Rattle.function_laws.specs.Steps.{from_cell};
 ghost use Rattle.node_store.specs.Listed.{listed_at};
 ghost use Rattle.node_store.specs.Views.{View};
 ghost use Rattle.dd_session.specs.Turns.{function_of, is_posted};

@@ -4,7 +4,8 @@ ghost use Rattle.std.specs.Prelude.{◌≡◌, ◌+◌, ◌≤◌, max, map, IsT
 ghost use Rattle.edge_bits.specs.declared.edges.Kind.{Kind as KindOf};
 ghost use Rattle.edge_bits.specs.declared.edges.Kind.TheVariants as kinds;
 ghost use Rattle.function_laws.specs.declared.history.Reply.TheVariants as replies;
-ghost use Rattle.function_laws.specs.Steps.{makes, may_be_full};
+ghost use Rattle.function_laws.specs.Outcomes.{makes};
+ghost use Rattle.function_laws.specs.Steps.{may_be_full};
 ghost use Rattle.node_store.specs.Contents.{IsSound};
 ghost use Rattle.node_store.specs.Listed.{listed_at};
 ghost use Rattle.node_store.specs.Views.{Is};

@@ -3,7 +3,8 @@
 ghost use Rattle.std.specs.Prelude.{◌≡◌, ◌+◌, ◌<◌, ◌≤◌, ◌^◌, [], IfOk, IsErrOf, IsTrue, MatchResult, Some};
 ghost use Rattle.function_laws.specs.declared.history.Function.{Function};
 ghost use Rattle.function_laws.specs.declared.history.Reply.TheVariants as replies;
-ghost use Rattle.function_laws.specs.Steps.{may_be_full, overflows};
+ghost use Rattle.function_laws.specs.Outcomes.{overflows};
+ghost use Rattle.function_laws.specs.Steps.{may_be_full};
 ghost use Rattle.node_store.specs.Views.{Is};
 ghost use Rattle.seat_guard.specs.Passes.{IsPassOf, in_hand, known};
 ghost use Rattle.shared_store.specs.Sharing.{Serving, count, due, view_of};

@@ -7,7 +7,8 @@ use Rattle.function_laws.specs.declared.history.Call.TheVariants as calls
 use Rattle.function_laws.specs.declared.history.Reply.{Reply}
 use Rattle.function_laws.specs.declared.history.Reply.TheVariants.{Made, Chose, Fetched, Numbered, Done, Truth, Value, Overflow, Most, Full}
 use Rattle.function_laws.specs.Tables.{Table, with_row, with_name, same_name}
-use Rattle.function_laws.specs.Steps.{Outcome, makes, restricts, fetches, counts, overflows, is_most, compares, tells, shows, is_done, outcome, with_result, changed, after}
+use Rattle.function_laws.specs.Outcomes.{Outcome, makes, restricts, fetches, counts, overflows, is_most, compares, tells, shows, is_done}
+use Rattle.function_laws.specs.Steps.{outcome, with_result, changed, after}
 use Rattle.function_laws.specs.Handovers.{is_numbered}
 
 -- what another session has

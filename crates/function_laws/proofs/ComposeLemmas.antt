@@ -9,7 +9,7 @@ use Rattle.edge_bits.proofs.AssignmentLemmas.{bit-set_same, bit-set_other, set_b
 use Rattle.function_laws.specs.Lists.{list_of, truth}
 use Rattle.function_laws.specs.Values.{IsFree, choice, cofactor, composed, composed_at_once, if_then_else, set_each}
 use Rattle.function_laws.specs.Functions.{compose_of, vector_compose_of}
-use Rattle.function_laws.specs.Steps.{are_distinct}
+use Rattle.function_laws.specs.Makings.{are_distinct}
 use Rattle.function_laws.proofs.ListLemmas.{length-list_of, truth-list_of, list_of-same}
 use Rattle.function_laws.proofs.ValueLemmas.{everywhere, cofactor-choice_false, cofactor-choice_other, cofactor-choice_true, cofactor-free, composed-cofactors, ite-choice, IsFree-cofactor, IsFree-cofactor_other}
 

@@ -8,7 +8,8 @@ use Rattle.function_laws.specs.declared.history.Reply.{Reply}
 use Rattle.function_laws.specs.declared.history.Reply.TheVariants.{Made, Chose, Fetched, Numbered, Done, Truth, Value, Overflow, Most, Full}
 use Rattle.function_laws.specs.declared.history.Entry.{Entry}
 use Rattle.function_laws.specs.Tables.{Table, cell_count}
-use Rattle.function_laws.specs.Steps.{Outcome, makes, restricts, fetches, counts, overflows, is_most, compares, tells, shows, is_done, outcome, with_result, with_one, when, from_cell, same_kind, changed, Replies, IsAllowed, after}
+use Rattle.function_laws.specs.Outcomes.{Outcome, makes, restricts, fetches, counts, overflows, is_most, compares, tells, shows, is_done, with_one, when}
+use Rattle.function_laws.specs.Steps.{outcome, with_result, from_cell, same_kind, changed, Replies, IsAllowed, after}
 use Rattle.function_laws.specs.Histories.{after_entry, table_after}
 use Rattle.function_laws.specs.Handovers.{is_numbered}
 use Rattle.function_laws.specs.SessionEntries.{Each}

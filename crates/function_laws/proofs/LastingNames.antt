@@ -12,7 +12,8 @@ use Rattle.function_laws.specs.declared.history.Reply.{Reply}
 use Rattle.function_laws.specs.declared.history.Reply.TheVariants.{Made, Chose, Fetched, Numbered, Done, Truth, Value, Overflow, Most, Full}
 use Rattle.function_laws.specs.declared.history.Entry.{Entry}
 use Rattle.function_laws.specs.Tables.{Table, same_name, with_name}
-use Rattle.function_laws.specs.Steps.{Outcome, makes, restricts, fetches, counts, overflows, is_most, compares, tells, shows, is_done, with_result, changed, Replies, IsAllowed, after}
+use Rattle.function_laws.specs.Outcomes.{Outcome, makes, restricts, fetches, counts, overflows, is_most, compares, tells, shows, is_done}
+use Rattle.function_laws.specs.Steps.{with_result, changed, Replies, IsAllowed, after}
 use Rattle.function_laws.specs.Histories.{IsLegalFrom, after_entry, table_after}
 use Rattle.function_laws.specs.Handovers.{is_numbered}
 use Rattle.function_laws.specs.SessionEntries.{Each}

@@ -6,14 +6,20 @@ use Rattle.function_laws.specs.declared.history.Function.{Function}
 use Rattle.function_laws.specs.declared.history.Function.TheVariants.{Bdd, Add, Zdd}
 use Rattle.function_laws.specs.declared.history.Sifting.{Sifting}
 use Rattle.function_laws.specs.declared.history.Call.{Call}
-use Rattle.function_laws.specs.declared.history.Call.TheVariants.{One, Zero, Var, And, Or, Cofactor, Exists, Forall, AndExists, Compose, VectorCompose, Support, Constant, FromBdd, Plus, Minus, Empty, Base, Single, Union, Meet, Diff, Subset1, Subset0, Change, Product, Quotient, Same, Leq, Eval, Sweep, Swap, SwapElements, Sift, AddVar, AddElement}
+use Rattle.function_laws.specs.declared.history.Call.TheVariants.{Makes, Same, Leq, Eval, Sweep, Swap, SwapElements, Sift, AddVar, AddElement}
+use Rattle.function_laws.specs.declared.making.Making.TheVariants as makings
+use Rattle.function_laws.specs.declared.making.BddMaking.TheVariants as bdds
+use Rattle.function_laws.specs.declared.making.AddMaking.TheVariants as adds
+use Rattle.function_laws.specs.declared.making.ExactMaking.TheVariants as exacts
+use Rattle.function_laws.specs.declared.making.ZddMaking.TheVariants as zdds
 use Rattle.function_laws.specs.declared.history.Entry.{Entry}
 use Rattle.function_laws.specs.declared.history.Reply.{Reply}
 use Rattle.function_laws.specs.declared.history.Reply.TheVariants.{Made, Chose, Fetched, Numbered, Done, Truth, Value, Overflow, Most, Full}
 use Rattle.function_laws.specs.Lists.{any_below, all_below, list_of}
 use Rattle.function_laws.specs.Values.{constant, exists_all, forall_all, set_each, differs}
 use Rattle.function_laws.specs.Tables.{Table, Sizes, opening}
-use Rattle.function_laws.specs.Steps.{Outcome, makes, restricts, fetches, counts, overflows, is_most, compares, tells, shows, is_done, outcome, after}
+use Rattle.function_laws.specs.Outcomes.{Outcome, makes, restricts, fetches, counts, overflows, is_most, compares, tells, shows, is_done}
+use Rattle.function_laws.specs.Steps.{outcome, after}
 use Rattle.function_laws.specs.EntryOrders.{opening_orders, orders_from}
 
 -- the name of call i
@@ -80,24 +86,24 @@ abbrev same : Reply
 same = Truth true
 
 -- true and false with no variables
-constants : run 0 0 (One ∷ Zero ∷ Same (n 0) (n 1) ∷ Eval (n 0) [] ∷ []) ≡ Done ∷ Done ∷ Truth false ∷ Value (pos 1) ∷ []
+constants : run 0 0 ((Makes (makings.Bdd bdds.One)) ∷ (Makes (makings.Bdd bdds.Zero)) ∷ Same (n 0) (n 1) ∷ Eval (n 0) [] ∷ []) ≡ Done ∷ Done ∷ Truth false ∷ Value (pos 1) ∷ []
 unfolding list_of
 constants = refl
 
 -- a sum and a difference out of range, and the operand afterwards
-sum_overflows : run 1 0 (Var 0 ∷ Constant (pos 70368744177663) ∷ FromBdd (n 0) ∷ Plus (n 1) (n 2) ∷ Eval (n 1) (false ∷ []) ∷ [])
+sum_overflows : run 1 0 (Makes (makings.Bdd (bdds.Var 0)) ∷ Makes (makings.Add (adds.Constant (pos 70368744177663))) ∷ Makes (makings.Add (adds.FromBdd (n 0))) ∷ Makes (makings.Exact (exacts.Plus (n 1) (n 2))) ∷ Eval (n 1) (false ∷ []) ∷ [])
     ≡ Done ∷ Done ∷ Done ∷ Overflow ∷ Value (pos 70368744177663) ∷ []
 unfolding list_of set_bit
 sum_overflows = refl
 
-difference_overflows : run 1 0 (Var 0 ∷ FromBdd (n 0) ∷ Constant (negsuc 70368744177663) ∷ Minus (n 2) (n 1) ∷ []) ≡ Done ∷ Done ∷ Done ∷ Overflow ∷ []
+difference_overflows : run 1 0 (Makes (makings.Bdd (bdds.Var 0)) ∷ Makes (makings.Add (adds.FromBdd (n 0))) ∷ Makes (makings.Add (adds.Constant (negsuc 70368744177663))) ∷ Makes (makings.Exact (exacts.Minus (n 2) (n 1))) ∷ []) ≡ Done ∷ Done ∷ Done ∷ Overflow ∷ []
 unfolding list_of
 difference_overflows = refl
 
 -- families: a quotient by the empty family among them
-families : run 0 2 (Base ∷ Single 0 ∷ Change (n 1) 1 ∷ Change (n 0) 1 ∷ Union (n 2) (n 3) ∷ Empty ∷ Subset1 (n 4) 1 ∷ Subset0 (n 4) 1 ∷ Change (n 4) 1
-    ∷ Same (n 6) (n 8) ∷ Same (n 7) (n 5) ∷ Quotient (n 4) (n 5) ∷ Same (n 11) (n 5) ∷ Quotient (n 4) (n 3) ∷ Same (n 13) (n 6)
-    ∷ Product (n 1) (n 2) ∷ Same (n 15) (n 2) ∷ Meet (n 4) (n 2) ∷ Same (n 17) (n 2) ∷ Diff (n 4) (n 2) ∷ Same (n 19) (n 3)
+families : run 0 2 ((Makes (makings.Zdd zdds.Base)) ∷ Makes (makings.Zdd (zdds.Single 0)) ∷ Makes (makings.Zdd (zdds.Change (n 1) 1)) ∷ Makes (makings.Zdd (zdds.Change (n 0) 1)) ∷ Makes (makings.Zdd (zdds.Union (n 2) (n 3))) ∷ (Makes (makings.Zdd zdds.Empty)) ∷ Makes (makings.Zdd (zdds.Subset1 (n 4) 1)) ∷ Makes (makings.Zdd (zdds.Subset0 (n 4) 1)) ∷ Makes (makings.Zdd (zdds.Change (n 4) 1))
+    ∷ Same (n 6) (n 8) ∷ Same (n 7) (n 5) ∷ Makes (makings.Zdd (zdds.Quotient (n 4) (n 5))) ∷ Same (n 11) (n 5) ∷ Makes (makings.Zdd (zdds.Quotient (n 4) (n 3))) ∷ Same (n 13) (n 6)
+    ∷ Makes (makings.Zdd (zdds.Product (n 1) (n 2))) ∷ Same (n 15) (n 2) ∷ Makes (makings.Zdd (zdds.Meet (n 4) (n 2))) ∷ Same (n 17) (n 2) ∷ Makes (makings.Zdd (zdds.Diff (n 4) (n 2))) ∷ Same (n 19) (n 3)
     ∷ Eval (n 4) (true ∷ true ∷ []) ∷ Eval (n 4) (true ∷ false ∷ []) ∷ [])
     ≡ Done ∷ Done ∷ Done ∷ Done ∷ Done ∷ Done ∷ Done ∷ Done ∷ Done ∷ same ∷ same ∷ Done ∷ same ∷ Done ∷ same ∷ Done ∷ same ∷ Done ∷ same ∷ Done ∷ same
     ∷ Value (pos 1) ∷ Value (pos 0) ∷ []
@@ -105,9 +111,9 @@ unfolding list_of set_bit any_below all_below
 families = refl
 
 -- the operators on three variables, with a swap, a sift and a sweep between two evaluations
-operators : run 3 0 (Var 0 ∷ Var 1 ∷ Var 2 ∷ And (n 0) (n 1) ∷ Exists (n 3) (0 ∷ []) ∷ Same (n 4) (n 1) ∷ Zero ∷ Forall (n 3) (0 ∷ []) ∷ Same (n 7) (n 6)
-    ∷ AndExists (n 0) (n 1) (0 ∷ []) ∷ Same (n 9) (n 1) ∷ Compose (n 3) 0 (n 2) ∷ Support (n 3) ∷ Same (n 12) (n 3)
-    ∷ VectorCompose (n 3) ((0, n 1) ∷ (1, n 0) ∷ []) ∷ Same (n 14) (n 3) ∷ Cofactor (n 3) 0 true ∷ Same (n 16) (n 1) ∷ Or (n 0) (n 1)
+operators : run 3 0 (Makes (makings.Bdd (bdds.Var 0)) ∷ Makes (makings.Bdd (bdds.Var 1)) ∷ Makes (makings.Bdd (bdds.Var 2)) ∷ Makes (makings.Bdd (bdds.And (n 0) (n 1))) ∷ Makes (makings.Bdd (bdds.Exists (n 3) (0 ∷ []))) ∷ Same (n 4) (n 1) ∷ (Makes (makings.Bdd bdds.Zero)) ∷ Makes (makings.Bdd (bdds.Forall (n 3) (0 ∷ []))) ∷ Same (n 7) (n 6)
+    ∷ Makes (makings.Bdd (bdds.AndExists (n 0) (n 1) (0 ∷ []))) ∷ Same (n 9) (n 1) ∷ Makes (makings.Bdd (bdds.Compose (n 3) 0 (n 2))) ∷ Makes (makings.Bdd (bdds.Support (n 3))) ∷ Same (n 12) (n 3)
+    ∷ Makes (makings.Bdd (bdds.VectorCompose (n 3) ((0, n 1) ∷ (1, n 0) ∷ []))) ∷ Same (n 14) (n 3) ∷ Makes (makings.Bdd (bdds.Cofactor (n 3) 0 true)) ∷ Same (n 16) (n 1) ∷ Makes (makings.Bdd (bdds.Or (n 0) (n 1)))
     ∷ Leq (n 3) (n 18) ∷ Leq (n 18) (n 3) ∷ Swap 0 ∷ Eval (n 11) (false ∷ true ∷ true ∷ []) ∷ Sift sifting ∷ Sweep ∷ Eval (n 11) (false ∷ true ∷ true ∷ []) ∷ [])
     ≡ Done ∷ Done ∷ Done ∷ Done ∷ Done ∷ same ∷ Done ∷ Done ∷ same ∷ Done ∷ same ∷ Done ∷ Done ∷ same ∷ Done ∷ same ∷ Done ∷ same ∷ Done
     ∷ same ∷ Truth false ∷ Done ∷ Value (pos 1) ∷ Done ∷ Done ∷ Value (pos 1) ∷ []
@@ -115,12 +121,12 @@ unfolding list_of set_bit any_below all_below exists_all forall_all set_each
 operators = refl
 
 -- a variable added while it runs, an element, and one too many
-grown : run 1 0 (Var 0 ∷ AddVar ∷ And (n 0) (n 1) ∷ Eval (n 2) (true ∷ true ∷ []) ∷ Eval (n 2) (true ∷ []) ∷ Exists (n 2) (1 ∷ []) ∷ Same (n 5) (n 0) ∷ [])
+grown : run 1 0 (Makes (makings.Bdd (bdds.Var 0)) ∷ AddVar ∷ Makes (makings.Bdd (bdds.And (n 0) (n 1))) ∷ Eval (n 2) (true ∷ true ∷ []) ∷ Eval (n 2) (true ∷ []) ∷ Makes (makings.Bdd (bdds.Exists (n 2) (1 ∷ []))) ∷ Same (n 5) (n 0) ∷ [])
     ≡ Done ∷ Value (pos 1) ∷ Done ∷ Value (pos 1) ∷ Value (pos 0) ∷ Done ∷ same ∷ []
 unfolding list_of set_bit exists_all
 grown = refl
 
-grown_element : run 0 1 (Base ∷ Single 0 ∷ Union (n 0) (n 1) ∷ Eval (n 2) (true ∷ []) ∷ AddElement ∷ Eval (n 2) (true ∷ true ∷ []) ∷ Eval (n 2) (true ∷ false ∷ []) ∷ [])
+grown_element : run 0 1 ((Makes (makings.Zdd zdds.Base)) ∷ Makes (makings.Zdd (zdds.Single 0)) ∷ Makes (makings.Zdd (zdds.Union (n 0) (n 1))) ∷ Eval (n 2) (true ∷ []) ∷ AddElement ∷ Eval (n 2) (true ∷ true ∷ []) ∷ Eval (n 2) (true ∷ false ∷ []) ∷ [])
     ≡ Done ∷ Done ∷ Done ∷ Value (pos 1) ∷ Value (pos 1) ∷ Value (pos 0) ∷ Value (pos 1) ∷ []
 unfolding list_of
 grown_element = refl
@@ -129,7 +135,7 @@ most : run 3 0 (AddVar ∷ []) ≡ Most ∷ []
 most = refl
 
 -- with 16,384 variables no list is computed
-wide : outcome (opening (record { variables = 16384; elements = 16384; most_variables = 16384; most_elements = 16384 })) 0 One
+wide : outcome (opening (record { variables = 16384; elements = 16384; most_variables = 16384; most_elements = 16384 })) 0 (Makes (makings.Bdd bdds.One))
     ≡ Some (makes (Bdd (list_of (2 ^ 16384) (constant true))))
 wide = refl
 

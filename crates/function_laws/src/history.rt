@@ -1,5 +1,6 @@
 //! The entries of a history. Contracts speak of them and views carry them; of all this a program makes names alone.
 
+use crate::making::Making;
 use std::collections::LinkedList;
 
 /// A row of one session.
@@ -38,53 +39,8 @@ pub struct Sifting {
 /// A call with a place. Operands are names of the session; variables, elements, levels and cells are numbers from 0 on.
 #[derive(Drop)]
 pub enum Call {
-    // BDDs.
-    One,
-    Zero,
-    Var(u32),
-    Not(Name),
-    And(Name, Name),
-    Or(Name, Name),
-    Xor(Name, Name),
-    /// The second where the first holds, else the third.
-    Ite(Name, Name, Name),
-    Cofactor(Name, u32, bool),
-    Exists(Name, LinkedList<u32>),
-    Forall(Name, LinkedList<u32>),
-    AndExists(Name, Name, LinkedList<u32>),
-    /// The last put for the variable in the first.
-    Compose(Name, u32, Name),
-    /// Each of the list put for its variable, all at once.
-    VectorCompose(Name, LinkedList<(u32, Name)>),
-    /// The first, where the second holds.
-    Restrict(Name, Name),
-    Support(Name),
-    // ADDs, and BDDs of them.
-    Constant(i64),
-    FromBdd(Name),
-    Plus(Name, Name),
-    Minus(Name, Name),
-    Times(Name, Name),
-    Min(Name, Name),
-    Max(Name, Name),
-    Threshold(Name, Name),
-    /// The second where the first, a BDD, holds, else the third.
-    AddIte(Name, Name, Name),
-    SumOver(Name, u32),
-    AtLeast(Name, i64),
-    Pattern(Name),
-    // Families.
-    Empty,
-    Base,
-    Single(u32),
-    Union(Name, Name),
-    Meet(Name, Name),
-    Diff(Name, Name),
-    Subset1(Name, u32),
-    Subset0(Name, u32),
-    Change(Name, u32),
-    Product(Name, Name),
-    Quotient(Name, Name),
+    /// A function is made of others.
+    Makes(Making<Name, LinkedList<u32>, LinkedList<(u32, Name)>>),
     // Rows and the board.
     Copy(Name),
     DropRow(Name),

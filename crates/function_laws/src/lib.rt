@@ -2,6 +2,7 @@
 #![tactic(auto)]
 
 mod history;
+mod making;
 mod orders;
 mod places;
 mod plain;
@@ -10,6 +11,7 @@ mod plain_sets;
 mod restricting;
 
 pub use history::{Call, Entry, Function, Name, Reply, Sifting};
+pub use making::{AddMaking, BddMaking, ExactMaking, Making, ZddMaking};
 pub use orders::{Mode, Order};
 pub use plain::{compose_of, exists_of, forall_of, ite_of};
 pub use plain_numbers::{plus_of, sum_of};

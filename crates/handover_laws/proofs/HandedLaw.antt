@@ -10,7 +10,8 @@ use Rattle.function_laws.specs.declared.history.Entry.{Entry}
 use Rattle.function_laws.specs.Handovers.{LeavesCell, is_numbered}
 use Rattle.function_laws.specs.Histories.{IsLegal, IsLegalFrom, after_entry, table_after}
 use Rattle.function_laws.specs.SessionEntries.{Each}
-use Rattle.function_laws.specs.Steps.{IsAllowed, when, with_one, is_done}
+use Rattle.function_laws.specs.Outcomes.{when, with_one, is_done}
+use Rattle.function_laws.specs.Steps.{IsAllowed}
 use Rattle.function_laws.specs.Tables.{Sizes, Table, opening, cell_count}
 use Rattle.std.specs.Prelude.{nat_lt}
 use Rattle.function_laws.proofs.HandoverLemmas.{handed_over}

@@ -10,7 +10,7 @@ use Rattle.function_laws.specs.Kinds.{BddFunction}
 use Rattle.node_store.specs.KindLaws.{part-joined}
 use Rattle.node_store.specs.Views.{View, Denotes, Is, IsBelow, IsVariable, Grown, Splits, CanMake, IsInner, IsLeaf, IsKey, bdd_at, node_values}
 use Rattle.node_store.specs.ViewLaws.{Grown-trans, Denotes-flip, Is-grown, Is-from, IsBelow-inner, IsVariable-grown, Splits-grown, level-grown, top-grown, values_at-grown, values_at-is}
-use Rattle.node_store.specs.Numbers.{cofactor_number}
+use Rattle.node_store.specs.declared.numbers.TheConstants as numbers
 use Rattle.node_store.specs.Memo.{CofactorHolds, literal}
 use Rattle.node_store.specs.Splits.{Branches}
 use Rattle.node_store.specs.Three.{IsFlipped, IsPartOrComplement}
@@ -109,7 +109,7 @@ pub regular_answer : (w : View) (f r e : Edge) (x : ℕ) (b : Bool) → r ≡ re
 regular_answer w f r e x b same d a = IsFlipped-answer Bdd f.complement w e (cofactor_at w f x b) (cofactor_at w r x b) (regular_cofactor w f r x b same d) a
 
 -- the key
-pub IsKey-literal : (w : View) (f l : Edge) (v : ℕ) (b : Bool) → Denotes Bdd w l (literal v b) → Is Bdd w f → IsKey w (record { op = cofactor_number; f = f; g = l; h = f })
+pub IsKey-literal : (w : View) (f l : Edge) (v : ℕ) (b : Bool) → Denotes Bdd w l (literal v b) → Is Bdd w f → IsKey w (record { op = numbers.COFACTOR; f = f; g = l; h = f })
 IsKey-literal w f l v b is d = record { least = omega arith; most = omega arith; f = (Bdd, d); g = (Bdd, Is-from Bdd is); h = (Bdd, d) }
 
 -- the literal from the projection
@@ -121,7 +121,7 @@ literal_from w v b c p e is flip same = rw (same, flip) (by_bit b)
     by_bit false = Denotes-flip is
 
 -- what stands under the key
-pub Cofactor-hit : (w : View) (f l : Edge) (v : ℕ) (b : Bool) (e : Edge) → Denotes Bdd w l (literal v b) → CofactorHolds w (record { op = cofactor_number; f = f; g = l; h = f }) e → Denotes Bdd w e (cofactor_at w f v b)
+pub Cofactor-hit : (w : View) (f l : Edge) (v : ℕ) (b : Bool) (e : Edge) → Denotes Bdd w l (literal v b) → CofactorHolds w (record { op = numbers.COFACTOR; f = f; g = l; h = f }) e → Denotes Bdd w e (cofactor_at w f v b)
 Cofactor-hit w f l v b e is h =
     let both : literal h.variable h.bit ≡ literal v b = sym (values_at-is Bdd h.literal) ∙ values_at-is Bdd is in
     let named = same_literal h.variable v h.bit b both in

@@ -2,7 +2,7 @@
 
 ghost use Rattle.std.specs.Prelude.{◌≡◌, ◌≤◌};
 ghost use Rattle.edge_bits.specs.declared.edges.Kind.TheVariants.{Bdd};
-ghost use Rattle.node_store.specs.Numbers.{cofactor_number};
+ghost use Rattle.node_store.specs.declared.numbers.TheConstants as numbers;
 ghost use Rattle.node_store.specs.Operations.{Runs};
 ghost use Rattle.node_store.specs.Views.{Is, IsVariable, Kept, Permanent};
 ghost use Rattle.ite_core.specs.Cofactors.{HasCofactor, IsFound, cofactor_at, value_of_cofactor};
@@ -201,7 +201,7 @@ fn find<G: Grow>(store: &mut G, f: Edge, var: u32, bit: bool) -> Found
 
 /// The key of a function and a literal.
 fn key_of(f: Edge, literal: Edge) -> Key
-    ensures { result ≡ record { op = cofactor_number; f = f; g = literal; h = f } }
+    ensures { result ≡ record { op = numbers.COFACTOR; f = f; g = literal; h = f } }
 {
     Key {
         op: numbers::COFACTOR,

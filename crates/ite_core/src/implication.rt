@@ -1,7 +1,7 @@
 //! Whether one function is true wherever another is.
 
 ghost use Rattle.std.specs.Prelude.{◌≡◌, cond};
-ghost use Rattle.node_store.specs.Numbers.{leq_number};
+ghost use Rattle.node_store.specs.declared.numbers.TheConstants as numbers;
 ghost use Rattle.node_store.specs.Views.{View, Kept, Permanent};
 ghost use Rattle.ite_core.specs.Implications.{ImplicationAnswers, ImplicationDue, ImplicationTerminal};
 
@@ -138,7 +138,7 @@ fn both(first: Edge, second: Edge) -> Edge
 
 /// The key of an implication.
 fn key_of(task: Task) -> Key
-    ensures { result ≡ record { op = leq_number; f = task.f; g = task.g; h = task.f } }
+    ensures { result ≡ record { op = numbers.LEQ; f = task.f; g = task.g; h = task.f } }
 {
     Key {
         op: numbers::LEQ,

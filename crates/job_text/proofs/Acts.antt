@@ -4,22 +4,23 @@ use Rattle.std.specs.List.{All, flat_map, position_or_len}
 use Rattle.std.specs.Str.{bytes_eq}
 use Rattle.std.specs.Str.Parse.{digits_value}
 use Rattle.std.proofs.lemmas.Bool.{false≢true}
-use Rattle.job_text.specs.declared.job.Act.{Act}
-use Rattle.job_words.specs.declared.commands.Place.{Place}
-use Rattle.job_words.specs.declared.commands.Place.TheVariants as places
+use Rattle.job_commands.specs.declared.acts.Act.{Act}
+use Rattle.job_commands.specs.declared.commands.Place.{Place}
+use Rattle.job_commands.specs.declared.commands.Place.TheVariants as places
 use Rattle.job_text.specs.declared.job.Command.{Command}
 use Rattle.job_text.specs.declared.job.Counts.{Counts}
 use Rattle.job_text.specs.declared.job.Register.{Register}
 use Rattle.job_text.specs.declared.operands.Operand.{Operand}
 use Rattle.job_text.specs.declared.operands.Operand.TheVariants as operands
 use Rattle.job_words.specs.Text.{Word, bit_word, integer_value, is_assignment}
-use Rattle.job_text.specs.Grammar.{Says, Spelling, assigns, tells, Spells, spelling, StandsFor, AllStandFor, CommandsSay, registers_after, section_lines, is_called}
+use Rattle.job_commands.specs.Commands.{act_of}
+use Rattle.job_commands.specs.Commands.{no_operands}
+use Rattle.job_text.specs.Places.{AllStandFor, Follows, StandsFor, is_called, place_of as due_at, with_operands}
+use Rattle.job_text.specs.Grammar.{CommandsSay, Forms, IsCommand, Says, assigns, registers_after, section_lines, tells}
 use Rattle.job_text.specs.Faults.{is_session}
-use Rattle.job_words.specs.Commands.{Form, form_in}
-use Rattle.job_text.specs.Drafts.{place_of as due_at, no_operands, with_operands, act_of}
+use Rattle.job_commands.specs.Commands.{Form, assigning, form_in, telling}
 use Rattle.job_words.proofs.Bits.{digits_of, no_none}
 use Rattle.job_text.proofs.Meanings.{no_assignment, says_words}
-use Rattle.job_text.proofs.Spellings.{Follows, IsIn, IsKnown, known}
 
 -- the bits of a word
 bits_from : Word → List Bool
@@ -88,37 +89,38 @@ same_operands n rs [] (p ∷ ps) (w ∷ words) (o ∷ os) (o' ∷ os') f f' h h'
 same_operands n rs (p ∷ ps) repeated (w ∷ words) (o ∷ os) (o' ∷ os') f f' h h' =
     ap (λ t. t ∷ os) (one_operand n rs w o o' p f.0 f'.0 h.0 h'.0) ∙ ap (λ t. o' ∷ t) (same_operands n rs ps repeated words os os' f.1 f'.1 h.1 h'.1)
 
--- commands of one word with the same words behind it do the same
-one_made : (n : Counts) (rs : List Register) (forms : List Form) (command command' : Word) (rest rest' : List Word) (os os' : List Operand) (act act' : Act)
-    → IsIn n rs forms command os act → IsIn n rs forms command' os' act' → command ≡ command' → rest ≡ rest' → AllStandFor n rs rest os → AllStandFor n rs rest' os' → act ≡ act'
-one_made n rs forms command command' rest rest' os os' act act' k k' e e' h h' =
-    let found : Some k.own ≡ Some k'.own = sym k.found ∙ ap (form_in forms) e ∙ k'.found in
-    let own : k.own ≡ k'.own = cc in
-    let same = same_operands n rs k'.own.places k'.own.repeated rest' os os' (subst (λ (t : Form). Follows t.places t.repeated os) own k.follows) k'.follows
-    (subst (λ (t : List Word). AllStandFor n rs t os) e' h) h' in
-    sym k.made ∙ ap (λ (t : Form). act_of t.operation (with_operands rs no_operands os)) own ∙ ap (λ t. act_of k'.own.operation (with_operands rs no_operands t)) same ∙ k'.made
+-- commands of one word with the same words behind it are one, with the same operands
+one_command : (n : Counts) (rs : List Register) (forms : List Form) (command command' : Word) (rest rest' : List Word) (own own' : Form) (os os' : List Operand)
+    → IsCommand n rs forms command rest own os → IsCommand n rs forms command' rest' own' os' → command ≡ command' → rest ≡ rest' → (own ≡ own') × (os ≡ os')
+one_command n rs forms command command' rest rest' own own' os os' k k' e e' =
+    let found : Some own ≡ Some own' = sym k.found ∙ ap (form_in forms) e ∙ k'.found in
+    let same : own ≡ own' = cc in (
+      same,
+      same_operands n rs own'.places own'.repeated rest' os os' (subst (λ (t : Form). Follows t.places t.repeated os) same k.follows) k'.follows
+          (subst (λ (t : List Word). AllStandFor n rs t os) e' k.stand) k'.stand,
+    )
 
 told_apart : (n : Counts) (rs : List Register) (words : List Word) (r command command' : Word) (rest rest' : List Word) (os' : List Operand) → words ≡ r ∷ codes "=" ∷ command ∷ rest
     → words ≡ command' ∷ rest' → AllStandFor n rs rest' os' → ⊥
 told_apart n rs words r command command' rest rest' os' e e' h' =
     false≢true (sym (no_assignment n rs command' rest' os' h') ∙ ap is_assignment (sym e' ∙ e))
 
-one_spelt : (n : Counts) (rs : List Register) (words : List Word) (act act' : Act) (spelt spelt' : Spelling) → IsKnown n rs act spelt → IsKnown n rs act' spelt'
-    → Spells n rs words spelt → Spells n rs words spelt' → act ≡ act'
-one_spelt n rs words act act' (assigns command os) (assigns command' os') k k' h h' =
-    let lines : h.0 ∷ codes "=" ∷ command ∷ h.1 ≡ h'.0 ∷ codes "=" ∷ command' ∷ h'.1 = sym h.2 ∙ h'.2 in
-    one_made n rs _ command command' h.1 h'.1 os os' act act' k k' (cc) (cc) h.4 h'.4
-one_spelt n rs words act act' (assigns command os) (tells command' os') k k' h h' =
-    absurd (told_apart n rs words h.0 command command' h.1 h'.0 os' h.2 h'.1 h'.2)
-one_spelt n rs words act act' (tells command os) (assigns command' os') k k' h h' =
-    absurd (told_apart n rs words h'.0 command' command h'.1 h.0 os h'.2 h.1 h.2)
-one_spelt n rs words act act' (tells command os) (tells command' os') k k' h h' =
-    let lines : command ∷ h.0 ≡ command' ∷ h'.0 = sym h.1 ∙ h'.1 in
-    one_made n rs _ command command' h.0 h'.0 os os' act act' k.0 k'.0 (cc) (cc) h.2 h'.2
+one_form : (n : Counts) (rs : List Register) (words : List Word) (own own' : Form) (os os' : List Operand) → Forms n rs words own os → Forms n rs words own' os' → (own ≡ own') × (os ≡ os')
+one_form n rs words own own' os os' (assigns r command rest e fresh k) (assigns r' command' rest' e' fresh' k') =
+    let lines : r ∷ codes "=" ∷ command ∷ rest ≡ r' ∷ codes "=" ∷ command' ∷ rest' = sym e ∙ e' in
+    one_command n rs assigning command command' rest rest' own own' os os' k k' (cc) (cc)
+one_form n rs words own own' os os' (assigns r command rest e fresh k) (tells command' rest' e' k') =
+    absurd (told_apart n rs words r command command' rest rest' os' e e' k'.stand)
+one_form n rs words own own' os os' (tells command rest e k) (assigns r' command' rest' e' fresh' k') =
+    absurd (told_apart n rs words r' command' command rest' rest os e' e k.stand)
+one_form n rs words own own' os os' (tells command rest e k) (tells command' rest' e' k') =
+    let lines : command ∷ rest ≡ command' ∷ rest' = sym e ∙ e' in
+    one_command n rs telling command command' rest rest' own own' os os' k k' (cc) (cc)
 
 one_act : (n : Counts) (rs : List Register) (words words' : List Word) (act act' : Act) → words ≡ words' → Says n rs words act → Says n rs words' act' → act ≡ act'
 one_act n rs words words' act act' e h h' =
-    one_spelt n rs words act act' (spelling act) (spelling act') (known n rs act h.1) (known n rs act' h'.1) h.0 (subst (λ (t : List Word). Spells n rs t (spelling act')) (sym e) h'.0)
+    let same = one_form n rs words h.own h'.own h.operands h'.operands h.forms (subst (λ (t : List Word). Forms n rs t h'.own h'.operands) (sym e) h'.forms) in
+    h.means ∙ ap (λ (t : Form). act_of t.operation (with_operands rs no_operands h.operands)) same.0 ∙ ap (λ t. act_of h'.own.operation (with_operands rs no_operands t)) same.1 ∙ sym h'.means
 
 -- a command is no line that begins a section
 no_begin : (n : Counts) (rs : List Register) (c : Command) (words : List Word) → Says n rs c.words c.act → is_session words ≡ true → words ≡ c.words → ⊥

@@ -10,15 +10,15 @@ use Rattle.std.proofs.lemmas.List.{append-nil}
 use Rattle.std.proofs.lemmas.Slice.Eq.{bytes_eq-Decides}
 use Rattle.edge_bits.specs.declared.edges.Kind.{Kind}
 use Rattle.function_laws.specs.Numbers.{is_value}
-use Rattle.job_text.specs.declared.job.Act.{Act}
+use Rattle.job_commands.specs.declared.acts.Act.{Act}
 use Rattle.job_text.specs.declared.job.Command.{Command}
 use Rattle.job_text.specs.declared.job.Counts.{Counts}
-use Rattle.job_words.specs.declared.commands.Operation.{Operation}
-use Rattle.job_words.specs.declared.commands.Place.{Place}
-use Rattle.job_words.specs.declared.commands.Place.TheVariants as places
+use Rattle.job_commands.specs.declared.commands.Operation.{Operation}
+use Rattle.job_commands.specs.declared.commands.Place.{Place}
+use Rattle.job_commands.specs.declared.commands.Place.TheVariants as places
 use Rattle.job_text.specs.declared.operands.Operand.{Operand}
 use Rattle.job_text.specs.declared.operands.Operand.TheVariants as operands
-use Rattle.job_text.specs.declared.operands.Operands.{Operands}
+use Rattle.job_commands.specs.declared.operands.Operands.{Operands}
 use Rattle.job_text.specs.declared.job.Job.{Job}
 use Rattle.job_text.specs.declared.job.Register.{Register}
 use Rattle.job_text.specs.declared.draft.Draft.{Draft}
@@ -28,10 +28,13 @@ use Rattle.job_text.specs.declared.faults.FaultKind.{FaultKind}
 use Rattle.job_text.specs.declared.faults.FaultKind.TheVariants as kinds
 use Rattle.job_text.specs.declared.faults.JobError.{JobError}
 use Rattle.job_words.specs.Text.{Word, IsNumber, is_name, integer_value, is_number, is_allowed, lines_of, words_of, line_words, bit_word, is_bit, is_bits}
-use Rattle.job_text.specs.Grammar.{Says, IsFresh, Refers, IsJobText, is_called, kind_of, kind_called, register_called}
-use Rattle.job_text.specs.Faults.{slot_fault, beside_fault, word_fault, left_after, nothing_left, first_fault, fault_in, or_else, command_fault, kind_fault, name_fault, is_session, number_fault, has_begun, words_fault, line_fault, IsFaultText}
-use Rattle.job_words.specs.Commands.{has_form, command_of}
-use Rattle.job_text.specs.Drafts.{IsOperand, AreOperands, no_operands, with_operand, with_operands, misfit, left_by, AllFit, act_of, context_in, Adds, adds_nothing, adds_vars, adds_elements, adds_limit, adds_session, adds_further, adds_command}
+use Rattle.job_commands.specs.Commands.{act_of}
+use Rattle.job_commands.specs.Commands.{no_operands}
+use Rattle.job_text.specs.Places.{AllFit, IsFresh, Refers, is_called, kind_fault, kind_of, misfit, with_operand, with_operands}
+use Rattle.job_text.specs.Grammar.{IsJobText, Says, kind_called, register_called}
+use Rattle.job_text.specs.Faults.{slot_fault, beside_fault, word_fault, left_after, nothing_left, first_fault, fault_in, or_else, command_fault, name_fault, is_session, number_fault, has_begun, words_fault, line_fault, IsFaultText}
+use Rattle.job_commands.specs.Commands.{has_form, command_of}
+use Rattle.job_text.specs.Drafts.{AreOperands, IsOperand, left_by, context_in, Adds, adds_nothing, adds_vars, adds_elements, adds_limit, adds_session, adds_further, adds_command}
 use Rattle.job_text.specs.Readings.{EachHasOne}
 use Rattle.job_words.proofs.Bits.{bits_are}
 use Rattle.job_text.proofs.Meanings.{Fits, word_fault_is}

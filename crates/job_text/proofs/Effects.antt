@@ -1,25 +1,27 @@
 -- What the operands of a command are, and what it leaves of the registers.
 use Rattle.edge_bits.specs.declared.edges.Kind.{Kind}
 use Rattle.edge_bits.specs.declared.edges.Kind.TheVariants.{Bdd}
-use Rattle.std.proofs.Common.{◌≡◌, ℕ, Bool, true, false, cond, List, [], ◌∷◌, ◌++◌, map, drop, refl, ap, sym, ◌∙◌, codes}
+use Rattle.std.proofs.Common.{◌≡◌, ℕ, Bool, true, false, cond, List, [], ◌∷◌, ◌++◌, map, drop, refl, ap, sym, ◌∙◌, subst, codes}
 use Rattle.std.specs.List.{list_any}
 use Rattle.std.specs.Str.{bytes_eq}
 use Rattle.std.proofs.lemmas.Bool.{false≢true}
-use Rattle.job_text.specs.declared.job.Act.{Act}
-use Rattle.job_text.specs.declared.job.Act.TheVariants as acts
+use Rattle.job_commands.specs.declared.acts.Act.{Act}
+use Rattle.job_commands.specs.declared.acts.Act.TheVariants as acts
 use Rattle.job_text.specs.declared.job.Counts.{Counts}
 use Rattle.job_text.specs.declared.job.Register.{Register}
 use Rattle.job_text.specs.declared.operands.Operand.{Operand}
 use Rattle.job_text.specs.declared.operands.Operand.TheVariants as operands
 use Rattle.job_words.specs.Text.{Word, is_assignment}
-use Rattle.job_text.specs.Grammar.{Says, Spelling, assigns, tells, Spells, spelling, is_called, StandsFor, AllStandFor, Refers, kind_at, kind_called, kind_given, register_made, registers_after, is_drop, target_of, without}
-use Rattle.job_words.specs.Commands.{kind_made}
+use Rattle.function_laws.specs.Makings.{kind_made as kind_of_making}
+use Rattle.job_commands.specs.Commands.{act_of}
+use Rattle.job_commands.specs.Commands.{no_operands}
+use Rattle.job_text.specs.Places.{AllStandFor, Refers, StandsFor, is_called, kind_at, with_operands}
+use Rattle.job_text.specs.Grammar.{Forms, Says, assigns, is_drop, kind_called, kind_given, register_made, registers_after, target_of, tells, without}
+use Rattle.job_commands.specs.Commands.{Form, assigning, kind_made, telling}
 use Rattle.job_text.proofs.Meanings.{any_none, no_assignment}
+use Rattle.job_commands.specs.declared.operands.Operands.{Operands}
 use Rattle.job_text.proofs.RegisterLists.{kind_is}
-
-abbrev pub operands_of : Spelling → List Operand
-operands_of (assigns command os) = os
-operands_of (tells command os) = os
+use Rattle.job_text.proofs.Rows.{EachRow, Takes, row_has, takes}
 
 -- for each operand there is a word that stands for it
 abbrev pub EachStands : Counts → List Register → List Operand → Type 0
@@ -31,17 +33,19 @@ each_stands n rs words [] h = tt
 each_stands n rs [] (o ∷ os) h = absurd h
 each_stands n rs (word ∷ words) (o ∷ os) h = ((word, h.0), each_stands n rs words os h.1)
 
-pub operands_stand : (n : Counts) (rs : List Register) (words : List Word) (spelt : Spelling) → Spells n rs words spelt → EachStands n rs (operands_of spelt)
-operands_stand n rs words (assigns command os) h = each_stands n rs h.1 os h.4
-operands_stand n rs words (tells command os) h = each_stands n rs h.0 os h.2
+forms_stand : (n : Counts) (rs : List Register) (words : List Word) (own : Form) (os : List Operand) → Forms n rs words own os → EachStands n rs os
+forms_stand n rs words own os (assigns r command rest e fresh is) = each_stands n rs rest os is.stand
+forms_stand n rs words own os (tells command rest e is) = each_stands n rs rest os is.stand
+
+pub operands_stand : (n : Counts) (rs : List Register) (words : List Word) (act : Act) (says : Says n rs words act) → EachStands n rs says.operands
+operands_stand n rs words act says = forms_stand n rs words says.own says.operands says.forms
 
 abbrev after_tests : Bool → Bool → List Register → Word → Kind → Word → List Register
 after_tests more less rs r kind x = cond more (rs ++ register_made r kind ∷ []) (cond less (map (without x) rs) rs)
 
 -- an assignment adds a register
-pub one_register_more : (n : Counts) (rs : List Register) (words : List Word) (command : Word) (os : List Operand) → Spells n rs words (assigns command os)
-    → (r : Word) × (rest : List Word) × AllStandFor n rs rest os × (registers_after rs words ≡ rs ++ register_made r (kind_given rs command rest) ∷ [])
-one_register_more n rs words command os h = (h.0, h.1, h.4, ap (registers_after rs) h.2)
+pub one_register_more : (rs : List Register) (words : List Word) (r command : Word) (rest : List Word) → words ≡ r ∷ codes "=" ∷ command ∷ rest → registers_after rs words ≡ rs ++ register_made r (kind_given rs command rest) ∷ []
+one_register_more rs words r command rest e = ap (registers_after rs) e
 
 -- of the kind that its word tells, unless it hands a diagram on
 pub kind_by_word : (rs : List Register) (command : Word) (rest : List Word) → bytes_eq command (codes "copy") ≡ false → bytes_eq command (codes "fetch") ≡ false → kind_given rs command rest ≡ kind_made command
@@ -70,20 +74,188 @@ no_drop command (x ∷ []) h = h
 no_drop command (x ∷ y ∷ rest) h = refl
 
 -- a command that neither assigns nor drops leaves the registers
-pub same_registers : (n : Counts) (rs : List Register) (words : List Word) (command : Word) (os : List Operand) → bytes_eq command (codes "drop") ≡ false → Spells n rs words (tells command os) → registers_after rs words ≡ rs
-same_registers n rs words command os other h =
-    ap (registers_after rs) h.1 ∙ not_assigning rs (command ∷ h.0) false (no_assignment n rs command h.0 os h.2) (no_drop command h.0 other)
+pub same_registers : (n : Counts) (rs : List Register) (words : List Word) (command : Word) (rest : List Word) (os : List Operand) → words ≡ command ∷ rest → AllStandFor n rs rest os → bytes_eq command (codes "drop") ≡ false → registers_after rs words ≡ rs
+same_registers n rs words command rest os e stand other =
+    ap (registers_after rs) e ∙ not_assigning rs (command ∷ rest) false (no_assignment n rs command rest os stand) (no_drop command rest other)
 
 -- a drop takes the register of its word away
-pub one_register_less : (n : Counts) (rs : List Register) (words : List Word) (a : ℕ) → Says n rs words (acts.Drop a) → (x : Word) × (kind : Kind) × Refers rs x a kind × (registers_after rs words ≡ map (without x) rs)
-one_register_less n rs words a (([], e, h), proper) = absurd h
-one_register_less n rs words a ((x ∷ [], e, h), proper) = (x, h.0.0, h.0.1, ap (registers_after rs) e)
-one_register_less n rs words a ((x ∷ y ∷ rest, e, h), proper) = absurd h.1
+pub one_register_less : (n : Counts) (rs : List Register) (words rest : List Word) (a : ℕ) → words ≡ codes "drop" ∷ rest → AllStandFor n rs rest (operands.Any a ∷ []) → (x : Word) × (kind : Kind) × Refers rs x a kind × (registers_after rs words ≡ map (without x) rs)
+one_register_less n rs words [] a e h = absurd h
+one_register_less n rs words (x ∷ []) a e h = (x, h.0.0, h.0.1, ap (registers_after rs) e)
+one_register_less n rs words (x ∷ y ∷ rest) a e h = absurd h.1
 
 -- no register has the name that an assignment says
 pub assigns_fresh : (n : Counts) (rs : List Register) (words : List Word) (act : Act) → Says n rs words act → is_assignment words ≡ true → list_any (is_called (target_of words)) rs ≡ false
-assigns_fresh n rs words act says e = spelt_fresh n rs words (spelling act) says.0 e
+assigns_fresh n rs words act says e = by says.forms
   where
-    spelt_fresh : (n : Counts) (rs : List Register) (words : List Word) (spelt : Spelling) → Spells n rs words spelt → is_assignment words ≡ true → list_any (is_called (target_of words)) rs ≡ false
-    spelt_fresh n rs words (assigns command os) h e = ap (λ t. list_any (is_called (target_of t)) rs) h.2 ∙ any_none rs h.0 h.3.1
-    spelt_fresh n rs words (tells command os) h e = absurd (false≢true (sym (ap is_assignment h.1 ∙ no_assignment n rs command h.0 os h.2) ∙ e))
+    by : Forms n rs words says.own says.operands → list_any (is_called (target_of words)) rs ≡ false
+    by (assigns r command rest same fresh is) = ap (λ t. list_any (is_called (target_of t)) rs) same ∙ any_none rs r fresh.1
+    by (tells command rest same is) = absurd (false≢true (sym (ap is_assignment same ∙ no_assignment n rs command rest says.operands is.stand) ∙ e))
+
+-- What the words of a command leave of the registers, by what it does
+module _ (n : Counts) (rs : List Register) where
+  -- the word of a command that assigns tells the kind of what it makes
+  abbrev TellsKind : Word → Act → Type 0
+  TellsKind word (acts.Makes making) = (rest : List Word) → kind_given rs word rest ≡ kind_of_making making
+  TellsKind word (acts.Copy a) = word ≡ codes "copy"
+  TellsKind word (acts.Fetch k a) = word ≡ codes "fetch"
+  TellsKind word _ = ⊥
+
+  each_tells_kind : EachRow (λ own. (given : Operands) → TellsKind own.word (act_of own.operation given)) assigning
+  each_tells_kind = (
+    (λ g rest. refl),
+    (
+      (λ g rest. refl),
+      (
+        (λ g rest. refl),
+        (
+          (λ g rest. refl),
+          (
+            (λ g rest. refl),
+            (
+              (λ g rest. refl),
+              (
+                (λ g rest. refl),
+                (
+                  (λ g rest. refl),
+                  (
+                    (λ g rest. refl),
+                    (
+                      (λ g rest. refl),
+                      (
+                        (λ g rest. refl),
+                        (
+                          (λ g rest. refl),
+                          (
+                            (λ g rest. refl),
+                            (
+                              (λ g rest. refl),
+                              (
+                                (λ g rest. refl),
+                                (
+                                  (λ g rest. refl),
+                                  (
+                                    (λ g rest. refl),
+                                    (
+                                      (λ g rest. refl),
+                                      (
+                                        (λ g rest. refl),
+                                        (
+                                          (λ g rest. refl),
+                                          (
+                                            (λ g rest. refl),
+                                            (
+                                              (λ g rest. refl),
+                                              (
+                                                (λ g rest. refl),
+                                                (
+                                                  (λ g rest. refl),
+                                                  (
+                                                    (λ g rest. refl),
+                                                    (
+                                                      (λ g rest. refl),
+                                                      (
+                                                        (λ g rest. refl),
+                                                        (
+                                                          (λ g rest. refl),
+                                                          (
+                                                            (λ g rest. refl),
+                                                            (
+                                                              (λ g rest. refl),
+                                                              (
+                                                                (λ g rest. refl),
+                                                                (
+                                                                  (λ g rest. refl),
+                                                                  (
+                                                                    (λ g rest. refl),
+                                                                    (
+                                                                      (λ g rest. refl),
+                                                                      (
+                                                                        (λ g rest. refl),
+                                                                        ((λ g rest. refl), ((λ g rest. refl), ((λ g rest. refl), ((λ g rest. refl), ((λ g. refl), ((λ g. refl), tt)))))),
+                                                                      ),
+                                                                    ),
+                                                                  ),
+                                                                ),
+                                                              ),
+                                                            ),
+                                                          ),
+                                                        ),
+                                                      ),
+                                                    ),
+                                                  ),
+                                                ),
+                                              ),
+                                            ),
+                                          ),
+                                        ),
+                                      ),
+                                    ),
+                                  ),
+                                ),
+                              ),
+                            ),
+                          ),
+                        ),
+                      ),
+                    ),
+                  ),
+                ),
+              ),
+            ),
+          ),
+        ),
+      ),
+    ),
+  )
+
+  -- and that of another command, whether it drops a register
+  abbrev TellsDrop : Word → Act → Type 0
+  TellsDrop word (acts.Makes making) = ⊥
+  TellsDrop word (acts.Copy a) = ⊥
+  TellsDrop word (acts.Fetch k a) = ⊥
+  TellsDrop word (acts.Drop a) = word ≡ codes "drop"
+  TellsDrop word _ = bytes_eq word (codes "drop") ≡ false
+
+  each_tells_drop : EachRow (λ own. (given : Operands) → TellsDrop own.word (act_of own.operation given)) telling
+  each_tells_drop = ((λ g. refl), ((λ g. refl), ((λ g. refl), ((λ g. refl), ((λ g. refl), ((λ g. refl), tt))))))
+
+  abbrev pub Leaves : List Word → Act → Type 0
+  Leaves words (acts.Makes making) = (r : Word) × (registers_after rs words ≡ rs ++ register_made r (kind_of_making making) ∷ [])
+  Leaves words (acts.Copy a) = (r : Word) × (registers_after rs words ≡ rs ++ register_made r (kind_at rs a) ∷ [])
+  Leaves words (acts.Fetch k a) = (r : Word) × (registers_after rs words ≡ rs ++ register_made r (kind_at rs a) ∷ [])
+  Leaves words (acts.Drop a) = (x : Word) × (kind : Kind) × Refers rs x a kind × (registers_after rs words ≡ map (without x) rs)
+  Leaves words _ = registers_after rs words ≡ rs
+
+  with_more : (words : List Word) (r command : Word) (rest : List Word) (k : Kind) → words ≡ r ∷ codes "=" ∷ command ∷ rest → kind_given rs command rest ≡ k → registers_after rs words ≡ rs ++ register_made r k ∷ []
+  with_more words r command rest k e kind = one_register_more rs words r command rest e ∙ ap (λ j. rs ++ register_made r j ∷ []) kind
+
+  assigned : (words : List Word) (act : Act) (r command : Word) (rest : List Word) (os : List Operand) → words ≡ r ∷ codes "=" ∷ command ∷ rest → TellsKind command act → Takes n rs act os → AllStandFor n rs rest os → Leaves words act
+  assigned words (acts.Makes making) r command rest os e kind takes stand = (r, with_more words r command rest (kind_of_making making) e (kind rest))
+  assigned words (acts.Copy a) r command rest os e kind takes stand =
+      (r, with_more words r command rest (kind_at rs a) e (ap (λ c. kind_given rs c rest) kind ∙ kind_of_copy n rs rest a (subst (AllStandFor n rs rest) takes stand)))
+  assigned words (acts.Fetch k a) r command rest os e kind takes stand =
+      (r, with_more words r command rest (kind_at rs a) e (ap (λ c. kind_given rs c rest) kind ∙ kind_of_fetch n rs rest k a (subst (AllStandFor n rs rest) takes stand)))
+  assigned words act r command rest os e kind takes stand = absurd kind
+
+  told : (words : List Word) (act : Act) (command : Word) (rest : List Word) (os : List Operand) → words ≡ command ∷ rest → TellsDrop command act → Takes n rs act os → AllStandFor n rs rest os → Leaves words act
+  told words (acts.Makes making) command rest os e drops takes stand = absurd drops
+  told words (acts.Copy a) command rest os e drops takes stand = absurd drops
+  told words (acts.Fetch k a) command rest os e drops takes stand = absurd drops
+  told words (acts.Drop a) command rest os e drops takes stand = one_register_less n rs words rest a (e ∙ ap (λ c. c ∷ rest) drops) (subst (AllStandFor n rs rest) takes stand)
+  told words act command rest os e drops takes stand = same_registers n rs words command rest os e stand drops
+
+  pub leaves : (words : List Word) (act : Act) → Says n rs words act → Leaves words act
+  leaves words act says = by says.forms
+    where
+      by : Forms n rs words says.own says.operands → Leaves words act
+      by (assigns r command rest e fresh is) =
+          let row = row_has (λ own. (given : Operands) → TellsKind own.word (act_of own.operation given)) assigning command says.own is.found each_tells_kind in
+          let kind = subst (λ (t : Act). TellsKind command t) (sym says.means)
+          (subst (λ (w : Word). TellsKind w (act_of says.own.operation (with_operands rs no_operands says.operands))) row.1 (row.0 (with_operands rs no_operands says.operands))) in
+          assigned words act r command rest says.operands e kind (takes n rs words act says) is.stand
+      by (tells command rest e is) =
+          let row = row_has (λ own. (given : Operands) → TellsDrop own.word (act_of own.operation given)) telling command says.own is.found each_tells_drop in
+          let drops = subst (λ (t : Act). TellsDrop command t) (sym says.means)
+          (subst (λ (w : Word). TellsDrop w (act_of says.own.operation (with_operands rs no_operands says.operands))) row.1 (row.0 (with_operands rs no_operands says.operands))) in
+          told words act command rest says.operands e drops (takes n rs words act says) is.stand

@@ -2,8 +2,8 @@
 use Rattle.std.proofs.Common.{◌≡◌, ◌&&◌, Bool, true, false, cond, List, [], ◌∷◌, ◌++◌, Option, Some, None, option_map, refl, ap, sym, ◌∙◌, append_assoc}
 use Rattle.std.specs.List.{list_all}
 use Rattle.std.proofs.lemmas.Bool.{false≢true}
-use Rattle.job_words.specs.declared.slots.Line.{Line}
-use Rattle.job_words.specs.declared.commands.Place.{Place}
+use Rattle.job_commands.specs.declared.slots.Line.{Line}
+use Rattle.job_commands.specs.declared.commands.Place.{Place}
 use Rattle.job_text.specs.declared.faults.FaultKind.{FaultKind}
 use Rattle.job_text.specs.declared.faults.FaultKind.TheVariants as kinds
 use Rattle.job_text.specs.declared.faults.Stop.{Stop}
@@ -11,12 +11,14 @@ use Rattle.job_text.specs.declared.faults.Stop.TheVariants as stops
 use Rattle.job_text.specs.declared.job.Counts.{Counts}
 use Rattle.job_text.specs.declared.job.Register.{Register}
 use Rattle.job_text.specs.declared.operands.Operand.{Operand}
-use Rattle.job_text.specs.declared.operands.Operands.{Operands}
+use Rattle.job_commands.specs.declared.operands.Operands.{Operands}
 use Rattle.job_words.specs.Text.{Word}
 use Rattle.job_text.specs.Faults.{beside_fault, word_fault, left_after, nothing_left, first_fault, fault_in, command_fault, or_else}
-use Rattle.job_words.specs.Commands.{command_of, has_form}
-use Rattle.job_text.specs.Drafts.{IsOperand, AreOperands, no_operands, with_operand, with_operands, misfit, left_by, AllFit, SlotStop, SlotsStop, CommandStop}
-use Rattle.job_words.specs.Slots.{slots_of, line_of}
+use Rattle.job_commands.specs.Commands.{command_of, has_form}
+use Rattle.job_commands.specs.Commands.{no_operands}
+use Rattle.job_text.specs.Places.{AllFit, misfit, with_operand, with_operands}
+use Rattle.job_text.specs.Drafts.{AreOperands, CommandStop, IsOperand, SlotStop, SlotsStop, left_by}
+use Rattle.job_commands.specs.Slots.{slots_of, line_of}
 use Rattle.job_text.proofs.Meanings.{word_fault_is, no_word_fault}
 use Rattle.job_text.proofs.Naming.{left_is}
 

@@ -10,4 +10,4 @@ pub mod OneReading
 pub mod Reading
 pub mod RegisterLists
 pub mod NameIndex
-pub mod Spellings
+pub mod Rows

@@ -2,19 +2,21 @@
 use Rattle.std.proofs.Common.{◌≡◌, Bool, true, false, cond, List, [], ◌∷◌, ◌++◌, Option, Some, None, option_map, option_and_then, refl, ap, sym, ◌∙◌, subst, codes}
 use Rattle.std.specs.Str.{bytes_eq}
 use Rattle.std.proofs.lemmas.Slice.Eq.{bytes_eq-Decides}
-use Rattle.job_words.specs.declared.commands.Operation.{Operation}
-use Rattle.job_words.specs.declared.commands.Place.{Place}
-use Rattle.job_words.specs.declared.commands.Place.TheVariants.{Fresh}
+use Rattle.job_commands.specs.declared.commands.Operation.{Operation}
+use Rattle.job_commands.specs.declared.commands.Place.{Place}
+use Rattle.job_commands.specs.declared.commands.Place.TheVariants.{Fresh}
 use Rattle.job_text.specs.declared.job.Counts.{Counts}
 use Rattle.job_text.specs.declared.job.Register.{Register}
 use Rattle.job_text.specs.declared.operands.Operand.{Operand}
 use Rattle.job_text.specs.declared.operands.Operand.TheVariants as operands
-use Rattle.job_text.specs.declared.operands.Operands.{Operands}
+use Rattle.job_commands.specs.declared.operands.Operands.{Operands}
 use Rattle.job_words.specs.Text.{Word}
-use Rattle.job_text.specs.Grammar.{Says, Spelling, assigns, tells, spelling, Spells, IsProper, IsFresh, AllStandFor}
-use Rattle.job_words.specs.Commands.{Form, form_in, filled, command_in, command_of, assignment_of, telling_of, assigning, telling}
-use Rattle.job_text.specs.Drafts.{IsOperand, AreOperands, no_operands, with_operand, with_operands, AllFit, act_of}
-use Rattle.job_text.proofs.Spellings.{Follows, each_assigns, each_tells, found_builds}
+use Rattle.job_commands.specs.Commands.{act_of}
+use Rattle.job_commands.specs.Commands.{no_operands}
+use Rattle.job_text.specs.Places.{AllFit, AllStandFor, Follows, IsFresh, with_operand, with_operands}
+use Rattle.job_text.specs.Grammar.{Says, assigns, tells}
+use Rattle.job_commands.specs.Commands.{Form, form_in, filled, command_in, command_of, assignment_of, telling_of, assigning, telling}
+use Rattle.job_text.specs.Drafts.{AreOperands, IsOperand}
 
 -- The command of a line in a table, and its places.
 record IsFilled (forms : List Form) (before : List (Place × Word)) (command : Word) (words : List Word) (operation : Operation) (slots : List (Place × Word)) : Type 0 where
@@ -94,22 +96,24 @@ assigns_from n rs words r command rest operation slots (o ∷ os) e h a new =
     let all : IsOperand n rs (Fresh, r) o × AreOperands n rs h.behind os = subst (λ (t : List (Place × Word)). AreOperands n rs t (o ∷ os)) (sym h.all) a in
     let target = target_is n rs r o all.0 in
     let own = meant n rs h.own.places h.own.repeated rest h.behind os h.fills all.1 in
-    let builds = found_builds n rs assigns assigning command h.own h.found (each_assigns n rs) in
-    let made = builds.0 os own.0 (subst (λ (t : Operands). AllFit n rs t os) target.1 new.1) in
-    let same = ap (λ t. act_of operation (with_operands rs t os)) target.1 ∙ ap (λ t. act_of t (with_operands rs no_operands os)) (sym h.does) in
-    let spelt : spelling (act_of operation (with_operands rs no_operands (o ∷ os))) ≡ assigns command os = ap spelling same ∙ made.0 ∙ ap (λ t. assigns t os) builds.1 in
-    (subst (λ (t : Spelling). Spells n rs words t) (sym spelt) (r, rest, e, target.0, own.1), subst (IsProper n rs) (sym same) made.1)
+    record {
+      own = h.own;
+      operands = os;
+      forms = assigns r command rest e target.0 (record { found = h.found; follows = own.0; stand = own.1; fit = subst (λ (t : Operands). AllFit n rs t os) target.1 new.1 });
+      means = ap (λ t. act_of operation (with_operands rs t os)) target.1 ∙ ap (λ t. act_of t (with_operands rs no_operands os)) (sym h.does);
+    }
 
 tells_from : (n : Counts) (rs : List Register) (words : List Word) (command : Word) (rest : List Word) (operation : Operation) (slots : List (Place × Word)) (os : List Operand)
     → words ≡ command ∷ rest → IsFilled telling [] command rest operation slots → AreOperands n rs slots os → AllFit n rs no_operands os → Says n rs words (act_of operation (with_operands rs no_operands os))
 tells_from n rs words command rest operation slots os e h a new =
     let all : AreOperands n rs h.behind os = subst (λ (t : List (Place × Word)). AreOperands n rs t os) (sym h.all) a in
     let own = meant n rs h.own.places h.own.repeated rest h.behind os h.fills all in
-    let builds = found_builds n rs tells telling command h.own h.found (each_tells n rs) in
-    let made = builds.0 os own.0 new in
-    let same = ap (λ t. act_of t (with_operands rs no_operands os)) (sym h.does) in
-    let spelt : spelling (act_of operation (with_operands rs no_operands os)) ≡ tells command os = ap spelling same ∙ made.0 ∙ ap (λ t. tells t os) builds.1 in
-    (subst (λ (t : Spelling). Spells n rs words t) (sym spelt) (rest, e, own.1), subst (IsProper n rs) (sym same) made.1)
+    record {
+      own = h.own;
+      operands = os;
+      forms = tells command rest e (record { found = h.found; follows = own.0; stand = own.1; fit = new });
+      means = ap (λ t. act_of t (with_operands rs no_operands os)) (sym h.does);
+    }
 
 pub says_from : (n : Counts) (rs : List Register) (words : List Word) (operation : Operation) (slots : List (Place × Word)) (os : List Operand) → command_of words ≡ Some (operation, slots) → AreOperands n rs slots os
     → AllFit n rs no_operands os → Says n rs words (act_of operation (with_operands rs no_operands os))

@@ -9,25 +9,26 @@ use Rattle.std.proofs.lemmas.Bool.Decides.{nat_tests}
 use Rattle.std.proofs.lemmas.Slice.Eq.{bytes_eq-Decides}
 use Rattle.edge_bits.specs.declared.edges.Kind.{Kind}
 use Rattle.function_laws.specs.Numbers.{is_value}
-use Rattle.job_text.specs.declared.job.Act.{Act}
+use Rattle.job_commands.specs.declared.acts.Act.{Act}
 use Rattle.job_text.specs.declared.job.Counts.{Counts}
-use Rattle.job_words.specs.declared.commands.Place.{Place}
-use Rattle.job_words.specs.declared.commands.Place.TheVariants as places
+use Rattle.job_commands.specs.declared.commands.Place.{Place}
+use Rattle.job_commands.specs.declared.commands.Place.TheVariants as places
 use Rattle.job_text.specs.declared.job.Register.{Register}
 use Rattle.job_text.specs.declared.operands.Operand.{Operand}
 use Rattle.job_text.specs.declared.operands.Operand.TheVariants as operands
-use Rattle.job_text.specs.declared.operands.Operands.{Operands}
+use Rattle.job_commands.specs.declared.operands.Operands.{Operands}
 use Rattle.job_text.specs.declared.faults.FaultKind.TheVariants as kinds
 use Rattle.job_words.specs.Text.{Word, IsNumber, is_name, is_number, is_integer, bit_word, is_assignment, is_bit, is_bits}
-use Rattle.job_text.specs.Grammar.{Says, Spelling, assigns, tells, Spells, spelling, StandsFor, AllStandFor, IsFresh, Refers, is_called, kind_of, register_called}
-use Rattle.job_text.specs.Faults.{slot_fault, beside_fault, word_fault, left_after, nothing_left, first_fault, fault_in, or_else, command_fault, is_session, name_fault, kind_fault}
-use Rattle.job_words.specs.Commands.{Form, form_in, assigning, telling, filled, command_in, has_form, command_of}
-use Rattle.job_text.specs.Drafts.{place_of, IsOperand, AreOperands, no_operands, with_operand, misfit, left_by, AllFit}
+use Rattle.job_commands.specs.Commands.{no_operands}
+use Rattle.job_text.specs.Places.{AllFit, AllStandFor, Follows, IsFresh, Refers, StandsFor, is_called, kind_fault, kind_of, misfit, place_of, with_operand}
+use Rattle.job_text.specs.Grammar.{Forms, Says, assigns, register_called, tells}
+use Rattle.job_text.specs.Faults.{slot_fault, beside_fault, word_fault, left_after, nothing_left, first_fault, fault_in, or_else, command_fault, is_session, name_fault}
+use Rattle.job_commands.specs.Commands.{Form, form_in, assigning, telling, filled, command_in, has_form, command_of}
+use Rattle.job_text.specs.Drafts.{AreOperands, IsOperand, left_by}
 use Rattle.job_words.proofs.Bits.{form_of_bits}
-use Rattle.job_words.proofs.Forms.{telling_is}
+use Rattle.job_commands.proofs.Forms.{telling_is}
 use Rattle.job_text.proofs.Naming.{left_is, beside_is}
 use Rattle.job_text.proofs.RegisterLists.{called_is, kind_itself}
-use Rattle.job_text.proofs.Spellings.{Follows, IsKnown, known}
 
 -- the word has the form that is due, and no fault
 abbrev pub Fits : Counts → List Register → Place × Word → Type 0
@@ -174,32 +175,42 @@ no_assignment n rs command (w ∷ x ∷ words) [] h = absurd h
 no_assignment n rs command (w ∷ x ∷ words) (o ∷ os) h = no_equals n rs w o h.0
 
 -- what says something is no faulty command
-spells_well : (n : Counts) (rs : List Register) (words : List Word) (act : Act) (spelt : Spelling) → IsKnown n rs act spelt → Spells n rs words spelt → command_fault n rs words ≡ None
+formed_well : (n : Counts) (rs : List Register) (words : List Word) (own : Form) (os : List Operand) → Forms n rs words own os → command_fault n rs words ≡ None
 unfolding command_fault
-spells_well n rs words act (assigns command os) known h =
-    ap (λ ws. fault_in n rs (option_map (λ known. known.1) (command_of ws))) h.2
+formed_well n rs words own os (assigns r command rest e fresh is) =
+    ap (λ ws. fault_in n rs (option_map (λ known. known.1) (command_of ws))) e
     ∙ ap (λ o. fault_in n rs (option_map (λ known. known.1) o))
-    (command_is assigning ((places.Fresh, h.0) ∷ []) command h.1 known.own (slots_for os h.1) known.found (filled_by n rs known.own.places known.own.repeated h.1 os h.4 known.follows))
-    ∙ fits_all n rs ((places.Fresh, h.0) ∷ slots_for os h.1) (operands.Target ∷ os) ((refl, h.3), are_operands n rs h.1 os h.4) (refl, known.new)
-spells_well n rs words act (tells command os) known h =
-    ap (λ ws. fault_in n rs (option_map (λ known. known.1) (command_of ws))) h.1
+    (command_is assigning ((places.Fresh, r) ∷ []) command rest own (slots_for os rest) is.found (filled_by n rs own.places own.repeated rest os is.stand is.follows))
+    ∙ fits_all n rs ((places.Fresh, r) ∷ slots_for os rest) (operands.Target ∷ os) ((refl, fresh), are_operands n rs rest os is.stand) (refl, is.fit)
+formed_well n rs words own os (tells command rest e is) =
+    ap (λ ws. fault_in n rs (option_map (λ known. known.1) (command_of ws))) e
     ∙ ap (λ o. fault_in n rs (option_map (λ known. known.1) o))
-    (telling_is command h.0 (no_assignment n rs command h.0 os h.2)
-    ∙ command_is telling [] command h.0 known.0.own (slots_for os h.0) known.0.found (filled_by n rs known.0.own.places known.0.own.repeated h.0 os h.2 known.0.follows))
-    ∙ fits_all n rs (slots_for os h.0) os (are_operands n rs h.0 os h.2) known.0.new
+    (telling_is command rest (no_assignment n rs command rest os is.stand)
+    ∙ command_is telling [] command rest own (slots_for os rest) is.found (filled_by n rs own.places own.repeated rest os is.stand is.follows))
+    ∙ fits_all n rs (slots_for os rest) os (are_operands n rs rest os is.stand) is.fit
 
 pub says_well : (n : Counts) (rs : List Register) (words : List Word) (act : Act) → Says n rs words act → command_fault n rs words ≡ None
-says_well n rs words act h = spells_well n rs words act (spelling act) (known n rs act h.1) h.0
+says_well n rs words act says = formed_well n rs words says.own says.operands says.forms
 
 -- a command has words, and is no `session`
+no_session : (command : Word) (own : Form) → form_in telling command ≡ Some own → bytes_eq command (codes "session") ≡ false
+no_session command own found = by_cases (bytes_eq command (codes "session")) refl
+  where
+    by_cases : (b : Bool) → bytes_eq command (codes "session") ≡ b → bytes_eq command (codes "session") ≡ false
+    by_cases false e = e
+    by_cases true e =
+        let none : form_in telling (codes "session") ≡ None = refl in
+        let k : None ≡ Some own = sym none ∙ ap (form_in telling) (sym ((bytes_eq-Decides command (codes "session")).0 e)) ∙ found in
+        cc
+
 one_word : (command : Word) (rest : List Word) → bytes_eq command (codes "session") ≡ false → is_session (command ∷ rest) ≡ false
 one_word command [] h = h
 one_word command (word ∷ rest) h = refl
 
-spells_words : (n : Counts) (rs : List Register) (words : List Word) (act : Act) (spelt : Spelling) → IsKnown n rs act spelt → Spells n rs words spelt
+formed_words : (n : Counts) (rs : List Register) (words : List Word) (own : Form) (os : List Operand) → Forms n rs words own os
     → (first : Word) × (rest : List Word) × (words ≡ first ∷ rest) × (is_session words ≡ false)
-spells_words n rs words act (assigns command os) known h = (h.0, codes "=" ∷ command ∷ h.1, h.2, ap is_session h.2)
-spells_words n rs words act (tells command os) known h = (command, h.0, h.1, ap is_session h.1 ∙ one_word command h.0 known.1)
+formed_words n rs words own os (assigns r command rest e fresh is) = (r, codes "=" ∷ command ∷ rest, e, ap is_session e)
+formed_words n rs words own os (tells command rest e is) = (command, rest, e, ap is_session e ∙ one_word command rest (no_session command own is.found))
 
 pub says_words : (n : Counts) (rs : List Register) (words : List Word) (act : Act) → Says n rs words act → (first : Word) × (rest : List Word) × (words ≡ first ∷ rest) × (is_session words ≡ false)
-says_words n rs words act h = spells_words n rs words act (spelling act) (known n rs act h.1) h.0
+says_words n rs words act says = formed_words n rs words says.own says.operands says.forms

@@ -13,7 +13,8 @@ use Rattle.std.proofs.lemmas.Map.Text.{is_eq-slice_cmp}
 use Rattle.std.proofs.lemmas.Slice.Eq.{bytes_eq-Decides}
 use Rattle.job_text.specs.declared.job.Register.{Register}
 use Rattle.job_words.specs.Text.{Word}
-use Rattle.job_text.specs.Grammar.{is_called, without}
+use Rattle.job_text.specs.Places.{is_called}
+use Rattle.job_text.specs.Grammar.{without}
 use Rattle.job_text.specs.Names.{AreDistinct, IsIndex, found_by}
 use Rattle.job_text.proofs.RegisterLists.{dropped_is, kept_is}
 

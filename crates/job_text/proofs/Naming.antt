@@ -5,19 +5,19 @@ use Rattle.std.proofs.lemmas.Bool.{and_parts, and_from, or_parts, or_from, not-t
 use Rattle.std.proofs.lemmas.Bool.Decides.{nat_tests}
 use Rattle.std.proofs.lemmas.List.{append-nil}
 use Rattle.std.proofs.lemmas.List.Folds.{list_any-append}
-use Rattle.function_laws.specs.Steps.{are_distinct}
+use Rattle.function_laws.specs.Makings.{are_distinct}
 use Rattle.edge_bits.specs.declared.edges.Kind.TheVariants.{Bdd}
-use Rattle.job_words.specs.declared.commands.Place.{Place}
+use Rattle.job_commands.specs.declared.commands.Place.{Place}
 use Rattle.job_text.specs.declared.faults.FaultKind.TheVariants as kinds
 use Rattle.job_text.specs.declared.job.Counts.{Counts}
 use Rattle.job_text.specs.declared.job.Register.{Register}
 use Rattle.job_text.specs.declared.operands.Operand.{Operand}
 use Rattle.job_text.specs.declared.operands.Operand.TheVariants as operands
-use Rattle.job_text.specs.declared.operands.Operands.{Operands}
+use Rattle.job_commands.specs.declared.operands.Operands.{Operands}
 use Rattle.job_words.specs.Text.{Word, bits_in}
-use Rattle.job_text.specs.Grammar.{bits_for, pair_operands}
-use Rattle.job_text.specs.Faults.{beside_fault, kind_fault, left_after}
-use Rattle.job_text.specs.Drafts.{IsOperand, with_operand, misfit, left_by, AllFit}
+use Rattle.job_text.specs.Places.{AllFit, bits_for, kind_fault, misfit, with_operand}
+use Rattle.job_text.specs.Faults.{beside_fault, left_after}
+use Rattle.job_text.specs.Drafts.{IsOperand, left_by}
 use Rattle.job_words.proofs.Bits.{length_bit_word}
 use Rattle.job_text.proofs.RegisterLists.{kind_is}
 
@@ -84,14 +84,9 @@ distinct_more (u ∷ us) v h e =
     let none = list_any-append (λ x. x == u) us (v ∷ []) ∙ or_from (list_any (λ x. x == u) us) (list_any (λ x. x == u) (v ∷ [])) (not-true (list_any (λ x. x == u) us) own.0) last in
     and_from (not (list_any (λ x. x == u) (us ++ v ∷ []))) (are_distinct (us ++ v ∷ [])) (not_from_false (list_any (λ x. x == u) (us ++ v ∷ [])) none) (distinct_more us v own.1 other.1)
 
-none_before : (us : List ℕ) (v : ℕ) (vs : List ℕ) → are_distinct (us ++ v ∷ vs) ≡ true → list_any (λ u. u == v) us ≡ false
-none_before [] v vs h = refl
-none_before (u ∷ us) v vs h =
-    let own = and_parts (not (list_any (λ x. x == u) (us ++ v ∷ vs))) (are_distinct (us ++ v ∷ vs)) h in
-    let none = sym (list_any-append (λ x. x == u) us (v ∷ vs)) ∙ not-true (list_any (λ x. x == u) (us ++ v ∷ vs)) own.0 in
-    let rest = or_parts (list_any (λ x. x == u) us) (list_any (λ x. x == u) (v ∷ vs)) none in
-    let other = or_parts (v == u) (list_any (λ x. x == u) vs) rest.1 in
-    or_from (u == v) (list_any (λ x. x == v) us) (turned v u other.0) (none_before us v vs own.1)
+-- a variable, and the register that is put for it
+abbrev pub pair_operands : ℕ × ℕ → List Operand
+pair_operands pair = operands.NewVariable pair.0 ∷ operands.Register Bdd pair.1 ∷ []
 
 abbrev first_of : ℕ × ℕ → ℕ
 first_of pair = pair.0
@@ -104,15 +99,7 @@ fits_new : (b : Bool) → cond b (Some kinds.Range) None ≡ None → b ≡ fals
 fits_new true h = cc
 fits_new false h = refl
 
--- pairs whose variables are distinct name each anew
-pub pairs_new : (n : Counts) (rs : List Register) (others : Operands) (pairs : List (ℕ × ℕ)) → are_distinct (others.variables ++ map first_of pairs) ≡ true → AllFit n rs others (flat_map pair_operands pairs)
-pairs_new n rs others [] h = tt
-pairs_new n rs others (pair ∷ pairs) h = (
-  ap (λ b. cond b (Some kinds.Range) None) (none_before others.variables pair.0 (map first_of pairs) h),
-  (refl, pairs_new n rs (with_pair rs others pair) pairs (ap are_distinct (append_assoc others.variables (pair.0 ∷ []) (map first_of pairs)) ∙ h)),
-)
-
--- and pairs that name each variable anew have distinct ones
+-- pairs that name each variable anew have distinct ones
 pub pairs_distinct : (n : Counts) (rs : List Register) (others : Operands) (pairs : List (ℕ × ℕ)) → are_distinct others.variables ≡ true → AllFit n rs others (flat_map pair_operands pairs)
     → are_distinct (others.variables ++ map first_of pairs) ≡ true
 pairs_distinct n rs others [] d h = ap are_distinct (append-nil others.variables) ∙ d

@@ -12,8 +12,9 @@ use Rattle.edge_bits.specs.declared.edges.Kind.{Kind}
 use Rattle.edge_bits.specs.declared.edges.Kind.TheVariants.{Bdd, Add, Zdd}
 use Rattle.job_text.specs.declared.faults.FaultKind.TheVariants as kinds
 use Rattle.job_words.specs.Text.{Word, is_name}
-use Rattle.job_text.specs.Grammar.{Refers, is_called, kind_at, kind_called, kind_of, register_called, without}
-use Rattle.job_text.specs.Faults.{kind_fault, name_fault}
+use Rattle.job_text.specs.Places.{Refers, is_called, kind_at, kind_fault, kind_of}
+use Rattle.job_text.specs.Grammar.{kind_called, register_called, without}
+use Rattle.job_text.specs.Faults.{name_fault}
 use Rattle.std.proofs.lemmas.Slice.Eq.{bytes_eq-Decides}
 use Rattle.job_text.specs.declared.job.Register.{Register}
 

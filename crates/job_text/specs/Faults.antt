@@ -5,10 +5,10 @@ use Rattle.std.specs.Option.{option_map}
 use Rattle.std.specs.Str.{bytes_eq}
 use Rattle.std.specs.Str.Parse.{digits_value}
 use Rattle.edge_bits.specs.declared.edges.Kind.{Kind}
-use Rattle.edge_bits.specs.declared.edges.Kind.TheVariants.{Bdd, Add, Zdd}
+use Rattle.edge_bits.specs.declared.edges.Kind.TheVariants.{Bdd}
 use Rattle.function_laws.specs.Numbers.{is_value}
-use Rattle.job_words.specs.declared.commands.Place.{Place}
-use Rattle.job_words.specs.declared.commands.Place.TheVariants.{Fresh, Held, Any, Alike, Variable, NewVariable, Element, Cell, Value, Bit, Bits}
+use Rattle.job_commands.specs.declared.commands.Place.{Place}
+use Rattle.job_commands.specs.declared.commands.Place.TheVariants.{Fresh, Held, Any, Alike, Variable, NewVariable, Element, Cell, Value, Bit, Bits}
 use Rattle.job_text.specs.declared.faults.FaultKind.{FaultKind}
 use Rattle.job_text.specs.declared.faults.FaultKind.TheVariants as kinds
 use Rattle.job_text.specs.declared.faults.JobError.{JobError}
@@ -16,23 +16,14 @@ use Rattle.job_text.specs.declared.faults.JobError.TheVariants as errors
 use Rattle.job_text.specs.declared.job.Counts.{Counts}
 use Rattle.job_text.specs.declared.job.Register.{Register}
 use Rattle.job_words.specs.Text.{Word, is_number, integer_value, is_allowed, lines_of, words_of, bits_in}
-use Rattle.job_words.specs.Commands.{has_form, command_of}
-use Rattle.job_text.specs.Grammar.{is_called, register_called, kind_called, bits_for, registers_after}
-
-abbrev pub same_kind : Kind → Kind → Bool
-same_kind Bdd Bdd = true
-same_kind Add Add = true
-same_kind Zdd Zdd = true
-same_kind _ _ = false
+use Rattle.job_commands.specs.Commands.{has_form, command_of}
+use Rattle.job_text.specs.Places.{bits_for, is_called, kind_fault}
+use Rattle.job_text.specs.Grammar.{kind_called, register_called, registers_after}
 
 -- the fault where a register of any kind is due, and this one has the name that stands there
 abbrev pub name_fault : Option Register → Option FaultKind
 name_fault None = Some kinds.Name
 name_fault (Some register) = if register.live then None else Some kinds.Name
-
--- the fault where this kind is due, and a register of that kind is named
-abbrev pub kind_fault : Kind → Kind → Option FaultKind
-kind_fault due kind = if same_kind due kind then None else Some kinds.Kind
 
 abbrev pub or_else : Option FaultKind → Option FaultKind → Option FaultKind
 or_else None later = later

@@ -1,155 +1,40 @@
 -- The texts of jobs: what each command is spelled, and which lines make a job.
-use Rattle.std.specs.Prelude.{◌≡◌, ◌≢◌, ℕ, ◌<◌, ◌≤◌, ◌==◌, Bool, true, false, not, List, [], ◌∷◌, ◌++◌, Option, Some, None, All, length, map, filter, drop, ◌&&◌, slice_get, codes, ◌+◌, ◌⊎◌, if◌then◌else◌, find}
-use Rattle.std.specs.List.{list_all, flat_map, position_or_len}
+use Rattle.std.specs.Prelude.{◌≡◌, ℕ, ◌≤◌, ◌==◌, Bool, true, false, not, List, [], ◌∷◌, ◌++◌, Option, Some, All, length, map, filter, drop, ◌&&◌, codes, ◌+◌, ◌⊎◌, if◌then◌else◌, find}
+use Rattle.std.specs.List.{list_all, flat_map}
 use Rattle.std.specs.Str.{bytes_eq}
 use Rattle.edge_bits.specs.declared.edges.Kind.{Kind}
-use Rattle.edge_bits.specs.declared.edges.Kind.TheVariants.{Bdd, Add, Zdd}
-use Rattle.function_laws.specs.Numbers.{is_value}
-use Rattle.function_laws.specs.Steps.{are_distinct}
-use Rattle.job_text.specs.declared.job.Act.{Act}
-use Rattle.job_text.specs.declared.job.Act.TheVariants.{One, Zero, Var, Not, And, Or, Xor, Ite, Cofactor, Exists, Forall, AndExists, Compose, VectorCompose, Restrict, Support, Constant, FromBdd, Plus, Minus, Times, Min, Max, Threshold, AddIte, SumOver, AtLeast, Pattern, Empty, Base, Single, Union, Meet, Diff, Subset1, Subset0, Change, Product, Quotient, Copy, Fetch, Post, Drop, Same, Leq, Eval, Sweep}
+use Rattle.job_commands.specs.declared.acts.Act.{Act}
 use Rattle.job_text.specs.declared.job.Command.{Command}
 use Rattle.job_text.specs.declared.job.Counts.{Counts}
 use Rattle.job_text.specs.declared.job.Job.{Job}
 use Rattle.job_text.specs.declared.job.Register.{Register}
 use Rattle.job_text.specs.declared.operands.Operand.{Operand}
-use Rattle.job_text.specs.declared.operands.Operand.TheVariants as operands
-use Rattle.job_words.specs.Text.{Word, IsNumber, IsInteger, is_name, is_allowed, bit_word, lines_of, words_of, is_assignment}
-use Rattle.job_words.specs.Commands.{kind_made}
+use Rattle.job_words.specs.Text.{Word, IsNumber, is_allowed, lines_of, words_of, is_assignment}
+use Rattle.job_commands.specs.Commands.{Form, assigning, form_in, kind_made, telling}
+use Rattle.job_commands.specs.Commands.{act_of}
+use Rattle.job_commands.specs.Commands.{no_operands}
+use Rattle.job_text.specs.Places.{AllFit, AllStandFor, Follows, IsFresh, is_called, kind_of, with_operands}
 
--- the word is a name that was not assigned in this section
-abbrev pub IsFresh : List Register → Word → Type 0
-IsFresh registers word = (is_name word ≡ true) × All (λ register. register.name ≢ word) registers
+-- The command of this word in a table, what its operands are, and that the words behind it stand for them: each stands at its place,
+-- and fits those to its left.
+pub record IsCommand (n : Counts) (registers : List Register) (forms : List Form) (command : Word) (words : List Word) (own : Form) (operands : List Operand) : Type 0 where
+  pub found : form_in forms command ≡ Some own
+  pub follows : Follows own.places own.repeated operands
+  pub stand : AllStandFor n registers words operands
+  pub fit : AllFit n registers no_operands operands
 
--- the register has this name
-abbrev pub is_called : Word → Register → Bool
-is_called word register = bytes_eq register.name word
-
--- the word names the register that was assigned as number a and was not dropped, the first of this name; it has this kind
-abbrev pub Refers : List Register → Word → ℕ → Kind → Type 0
-Refers registers word a kind =
-    (is_name word ≡ true) × (slice_get registers a ≡ Some (record { name = word; live = true; kind = kind }))
-    × (position_or_len (is_called word) registers ≡ a)
-
--- the word stands for this, over these registers and these numbers of variables and elements
-abbrev pub StandsFor : Counts → List Register → Word → Operand → Type 0
-StandsFor n registers word operands.Target = IsFresh registers word
-StandsFor n registers word (operands.Register kind a) = Refers registers word a kind
-StandsFor n registers word (operands.Any a) = (kind : Kind) × Refers registers word a kind
-StandsFor n registers word (operands.Alike a) = (kind : Kind) × Refers registers word a kind
-StandsFor n registers word (operands.Variable v) = IsNumber word v × (v < n.vars)
-StandsFor n registers word (operands.NewVariable v) = IsNumber word v × (v < n.vars)
-StandsFor n registers word (operands.Element e) = IsNumber word e × (e < n.elements)
-StandsFor n registers word (operands.Cell k) = IsNumber word k × (k < 256)
-StandsFor n registers word (operands.Value w) = IsInteger word w × (is_value w ≡ true)
-StandsFor n registers word (operands.Bit b) = word ≡ bit_word (b ∷ [])
-StandsFor n registers word (operands.Bits bits) = word ≡ bit_word bits
-
--- the words stand for these, one by one
-abbrev pub AllStandFor : Counts → List Register → List Word → List Operand → Type 0
-AllStandFor n registers [] [] = Unit {0}
-AllStandFor n registers (word ∷ words) (operand ∷ operands) = StandsFor n registers word operand × AllStandFor n registers words operands
-AllStandFor n registers _ _ = ⊥
-
--- How a command is spelled: its word and what stands behind it. The word stands behind a target and `=`, or first.
-pub data Spelling : Type 0 where
-  assigns : Word → List Operand → Spelling
-  tells : Word → List Operand → Spelling
-
--- a variable, and the register that is put for it
-abbrev pub pair_operands : ℕ × ℕ → List Operand
-pair_operands pair = operands.NewVariable pair.0 ∷ operands.Register Bdd pair.1 ∷ []
-
--- a register that is a BDD, one that is an ADD, and one that is a family
-abbrev pub bdd : ℕ → Operand
-bdd a = operands.Register Bdd a
-
-abbrev pub add : ℕ → Operand
-add a = operands.Register Add a
-
-abbrev pub zdd : ℕ → Operand
-zdd a = operands.Register Zdd a
-
-abbrev pub spelling : Act → Spelling
-spelling One = assigns (codes "true") []
-spelling Zero = assigns (codes "false") []
-spelling (Var v) = assigns (codes "var") (operands.Variable v ∷ [])
-spelling (Not a) = assigns (codes "not") (bdd a ∷ [])
-spelling (And a b) = assigns (codes "and") (bdd a ∷ bdd b ∷ [])
-spelling (Or a b) = assigns (codes "or") (bdd a ∷ bdd b ∷ [])
-spelling (Xor a b) = assigns (codes "xor") (bdd a ∷ bdd b ∷ [])
-spelling (Ite a b c) = assigns (codes "ite") (bdd a ∷ bdd b ∷ bdd c ∷ [])
-spelling (Cofactor a v b) = assigns (codes "cofactor") (bdd a ∷ operands.Variable v ∷ operands.Bit b ∷ [])
-spelling (Exists a vs) = assigns (codes "exists") (bdd a ∷ map operands.Variable vs)
-spelling (Forall a vs) = assigns (codes "forall") (bdd a ∷ map operands.Variable vs)
-spelling (AndExists a b vs) = assigns (codes "andexists") (bdd a ∷ bdd b ∷ map operands.Variable vs)
-spelling (Compose a v b) = assigns (codes "compose") (bdd a ∷ operands.Variable v ∷ bdd b ∷ [])
-spelling (VectorCompose a pairs) = assigns (codes "vcompose") (bdd a ∷ flat_map pair_operands pairs)
-spelling (Restrict a b) = assigns (codes "restrict") (bdd a ∷ bdd b ∷ [])
-spelling (Support a) = assigns (codes "support") (bdd a ∷ [])
-spelling (Constant w) = assigns (codes "num") (operands.Value w ∷ [])
-spelling (FromBdd a) = assigns (codes "ofbdd") (bdd a ∷ [])
-spelling (Plus a b) = assigns (codes "plus") (add a ∷ add b ∷ [])
-spelling (Minus a b) = assigns (codes "minus") (add a ∷ add b ∷ [])
-spelling (Times a b) = assigns (codes "times") (add a ∷ add b ∷ [])
-spelling (Min a b) = assigns (codes "min") (add a ∷ add b ∷ [])
-spelling (Max a b) = assigns (codes "max") (add a ∷ add b ∷ [])
-spelling (Threshold a b) = assigns (codes "threshold") (add a ∷ add b ∷ [])
-spelling (AddIte a b c) = assigns (codes "addite") (bdd a ∷ add b ∷ add c ∷ [])
-spelling (SumOver a v) = assigns (codes "sum") (add a ∷ operands.Variable v ∷ [])
-spelling (AtLeast a w) = assigns (codes "atleast") (add a ∷ operands.Value w ∷ [])
-spelling (Pattern a) = assigns (codes "pattern") (add a ∷ [])
-spelling Empty = assigns (codes "empty") []
-spelling Base = assigns (codes "base") []
-spelling (Single e) = assigns (codes "single") (operands.Element e ∷ [])
-spelling (Union a b) = assigns (codes "union") (zdd a ∷ zdd b ∷ [])
-spelling (Meet a b) = assigns (codes "meet") (zdd a ∷ zdd b ∷ [])
-spelling (Diff a b) = assigns (codes "diff") (zdd a ∷ zdd b ∷ [])
-spelling (Subset1 a e) = assigns (codes "on") (zdd a ∷ operands.Element e ∷ [])
-spelling (Subset0 a e) = assigns (codes "off") (zdd a ∷ operands.Element e ∷ [])
-spelling (Change a e) = assigns (codes "flip") (zdd a ∷ operands.Element e ∷ [])
-spelling (Product a b) = assigns (codes "product") (zdd a ∷ zdd b ∷ [])
-spelling (Quotient a b) = assigns (codes "quotient") (zdd a ∷ zdd b ∷ [])
-spelling (Copy a) = assigns (codes "copy") (operands.Any a ∷ [])
-spelling (Fetch k a) = assigns (codes "fetch") (operands.Cell k ∷ operands.Any a ∷ [])
-spelling (Post k a) = tells (codes "post") (operands.Cell k ∷ operands.Any a ∷ [])
-spelling (Drop a) = tells (codes "drop") (operands.Any a ∷ [])
-spelling (Same a b) = tells (codes "same") (operands.Any a ∷ operands.Alike b ∷ [])
-spelling (Leq a b) = tells (codes "leq") (bdd a ∷ bdd b ∷ [])
-spelling (Eval a bits) = tells (codes "eval") (operands.Any a ∷ operands.Bits bits ∷ [])
-spelling Sweep = tells (codes "sweep") []
-
--- the words have this spelling, over these registers and these numbers of variables and elements
-abbrev pub Spells : Counts → List Register → List Word → Spelling → Type 0
-Spells n registers words (assigns command operands) =
-    (r : Word) × (rest : List Word) × (words ≡ r ∷ codes "=" ∷ command ∷ rest) × IsFresh registers r × AllStandFor n registers rest operands
-Spells n registers words (tells command operands) = (rest : List Word) × (words ≡ command ∷ rest) × AllStandFor n registers rest operands
-
--- the kind of the register that was assigned as number a
-abbrev pub kind_of : Option Register → Kind
-kind_of None = Bdd
-kind_of (Some register) = register.kind
-
-abbrev pub kind_at : List Register → ℕ → Kind
-kind_at registers a = kind_of (slice_get registers a)
-
--- how many bits a diagram of the kind is evaluated at: one for each element for a family, else one for each variable
-abbrev pub bits_for : Counts → Kind → ℕ
-bits_for n Bdd = n.vars
-bits_for n Add = n.vars
-bits_for n Zdd = n.elements
-
--- `vcompose` has a pair at least, and no variable in two of them; the registers of `same` have one kind; `eval` has as many
--- bits as are due for the kind of its register
-abbrev pub IsProper : Counts → List Register → Act → Type 0
-IsProper n registers (VectorCompose a pairs) = (0 < length pairs) × (are_distinct (map (λ pair. pair.0) pairs) ≡ true)
-IsProper n registers (Same a b) = kind_at registers a ≡ kind_at registers b
-IsProper n registers (Eval a bits) = length bits ≡ bits_for n (kind_at registers a)
-IsProper n registers _ = Unit {0}
+-- The words have this form of a command, and stand for these operands: `r = COMMAND ..` for a new name, or `COMMAND ..`.
+pub data Forms (n : Counts) (registers : List Register) (words : List Word) (own : Form) (operands : List Operand) : Type 0 where
+  assigns : (r command : Word) (rest : List Word) → words ≡ r ∷ codes "=" ∷ command ∷ rest → IsFresh registers r → IsCommand n registers assigning command rest own operands
+      → Forms n registers words own operands
+  tells : (command : Word) (rest : List Word) → words ≡ command ∷ rest → IsCommand n registers telling command rest own operands → Forms n registers words own operands
 
 -- The words say this, over these registers and these numbers of variables and elements.
-abbrev pub Says : Counts → List Register → List Word → Act → Type 0
-Says n registers words act = Spells n registers words (spelling act) × IsProper n registers act
+pub record Says (n : Counts) (registers : List Register) (words : List Word) (act : Act) : Type 0 where
+  pub own : Form
+  pub operands : List Operand
+  pub forms : Forms n registers words own operands
+  pub means : act ≡ act_of own.operation (with_operands registers no_operands operands)
 
 -- the name that a command assigns
 abbrev pub target_of : List Word → Word

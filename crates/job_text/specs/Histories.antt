@@ -12,12 +12,13 @@ use Rattle.function_laws.specs.Tables.{Sizes}
 use Rattle.function_laws.specs.Histories.{IsLegal}
 use Rattle.job_text.specs.declared.history_line.Reply.{Reply}
 use Rattle.job_text.specs.declared.history_line.Reply.TheVariants as reply
-use Rattle.job_text.specs.declared.job.Act.{Act}
-use Rattle.job_text.specs.declared.job.Act.TheVariants.{One, Zero, Var, Not, And, Or, Xor, Ite, Cofactor, Exists, Forall, AndExists, Compose, VectorCompose, Restrict, Support, Constant, FromBdd, Plus, Minus, Times, Min, Max, Threshold, AddIte, SumOver, AtLeast, Pattern, Empty, Base, Single, Union, Meet, Diff, Subset1, Subset0, Change, Product, Quotient, Copy, Fetch, Post, Drop, Same, Leq, Eval, Sweep}
+use Rattle.job_commands.specs.declared.acts.Act.{Act}
+use Rattle.job_commands.specs.declared.acts.Act.TheVariants.{Makes, Copy, Fetch, Post, Drop, Same, Leq, Eval, Sweep}
 use Rattle.job_text.specs.declared.job.Command.{Command}
 use Rattle.job_text.specs.declared.job.Job.{Job}
 use Rattle.job_words.specs.Text.{Word}
 use Rattle.job_text.specs.Grammar.{target_of}
+use Rattle.function_laws.specs.Makings.{Taken, function, named, pairs, taken}
 
 -- a reply in words
 abbrev pub reply_text : Reply → List ℕ
@@ -98,53 +99,16 @@ registers_of lines = filter_map held_by lines
 abbrev pub IsNamed : List Held → ℕ → Name → Type 0
 IsNamed registers a name = (word : Word) × (slice_get registers a ≡ Some (record { word = word; name = name }))
 
--- each pair of a variable and a register, and the same variable with the register's name
-abbrev pub AreNamed : List Held → List (ℕ × ℕ) → List (ℕ × Name) → Type 0
-AreNamed registers [] [] = Unit {0}
-AreNamed registers (pair ∷ pairs) (named ∷ others) = (pair.0 ≡ named.0) × IsNamed registers pair.1 named.1 × AreNamed registers pairs others
-AreNamed registers _ _ = ⊥
+-- each register that is taken, in a pair or alone, has the name that stands for it
+abbrev pub AreNamed : List Held → (ℕ → Name) → List (Taken ℕ) → Type 0
+AreNamed registers name [] = Unit {0}
+AreNamed registers name (function k a ∷ more) = IsNamed registers a (name a) × AreNamed registers name more
+AreNamed registers name (pairs ps ∷ more) = All (λ pair. IsNamed registers pair.1 (name pair.1)) ps × AreNamed registers name more
+AreNamed registers name (_ ∷ more) = AreNamed registers name more
 
 -- what a command calls, by the registers
 abbrev pub Calls : List Held → Act → Call → Type 0
-Calls registers One call = call ≡ calls.One
-Calls registers Zero call = call ≡ calls.Zero
-Calls registers (Var v) call = call ≡ calls.Var v
-Calls registers (Not a) call = (x : Name) × IsNamed registers a x × (call ≡ calls.Not x)
-Calls registers (And a b) call = (x y : Name) × IsNamed registers a x × IsNamed registers b y × (call ≡ calls.And x y)
-Calls registers (Or a b) call = (x y : Name) × IsNamed registers a x × IsNamed registers b y × (call ≡ calls.Or x y)
-Calls registers (Xor a b) call = (x y : Name) × IsNamed registers a x × IsNamed registers b y × (call ≡ calls.Xor x y)
-Calls registers (Ite a b c) call = (x y z : Name) × IsNamed registers a x × IsNamed registers b y × IsNamed registers c z × (call ≡ calls.Ite x y z)
-Calls registers (Cofactor a v b) call = (x : Name) × IsNamed registers a x × (call ≡ calls.Cofactor x v b)
-Calls registers (Exists a vs) call = (x : Name) × IsNamed registers a x × (call ≡ calls.Exists x vs)
-Calls registers (Forall a vs) call = (x : Name) × IsNamed registers a x × (call ≡ calls.Forall x vs)
-Calls registers (AndExists a b vs) call = (x y : Name) × IsNamed registers a x × IsNamed registers b y × (call ≡ calls.AndExists x y vs)
-Calls registers (Compose a v b) call = (x y : Name) × IsNamed registers a x × IsNamed registers b y × (call ≡ calls.Compose x v y)
-Calls registers (VectorCompose a pairs) call = (x : Name) × (named : List (ℕ × Name)) × IsNamed registers a x × AreNamed registers pairs named × (call ≡ calls.VectorCompose x named)
-Calls registers (Restrict a b) call = (x y : Name) × IsNamed registers a x × IsNamed registers b y × (call ≡ calls.Restrict x y)
-Calls registers (Support a) call = (x : Name) × IsNamed registers a x × (call ≡ calls.Support x)
-Calls registers (Constant w) call = call ≡ calls.Constant w
-Calls registers (FromBdd a) call = (x : Name) × IsNamed registers a x × (call ≡ calls.FromBdd x)
-Calls registers (Plus a b) call = (x y : Name) × IsNamed registers a x × IsNamed registers b y × (call ≡ calls.Plus x y)
-Calls registers (Minus a b) call = (x y : Name) × IsNamed registers a x × IsNamed registers b y × (call ≡ calls.Minus x y)
-Calls registers (Times a b) call = (x y : Name) × IsNamed registers a x × IsNamed registers b y × (call ≡ calls.Times x y)
-Calls registers (Min a b) call = (x y : Name) × IsNamed registers a x × IsNamed registers b y × (call ≡ calls.Min x y)
-Calls registers (Max a b) call = (x y : Name) × IsNamed registers a x × IsNamed registers b y × (call ≡ calls.Max x y)
-Calls registers (Threshold a b) call = (x y : Name) × IsNamed registers a x × IsNamed registers b y × (call ≡ calls.Threshold x y)
-Calls registers (AddIte a b c) call = (x y z : Name) × IsNamed registers a x × IsNamed registers b y × IsNamed registers c z × (call ≡ calls.AddIte x y z)
-Calls registers (SumOver a v) call = (x : Name) × IsNamed registers a x × (call ≡ calls.SumOver x v)
-Calls registers (AtLeast a w) call = (x : Name) × IsNamed registers a x × (call ≡ calls.AtLeast x w)
-Calls registers (Pattern a) call = (x : Name) × IsNamed registers a x × (call ≡ calls.Pattern x)
-Calls registers Empty call = call ≡ calls.Empty
-Calls registers Base call = call ≡ calls.Base
-Calls registers (Single e) call = call ≡ calls.Single e
-Calls registers (Union a b) call = (x y : Name) × IsNamed registers a x × IsNamed registers b y × (call ≡ calls.Union x y)
-Calls registers (Meet a b) call = (x y : Name) × IsNamed registers a x × IsNamed registers b y × (call ≡ calls.Meet x y)
-Calls registers (Diff a b) call = (x y : Name) × IsNamed registers a x × IsNamed registers b y × (call ≡ calls.Diff x y)
-Calls registers (Subset1 a e) call = (x : Name) × IsNamed registers a x × (call ≡ calls.Subset1 x e)
-Calls registers (Subset0 a e) call = (x : Name) × IsNamed registers a x × (call ≡ calls.Subset0 x e)
-Calls registers (Change a e) call = (x : Name) × IsNamed registers a x × (call ≡ calls.Change x e)
-Calls registers (Product a b) call = (x y : Name) × IsNamed registers a x × IsNamed registers b y × (call ≡ calls.Product x y)
-Calls registers (Quotient a b) call = (x y : Name) × IsNamed registers a x × IsNamed registers b y × (call ≡ calls.Quotient x y)
+Calls registers (Makes making) call = (name : ℕ → Name) × AreNamed registers name (taken making) × (call ≡ calls.Makes (named name making))
 Calls registers (Copy a) call = (x : Name) × IsNamed registers a x × (call ≡ calls.Copy x)
 Calls registers (Fetch k a) call = (x : Name) × IsNamed registers a x × (call ≡ calls.Fetch k x)
 Calls registers (Post k a) call = (x : Name) × IsNamed registers a x × (call ≡ calls.Post k x)

@@ -1,3 +1,4 @@
+pub mod Places
 pub mod Grammar
 pub mod Names
 pub mod Faults

@@ -7,7 +7,7 @@ use Rattle.std.specs.List.{list_any}
 use Rattle.std.specs.Ordering.{nat_cmp}
 use Rattle.job_text.specs.declared.job.Register.{Register}
 use Rattle.job_words.specs.Text.{Word}
-use Rattle.job_text.specs.Grammar.{is_called}
+use Rattle.job_text.specs.Places.{is_called}
 
 -- no two registers have the same name
 abbrev pub AreDistinct : List Register → Type 0

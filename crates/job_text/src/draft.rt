@@ -6,11 +6,12 @@ ghost use Rattle.job_text.specs.Grammar.{Says, registers_after, without, is_drop
 ghost use Rattle.job_text.specs.Drafts.{CommandStop, new_section, with_act};
 
 use crate::faults::Stop;
-use crate::job::{Act, Command, Counts};
+use crate::job::{Command, Counts};
 use crate::line_words::Words;
 use crate::registers::Registers;
 use crate::scope::Scope;
 use edge_bits::List;
+use job_commands::Act;
 use std::alloc::Global;
 
 /// A section so far.

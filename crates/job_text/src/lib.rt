@@ -13,6 +13,7 @@ mod scope;
 
 pub use faults::{FaultKind, JobError, JobFault};
 pub use history_line::{Reply, line};
-pub use job::{Act, Command, Job, Register};
+pub use job::{Command, Job, Register};
+pub use job_commands::Act;
 pub use line_words::Words;
 pub use reader::{parse, texts_have_one_reading};

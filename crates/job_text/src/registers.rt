@@ -3,14 +3,16 @@
 ghost use Rattle.std.specs.Prelude.{◌≡◌, ◌≢◌, All, ◌∷◌, ◌++◌, [], ◌<◌, ◌^◌, drop, length, map, position, codes, IfOk, IfErr, IfSome, MatchOption, true, false, None, Some};
 ghost use Rattle.std.specs.List.{list_any, position_or_len};
 ghost use Rattle.job_words.specs.Text.{is_name, is_assignment, split_words};
-ghost use Rattle.job_text.specs.Grammar.{IsFresh, Refers, is_called, is_drop, kind_at, kind_called, kind_given, register_called, register_made, registers_after, target_of, without};
-ghost use Rattle.job_text.specs.Faults.{name_fault, same_kind};
+ghost use Rattle.job_text.specs.Places.{IsFresh, Refers, is_called, kind_at, same_kind};
+ghost use Rattle.job_text.specs.Grammar.{is_drop, kind_called, kind_given, register_called, register_made, registers_after, target_of, without};
+ghost use Rattle.job_text.specs.Faults.{name_fault};
 ghost use Rattle.job_text.specs.declared.faults.FaultKind.TheVariants as kinds;
 
 use crate::faults::Stop;
 use crate::job::Register;
 use edge_bits::{Kind, List};
-use job_words::{as_assignment, first_word, kind_made};
+use job_commands::{as_assignment, kind_made};
+use job_words::first_word;
 use std::alloc::Global;
 use std::collections::BTreeMap;
 use std::marker::Model;

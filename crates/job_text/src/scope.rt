@@ -3,23 +3,24 @@
 ghost use Rattle.std.specs.Prelude.{◌≡◌, ◌<◌, ◌≤◌, ◌^◌, true, length, IfOk, IfErr, None, Some, if◌then◌else◌, List as ListOf};
 ghost use Rattle.std.specs.List.{list_all};
 ghost use Rattle.job_words.specs.Text.{IsNumber, is_integer, is_name, is_number, is_bit, is_bits, split_words};
-ghost use Rattle.job_text.specs.Grammar.{Refers, Says, bits_for, kind_called, register_called};
+ghost use Rattle.job_commands.specs.Commands.{no_operands};
+ghost use Rattle.job_text.specs.Places.{AllFit, Refers, bits_for, misfit, with_operands};
+ghost use Rattle.job_text.specs.Grammar.{Says, kind_called, register_called};
 ghost use Rattle.job_text.specs.Faults.{below_fault, name_fault};
-ghost use Rattle.job_words.specs.Commands.{has_form};
+ghost use Rattle.job_commands.specs.Commands.{has_form};
 ghost use Rattle.job_text.specs.declared.faults.FaultKind.TheVariants as kinds;
-ghost use Rattle.job_text.specs.Drafts.{IsOperand, AreOperands, AllFit, misfit, with_operands, no_operands, SlotStop, SlotsStop, CommandStop};
-ghost use Rattle.job_words.specs.Slots.{slot_of, slots_of};
-ghost use Rattle.job_words.specs.declared.commands.Place.TheVariants as places;
+ghost use Rattle.job_text.specs.Drafts.{IsOperand, AreOperands, SlotStop, SlotsStop, CommandStop};
+ghost use Rattle.job_commands.specs.Slots.{slot_of, slots_of};
+ghost use Rattle.job_commands.specs.declared.commands.Place.TheVariants as places;
 ghost use Rattle.job_text.specs.declared.operands.Operand.{Operand as OperandOf};
 
 use crate::faults::{FaultKind, Stop};
-use crate::job::{Act, Counts};
-use crate::operands::{Operand, Operands};
+use crate::job::Counts;
+use crate::operands::{Operand, names, with_operand};
 use crate::registers::{Found, Registers, kind_at, same_kind};
 use edge_bits::{Kind, List};
-use job_words::{
-    Place, Slot, Slots, all_have_form, bits_of, command_line, integer_value, number_value,
-};
+use job_commands::{Act, Operands, Place, Slot, Slots, all_have_form, command_line};
+use job_words::{bits_of, integer_value, number_value};
 use std::alloc::Global;
 
 /// How many cells there are.
@@ -203,7 +204,7 @@ impl Scope {
                 let kind = kind_at(self.registers.as_slice(), *a);
                 unless(same_kind(others.kind, kind), FaultKind::Kind)
             }
-            Operand::NewVariable(v) => unless(!others.names(*v), FaultKind::Range),
+            Operand::NewVariable(v) => unless(!names(others, *v), FaultKind::Range),
             Operand::Bits(bits) => {
                 let due = self.counts.bits_for(others.kind);
                 unless(bits.len() == due as usize, FaultKind::Range)
@@ -227,7 +228,7 @@ impl Scope {
             if let Some(fault) = self.misfit(&operands, &operand) {
                 return Err(Stop::Fault(fault));
             }
-            operands = operands.with(self.registers.as_slice(), operand)?;
+            operands = with_operand(operands, self.registers.as_slice(), operand)?;
             left = behind;
         }
         Ok(operands)

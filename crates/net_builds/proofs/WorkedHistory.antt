@@ -8,6 +8,8 @@ use Rattle.edge_bits.specs.Assignments.{set_bit}
 use Rattle.blif_net.specs.declared.net.Net.{Net}
 use Rattle.blif_net.specs.Networks.{value_within}
 use Rattle.function_laws.specs.declared.history.Call.TheVariants as calls
+use Rattle.function_laws.specs.declared.making.Making.TheVariants as makings
+use Rattle.function_laws.specs.declared.making.BddMaking.TheVariants as bdds
 use Rattle.function_laws.specs.declared.history.Entry.{Entry}
 use Rattle.function_laws.specs.declared.history.Function.TheVariants.{Bdd}
 use Rattle.function_laws.specs.declared.history.Name.{Name}
@@ -18,7 +20,7 @@ use Rattle.function_laws.specs.Histories.{IsLegal, table_after}
 use Rattle.function_laws.specs.Lists.{all_below, list_of}
 use Rattle.function_laws.specs.SessionEntries.{entries_of, entry}
 use Rattle.function_laws.specs.Sizes.{all_parts, distinct, parts}
-use Rattle.function_laws.specs.Steps.{fetches, is_done, makes}
+use Rattle.function_laws.specs.Outcomes.{fetches, is_done, makes}
 use Rattle.function_laws.specs.Tables.{Sizes, opening}
 use Rattle.function_laws.specs.Values.{constant, projection}
 use Rattle.handover_laws.proofs.HandedLaw.{Has}
@@ -40,10 +42,10 @@ abbrev sizes : Sizes
 sizes = record { variables = 1; elements = 0; most_variables = 1; most_elements = 0 }
 
 abbrev other : Entry
-other = entry 0 0 calls.One (replies.Made (name 0))
+other = entry 0 0 (calls.Makes (makings.Bdd bdds.One)) (replies.Made (name 0))
 
 abbrev built : Entry
-built = entry 1 1 (calls.Var 0) (replies.Made (name 0))
+built = entry 1 1 (calls.Makes (makings.Bdd (bdds.Var 0))) (replies.Made (name 0))
 
 abbrev post : Entry
 post = entry 2 1 (calls.Post 0 (name 0)) replies.Done

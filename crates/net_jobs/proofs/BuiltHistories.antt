@@ -1,9 +1,9 @@
 -- One session that built a network, in the history that the closing of its manager tells.
-use Rattle.std.proofs.Common.{◌≡◌, ◌⊎◌, Bool, Option, ℕ, zero, suc, ◌+◌, ◌*◌, Result, Ok, Err, IfErr, inr, ◌<◌, ◌≤◌, List, [], ◌∷◌, ◌++◌, length, map, take, drop, All, Contains, refl, ap, sym, ◌∙◌, subst, arith}
+use Rattle.std.proofs.Common.{◌≡◌, ◌⊎◌, Bool, Option, ℕ, zero, suc, ◌+◌, ◌*◌, Result, Ok, Err, IfErr, inr, List, [], ◌∷◌, ◌++◌, length, map, take, drop, All, Contains, refl, ap, sym, ◌∙◌, subst, arith}
 use mathlib.Core.Option.{some}
 use lib.ListN.{get_elem?}
 use Rattle.std.proofs.Math.Seq.{take-append_seam}
-use Rattle.std.proofs.lemmas.List.Elements.{All-cons, All-head, All-nil, All-tail}
+use Rattle.std.proofs.lemmas.List.Elements.{All-cons, All-head, All-nil}
 use Rattle.std.specs.Prelude.{slice_set}
 use Rattle.blif_net.specs.declared.net.Net.{Net}
 use Rattle.blif_net.specs.Networks.{IsBlifText}

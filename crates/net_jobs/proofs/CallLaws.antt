@@ -3,6 +3,7 @@ use Rattle.std.proofs.Common.{◌≡◌, ℕ, suc, ◌≤◌, ◌<◌, ⊎_elim,
 use Rattle.std.specs.Prelude.{nat_lt}
 use Rattle.std.proofs.lemmas.Bool.{false≢true}
 use Rattle.std.proofs.lemmas.Bool.Decides.{leb_tells}
+use Rattle.edge_bits.specs.declared.edges.Kind.{Kind}
 use Rattle.function_laws.specs.declared.history.Call.{Call}
 use Rattle.function_laws.specs.declared.history.Call.TheVariants as calls
 use Rattle.function_laws.specs.declared.history.Function.{Function}
@@ -10,16 +11,21 @@ use Rattle.function_laws.specs.declared.history.Function.TheVariants.{Bdd}
 use Rattle.function_laws.specs.declared.history.Name.{Name}
 use Rattle.function_laws.specs.declared.history.Reply.{Reply}
 use Rattle.function_laws.specs.declared.history.Reply.TheVariants as replies
-use Rattle.function_laws.specs.Tables.{Table, same_name, with_name}
-use Rattle.function_laws.specs.Steps.{Outcome, makes, restricts, fetches, counts, overflows, is_most, compares, tells, shows, is_done, IsAllowed, IsNew, Replies, after, outcome, with_result}
+use Rattle.function_laws.specs.Tables.{Sizes, Table, same_name, with_name}
+use Rattle.function_laws.specs.Outcomes.{Outcome, makes, restricts, fetches, counts, overflows, is_most, compares, tells, shows, is_done}
+use Rattle.function_laws.specs.Steps.{IsAllowed, IsNew, Replies, after, outcome, outcome_of, with_result}
 use Rattle.dd_session.specs.Managing.{stands_for}
 use Rattle.dd_session.specs.Sessions.{kind_of}
 use Rattle.job_text.specs.Histories.{drops, given_by}
 use Rattle.dd_session.specs.Sessions.{Called, Seen, names_in}
 use Rattle.dd_session.proofs.Naming.{same_name-refl}
 use Rattle.dd_session.proofs.SessionLaws.{is_allowed, posted_stays, seen_in_table, stands_after, stands_still, stood_before, table_of}
-use Rattle.net_jobs.specs.Saying.{is_none, kind_made}
-use Rattle.net_jobs.proofs.OutcomeKinds.{is_plain, one, outcome-kind}
+use Rattle.net_jobs.specs.Saying.{is_none}
+use Rattle.net_jobs.proofs.OutcomeKinds.{IsOfKind, is_plain, no-count, one}
+
+-- what comes of a call is always of this kind
+abbrev pub ComesOf : Kind → Seen → Call → Type 0
+ComesOf k old call = (z : Sizes) (cells : ℕ → Option Function) (o : Outcome) → outcome_of z cells (stands_for old.rows) call ≡ Some o → IsOfKind k o
 
 -- A name that a call gave: it is that of the next generation, and stands for a function of the kind that is due; each other name
 -- stands for what it stood for.
@@ -27,7 +33,7 @@ pub record Given (old new : Seen) (call : Call) (name : Name) : Type 0 where
   pub generation : name.generation ≡ old.adds
   pub function : Function
   pub stands : stands_for new.rows name ≡ Some function
-  pub kind : kind_of function ≡ kind_made (stands_for old.rows) call
+  pub kind : (k : Kind) → ComesOf k old call → kind_of function ≡ k
   pub others : (other : Name) → same_name other name ≡ false → stands_for new.rows other ≡ stands_for old.rows other
 
 with_here : (s : ℕ) (t : Table) (name : Name) (f : Function) → (with_name t s name f).live s name ≡ Some f
@@ -81,15 +87,22 @@ module _ (old new : Seen) (call : Call) (reply : Reply) (place : ℕ) (called : 
       (λ no. no.1) (leb_tells new.adds name.generation) in
       omega (arith, lower, upper, called.adds_are, one_name reply)
 
-  core : (name : Name) (f : Function) → after t old.number call reply ≡ with_name t old.number name f → IsNew t old.number name → kind_of f ≡ kind_made (t.live old.number) call → Given old new call name
+  core : (name : Name) (f : Function) → after t old.number call reply ≡ with_name t old.number name f → IsNew t old.number name → ((k : Kind) → ComesOf k old call → kind_of f ≡ k) → Given old new call name
   core name f is fresh kind = record {
     generation = generation-new name f is fresh;
     function = f;
     stands = stands_after old new call reply place called name ∙ ap (λ (u : Table). u.live old.number name) is ∙ with_here old.number t name f;
-    kind = kind ∙ ap (λ live. kind_made live call) live_before;
+    kind = kind;
     others = λ other apart. stands_after old new call reply place called other ∙ ap (λ (u : Table). u.live old.number other) is
         ∙ with_other old.number t name f other apart ∙ stood_before old new call reply place called other;
   }
+
+-- so in the table before it
+kind_of_outcome : (k : Kind) (old new : Seen) (call : Call) (reply : Reply) (place : ℕ) (called : Called old new call reply place) → ComesOf k old call → (o : Outcome)
+    → outcome (table_of old called.board) old.number call ≡ Some o → IsOfKind k o
+kind_of_outcome k old new call reply place called comes o at =
+    let t = table_of old called.board in
+    comes t.sizes t.cells o (sym (ap (λ live. outcome_of t.sizes t.cells live call) (live_before old new call reply place called)) ∙ at)
 
 -- a call that gives a name
 pub given : (old new : Seen) (call : Call) (reply : Reply) (place : ℕ) (called : Called old new call reply place) (name : Name) → is_plain call ≡ true → given_by reply ≡ Some name → Given old new call name
@@ -99,7 +112,7 @@ given old new call (replies.Made r) place called name plain is = subst (Given ol
     same e = cc
 
     by : IsAllowed (table_of old called.board) old.number call (replies.Made r) → Given old new call r
-    by (makes f, at, fresh) = core old new call (replies.Made r) place called r f (ap (with_result (table_of old called.board) old.number r) at) fresh (outcome-kind _ _ _ call (makes f) plain at)
+    by (makes f, at, fresh) = core old new call (replies.Made r) place called r f (ap (with_result (table_of old called.board) old.number r) at) fresh (λ k comes. kind_of_outcome k old new call (replies.Made r) place called comes (makes f) at)
     by (restricts f g, at, says) = absurd says
     by (fetches f p, at, says) = absurd says
     by (counts f n, at, says) = absurd says
@@ -116,7 +129,7 @@ given old new call (replies.Chose r g) place called name plain is = subst (Given
 
     by : IsAllowed (table_of old called.board) old.number call (replies.Chose r g) → Given old new call r
     by (makes f, at, says) = absurd says
-    by (restricts f c, at, says) = core old new call (replies.Chose r g) place called r (Bdd g) refl says.0 (sym (outcome-kind _ _ _ call (restricts f c) plain at))
+    by (restricts f c, at, says) = core old new call (replies.Chose r g) place called r (Bdd g) refl says.0 (λ k comes. sym (kind_of_outcome k old new call (replies.Chose r g) place called comes (restricts f c) at))
     by (fetches f p, at, says) = absurd says
     by (counts f n, at, says) = absurd says
     by (overflows, at, says) = absurd says
@@ -133,7 +146,7 @@ given old new call (replies.Fetched r posted) place called name plain is = subst
     by : IsAllowed (table_of old called.board) old.number call (replies.Fetched r posted) → Given old new call r
     by (makes f, at, says) = absurd says
     by (restricts f g, at, says) = absurd says
-    by (fetches f p, at, says) = core old new call (replies.Fetched r posted) place called r f (ap (with_result (table_of old called.board) old.number r) at) says.0 (outcome-kind _ _ _ call (fetches f p) plain at)
+    by (fetches f p, at, says) = core old new call (replies.Fetched r posted) place called r f (ap (with_result (table_of old called.board) old.number r) at) says.0 (λ k comes. kind_of_outcome k old new call (replies.Fetched r posted) place called comes (fetches f p) at)
     by (counts f n, at, says) = absurd says
     by (overflows, at, says) = absurd says
     by (is_most, at, says) = absurd says
@@ -147,7 +160,7 @@ given old new call (replies.Numbered r n) place called name plain is = by (is_al
     by (makes f, at, says) = absurd says
     by (restricts f g, at, says) = absurd says
     by (fetches f p, at, says) = absurd says
-    by (counts f m, at, says) = absurd (outcome-kind _ _ _ call (counts f m) plain at)
+    by (counts f m, at, says) = absurd (no-count _ _ _ call (counts f m) plain at)
     by (overflows, at, says) = absurd says
     by (is_most, at, says) = absurd says
     by (compares f g, at, says) = absurd says

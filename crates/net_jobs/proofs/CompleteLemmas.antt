@@ -3,8 +3,6 @@ use Rattle.std.proofs.Common.{◌≡◌, ℕ, ◌≤◌, List, ◌++◌, length,
 use Rattle.std.specs.Io.KnownBytes.{Consumes}
 use Rattle.blif_net.specs.declared.faults.BlifFault.{BlifFault}
 use Rattle.blif_net.specs.Faults.{fault_of}
-use Rattle.blif_net.specs.Networks.{IsBlifText}
-use Rattle.command_words.specs.declared.order.Options.{Options}
 use Rattle.job_text.specs.Faults.{IsFaultText}
 use Rattle.job_text.proofs.OneReading.{job_or_fault}
 use Rattle.net_jobs.specs.declared.status.Status.TheVariants as status

@@ -1,5 +1,5 @@
 -- The registers of the grammar are live, and of their kinds, after each command.
-use Rattle.std.proofs.Common.{◌≡◌, ◌≢◌, ℕ, zero, suc, ◌+◌, ◌<◌, ⊎_elim, Bool, true, false, cond, not, ◌&&◌, List, [], ◌∷◌, ◌++◌, length, map, Option, Some, None, refl, sym, ap, ◌∙◌, subst, arith, codes}
+use Rattle.std.proofs.Common.{◌≡◌, ◌≢◌, ℕ, zero, suc, ◌+◌, ◌<◌, ⊎_elim, Bool, true, false, cond, not, ◌&&◌, List, [], ◌∷◌, ◌++◌, length, map, Option, Some, None, refl, sym, ap, ◌∙◌, subst, arith}
 use Rattle.std.specs.Prelude.{is_some, option_map, slice_get}
 use Rattle.std.specs.Str.{bytes_eq}
 use Rattle.std.specs.List.{range_with_len}
@@ -16,25 +16,29 @@ use Rattle.function_laws.specs.declared.history.Name.{Name}
 use Rattle.function_laws.specs.Tables.{same_name}
 use Rattle.dd_session.specs.Managing.{stands_for}
 use Rattle.dd_session.specs.Sessions.{kind_of}
-use Rattle.job_text.specs.declared.job.Act.{Act}
-use Rattle.job_text.specs.declared.job.Act.TheVariants.{Copy, Fetch, Post, Drop, Same, Leq, Eval, Sweep}
+use Rattle.job_commands.specs.declared.acts.Act.{Act}
+use Rattle.job_commands.specs.declared.acts.Act.TheVariants.{Makes, Copy, Fetch, Post, Drop, Same, Leq, Eval, Sweep}
 use Rattle.job_text.specs.declared.job.Counts.{Counts}
 use Rattle.job_text.specs.declared.job.Register.{Register}
-use Rattle.job_text.specs.declared.operands.Operand.{Operand}
 use Rattle.job_text.specs.declared.operands.Operand.TheVariants as operands
 use Rattle.job_words.specs.Text.{Word}
-use Rattle.job_words.specs.Commands.{kind_made as kind_of_word}
-use Rattle.job_text.specs.Grammar.{AllStandFor, Says, Spelling, Spells, StandsFor, assigns, kind_at, kind_given, registers_after, spelling, tells, without}
+use Rattle.function_laws.specs.Makings.{kind_made}
+use Rattle.job_text.specs.Places.{StandsFor, kind_at}
+use Rattle.job_text.specs.Grammar.{Says, registers_after, without}
 use Rattle.job_text.specs.Histories.{stops}
-use Rattle.job_text.proofs.Effects.{kind_by_word, kind_of_copy, kind_of_fetch, one_register_less, one_register_more, operands_stand, same_registers}
+use Rattle.job_text.proofs.Effects.{EachStands, Leaves, leaves, operands_stand}
+use Rattle.job_text.proofs.Rows.{Takes, takes}
 use Rattle.dd_session.specs.Sessions.{IsLiveAs, Seen}
 use Rattle.net_jobs.specs.declared.answering.Answered.{Answered}
 use Rattle.net_jobs.specs.declared.registers.Assigned.{Assigned}
-use Rattle.net_jobs.specs.Saying.{Covers, IsAnswered, assigned_after, call_of, kind_made, kind_or, makes_row, name_at, name_in}
-use Rattle.net_jobs.proofs.CallLaws.{Given, given, left, left_by}
+use Rattle.net_jobs.specs.Saying.{Covers, IsAnswered, assigned_after, call_of, makes_row, name_at, name_in}
+use Rattle.function_laws.specs.Outcomes.{Outcome}
+use Rattle.function_laws.specs.Steps.{outcome_of}
+use Rattle.function_laws.specs.Tables.{Sizes}
+use Rattle.net_jobs.proofs.CallLaws.{ComesOf, Given, given, left, left_by}
 use Rattle.net_jobs.proofs.CanLemmas.{refers-kind}
 use Rattle.net_jobs.proofs.ListLemmas.{slice_get-push, slice_get-push_new, slice_get-push_old}
-use Rattle.net_jobs.proofs.OutcomeKinds.{is_plain}
+use Rattle.net_jobs.proofs.OutcomeKinds.{IsOfKind, copy-kind, fetch-kind, is_plain, kind_or, named-kind}
 use Rattle.net_jobs.proofs.StandsLemmas.{generation_of, other_generation}
 
 -- the names of the registers are of one generation after another
@@ -84,15 +88,6 @@ without-live dropped word k (Some register) is =
       kept ∙ ap (λ (r : Register). Some r) same,
       ap (λ w. bytes_eq w dropped) (sym name) ∙ not_true (bytes_eq register.name dropped) both.1,
     )
-
--- the spelling of a command that makes a row of a kind, and of one that makes none and drops none
-abbrev assigns_kind : Kind → Spelling → Type 0
-assigns_kind k (assigns command os) = (kind_of_word command ≡ k) × (bytes_eq command (codes "copy") ≡ false) × (bytes_eq command (codes "fetch") ≡ false)
-assigns_kind k (tells command os) = ⊥
-
-abbrev keeps_all : Spelling → Bool
-keeps_all (assigns command os) = false
-keeps_all (tells command os) = not (bytes_eq command (codes "drop"))
 
 -- what stands for the same is live of the same kind
 live_along : (k : Kind) (old new : Seen) (name : Name) → stands_for new.rows name ≡ stands_for old.rows name → IsLiveAs k old name → IsLiveAs k new name
@@ -177,53 +172,47 @@ module _ (n : Counts) (registers : List Register) (old new : Seen) (names : List
     along : (o : Option Name) (rs : List Register) → registers_after registers words ≡ rs → answered.made ≡ o → Covers rs new (assigned_after o i names) → Covers (registers_after registers words) new (assigned_after answered.made i names)
     along o rs same made c = subst (λ (x : List Register). Covers x new (assigned_after answered.made i names)) (sym same) (subst (λ (x : Option Name). Covers rs new (assigned_after x i names)) (sym made) c)
 
-    after-made : (k : Kind) (spelt : Spelling) → assigns_kind k spelt → Spells n registers words spelt → makes_row (call_of names act) ≡ true → kind_made (stands_for old.rows) (call_of names act) ≡ k
+    after-made : (k : Kind) (r : Word) → registers_after registers words ≡ registers ++ record { name = r; live = true; kind = k } ∷ [] → ComesOf k old (call_of names act) → makes_row (call_of names act) ≡ true
         → Covers (registers_after registers words) new (assigned_after answered.made i names)
-    after-made k (assigns command os) kinds spells makes is_kind =
-        let more = one_register_more n registers words command os spells in
+    after-made k r more comes makes =
         let one = gave makes in
-        let kind : kind_given registers command more.1 ≡ k = kind_by_word registers command more.1 kinds.1 kinds.2 ∙ kinds.0 in
-        along (Some one.0) _ (more.3 ∙ ap (λ (j : Kind). registers ++ record { name = more.0; live = true; kind = j } ∷ []) kind) one.1
-        (covers-push one.0 (call_of names act) more.0 k one.2 (one.2.kind ∙ is_kind))
-    after-made k (tells command os) kinds spells makes is_kind = absurd kinds
+        along (Some one.0) _ more one.1 (covers-push one.0 (call_of names act) r k one.2 (one.2.kind k comes))
 
-    -- a copy, and what was fetched, have the kind of their register
-    after-handed : (a : ℕ) (command : Word) (os : List Operand) → Spells n registers words (assigns command os) → ((rest : List Word) → AllStandFor n registers rest os → kind_given registers command rest ≡ kind_at registers a)
-        → (word : Word) × StandsFor n registers word (operands.Any a) → makes_row (call_of names act) ≡ true → kind_made (stands_for old.rows) (call_of names act) ≡ kind_or (stands_for old.rows (name_at names a))
-        → Covers (registers_after registers words) new (assigned_after answered.made i names)
-    after-handed a command os spells kind stands makes is_kind =
-        let more = one_register_more n registers words command os spells in
-        let one = gave makes in
-        let k = stands.1.0 in
-        let held = covers.held a stands.0 k stands.1.1.1 in
-        along (Some one.0) _ (more.3 ∙ ap (λ (j : Kind). registers ++ record { name = more.0; live = true; kind = j } ∷ []) (kind more.1 more.2)) one.1
-        (covers-push one.0 (call_of names act) more.0 (kind_at registers a) one.2
-        (one.2.kind ∙ is_kind ∙ kind_held k old (name_at names a) held.1 ∙ sym (refers-kind registers stands.0 a k stands.1.1)))
-
-    after-kept : (spelt : Spelling) → keeps_all spelt ≡ true → Spells n registers words spelt → makes_row (call_of names act) ≡ false
+    after-kept : registers_after registers words ≡ registers → makes_row (call_of names act) ≡ false
         → ((name : Name) (o : Option Function) → left_by (call_of names act) name o ≡ o) → Covers (registers_after registers words) new (assigned_after answered.made i names)
-    after-kept (assigns command os) keeps spells none same = cc
-    after-kept (tells command os) keeps spells none same =
+    after-kept keeps none same =
         let nothing = gave_none none in
-        along None registers (same_registers n registers words command os (not_true (bytes_eq command (codes "drop")) keeps) spells) nothing.0
-        (covers-kept (λ name. nothing.1 name ∙ same name (stands_for old.rows name)))
+        along None registers keeps nothing.0 (covers-kept (λ name. nothing.1 name ∙ same name (stands_for old.rows name)))
+
+  -- what was handed on is of the kind of its register
+  handed : (a : ℕ) (call : Call) → (word : Word) × StandsFor n registers word (operands.Any a)
+      → ((z : Sizes) (cells : ℕ → Option Function) (o : Outcome) → outcome_of z cells (stands_for old.rows) call ≡ Some o → IsOfKind (kind_or (stands_for old.rows (name_at names a))) o)
+      → ComesOf (kind_at registers a) old call
+  handed a call stands comes z cells o at =
+      let k = stands.1.0 in
+      let held = covers.held a stands.0 k stands.1.1.1 in
+      subst (λ (j : Kind). IsOfKind j o) (kind_held k old (name_at names a) held.1 ∙ sym (refers-kind registers stands.0 a k stands.1.1)) (comes z cells o at)
 
   -- the registers after a command that goes on
   pub covers-after : (act : Act) (answered : Answered) → IsAnswered old new (call_of names act) answered → stops answered.reply ≡ false → Says n registers words act
       → Covers (registers_after registers words) new (assigned_after answered.made i names)
-  covers-after (Drop a) answered is goes says =
-      let less = one_register_less n registers words a says in
-      let nothing = gave_none (Drop a) answered is goes refl in
-      along (Drop a) answered is goes None (map (without less.0) registers) less.3 nothing.0 (covers-drop less.0 less.1 a less.2.1 nothing.1)
-  covers-after (Copy a) answered is goes says =
-      after-handed (Copy a) answered is goes a (codes "copy") (operands.Any a ∷ []) says.0 (λ rest stand. kind_of_copy n registers rest a stand)
-      (operands_stand n registers words (spelling (Copy a)) says.0).0 refl refl
-  covers-after (Fetch cell a) answered is goes says =
-      after-handed (Fetch cell a) answered is goes a (codes "fetch") (operands.Cell cell ∷ operands.Any a ∷ []) says.0 (λ rest stand. kind_of_fetch n registers rest cell a stand)
-      (operands_stand n registers words (spelling (Fetch cell a)) says.0).1.0 refl refl
-  covers-after (Post cell a) answered is goes says = after-kept (Post cell a) answered is goes (spelling (Post cell a)) refl says.0 refl (λ name o. refl)
-  covers-after Sweep answered is goes says = after-kept Sweep answered is goes (spelling Sweep) refl says.0 refl (λ name o. refl)
-  covers-after (Same a b) answered is goes says = after-kept (Same a b) answered is goes (spelling (Same a b)) refl says.0 refl (λ name o. refl)
-  covers-after (Leq a b) answered is goes says = after-kept (Leq a b) answered is goes (spelling (Leq a b)) refl says.0 refl (λ name o. refl)
-  covers-after (Eval a bits) answered is goes says = after-kept (Eval a bits) answered is goes (spelling (Eval a bits)) refl says.0 refl (λ name o. refl)
-  covers-after act answered is goes says = after-made act answered is goes (kind_made (stands_for old.rows) (call_of names act)) (spelling act) (refl, refl, refl) says.0 refl refl
+  covers-after act answered is goes says = by act is (leaves n registers words act says) (takes n registers words act says) (operands_stand n registers words act says)
+    where
+      by : (act : Act) → IsAnswered old new (call_of names act) answered → Leaves n registers words act → Takes n registers act says.operands → EachStands n registers says.operands
+          → Covers (registers_after registers words) new (assigned_after answered.made i names)
+      by (Makes making) is leave take each =
+          after-made (Makes making) answered is goes (kind_made making) leave.0 leave.1 (λ z cells o at. named-kind z (stands_for old.rows) (name_at names) making o at) refl
+      by (Copy a) is leave take each =
+          let one = subst (EachStands n registers) take each in
+          after-made (Copy a) answered is goes (kind_at registers a) leave.0 leave.1 (handed a (calls.Copy (name_at names a)) one.0 (λ z cells o at. copy-kind z cells (stands_for old.rows) (name_at names a) o at)) refl
+      by (Fetch cell a) is leave take each =
+          let both = subst (EachStands n registers) take each in
+          after-made (Fetch cell a) answered is goes (kind_at registers a) leave.0 leave.1 (handed a (calls.Fetch cell (name_at names a)) both.1.0 (λ z cells o at. fetch-kind z cells (stands_for old.rows) cell (name_at names a) o at)) refl
+      by (Drop a) is leave take each =
+          let nothing = gave_none (Drop a) answered is goes refl in
+          along (Drop a) answered is goes None (map (without leave.0) registers) leave.3 nothing.0 (covers-drop leave.0 leave.1 a leave.2.1 nothing.1)
+      by (Post cell a) is leave take each = after-kept (Post cell a) answered is goes leave refl (λ name o. refl)
+      by Sweep is leave take each = after-kept Sweep answered is goes leave refl (λ name o. refl)
+      by (Same a b) is leave take each = after-kept (Same a b) answered is goes leave refl (λ name o. refl)
+      by (Leq a b) is leave take each = after-kept (Leq a b) answered is goes leave refl (λ name o. refl)
+      by (Eval a bits) is leave take each = after-kept (Eval a bits) answered is goes leave refl (λ name o. refl)

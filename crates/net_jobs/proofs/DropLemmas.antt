@@ -14,8 +14,8 @@ use Rattle.function_laws.specs.SessionEntries.{entry}
 use Rattle.function_laws.specs.Tables.{same_name}
 use Rattle.dd_session.specs.Managing.{stands_for}
 use Rattle.dd_session.specs.Sessions.{kind_of}
-use Rattle.job_text.specs.declared.job.Act.{Act}
-use Rattle.job_text.specs.declared.job.Act.TheVariants.{Drop}
+use Rattle.job_commands.specs.declared.acts.Act.{Act}
+use Rattle.job_commands.specs.declared.acts.Act.TheVariants.{Drop}
 use Rattle.job_text.specs.declared.job.Command.{Command}
 use Rattle.job_text.specs.declared.job.Counts.{Counts}
 use Rattle.job_words.specs.Text.{Word}

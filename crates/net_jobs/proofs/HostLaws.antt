@@ -4,11 +4,14 @@ use Rattle.std.specs.Prelude.{Contains}
 use Rattle.std.proofs.lemmas.List.{map-append}
 use Rattle.std.proofs.lemmas.List.Elements.{All-cons, All-nil, Contains-append_right}
 use Rattle.dump_sizes.specs.declared.listings.Listing.{Listing}
+use Rattle.edge_bits.specs.declared.edges.Kind.{Kind}
 use Rattle.edge_bits.specs.declared.edges.Kind.TheVariants as kinds
 use Rattle.edge_bits.specs.declared.Memory.{Memory}
 use Rattle.edge_bits.specs.Words.{digit}
 use Rattle.function_laws.specs.declared.history.Call.{Call}
 use Rattle.function_laws.specs.declared.history.Call.TheVariants as calls
+use Rattle.function_laws.specs.declared.making.Making.TheVariants as makings
+use Rattle.function_laws.specs.declared.making.BddMaking.TheVariants as bdds
 use Rattle.function_laws.specs.declared.history.Function.{Function}
 use Rattle.function_laws.specs.declared.history.Function.TheVariants.{Bdd, Add, Zdd}
 use Rattle.function_laws.specs.declared.history.Name.{Name}
@@ -18,7 +21,8 @@ use Rattle.function_laws.specs.Handovers.{posts_to}
 use Rattle.function_laws.specs.Functions.{and_of, not_of, or_of}
 use Rattle.function_laws.specs.Lists.{list_of, truth}
 use Rattle.function_laws.specs.SessionEntries.{entry}
-use Rattle.function_laws.specs.Steps.{as_bdd, makes, outcome, with_one, with_two}
+use Rattle.function_laws.specs.Outcomes.{as_bdd, makes, with_one, with_two}
+use Rattle.function_laws.specs.Steps.{outcome}
 use Rattle.function_laws.specs.Values.{assignment_of, conjunction, constant, disjunction, negation, projection}
 use Rattle.function_laws.proofs.BridgeLemmas.{and_of-list_of, not_of-list_of, place_two-list_of}
 use Rattle.function_laws.proofs.StepLemmas.{outcome-var}
@@ -33,10 +37,9 @@ use Rattle.dd_session.proofs.SessionLaws.{dropped_stays, evaluated_as, made_as, 
 use Rattle.net_builds.specs.declared.host.Stop.{Stop}
 use Rattle.net_builds.specs.Standings.{Asks, Fetches, IsCaused, IsHeld, IsLive, IsQuiet, LetsGo, Lists, Makes, Posts, Works, values_of}
 use Rattle.net_jobs.specs.Hosts.{IsRefusedBy, named_by, standing_of}
-use Rattle.net_jobs.specs.Saying.{kind_or}
 use Rattle.net_jobs.proofs.CallLaws.{given}
 use Rattle.net_jobs.proofs.CoverLemmas.{name-apart}
-use Rattle.net_jobs.proofs.OutcomeKinds.{is_plain}
+use Rattle.net_jobs.proofs.OutcomeKinds.{IsOfKind, fetch-kind, is_plain, kind_or}
 
 -- a name that stands for a list of truth values is that of a row, and so is one that stands for a function
 pub live_is_bdd : (s : Seen) (name : Name) → IsLive (standing_of s) name → IsLiveAs kinds.Bdd s name
@@ -136,25 +139,25 @@ module _ (s : Seen) (board : ℕ → Option Function) where
   in_table : (name : Name) (f : Function) → stands_for s.rows name ≡ Some f → (table_of s board).live s.number name ≡ Some f
   in_table name f stands = ap (λ b. cond b (stands_for s.rows name) None) (eq-eqb s.number s.number refl) ∙ stands
 
-  pub outcome-one : (value : Bool) → value ≡ true → outcome (table_of s board) s.number calls.One ≡ Some (makes (Bdd (list_of size (constant value))))
+  pub outcome-one : (value : Bool) → value ≡ true → outcome (table_of s board) s.number (calls.Makes (makings.Bdd bdds.One)) ≡ Some (makes (Bdd (list_of size (constant value))))
   outcome-one value is = ap (λ b. Some (makes (Bdd (list_of size (constant b))))) (sym is)
 
-  pub outcome-zero : (value : Bool) → value ≡ false → outcome (table_of s board) s.number calls.Zero ≡ Some (makes (Bdd (list_of size (constant value))))
+  pub outcome-zero : (value : Bool) → value ≡ false → outcome (table_of s board) s.number (calls.Makes (makings.Bdd bdds.Zero)) ≡ Some (makes (Bdd (list_of size (constant value))))
   outcome-zero value is = ap (λ b. Some (makes (Bdd (list_of size (constant b))))) (sym is)
 
-  pub outcome-projection : (v : ℕ) → v < s.manager.vars → outcome (table_of s board) s.number (calls.Var v) ≡ Some (makes (Bdd (list_of size (projection v))))
+  pub outcome-projection : (v : ℕ) → v < s.manager.vars → outcome (table_of s board) s.number (calls.Makes (makings.Bdd (bdds.Var v))) ≡ Some (makes (Bdd (list_of size (projection v))))
   outcome-projection v below = outcome-var (table_of s board) s.number v below
 
-  pub outcome-complement : (a : Name) (f : ℕ → Bool) → Stands a f → outcome (table_of s board) s.number (calls.Not a) ≡ Some (makes (Bdd (list_of size (negation f))))
+  pub outcome-complement : (a : Name) (f : ℕ → Bool) → Stands a f → outcome (table_of s board) s.number (calls.Makes (makings.Bdd (bdds.Not a))) ≡ Some (makes (Bdd (list_of size (negation f))))
   outcome-complement a f stands = ap (λ o. with_one (as_bdd o) (λ x. makes (Bdd (not_of x)))) (in_table a (Bdd (list_of size f)) stands) ∙ ap (λ x. Some (makes (Bdd x))) (not_of-list_of size f)
 
   module _ (a b : Name) (f g : ℕ → Bool) (first : Stands a f) (second : Stands b g) where
-    pub outcome-conjunction : outcome (table_of s board) s.number (calls.And a b) ≡ Some (makes (Bdd (list_of size (conjunction f g))))
+    pub outcome-conjunction : outcome (table_of s board) s.number (calls.Makes (makings.Bdd (bdds.And a b))) ≡ Some (makes (Bdd (list_of size (conjunction f g))))
     outcome-conjunction =
         ap₂ (λ o p. with_two (as_bdd o) (as_bdd p) (λ x y. makes (Bdd (and_of x y)))) (in_table a (Bdd (list_of size f)) first) (in_table b (Bdd (list_of size g)) second)
         ∙ ap (λ x. Some (makes (Bdd x))) (and_of-list_of size f g)
 
-    pub outcome-disjunction : outcome (table_of s board) s.number (calls.Or a b) ≡ Some (makes (Bdd (list_of size (disjunction f g))))
+    pub outcome-disjunction : outcome (table_of s board) s.number (calls.Makes (makings.Bdd (bdds.Or a b))) ≡ Some (makes (Bdd (list_of size (disjunction f g))))
     outcome-disjunction =
         ap₂ (λ o p. with_two (as_bdd o) (as_bdd p) (λ x y. makes (Bdd (or_of x y)))) (in_table a (Bdd (list_of size f)) first) (in_table b (Bdd (list_of size g)) second)
         ∙ ap (λ x. Some (makes (Bdd x))) (place_two-list_of (λ x y. x || y) size f g)
@@ -199,7 +202,7 @@ module _ (old new : Seen) where
       → Fetches (standing_of old) (standing_of new) other to posted place
   fetches other to posted place called live =
       let gave = given old new (calls.Fetch 0 other) (replies.Fetched to posted) place called to refl refl in
-      let bdd = is_bdd gave.function (gave.kind ∙ ap kind_or live.1) in
+      let bdd = is_bdd gave.function (gave.kind kinds.Bdd (λ z cells o at. subst (λ (k : Kind). IsOfKind k o) (ap kind_or live.1) (fetch-kind z cells (stands_for old.rows) 0 other o at))) in
       record {
         vars_are = ap (λ (m : Managed). m.vars) called.manager_is;
         number_is = called.number_is;

@@ -2,20 +2,21 @@
 use Rattle.std.proofs.Common.{◌≡◌, ℕ, zero, suc, ◌<◌, List, [], ◌∷◌, ◌++◌, length, map, Some, refl, sym, ap, ◌∙◌, subst}
 use Rattle.std.specs.Prelude.{option_map, slice_get}
 use Rattle.std.specs.List.{All, cons_option}
-use Rattle.std.proofs.lemmas.List.Elements.{All-head, All-tail, filter_map-append}
+use Rattle.std.proofs.lemmas.List.Elements.{All-weaker, filter_map-append}
 use Rattle.std.proofs.lemmas.Option.{slice_get-map}
 use Rattle.edge_bits.specs.declared.edges.Kind.{Kind}
 use Rattle.edge_bits.specs.declared.edges.Kind.TheVariants as kinds
 use Rattle.function_laws.specs.declared.history.Call.{Call}
 use Rattle.function_laws.specs.declared.history.Name.{Name}
-use Rattle.job_text.specs.declared.job.Act.{Act}
-use Rattle.job_text.specs.declared.job.Act.TheVariants.{One, Zero, Var, Not, And, Or, Xor, Ite, Cofactor, Exists, Forall, AndExists, Compose, VectorCompose, Restrict, Support, Constant, FromBdd, Plus, Minus, Times, Min, Max, Threshold, AddIte, SumOver, AtLeast, Pattern, Empty, Base, Single, Union, Meet, Diff, Subset1, Subset0, Change, Product, Quotient, Copy, Fetch, Post, Drop, Same, Leq, Eval, Sweep}
+use Rattle.job_commands.specs.declared.acts.Act.{Act}
+use Rattle.job_commands.specs.declared.acts.Act.TheVariants.{Makes, Copy, Fetch, Post, Drop, Same, Leq, Eval, Sweep}
+use Rattle.function_laws.specs.Makings.{Taken, bit, element, function, number, pairs, taken, variable, variables}
 use Rattle.job_text.specs.declared.job.Command.{Command}
 use Rattle.job_text.specs.declared.job.Counts.{Counts}
 use Rattle.job_text.specs.Histories.{AreNamed, Calls, Held, HistoryLine, IsNamed, SayInOrder, held_by, registers_of}
 use Rattle.dd_session.specs.Sessions.{Seen}
 use Rattle.net_jobs.specs.declared.registers.Assigned.{Assigned}
-use Rattle.net_jobs.specs.Saying.{CanCall, IsHeldAs, call_of, name_at, name_in, register_of, with_name}
+use Rattle.net_jobs.specs.Saying.{CanCall, CanTakeAll, IsHeldAs, call_of, name_at, name_in, register_of}
 use Rattle.net_jobs.proofs.ListLemmas.{some_at}
 
 -- what is named among some registers is named among more
@@ -27,54 +28,19 @@ named-more registers more a name is = (is.0, slice_get-more registers more a _ i
     slice_get-more (y ∷ xs) ys zero x is = is
     slice_get-more (y ∷ xs) ys (suc i) x is = slice_get-more xs ys i x is
 
-are_named-more : (registers more : List Held) (pairs : List (ℕ × ℕ)) (names : List (ℕ × Name)) → AreNamed registers pairs names → AreNamed (registers ++ more) pairs names
-are_named-more registers more [] [] are = are
-are_named-more registers more [] (name ∷ names) are = are
-are_named-more registers more (pair ∷ pairs) [] are = are
-are_named-more registers more (pair ∷ pairs) (name ∷ names) are = (are.0, named-more registers more pair.1 name.1 are.1, are_named-more registers more pairs names are.2)
+are_named-more : (registers more : List Held) (name : ℕ → Name) (all : List (Taken ℕ)) → AreNamed registers name all → AreNamed (registers ++ more) name all
+are_named-more registers more name [] are = are
+are_named-more registers more name (function k a ∷ all) are = (named-more registers more a (name a) are.0, are_named-more registers more name all are.1)
+are_named-more registers more name (pairs ps ∷ all) are =
+    (All-weaker (λ pair. IsNamed registers pair.1 (name pair.1)) (λ pair. IsNamed (registers ++ more) pair.1 (name pair.1)) (λ pair is. named-more registers more pair.1 (name pair.1) is) ps are.0, are_named-more registers more name all are.1)
+are_named-more registers more name (variable v ∷ all) are = are_named-more registers more name all are
+are_named-more registers more name (element e ∷ all) are = are_named-more registers more name all are
+are_named-more registers more name (number z ∷ all) are = are_named-more registers more name all are
+are_named-more registers more name (bit b ∷ all) are = are_named-more registers more name all are
+are_named-more registers more name (variables vs ∷ all) are = are_named-more registers more name all are
 
 calls-more : (registers more : List Held) (act : Act) (call : Call) → Calls registers act call → Calls (registers ++ more) act call
-calls-more registers more One call is = is
-calls-more registers more Zero call is = is
-calls-more registers more (Var v) call is = is
-calls-more registers more (Not a) call is = (is.0, named-more registers more a is.0 is.1, is.2)
-calls-more registers more (And a b) call is = (is.0, is.1, named-more registers more a is.0 is.2, named-more registers more b is.1 is.3, is.4)
-calls-more registers more (Or a b) call is = (is.0, is.1, named-more registers more a is.0 is.2, named-more registers more b is.1 is.3, is.4)
-calls-more registers more (Xor a b) call is = (is.0, is.1, named-more registers more a is.0 is.2, named-more registers more b is.1 is.3, is.4)
-calls-more registers more (Ite a b c) call is =
-    (is.0, is.1, is.2, named-more registers more a is.0 is.3, named-more registers more b is.1 is.4, named-more registers more c is.2 is.5, is.6)
-calls-more registers more (Cofactor a v b) call is = (is.0, named-more registers more a is.0 is.1, is.2)
-calls-more registers more (Exists a vs) call is = (is.0, named-more registers more a is.0 is.1, is.2)
-calls-more registers more (Forall a vs) call is = (is.0, named-more registers more a is.0 is.1, is.2)
-calls-more registers more (AndExists a b vs) call is = (is.0, is.1, named-more registers more a is.0 is.2, named-more registers more b is.1 is.3, is.4)
-calls-more registers more (Compose a v b) call is = (is.0, is.1, named-more registers more a is.0 is.2, named-more registers more b is.1 is.3, is.4)
-calls-more registers more (VectorCompose a pairs) call is = (is.0, is.1, named-more registers more a is.0 is.2, are_named-more registers more pairs is.1 is.3, is.4)
-calls-more registers more (Restrict a b) call is = (is.0, is.1, named-more registers more a is.0 is.2, named-more registers more b is.1 is.3, is.4)
-calls-more registers more (Support a) call is = (is.0, named-more registers more a is.0 is.1, is.2)
-calls-more registers more (Constant z) call is = is
-calls-more registers more (FromBdd a) call is = (is.0, named-more registers more a is.0 is.1, is.2)
-calls-more registers more (Plus a b) call is = (is.0, is.1, named-more registers more a is.0 is.2, named-more registers more b is.1 is.3, is.4)
-calls-more registers more (Minus a b) call is = (is.0, is.1, named-more registers more a is.0 is.2, named-more registers more b is.1 is.3, is.4)
-calls-more registers more (Times a b) call is = (is.0, is.1, named-more registers more a is.0 is.2, named-more registers more b is.1 is.3, is.4)
-calls-more registers more (Min a b) call is = (is.0, is.1, named-more registers more a is.0 is.2, named-more registers more b is.1 is.3, is.4)
-calls-more registers more (Max a b) call is = (is.0, is.1, named-more registers more a is.0 is.2, named-more registers more b is.1 is.3, is.4)
-calls-more registers more (Threshold a b) call is = (is.0, is.1, named-more registers more a is.0 is.2, named-more registers more b is.1 is.3, is.4)
-calls-more registers more (AddIte a b c) call is =
-    (is.0, is.1, is.2, named-more registers more a is.0 is.3, named-more registers more b is.1 is.4, named-more registers more c is.2 is.5, is.6)
-calls-more registers more (SumOver a v) call is = (is.0, named-more registers more a is.0 is.1, is.2)
-calls-more registers more (AtLeast a z) call is = (is.0, named-more registers more a is.0 is.1, is.2)
-calls-more registers more (Pattern a) call is = (is.0, named-more registers more a is.0 is.1, is.2)
-calls-more registers more Empty call is = is
-calls-more registers more Base call is = is
-calls-more registers more (Single e) call is = is
-calls-more registers more (Union a b) call is = (is.0, is.1, named-more registers more a is.0 is.2, named-more registers more b is.1 is.3, is.4)
-calls-more registers more (Meet a b) call is = (is.0, is.1, named-more registers more a is.0 is.2, named-more registers more b is.1 is.3, is.4)
-calls-more registers more (Diff a b) call is = (is.0, is.1, named-more registers more a is.0 is.2, named-more registers more b is.1 is.3, is.4)
-calls-more registers more (Product a b) call is = (is.0, is.1, named-more registers more a is.0 is.2, named-more registers more b is.1 is.3, is.4)
-calls-more registers more (Quotient a b) call is = (is.0, is.1, named-more registers more a is.0 is.2, named-more registers more b is.1 is.3, is.4)
-calls-more registers more (Subset1 a e) call is = (is.0, named-more registers more a is.0 is.1, is.2)
-calls-more registers more (Subset0 a e) call is = (is.0, named-more registers more a is.0 is.1, is.2)
-calls-more registers more (Change a e) call is = (is.0, named-more registers more a is.0 is.1, is.2)
+calls-more registers more (Makes making) call is = (is.0, are_named-more registers more is.0 (taken making) is.1, is.2)
 calls-more registers more (Copy a) call is = (is.0, named-more registers more a is.0 is.1, is.2)
 calls-more registers more (Fetch cell a) call is = (is.0, named-more registers more a is.0 is.1, is.2)
 calls-more registers more (Post cell a) call is = (is.0, named-more registers more a is.0 is.1, is.2)
@@ -114,54 +80,19 @@ module _ (n : Counts) (s : Seen) (commands : List Command) (names : List Assigne
       subst (IsNamed (registers_of said) a) (sym name)
       ((register_of commands at.0).word, ap (λ rs. slice_get rs a) registers ∙ slice_get-map (register_of commands) names a ∙ ap (option_map (register_of commands)) at.1)
 
-  all_named : (pairs : List (ℕ × ℕ)) → All (λ pair. (pair.0 < n.vars) × IsHeldAs kinds.Bdd s names pair.1) pairs → AreNamed (registers_of said) pairs (map (with_name names) pairs)
-  all_named [] all = tt
-  all_named (pair ∷ pairs) all = (
-    refl,
-    named kinds.Bdd pair.1 (All-head (λ pair. (pair.0 < n.vars) × IsHeldAs kinds.Bdd s names pair.1) pair pairs all).1,
-    all_named pairs (All-tail (λ pair. (pair.0 < n.vars) × IsHeldAs kinds.Bdd s names pair.1) pair pairs all),
-  )
+  are_named : (all : List (Taken ℕ)) → CanTakeAll n s names all → AreNamed (registers_of said) (name_at names) all
+  are_named [] can = tt
+  are_named (function k a ∷ all) can = (named k a can.0, are_named all can.1)
+  are_named (pairs ps ∷ all) can =
+      (All-weaker (λ pair. (pair.0 < n.vars) × IsHeldAs kinds.Bdd s names pair.1) (λ pair. IsNamed (registers_of said) pair.1 (name_at names pair.1)) (λ pair held. named kinds.Bdd pair.1 held.1) ps can.0.0, are_named all can.1)
+  are_named (variable v ∷ all) can = are_named all can.1
+  are_named (element e ∷ all) can = are_named all can.1
+  are_named (number z ∷ all) can = are_named all can.1
+  are_named (bit b ∷ all) can = are_named all can.1
+  are_named (variables vs ∷ all) can = are_named all can.1
 
   calls_of : (act : Act) → CanCall n s names act → Calls (registers_of said) act (call_of names act)
-  calls_of One can = refl
-  calls_of Zero can = refl
-  calls_of (Var v) can = refl
-  calls_of (Not a) can = (name_at names a, named kinds.Bdd a can, refl)
-  calls_of (And a b) can = (name_at names a, name_at names b, named kinds.Bdd a can.0, named kinds.Bdd b can.1, refl)
-  calls_of (Or a b) can = (name_at names a, name_at names b, named kinds.Bdd a can.0, named kinds.Bdd b can.1, refl)
-  calls_of (Xor a b) can = (name_at names a, name_at names b, named kinds.Bdd a can.0, named kinds.Bdd b can.1, refl)
-  calls_of (Ite a b c) can = (name_at names a, name_at names b, name_at names c, named kinds.Bdd a can.0, named kinds.Bdd b can.1, named kinds.Bdd c can.2, refl)
-  calls_of (Cofactor a v b) can = (name_at names a, named kinds.Bdd a can.0, refl)
-  calls_of (Exists a vs) can = (name_at names a, named kinds.Bdd a can.0, refl)
-  calls_of (Forall a vs) can = (name_at names a, named kinds.Bdd a can.0, refl)
-  calls_of (AndExists a b vs) can = (name_at names a, name_at names b, named kinds.Bdd a can.0, named kinds.Bdd b can.1, refl)
-  calls_of (Compose a v b) can = (name_at names a, name_at names b, named kinds.Bdd a can.0, named kinds.Bdd b can.1, refl)
-  calls_of (VectorCompose a pairs) can = (name_at names a, map (with_name names) pairs, named kinds.Bdd a can.0, all_named pairs can.1, refl)
-  calls_of (Restrict a b) can = (name_at names a, name_at names b, named kinds.Bdd a can.0, named kinds.Bdd b can.1, refl)
-  calls_of (Support a) can = (name_at names a, named kinds.Bdd a can, refl)
-  calls_of (Constant z) can = refl
-  calls_of (FromBdd a) can = (name_at names a, named kinds.Bdd a can, refl)
-  calls_of (Plus a b) can = (name_at names a, name_at names b, named kinds.Add a can.0, named kinds.Add b can.1, refl)
-  calls_of (Minus a b) can = (name_at names a, name_at names b, named kinds.Add a can.0, named kinds.Add b can.1, refl)
-  calls_of (Times a b) can = (name_at names a, name_at names b, named kinds.Add a can.0, named kinds.Add b can.1, refl)
-  calls_of (Min a b) can = (name_at names a, name_at names b, named kinds.Add a can.0, named kinds.Add b can.1, refl)
-  calls_of (Max a b) can = (name_at names a, name_at names b, named kinds.Add a can.0, named kinds.Add b can.1, refl)
-  calls_of (Threshold a b) can = (name_at names a, name_at names b, named kinds.Add a can.0, named kinds.Add b can.1, refl)
-  calls_of (AddIte a b c) can = (name_at names a, name_at names b, name_at names c, named kinds.Bdd a can.0, named kinds.Add b can.1, named kinds.Add c can.2, refl)
-  calls_of (SumOver a v) can = (name_at names a, named kinds.Add a can.0, refl)
-  calls_of (AtLeast a z) can = (name_at names a, named kinds.Add a can.0, refl)
-  calls_of (Pattern a) can = (name_at names a, named kinds.Add a can, refl)
-  calls_of Empty can = refl
-  calls_of Base can = refl
-  calls_of (Single e) can = refl
-  calls_of (Union a b) can = (name_at names a, name_at names b, named kinds.Zdd a can.0, named kinds.Zdd b can.1, refl)
-  calls_of (Meet a b) can = (name_at names a, name_at names b, named kinds.Zdd a can.0, named kinds.Zdd b can.1, refl)
-  calls_of (Diff a b) can = (name_at names a, name_at names b, named kinds.Zdd a can.0, named kinds.Zdd b can.1, refl)
-  calls_of (Product a b) can = (name_at names a, name_at names b, named kinds.Zdd a can.0, named kinds.Zdd b can.1, refl)
-  calls_of (Quotient a b) can = (name_at names a, name_at names b, named kinds.Zdd a can.0, named kinds.Zdd b can.1, refl)
-  calls_of (Subset1 a e) can = (name_at names a, named kinds.Zdd a can.0, refl)
-  calls_of (Subset0 a e) can = (name_at names a, named kinds.Zdd a can.0, refl)
-  calls_of (Change a e) can = (name_at names a, named kinds.Zdd a can.0, refl)
+  calls_of (Makes making) can = (name_at names, are_named (taken making) can, refl)
   calls_of (Copy a) can = (name_at names a, named can.0 a can.1, refl)
   calls_of (Fetch cell a) can = (name_at names a, named can.0 a can.1, refl)
   calls_of (Post cell a) can = (name_at names a, named can.0 a can.1, refl)

@@ -8,9 +8,16 @@ use Rattle.function_laws.specs.declared.history.Function.{Function}
 use Rattle.function_laws.specs.declared.history.Function.TheVariants.{Bdd, Add, Zdd}
 use Rattle.function_laws.specs.declared.history.Name.{Name}
 use Rattle.function_laws.specs.Tables.{Sizes}
-use Rattle.function_laws.specs.Steps.{Outcome, makes, restricts, fetches, counts, compares, as_add, as_bdd, as_zdd, bdds_of, from_cell, in_range, outcome_of, same_kind, when, with_one, with_two, with_three}
+use Rattle.function_laws.specs.Outcomes.{Outcome, makes, restricts, fetches, counts, compares, as_add, in_range, when, with_one, with_two, with_three}
+use Rattle.function_laws.specs.Steps.{from_cell, outcome_of, same_kind}
 use Rattle.dd_session.specs.Sessions.{kind_of}
-use Rattle.net_jobs.specs.Saying.{kind_made, kind_or}
+use Rattle.function_laws.specs.declared.making.Making.{Making}
+use Rattle.function_laws.specs.declared.making.Making.TheVariants as makes
+use Rattle.function_laws.specs.declared.making.BddMaking.TheVariants as bdds
+use Rattle.function_laws.specs.declared.making.AddMaking.TheVariants as adds
+use Rattle.function_laws.specs.declared.making.ExactMaking.TheVariants as exacts
+use Rattle.function_laws.specs.declared.making.ZddMaking.TheVariants as zdds
+use Rattle.function_laws.specs.Makings.{comes_of, kind_made, named}
 
 -- what comes of a call is of this kind
 abbrev pub IsOfKind : Kind → Outcome → Type 0
@@ -29,6 +36,11 @@ is_plain (calls.SiftElements told) = false
 is_plain calls.AddVar = false
 is_plain calls.AddElement = false
 is_plain _ = true
+
+-- no number of variables or elements comes of a call
+abbrev CountsNone : Outcome → Type 0
+CountsNone (counts f n) = ⊥
+CountsNone _ = Unit {0}
 
 module _ (P : Outcome → Type 0) where
   pub itself : (p o : Outcome) → P p → Some p ≡ Some o → P o
@@ -52,6 +64,11 @@ module _ (P : Outcome → Type 0) where
   pub guarded : (b : Bool) (x : Option Outcome) (o : Outcome) → (x ≡ Some o → P o) → when b x ≡ Some o → P o
   guarded true x o all is = all is
   guarded false x o all is = cc
+
+-- the kind of what a name stands for
+abbrev pub kind_or : Option Function → Kind
+kind_or None = kinds.Bdd
+kind_or (Some f) = kind_of f
 
 of_number : (x : Option (List ℤ)) → IsOfKind kinds.Add (in_range x)
 of_number (Some f) = refl
@@ -77,58 +94,68 @@ of_fetch : (cell : Option Function) (x : Option Function) (o : Outcome) → with
 of_fetch cell None o is = cc
 of_fetch cell (Some other) o is = itself (IsOfKind (kind_of other)) (from_cell cell other) o (of_cell cell other) is
 
-of_same : (k : Kind) (x y : Option Function) (o : Outcome) → option_and_then (λ f. option_and_then (λ g. when (same_kind f g) (Some (compares f g))) y) x ≡ Some o → IsOfKind k o
-of_same k None y o is = cc
-of_same k (Some f) None o is = cc
-of_same k (Some f) (Some g) o is = guarded (IsOfKind k) (same_kind f g) (Some (compares f g)) o (itself (IsOfKind k) (compares f g) o tt) is
+cell_counts_none : (cell : Option Function) (other : Function) → CountsNone (from_cell cell other)
+cell_counts_none None other = tt
+cell_counts_none (Some (Bdd f)) (Bdd g) = tt
+cell_counts_none (Some (Bdd f)) (Add g) = tt
+cell_counts_none (Some (Bdd f)) (Zdd g) = tt
+cell_counts_none (Some (Add f)) (Bdd g) = tt
+cell_counts_none (Some (Add f)) (Add g) = tt
+cell_counts_none (Some (Add f)) (Zdd g) = tt
+cell_counts_none (Some (Zdd f)) (Bdd g) = tt
+cell_counts_none (Some (Zdd f)) (Add g) = tt
+cell_counts_none (Some (Zdd f)) (Zdd g) = tt
+
+of_same : (x y : Option Function) (o : Outcome) → option_and_then (λ f. option_and_then (λ g. when (same_kind f g) (Some (compares f g))) y) x ≡ Some o → CountsNone o
+of_same None y o is = cc
+of_same (Some f) None o is = cc
+of_same (Some f) (Some g) o is = guarded CountsNone (same_kind f g) (Some (compares f g)) o (itself CountsNone (compares f g) o tt) is
+
+-- what comes of what makes a function is of its kind
+module _ (z : Sizes) (live : Name → Option Function) where
+  pub made-kind : (making : Making Name (List ℕ) (List (ℕ × Name))) (o : Outcome) → comes_of z live making ≡ Some o → IsOfKind (kind_made making) o
+  made-kind (makes.Bdd bdds.One) o is = itself (IsOfKind kinds.Bdd) _ o refl is
+  made-kind (makes.Bdd making) o is = search (itself (IsOfKind kinds.Bdd), one (IsOfKind kinds.Bdd), two (IsOfKind kinds.Bdd), three (IsOfKind kinds.Bdd), guarded (IsOfKind kinds.Bdd), is)
+  made-kind (makes.Add (adds.Constant w)) o is = guarded (IsOfKind kinds.Add) _ _ o (itself (IsOfKind kinds.Add) _ o refl) is
+  made-kind (makes.Add making) o is = search (itself (IsOfKind kinds.Add), one (IsOfKind kinds.Add), two (IsOfKind kinds.Add), three (IsOfKind kinds.Add), guarded (IsOfKind kinds.Add), is)
+  made-kind (makes.Exact (exacts.SumOver a v)) o is = guarded (IsOfKind kinds.Add) _ _ o (one (IsOfKind kinds.Add) (as_add (live a)) _ o (λ f. of_number _)) is
+  made-kind (makes.Exact making) o is = search (itself (IsOfKind kinds.Add), one (IsOfKind kinds.Add), two (IsOfKind kinds.Add), guarded (IsOfKind kinds.Add), of_number, is)
+  made-kind (makes.Zdd zdds.Empty) o is = itself (IsOfKind kinds.Zdd) _ o refl is
+  made-kind (makes.Zdd making) o is = search (itself (IsOfKind kinds.Zdd), one (IsOfKind kinds.Zdd), two (IsOfKind kinds.Zdd), three (IsOfKind kinds.Zdd), guarded (IsOfKind kinds.Zdd), is)
+
+-- the same of names is of the same kind
+kind-named : (name : ℕ → Name) (making : Making ℕ (List ℕ) (List (ℕ × ℕ))) → kind_made (named name making) ≡ kind_made making
+kind-named name (makes.Bdd bdds.One) = refl
+kind-named name (makes.Bdd making) = refl
+kind-named name (makes.Add (adds.Constant w)) = refl
+kind-named name (makes.Add making) = refl
+kind-named name (makes.Exact (exacts.Plus a b)) = refl
+kind-named name (makes.Exact making) = refl
+kind-named name (makes.Zdd zdds.Empty) = refl
+kind-named name (makes.Zdd making) = refl
+
+pub named-kind : (z : Sizes) (live : Name → Option Function) (name : ℕ → Name) (making : Making ℕ (List ℕ) (List (ℕ × ℕ))) (o : Outcome) → comes_of z live (named name making) ≡ Some o → IsOfKind (kind_made making) o
+named-kind z live name making o is = subst (λ (k : Kind). IsOfKind k o) (kind-named name making) (made-kind z live (named name making) o is)
+
+kind-counts-none : (k : Kind) (o : Outcome) → IsOfKind k o → CountsNone o
+kind-counts-none k (counts f n) is = absurd is
+kind-counts-none k o is = tt
 
 module _ (z : Sizes) (cells : ℕ → Option Function) (live : Name → Option Function) where
-  pub outcome-kind : (call : Call) (o : Outcome) → is_plain call ≡ true → outcome_of z cells live call ≡ Some o → IsOfKind (kind_made live call) o
-  outcome-kind calls.One o plain is = itself (IsOfKind kinds.Bdd) _ o refl is
-  outcome-kind calls.Zero o plain is = itself (IsOfKind kinds.Bdd) _ o refl is
-  outcome-kind (calls.Var v) o plain is = guarded (IsOfKind kinds.Bdd) _ _ o (itself (IsOfKind kinds.Bdd) _ o refl) is
-  outcome-kind (calls.Not a) o plain is = one (IsOfKind kinds.Bdd) (as_bdd (live a)) _ o (λ f. refl) is
-  outcome-kind (calls.And a b) o plain is = two (IsOfKind kinds.Bdd) (as_bdd (live a)) (as_bdd (live b)) _ o (λ f g. refl) is
-  outcome-kind (calls.Or a b) o plain is = two (IsOfKind kinds.Bdd) (as_bdd (live a)) (as_bdd (live b)) _ o (λ f g. refl) is
-  outcome-kind (calls.Xor a b) o plain is = two (IsOfKind kinds.Bdd) (as_bdd (live a)) (as_bdd (live b)) _ o (λ f g. refl) is
-  outcome-kind (calls.Ite a b c) o plain is = three (IsOfKind kinds.Bdd) (as_bdd (live a)) (as_bdd (live b)) (as_bdd (live c)) _ o (λ f g h. refl) is
-  outcome-kind (calls.Cofactor a v b) o plain is = guarded (IsOfKind kinds.Bdd) _ _ o (one (IsOfKind kinds.Bdd) (as_bdd (live a)) _ o (λ f. refl)) is
-  outcome-kind (calls.Exists a vs) o plain is = guarded (IsOfKind kinds.Bdd) _ _ o (one (IsOfKind kinds.Bdd) (as_bdd (live a)) _ o (λ f. refl)) is
-  outcome-kind (calls.Forall a vs) o plain is = guarded (IsOfKind kinds.Bdd) _ _ o (one (IsOfKind kinds.Bdd) (as_bdd (live a)) _ o (λ f. refl)) is
-  outcome-kind (calls.AndExists a b vs) o plain is = guarded (IsOfKind kinds.Bdd) _ _ o (two (IsOfKind kinds.Bdd) (as_bdd (live a)) (as_bdd (live b)) _ o (λ f g. refl)) is
-  outcome-kind (calls.Compose a v b) o plain is = guarded (IsOfKind kinds.Bdd) _ _ o (two (IsOfKind kinds.Bdd) (as_bdd (live a)) (as_bdd (live b)) _ o (λ f g. refl)) is
-  outcome-kind (calls.VectorCompose a pairs) o plain is = guarded (IsOfKind kinds.Bdd) _ _ o (two (IsOfKind kinds.Bdd) (as_bdd (live a)) (bdds_of live pairs) _ o (λ f g. refl)) is
-  outcome-kind (calls.Restrict a b) o plain is = two (IsOfKind kinds.Bdd) (as_bdd (live a)) (as_bdd (live b)) _ o (λ f g. refl) is
-  outcome-kind (calls.Support a) o plain is = one (IsOfKind kinds.Bdd) (as_bdd (live a)) _ o (λ f. refl) is
-  outcome-kind (calls.Constant w) o plain is = guarded (IsOfKind kinds.Add) _ _ o (itself (IsOfKind kinds.Add) _ o refl) is
-  outcome-kind (calls.FromBdd a) o plain is = one (IsOfKind kinds.Add) (as_bdd (live a)) _ o (λ f. refl) is
-  outcome-kind (calls.Plus a b) o plain is = two (IsOfKind kinds.Add) (as_add (live a)) (as_add (live b)) _ o (λ f g. of_number _) is
-  outcome-kind (calls.Minus a b) o plain is = two (IsOfKind kinds.Add) (as_add (live a)) (as_add (live b)) _ o (λ f g. of_number _) is
-  outcome-kind (calls.Times a b) o plain is = two (IsOfKind kinds.Add) (as_add (live a)) (as_add (live b)) _ o (λ f g. of_number _) is
-  outcome-kind (calls.Min a b) o plain is = two (IsOfKind kinds.Add) (as_add (live a)) (as_add (live b)) _ o (λ f g. refl) is
-  outcome-kind (calls.Max a b) o plain is = two (IsOfKind kinds.Add) (as_add (live a)) (as_add (live b)) _ o (λ f g. refl) is
-  outcome-kind (calls.Threshold a b) o plain is = two (IsOfKind kinds.Add) (as_add (live a)) (as_add (live b)) _ o (λ f g. refl) is
-  outcome-kind (calls.AddIte a b c) o plain is = three (IsOfKind kinds.Add) (as_bdd (live a)) (as_add (live b)) (as_add (live c)) _ o (λ f g h. refl) is
-  outcome-kind (calls.SumOver a v) o plain is = guarded (IsOfKind kinds.Add) _ _ o (one (IsOfKind kinds.Add) (as_add (live a)) _ o (λ f. of_number _)) is
-  outcome-kind (calls.AtLeast a w) o plain is = one (IsOfKind kinds.Bdd) (as_add (live a)) _ o (λ f. refl) is
-  outcome-kind (calls.Pattern a) o plain is = one (IsOfKind kinds.Bdd) (as_add (live a)) _ o (λ f. refl) is
-  outcome-kind calls.Empty o plain is = itself (IsOfKind kinds.Zdd) _ o refl is
-  outcome-kind calls.Base o plain is = itself (IsOfKind kinds.Zdd) _ o refl is
-  outcome-kind (calls.Single e) o plain is = guarded (IsOfKind kinds.Zdd) _ _ o (itself (IsOfKind kinds.Zdd) _ o refl) is
-  outcome-kind (calls.Union a b) o plain is = two (IsOfKind kinds.Zdd) (as_zdd (live a)) (as_zdd (live b)) _ o (λ f g. refl) is
-  outcome-kind (calls.Meet a b) o plain is = two (IsOfKind kinds.Zdd) (as_zdd (live a)) (as_zdd (live b)) _ o (λ f g. refl) is
-  outcome-kind (calls.Diff a b) o plain is = two (IsOfKind kinds.Zdd) (as_zdd (live a)) (as_zdd (live b)) _ o (λ f g. refl) is
-  outcome-kind (calls.Subset1 a e) o plain is = guarded (IsOfKind kinds.Zdd) _ _ o (one (IsOfKind kinds.Zdd) (as_zdd (live a)) _ o (λ f. refl)) is
-  outcome-kind (calls.Subset0 a e) o plain is = guarded (IsOfKind kinds.Zdd) _ _ o (one (IsOfKind kinds.Zdd) (as_zdd (live a)) _ o (λ f. refl)) is
-  outcome-kind (calls.Change a e) o plain is = guarded (IsOfKind kinds.Zdd) _ _ o (one (IsOfKind kinds.Zdd) (as_zdd (live a)) _ o (λ f. refl)) is
-  outcome-kind (calls.Product a b) o plain is = two (IsOfKind kinds.Zdd) (as_zdd (live a)) (as_zdd (live b)) _ o (λ f g. refl) is
-  outcome-kind (calls.Quotient a b) o plain is = two (IsOfKind kinds.Zdd) (as_zdd (live a)) (as_zdd (live b)) _ o (λ f g. refl) is
-  outcome-kind (calls.Copy a) o plain is = of_copy (live a) o is
-  outcome-kind (calls.DropRow a) o plain is = one (IsOfKind kinds.Bdd) (live a) _ o (λ f. tt) is
-  outcome-kind (calls.Same a b) o plain is = of_same kinds.Bdd (live a) (live b) o is
-  outcome-kind (calls.Leq a b) o plain is = two (IsOfKind kinds.Bdd) (as_bdd (live a)) (as_bdd (live b)) _ o (λ f g. tt) is
-  outcome-kind (calls.Eval a bits) o plain is = one (IsOfKind kinds.Bdd) (live a) _ o (λ f. tt) is
-  outcome-kind (calls.Post i a) o plain is = guarded (IsOfKind kinds.Bdd) _ _ o (one (IsOfKind kinds.Bdd) (live a) _ o (λ f. tt)) is
-  outcome-kind (calls.Fetch i a) o plain is = guarded (IsOfKind (kind_or (live a))) _ _ o (of_fetch (cells i) (live a) o) is
-  outcome-kind calls.Sweep o plain is = itself (IsOfKind kinds.Bdd) _ o tt is
-  outcome-kind call o plain is = cc
+  pub no-count : (call : Call) (o : Outcome) → is_plain call ≡ true → outcome_of z cells live call ≡ Some o → CountsNone o
+  no-count (calls.Makes making) o plain is = kind-counts-none (kind_made making) o (made-kind z live making o is)
+  no-count (calls.Same a b) o plain is = of_same (live a) (live b) o is
+  no-count (calls.Swap level) o plain is = cc
+  no-count (calls.SwapElements level) o plain is = cc
+  no-count (calls.Sift told) o plain is = cc
+  no-count (calls.SiftElements told) o plain is = cc
+  no-count calls.AddVar o plain is = cc
+  no-count calls.AddElement o plain is = cc
+  no-count call o plain is = search (itself CountsNone, one CountsNone, two CountsNone, three CountsNone, guarded CountsNone, cell_counts_none, is)
+
+  -- what comes of a copy, or of a fetch, is of the kind of its operand
+  pub copy-kind : (a : Name) (o : Outcome) → outcome_of z cells live (calls.Copy a) ≡ Some o → IsOfKind (kind_or (live a)) o
+  copy-kind a o is = of_copy (live a) o is
+
+  pub fetch-kind : (i : ℕ) (a : Name) (o : Outcome) → outcome_of z cells live (calls.Fetch i a) ≡ Some o → IsOfKind (kind_or (live a)) o
+  fetch-kind i a o is = guarded (IsOfKind (kind_or (live a))) _ _ o (of_fetch (cells i) (live a) o) is

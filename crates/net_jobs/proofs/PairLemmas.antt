@@ -3,7 +3,7 @@ use Rattle.std.proofs.Common.{◌≡◌, ℕ, ◌<◌, true, List, [], ◌∷◌
 use Rattle.std.specs.List.{All}
 use Rattle.std.proofs.lemmas.List.Elements.{All-map}
 use Rattle.edge_bits.specs.declared.edges.Kind.TheVariants as kinds
-use Rattle.function_laws.specs.Steps.{are_distinct}
+use Rattle.function_laws.specs.Makings.{are_distinct}
 use Rattle.dd_session.specs.Sessions.{IsLiveAs, Seen}
 use Rattle.net_jobs.specs.declared.registers.Assigned.{Assigned}
 use Rattle.net_jobs.specs.Saying.{IsHeldAs, with_name}

@@ -9,18 +9,19 @@ use Rattle.function_laws.specs.declared.history.Function.{Function}
 use Rattle.function_laws.specs.declared.history.Name.{Name}
 use Rattle.function_laws.specs.declared.history.Reply.{Reply as LawReply}
 use Rattle.function_laws.specs.Numbers.{is_value}
-use Rattle.function_laws.specs.Steps.{are_distinct}
+use Rattle.function_laws.specs.Makings.{are_distinct}
 use Rattle.job_text.specs.declared.history_line.Reply.TheVariants as replies
-use Rattle.job_text.specs.declared.job.Act.{Act}
-use Rattle.job_text.specs.declared.job.Act.TheVariants.{One, Zero, Var, Not, And, Or, Xor, Ite, Cofactor, Exists, Forall, AndExists, Compose, VectorCompose, Restrict, Support, Constant, FromBdd, Plus, Minus, Times, Min, Max, Threshold, AddIte, SumOver, AtLeast, Pattern, Drop, Same, Leq, Eval, Empty, Base, Single, Union, Meet, Diff, Subset1, Subset0, Change, Product, Quotient, Copy, Fetch, Post, Sweep}
+use Rattle.job_commands.specs.declared.acts.Act.{Act}
+use Rattle.job_commands.specs.declared.acts.Act.TheVariants.{Makes, Drop, Same, Leq, Eval, Copy, Fetch, Post, Sweep}
 use Rattle.job_text.specs.declared.job.Command.{Command}
 use Rattle.job_text.specs.declared.job.Counts.{Counts}
 use Rattle.job_text.specs.declared.job.Register.{Register}
 use Rattle.job_words.specs.Text.{Word}
-use Rattle.job_text.specs.Grammar.{bits_for, target_of}
+use Rattle.function_laws.specs.Makings.{Taken, bit, element, function, named, number, pairs, taken, variable, variables}
+use Rattle.job_text.specs.Places.{bits_for}
+use Rattle.job_text.specs.Grammar.{target_of}
 use Rattle.job_text.specs.Histories.{Held, HistoryLine, SayInOrder, drop_of, drops, given_by, left_of, line_text, registers_of, stops, told_of}
 use Rattle.dd_session.specs.Managing.{stands_for}
-use Rattle.dd_session.specs.Sessions.{kind_of}
 use Rattle.dd_session.specs.declared.answers.Placed.{Placed}
 use Rattle.dd_session.specs.Sessions.{Called, IsLiveAs, Seen}
 use Rattle.net_jobs.specs.declared.answering.Answered.{Answered}
@@ -41,48 +42,24 @@ name_at names a = name_in (slice_get names a)
 abbrev pub IsHeldAs : Kind → Seen → List Assigned → ℕ → Type 0
 IsHeldAs k s names a = (a < length names) × IsLiveAs k s (name_at names a)
 
--- the conditions of a command's call: its variables and elements are some of so many, its registers are live and of the kinds
--- that are due, it has as many bits as the kind of its register asks for
+-- the conditions of what an operation takes, over so many variables and elements: a register is live and of its kind, a variable or an
+-- element is one of these, a number is one, and no variable is put twice
+abbrev pub CanTake : Counts → Seen → List Assigned → Taken ℕ → Type 0
+CanTake n s names (function k a) = IsHeldAs k s names a
+CanTake n s names (variable v) = v < n.vars
+CanTake n s names (element e) = e < n.elements
+CanTake n s names (number z) = is_value z ≡ true
+CanTake n s names (bit b) = Unit {0}
+CanTake n s names (variables vs) = All (λ v. v < n.vars) vs
+CanTake n s names (pairs ps) = All (λ pair. (pair.0 < n.vars) × IsHeldAs kinds.Bdd s names pair.1) ps × (are_distinct (map (λ pair. pair.0) ps) ≡ true)
+
+abbrev pub CanTakeAll : Counts → Seen → List Assigned → List (Taken ℕ) → Type 0
+CanTakeAll n s names [] = Unit {0}
+CanTakeAll n s names (one ∷ more) = CanTake n s names one × CanTakeAll n s names more
+
+-- the conditions of a command's call: it has as many bits as the kind of its register asks for
 abbrev pub CanCall : Counts → Seen → List Assigned → Act → Type 0
-CanCall n s names One = Unit {0}
-CanCall n s names Zero = Unit {0}
-CanCall n s names (Var v) = v < n.vars
-CanCall n s names (Not a) = IsHeldAs kinds.Bdd s names a
-CanCall n s names (And a b) = IsHeldAs kinds.Bdd s names a × IsHeldAs kinds.Bdd s names b
-CanCall n s names (Or a b) = IsHeldAs kinds.Bdd s names a × IsHeldAs kinds.Bdd s names b
-CanCall n s names (Xor a b) = IsHeldAs kinds.Bdd s names a × IsHeldAs kinds.Bdd s names b
-CanCall n s names (Ite a b c) = IsHeldAs kinds.Bdd s names a × IsHeldAs kinds.Bdd s names b × IsHeldAs kinds.Bdd s names c
-CanCall n s names (Cofactor a v b) = IsHeldAs kinds.Bdd s names a × (v < n.vars)
-CanCall n s names (Exists a vs) = IsHeldAs kinds.Bdd s names a × All (λ v. v < n.vars) vs
-CanCall n s names (Forall a vs) = IsHeldAs kinds.Bdd s names a × All (λ v. v < n.vars) vs
-CanCall n s names (AndExists a b vs) = IsHeldAs kinds.Bdd s names a × IsHeldAs kinds.Bdd s names b × All (λ v. v < n.vars) vs
-CanCall n s names (Compose a v b) = IsHeldAs kinds.Bdd s names a × IsHeldAs kinds.Bdd s names b × (v < n.vars)
-CanCall n s names (VectorCompose a pairs) = IsHeldAs kinds.Bdd s names a × All (λ pair. (pair.0 < n.vars) × IsHeldAs kinds.Bdd s names pair.1) pairs × (are_distinct (map (λ pair. pair.0) pairs) ≡ true)
-CanCall n s names (Restrict a b) = IsHeldAs kinds.Bdd s names a × IsHeldAs kinds.Bdd s names b
-CanCall n s names (Support a) = IsHeldAs kinds.Bdd s names a
-CanCall n s names (Constant z) = is_value z ≡ true
-CanCall n s names (FromBdd a) = IsHeldAs kinds.Bdd s names a
-CanCall n s names (Plus a b) = IsHeldAs kinds.Add s names a × IsHeldAs kinds.Add s names b
-CanCall n s names (Minus a b) = IsHeldAs kinds.Add s names a × IsHeldAs kinds.Add s names b
-CanCall n s names (Times a b) = IsHeldAs kinds.Add s names a × IsHeldAs kinds.Add s names b
-CanCall n s names (Min a b) = IsHeldAs kinds.Add s names a × IsHeldAs kinds.Add s names b
-CanCall n s names (Max a b) = IsHeldAs kinds.Add s names a × IsHeldAs kinds.Add s names b
-CanCall n s names (Threshold a b) = IsHeldAs kinds.Add s names a × IsHeldAs kinds.Add s names b
-CanCall n s names (AddIte a b c) = IsHeldAs kinds.Bdd s names a × IsHeldAs kinds.Add s names b × IsHeldAs kinds.Add s names c
-CanCall n s names (SumOver a v) = IsHeldAs kinds.Add s names a × (v < n.vars)
-CanCall n s names (AtLeast a z) = IsHeldAs kinds.Add s names a × (is_value z ≡ true)
-CanCall n s names (Pattern a) = IsHeldAs kinds.Add s names a
-CanCall n s names Empty = Unit {0}
-CanCall n s names Base = Unit {0}
-CanCall n s names (Single e) = e < n.elements
-CanCall n s names (Union a b) = IsHeldAs kinds.Zdd s names a × IsHeldAs kinds.Zdd s names b
-CanCall n s names (Meet a b) = IsHeldAs kinds.Zdd s names a × IsHeldAs kinds.Zdd s names b
-CanCall n s names (Diff a b) = IsHeldAs kinds.Zdd s names a × IsHeldAs kinds.Zdd s names b
-CanCall n s names (Product a b) = IsHeldAs kinds.Zdd s names a × IsHeldAs kinds.Zdd s names b
-CanCall n s names (Quotient a b) = IsHeldAs kinds.Zdd s names a × IsHeldAs kinds.Zdd s names b
-CanCall n s names (Subset1 a e) = IsHeldAs kinds.Zdd s names a × (e < n.elements)
-CanCall n s names (Subset0 a e) = IsHeldAs kinds.Zdd s names a × (e < n.elements)
-CanCall n s names (Change a e) = IsHeldAs kinds.Zdd s names a × (e < n.elements)
+CanCall n s names (Makes making) = CanTakeAll n s names (taken making)
 CanCall n s names (Copy a) = (k : Kind) × IsHeldAs k s names a
 CanCall n s names (Fetch cell a) = (k : Kind) × IsHeldAs k s names a × (cell < 256)
 CanCall n s names (Post cell a) = (k : Kind) × IsHeldAs k s names a × (cell < 256)
@@ -98,45 +75,7 @@ with_name names pair = (pair.0, name_at names pair.1)
 
 -- the call of a command, by the names of the registers
 abbrev pub call_of : List Assigned → Act → Call
-call_of names One = calls.One
-call_of names Zero = calls.Zero
-call_of names (Var v) = calls.Var v
-call_of names (Not a) = calls.Not (name_at names a)
-call_of names (And a b) = calls.And (name_at names a) (name_at names b)
-call_of names (Or a b) = calls.Or (name_at names a) (name_at names b)
-call_of names (Xor a b) = calls.Xor (name_at names a) (name_at names b)
-call_of names (Ite a b c) = calls.Ite (name_at names a) (name_at names b) (name_at names c)
-call_of names (Cofactor a v b) = calls.Cofactor (name_at names a) v b
-call_of names (Exists a vs) = calls.Exists (name_at names a) vs
-call_of names (Forall a vs) = calls.Forall (name_at names a) vs
-call_of names (AndExists a b vs) = calls.AndExists (name_at names a) (name_at names b) vs
-call_of names (Compose a v b) = calls.Compose (name_at names a) v (name_at names b)
-call_of names (VectorCompose a pairs) = calls.VectorCompose (name_at names a) (map (with_name names) pairs)
-call_of names (Restrict a b) = calls.Restrict (name_at names a) (name_at names b)
-call_of names (Support a) = calls.Support (name_at names a)
-call_of names (Constant z) = calls.Constant z
-call_of names (FromBdd a) = calls.FromBdd (name_at names a)
-call_of names (Plus a b) = calls.Plus (name_at names a) (name_at names b)
-call_of names (Minus a b) = calls.Minus (name_at names a) (name_at names b)
-call_of names (Times a b) = calls.Times (name_at names a) (name_at names b)
-call_of names (Min a b) = calls.Min (name_at names a) (name_at names b)
-call_of names (Max a b) = calls.Max (name_at names a) (name_at names b)
-call_of names (Threshold a b) = calls.Threshold (name_at names a) (name_at names b)
-call_of names (AddIte a b c) = calls.AddIte (name_at names a) (name_at names b) (name_at names c)
-call_of names (SumOver a v) = calls.SumOver (name_at names a) v
-call_of names (AtLeast a z) = calls.AtLeast (name_at names a) z
-call_of names (Pattern a) = calls.Pattern (name_at names a)
-call_of names Empty = calls.Empty
-call_of names Base = calls.Base
-call_of names (Single e) = calls.Single e
-call_of names (Union a b) = calls.Union (name_at names a) (name_at names b)
-call_of names (Meet a b) = calls.Meet (name_at names a) (name_at names b)
-call_of names (Diff a b) = calls.Diff (name_at names a) (name_at names b)
-call_of names (Product a b) = calls.Product (name_at names a) (name_at names b)
-call_of names (Quotient a b) = calls.Quotient (name_at names a) (name_at names b)
-call_of names (Subset1 a e) = calls.Subset1 (name_at names a) e
-call_of names (Subset0 a e) = calls.Subset0 (name_at names a) e
-call_of names (Change a e) = calls.Change (name_at names a) e
+call_of names (Makes making) = calls.Makes (named (name_at names) making)
 call_of names (Copy a) = calls.Copy (name_at names a)
 call_of names (Fetch cell a) = calls.Fetch cell (name_at names a)
 call_of names (Post cell a) = calls.Post cell (name_at names a)
@@ -155,84 +94,6 @@ makes_row (calls.Eval a bits) = false
 makes_row (calls.Post cell a) = false
 makes_row calls.Sweep = false
 makes_row _ = true
-
--- the command makes a row by an operation on others
-abbrev pub is_operation : Act → Bool
-is_operation (Copy a) = false
-is_operation (Fetch cell a) = false
-is_operation (Post cell a) = false
-is_operation (Drop a) = false
-is_operation Sweep = false
-is_operation (Same a b) = false
-is_operation (Leq a b) = false
-is_operation (Eval a bits) = false
-is_operation _ = true
-
--- the command may come to a value out of range
-abbrev pub may_exceed : Act → Bool
-may_exceed (Plus a b) = true
-may_exceed (Minus a b) = true
-may_exceed (Times a b) = true
-may_exceed (SumOver a v) = true
-may_exceed _ = false
-
--- the command is about functions of numbers
-abbrev pub is_about_numbers : Act → Bool
-is_about_numbers (Constant z) = true
-is_about_numbers (FromBdd a) = true
-is_about_numbers (Min a b) = true
-is_about_numbers (Max a b) = true
-is_about_numbers (Threshold a b) = true
-is_about_numbers (AddIte a b c) = true
-is_about_numbers (AtLeast a z) = true
-is_about_numbers (Pattern a) = true
-is_about_numbers act = may_exceed act
-
--- the command is about families
-abbrev pub is_about_families : Act → Bool
-is_about_families Empty = true
-is_about_families Base = true
-is_about_families (Single e) = true
-is_about_families (Union a b) = true
-is_about_families (Meet a b) = true
-is_about_families (Diff a b) = true
-is_about_families (Product a b) = true
-is_about_families (Quotient a b) = true
-is_about_families (Subset1 a e) = true
-is_about_families (Subset0 a e) = true
-is_about_families (Change a e) = true
-is_about_families _ = false
-
-abbrev pub kind_or : Option Function → Kind
-kind_or None = kinds.Bdd
-kind_or (Some f) = kind_of f
-
--- the kind of the row that a call makes, by what the names stand for
-abbrev pub kind_made : (Name → Option Function) → Call → Kind
-kind_made live (calls.Constant z) = kinds.Add
-kind_made live (calls.FromBdd a) = kinds.Add
-kind_made live (calls.Plus a b) = kinds.Add
-kind_made live (calls.Minus a b) = kinds.Add
-kind_made live (calls.Times a b) = kinds.Add
-kind_made live (calls.Min a b) = kinds.Add
-kind_made live (calls.Max a b) = kinds.Add
-kind_made live (calls.Threshold a b) = kinds.Add
-kind_made live (calls.AddIte a b c) = kinds.Add
-kind_made live (calls.SumOver a v) = kinds.Add
-kind_made live calls.Empty = kinds.Zdd
-kind_made live calls.Base = kinds.Zdd
-kind_made live (calls.Single e) = kinds.Zdd
-kind_made live (calls.Union a b) = kinds.Zdd
-kind_made live (calls.Meet a b) = kinds.Zdd
-kind_made live (calls.Diff a b) = kinds.Zdd
-kind_made live (calls.Product a b) = kinds.Zdd
-kind_made live (calls.Quotient a b) = kinds.Zdd
-kind_made live (calls.Subset1 a e) = kinds.Zdd
-kind_made live (calls.Subset0 a e) = kinds.Zdd
-kind_made live (calls.Change a e) = kinds.Zdd
-kind_made live (calls.Copy a) = kind_or (live a)
-kind_made live (calls.Fetch cell a) = kind_or (live a)
-kind_made live _ = kinds.Bdd
 
 -- what a call made a row of, under a name that was told
 abbrev pub Gives : Seen → Seen → Call → Placed Name → Type 0

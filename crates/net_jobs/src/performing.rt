@@ -2,63 +2,43 @@
 
 ghost use Rattle.std.specs.Prelude.{◌≡◌, ◌<◌, true, IfOk};
 ghost use Rattle.function_laws.specs.declared.history.Call.TheVariants as calls;
+ghost use Rattle.function_laws.specs.Makings.{named, taken};
 ghost use Rattle.dd_session.specs.Sessions.{HasRoom, IsLive};
 ghost use Rattle.net_jobs.specs.Sections.{counts_of};
-ghost use Rattle.net_jobs.specs.Saying.{CanCall, IsAnswered, IsKept, call_of, is_operation};
+ghost use Rattle.net_jobs.specs.Saying.{CanCall, CanTakeAll, IsAnswered, IsKept, call_of, name_at};
 
 use crate::answering::{
     Answered, answer_of, done, exact_answer_of, fetched, made, valued, yes_or_no,
 };
-use crate::operating::{operate, operate_exactly, operate_on_families, operate_on_numbers};
+use crate::operating::{make_add, make_bdd, make_exactly, make_zdd};
 use crate::registers::{Assigned, at};
 use dd_session::{H, Manager, Session};
-use edge_bits::Memory;
-use job_text::Act;
+use edge_bits::{List, Memory};
+use function_laws::Making;
+use job_commands::Act;
 use std::alloc::Global;
 use std::sync::Wait;
 
-/// Makes the call of a command that makes a row by an operation.
+/// Makes the call of a command that makes a row of others.
 fn make<R: Wait>(
     rt: &R,
     alloc: Global,
     manager: &Manager,
     session: &mut Session,
     names: &[Assigned],
-    act: &Act,
+    making: &Making<u32, List<u32>, List<(u32, u32)>>,
 ) -> Result<Answered, Memory>
     requires own { session.old.manager ≡ manager.now }
     requires room { HasRoom session.old }
-    requires can { CanCall (counts_of session.old.manager) session.old names.now act.now }
-    requires operation { is_operation act.now ≡ true }
-    ensures answered { IfOk result (IsAnswered session.old session.new (call_of names.now act.now)) }
+    requires can { CanTakeAll (counts_of session.old.manager) session.old names.now (taken making.now) }
+    ensures answered { IfOk result (IsAnswered session.old session.new (calls.Makes (named (name_at names.now) making.now))) }
     ensures kept { IsKept session.old session.new }
 {
-    match act {
-        Act::Plus(_, _) | Act::Minus(_, _) | Act::Times(_, _) | Act::SumOver(_, _) => {
-            exact_answer_of(operate_exactly(rt, manager, session, names, act))
-        }
-        Act::Constant(_)
-        | Act::FromBdd(_)
-        | Act::Min(_, _)
-        | Act::Max(_, _)
-        | Act::Threshold(_, _)
-        | Act::AddIte(_, _, _)
-        | Act::AtLeast(_, _)
-        | Act::Pattern(_) => answer_of(operate_on_numbers(rt, manager, session, names, act)),
-        Act::Empty
-        | Act::Base
-        | Act::Single(_)
-        | Act::Union(_, _)
-        | Act::Meet(_, _)
-        | Act::Diff(_, _)
-        | Act::Subset1(_, _)
-        | Act::Subset0(_, _)
-        | Act::Change(_, _)
-        | Act::Product(_, _)
-        | Act::Quotient(_, _) => {
-            answer_of(operate_on_families(rt, manager, session, names, act))
-        }
-        _ => answer_of(operate(rt, alloc, manager, session, names, act)),
+    match making {
+        Making::Bdd(making) => answer_of(make_bdd(rt, alloc, manager, session, names, making)),
+        Making::Add(making) => answer_of(make_add(rt, manager, session, names, making)),
+        Making::Exact(making) => exact_answer_of(make_exactly(rt, manager, session, names, making)),
+        Making::Zdd(making) => answer_of(make_zdd(rt, manager, session, names, making)),
     }
 }
 
@@ -121,6 +101,6 @@ pub fn perform<R: Wait>(
         Act::Same(a, b) => { yes_or_no(session.same(rt, manager, at(names, *a), at(names, *b))) }
         Act::Leq(a, b) => { yes_or_no(session.leq(rt, manager, at(names, *a), at(names, *b))?) }
         Act::Eval(a, bits) => { valued(session.eval(rt, manager, at(names, *a), bits.as_slice())) }
-        _ => make(rt, alloc, manager, session, names, act)?,
+        Act::Makes(making) => make(rt, alloc, manager, session, names, making)?,
     })
 }

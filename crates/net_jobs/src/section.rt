@@ -1,7 +1,7 @@
 //! The part of one session of a play: its commands, one after another, the drops at its end, and the lines of both.
 
 ghost use Rattle.std.specs.Prelude.{◌≡◌, ◌<◌, ◌≤◌, ◌+◌, ◌^◌, ◌++◌, [], ◌∷◌, length, map, not, slice_get, All, Some, codes, IfOk, IfSome, OnOk, List as ListOf};
-ghost use Rattle.job_text.specs.declared.job.Act.TheVariants as acts;
+ghost use Rattle.job_commands.specs.declared.acts.Act.TheVariants as acts;
 ghost use Rattle.job_text.specs.Histories.{HistoryLine, line_text, stops};
 ghost use Rattle.dd_session.specs.Sessions.{HasRoom, Seen};
 ghost use Rattle.net_jobs.specs.Sections.{CanPlay, PlaysSection, counts_of, written_as};
@@ -15,7 +15,8 @@ use crate::said::Said;
 use dd_session::{Manager, Session};
 use edge_bits::Memory;
 use function_laws::Name;
-use job_text::{Act, Command, Reply, line};
+use job_commands::Act;
+use job_text::{Command, Reply, line};
 use std::alloc::Global;
 use std::sync::Wait;
 

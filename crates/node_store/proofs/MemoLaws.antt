@@ -1,5 +1,5 @@
 -- What a computed table holds stays right as long as the slots that its key and its answer name denote what they did.
-use Rattle.std.proofs.Common.{◌≡◌, ℕ, Bool, true, false, not, Some, sym, subst, ◌==◌, ◌&&◌, ◌||◌}
+use Rattle.std.proofs.Common.{◌≡◌, ℕ, Bool, true, false, not, Some, List, [], ◌∷◌, sym, subst, ◌==◌, ◌&&◌, ◌||◌}
 use Rattle.std.specs.Prelude.{◌^◌, if◌then◌else◌, pos, ◌+ℤ◌, ◌-ℤ◌, ◌*ℤ◌, int_le, nat_lt}
 use Rattle.edge_bits.specs.declared.edges.Edge.{Edge}
 use Rattle.computed_cache.specs.declared.Key.{Key}
@@ -7,15 +7,20 @@ use Rattle.edge_bits.specs.declared.edges.Kind.{Kind}
 use Rattle.edge_bits.specs.declared.edges.Kind.TheVariants.{Bdd, Add, Zdd}
 use Rattle.function_laws.specs.Families.{product, quotient}
 use Rattle.function_laws.specs.Kinds.{Denoted, ValueOf}
-use Rattle.node_store.specs.Numbers.{and_number, ite_number, cofactor_number, leq_number, exists_number, and_exists_number, support_number, compose_number, restrict_number, plus_number, minus_number, times_number, min_number, max_number, threshold_number, add_ite_number, from_bdd_number, pattern_number, sum_over_number, union_number, meet_number, diff_number, product_number, quotient_number}
 use Rattle.node_store.specs.Views.{View, Denotes, Grown, Is, IsBeyond, IsFunction, IsVariable, Permanent, values_at}
 use Rattle.node_store.specs.KindLaws.{flipped-function}
 use Rattle.node_store.specs.ViewLaws.{Denotes-truth, Is-from, values_at-is}
-use Rattle.node_store.specs.Memo.{either, PlaceHolds, IteHolds, CofactorHolds, ImplicationHolds, ExistsHolds, AndExistsHolds, SupportHolds, ComposeHolds, RestrictHolds, FromTruthHolds, PatternHolds, SumHolds, ProductHolds, QuotientHolds, NumberHolds, FamilyHolds, MemoHolds}
+use Rattle.node_store.specs.Memo.{either, PlaceHolds, IteHolds, CofactorHolds, ImplicationHolds, ExistsHolds, AndExistsHolds, SupportHolds, ComposeHolds, RestrictHolds, FromTruthHolds, PatternHolds, SumHolds, ProductHolds, QuotientHolds, NumberHolds, FamilyHolds, MemoHolds, Shape, placewise, choice, cofactors, implies, quantifies, conjoins, supports, composes, restricts, converts, tests, sums, multiplies, divides, Holds, CaseOf, truth_cases, number_cases, family_cases}
 
 either-map : (b : Bool) (A B C D : Type 0) → (A → C) → (B → D) → either b A B → either b C D
 either-map true A B C D f g h = f h
 either-map false A B C D f g h = g h
+
+-- what holds of the shape beside a number, whatever holds
+case-map : (P Q : Shape → Type 0) → ((shape : Shape) → P shape → Q shape) → (cases : List (ℕ × Shape)) (op : ℕ) (A B : Type 0) → (A → B) → CaseOf P cases op A → CaseOf Q cases op B
+case-map P Q each [] op A B other h = other h
+case-map P Q each (case ∷ cases) op A B other h =
+    either-map (op == case.0) (P case.1) (CaseOf P cases op A) (Q case.1) (CaseOf Q cases op B) (each case.1) (case-map P Q each cases op A B other) h
 
 -- as many variables and elements, and these slots denote what they did
 pub record Carries (a b : View) (These : ℕ → Type 0) : Type 0 where
@@ -160,84 +165,60 @@ module _ {a b : View} {These : ℕ → Type 0} (c : Carries a b These) (key : Ke
     answer = rw (values_at-carried Zdd c pf p.f, values_at-carried Zdd c pg p.g) (subst (λ n. Denotes Zdd b e (quotient (2 ^ n) (values_at Zdd a key.f) (values_at Zdd a key.g))) (sym c.elements) (Denotes-carried Zdd c pe p.answer));
   }
 
-  NumberHolds-carried : NumberHolds a key e → NumberHolds b key e
-  unfolding NumberHolds
-  NumberHolds-carried =
-      either-map (key.op == plus_number) _ _ _ _ (PlaceHolds-carried Add (λ a b. a +ℤ b))
-      (either-map (key.op == minus_number) _ _ _ _ (PlaceHolds-carried Add (λ a b. a -ℤ b))
-      (either-map (key.op == times_number) _ _ _ _ (PlaceHolds-carried Add (λ a b. a *ℤ b))
-      (either-map (key.op == min_number) _ _ _ _ (PlaceHolds-carried Add (λ a b. if int_le a b then a else b))
-      (either-map (key.op == max_number) _ _ _ _ (PlaceHolds-carried Add (λ a b. if int_le b a then a else b))
-      (either-map (key.op == threshold_number) _ _ _ _ (PlaceHolds-carried Add (λ a b. if int_le b a then a else pos 0))
-      (either-map (key.op == add_ite_number) _ _ _ _ (IteHolds-carried Add)
-      (either-map (key.op == from_bdd_number) _ _ _ _ FromTruthHolds-carried
-      (either-map (key.op == pattern_number) _ _ _ _ PatternHolds-carried
-      (either-map (key.op == sum_over_number) _ _ _ _ SumHolds-carried
-      (λ h. h))))))))))
-
-  FamilyHolds-carried : FamilyHolds a key e → FamilyHolds b key e
-  unfolding FamilyHolds
-  FamilyHolds-carried =
-      either-map (key.op == union_number) _ _ _ _ (PlaceHolds-carried Zdd (λ a b. a || b))
-      (either-map (key.op == meet_number) _ _ _ _ (PlaceHolds-carried Zdd (λ a b. a && b))
-      (either-map (key.op == diff_number) _ _ _ _ (PlaceHolds-carried Zdd (λ a b. a && not b))
-      (either-map (key.op == product_number) _ _ _ _ ProductHolds-carried
-      (either-map (key.op == quotient_number) _ _ _ _ QuotientHolds-carried
-      (λ h. h)))))
+  pub holds-carried : (shape : Shape) → Holds shape a key e → Holds shape b key e
+  holds-carried (placewise k op) = PlaceHolds-carried k op
+  holds-carried (choice k) = IteHolds-carried k
+  holds-carried cofactors = CofactorHolds-carried
+  holds-carried implies = ImplicationHolds-carried
+  holds-carried quantifies = ExistsHolds-carried
+  holds-carried conjoins = AndExistsHolds-carried
+  holds-carried supports = SupportHolds-carried
+  holds-carried composes = ComposeHolds-carried
+  holds-carried restricts = RestrictHolds-carried
+  holds-carried converts = FromTruthHolds-carried
+  holds-carried tests = PatternHolds-carried
+  holds-carried sums = SumHolds-carried
+  holds-carried multiplies = ProductHolds-carried
+  holds-carried divides = QuotientHolds-carried
 
   pub MemoHolds-carried : MemoHolds a key e → MemoHolds b key e
+  unfolding NumberHolds FamilyHolds
   MemoHolds-carried =
-      either-map (key.op == and_number) _ _ _ _ (PlaceHolds-carried Bdd (λ a b. a && b))
-      (either-map (key.op == ite_number) _ _ _ _ (IteHolds-carried Bdd)
-      (either-map (key.op == cofactor_number) _ _ _ _ CofactorHolds-carried
-      (either-map (key.op == leq_number) _ _ _ _ ImplicationHolds-carried
-      (either-map (key.op == exists_number) _ _ _ _ ExistsHolds-carried
-      (either-map (key.op == and_exists_number) _ _ _ _ AndExistsHolds-carried
-      (either-map (key.op == support_number) _ _ _ _ SupportHolds-carried
-      (either-map (key.op == compose_number) _ _ _ _ ComposeHolds-carried
-      (either-map (key.op == restrict_number) _ _ _ _ RestrictHolds-carried
-      (either-map (nat_lt key.op 40) _ _ _ _ NumberHolds-carried FamilyHolds-carried)))))))))
+      case-map (λ shape. Holds shape a key e) (λ shape. Holds shape b key e) holds-carried truth_cases key.op _ _
+      (either-map (nat_lt key.op 40) _ _ _ _
+      (case-map (λ shape. Holds shape a key e) (λ shape. Holds shape b key e) holds-carried number_cases key.op ⊥ ⊥ (λ h. h))
+      (case-map (λ shape. Holds shape a key e) (λ shape. Holds shape b key e) holds-carried family_cases key.op ⊥ ⊥ (λ h. h)))
 
 -- what is kept is an edge of the store
 either-one : (b : Bool) (A B C : Type 0) → (A → C) → (B → C) → either b A B → C
 either-one true A B C f g h = f h
 either-one false A B C f g h = g h
 
-module _ (w : View) (first : Permanent w) (key : Key) (e : Edge) where
-  number_edge : NumberHolds w key e → IsFunction w e
-  unfolding NumberHolds
-  number_edge =
-      either-one (key.op == plus_number) _ _ _ (λ p. (Add, Is-from Add p.answer))
-      (either-one (key.op == minus_number) _ _ _ (λ p. (Add, Is-from Add p.answer))
-      (either-one (key.op == times_number) _ _ _ (λ p. (Add, Is-from Add p.answer))
-      (either-one (key.op == min_number) _ _ _ (λ p. (Add, Is-from Add p.answer))
-      (either-one (key.op == max_number) _ _ _ (λ p. (Add, Is-from Add p.answer))
-      (either-one (key.op == threshold_number) _ _ _ (λ p. (Add, Is-from Add p.answer))
-      (either-one (key.op == add_ite_number) _ _ _ (λ p. (Add, Is-from Add p.answer))
-      (either-one (key.op == from_bdd_number) _ _ _ (λ p. (Add, Is-from Add p.answer))
-      (either-one (key.op == pattern_number) _ _ _ (λ p. (Bdd, Is-from Bdd p.answer))
-      (either-one (key.op == sum_over_number) _ _ _ (λ p. (Add, Is-from Add p.answer))
-      (λ bad. absurd bad))))))))))
+case-one : (P : Shape → Type 0) {C : Type 0} → ((shape : Shape) → P shape → C) → (cases : List (ℕ × Shape)) (op : ℕ) (A : Type 0) → (A → C) → CaseOf P cases op A → C
+case-one P each [] op A other h = other h
+case-one P {C} each (case ∷ cases) op A other h = either-one (op == case.0) (P case.1) (CaseOf P cases op A) C (each case.1) (case-one P each cases op A other) h
 
-  family_edge : FamilyHolds w key e → IsFunction w e
-  unfolding FamilyHolds
-  family_edge =
-      either-one (key.op == union_number) _ _ _ (λ p. (Zdd, Is-from Zdd p.answer))
-      (either-one (key.op == meet_number) _ _ _ (λ p. (Zdd, Is-from Zdd p.answer))
-      (either-one (key.op == diff_number) _ _ _ (λ p. (Zdd, Is-from Zdd p.answer))
-      (either-one (key.op == product_number) _ _ _ (λ p. (Zdd, Is-from Zdd p.answer))
-      (either-one (key.op == quotient_number) _ _ _ (λ p. (Zdd, Is-from Zdd p.answer))
-      (λ bad. absurd bad)))))
+module _ (w : View) (first : Permanent w) (key : Key) (e : Edge) where
+  holds-edge : (shape : Shape) → Holds shape w key e → IsFunction w e
+  holds-edge (placewise k op) p = (k, Is-from k p.answer)
+  holds-edge (choice k) p = (k, Is-from k p.answer)
+  holds-edge cofactors p = (Bdd, Is-from Bdd p.answer)
+  holds-edge implies p = (Bdd, subst (Is Bdd w) (sym p.answer.is) (Is-from Bdd (Denotes-truth w first p.answer.yes)))
+  holds-edge quantifies p = (Bdd, p.answer)
+  holds-edge conjoins p = (Bdd, p.answer)
+  holds-edge supports p = (Bdd, p.answer)
+  holds-edge composes p = (Bdd, Is-from Bdd p.answer)
+  holds-edge restricts p = (Bdd, p.answer)
+  holds-edge converts p = (Add, Is-from Add p.answer)
+  holds-edge tests p = (Bdd, Is-from Bdd p.answer)
+  holds-edge sums p = (Add, Is-from Add p.answer)
+  holds-edge multiplies p = (Zdd, Is-from Zdd p.answer)
+  holds-edge divides p = (Zdd, Is-from Zdd p.answer)
 
   pub MemoHolds-edge : MemoHolds w key e → IsFunction w e
+  unfolding NumberHolds FamilyHolds
   MemoHolds-edge =
-      either-one (key.op == and_number) _ _ _ (λ p. (Bdd, Is-from Bdd p.answer))
-      (either-one (key.op == ite_number) _ _ _ (λ p. (Bdd, Is-from Bdd p.answer))
-      (either-one (key.op == cofactor_number) _ _ _ (λ p. (Bdd, Is-from Bdd p.answer))
-      (either-one (key.op == leq_number) _ _ _ (λ p. (Bdd, subst (Is Bdd w) (sym p.answer.is) (Is-from Bdd (Denotes-truth w first p.answer.yes))))
-      (either-one (key.op == exists_number) _ _ _ (λ p. (Bdd, p.answer))
-      (either-one (key.op == and_exists_number) _ _ _ (λ p. (Bdd, p.answer))
-      (either-one (key.op == support_number) _ _ _ (λ p. (Bdd, p.answer))
-      (either-one (key.op == compose_number) _ _ _ (λ p. (Bdd, Is-from Bdd p.answer))
-      (either-one (key.op == restrict_number) _ _ _ (λ p. (Bdd, p.answer))
-      (either-one (nat_lt key.op 40) _ _ _ number_edge family_edge)))))))))
+      case-one (λ shape. Holds shape w key e) holds-edge truth_cases key.op _
+      (either-one (nat_lt key.op 40) _ _ _
+      (case-one (λ shape. Holds shape w key e) holds-edge number_cases key.op ⊥ (λ bad. absurd bad))
+      (case-one (λ shape. Holds shape w key e) holds-edge family_cases key.op ⊥ (λ bad. absurd bad)))

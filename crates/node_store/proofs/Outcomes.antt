@@ -9,7 +9,8 @@ use Rattle.function_laws.specs.declared.history.Call.TheVariants.{Same, Eval}
 use Rattle.function_laws.specs.declared.history.Function.{Function}
 use Rattle.function_laws.specs.Kinds.{ValueOf}
 use Rattle.function_laws.specs.Lists.{list_of, truth, whole}
-use Rattle.function_laws.specs.Steps.{compares, outcome_of, same_kind, shows, value_at, when, with_one}
+use Rattle.function_laws.specs.Outcomes.{compares, shows, when, with_one}
+use Rattle.function_laws.specs.Steps.{outcome_of, same_kind, value_at}
 use Rattle.function_laws.specs.Tables.{Sizes}
 use Rattle.function_laws.specs.Values.{assignment_of}
 use Rattle.function_laws.proofs.BitLists.{assignment_of-below}

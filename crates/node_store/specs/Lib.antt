@@ -4,7 +4,6 @@ pub mod Edges
 pub mod ViewLaws
 pub mod Work
 pub mod WorkLaws
-pub mod Numbers
 pub mod Memo
 pub mod Two
 pub mod Stacks

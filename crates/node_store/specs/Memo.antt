@@ -1,5 +1,5 @@
 -- What a computed table may hold under a key, a case for each operation's number.
-use Rattle.std.specs.Prelude.{◌≡◌, ◌↔◌, ℕ, ◌^◌, Bool, true, false, not, ◌==◌, ◌&&◌, ◌||◌, if◌then◌else◌, pos, ◌+ℤ◌, ◌-ℤ◌, ◌*ℤ◌, int_le, nat_lt}
+use Rattle.std.specs.Prelude.{◌≡◌, ◌↔◌, ℕ, ◌^◌, Bool, true, false, not, List, [], ◌∷◌, ◌==◌, ◌&&◌, ◌||◌, if◌then◌else◌, pos, ◌+ℤ◌, ◌-ℤ◌, ◌*ℤ◌, int_le, nat_lt}
 use Rattle.edge_bits.specs.Permanent.{truth_edge}
 use Rattle.edge_bits.specs.declared.edges.Edge.{Edge}
 use Rattle.computed_cache.specs.declared.Key.{Key}
@@ -11,7 +11,7 @@ use Rattle.function_laws.specs.Numbers.{from_truth, pattern, sum_over}
 use Rattle.function_laws.specs.Restrictions.{IsRestriction}
 use Rattle.function_laws.specs.Values.{cofactor, composed, conjunction, if_then_else, negation, projection}
 use Rattle.function_laws.specs.Kinds.{ValueOf, place}
-use Rattle.node_store.specs.Numbers.{and_number, ite_number, cofactor_number, leq_number, exists_number, and_exists_number, support_number, compose_number, restrict_number, plus_number, minus_number, times_number, min_number, max_number, threshold_number, add_ite_number, from_bdd_number, pattern_number, sum_over_number, union_number, meet_number, diff_number, product_number, quotient_number}
+use Rattle.node_store.specs.declared.numbers.TheConstants as numbers
 use Rattle.node_store.specs.Views.{View, Denotes, Is, IsVariable, values_at}
 
 abbrev pub either : Bool → Type 0 → Type 0 → Type 0
@@ -127,41 +127,74 @@ pub record QuotientHolds (w : View) (key : Key) (e : Edge) : Type 0 where
   pub g : Is Zdd w key.g
   pub answer : Denotes Zdd w e (quotient (2 ^ w.elements) (values_at Zdd w key.f) (values_at Zdd w key.g))
 
+-- What an operation's answer says of its operands.
+pub data Shape : Type 0 where
+  -- two operands of a kind, place by place; a choice of two operands of a kind
+  placewise : (k : Kind) → (ValueOf k → ValueOf k → ValueOf k) → Shape
+  choice : Kind → Shape
+  cofactors : Shape
+  implies : Shape
+  quantifies : Shape
+  conjoins : Shape
+  supports : Shape
+  composes : Shape
+  restricts : Shape
+  converts : Shape
+  tests : Shape
+  sums : Shape
+  multiplies : Shape
+  divides : Shape
+
+abbrev pub Holds : Shape → View → Key → Edge → Type 0
+Holds (placewise k op) w key e = PlaceHolds k op w key e
+Holds (choice k) w key e = IteHolds k w key e
+Holds cofactors w key e = CofactorHolds w key e
+Holds implies w key e = ImplicationHolds w key e
+Holds quantifies w key e = ExistsHolds w key e
+Holds conjoins w key e = AndExistsHolds w key e
+Holds supports w key e = SupportHolds w key e
+Holds composes w key e = ComposeHolds w key e
+Holds restricts w key e = RestrictHolds w key e
+Holds converts w key e = FromTruthHolds w key e
+Holds tests w key e = PatternHolds w key e
+Holds sums w key e = SumHolds w key e
+Holds multiplies w key e = ProductHolds w key e
+Holds divides w key e = QuotientHolds w key e
+
+-- what holds of the shape that stands beside a number, or this, where the number has none
+abbrev pub CaseOf : (Shape → Type 0) → List (ℕ × Shape) → ℕ → Type 0 → Type 0
+CaseOf P [] op other = other
+CaseOf P (case ∷ cases) op other = either (op == case.0) (P case.1) (CaseOf P cases op other)
+
+-- the operations on truth functions, on numbers and on families
+abbrev pub truth_cases : List (ℕ × Shape)
+truth_cases =
+    (numbers.AND, placewise Bdd (λ a b. a && b)) ∷ (numbers.ITE, choice Bdd) ∷ (numbers.COFACTOR, cofactors) ∷ (numbers.LEQ, implies) ∷ (numbers.EXISTS, quantifies)
+    ∷ (numbers.AND_EXISTS, conjoins) ∷ (numbers.SUPPORT, supports) ∷ (numbers.COMPOSE, composes) ∷ (numbers.RESTRICT, restricts) ∷ []
+
+abbrev pub number_cases : List (ℕ × Shape)
+number_cases =
+    (numbers.PLUS, placewise Add (λ a b. a +ℤ b))
+    ∷ (numbers.MINUS, placewise Add (λ a b. a -ℤ b))
+    ∷ (numbers.TIMES, placewise Add (λ a b. a *ℤ b))
+    ∷ (numbers.MIN, placewise Add (λ a b. if int_le a b then a else b))
+    ∷ (numbers.MAX, placewise Add (λ a b. if int_le b a then a else b))
+    ∷ (numbers.THRESHOLD, placewise Add (λ a b. if int_le b a then a else pos 0))
+    ∷ (numbers.ADD_ITE, choice Add) ∷ (numbers.FROM_BDD, converts) ∷ (numbers.PATTERN, tests) ∷ (numbers.SUM_OVER, sums) ∷ []
+
+abbrev pub family_cases : List (ℕ × Shape)
+family_cases =
+    (numbers.UNION, placewise Zdd (λ a b. a || b)) ∷ (numbers.MEET, placewise Zdd (λ a b. a && b)) ∷ (numbers.DIFF, placewise Zdd (λ a b. a && not b))
+    ∷ (numbers.PRODUCT, multiplies) ∷ (numbers.QUOTIENT, divides) ∷ []
+
 -- of operations on numbers
 unfoldable pub NumberHolds : View → Key → Edge → Type 0
-NumberHolds w key e =
-    either (key.op == plus_number) (PlaceHolds Add (λ a b. a +ℤ b) w key e)
-    (either (key.op == minus_number) (PlaceHolds Add (λ a b. a -ℤ b) w key e)
-    (either (key.op == times_number) (PlaceHolds Add (λ a b. a *ℤ b) w key e)
-    (either (key.op == min_number) (PlaceHolds Add (λ a b. if int_le a b then a else b) w key e)
-    (either (key.op == max_number) (PlaceHolds Add (λ a b. if int_le b a then a else b) w key e)
-    (either (key.op == threshold_number) (PlaceHolds Add (λ a b. if int_le b a then a else pos 0) w key e)
-    (either (key.op == add_ite_number) (IteHolds Add w key e)
-    (either (key.op == from_bdd_number) (FromTruthHolds w key e)
-    (either (key.op == pattern_number) (PatternHolds w key e)
-    (either (key.op == sum_over_number) (SumHolds w key e)
-    ⊥)))))))))
+NumberHolds w key e = CaseOf (λ shape. Holds shape w key e) number_cases key.op ⊥
 
 -- of operations on families
 unfoldable pub FamilyHolds : View → Key → Edge → Type 0
-FamilyHolds w key e =
-    either (key.op == union_number) (PlaceHolds Zdd (λ a b. a || b) w key e)
-    (either (key.op == meet_number) (PlaceHolds Zdd (λ a b. a && b) w key e)
-    (either (key.op == diff_number) (PlaceHolds Zdd (λ a b. a && not b) w key e)
-    (either (key.op == product_number) (ProductHolds w key e)
-    (either (key.op == quotient_number) (QuotientHolds w key e)
-    ⊥))))
+FamilyHolds w key e = CaseOf (λ shape. Holds shape w key e) family_cases key.op ⊥
 
 -- of operations on truth functions; those on numbers have the numbers from 20 on, those on families from 40 on
 abbrev pub MemoHolds : View → Key → Edge → Type 0
-MemoHolds w key e =
-    either (key.op == and_number) (PlaceHolds Bdd (λ a b. a && b) w key e)
-    (either (key.op == ite_number) (IteHolds Bdd w key e)
-    (either (key.op == cofactor_number) (CofactorHolds w key e)
-    (either (key.op == leq_number) (ImplicationHolds w key e)
-    (either (key.op == exists_number) (ExistsHolds w key e)
-    (either (key.op == and_exists_number) (AndExistsHolds w key e)
-    (either (key.op == support_number) (SupportHolds w key e)
-    (either (key.op == compose_number) (ComposeHolds w key e)
-    (either (key.op == restrict_number) (RestrictHolds w key e)
-    (either (nat_lt key.op 40) (NumberHolds w key e) (FamilyHolds w key e))))))))))
+MemoHolds w key e = CaseOf (λ shape. Holds shape w key e) truth_cases key.op (either (nat_lt key.op 40) (NumberHolds w key e) (FamilyHolds w key e))

@@ -8,7 +8,7 @@ use Rattle.function_laws.proofs.ValueLemmas.{cofactor-choice_false, cofactor-cho
 use Rattle.node_store.specs.Edges.{flip_if}
 use Rattle.function_laws.specs.Kinds.{Denoted, BddFunction}
 use Rattle.node_store.specs.Memo.{ComposeHolds}
-use Rattle.node_store.specs.Numbers.{compose_number}
+use Rattle.node_store.specs.declared.numbers.TheConstants as numbers
 use Rattle.node_store.specs.Splits.{Branches}
 use Rattle.node_store.specs.Three.{AreThree, IsFlipped, IsPartOrComplement, value_of_three}
 use Rattle.node_store.specs.ThreeLaws.{IsPartOrComplement-grown}
@@ -94,10 +94,10 @@ pub free_answer : (w : View) (f g : Edge) (x : ℕ) → Is Bdd w f → IsFree (b
 free_answer w f g x d free = subst (λ h. Denotes Bdd w f h) (sym (composed-free (bdd_at w f) (bdd_at w g) x free)) d
 
 -- the key
-pub IsKey-projection : (w : View) (f g p : Edge) (x : ℕ) → Denotes Bdd w p (projection x) → AreTwo Bdd w f g → IsKey w (record { op = compose_number; f = f; g = g; h = p })
+pub IsKey-projection : (w : View) (f g p : Edge) (x : ℕ) → Denotes Bdd w p (projection x) → AreTwo Bdd w f g → IsKey w (record { op = numbers.COMPOSE; f = f; g = g; h = p })
 IsKey-projection w f g p x is d = record { least = omega arith; most = omega arith; f = (Bdd, d.first); g = (Bdd, d.second); h = (Bdd, Is-from Bdd is) }
 
-pub Compose-hit : (w : View) (f g p : Edge) (x : ℕ) (e : Edge) → Denotes Bdd w p (projection x) → ComposeHolds w (record { op = compose_number; f = f; g = g; h = p }) e → Denotes Bdd w e (composed_at w f x g)
+pub Compose-hit : (w : View) (f g p : Edge) (x : ℕ) (e : Edge) → Denotes Bdd w p (projection x) → ComposeHolds w (record { op = numbers.COMPOSE; f = f; g = g; h = p }) e → Denotes Bdd w e (composed_at w f x g)
 Compose-hit w f g p x e is h =
     let same = same_variable h.variable x (sym (values_at-is Bdd h.projection) ∙ values_at-is Bdd is) in
     subst (λ y. Denotes Bdd w e (composed_at w f y g)) same h.answer

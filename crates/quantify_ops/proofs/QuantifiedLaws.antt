@@ -13,7 +13,7 @@ use Rattle.function_laws.proofs.ValueLemmas.{everywhere, IsFree-place}
 use Rattle.node_store.specs.Edges.{flip_if}
 use Rattle.function_laws.specs.Kinds.{Denoted, BddFunction}
 use Rattle.node_store.specs.KindLaws.{Lacks-joined}
-use Rattle.node_store.specs.Numbers.{exists_number, and_exists_number}
+use Rattle.node_store.specs.declared.numbers.TheConstants as numbers
 use Rattle.node_store.specs.Splits.{BothAnswered, Leads}
 use Rattle.node_store.specs.Operands.{HalvesOfTwo}
 use Rattle.node_store.specs.Three.{three_depth}
@@ -203,7 +203,7 @@ pub unquantified_value : (w : View) → Permanent w → (t : Task) (f g : Edge) 
 unquantified_value w p t f g zero sf sg = rw (sf, sg, truth_at w p t.h zero) (IsExists-none (constant (not t.h.complement)) (both_at w f g) (λ v k b. refl))
 
 -- the keys
-pub key_exists : (w : View) (t : Task) (f : Edge) → AreQuantified w t.f t.g t.h → Is Bdd w f → both_at w t.f t.g ≡ bdd_at w f → IsKeyOf w t (record { op = exists_number; f = f; g = t.h; h = f })
+pub key_exists : (w : View) (t : Task) (f : Edge) → AreQuantified w t.f t.g t.h → Is Bdd w f → both_at w t.f t.g ≡ bdd_at w f → IsKeyOf w t (record { op = numbers.EXISTS; f = f; g = t.h; h = f })
 key_exists w t f d df same = record {
   is_key = record { least = omega arith; most = omega arith; f = (Bdd, df); g = (Bdd, d.cube.edge); h = (Bdd, df) };
   keeps = λ e a. record { f = df; cube = d.cube.edge; answer = a.answer; exists = subst (λ x. IsExists (bdd_at w t.h) x (bdd_at w e)) same a.exists };
@@ -221,14 +221,14 @@ both_second w p f g one =
     ap (λ h. conjunction (bdd_at w f) h) (truth_at w p g (ap (λ e. e.index) one) ∙ ap (λ e. constant (not e.complement)) one)
     ∙ everywhere (conjunction (bdd_at w f) (constant true)) (bdd_at w f) (λ k. and-true (bdd_at w f k))
 
-key_and : (w : View) (t : Task) (f g : Edge) → AreQuantified w t.f t.g t.h → AreTwo Bdd w f g → both_at w t.f t.g ≡ both_at w f g → IsKeyOf w t (record { op = and_exists_number; f = f; g = g; h = t.h })
+key_and : (w : View) (t : Task) (f g : Edge) → AreQuantified w t.f t.g t.h → AreTwo Bdd w f g → both_at w t.f t.g ≡ both_at w f g → IsKeyOf w t (record { op = numbers.AND_EXISTS; f = f; g = g; h = t.h })
 key_and w t f g d two same = record {
   is_key = record { least = omega arith; most = omega arith; f = (Bdd, two.first); g = (Bdd, two.second); h = (Bdd, d.cube.edge) };
   keeps = λ e a. record { f = two.first; g = two.second; cube = d.cube.edge; answer = a.answer; exists = subst (λ x. IsExists (bdd_at w t.h) x (bdd_at w e)) same a.exists };
   hit = λ e h. record { answer = h.answer; exists = subst (λ x. IsExists (bdd_at w t.h) x (bdd_at w e)) (sym same) h.exists };
 }
 
-pub key_ordered : (w : View) (t o : Task) → IsOrderOf t.f t.g o → AreQuantified w t.f t.g t.h → IsKeyOf w t (record { op = and_exists_number; f = o.f; g = o.g; h = t.h })
+pub key_ordered : (w : View) (t o : Task) → IsOrderOf t.f t.g o → AreQuantified w t.f t.g t.h → IsKeyOf w t (record { op = numbers.AND_EXISTS; f = o.f; g = o.g; h = t.h })
 key_ordered w t o order d = elim order [
   | inl p ↦ key_and w t o.f o.g d (record { first = rw p.0 d.two.first; second = rw p.1 d.two.second }) (rw (p.0, p.1) refl)
   | inr p ↦ key_and w t o.f o.g d (record { first = rw p.0 d.two.second; second = rw p.1 d.two.first })

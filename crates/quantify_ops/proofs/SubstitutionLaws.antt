@@ -5,7 +5,7 @@ use Rattle.std.specs.List.{All}
 use Rattle.std.proofs.lemmas.List.Elements.{All-head, All-map, All-tail}
 use Rattle.edge_bits.specs.declared.edges.Edge.{Edge}
 use Rattle.edge_bits.specs.declared.edges.Kind.TheVariants.{Bdd}
-use Rattle.function_laws.specs.Steps.{are_distinct}
+use Rattle.function_laws.specs.Makings.{are_distinct}
 use Rattle.function_laws.specs.Values.{IsFree, composed_at_once, if_then_else, projection}
 use Rattle.function_laws.proofs.ComposeLemmas.{composed_at_once-choice, composed_at_once-free, image, value_or}
 use Rattle.function_laws.specs.Kinds.{Denoted, BddFunction}

@@ -7,7 +7,7 @@ use Rattle.function_laws.specs.Restricting.{Restricts}
 use Rattle.function_laws.specs.Restrictions.{IsNowhere, IsRestriction}
 use Rattle.function_laws.specs.Values.{IsFree, cofactor, exists_all, exists_one, negation}
 use Rattle.function_laws.specs.Kinds.{Denoted, BddFunction}
-use Rattle.node_store.specs.Numbers.{restrict_number}
+use Rattle.node_store.specs.declared.numbers.TheConstants as numbers
 use Rattle.node_store.specs.Splits.{Leads, Waiting}
 use Rattle.node_store.specs.Two.{TwoSplits, two_depth}
 use Rattle.node_store.specs.Views.{View, AreTwo, Is, IsInner, IsVariable, Permanent, bdd_at}
@@ -138,4 +138,4 @@ pub record LeadsLevel (w : View) (root : Task) (flip : Bool) (t : Task) : Type 0
 
 -- the key of a regular function and a condition
 abbrev pub restrict_key : Edge → Edge → Key
-restrict_key f c = record { op = restrict_number; f = f; g = c; h = f }
+restrict_key f c = record { op = numbers.RESTRICT; f = f; g = c; h = f }

@@ -3,7 +3,7 @@ use Rattle.std.specs.Prelude.{◌≡◌, ℕ, ◌<◌, ◌≤◌, ◌==◌, Bool
 use Rattle.std.specs.List.{All}
 use Rattle.edge_bits.specs.declared.edges.Edge.{Edge}
 use Rattle.edge_bits.specs.declared.edges.Kind.TheVariants.{Bdd}
-use Rattle.function_laws.specs.Steps.{are_distinct}
+use Rattle.function_laws.specs.Makings.{are_distinct}
 use Rattle.function_laws.specs.Values.{composed_at_once, projection}
 use Rattle.function_laws.specs.Kinds.{Denoted, BddFunction}
 use Rattle.node_store.specs.Views.{View, Denotes, Is, IsVariable, Permanent, Splits, bdd_at}

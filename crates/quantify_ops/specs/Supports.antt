@@ -7,7 +7,7 @@ use Rattle.edge_bits.specs.declared.edges.Kind.TheVariants.{Bdd}
 use Rattle.function_laws.specs.Cubes.{Needs}
 use Rattle.function_laws.specs.Values.{IsFree}
 use Rattle.ite_core.specs.Cofactors.{one_depth}
-use Rattle.node_store.specs.Numbers.{support_number}
+use Rattle.node_store.specs.declared.numbers.TheConstants as numbers
 use Rattle.node_store.specs.States.{State}
 use Rattle.node_store.specs.Views.{Is, Kept, bdd_at}
 use Rattle.node_store.specs.declared.answers.Answer.{Answer}
@@ -22,7 +22,7 @@ abbrev pub regular_edge : Edge → Edge
 regular_edge e = record { index = e.index; complement = false }
 
 abbrev pub support_key : Edge → Key
-support_key e = record { op = support_number; f = regular_edge e; g = regular_edge e; h = regular_edge e }
+support_key e = record { op = numbers.SUPPORT; f = regular_edge e; g = regular_edge e; h = regular_edge e }
 
 -- a product needs each variable on which f depends
 abbrev pub Covers : (c f : ℕ → Bool) → Type 0

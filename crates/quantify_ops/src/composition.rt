@@ -1,7 +1,7 @@
 //! Composition: a function that is put for a variable of another.
 
 ghost use Rattle.std.specs.Prelude.{◌≡◌, ◌≤◌, ◌*◌};
-ghost use Rattle.node_store.specs.Numbers.{compose_number};
+ghost use Rattle.node_store.specs.declared.numbers.TheConstants as numbers;
 ghost use Rattle.node_store.specs.Operations.{Runs};
 ghost use Rattle.edge_bits.specs.declared.edges.Kind.TheVariants.{Bdd};
 ghost use Rattle.node_store.specs.Splits.{Expanded};
@@ -231,7 +231,7 @@ fn find<G: Grow>(store: &mut G, f: Edge, var: u32) -> Found
 
 /// The key of a composition.
 fn key_of(task: Task, projection: Edge) -> Key
-    ensures { result ≡ record { op = compose_number; f = task.f; g = task.g; h = projection } }
+    ensures { result ≡ record { op = numbers.COMPOSE; f = task.f; g = task.g; h = projection } }
 {
     Key {
         op: numbers::COMPOSE,

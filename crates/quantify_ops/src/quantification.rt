@@ -3,7 +3,7 @@
 ghost use Rattle.std.specs.Prelude.{◌≡◌, ◌≤◌, ◌*◌, IfOk, IsErrOf, List, ℕ, true};
 ghost use Rattle.edge_bits.specs.declared.edges.Kind.TheVariants.{Bdd};
 ghost use Rattle.function_laws.specs.Values.{exists_all};
-ghost use Rattle.node_store.specs.Numbers.{exists_number};
+ghost use Rattle.node_store.specs.declared.numbers.TheConstants as numbers;
 ghost use Rattle.node_store.specs.Operations.{Runs};
 ghost use Rattle.node_store.specs.Operands.{HalvesOfTwo};
 ghost use Rattle.node_store.specs.Views.{View, AreTwo, Kept, NotBothLeaves, Permanent, Rose};
@@ -311,7 +311,7 @@ fn key_of(task: Task) -> Key
 
 /// The key of a quantified function.
 fn exists_key(f: Edge, cube: Edge) -> Key
-    ensures { result ≡ record { op = exists_number; f = f; g = cube; h = f } }
+    ensures { result ≡ record { op = numbers.EXISTS; f = f; g = cube; h = f } }
 {
     Key {
         op: numbers::EXISTS,

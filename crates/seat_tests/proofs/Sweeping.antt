@@ -1,6 +1,6 @@
 -- A turn in which a sweep is told.
 use Rattle.std.proofs.Common.{refl}
-use Rattle.function_laws.specs.Steps.{is_done}
+use Rattle.function_laws.specs.Outcomes.{is_done}
 use Rattle.seat_guard.specs.declared.view.Draws.{Draws}
 use Rattle.seat_guard.specs.Views.{MayTell, nothing_told}
 

@@ -9,7 +9,7 @@ use Rattle.computed_cache.specs.declared.Key.{Key}
 use Rattle.function_laws.specs.Families.{joined, union}
 use Rattle.function_laws.specs.Kinds.{Denoted, ZddFamily, ValueOf, function_of, opposite, values_of}
 use Rattle.node_store.specs.Memo.{FamilyHolds, MemoHolds}
-use Rattle.node_store.specs.Numbers.{product_number}
+use Rattle.node_store.specs.declared.numbers.TheConstants as numbers
 use Rattle.node_store.specs.Two.{two_depth, value_of_two}
 use Rattle.node_store.specs.TwoLaws.{AreTwo-grown}
 use Rattle.node_store.specs.Views.{View, AreTwo, CanMake, Denotes, Grown, IsKey, IsTop, PartsAt, Permanent, family_at, node_values}
@@ -47,11 +47,11 @@ Reopened p q a b c t v f1 f0 g1 g0 top m n pf pg due second u uf ug =
 
 -- the memo
 module _ (w : View) (f g : Edge) (d : AreTwo Zdd w f g) where
-  key_is : (b : Bool) → nat_lt f.index g.index ≡ b → product_key f g ≡ cond b (record { op = product_number; f = f; g = g; h = f }) (record { op = product_number; f = g; g = f; h = g })
+  key_is : (b : Bool) → nat_lt f.index g.index ≡ b → product_key f g ≡ cond b (record { op = numbers.PRODUCT; f = f; g = g; h = f }) (record { op = numbers.PRODUCT; f = g; g = f; h = g })
   key_is true is = rw is refl
   key_is false is = rw is refl
 
-  holds : (e : Edge) (b : Bool) → MemoHolds w (cond b (record { op = product_number; f = f; g = g; h = f }) (record { op = product_number; f = g; g = f; h = g })) e
+  holds : (e : Edge) (b : Bool) → MemoHolds w (cond b (record { op = numbers.PRODUCT; f = f; g = g; h = f }) (record { op = numbers.PRODUCT; f = g; g = f; h = g })) e
       → Permanent w → Denotes Zdd w e (product_at w (family_at w f) (family_at w g))
   unfolding FamilyHolds
   holds e true h p = h.answer
@@ -61,7 +61,7 @@ module _ (w : View) (f g : Edge) (d : AreTwo Zdd w f g) where
   Product-hit e p h = holds e (nat_lt f.index g.index) (subst (λ k. MemoHolds w k e) (key_is (nat_lt f.index g.index) refl) h) p
 
   kept : (e : Edge) (b : Bool) → Permanent w → Denotes Zdd w e (product_at w (family_at w f) (family_at w g))
-      → MemoHolds w (cond b (record { op = product_number; f = f; g = g; h = f }) (record { op = product_number; f = g; g = f; h = g })) e
+      → MemoHolds w (cond b (record { op = numbers.PRODUCT; f = f; g = g; h = f }) (record { op = numbers.PRODUCT; f = g; g = f; h = g })) e
   unfolding FamilyHolds
   kept e true p h = record { f = d.first; g = d.second; answer = h }
   kept e false p h = record { f = d.second; g = d.first; answer = subst (Denotes Zdd w e) (Product-comm w f g p d) h }
@@ -69,7 +69,7 @@ module _ (w : View) (f g : Edge) (d : AreTwo Zdd w f g) where
   pub Product-kept : (e : Edge) → Permanent w → Denotes Zdd w e (product_at w (family_at w f) (family_at w g)) → MemoHolds w (product_key f g) e
   Product-kept e p h = subst (λ k. MemoHolds w k e) (sym (key_is (nat_lt f.index g.index) refl)) (kept e (nat_lt f.index g.index) p h)
 
-  key_of_two : (b : Bool) → IsKey w (cond b (record { op = product_number; f = f; g = g; h = f }) (record { op = product_number; f = g; g = f; h = g }))
+  key_of_two : (b : Bool) → IsKey w (cond b (record { op = numbers.PRODUCT; f = f; g = g; h = f }) (record { op = numbers.PRODUCT; f = g; g = f; h = g }))
   key_of_two true = record { least = omega arith; most = omega arith; f = (Zdd, d.first); g = (Zdd, d.second); h = (Zdd, d.first) }
   key_of_two false = record { least = omega arith; most = omega arith; f = (Zdd, d.second); g = (Zdd, d.first); h = (Zdd, d.second) }
 

@@ -6,7 +6,7 @@ use Rattle.edge_bits.specs.Reading.{element_of}
 use Rattle.computed_cache.specs.declared.Key.{Key}
 use Rattle.function_laws.specs.Families.{product, subset1, union}
 use Rattle.function_laws.specs.Kinds.{Denoted, ZddFamily, part_at}
-use Rattle.node_store.specs.Numbers.{product_number}
+use Rattle.node_store.specs.declared.numbers.TheConstants as numbers
 use Rattle.node_store.specs.Two.{two_depth}
 use Rattle.node_store.specs.Views.{View, AreTwo, CanPart, Denotes, IsTop, NotBothLeaves, Permanent, Splits, family_at}
 use Rattle.node_store.specs.Work.{IsPart}
@@ -113,7 +113,7 @@ IsProductTerminal w f g None = NotBothLeaves Zdd w f g
 -- the key of a product, with the operand of the lesser slot first
 abbrev pub product_key : Edge → Edge → Key
 product_key f g =
-    if nat_lt f.index g.index then record { op = product_number; f = f; g = g; h = f } else record { op = product_number; f = g; g = f; h = g }
+    if nat_lt f.index g.index then record { op = numbers.PRODUCT; f = f; g = g; h = f } else record { op = numbers.PRODUCT; f = g; g = f; h = g }
 
 -- what is asked for the parts of both families of a task
 pub record CanPartBoth (w : View) (t : Task) (v : ℕ) : Type 0 where

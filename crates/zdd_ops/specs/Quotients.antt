@@ -5,7 +5,7 @@ use Rattle.edge_bits.specs.declared.edges.Edge.{Edge}
 use Rattle.edge_bits.specs.declared.edges.Kind.TheVariants.{Zdd}
 use Rattle.function_laws.specs.Families.{quotient}
 use Rattle.function_laws.specs.Kinds.{Denoted, ZddFamily}
-use Rattle.node_store.specs.Numbers.{quotient_number}
+use Rattle.node_store.specs.declared.numbers.TheConstants as numbers
 use Rattle.node_store.specs.Views.{View, AreTwo, Denotes, IsBelow, IsInner, IsVariable, NotBothLeaves, Permanent, Splits, family_at}
 use Rattle.node_store.specs.Work.{IsPart}
 use Rattle.node_store.specs.declared.binary.Branch.{Branch}
@@ -67,7 +67,7 @@ IsQuotientTerminal w f g (Some e) = Denotes Zdd w e (quotient_at w (family_at w 
 IsQuotientTerminal w f g None = NotBothLeaves Zdd w f g
 
 abbrev pub quotient_key : Edge → Edge → Key
-quotient_key f g = record { op = quotient_number; f = f; g = g; h = f }
+quotient_key f g = record { op = numbers.QUOTIENT; f = f; g = g; h = f }
 
 -- how a divisor stands to an element
 abbrev pub IsDivided : View → Edge → ℕ → Divisor → Type 0

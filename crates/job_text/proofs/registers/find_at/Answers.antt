@@ -1,5 +1,5 @@
 use Rattle.std.proofs.Common.{subst, sym, ℕ}
-use Rattle.job_text.specs.Grammar.{Refers}
+use Rattle.job_text.specs.Places.{Refers}
 use Rattle.job_text.proofs.RegisterLists.{none_called, one_called, dropped_fault, live_well, refers}
 use Rattle.job_text.proofs.registers.find_at.Goals as goal
 

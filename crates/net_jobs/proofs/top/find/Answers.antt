@@ -1,4 +1,4 @@
-use Rattle.std.proofs.Common.{◌≡◌, Option, Some, ap, refl, subst, sym, ◌∙◌}
+use Rattle.std.proofs.Common.{Option, Some, ap, subst, sym, ◌∙◌}
 use Rattle.command_words.specs.declared.order.Order.{Order}
 use Rattle.net_jobs.specs.Ends.{IsDone}
 use Rattle.net_jobs.proofs.WordLemmas.{if_ok_as}

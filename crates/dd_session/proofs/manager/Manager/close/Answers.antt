@@ -1,4 +1,4 @@
-use Rattle.std.proofs.Common.{◌≡◌, ℕ, ap, sym, subst, ◌∙◌, List, arith}
+use Rattle.std.proofs.Common.{◌≡◌, ℕ, ap, sym, subst, ◌∙◌, arith}
 use Rattle.function_laws.specs.EntryOrders.{opening_orders, orders_from}
 use Rattle.node_slots.specs.Wholes.{content_view}
 use Rattle.seat_guard.specs.declared.view.Draws.{Draws}

@@ -1,6 +1,6 @@
 use Rattle.std.proofs.Common.{sym, ◌∙◌, inl}
 use Rattle.function_laws.specs.declared.history.Reply.TheVariants as replies
-use Rattle.function_laws.specs.Steps.{makes}
+use Rattle.function_laws.specs.Outcomes.{makes}
 use Rattle.node_store.specs.Listed.{listed_at}
 use Rattle.seat_guard.specs.Passes.{known}
 use Rattle.shared_store.specs.Sharing.{view_of}

@@ -1,6 +1,8 @@
 use Rattle.std.proofs.Common.{refl, sym, ◌∙◌, inl}
 use Rattle.edge_bits.specs.declared.edges.Kind.TheVariants as kinds
 use Rattle.function_laws.specs.declared.history.Call.TheVariants as calls
+use Rattle.function_laws.specs.declared.making.Making.TheVariants as makings
+use Rattle.function_laws.specs.declared.making.BddMaking.TheVariants as bdds
 use Rattle.quantify_ops.specs.Restricted.{Restricted, work_of_restrict}
 use Rattle.seat_guard.specs.Passes.{known}
 use Rattle.dd_session.proofs.Calls.{counted_ok, same_table, seat_of, served, spare_kept, stands_of, stores_work}
@@ -35,7 +37,7 @@ settle-requires-clause-full g c = λ is.
 pub returns-clause-told : goal.returns-clause-told
 returns-clause-told g c =
     rw (← c.self.view_is)
-    (called_chosen (known c.self.inside.pass) (known c.start.new.pass) (known c.settle.new.pass) c.in-Ok.shared _ _ _ _ (calls.Restrict c.args.f c.args.g) (c.settle.ensures.own.0 ∙ sym (same_table c.manager.inside.guard c.manager.inside.closing c.self.inside.pass c.self.inside.book c.self.view_is c.requires.own c.manager.view_is)) c.in-Ok.ensures.took c.settle.result
+    (called_chosen (known c.self.inside.pass) (known c.start.new.pass) (known c.settle.new.pass) c.in-Ok.shared _ _ _ _ (calls.Makes (makings.Bdd (bdds.Restrict c.args.f c.args.g))) (c.settle.ensures.own.0 ∙ sym (same_table c.manager.inside.guard c.manager.inside.closing c.self.inside.pass c.self.inside.book c.self.view_is c.requires.own c.manager.view_is)) c.in-Ok.ensures.took c.settle.result
     (spare_kept _ c.settle.result c.self.inside.book.rows.spare c.start.new.book.rows.spare c.settle.new.book.rows.spare c.in-Ok.ensures.spare c.settle.ensures.spare) c.settle.ensures.told)
 
 pub returns-clause-stored : goal.returns-clause-stored

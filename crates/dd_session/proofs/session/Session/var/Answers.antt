@@ -1,6 +1,8 @@
 use Rattle.std.proofs.Common.{ℕ, ap, sym, ◌∙◌, arith, inl}
 use Rattle.edge_bits.specs.declared.edges.Kind.TheVariants as kinds
 use Rattle.function_laws.specs.declared.history.Call.TheVariants as calls
+use Rattle.function_laws.specs.declared.making.Making.TheVariants as makings
+use Rattle.function_laws.specs.declared.making.BddMaking.TheVariants as bdds
 use Rattle.function_laws.specs.declared.history.Reply.TheVariants as replies
 use Rattle.node_store.specs.ViewLaws.{Is-from}
 use Rattle.seat_guard.specs.Passes.{known}
@@ -36,7 +38,7 @@ add_row-requires-clause-adds g c =
 pub returns-clause-told : goal.returns-clause-told
 returns-clause-told g c =
     rw (← c.self.view_is)
-    (called (known c.self.inside.pass) (known c.start.new.pass) (known c.add_row.new.pass) c.in-Ok.shared _ _ _ _ (calls.Var c.args.v) (replies.Made c.add_row.result.value) c.add_row.result.place (c.add_row.ensures.own.0 ∙ sym (same_table c.manager.inside.guard c.manager.inside.closing c.self.inside.pass c.self.inside.book c.self.view_is c.requires.own c.manager.view_is)) c.in-Ok.ensures.took c.add_row.ensures.told)
+    (called (known c.self.inside.pass) (known c.start.new.pass) (known c.add_row.new.pass) c.in-Ok.shared _ _ _ _ (calls.Makes (makings.Bdd (bdds.Var c.args.v))) (replies.Made c.add_row.result.value) c.add_row.result.place (c.add_row.ensures.own.0 ∙ sym (same_table c.manager.inside.guard c.manager.inside.closing c.self.inside.pass c.self.inside.book c.self.view_is c.requires.own c.manager.view_is)) c.in-Ok.ensures.took c.add_row.ensures.told)
 
 pub returns-clause-stored : goal.returns-clause-stored
 returns-clause-stored g c = let notes = c.add_row.ensures.notes in

@@ -1,7 +1,7 @@
 use Rattle.std.proofs.Common.{ap, sym, ◌∙◌, rules}
 use Rattle.std.specs.Prelude.{is_some}
 use Rattle.std.specs.List.{list_any}
-use Rattle.job_text.specs.Grammar.{is_called}
+use Rattle.job_text.specs.Places.{is_called}
 use Rattle.job_text.proofs.NameIndex.{some_called}
 use Rattle.job_text.proofs.RegisterLists.{fresh_from}
 use Rattle.job_text.proofs.registers.Registers.is_assigned.Goals as goal

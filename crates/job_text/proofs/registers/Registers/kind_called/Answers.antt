@@ -1,5 +1,5 @@
 use Rattle.std.proofs.Common.{ap, sym, ◌∙◌}
-use Rattle.job_text.specs.Grammar.{kind_at}
+use Rattle.job_text.specs.Places.{kind_at}
 use Rattle.job_text.proofs.RegisterLists.{kind_first}
 use Rattle.job_text.proofs.registers.Registers.kind_called.Goals as goal
 

@@ -1,6 +1,6 @@
 use Rattle.std.proofs.Common.{ap, ◌∙◌, length, unwrap_or, not}
 use Rattle.std.proofs.lemmas.List.Sums.{prefix_len-le-length}
-use Rattle.job_text.specs.Grammar.{is_called}
+use Rattle.job_text.specs.Places.{is_called}
 use Rattle.job_words.proofs.Split.{place_lem}
 use Rattle.job_text.proofs.registers.Registers.place_of.Goals as goal
 

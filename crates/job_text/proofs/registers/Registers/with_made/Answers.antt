@@ -1,7 +1,8 @@
 use Rattle.std.proofs.Common.{◌≡◌, ◌∷◌, ◌++◌, [], List, length, false, ap, sym, ◌∙◌, subst, arith, length-append}
 use Rattle.std.specs.List.{list_any}
 use Rattle.job_text.specs.declared.job.Register.{Register}
-use Rattle.job_text.specs.Grammar.{is_called, register_made}
+use Rattle.job_text.specs.Places.{is_called}
+use Rattle.job_text.specs.Grammar.{register_made}
 use Rattle.job_text.specs.Names.{AreDistinct, IsIndex}
 use Rattle.job_text.proofs.NameIndex.{distinct_more, index_more}
 use Rattle.job_text.proofs.registers.Registers.with_made.Goals as goal

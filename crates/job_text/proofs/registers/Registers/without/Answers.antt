@@ -2,7 +2,8 @@ use Rattle.std.proofs.Common.{◌≡◌, List, map, ap, sym, ◌∙◌, subst, a
 use Rattle.std.proofs.lemmas.List.{length-map}
 use Rattle.std.specs.List.{position_or_len}
 use Rattle.job_text.specs.declared.job.Register.{Register}
-use Rattle.job_text.specs.Grammar.{is_called, without}
+use Rattle.job_text.specs.Places.{is_called}
+use Rattle.job_text.specs.Grammar.{without}
 use Rattle.job_text.specs.Names.{AreDistinct, IsIndex}
 use Rattle.job_text.proofs.NameIndex.{none_drops, one_drops, distinct_after, index_after}
 use Rattle.job_text.proofs.registers.Registers.without.Goals.{Joined-place-len, then-place-len, else-place-len}

@@ -1,9 +1,9 @@
 use Rattle.std.proofs.Common.{subst, ap, sym, ◌∙◌, option_map}
 use Rattle.std.proofs.lemmas.Result.{err_from_is_err_and}
-use Rattle.job_text.specs.declared.job.Act.{Act}
+use Rattle.job_commands.specs.declared.acts.Act.{Act}
 use Rattle.job_text.specs.Grammar.{Says}
-use Rattle.job_text.specs.Drafts.{act_of}
-use Rattle.job_words.specs.Slots.{line_of, slots_of}
+use Rattle.job_commands.specs.Commands.{act_of}
+use Rattle.job_commands.specs.Slots.{line_of, slots_of}
 use Rattle.job_words.specs.Text.{split_words}
 use Rattle.job_text.proofs.Filling.{no_command, of_line, ill_formed, command_stop}
 use Rattle.job_text.proofs.Makings.{says_from}

@@ -1,7 +1,8 @@
 use Rattle.std.proofs.Common.{◌++◌, ◌∷◌, [], ap, sym, ◌∙◌}
 use Rattle.std.proofs.lemmas.Result.{err_from_is_err_and}
-use Rattle.job_words.specs.Slots.{slot_of, slots_of}
-use Rattle.job_text.specs.Drafts.{with_operand, no_operands, misfit}
+use Rattle.job_commands.specs.Slots.{slot_of, slots_of}
+use Rattle.job_commands.specs.Commands.{no_operands}
+use Rattle.job_text.specs.Places.{misfit, with_operand}
 use Rattle.job_text.proofs.Filling.{forms_of, slots_stop, misfit_stop, fit_more, slots_more, operands_more, with_more}
 use Rattle.job_text.proofs.scope.Scope.operands.Goals as goal
 

@@ -1,11 +1,13 @@
 use Rattle.std.proofs.Common.{◌≡◌, ◌++◌, List, true, length}
 use Rattle.std.specs.List.{list_all}
-use Rattle.job_words.specs.declared.commands.Place.{Place}
-use Rattle.job_words.specs.Commands.{has_form}
-use Rattle.job_words.specs.Slots.{slots_of}
+use Rattle.job_commands.specs.declared.commands.Place.{Place}
+use Rattle.job_commands.specs.Commands.{has_form}
+use Rattle.job_commands.specs.Slots.{slots_of}
 use Rattle.job_words.specs.Text.{Word}
 use Rattle.job_text.specs.declared.operands.Operand.{Operand}
-use Rattle.job_text.specs.Drafts.{AreOperands, no_operands, with_operands, AllFit}
+use Rattle.job_commands.specs.Commands.{no_operands}
+use Rattle.job_text.specs.Places.{AllFit, with_operands}
+use Rattle.job_text.specs.Drafts.{AreOperands}
 use Rattle.job_text.proofs.scope.Scope.operands.Given as goal
 
 abbrev pub invariant-loop-slot : goal.invariant-loop-slot

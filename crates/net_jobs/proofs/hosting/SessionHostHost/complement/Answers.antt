@@ -1,5 +1,7 @@
 use Rattle.std.proofs.Common.{refl, ◌∙◌}
 use Rattle.function_laws.specs.declared.history.Call.TheVariants as calls
+use Rattle.function_laws.specs.declared.making.Making.TheVariants as makings
+use Rattle.function_laws.specs.declared.making.BddMaking.TheVariants as bdds
 use Rattle.function_laws.specs.Values.{negation}
 use Rattle.net_jobs.proofs.HostLaws.{denied, held_is_bdd, made, named_caused, named_ok, named_own, outcome-complement}
 use Rattle.net_jobs.proofs.hosting.SessionHostHost.complement.Goals as goal
@@ -11,14 +13,14 @@ pub returns-clause-own : goal.returns-clause-own
 returns-clause-own g c =
     let old = c.args.session.now in
     let new = c.not.new.self in
-    let call = calls.Not c.args.f in
+    let call = calls.Makes (makings.Bdd (bdds.Not c.args.f)) in
     named_own old new call c.not.result (denied old new call c.not.result c.not.ensures.told) ∙ c.requires.own
 
 pub returns-clause-made : goal.returns-clause-made
 returns-clause-made g c =
     let old = c.args.session.now in
     let new = c.not.new.self in
-    let call = calls.Not c.args.f in
+    let call = calls.Makes (makings.Bdd (bdds.Not c.args.f)) in
     named_ok old new call c.not.result (denied old new call c.not.result c.not.ensures.told) c.named.result c.named.ensures _
     (λ name place called a holds. made old new call name place called refl (λ cell. refl) (negation a) (outcome-complement old called.board c.args.f a holds.stands))
 
@@ -26,5 +28,5 @@ pub returns-clause-caused : goal.returns-clause-caused
 returns-clause-caused g c =
     let old = c.args.session.now in
     let new = c.not.new.self in
-    let call = calls.Not c.args.f in
+    let call = calls.Makes (makings.Bdd (bdds.Not c.args.f)) in
     named_caused old new call c.not.result (denied old new call c.not.result c.not.ensures.told) c.named.result c.named.ensures

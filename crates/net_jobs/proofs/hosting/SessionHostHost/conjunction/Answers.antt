@@ -1,5 +1,7 @@
 use Rattle.std.proofs.Common.{refl, ◌∙◌}
 use Rattle.function_laws.specs.declared.history.Call.TheVariants as calls
+use Rattle.function_laws.specs.declared.making.Making.TheVariants as makings
+use Rattle.function_laws.specs.declared.making.BddMaking.TheVariants as bdds
 use Rattle.function_laws.specs.Values.{conjunction}
 use Rattle.net_jobs.proofs.HostLaws.{held_is_bdd, made, named_caused, named_ok, named_own, outcome-conjunction}
 use Rattle.net_jobs.proofs.hosting.SessionHostHost.conjunction.Goals as goal
@@ -11,15 +13,15 @@ pub and-requires-clause-second : goal.and-requires-clause-second
 and-requires-clause-second g c = held_is_bdd c.args.session.now c.args.g c.requires.second
 
 pub returns-clause-own : goal.returns-clause-own
-returns-clause-own g c = named_own c.args.session.now c.and.new.self (calls.And c.args.f c.args.g) c.and.result c.and.ensures.told ∙ c.requires.own
+returns-clause-own g c = named_own c.args.session.now c.and.new.self (calls.Makes (makings.Bdd (bdds.And c.args.f c.args.g))) c.and.result c.and.ensures.told ∙ c.requires.own
 
 pub returns-clause-made : goal.returns-clause-made
 returns-clause-made g c =
     let old = c.args.session.now in
     let new = c.and.new.self in
-    let call = calls.And c.args.f c.args.g in
+    let call = calls.Makes (makings.Bdd (bdds.And c.args.f c.args.g)) in
     named_ok old new call c.and.result c.and.ensures.told c.named.result c.named.ensures _
     (λ name place called a b first second. made old new call name place called refl (λ cell. refl) (conjunction a b) (outcome-conjunction old called.board c.args.f c.args.g a b first.stands second.stands))
 
 pub returns-clause-caused : goal.returns-clause-caused
-returns-clause-caused g c = named_caused c.args.session.now c.and.new.self (calls.And c.args.f c.args.g) c.and.result c.and.ensures.told c.named.result c.named.ensures
+returns-clause-caused g c = named_caused c.args.session.now c.and.new.self (calls.Makes (makings.Bdd (bdds.And c.args.f c.args.g))) c.and.result c.and.ensures.told c.named.result c.named.ensures

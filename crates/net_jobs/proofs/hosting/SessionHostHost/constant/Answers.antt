@@ -1,5 +1,7 @@
 use Rattle.std.proofs.Common.{refl, ◌∙◌}
 use Rattle.function_laws.specs.declared.history.Call.TheVariants as calls
+use Rattle.function_laws.specs.declared.making.Making.TheVariants as makings
+use Rattle.function_laws.specs.declared.making.BddMaking.TheVariants as bdds
 use Rattle.function_laws.specs.Values.{constant as constantly}
 use Rattle.net_jobs.proofs.HostLaws.{denied, made, named_caused, named_ok, named_own, outcome-one, outcome-zero}
 use Rattle.net_jobs.proofs.hosting.SessionHostHost.constant.Goals as goal
@@ -8,36 +10,36 @@ pub returns-then-value-clause-own : goal.returns-then-value-clause-own
 returns-then-value-clause-own g c =
     let old = c.args.session.now in
     let new = c.one.new.self in
-    named_own old new calls.One c.one.result (denied old new calls.One c.one.result c.one.ensures.told) ∙ c.requires.own
+    named_own old new (calls.Makes (makings.Bdd bdds.One)) c.one.result (denied old new (calls.Makes (makings.Bdd bdds.One)) c.one.result c.one.ensures.told) ∙ c.requires.own
 
 pub returns-then-value-clause-made : goal.returns-then-value-clause-made
 returns-then-value-clause-made g c =
     let old = c.args.session.now in
     let new = c.one.new.self in
-    named_ok old new calls.One c.one.result (denied old new calls.One c.one.result c.one.ensures.told) c.named.result c.named.ensures _
-    (λ name place called. made old new calls.One name place called refl (λ cell. refl) (constantly c.args.value) (outcome-one old called.board c.args.value c.if-value.true))
+    named_ok old new (calls.Makes (makings.Bdd bdds.One)) c.one.result (denied old new (calls.Makes (makings.Bdd bdds.One)) c.one.result c.one.ensures.told) c.named.result c.named.ensures _
+    (λ name place called. made old new (calls.Makes (makings.Bdd bdds.One)) name place called refl (λ cell. refl) (constantly c.args.value) (outcome-one old called.board c.args.value c.if-value.true))
 
 pub returns-then-value-clause-caused : goal.returns-then-value-clause-caused
 returns-then-value-clause-caused g c =
     let old = c.args.session.now in
     let new = c.one.new.self in
-    named_caused old new calls.One c.one.result (denied old new calls.One c.one.result c.one.ensures.told) c.named.result c.named.ensures
+    named_caused old new (calls.Makes (makings.Bdd bdds.One)) c.one.result (denied old new (calls.Makes (makings.Bdd bdds.One)) c.one.result c.one.ensures.told) c.named.result c.named.ensures
 
 pub returns-else-value-clause-own : goal.returns-else-value-clause-own
 returns-else-value-clause-own g c =
     let old = c.args.session.now in
     let new = c.zero.new.self in
-    named_own old new calls.Zero c.zero.result (denied old new calls.Zero c.zero.result c.zero.ensures.told) ∙ c.requires.own
+    named_own old new (calls.Makes (makings.Bdd bdds.Zero)) c.zero.result (denied old new (calls.Makes (makings.Bdd bdds.Zero)) c.zero.result c.zero.ensures.told) ∙ c.requires.own
 
 pub returns-else-value-clause-made : goal.returns-else-value-clause-made
 returns-else-value-clause-made g c =
     let old = c.args.session.now in
     let new = c.zero.new.self in
-    named_ok old new calls.Zero c.zero.result (denied old new calls.Zero c.zero.result c.zero.ensures.told) c.named-else-value.result c.named-else-value.ensures _
-    (λ name place called. made old new calls.Zero name place called refl (λ cell. refl) (constantly c.args.value) (outcome-zero old called.board c.args.value c.if-value.false))
+    named_ok old new (calls.Makes (makings.Bdd bdds.Zero)) c.zero.result (denied old new (calls.Makes (makings.Bdd bdds.Zero)) c.zero.result c.zero.ensures.told) c.named-else-value.result c.named-else-value.ensures _
+    (λ name place called. made old new (calls.Makes (makings.Bdd bdds.Zero)) name place called refl (λ cell. refl) (constantly c.args.value) (outcome-zero old called.board c.args.value c.if-value.false))
 
 pub returns-else-value-clause-caused : goal.returns-else-value-clause-caused
 returns-else-value-clause-caused g c =
     let old = c.args.session.now in
     let new = c.zero.new.self in
-    named_caused old new calls.Zero c.zero.result (denied old new calls.Zero c.zero.result c.zero.ensures.told) c.named-else-value.result c.named-else-value.ensures
+    named_caused old new (calls.Makes (makings.Bdd bdds.Zero)) c.zero.result (denied old new (calls.Makes (makings.Bdd bdds.Zero)) c.zero.result c.zero.ensures.told) c.named-else-value.result c.named-else-value.ensures

@@ -1,5 +1,7 @@
 use Rattle.std.proofs.Common.{refl, ◌∙◌}
 use Rattle.function_laws.specs.declared.history.Call.TheVariants as calls
+use Rattle.function_laws.specs.declared.making.Making.TheVariants as makings
+use Rattle.function_laws.specs.declared.making.BddMaking.TheVariants as bdds
 use Rattle.function_laws.specs.Values.{projection}
 use Rattle.net_jobs.proofs.HostLaws.{denied, made, named_caused, named_ok, named_own, outcome-projection}
 use Rattle.net_jobs.proofs.hosting.SessionHostHost.projection.Goals as goal
@@ -8,14 +10,14 @@ pub returns-clause-own : goal.returns-clause-own
 returns-clause-own g c =
     let old = c.args.session.now in
     let new = c.var.new.self in
-    let call = calls.Var c.args.variable in
+    let call = calls.Makes (makings.Bdd (bdds.Var c.args.variable)) in
     named_own old new call c.var.result (denied old new call c.var.result c.var.ensures.told) ∙ c.requires.own
 
 pub returns-clause-made : goal.returns-clause-made
 returns-clause-made g c =
     let old = c.args.session.now in
     let new = c.var.new.self in
-    let call = calls.Var c.args.variable in
+    let call = calls.Makes (makings.Bdd (bdds.Var c.args.variable)) in
     named_ok old new call c.var.result (denied old new call c.var.result c.var.ensures.told) c.named.result c.named.ensures _
     (λ name place called. made old new call name place called refl (λ cell. refl) (projection c.args.variable) (outcome-projection old called.board c.args.variable c.requires.variable))
 
@@ -23,5 +25,5 @@ pub returns-clause-caused : goal.returns-clause-caused
 returns-clause-caused g c =
     let old = c.args.session.now in
     let new = c.var.new.self in
-    let call = calls.Var c.args.variable in
+    let call = calls.Makes (makings.Bdd (bdds.Var c.args.variable)) in
     named_caused old new call c.var.result (denied old new call c.var.result c.var.ensures.told) c.named.result c.named.ensures

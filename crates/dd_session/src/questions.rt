@@ -1,0 +1,94 @@
+//! The calls of a session that tell of rows: whether one implies another, and the value of one.
+
+ghost use Rattle.std.specs.Prelude.{IfOk, IsOk, MatchResult, ◌<◌, ◌≡◌, length, true};
+ghost use Rattle.edge_bits.specs.declared.edges.Kind.{Kind as KindOf};
+ghost use Rattle.edge_bits.specs.declared.edges.Kind.TheVariants as kinds;
+ghost use Rattle.function_laws.specs.declared.history.Call.TheVariants as calls;
+ghost use Rattle.function_laws.specs.declared.history.Reply.TheVariants as replies;
+ghost use Rattle.dd_session.specs.Sessions.{Called, HasRoom, IsAsBefore, IsLiveAs};
+ghost use Rattle.dd_session.specs.Walking.{bits_of};
+ghost use Rattle.dd_session.specs.Works.{StoresNothing};
+
+use crate::answers::{Again, Placed};
+use crate::drawing::finish;
+use crate::manager::Manager;
+use crate::nodeless::{implies, walked};
+use crate::request::{Answer, Request};
+use crate::session::Session;
+use edge_bits::Memory;
+use handle_count::H;
+use shared_store::put_back;
+use std::sync::Wait;
+
+impl Session {
+    /// Whether the second of two rows is true wherever the first is. It makes no node, so that only want of memory leaves it
+    /// without an answer.
+    pub fn leq<R: Wait>(
+        &mut self,
+        rt: &R,
+        manager: &Manager,
+        f: H,
+        g: H,
+    ) -> Result<Placed<bool>, Memory>
+        requires own { self.old.manager ≡ manager.now }
+        requires room { HasRoom self.old }
+        requires first { IsLiveAs kinds.Bdd self.old f }
+        requires second { IsLiveAs kinds.Bdd self.old g }
+        ensures told { MatchResult result (λ placed. Called self.old self.new (calls.Leq f g) (replies.Truth placed.value) placed.place) (λ _. IsAsBefore self.old self.new) }
+        ensures stored { StoresNothing self.new }
+        ensures spare { self.new.spare ≡ self.old.spare }
+    {
+        let first = self.edge(f);
+        let second = self.edge(g);
+        let mut shared = manager.guard.take(rt, &mut self.pass);
+        match implies(&mut shared, first, second) {
+            Ok(told) => {
+                let place = finish(
+                    &manager.guard,
+                    &mut self.pass,
+                    &mut self.book,
+                    shared,
+                    Request::Leq(f, g),
+                    Answer::Truth(told),
+                );
+                Ok(Placed { place, value: told })
+            }
+            Err(Memory) => {
+                put_back(&manager.guard, &mut self.pass, shared);
+                Err(Memory)
+            }
+        }
+    }
+
+    /// The value of a row: of a BDD 0 or 1, and of an ADD its number, where bit i is the value of variable i; of a family 1 where the
+    /// elements whose bits are set are a member, and 0 else. While sessions take turns it is never refused.
+    pub fn eval<R: Wait>(
+        &mut self,
+        rt: &R,
+        manager: &Manager,
+        f: H,
+        bits: &[bool],
+    ) -> Result<Placed<i64>, Again>
+        requires own { self.old.manager ≡ manager.now }
+        requires room { HasRoom self.old }
+        requires live { (k : KindOf) × IsLiveAs k self.old f × (length bits.now ≡ bits_of k self.old.manager) }
+        ensures ok { IsOk result }
+        ensures told { IfOk result (λ placed. Called self.old self.new (calls.Eval f bits.now) (replies.Value placed.value) placed.place) }
+        ensures stored { StoresNothing self.new }
+        ensures spare { self.new.spare ≡ self.old.spare }
+    {
+        let kind = self.kind(f);
+        let edge = self.edge(f);
+        let mut shared = manager.guard.take(rt, &mut self.pass);
+        let value = walked(&mut shared, kind, edge, bits);
+        let place = finish(
+            &manager.guard,
+            &mut self.pass,
+            &mut self.book,
+            shared,
+            Request::Eval(f, bits),
+            Answer::Value(value),
+        );
+        Ok(Placed { place, value })
+    }
+}

@@ -1,0 +1,12 @@
+//! The commands of jobs: their words, what is due behind each, and what it does with its operands.
+#![tactic(auto)]
+
+mod acts;
+mod commands;
+mod operands;
+mod slots;
+
+pub use acts::Act;
+pub use commands::{Operation, Place, kind_made};
+pub use operands::Operands;
+pub use slots::{Line, Slot, Slots, all_have_form, as_assignment, command_line};
