@@ -11,7 +11,7 @@ import sys
 
 MOST = 10
 WORD = re.compile(r"(?<![A-Za-z_])(threshold|Threshold|THRESHOLD)(?![A-Za-z_])")
-TESTS = {"hit_tests", "store_tests", "seat_tests", "session_tests", "truth_lists", "row_tests", "blif_rows", "report_rows", "text_rows"}
+TESTS = {"hit_tests", "store_tests", "seat_tests", "session_tests", "truth_lists", "row_tests", "run_tests", "reader_rows"}
 IMPORT = re.compile(r"(pub )?(ghost )?use ")
 
 

@@ -4,12 +4,8 @@
 #![tactic(auto)]
 
 mod line;
-#[cfg(test)]
-mod pair;
 mod reader;
 mod row;
-#[cfg(test)]
-mod tests;
 mod told;
 
 use row::Row;

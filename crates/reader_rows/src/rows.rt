@@ -1,22 +1,27 @@
 //! The rows of a file.
 //!
-//! A row is a network, what is known of its outputs, and what has to be written of it. Each line begins with a word, and a blank:
+//! A row is the text of a network, and what has to be read of it; or what is known of its outputs as well, and what has to be written
+//! of it. Each line begins with a word, and a blank:
 //!
 //! - `row NAME` begins a row.
 //! - `> LINE` is a line of the network's text.
+//! - `! FAULT` says that the text has this fault, as `4 mixed`.
+//! - `nodes NUMBER` says that a report has to be written, of so many nodes.
 //! - `class FIRST SIGN` is the class of the next output: the first output that is equal to it up to complement, and `-` where it
 //!   is the complement of that.
 //! - `eval BITS VALUES` is a pattern, and the outputs' values there.
-//! - `order VARIABLE ..` are the variables from the top, and `nodes NUMBER` is the number of nodes.
-//! - `< LINE` is a line of the report, and of the summary behind it.
+//! - `order VARIABLE ..` are the variables from the top.
+//! - `< LINE` is a line of the report and of the summary behind it; or, where none has to be written, of the network that has to be
+//!   read: `inputs` and their names; for each gate, in some order of them, `gate`, the signals that it reads, `on` or `off`, and `|`
+//!   with its word for each row; for each output `output`, its name and its signal.
 //!
-//! Other lines say nothing.
+//! In a LINE `%HH` stands for the byte of these two digits, and a `%` at its end drops its line feed. Other lines say nothing.
 
 use edge_bits::List;
 use net_reports::{Class, Evaluation};
 use std::alloc::{AllocError, Global};
 
-/// A network, what is known of its outputs, and what is due.
+/// A network's text, what is known of its outputs, and what is due.
 #[derive(Drop)]
 pub struct Row {
     pub name: String,
@@ -24,15 +29,49 @@ pub struct Row {
     pub classes: Vec<Class>,
     pub evaluations: Vec<Evaluation>,
     pub order: Vec<u32>,
-    pub nodes: usize,
+    /// The number of nodes, where a report has to be written.
+    pub nodes: Option<usize>,
     pub due: Vec<u8>,
 }
 
-/// Adds a line and its line feed.
-fn add_line(bytes: &mut Vec<u8>, line: &str) -> Result<(), AllocError> {
-    bytes.extend_from_slice(line.as_bytes())?;
-    bytes.push(b'\n')?;
+/// The byte of the first two digits, and what stands behind them.
+fn escaped(piece: &str) -> Option<(u8, &str)> {
+    let (digits, rest) = piece.split_at_checked(2)?;
+    let byte = u8::from_str_radix(digits, 16).ok()?;
+    Some((byte, rest))
+}
+
+/// Adds the bytes for which a piece behind a `%` stands.
+fn add_piece(bytes: &mut Vec<u8>, piece: &str) -> Result<(), AllocError> {
+    match escaped(piece) {
+        Some((byte, rest)) => {
+            bytes.push(byte)?;
+            bytes.extend_from_slice(rest.as_bytes())
+        }
+        None => bytes.extend_from_slice(piece.as_bytes()),
+    }
+}
+
+/// Adds the bytes for which a line stands.
+fn add_bytes(bytes: &mut Vec<u8>, line: &str) -> Result<(), AllocError> {
+    let mut pieces = line.split('%');
+    bytes.extend_from_slice(pieces.next().unwrap_or("").as_bytes())?;
+    for piece in pieces {
+        add_piece(bytes, piece)?;
+    }
     Ok(())
+}
+
+/// Adds the bytes for which a line stands, and a line feed unless a `%` ends it.
+fn add_line(bytes: &mut Vec<u8>, line: &str) -> Result<(), AllocError> {
+    match line.strip_suffix('%') {
+        Some(front) => add_bytes(bytes, front),
+        None => {
+            add_bytes(bytes, line)?;
+            bytes.push(b'\n')?;
+            Ok(())
+        }
+    }
 }
 
 /// The bits of a word.
@@ -45,7 +84,7 @@ fn bits_of(alloc: Global, word: &str) -> Result<List<bool>, AllocError> {
 }
 
 impl Row {
-    /// A row of which nothing is known.
+    /// A row of which only the name is said.
     fn new(alloc: Global, name: &str) -> Result<Row, AllocError> {
         Ok(Row {
             name: name.to_string(alloc)?,
@@ -53,7 +92,7 @@ impl Row {
             classes: Vec::new(alloc),
             evaluations: Vec::new(alloc),
             order: Vec::new(alloc),
-            nodes: 0,
+            nodes: None,
             due: Vec::new(alloc),
         })
     }
@@ -95,11 +134,15 @@ impl Row {
         match word {
             ">" => add_line(&mut self.text, rest),
             "<" => add_line(&mut self.due, rest),
+            "!" => {
+                self.due.extend_from_slice("fault ".as_bytes())?;
+                add_line(&mut self.due, rest)
+            }
             "class" => self.add_class(rest),
             "eval" => self.add_evaluation(alloc, rest),
             "order" => self.add_order(rest),
             "nodes" => {
-                self.nodes = rest.parse::<usize>().unwrap_or(0);
+                self.nodes = rest.parse::<usize>().ok();
                 Ok(())
             }
             _ => Ok(()),

@@ -1,6 +1,6 @@
-//! What was read, as lines.
+//! A network, as lines.
 
-use blif_net::{BlifError, Cover, Literal, Net, Output};
+use blif_net::{Cover, Literal, Net, Output};
 use std::alloc::{AllocError, Global};
 
 fn add_number(text: &mut Vec<u8>, alloc: Global, number: u32) -> Result<(), AllocError> {
@@ -73,25 +73,9 @@ fn add_net(text: &mut Vec<u8>, alloc: Global, net: &Net) -> Result<(), AllocErro
     add_outputs(text, alloc, net)
 }
 
-/// Adds what is told of what was read.
-fn add_told(
-    text: &mut Vec<u8>,
-    alloc: Global,
-    read: &Result<Net, BlifError>,
-) -> Result<(), AllocError> {
-    match read {
-        Ok(net) => add_net(text, alloc, net),
-        Err(BlifError::Memory) => text.extend_from_slice("memory\n".as_bytes()),
-        Err(BlifError::Fault(fault)) => {
-            let line = format!(in alloc; "fault {fault}\n")?;
-            text.extend_from_slice(line.as_bytes())
-        }
-    }
-}
-
-/// What is told of what was read.
-pub fn told(alloc: Global, read: Result<Net, BlifError>) -> Result<Vec<u8>, AllocError> {
+/// A network, as lines.
+pub fn told(alloc: Global, net: &Net) -> Result<Vec<u8>, AllocError> {
     let mut text = Vec::new(alloc);
-    add_told(&mut text, alloc, &read)?;
+    add_net(&mut text, alloc, net)?;
     Ok(text)
 }

@@ -1,4 +1,4 @@
-//! What no row can tell of a run.
+//! Runs of a command of one word.
 
 use crate::pair::Pair;
 use net_jobs::{Bytes, Discard, Gate, Open, Source, Status, SureBytes, run};

@@ -1,14 +1,15 @@
-//! A stored diagram.
+//! The text of a stored diagram.
 
 ghost use Rattle.std.specs.Prelude.{IfOk};
 ghost use Rattle.dddmp_text.specs.WellMade.{IsWritable};
 
-use dddmp_text::{Dump, Line};
+use dddmp_text::{Dump, Line, write};
 use edge_bits::{List, Memory};
 use std::alloc::Global;
+use std::io;
 
 /// The exclusive or of two variables, complemented at its root.
-pub fn exclusive_or(alloc: Global) -> Result<Dump, Memory>
+fn exclusive_or(alloc: Global) -> Result<Dump, Memory>
     ensures { IfOk result (λ dump. IsWritable dump) }
 {
     let lower = Line {
@@ -32,4 +33,22 @@ pub fn exclusive_or(alloc: Global) -> Result<Dump, Memory>
         nodes: List::from_vec(nodes),
         roots: List::from_vec(roots),
     })
+}
+
+/// The text of that diagram.
+fn stored(alloc: Global) -> Result<Vec<u8>, Memory> {
+    let dump = exclusive_or(alloc)?;
+    write(alloc, &dump)
+}
+
+/// Writes the text of that diagram.
+pub fn tell<R: AllocGlobal + Print>(rt: &R) -> io::Result<()> {
+    let alloc = rt.alloc();
+    match stored(alloc) {
+        Ok(text) => {
+            let shown = String::from_utf8_lossy(alloc, text.as_slice())?;
+            print!(rt; "{shown}")
+        }
+        Err(Memory) => println!(rt; "want of memory"),
+    }
 }

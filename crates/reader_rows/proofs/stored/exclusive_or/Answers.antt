@@ -2,7 +2,7 @@ use Rattle.std.proofs.Common.{◌≡◌, ◌∙◌, ℕ, ℤ, List, subst, sym}
 use Rattle.edge_bits.specs.declared.edges.Line.{Line}
 use Rattle.dddmp_text.specs.WellMade.{IsWritable}
 use Rattle.dddmp_text.proofs.Writable.{may_be_written, two_lines}
-use Rattle.text_rows.proofs.diagram.exclusive_or.Goals as goal
+use Rattle.reader_rows.proofs.stored.exclusive_or.Goals as goal
 
 -- a dump with these lists
 is_writable : (ids permids : List ℕ) (nodes : List Line) (roots : List ℤ) → ids ≡ two_lines.ids → permids ≡ two_lines.permids → nodes ≡ two_lines.nodes → roots ≡ two_lines.roots
