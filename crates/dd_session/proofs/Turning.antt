@@ -16,7 +16,7 @@ use Rattle.seat_guard.specs.declared.view.Leaving.{Leaving}
 use Rattle.seat_guard.specs.declared.view.Row.{Row}
 use Rattle.seat_guard.specs.declared.view.Telling.{Telling}
 use Rattle.seat_guard.specs.Turn.{IsKeptCell, cells_count, one_if, row_count}
-use Rattle.seat_guard.specs.Views.{adds_after, cell_in, rows_after}
+use Rattle.seat_guard.specs.Views.{adds_after, cell_in, rows_after, without}
 use Rattle.shared_store.specs.declared.shared.Cell.{Cell}
 use Rattle.shared_store.specs.declared.shared.Shared.{Shared}
 use Rattle.shared_store.specs.Sharing.{board, count, count_at_cell, counts, functions, held_in, keeps, orders, view_of}
@@ -24,11 +24,11 @@ use Rattle.shared_store.proofs.Keeping.{kind-listed}
 use Rattle.shared_store.specs.Storing.{IsLeaving, StoresOnly}
 use Rattle.shared_store.proofs.Storing.{stored-only}
 use Rattle.dd_session.specs.declared.book.Book.{Book}
-use Rattle.dd_session.specs.Sessions.{fulls_in, held_as}
+use Rattle.dd_session.specs.Sessions.{IsNamed, fulls_in, held_as}
 use Rattle.dd_session.specs.Turns.{Drew, Keeps, Notes, Tied, Took, function_of, live_as}
 use Rattle.dd_session.proofs.Letting.{board_count, cells-at}
-use Rattle.dd_session.proofs.Tying.{finds-more, longer_by, tied_same}
-use Rattle.dd_session.proofs.Naming.{same_name-refl}
+use Rattle.dd_session.proofs.Tying.{fewer, finds-more, longer_by, tied_less, tied_same}
+use Rattle.dd_session.proofs.Naming.{finds_row, same_name-refl}
 
 pub stores_same : (x : Shared) → StoresOnly (λ _. ⊥) x x
 stores_same x f c = inl c
@@ -137,3 +137,33 @@ removed_edge d rows rows' name h kind edge tied held one gone =
       where
         some_same : (a b : Live) → Some a ≡ Some b → a ≡ b
         some_same a b e = cc
+
+-- a row that was removed
+module _ (old held : Draws) (x : Shared) (took : Took old held x) (rows rows' : RowMap) (name : Name) (kind : Kind) (edge : Edge) (tied : Tied old rows) (live : (k : Kind) × IsNamed k old.rows name)
+    (one : IsWithOne rows'.live (record { name = name; kind = kind; edge = edge }) rows.live) (gone : find_row rows'.live name ≡ None) where
+  removed_row : (h : Held) × (held_as old.rows name ≡ Some h) × (edge ≡ h.edge)
+  removed_row = let h = finds_row old rows name tied live.0 live.1 in (h.0, h.1, removed_edge old rows rows' name h.0 kind edge tied h.1 one gone)
+
+  pub removed_counted : 0 < count x edge.index
+  removed_counted =
+      let h = removed_row in
+      let some = row_counted old held x took name h.0 h.1 in
+      let at = ap (λ (z : Edge). count x z.index) h.2 in
+      omega (arith, some, at)
+
+  pub removed_fewer : (k : ℕ) → row_count k (without name held.rows) + one_if (edge.index == k) ≡ row_count k held.rows
+  removed_fewer k =
+      let h = removed_row in
+      let f = (fewer name old.rows h.0 tied.apart h.1).1 k in
+      let m = ap (λ (z : Edge). one_if (z.index == k)) h.2 in
+      let same = ap (λ (z : Draws). z.rows) took.is in
+      let a = ap (λ (l : List Row). row_count k (without name l)) same in
+      let b = ap (row_count k) same in
+      omega (arith, f, m, a, b)
+
+  pub removed_tied : (new : Draws) (y : Shared) (t : Telling) (place : ℕ) → Drew held new y t place → rows_after t.change held.rows ≡ without name held.rows → adds_after t.change held.adds ≡ held.adds → rows'.adds ≡ rows.adds → Tied new rows'
+  removed_tied new y t place drew less same_adds same =
+      let h = removed_row in
+      let left = drew.left in
+      tied_less name old new rows rows' h.0 (record { name = name; kind = kind; edge = edge }) tied h.1 refl h.2 (ap (λ (z : Draws). z.rows) left ∙ less ∙ ap (λ (z : Draws). without name z.rows) took.is) (ap (λ (z : Draws). z.adds) left ∙ same_adds ∙ ap (λ (z : Draws). z.adds) took.is)
+      (let a = longer_by held new _ (ap (λ (z : Draws). z.entries) left) in let b = ap (λ (z : Draws). length z.entries) took.is in omega (arith, a, b)) one gone same

@@ -1,14 +1,10 @@
-use Rattle.std.proofs.Common.{◌==◌, List, refl, ap, sym, subst, ◌∙◌, arith, length, rules}
+use Rattle.std.proofs.Common.{◌==◌, refl, ap, sym, subst, ◌∙◌, arith, length, rules}
 use Rattle.function_laws.specs.declared.history.Call.TheVariants as calls
 use Rattle.function_laws.specs.declared.history.Reply.TheVariants as replies
-use Rattle.edge_bits.specs.declared.edges.Edge.{Edge}
 use Rattle.seat_guard.specs.Passes.{known}
-use Rattle.seat_guard.specs.Turn.{one_if, row_count}
 use Rattle.seat_guard.specs.Views.{stands_for, without}
-use Rattle.seat_guard.specs.declared.view.Row.{Row}
 use Rattle.seat_guard.specs.declared.view.Change.TheVariants.{Takes}
 use Rattle.seat_guard.specs.declared.view.Draws.{Draws}
-use Rattle.shared_store.specs.Sharing.{count}
 use Rattle.shared_store.proofs.Stored.{functions-recounted}
 use Rattle.dd_session.specs.Turns.{Tied, Took, IsReady}
 use Rattle.dd_session.specs.Sessions.{IsLive, Seen}
@@ -16,8 +12,8 @@ use Rattle.dd_session.proofs.Calls.{called, took_of, same_table}
 use Rattle.dd_session.proofs.Naming.{finds_row, finds_some}
 use Rattle.dd_session.proofs.Serving.{serves-taken}
 use Rattle.dd_session.proofs.Tellings.{knows_dropped, may_drop}
-use Rattle.dd_session.proofs.Turning.{drew_nothing, removed_edge, row_counted, stores_recounted}
-use Rattle.dd_session.proofs.Tying.{fewer, longer_by, tied_less}
+use Rattle.dd_session.proofs.Turning.{drew_nothing, removed_counted, removed_fewer, removed_tied, stores_recounted}
+use Rattle.dd_session.proofs.Tying.{fewer}
 use Rattle.dd_session.proofs.session.Session.drop_row.Goals as goal
 
 pub remove-kind-requires : goal.remove-kind-requires
@@ -28,15 +24,7 @@ remove-kind-requires g c =
 pub lower-requires : goal.lower-requires
 lower-requires g c =
     let live = subst (λ (s : Seen). IsLive s c.args.h) (sym c.self.view_is) c.requires.live in
-    let d = known c.self.inside.pass in
-    let e = known c.take-shared.new.pass in
-    let x = c.take-shared.result in
-    let t : Took d e x = took_of c.take-shared.ensures.took c.take-shared.ensures.board in
-    let h = finds_row d c.self.inside.book.rows c.args.h c.self.invariant.1.rows live.0 live.1 in
-    let same = removed_edge d c.self.inside.book.rows c.remove-kind.new.self c.args.h h.0 c.remove-kind.result.0 c.remove-kind.result.1 c.self.invariant.1.rows h.1 c.remove-kind.ensures.removed c.remove-kind.ensures.gone in
-    let some = row_counted d e x t c.args.h h.0 h.1 in
-    let at = ap (λ (z : Edge). count x z.index) same in
-    omega (arith, some, at)
+    removed_counted (known c.self.inside.pass) (known c.take-shared.new.pass) c.take-shared.result (took_of c.take-shared.ensures.took c.take-shared.ensures.board) c.self.inside.book.rows c.remove-kind.new.self c.args.h c.remove-kind.result.0 c.remove-kind.result.1 c.self.invariant.1.rows live c.remove-kind.ensures.removed c.remove-kind.ensures.gone
 
 pub finish-place-requires-clause-step : goal.finish-place-requires-clause-step
 finish-place-requires-clause-step g c =
@@ -46,43 +34,21 @@ finish-place-requires-clause-step g c =
 pub finish-place-requires-clause-serves : goal.finish-place-requires-clause-serves
 finish-place-requires-clause-serves g c =
     let live = subst (λ (s : Seen). IsLive s c.args.h) (sym c.self.view_is) c.requires.live in
-    let d = known c.self.inside.pass in
     let e = known c.take-shared.new.pass in
     let x = c.take-shared.result in
-    let t : Took d e x = took_of c.take-shared.ensures.took c.take-shared.ensures.board in
-    let h = finds_row d c.self.inside.book.rows c.args.h c.self.invariant.1.rows live.0 live.1 in
-    let same = removed_edge d c.self.inside.book.rows c.remove-kind.new.self c.args.h h.0 c.remove-kind.result.0 c.remove-kind.result.1 c.self.invariant.1.rows h.1 c.remove-kind.ensures.removed c.remove-kind.ensures.gone in
-    let rows = ap (λ (z : Draws). z.rows) t.is in
-    let less = (fewer c.args.h d.rows h.0 c.self.invariant.1.rows.apart h.1).1 in
-    serves-taken x c.lower.new.self c.lower.ensures.rest.view e _ c.args.h c.remove-kind.result.1 t.serves (knows_dropped e c.args.h) c.lower.ensures.rest.cells
-    (λ k.
-    let f = less k in
-    let m = ap (λ (z : Edge). one_if (z.index == k)) same in
-    let a = ap (λ (l : List Row). row_count k (without c.args.h l)) rows in
-    let b = ap (row_count k) rows in
-    omega (arith, f, m, a, b)) c.lower.ensures.count c.lower.ensures.rest.orders_are
+    let t : Took (known c.self.inside.pass) e x = took_of c.take-shared.ensures.took c.take-shared.ensures.board in
+    let less = removed_fewer (known c.self.inside.pass) e x t c.self.inside.book.rows c.remove-kind.new.self c.args.h c.remove-kind.result.0 c.remove-kind.result.1 c.self.invariant.1.rows live c.remove-kind.ensures.removed c.remove-kind.ensures.gone in
+    serves-taken x c.lower.new.self c.lower.ensures.rest.view e _ c.args.h c.remove-kind.result.1 t.serves (knows_dropped e c.args.h) c.lower.ensures.rest.cells less c.lower.ensures.count c.lower.ensures.rest.orders_are
 
 pub invariant_of-self : goal.invariant_of-self
 invariant_of-self g c =
     let live = subst (λ (s : Seen). IsLive s c.args.h) (sym c.self.view_is) c.requires.live in
-    let d = known c.self.inside.pass in
-    let e = known c.take-shared.new.pass in
-    let x = c.take-shared.result in
-    let t : Took d e x = took_of c.take-shared.ensures.took c.take-shared.ensures.board in
-    let h = finds_row d c.self.inside.book.rows c.args.h c.self.invariant.1.rows live.0 live.1 in
-    let same = removed_edge d c.self.inside.book.rows c.remove-kind.new.self c.args.h h.0 c.remove-kind.result.0 c.remove-kind.result.1 c.self.invariant.1.rows h.1 c.remove-kind.ensures.removed c.remove-kind.ensures.gone in
+    let t = took_of c.take-shared.ensures.took c.take-shared.ensures.board in
     let ready : IsReady c.finish-place.new.pass = search rules in
     let new = known c.finish-place.new.pass in
-    let left = c.finish-place.ensures.drew.left in (
-      ready,
-      record {
-        rows = subst (Tied new) (sym c.finish-place.ensures.rows)
-            (tied_less c.args.h d new c.self.inside.book.rows c.remove-kind.new.self h.0 _ c.self.invariant.1.rows h.1 refl same (ap (λ (z : Draws). z.rows) left ∙ ap (λ (z : Draws). without c.args.h z.rows) t.is) (ap (λ (z : Draws). z.adds) left ∙ ap (λ (z : Draws). z.adds) t.is)
-            (let a = longer_by e new _ (ap (λ (z : Draws). z.entries) left) in let b = ap (λ (z : Draws). length z.entries) t.is in omega (arith, a, b)) c.remove-kind.ensures.removed c.remove-kind.ensures.gone c.remove-kind.ensures.adds);
-        calls = c.finish-place.ensures.calls.0;
-        fulls = c.finish-place.ensures.calls.1;
-      },
-    )
+    let tied : Tied new c.remove-kind.new.self =
+    removed_tied (known c.self.inside.pass) (known c.take-shared.new.pass) c.take-shared.result t c.self.inside.book.rows c.remove-kind.new.self c.args.h c.remove-kind.result.0 c.remove-kind.result.1 c.self.invariant.1.rows live c.remove-kind.ensures.removed c.remove-kind.ensures.gone new _ _ c.finish-place.result c.finish-place.ensures.drew refl refl c.remove-kind.ensures.adds in
+    (ready, record { rows = subst (Tied new) (sym c.finish-place.ensures.rows) tied; calls = c.finish-place.ensures.calls.0; fulls = c.finish-place.ensures.calls.1 })
 
 pub returns-clause-told : goal.returns-clause-told
 returns-clause-told g c =
