@@ -4,3 +4,5 @@ pub mod WellMade
 pub mod Faults
 pub mod Readings
 pub mod Written
+pub mod Under
+pub mod Listings

@@ -17,13 +17,13 @@ use Rattle.function_laws.specs.Kinds.{BddFunction}
 use Rattle.function_laws.specs.SiftedOrders.{place_of}
 use Rattle.function_laws.specs.Values.{choice, constant, negation}
 use Rattle.function_laws.proofs.ValueLemmas.{everywhere}
-use Rattle.dump_sizes.specs.declared.listings.Listing.{Listing}
-use Rattle.dump_sizes.specs.Listings.{IsListing, dump_of, ids_of}
-use Rattle.dump_sizes.specs.Under.{IsUnder}
-use Rattle.dump_sizes.proofs.Identifiers.{ids_hold, ids_rise, place_listed, places_apart}
-use Rattle.dump_sizes.proofs.LineValues.{low_of, signed_value}
-use Rattle.dump_sizes.proofs.LineValues as values
-use Rattle.dump_sizes.proofs.Listed.{ids_below}
+use Rattle.dddmp_text.specs.declared.listings.Listing.{Listing}
+use Rattle.dddmp_text.specs.Listings.{IsListing, dump_of, ids_of}
+use Rattle.dddmp_text.specs.Under.{IsUnder}
+use Rattle.dddmp_text.proofs.Identifiers.{ids_hold, ids_rise, place_listed, places_apart}
+use Rattle.dddmp_text.proofs.LineValues.{low_of, signed_value}
+use Rattle.dddmp_text.proofs.LineValues as values
+use Rattle.dddmp_text.proofs.Listed.{ids_below}
 use Rattle.node_store.specs.ViewLaws.{Denotes-flip, Denotes-truth, values_at-is}
 use Rattle.node_store.specs.Views.{Is, IsVariable, bdd_at}
 use Rattle.node_slots.specs.Stores.{IsStore, Plain, plain_view, top_in}

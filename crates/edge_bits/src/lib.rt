@@ -13,6 +13,3 @@ pub use permanent::{
     VALUE_END, ZERO_SLOT,
 };
 pub use words::{Node, Word, pack, unpack};
-
-#[cfg(test)]
-mod tests;

@@ -1,6 +1,9 @@
 pub mod Built
+pub mod Contained
+pub mod HandedLaw
 pub mod InTurn
 pub mod Mapped
+pub mod NamesOnce
 pub mod OutputNames
 pub mod Passing
 pub mod ProductLemmas
@@ -12,4 +15,5 @@ pub mod SizeLaws
 pub mod StandingLemmas
 pub mod Told
 pub mod ToldLaws
+pub mod UseLemmas
 mod WorkedHistory

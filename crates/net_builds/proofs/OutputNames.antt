@@ -11,7 +11,7 @@ use Rattle.function_laws.specs.declared.history.Name.{Name}
 use Rattle.net_builds.specs.Building.{IsBuilt, row_at}
 use Rattle.net_builds.specs.Signals.{AllHold}
 use Rattle.net_builds.specs.Standings.{Holds, Standing}
-use Rattle.signal_uses.specs.Uses.{AreLastUses}
+use Rattle.net_builds.specs.Uses.{AreLastUses}
 
 none_at : (count signal : ℕ) → row_at (replicate count None) signal ≡ None
 none_at zero signal = refl

@@ -12,7 +12,7 @@ use Rattle.blif_net.specs.Networks.{cover_value, signal_value}
 use Rattle.std.proofs.lemmas.Option.{get_or_from_slice_get, none-some, same_Some, slice_get-get_or, slice_get_within}
 use Rattle.blif_net.specs.declared.net.Cover.{Cover}
 use Rattle.blif_net.proofs.Values.{gate_is}
-use Rattle.signal_uses.proofs.UseLemmas.{reads_before}
+use Rattle.net_builds.proofs.UseLemmas.{reads_before}
 use Rattle.function_laws.specs.declared.history.Name.{Name}
 use Rattle.net_builds.specs.Building.{BuildsTo, IsBuilt, IsPlan, row_at}
 use Rattle.net_builds.specs.Signals.{HaveRows, HaveValues}

@@ -20,8 +20,8 @@ use Rattle.function_laws.specs.Sizes.{Orders}
 use Rattle.function_laws.specs.Tables.{Sizes, opening}
 use Rattle.function_laws.proofs.DistinctLemmas.{In}
 use Rattle.function_laws.proofs.ListLemmas.{same-list_of}
-use Rattle.handover_laws.proofs.Contained.{all-has, has-contained}
-use Rattle.handover_laws.proofs.HandedLaw.{Has, handed-law}
+use Rattle.net_builds.proofs.Contained.{all-has, has-contained}
+use Rattle.net_builds.proofs.HandedLaw.{Has, handed-law}
 use Rattle.net_builds.specs.Builds.{AllGain, AllHandedOver, Builds, IsHandedOver, IsHistoryOf}
 use Rattle.net_builds.specs.Handings.{AreInTurn, IsKnown}
 use Rattle.net_builds.specs.Standings.{IsPlain, Note, Standing, values_of}

@@ -23,7 +23,7 @@ use Rattle.function_laws.specs.Sizes.{all_parts, distinct, parts}
 use Rattle.function_laws.specs.Outcomes.{fetches, is_done, makes}
 use Rattle.function_laws.specs.Tables.{Sizes, opening}
 use Rattle.function_laws.specs.Values.{constant, projection}
-use Rattle.handover_laws.proofs.HandedLaw.{Has}
+use Rattle.net_builds.proofs.HandedLaw.{Has}
 use Rattle.net_reports.specs.Classes.{AreClasses, Function as Values, IsClass}
 use Rattle.net_reports.specs.Reports.{report_text}
 use Rattle.net_reports.specs.declared.classes.Class.{Class}

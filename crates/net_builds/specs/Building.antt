@@ -6,7 +6,7 @@ use Rattle.blif_net.specs.Networks.{signal_value}
 use Rattle.function_laws.specs.declared.history.Name.{Name}
 use Rattle.net_builds.specs.declared.signals.Ledger.{Ledger}
 use Rattle.net_builds.specs.Standings.{Holds, Standing, Works}
-use Rattle.signal_uses.specs.Uses.{AreLastUses, KnowsReads}
+use Rattle.net_builds.specs.Uses.{AreLastUses, KnowsReads}
 
 -- the row of a signal, if it has one
 abbrev pub row_at : List (Option Name) → ℕ → Option Name

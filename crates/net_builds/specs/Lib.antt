@@ -6,3 +6,5 @@ pub mod Handings
 pub mod Outputs
 pub mod Tellings
 pub mod Builds
+pub mod Uses
+pub mod Handed

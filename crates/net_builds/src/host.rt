@@ -1,6 +1,6 @@
 //! A manager, as a session sees it that builds functions of truth values.
 
-use dump_sizes::Listing;
+use dddmp_text::Listing;
 use edge_bits::Memory;
 use function_laws::Name;
 

@@ -3,14 +3,17 @@
 
 mod building;
 mod handing;
+mod handovers;
 mod host;
 mod laws;
 mod products;
 mod rows;
 mod signals;
 mod telling;
+mod uses;
 
 pub use building::{build_report, build_summary};
 pub use handing::Handover;
+pub use handovers::{handed_names_agree, names_stand_for_one_function};
 pub use host::{Fetched, Host, Placed, Stop};
 pub use laws::{reports_are_true, summaries_are_true};

@@ -5,14 +5,14 @@ ghost use Rattle.blif_net.specs.Bounds.{IsBounded, signal_count};
 ghost use Rattle.net_builds.specs.Building.{IsBegun};
 ghost use Rattle.net_builds.specs.Signals.{BuildsOutputs};
 ghost use Rattle.net_builds.specs.Standings.{IsCaused};
-ghost use Rattle.signal_uses.specs.Uses.{AreLastUses};
+ghost use Rattle.net_builds.specs.Uses.{AreLastUses};
 
 use crate::host::{Host, Stop};
 use crate::rows::{make_inputs, make_outputs, note_names};
+use crate::uses::last_uses;
 use blif_net::Net;
 use edge_bits::Memory;
 use function_laws::Name;
-use signal_uses::last_uses;
 use std::alloc::{AllocError, Global};
 
 /// What is noted while outputs are built: the outputs' signals, the last use of each signal, the signals' rows, and the outputs'

@@ -15,13 +15,13 @@ use Rattle.function_laws.specs.Kinds.{BddFunction, opposite}
 use Rattle.function_laws.specs.Sizes.{Orders}
 use Rattle.function_laws.specs.Values.{IsOf, differs, negation}
 use Rattle.function_laws.proofs.WidthLemmas.{same_everywhere}
-use Rattle.dump_sizes.specs.declared.listings.Listing.{Listing}
-use Rattle.dump_sizes.specs.Listings.{IsListing, dump_of}
-use Rattle.dump_sizes.specs.Under.{IsUnder}
-use Rattle.dump_sizes.proofs.Lines.{Indexed, indexed}
-use Rattle.dump_sizes.proofs.Standing.{of_order}
-use Rattle.dump_sizes.proofs.Shown.{IsUpTo, at_index, signed_up_to, turned, up_to_twice}
-use Rattle.dump_sizes.proofs.Counted.{both_apart}
+use Rattle.dddmp_text.specs.declared.listings.Listing.{Listing}
+use Rattle.dddmp_text.specs.Listings.{IsListing, dump_of}
+use Rattle.dddmp_text.specs.Under.{IsUnder}
+use Rattle.dddmp_text.proofs.Lines.{Indexed, indexed}
+use Rattle.dddmp_text.proofs.Standing.{of_order}
+use Rattle.dddmp_text.proofs.Shown.{IsUpTo, at_index, signed_up_to, turned, up_to_twice}
+use Rattle.dddmp_text.proofs.Counted.{both_apart}
 use Rattle.net_reports.specs.Classes.{Agree, AreClasses, Function, IsClass}
 use Rattle.net_reports.specs.RootClasses.{class_among, root_functions}
 use Rattle.net_reports.specs.declared.classes.Class.{Class}

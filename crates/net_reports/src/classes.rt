@@ -4,11 +4,11 @@ ghost use Rattle.std.specs.Prelude.{◌≡◌, ◌<◌, List as ListOf, ℕ, pos
 ghost use Rattle.std.specs.Int.{is_negative};
 ghost use Rattle.function_laws.specs.Values.{differs};
 ghost use Rattle.dddmp_text.specs.WellMade.{IsWellMade};
-ghost use Rattle.dump_sizes.specs.Listings.{IsListing, dump_of};
+ghost use Rattle.dddmp_text.specs.Listings.{IsListing, dump_of};
 ghost use Rattle.net_reports.specs.Classes.{AreClasses, Function};
 ghost use Rattle.net_reports.specs.RootClasses.{class_among};
 
-use dump_sizes::Listing;
+use dddmp_text::Listing;
 use edge_bits::Memory;
 use std::alloc::Global;
 

@@ -3,11 +3,10 @@
 ghost use Rattle.std.specs.Prelude.{◌≡◌, ◌<◌, ◌^◌, IfOk, length};
 ghost use Rattle.dddmp_text.specs.WellMade.{IsWritable};
 ghost use Rattle.dddmp_text.specs.Written.{written};
-ghost use Rattle.dump_sizes.specs.Listings.{IsListing, dump_of};
+ghost use Rattle.dddmp_text.specs.Listings.{IsListing, dump_of};
 ghost use Rattle.net_reports.specs.Reports.{IsStored, Subject};
 
-use dddmp_text::write;
-use dump_sizes::Listing;
+use dddmp_text::{Listing, write};
 use edge_bits::Memory;
 use std::alloc::Global;
 

@@ -12,7 +12,7 @@ use Rattle.node_store.specs.Changes.{After, CanFree, put_at, without}
 use Rattle.node_store.proofs.Freeing.{freed_sound}
 use Rattle.node_slots.specs.Stores.{slots, count_at, generation_at, HasPermanent}
 use Rattle.node_slots.specs.Held.{Alone, Held, IsHeld, held_view}
-use Rattle.slot_notes.proofs.Lasting.{linked_on}
+use Rattle.level_table.proofs.Lasting.{linked_on}
 use Rattle.node_slots.proofs.Holding.{at_set}
 use Rattle.node_slots.proofs.HeldLaws.{after_same, read_put, settle, slots_put}
 

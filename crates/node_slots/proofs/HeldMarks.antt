@@ -6,8 +6,8 @@ use Rattle.std.proofs.lemmas.List.{length-set, length-replicate, get_or_past}
 use Rattle.node_store.specs.Contents.{IsUsed}
 use Rattle.node_store.specs.Changes.{After, with_mark, with_pin}
 use Rattle.node_store.proofs.Marking.{held_sound}
-use Rattle.slot_notes.specs.Linked.{IsLinkedTo}
-use Rattle.slot_notes.specs.Notes.{Notes, flag}
+use Rattle.level_table.specs.Linked.{IsLinkedTo}
+use Rattle.level_table.specs.Notes.{Notes, flag}
 use Rattle.edge_bits.specs.Reading.{slots_of}
 use Rattle.edge_bits.specs.Words.{unpack_of}
 use Rattle.function_laws.proofs.ValueLemmas.{everywhere}

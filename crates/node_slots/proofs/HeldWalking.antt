@@ -9,9 +9,9 @@ use Rattle.edge_bits.specs.Words.{unpack_of}
 use Rattle.function_laws.proofs.ValueLemmas.{everywhere}
 use Rattle.node_store.specs.Contents.{is_node_of}
 use Rattle.node_store.specs.Changes.{After, IsLeastFrom}
-use Rattle.slot_notes.specs.Linked.{HasNode, IsLinkedTo}
-use Rattle.slot_notes.specs.Notes.{Chain, Notes}
-use Rattle.slot_notes.specs.declared.notes.Cursor.{Cursor}
+use Rattle.level_table.specs.Linked.{HasNode, IsLinkedTo}
+use Rattle.level_table.specs.Notes.{Chain, Notes}
+use Rattle.level_table.specs.declared.notes.Cursor.{Cursor}
 use Rattle.node_slots.specs.Stores.{slots}
 use Rattle.node_slots.specs.Held.{Alone, Held, IsHeld, held_view}
 use Rattle.node_slots.proofs.HeldLaws.{after_seen}

@@ -3,8 +3,8 @@ use Rattle.std.proofs.Common.{refl, ap, ◌∙◌}
 use Rattle.std.specs.Prelude.{◌≡◌, ℕ, ◌+◌, ◌≤◌, length, Option, Some, None}
 use Rattle.computed_cache.specs.Entries.{kept_at}
 use Rattle.node_store.specs.Contents.{Content, Pair, IsSound}
-use Rattle.slot_notes.specs.Linked.{IsLinkedTo}
-use Rattle.slot_notes.specs.Notes.{Chain}
+use Rattle.level_table.specs.Linked.{IsLinkedTo}
+use Rattle.level_table.specs.Notes.{Chain}
 use Rattle.node_slots.specs.Stores.{Plain, slots, AreInverse, HasPermanent}
 use Rattle.node_slots.specs.Wholes.{content_view}
 use Rattle.node_slots.specs.declared.held_store.HalfSwap.{HalfSwap}

@@ -10,9 +10,9 @@ use crate::plain_store::{only_child, opened};
 use computed_cache::Memo;
 use edge_bits::{Edge, FIRST_ELEMENT, Node, Word, unpack};
 use handle_count::next_generation;
+use level_table::SlotNotes;
 use node_store::binary::flip_if;
 use node_store::{Opened, Order, Stack, Whole};
-use slot_notes::SlotNotes;
 use std::alloc::Global;
 use std::marker::Model;
 

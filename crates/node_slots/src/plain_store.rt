@@ -17,9 +17,9 @@ use edge_bits::{
     EMPTY_SLOT, Edge, FIRST_ELEMENT, FIRST_PROJECTION, Kind, Memory, Node, Word, unpack,
 };
 use handle_count::{lower, next_generation, raise};
+use level_table::SlotNotes;
 use node_store::binary::flip_if;
 use node_store::{Grow, Key, Opened, Stack, Stop};
-use slot_notes::SlotNotes;
 use std::alloc::Global;
 use std::marker::Model;
 

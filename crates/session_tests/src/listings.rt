@@ -2,12 +2,12 @@
 
 ghost use Rattle.std.specs.Prelude.{◌≡◌, ◌<◌, ◌^◌, length};
 ghost use Rattle.dddmp_text.specs.WellMade.{IsWritable};
-ghost use Rattle.dump_sizes.specs.Listings.{dump_of};
+ghost use Rattle.dddmp_text.specs.Listings.{dump_of};
 
 use crate::calls::{and, ready, var};
 use crate::operations::open_two;
 use dd_session::{H, Manager, Session};
-use dump_sizes::Listing;
+use dddmp_text::Listing;
 use edge_bits::{Kind, Line};
 use net_reports::{Class, classes_of, padded, stored};
 use std::alloc::Global;

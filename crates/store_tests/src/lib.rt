@@ -1,9 +1,11 @@
-//! Operations over a store in hand: its last slots, nodes of each kind, and bounds that no job can name; its unique tables, and
-//! the rows of a session.
+//! Operations over a store in hand: its last slots, nodes of each kind, and bounds that no job can name; its words, its unique
+//! tables, and the rows of a session.
 #![tactic(auto)]
 
 #[cfg(test)]
 mod bounds;
+#[cfg(test)]
+mod layout;
 #[cfg(test)]
 mod rows;
 #[cfg(test)]

@@ -1,2 +1,0 @@
-pub mod Under
-pub mod Listings

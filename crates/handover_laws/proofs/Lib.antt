@@ -1,3 +1,0 @@
-pub mod Contained
-pub mod HandedLaw
-pub mod NamesOnce

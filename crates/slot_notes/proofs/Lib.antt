@@ -1,3 +1,0 @@
-pub mod Padding
-pub mod Leading
-pub mod Lasting
