@@ -1,13 +1,10 @@
 -- The sessions of a manager, and the kind of a row.
-use Rattle.std.proofs.Common.{◌≡◌, Bool, true, false, ℕ, zero, suc, ◌<◌, [], ◌∷◌, refl, sym, subst, ◌∙◌, arith}
+use Rattle.std.proofs.Common.{◌≡◌, ℕ, zero, suc, ◌<◌, [], ◌∷◌, refl, sym, subst, ◌∙◌, arith}
 use Rattle.std.specs.List.{All}
 use Rattle.std.proofs.lemmas.List.Elements.{All-append, All-cons, All-nil}
-use denote.Enum.Bare.{sameb}
 use mathlib.Core.Option.{some}
 use lib.ListN.{get_elem?}
-use Rattle.edge_bits.specs.contracts.edges.Kind.{the_type}
 use Rattle.edge_bits.specs.declared.edges.Kind.{Kind}
-use Rattle.edge_bits.specs.declared.edges.Kind.TheVariants as kinds
 use Rattle.function_laws.specs.declared.history.Name.{Name}
 use Rattle.dd_session.specs.Sessions.{IsLive, IsLiveAs}
 use Rattle.dd_session.specs.Managing.{AreAll, Managed, Seen, newcomer, newcomers}
@@ -36,15 +33,3 @@ two_are_all m a b of_a of_b is_a is_b two = record {
 -- a live row is of the kind that it is told to be of
 pub live_as_told : (s : Seen) (h : Name) (told k : Kind) → IsLive s h → ((j : Kind) → IsLiveAs j s h → told ≡ j) → told ≡ k → IsLiveAs k s h
 live_as_told s h told k live is same = subst (λ (j : Kind). IsLiveAs j s h) (sym (is live.0 live.1) ∙ same) live.1
-
--- kinds that were compared, and found equal, are
-pub equal_kinds : (a b : Kind) (told : Bool) → told ≡ sameb the_type a b → told ≡ true → a ≡ b
-equal_kinds kinds.Bdd kinds.Bdd told is said = refl
-equal_kinds kinds.Bdd kinds.Add told is said = let no : false ≡ true = sym is ∙ said in cc
-equal_kinds kinds.Bdd kinds.Zdd told is said = let no : false ≡ true = sym is ∙ said in cc
-equal_kinds kinds.Add kinds.Bdd told is said = let no : false ≡ true = sym is ∙ said in cc
-equal_kinds kinds.Add kinds.Add told is said = refl
-equal_kinds kinds.Add kinds.Zdd told is said = let no : false ≡ true = sym is ∙ said in cc
-equal_kinds kinds.Zdd kinds.Bdd told is said = let no : false ≡ true = sym is ∙ said in cc
-equal_kinds kinds.Zdd kinds.Add told is said = let no : false ≡ true = sym is ∙ said in cc
-equal_kinds kinds.Zdd kinds.Zdd told is said = refl

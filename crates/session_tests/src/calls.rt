@@ -10,7 +10,7 @@ use std::process::Abort;
 use std::sync::Wait;
 
 /// Whether a name is that of a BDD's row.
-pub fn is_bdd(session: &Session, h: H) -> bool
+fn is_bdd(session: &Session, h: H) -> bool
     ensures { IsTrue result → IsLiveAs kinds.Bdd session.now h }
 {
     if !session.is_live(h) {
@@ -23,10 +23,20 @@ pub fn is_bdd(session: &Session, h: H) -> bool
 }
 
 /// The session has few rows and has made few calls.
-pub fn has_room(rt: &impl Abort, session: &Session)
+fn has_room(rt: &impl Abort, session: &Session)
     ensures { HasRoom session.now }
 {
     assert!(rt; session.live() < 1000 && session.calls() < 100_000);
+}
+
+/// The session may make a call on two rows, which are BDDs.
+pub fn ready(rt: &impl Abort, session: &Session, f: H, g: H)
+    ensures room { HasRoom session.now }
+    ensures first { IsLiveAs kinds.Bdd session.now f }
+    ensures second { IsLiveAs kinds.Bdd session.now g }
+{
+    has_room(rt, session);
+    assert!(rt; is_bdd(session, f) && is_bdd(session, g));
 }
 
 /// The projection of a variable.
@@ -53,8 +63,7 @@ pub fn and<R: Abort + Wait>(
     requires own { session.old.manager ≡ manager.now }
     ensures { (session.new.manager ≡ session.old.manager) × (session.new.number ≡ session.old.number) }
 {
-    has_room(rt, session);
-    assert!(rt; is_bdd(session, f) && is_bdd(session, g));
+    ready(rt, session, f, g);
     match session.and(rt, manager, f, g) {
         Ok(placed) => Some(placed.value),
         Err(Refusal::Full(full)) => {
@@ -81,8 +90,7 @@ pub fn same<R: Abort + Wait>(rt: &R, manager: &Manager, session: &mut Session, f
     requires own { session.old.manager ≡ manager.now }
     ensures { (session.new.manager ≡ session.old.manager) × (session.new.number ≡ session.old.number) }
 {
-    has_room(rt, session);
-    assert!(rt; is_bdd(session, f) && is_bdd(session, g));
+    ready(rt, session, f, g);
     session.same(rt, manager, f, g).value
 }
 
@@ -141,69 +149,4 @@ pub fn eval<R: Abort + Wait>(
         Ok(placed) => placed.value,
         Err(_) => panic!(rt; "no value"),
     }
-}
-
-/// Whether a name is that of a row of this kind.
-pub fn is_kind(session: &Session, h: H, kind: Kind) -> bool
-    ensures { IsTrue result → IsLiveAs kind session.now h }
-{
-    session.is_live(h) && session.kind(h) == kind
-}
-
-/// The session may make a call on two rows, which are of this kind.
-pub fn ready(rt: &impl Abort, session: &Session, kind: Kind, f: H, g: H)
-    ensures room { HasRoom session.now }
-    ensures first { IsLiveAs kind session.now f }
-    ensures second { IsLiveAs kind session.now g }
-{
-    has_room(rt, session);
-    assert!(rt; is_kind(session, f, kind) && is_kind(session, g, kind));
-}
-
-/// Whether two rows of this kind have one function.
-pub fn alike<R: Abort + Wait>(
-    rt: &R,
-    manager: &Manager,
-    session: &mut Session,
-    kind: Kind,
-    f: H,
-    g: H,
-) -> bool
-    requires own { session.old.manager ≡ manager.now }
-    ensures { (session.new.manager ≡ session.old.manager) × (session.new.number ≡ session.old.number) }
-{
-    ready(rt, session, kind, f, g);
-    session.same(rt, manager, f, g).value
-}
-
-/// A further row with the function of a row has this function.
-pub fn copied<R: Abort + Wait>(rt: &R, manager: &Manager, session: &mut Session, kind: Kind, h: H)
-    requires own { session.old.manager ≡ manager.now }
-    ensures { (session.new.manager ≡ session.old.manager) × (session.new.number ≡ session.old.number) }
-{
-    assert!(rt; session.reserve(1).is_ok() && session.spare() >= 1);
-    has_room(rt, session);
-    assert!(rt; session.is_live(h));
-    let further = session.copy(rt, manager, h).value;
-    assert!(rt; alike(rt, manager, session, kind, further, h));
-}
-
-/// What is posted is fetched by a row of its kind, and not by one of another kind.
-pub fn exchanged<R: Abort + Wait>(
-    rt: &R,
-    manager: &Manager,
-    session: &mut Session,
-    posted: (Kind, H),
-    own: (Kind, H),
-)
-    requires own { session.old.manager ≡ manager.now }
-    ensures { (session.new.manager ≡ session.old.manager) × (session.new.number ≡ session.old.number) }
-{
-    post(rt, manager, session, 3, posted.1);
-    let (taken, found) = fetch(rt, manager, session, 3, posted.1);
-    assert!(rt; found == Fetched::Posted);
-    assert!(rt; alike(rt, manager, session, posted.0, taken, posted.1));
-    let (other, found) = fetch(rt, manager, session, 3, own.1);
-    assert!(rt; found == Fetched::Empty);
-    assert!(rt; alike(rt, manager, session, own.0, other, own.1));
 }

@@ -4,16 +4,10 @@
 #[cfg(test)]
 mod calls;
 #[cfg(test)]
-mod families;
-#[cfg(test)]
 mod full_tables;
 #[cfg(test)]
 mod listings;
 #[cfg(test)]
 mod many_sessions;
-#[cfg(test)]
-mod numbers;
-#[cfg(test)]
-mod operations;
 #[cfg(test)]
 mod threads;

@@ -1,14 +1,13 @@
 //! A session lists the nodes of its rows, and the listing is told of.
 
-ghost use Rattle.std.specs.Prelude.{◌≡◌, ◌<◌, ◌^◌, length};
+ghost use Rattle.std.specs.Prelude.{◌≡◌, ◌<◌, ◌^◌, length, IfOk};
 ghost use Rattle.dddmp_text.specs.WellMade.{IsWritable};
 ghost use Rattle.dddmp_text.specs.Listings.{dump_of};
 
 use crate::calls::{and, ready, var};
-use crate::operations::open_two;
-use dd_session::{H, Manager, Session};
+use dd_session::{Config, H, Manager, OpenFault, Session};
 use dddmp_text::Listing;
-use edge_bits::{Kind, Line};
+use edge_bits::Line;
 use net_reports::{Class, classes_of, padded, stored};
 use std::alloc::Global;
 use std::process::Abort;
@@ -24,7 +23,7 @@ fn xor<R: Abort + Wait>(rt: &R, manager: &Manager, session: &mut Session, f: H, 
     requires own { session.old.manager ≡ manager.now }
     ensures { (session.new.manager ≡ session.old.manager) × (session.new.number ≡ session.old.number) }
 {
-    ready(rt, session, Kind::Bdd, f, g);
+    ready(rt, session, f, g);
     match session.xor(rt, manager, f, g) {
         Ok(placed) => placed.value,
         Err(_) => panic!(rt; "refused"),
@@ -36,7 +35,7 @@ fn not<R: Abort + Wait>(rt: &R, manager: &Manager, session: &mut Session, f: H) 
     requires own { session.old.manager ≡ manager.now }
     ensures { (session.new.manager ≡ session.old.manager) × (session.new.number ≡ session.old.number) }
 {
-    ready(rt, session, Kind::Bdd, f, f);
+    ready(rt, session, f, f);
     match session.not(rt, manager, f) {
         Ok(placed) => placed.value,
         Err(_) => panic!(rt; "refused"),
@@ -56,7 +55,7 @@ fn list<R: Abort + Wait>(
     ensures writable { IsWritable (dump_of result) }
     ensures few { length result.order < 2 ^ 32 }
 {
-    ready(rt, session, Kind::Bdd, first, second);
+    ready(rt, session, first, second);
     let Ok(listing) = session.list(rt, manager, &[first, second]) else {
         panic!(rt; "no memory");
     };
@@ -157,15 +156,39 @@ fn list_with_part<R: Abort + Wait>(
     dumped(rt, alloc, listing);
 }
 
+/// A manager of two variables, and its one session.
+fn open_two(alloc: Global) -> Result<(Manager, Session), OpenFault>
+    ensures { IfOk result (λ r. (r.1.manager ≡ r.0) × (r.0.vars ≡ 2)) }
+{
+    let config = Config {
+        vars: 2,
+        elements: 0,
+        limit: 1000,
+    };
+    let (manager, mut sessions) = Manager::open(alloc, config, 1)?;
+    match sessions.pop() {
+        Some(session) => Ok((manager, session)),
+        None => unreachable!(),
+    }
+}
+
+/// Lists what two variables make.
+fn list_both<R: Abort + Wait>(rt: &R, alloc: Global, manager: &Manager, session: &mut Session)
+    requires own { session.old.manager ≡ manager.now }
+    requires variables { manager.now.vars ≡ 2 }
+{
+    let a = var(rt, manager, session, 0);
+    let b = var(rt, manager, session, 1);
+    list_with_complement(rt, alloc, manager, session, a, b);
+    list_with_part(rt, alloc, manager, session, a, b);
+}
+
 #[test]
 fn rows_are_listed(rt: HostRuntime) -> Result<(), Fail> {
     let Ok((manager, mut session)) = open_two(rt.alloc()) else {
         panic!(rt; "not opened");
     };
-    let a = var(&rt, &manager, &mut session, 0);
-    let b = var(&rt, &manager, &mut session, 1);
-    list_with_complement(&rt, rt.alloc(), &manager, &mut session, a, b);
-    list_with_part(&rt, rt.alloc(), &manager, &mut session, a, b);
+    list_both(&rt, rt.alloc(), &manager, &mut session);
     Ok(())
 }
 
