@@ -22,6 +22,12 @@ gate_of signals cover = record { ins = map (slice_index signals) cover.ins; rows
 abbrev pub no_cover : CoverDraft
 no_cover = record { line = 0; name = 0; ins = []; rows = []; on = true }
 
+-- the signals of the names of a draft whose covers were put in this order
+abbrev pub AreSignals : Draft → List ℕ → List ℕ → Type 0
+AreSignals draft order signals =
+    (covers : List ℕ) × ((p c : ℕ) → slice_get order p ≡ Some c → slice_get covers c ≡ Some (length draft.inputs + p))
+    × (signals ≡ map (signal_in covers) (map (λ name. name.role) draft.names))
+
 -- The network was built of the draft, whose covers were put in this order.
 pub record IsBuilt (draft : Draft) (order : List ℕ) (net : Net) : Type 0 where
   -- the signal of each cover

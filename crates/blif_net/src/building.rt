@@ -2,7 +2,7 @@
 
 ghost use Rattle.std.specs.Prelude.{◌≡◌, ◌+◌, ◌<◌, All, Some, get_or, length, map, slice_get, slice_index, IfOk, ℕ};
 ghost use Rattle.blif_order.specs.Orders.{Once};
-ghost use Rattle.blif_net.specs.Building.{IsBuilt, gate_of, no_cover, signal_in};
+ghost use Rattle.blif_net.specs.Building.{AreSignals, IsBuilt, gate_of, no_cover, signal_in};
 ghost use Rattle.blif_net.specs.Circuits.{Circuit};
 ghost use Rattle.blif_net.specs.Drafts.{IsCircuitOf};
 ghost use Rattle.blif_net.specs.Names.{words_in};
@@ -146,27 +146,49 @@ fn outputs_at(
     Ok(List::from_vec(outputs))
 }
 
-/// The network of a draft whose covers were put in this order.
-pub fn net_of(alloc: Global, draft: Draft, order: &[u32]) -> Result<Net, AllocError>
-    requires circuit { (circuit : Circuit) × IsCircuitOf circuit draft }
-    requires within { All (λ c. c < length draft.closed) order.now }
+/// The signals of the names of a draft whose covers were put in this order.
+fn signals_of(alloc: Global, draft: &Draft, order: &[u32]) -> Result<Vec<u32>, AllocError>
+    requires circuit { (circuit : Circuit) × IsCircuitOf circuit draft.now }
+    requires within { All (λ c. c < length draft.now.closed) order.now }
     requires once { Once order.now }
-    ensures { IfOk result (IsBuilt draft order.now) }
+    ensures { IfOk result (λ signals. AreSignals draft.now order.now signals.items) }
 {
-    let Draft {
-        names,
-        inputs,
-        outputs,
-        closed,
-        ..
-    } = draft;
-    let first = number_of(inputs.len())?;
-    let covers = cover_signals(alloc, first, order, closed.len())?;
-    let roles = names.roles(alloc)?;
+    let first = number_of(draft.inputs.len())?;
+    let covers = cover_signals(alloc, first, order, draft.closed.len())?;
+    let roles = draft.names.roles(alloc)?;
     let signals = name_signals(alloc, &roles, &covers)?;
+    Ok(signals)
+}
+
+/// The network of a draft whose covers were put in this order, and whose names have these signals. The rows of the covers are
+/// taken out of the draft.
+fn with_signals(
+    alloc: Global,
+    draft: &mut Draft,
+    signals: &[u32],
+    order: &[u32],
+) -> Result<Net, AllocError>
+    requires circuit { (circuit : Circuit) × IsCircuitOf circuit draft.old }
+    requires within { All (λ c. c < length draft.old.closed) order.now }
+    requires once { Once order.now }
+    requires signals { AreSignals draft.old order.now signals.now }
+    ensures { IfOk result (IsBuilt draft.old order.now) }
+{
+    let closed = mem::replace(&mut draft.closed, List::new(alloc));
     Ok(Net {
-        inputs: words_at(alloc, &names, inputs.as_slice())?,
-        outputs: outputs_at(alloc, &names, &signals, &outputs)?,
-        gates: gates(alloc, &signals, closed, order)?,
+        inputs: words_at(alloc, &draft.names, draft.inputs.as_slice())?,
+        outputs: outputs_at(alloc, &draft.names, signals, &draft.outputs)?,
+        gates: gates(alloc, signals, closed, order)?,
     })
+}
+
+/// The network of a draft whose covers were put in this order. The rows of the covers are taken out of the draft.
+pub fn net_of(alloc: Global, draft: &mut Draft, order: &[u32]) -> Result<Net, AllocError>
+    requires circuit { (circuit : Circuit) × IsCircuitOf circuit draft.old }
+    requires within { All (λ c. c < length draft.old.closed) order.now }
+    requires once { Once order.now }
+    ensures { IfOk result (IsBuilt draft.old order.now) }
+{
+    let signals = signals_of(alloc, draft, order)?;
+    with_signals(alloc, draft, &signals, order)
 }

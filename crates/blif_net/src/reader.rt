@@ -36,15 +36,15 @@ fn stopped_at(line: u64, stop: Stop) -> BlifError
 }
 
 /// The network of a draft, where no cover is open and the last line has this number, or what is wrong with the whole.
-fn finish(alloc: Global, draft: Draft, last: u64) -> Result<Net, BlifError>
-    requires { (lines : ListOf Line) × IsClosedFrom lines draft }
-    ensures net { IfOk result (λ net. (lines : ListOf Line) → IsClosedFrom lines draft → IsNetFrom lines net) }
-    ensures fault { IfErr result (λ error. (lines : ListOf Line) → IsClosedFrom lines draft → last ≡ last_number lines → HasFaultIn lines error) }
+fn finish(alloc: Global, draft: &mut Draft, last: u64) -> Result<Net, BlifError>
+    requires { (lines : ListOf Line) × IsClosedFrom lines draft.old }
+    ensures net { IfOk result (λ net. (lines : ListOf Line) → IsClosedFrom lines draft.old → IsNetFrom lines net) }
+    ensures fault { IfErr result (λ error. (lines : ListOf Line) → IsClosedFrom lines draft.old → last ≡ last_number lines → HasFaultIn lines error) }
 {
     if let Some(line) = draft.names.first_unknown() {
         return Err(fault_at(line, FaultKind::Undefined));
     }
-    let order = match arranged(alloc, &draft)? {
+    let order = match arranged(alloc, draft)? {
         Arranged::Cyclic(root) => {
             let cover = &draft.closed.as_slice()[root as usize];
             return Err(fault_at(cover.line, FaultKind::Cycle));
@@ -81,7 +81,7 @@ pub fn read(alloc: Global, keys: RandomState, text: &[u8]) -> Result<Net, BlifEr
         rest = next.rest;
     }
     draft.close()?;
-    finish(alloc, draft, last)
+    finish(alloc, &mut draft, last)
 }
 
 /// Each text, of any length, is that of a network or has one fault, and not both; and the networks of one text give each output
