@@ -28,7 +28,7 @@ fn a_sink_that_keeps_nothing(rt: HostRuntime) -> Result<(), Fail> {
     let alloc = rt.alloc();
     let mut source = SureBytes::new(Vec::from_slice(alloc, JOB.as_bytes())?);
     let status = status_of(&rt, alloc, "play", &mut source, &Open)?;
-    assert_eq!(rt; status, Status::Ok);
+    assert!(rt; status == Status::Ok);
     Ok(())
 }
 
@@ -45,7 +45,7 @@ fn refuse_words<R: Abort + Threads + Wait + Sync + RandomSource>(
     source: &mut Bytes,
 ) -> Result<(), Fail> {
     let status = status_of(rt, alloc, "plays", source, &Open)?;
-    assert_eq!(rt; status, Status::Usage);
+    assert!(rt; status == Status::Usage);
     assert!(rt; source.read(&mut [0u8; 4]).is_err());
     Ok(())
 }
@@ -67,7 +67,7 @@ fn two_sessions_work_at_once(rt: HostRuntime) -> Result<(), Fail> {
     let gate = Pair::new();
     let mut source = SureBytes::new(Vec::from_slice(alloc, PAIR.as_bytes())?);
     let status = status_of(&rt, alloc, "play", &mut source, &gate)?;
-    assert_eq!(rt; status, Status::Ok);
+    assert!(rt; status == Status::Ok);
     assert!(rt; !gate.gave_up());
     Ok(())
 }

@@ -38,7 +38,7 @@ fn is_empty(rt: &impl Abort, shared: &Shared) {
 
 /// Only what is permanent has a slot.
 fn is_fresh(rt: &impl Abort, shared: &Shared) {
-    assert_eq!(rt; shared.store.in_use(), 8);
+    assert!(rt; shared.store.in_use() == 8);
 }
 
 /// A table of seats opens over a new store and an empty board.
@@ -67,7 +67,7 @@ fn fill_cell(rt: &impl Abort, shared: &mut Shared) -> Cell
 /// The cell stands at its place alone, and holds its slot.
 fn is_counted(rt: &impl Abort, shared: &Shared, cell: Cell) {
     assert!(rt; shared.cell(7) == Some(cell) && shared.cell(8) == None);
-    assert_eq!(rt; shared.store.count_of(0), 1);
+    assert!(rt; shared.store.count_of(0) == 1);
 }
 
 /// A cell holds the slot of what stands in it, through a sweep too.

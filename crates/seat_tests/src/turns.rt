@@ -122,8 +122,8 @@ fn two<R: Threads + Wait + Sync>(rt: &R, alloc: Global, times: u32) -> Result<To
 
 /// All of 20,000 turns of each session are told.
 fn is_whole(rt: &impl Abort, told: &Told) {
-    assert_eq!(rt; told.calls, 40_000);
-    assert_eq!(rt; told.turns, 40_000);
+    assert!(rt; told.calls == 40_000);
+    assert!(rt; told.turns == 40_000);
     assert!(rt; told.above == (20_000, 20_000));
 }
 

@@ -60,7 +60,7 @@ fn fill<R: Abort + Wait>(rt: &R, manager: &Manager, session: &mut Session) -> Ro
     let (Some(first), Some(second)) = (first, second) else {
         panic!(rt; "full too early");
     };
-    assert_eq!(rt; session.live(), 5);
+    assert!(rt; session.live() == 5);
     Rows {
         a,
         b,
@@ -81,8 +81,8 @@ fn mend<R: Abort + Wait>(rt: &R, manager: &Manager, session: &mut Session, rows:
     let Some(third) = and(rt, manager, session, rows.a, rows.c) else {
         panic!(rt; "not mended");
     };
-    assert_eq!(rt; session.fulls(), 1);
-    assert_eq!(rt; sweep(rt, manager, session), 10);
+    assert!(rt; session.fulls() == 1);
+    assert!(rt; sweep(rt, manager, session) == 10);
     third
 }
 

@@ -82,7 +82,7 @@ fn told_of(rt: &impl Abort, alloc: Global, listing: Listing)
     requires writable { IsWritable (dump_of listing) }
     requires few { length listing.order < 2 ^ 32 }
 {
-    assert_eq!(rt; listing.node_count(), 3);
+    assert!(rt; listing.node_count() == 3);
     is_one_class(rt, alloc, &listing);
     let Ok(text) = stored(alloc, listing) else {
         panic!(rt; "no memory");
@@ -131,7 +131,7 @@ fn list_with_complement<R: Abort + Wait>(
     let alike = not(rt, manager, session, either);
     let calls = session.calls();
     let listing = list(rt, manager, session, either, alike);
-    assert_eq!(rt; session.calls(), calls);
+    assert!(rt; session.calls() == calls);
     assert!(rt; listing.order.as_slice() == [0, 1].as_slice());
     has_lines(rt, &listing, &[line(1, 1, -1), line(0, 2, -2)], &[-3, 3]);
     told_of(rt, alloc, listing);

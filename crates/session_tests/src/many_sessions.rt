@@ -56,7 +56,7 @@ fn sixty_four_sessions(rt: HostRuntime) -> Result<(), Fail> {
         take_part(&rt, &manager, &mut session, number);
         number += 1;
     }
-    assert_eq!(rt; number, 64);
+    assert!(rt; number == 64);
     Ok(())
 }
 
@@ -74,7 +74,7 @@ fn value_is<R: Abort + Wait>(
     ensures { (session.new.manager ≡ session.old.manager) × (session.new.number ≡ session.old.number) }
 {
     let bits = [first, true, false, false];
-    assert_eq!(rt; eval(rt, manager, session, f, &bits), value);
+    assert!(rt; eval(rt, manager, session, f, &bits) == value);
 }
 
 /// Two variables, and their conjunction.
@@ -109,9 +109,9 @@ fn drop_and_sweep<R: Abort + Wait>(rt: &R, manager: &Manager, session: &mut Sess
     let Some(dropped) = and(rt, manager, session, c, d) else {
         panic!(rt; "full");
     };
-    assert_eq!(rt; sweep(rt, manager, session), 11);
+    assert!(rt; sweep(rt, manager, session) == 11);
     drop_row(rt, manager, session, dropped);
-    assert_eq!(rt; sweep(rt, manager, session), 10);
+    assert!(rt; sweep(rt, manager, session) == 10);
 }
 
 /// The rows that were held are as they were.

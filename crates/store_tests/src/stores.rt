@@ -46,27 +46,27 @@ fn fill_with_products(rt: &impl Abort, store: &mut PlainStore) -> Result<(), Fai
     let Some(Variables { a, b, c }) = first_variables(store) else {
         return Err(Fail::new("no three variables"));
     };
-    assert_eq!(rt; store.in_use(), 8);
+    assert!(rt; store.in_use() == 8);
     let Ok(bc) = and(store, b, c) else {
         return Err(Fail::new("refused with two free slots"));
     };
-    assert_eq!(rt; store.in_use(), 9);
+    assert!(rt; store.in_use() == 9);
     let Ok(abc) = and(store, a, bc) else {
         return Err(Fail::new("refused with one free slot"));
     };
-    assert_eq!(rt; store.in_use(), 10);
+    assert!(rt; store.in_use() == 10);
     assert!(rt; and(store, bc, a) == Ok(abc));
     found_by_walk(rt, store, bc.index(), abc.index());
     assert!(rt; and(store, a, b) == Err(Stop::Full));
-    assert_eq!(rt; store.in_use(), store.limit());
+    assert!(rt; store.in_use() == store.limit());
     Ok(())
 }
 
 /// The tables find what a walk over all words finds.
 fn found_by_walk(rt: &impl Abort, store: &PlainStore, two: u32, three: u32) {
-    assert_eq!(rt; store.find_by_walk(node(1, 7)), Some(two));
-    assert_eq!(rt; store.find_by_walk(node(0, two)), Some(three));
-    assert_eq!(rt; store.find_by_walk(node(0, 6)), None);
+    assert!(rt; store.find_by_walk(node(1, 7)) == Some(two));
+    assert!(rt; store.find_by_walk(node(0, two)) == Some(three));
+    assert!(rt; store.find_by_walk(node(0, 6)) == None);
 }
 
 #[test]
@@ -94,7 +94,7 @@ fn fill_with_each_kind(rt: &impl Abort, store: &mut PlainStore) -> Result<(), Fa
     let Ok(single) = store.make(FIRST_ELEMENT, base, empty) else {
         return Err(Fail::new("no family with one free slot"));
     };
-    assert_eq!(rt; store.in_use(), 9);
+    assert!(rt; store.in_use() == 9);
     assert!(rt; store.open(node) == Opened::Inner(0, leaf, zero));
     assert!(rt; store.open(single) == Opened::Inner(FIRST_ELEMENT, base, empty));
     assert!(rt; store.leaf(21) == Ok(leaf));
@@ -196,7 +196,7 @@ fn keep_held(rt: &impl Abort, store: &mut PlainStore, slots: Slots) {
     assert!(rt; !free(store, 4));
     assert!(rt; !free(store, two));
     raise(store, three);
-    assert_eq!(rt; store.count_of(three), 1);
+    assert!(rt; store.count_of(three) == 1);
     assert!(rt; !free(store, three));
     lower(store, three);
 }
@@ -206,26 +206,26 @@ fn free_both(rt: &impl Abort, store: &mut PlainStore, slots: Slots) {
     let Slots { two, three } = slots;
     assert!(rt; free(store, three));
     assert!(rt; free(store, two));
-    assert_eq!(rt; store.in_use(), 8);
-    assert_eq!(rt; store.generation_of(two), 1);
-    assert_eq!(rt; store.generation_of(5), 0);
-    assert_eq!(rt; store.find_by_walk(node(1, 7)), None);
+    assert!(rt; store.in_use() == 8);
+    assert!(rt; store.generation_of(two) == 1);
+    assert!(rt; store.generation_of(5) == 0);
+    assert!(rt; store.find_by_walk(node(1, 7)) == None);
 }
 
 /// Takes the two free slots again, first the one that was freed last.
 fn take_again(rt: &impl Abort, store: &mut PlainStore, slots: Slots) {
     let Slots { two, three } = slots;
-    assert_eq!(rt; leaf_slot(rt, store), two);
+    assert!(rt; leaf_slot(rt, store) == two);
     assert!(rt; products(store).is_none());
-    assert_eq!(rt; store.find_by_walk(node(1, 7)), Some(three));
-    assert_eq!(rt; store.in_use(), 10);
+    assert!(rt; store.find_by_walk(node(1, 7)) == Some(three));
+    assert!(rt; store.in_use() == 10);
 }
 
 /// Frees the slot of the leaf, which is then in its third generation.
 fn free_leaf(rt: &impl Abort, store: &mut PlainStore, slot: u32) {
     assert!(rt; free(store, slot));
-    assert_eq!(rt; store.in_use(), 9);
-    assert_eq!(rt; store.generation_of(slot), 2);
+    assert!(rt; store.in_use() == 9);
+    assert!(rt; store.generation_of(slot) == 2);
 }
 
 /// The slot of a leaf.
@@ -257,7 +257,7 @@ fn freed_slots_are_taken_again(rt: HostRuntime) -> Result<(), Fail> {
 fn refuse_to_free(rt: &impl Abort, store: &mut PlainStore, slots: Slots) {
     let Slots { two, three } = slots;
     assert!(rt; store.is_pinned(three) && !store.is_pinned(two));
-    assert_eq!(rt; store.count_of(three), 0);
+    assert!(rt; store.count_of(three) == 0);
     assert!(rt; !free(store, three));
 }
 
@@ -265,7 +265,7 @@ fn refuse_to_free(rt: &impl Abort, store: &mut PlainStore, slots: Slots) {
 fn free_unpinned(rt: &impl Abort, store: &mut PlainStore, slot: u32) {
     assert!(rt; !store.is_pinned(slot));
     assert!(rt; free(store, slot));
-    assert_eq!(rt; store.in_use(), 9);
+    assert!(rt; store.in_use() == 9);
 }
 
 #[test]
@@ -306,10 +306,10 @@ fn ask_for_all(rt: &impl Abort, store: &mut PlainStore) {
 /// Makes the nodes, and looks at each a second time.
 fn ask_twice(rt: &impl Abort, store: &mut PlainStore) {
     ask_for_all(rt, store);
-    assert_eq!(rt; store.in_use(), 40_006);
-    assert_eq!(rt; node_over(store, 20_001), Some(40_005));
+    assert!(rt; store.in_use() == 40_006);
+    assert!(rt; node_over(store, 20_001) == Some(40_005));
     ask_for_all(rt, store);
-    assert_eq!(rt; store.in_use(), 40_006);
+    assert!(rt; store.in_use() == 40_006);
 }
 
 #[test]

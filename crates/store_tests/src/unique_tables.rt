@@ -48,26 +48,26 @@ fn add_by_hand(rt: &impl Abort, table: &mut LevelTable)
     add(rt, table, 5, six(), 9);
     add(rt, table, 5, six().flip(), 10);
     add(rt, table, 6, Edge::new(5, false), 11);
-    assert_eq!(rt; table.find(5, six()), Some(9));
-    assert_eq!(rt; table.find(5, six().flip()), Some(10));
-    assert_eq!(rt; table.find(6, Edge::new(5, false)), Some(11));
-    assert_eq!(rt; table.find(6, six()), None);
+    assert!(rt; table.find(5, six()) == Some(9));
+    assert!(rt; table.find(5, six().flip()) == Some(10));
+    assert!(rt; table.find(6, Edge::new(5, false)) == Some(11));
+    assert!(rt; table.find(6, six()) == None);
 }
 
 /// Removes one of them, and a pair that is absent.
 fn remove_by_hand(rt: &impl Abort, table: &mut LevelTable) {
     table.remove(5, six());
     table.remove(6, six());
-    assert_eq!(rt; table.find(5, six()), None);
-    assert_eq!(rt; table.find(5, six().flip()), Some(10));
-    assert_eq!(rt; table.find(6, Edge::new(5, false)), Some(11));
+    assert!(rt; table.find(5, six()) == None);
+    assert!(rt; table.find(5, six().flip()) == Some(10));
+    assert!(rt; table.find(6, Edge::new(5, false)) == Some(11));
 }
 
 /// Two pairs are left, and the last takes the place of the one that was removed.
 fn places_by_hand(rt: &impl Abort, table: &LevelTable) {
-    assert_eq!(rt; table.len(), 2);
-    assert_eq!(rt; table.pair_at(0), (6, Edge::new(5, false)));
-    assert_eq!(rt; table.pair_at(1), (5, six().flip()));
+    assert!(rt; table.len() == 2);
+    assert!(rt; table.pair_at(0) == (6, Edge::new(5, false)));
+    assert!(rt; table.pair_at(1) == (5, six().flip()));
 }
 
 /// A few pairs by hand.
@@ -94,7 +94,7 @@ fn find_others(rt: &impl Abort, table: &LevelTable) {
     for i in 0..5000 {
         let (hi, lo) = numbered(i);
         let slot = if i % 3 == 0 { None } else { Some(i) };
-        assert_eq!(rt; table.find(hi, lo), slot);
+        assert!(rt; table.find(hi, lo) == slot);
     }
 }
 
@@ -105,7 +105,7 @@ fn thousands(rt: HostRuntime) -> Result<(), Fail> {
     table.reserve(5000)?;
     fill(&rt, &mut table, 5000);
     remove_thirds(&mut table);
-    assert_eq!(rt; table.len(), 3333);
+    assert!(rt; table.len() == 3333);
     find_others(&rt, &table);
     Ok(())
 }
@@ -131,28 +131,28 @@ fn add_values(rt: &impl Abort, table: &mut LeafTable)
     add_value(rt, table, -7, 10);
     add_value(rt, table, i64::MIN, 11);
     add_value(rt, table, i64::MAX, 12);
-    assert_eq!(rt; table.find_value(7), Some(9));
-    assert_eq!(rt; table.find_value(-7), Some(10));
-    assert_eq!(rt; table.find_value(i64::MIN), Some(11));
-    assert_eq!(rt; table.find_value(i64::MAX), Some(12));
-    assert_eq!(rt; table.find_value(0), None);
+    assert!(rt; table.find_value(7) == Some(9));
+    assert!(rt; table.find_value(-7) == Some(10));
+    assert!(rt; table.find_value(i64::MIN) == Some(11));
+    assert!(rt; table.find_value(i64::MAX) == Some(12));
+    assert!(rt; table.find_value(0) == None);
 }
 
 /// Removes one of them, and a value that is absent. The last takes its place.
 fn remove_values(rt: &impl Abort, table: &mut LeafTable) {
     table.remove(7);
     table.remove(0);
-    assert_eq!(rt; table.find_value(7), None);
-    assert_eq!(rt; table.find_value(-7), Some(10));
-    assert_eq!(rt; table.len(), 3);
-    assert_eq!(rt; table.value_at(0), i64::MAX);
+    assert!(rt; table.find_value(7) == None);
+    assert!(rt; table.find_value(-7) == Some(10));
+    assert!(rt; table.len() == 3);
+    assert!(rt; table.value_at(0) == i64::MAX);
 }
 
 /// Removes all that are left.
 fn clear_values(rt: &impl Abort, table: &mut LeafTable) {
     table.clear();
-    assert_eq!(rt; table.len(), 0);
-    assert_eq!(rt; table.find_value(-7), None);
+    assert!(rt; table.len() == 0);
+    assert!(rt; table.find_value(-7) == None);
 }
 
 /// A few values by hand.
