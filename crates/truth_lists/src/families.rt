@@ -81,12 +81,36 @@ pub fn print<R: Print + RandomSource + Threads + Wait + Sync>(
 ) -> io::Result<()> {
     for_values(rt, table(alloc)?, "members", 's')?;
     tell(rt, table(alloc)?, "empty, base and single", 5, constant)?;
+    of_sets(rt, alloc)?;
+    by_element(rt, alloc)?;
+    of_products(rt, alloc)
+}
+
+/// The operations on sets of combinations.
+fn of_sets<R: Print + RandomSource + Threads + Wait + Sync>(
+    rt: &R,
+    alloc: Global,
+) -> io::Result<()> {
     for_pairs(rt, table(alloc)?, "union", Command::Union)?;
     for_pairs(rt, table(alloc)?, "meet", Command::Meet)?;
-    for_pairs(rt, table(alloc)?, "diff", Command::Diff)?;
+    for_pairs(rt, table(alloc)?, "diff", Command::Diff)
+}
+
+/// The operations by an element.
+fn by_element<R: Print + RandomSource + Threads + Wait + Sync>(
+    rt: &R,
+    alloc: Global,
+) -> io::Result<()> {
     for_digits(rt, table(alloc)?, "on", Command::On)?;
     for_digits(rt, table(alloc)?, "off", Command::Off)?;
-    for_digits(rt, table(alloc)?, "flip", Command::Flip)?;
+    for_digits(rt, table(alloc)?, "flip", Command::Flip)
+}
+
+/// Products and quotients.
+fn of_products<R: Print + RandomSource + Threads + Wait + Sync>(
+    rt: &R,
+    alloc: Global,
+) -> io::Result<()> {
     for_pairs(rt, table(alloc)?, "product", Command::Product)?;
     for_pairs(rt, table(alloc)?, "quotient", Command::Quotient)
 }

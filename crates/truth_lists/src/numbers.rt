@@ -265,36 +265,45 @@ impl Functions {
         })
     }
 
+    /// The line of a command on two functions, behind these words.
+    fn on_two<C: Display>(
+        &mut self,
+        words: &C,
+        f: Values,
+        g: Values,
+    ) -> Result<String, AllocError> {
+        let (f, g) = (self.register(f)?, self.register(g)?);
+        format!(in self.job.alloc(); "{words} {f} {g}")
+    }
+
+    /// The line of a command on a function and a number.
+    fn with_number(&mut self, word: &str, f: Values, number: i64) -> Result<String, AllocError> {
+        let f = self.register(f)?;
+        format!(in self.job.alloc(); "{word} {f} {number}")
+    }
+
+    /// The line of a command.
+    fn line(&mut self, command: Command) -> Result<String, AllocError> {
+        match command {
+            Command::Pointwise(operation, f, g) => self.on_two(&operation.word(), f, g),
+            Command::Sum(f, variable) => self.with_number("sum", f, i64::from(variable)),
+            Command::OfTruth(c) => format!(in self.job.alloc(); "ofbdd c{c}"),
+            Command::AddIte(c, f, g) => self.on_two(&format_args!("addite c{c}"), f, g),
+            Command::AtLeast(f, bound) => self.with_number("atleast", f, bound),
+            Command::Pattern(f) => {
+                let f = self.register(f)?;
+                format!(in self.job.alloc(); "pattern {f}")
+            }
+        }
+    }
+
     /// Adds a command, and asks for what it is to make.
     fn add(&mut self, command: Command, made: Oracles<Made>) -> Result<(), AllocError> {
         let due = Oracles {
             lists: self.due(made.lists)?,
             words: self.due(made.words)?,
         };
-        let alloc = self.job.alloc();
-        let line = match command {
-            Command::Pointwise(operation, f, g) => {
-                let (f, g) = (self.register(f)?, self.register(g)?);
-                format!(in alloc; "{} {f} {g}", operation.word())?
-            }
-            Command::Sum(f, variable) => {
-                let f = self.register(f)?;
-                format!(in alloc; "sum {f} {variable}")?
-            }
-            Command::OfTruth(c) => format!(in alloc; "ofbdd c{c}")?,
-            Command::AddIte(c, f, g) => {
-                let (f, g) = (self.register(f)?, self.register(g)?);
-                format!(in alloc; "addite c{c} {f} {g}")?
-            }
-            Command::AtLeast(f, bound) => {
-                let f = self.register(f)?;
-                format!(in alloc; "atleast {f} {bound}")?
-            }
-            Command::Pattern(f) => {
-                let f = self.register(f)?;
-                format!(in alloc; "pattern {f}")?
-            }
-        };
+        let line = self.line(command)?;
         self.job.make(&line, due)?;
         Ok(())
     }

@@ -171,6 +171,21 @@ pub fn print<R: Print + RandomSource + Threads + Wait + Sync>(
     alloc: Global,
 ) -> io::Result<()> {
     for_values(rt, table(alloc)?, "values", 'd')?;
+    connectives(rt, alloc)?;
+    choices_of_functions(rt, alloc)?;
+    cofactors(rt, alloc)?;
+    quantifiers(rt, alloc)?;
+    for_each(rt, table(alloc)?, "support", Command::Support)?;
+    compositions(rt, alloc)?;
+    restrictions(rt, alloc)?;
+    restrict_relation(rt)
+}
+
+/// The operations place by place, on one function or two.
+fn connectives<R: Print + RandomSource + Threads + Wait + Sync>(
+    rt: &R,
+    alloc: Global,
+) -> io::Result<()> {
     for_each(rt, table(alloc)?, "not", Command::Not)?;
     for_pairs(rt, table(alloc)?, "and", Command::And)?;
     for_pairs(rt, table(alloc)?, "or", Command::Or)?;
@@ -178,8 +193,14 @@ pub fn print<R: Print + RandomSource + Threads + Wait + Sync>(
     tell(rt, table(alloc)?, "leq", PAIRS, |job, case| {
         let [f, g, ..] = case.to_le_bytes();
         compare(job, f, g)
-    })?;
-    choices_of_functions(rt, alloc)?;
+    })
+}
+
+/// Both cofactors by each variable.
+fn cofactors<R: Print + RandomSource + Threads + Wait + Sync>(
+    rt: &R,
+    alloc: Global,
+) -> io::Result<()> {
     for_digits(
         rt,
         table(alloc)?,
@@ -191,12 +212,7 @@ pub fn print<R: Print + RandomSource + Threads + Wait + Sync>(
         table(alloc)?,
         "cofactor by 0",
         |f, v| Command::Cofactor(f, v, false),
-    )?;
-    quantifiers(rt, alloc)?;
-    for_each(rt, table(alloc)?, "support", Command::Support)?;
-    compositions(rt, alloc)?;
-    restrictions(rt, alloc)?;
-    restrict_relation(rt)
+    )
 }
 
 /// Asks whether g is true wherever f is.
