@@ -1,5 +1,5 @@
 -- Words at their places, and the operands that they stand for.
-use Rattle.std.proofs.Common.{◌≡◌, ◌&&◌, Bool, true, false, cond, List, [], ◌∷◌, ◌++◌, Option, Some, None, option_map, refl, ap, sym, ◌∙◌, append_assoc}
+use Rattle.std.proofs.Common.{◌≡◌, ◌&&◌, Bool, true, false, cond, List, [], ◌∷◌, ◌++◌, Option, Some, None, option_map, refl, ap, sym, ◌∙◌, subst, append_assoc}
 use Rattle.std.specs.List.{list_all}
 use Rattle.std.proofs.lemmas.Bool.{false≢true}
 use Rattle.job_commands.specs.declared.slots.Line.{Line}
@@ -13,7 +13,7 @@ use Rattle.job_text.specs.declared.job.Register.{Register}
 use Rattle.job_text.specs.declared.operands.Operand.{Operand}
 use Rattle.job_commands.specs.declared.operands.Operands.{Operands}
 use Rattle.job_words.specs.Text.{Word}
-use Rattle.job_text.specs.Faults.{beside_fault, word_fault, left_after, nothing_left, first_fault, fault_in, command_fault, or_else}
+use Rattle.job_text.specs.Faults.{Left, beside_fault, word_fault, left_after, nothing_left, first_fault, fault_in, command_fault, or_else}
 use Rattle.job_commands.specs.Commands.{command_of, has_form}
 use Rattle.job_commands.specs.Commands.{no_operands}
 use Rattle.job_text.specs.Places.{AllFit, misfit, with_operand, with_operands}
@@ -77,17 +77,23 @@ of_line n rs words o line e some = ap (λ t. fault_in n rs (option_map (λ known
 pub ill_formed : (n : Counts) (rs : List Register) (slots : List (Place × Word)) → list_all has_form slots ≡ false → fault_in n rs (Some slots) ≡ Some kinds.Word
 ill_formed n rs slots h = ap (λ b. cond b (first_fault n rs nothing_left slots) (Some kinds.Word)) h
 
-pub slots_stop : (n : Counts) (rs : List Register) (slots front : List (Place × Word)) (slot : Place × Word) (rest : List (Place × Word)) (os : List Operand) (stop : Stop) → slots ≡ front ++ slot ∷ rest
-    → AreOperands n rs front os → AllFit n rs no_operands os → SlotStop n rs slot stop → SlotsStop n rs slots stop
-slots_stop n rs slots front slot rest os stops.Memory at h new e = tt
-slots_stop n rs slots front slot rest os (stops.Fault fault) at h new e =
-    first_at n rs slots front slot rest os fault at h new (ap (λ t. or_else t (beside_fault n rs (left_by (with_operands rs no_operands os)) slot)) e)
+-- what stops a word at its place stops it beside whatever stands to its left
+pub word_stop : (n : Counts) (rs : List Register) (left : Left) (slot : Place × Word) (stop : Stop) → SlotStop n rs slot stop → (fault : FaultKind) → stop ≡ stops.Fault fault → word_fault n rs left slot ≡ Some fault
+word_stop n rs left slot stop h fault e = ap (λ t. or_else t (beside_fault n rs left slot)) (subst (λ s. SlotStop n rs slot s) e h)
+
+abbrev fault_of : Stop → Option FaultKind
+fault_of stops.Memory = None
+fault_of (stops.Fault fault) = Some fault
 
 -- an operand that doesn't fit those to its left
-pub misfit_stop : (n : Counts) (rs : List Register) (slots front : List (Place × Word)) (slot : Place × Word) (rest : List (Place × Word)) (os : List Operand) (o : Operand) (fault : FaultKind) → slots ≡ front ++ slot ∷ rest
-    → AreOperands n rs front os → AllFit n rs no_operands os → IsOperand n rs slot o → misfit n rs (with_operands rs no_operands os) o ≡ Some fault → first_fault n rs nothing_left slots ≡ Some fault
-misfit_stop n rs slots front slot rest os o fault at h new own wrong =
-    first_at n rs slots front slot rest os fault at h new (word_fault_is n rs (with_operands rs no_operands os) slot o own ∙ wrong)
+pub misfit_stop : (n : Counts) (rs : List Register) (others : Operands) (slot : Place × Word) (o : Operand) (wrong : FaultKind) → IsOperand n rs slot o → misfit n rs others o ≡ Some wrong
+    → (fault : FaultKind) → stops.Fault wrong ≡ stops.Fault fault → word_fault n rs (left_by others) slot ≡ Some fault
+misfit_stop n rs others slot o wrong own h fault e = word_fault_is n rs others slot o own ∙ h ∙ ap fault_of e
+
+pub slots_stop : (n : Counts) (rs : List Register) (slots front : List (Place × Word)) (slot : Place × Word) (rest : List (Place × Word)) (os : List Operand) (stop : Stop) → slots ≡ front ++ slot ∷ rest
+    → AreOperands n rs front os → AllFit n rs no_operands os → ((fault : FaultKind) → stop ≡ stops.Fault fault → word_fault n rs (left_by (with_operands rs no_operands os)) slot ≡ Some fault) → SlotsStop n rs slots stop
+slots_stop n rs slots front slot rest os stops.Memory at h new e = tt
+slots_stop n rs slots front slot rest os (stops.Fault fault) at h new e = first_at n rs slots front slot rest os fault at h new (e fault refl)
 
 pub command_stop : (n : Counts) (rs : List Register) (words : List Word) (slots : List (Place × Word)) (stop : Stop) → command_fault n rs words ≡ fault_in n rs (Some slots) → list_all has_form slots ≡ true
     → SlotsStop n rs slots stop → CommandStop n rs words stop

@@ -1,6 +1,6 @@
 //! What the lines that were read give.
 
-ghost use Rattle.std.specs.Prelude.{◌≡◌, ◌++◌, ◌∷◌, [], ◌<◌, ◌≤◌, length, map, codes, IfOk, IfErr, MatchOption, true, false};
+ghost use Rattle.std.specs.Prelude.{◌≡◌, ◌++◌, ◌∷◌, [], ◌<◌, ◌≤◌, length, map, codes, IfErr, OnOk, MatchOption, true, false};
 ghost use Rattle.job_words.specs.Text.{split_words};
 ghost use Rattle.job_text.specs.Grammar.{Says, registers_after, without, is_drop};
 ghost use Rattle.job_text.specs.Drafts.{CommandStop, new_section, with_act};
@@ -13,6 +13,7 @@ use crate::scope::Scope;
 use edge_bits::List;
 use job_commands::Act;
 use std::alloc::Global;
+use std::mem;
 
 /// A section so far.
 #[derive(Drop)]
@@ -55,26 +56,18 @@ impl Section {
         }
     }
 
-    /// The section with one more command.
-    pub fn with_command(self, alloc: Global, words: &[u8]) -> Result<Section, Stop>
+    /// Takes one more command.
+    pub fn add_command(&mut self, alloc: Global, words: &[u8]) -> Result<(), Stop>
         requires some { 0 < length (split_words words.now) }
-        requires vars { self.scope.counts.vars ≤ 1024 }
-        requires elements { self.scope.counts.elements ≤ 1024 }
-        ensures ok { IfOk result (λ next. (act : Act) × Says self.scope.counts self.scope.registers (split_words words.now) act × (next ≡ with_act self (split_words words.now) act)) }
-        ensures stop { IfErr result (λ stop. CommandStop self.scope.counts self.scope.registers (split_words words.now) stop) }
+        requires vars { self.old.scope.counts.vars ≤ 1024 }
+        requires elements { self.old.scope.counts.elements ≤ 1024 }
+        ensures ok { OnOk result ((act : Act) × Says self.old.scope.counts self.old.scope.registers (split_words words.now) act × (self.new ≡ with_act self.old (split_words words.now) act)) }
+        ensures stop { IfErr result (CommandStop self.old.scope.counts self.old.scope.registers (split_words words.now)) }
     {
-        let Section {
-            scope,
-            mut commands,
-        } = self;
-        let act = scope.command(alloc, words)?;
-        let Scope { counts, registers } = scope;
-        let registers = registers.after(alloc, words)?;
+        let act = self.scope.command(alloc, words)?;
+        let registers = mem::replace(&mut self.scope.registers, Registers::new(alloc));
+        self.scope.registers = registers.after(alloc, words)?;
         let words = Words::copied(alloc, words)?;
-        commands.push(Command { words, act })?;
-        Ok(Section {
-            scope: Scope { counts, registers },
-            commands,
-        })
+        Ok(self.commands.push(Command { words, act })?)
     }
 }

@@ -1,6 +1,6 @@
 //! The operands of a command.
 
-ghost use Rattle.std.specs.Prelude.{◌≡◌, ◌==◌, IfOk};
+ghost use Rattle.std.specs.Prelude.{◌≡◌, ◌==◌, OnOk};
 ghost use Rattle.std.specs.List.{list_any};
 ghost use Rattle.job_text.specs.Places.{with_operand, with_register};
 
@@ -37,38 +37,35 @@ pub enum Operand {
     Bits(List<bool>),
 }
 
-/// The operands with one more register, where these are known.
-fn with_register(others: Operands, known: &[Register], a: u32) -> Result<Operands, AllocError>
-    ensures { IfOk result (λ more. more ≡ with_register known.now others a) }
+/// Takes one more register, where these are known.
+fn add_register(others: &mut Operands, known: &[Register], a: u32) -> Result<(), AllocError>
+    ensures { OnOk result (others.new ≡ with_register known.now others.old a) }
 {
-    let mut more = others;
-    more.kind = kind_at(known, a);
-    more.registers.push(a)?;
-    Ok(more)
+    others.kind = kind_at(known, a);
+    Ok(others.registers.push(a)?)
 }
 
-/// The operands with one more, where these registers are known.
-pub fn with_operand(
-    others: Operands,
+/// Takes one more operand, where these registers are known.
+pub fn add_operand(
+    others: &mut Operands,
     known: &[Register],
     operand: Operand,
-) -> Result<Operands, AllocError>
-    ensures { IfOk result (λ more. more ≡ with_operand known.now others operand) }
+) -> Result<(), AllocError>
+    ensures { OnOk result (others.new ≡ with_operand known.now others.old operand) }
 {
-    let mut more = others;
     match operand {
         Operand::Target => {}
         Operand::Register(_, a) | Operand::Any(a) | Operand::Alike(a) => {
-            return with_register(more, known, a);
+            add_register(others, known, a)?;
         }
-        Operand::Variable(v) | Operand::NewVariable(v) => more.variables.push(v)?,
-        Operand::Element(e) => more.elements.push(e)?,
-        Operand::Cell(k) => more.cells.push(k)?,
-        Operand::Value(w) => more.values.push(w)?,
-        Operand::Bit(bit) => more.bits.push(bit)?,
-        Operand::Bits(all) => more.bits = all,
+        Operand::Variable(v) | Operand::NewVariable(v) => others.variables.push(v)?,
+        Operand::Element(e) => others.elements.push(e)?,
+        Operand::Cell(k) => others.cells.push(k)?,
+        Operand::Value(w) => others.values.push(w)?,
+        Operand::Bit(bit) => others.bits.push(bit)?,
+        Operand::Bits(all) => others.bits = all,
     }
-    Ok(more)
+    Ok(())
 }
 
 /// Whether the variable is one of theirs.

@@ -193,7 +193,8 @@ fn begun_line(
     if session_line(words) {
         return next_section(alloc, limit, done, section);
     }
-    let section = section.with_command(alloc, words)?;
+    let mut section = section;
+    section.add_command(alloc, words)?;
     Ok(Draft::Begun {
         limit,
         done,

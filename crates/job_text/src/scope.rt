@@ -1,22 +1,23 @@
 //! The words of a command against what they may name.
 
-ghost use Rattle.std.specs.Prelude.{◌≡◌, ◌<◌, ◌≤◌, ◌^◌, true, length, IfOk, IfErr, None, Some, if◌then◌else◌, List as ListOf};
+ghost use Rattle.std.specs.Prelude.{◌≡◌, ◌<◌, ◌≤◌, ◌^◌, true, length, IfOk, IfErr, OnOk, None, Some, if◌then◌else◌, List as ListOf};
 ghost use Rattle.std.specs.List.{list_all};
 ghost use Rattle.job_words.specs.Text.{IsNumber, is_integer, is_name, is_number, is_bit, is_bits, split_words};
 ghost use Rattle.job_commands.specs.Commands.{no_operands};
-ghost use Rattle.job_text.specs.Places.{AllFit, Refers, bits_for, misfit, with_operands};
+ghost use Rattle.job_text.specs.Places.{AllFit, Refers, bits_for, misfit, with_operand, with_operands};
 ghost use Rattle.job_text.specs.Grammar.{Says, kind_called, register_called};
-ghost use Rattle.job_text.specs.Faults.{below_fault, name_fault};
+ghost use Rattle.job_text.specs.Faults.{below_fault, name_fault, word_fault};
 ghost use Rattle.job_commands.specs.Commands.{has_form};
+ghost use Rattle.job_text.specs.declared.faults.FaultKind.{FaultKind as FaultOf};
 ghost use Rattle.job_text.specs.declared.faults.FaultKind.TheVariants as kinds;
-ghost use Rattle.job_text.specs.Drafts.{IsOperand, AreOperands, SlotStop, SlotsStop, CommandStop};
+ghost use Rattle.job_text.specs.Drafts.{IsOperand, AreOperands, SlotStop, SlotsStop, CommandStop, left_by};
 ghost use Rattle.job_commands.specs.Slots.{slot_of, slots_of};
 ghost use Rattle.job_commands.specs.declared.commands.Place.TheVariants as places;
 ghost use Rattle.job_text.specs.declared.operands.Operand.{Operand as OperandOf};
 
 use crate::faults::{FaultKind, Stop};
 use crate::job::Counts;
-use crate::operands::{Operand, names, with_operand};
+use crate::operands::{Operand, add_operand, names};
 use crate::registers::{Found, Registers, kind_at, same_kind};
 use edge_bits::{Kind, List};
 use job_commands::{Act, Operands, Place, Slot, Slots, all_have_form, command_line};
@@ -213,6 +214,21 @@ impl Scope {
         }
     }
 
+    /// Takes what a word of due form stands for, where it fits those to its left.
+    fn take(&self, alloc: Global, operands: &mut Operands, slot: &Slot<'_>) -> Result<(), Stop>
+        requires form { has_form (slot_of slot.now) ≡ true }
+        requires vars { self.now.counts.vars ≤ 1024 }
+        requires elements { self.now.counts.elements ≤ 1024 }
+        ensures ok { OnOk result ((own : OperandOf) × IsOperand self.now.counts self.now.registers (slot_of slot.now) own × (misfit self.now.counts self.now.registers operands.old own ≡ None) × (operands.new ≡ with_operand self.now.registers operands.old own)) }
+        ensures stop { IfErr result (λ stop. (fault : FaultOf) → stop ≡ Stop.Fault fault → word_fault self.now.counts self.now.registers (left_by operands.old) (slot_of slot.now) ≡ Some fault) }
+    {
+        let operand = self.operand(alloc, slot)?;
+        if let Some(fault) = self.misfit(operands, &operand) {
+            return Err(Stop::Fault(fault));
+        }
+        Ok(add_operand(operands, self.registers.as_slice(), operand)?)
+    }
+
     /// What words of due form stand for.
     fn operands(&self, alloc: Global, slots: Slots<'_>) -> Result<Operands, Stop>
         requires forms { list_all has_form (slots_of slots) ≡ true }
@@ -224,11 +240,7 @@ impl Scope {
         let mut operands = Operands::new(alloc);
         let mut left = slots;
         while let Some((slot, behind)) = left.split_first() {
-            let operand = self.operand(alloc, &slot)?;
-            if let Some(fault) = self.misfit(&operands, &operand) {
-                return Err(Stop::Fault(fault));
-            }
-            operands = with_operand(operands, self.registers.as_slice(), operand)?;
+            self.take(alloc, &mut operands, &slot)?;
             left = behind;
         }
         Ok(operands)

@@ -1,4 +1,5 @@
 use Rattle.std.proofs.Common.{◌≡◌, ℕ, ◌<◌, ◌%◌, length, get_or, sym, ◌∙◌, subst, arith}
+use Rattle.std.proofs.lemmas.Grind.{moves}
 use Rattle.std.proofs.lemmas.List.{get_or_read}
 use Rattle.level_table.specs.Chains.{bucket_of, IsLatest}
 use Rattle.level_table.proofs.chains.Chains.last.Goals as goal
@@ -17,3 +18,6 @@ returns c =
     (said heads (length hashes) chains
     (subst (λ r. IsLatest (bucket_of hashes (length heads)) bucket (length hashes) r) (sym head)
     (subst (λ n. IsLatest (bucket_of hashes (length heads)) bucket n (get_or heads bucket 0)) chains.as_long (chains.chained.heads_are bucket bound))))
+
+pub candidate-requires-clause-within : goal.candidate-requires-clause-within
+candidate-requires-clause-within c = grind (arith, moves)

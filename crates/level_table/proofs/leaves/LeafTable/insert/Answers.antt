@@ -1,4 +1,5 @@
-use Rattle.std.proofs.Common.{w64, of_z, to_z, sym, ◌∙◌, ap, subst}
+use Rattle.std.proofs.Common.{w64, of_z, to_z, sym, ◌∙◌, ap, subst, arith}
+use Rattle.std.proofs.lemmas.Grind.{common_steps}
 use Rattle.std.proofs.lemmas.Int.{to_z-of_z}
 use Rattle.level_table.specs.declared.leaves.LeafEntry.{LeafEntry}
 use Rattle.level_table.specs.Leaves.{Leaves, IsOfValue, is_of_value, IsAbsentValue, slot_at_value}
@@ -20,3 +21,6 @@ returns-clause-others c = λ v other.
     let e : LeafEntry = record { value = to_z w64 (of_z w64 c.args.value); slot = c.args.slot } in
     rw c.push_reserved.ensures.items
     (key-push_other IsOfValue is_of_value value_of slot_of values c.self.inside.entries.items e v (λ is. other (sym is ∙ round)) ∙ ap (λ (t : Leaves). slot_at_value t.entries v) c.self.view_is)
+
+pub invariant_of-self : goal.invariant_of-self
+invariant_of-self c = grind (arith, common_steps)

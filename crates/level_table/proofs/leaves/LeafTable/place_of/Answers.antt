@@ -1,4 +1,5 @@
 use Rattle.std.proofs.Common.{◌≡◌, suc, ◌<◌, w64, of_z, length, get_or, sym, ◌∙◌, ap, subst, arith}
+use Rattle.std.proofs.lemmas.Grind.{common_steps}
 use Rattle.std.proofs.lemmas.Int.{to_z-of_z}
 use Rattle.std.proofs.lemmas.List.{length-map, get_or_read}
 use Rattle.level_table.specs.Chains.{link_to}
@@ -45,3 +46,9 @@ loop-candidate-preserved c =
       here = λ k e. next.here k e ∙ hash;
       none = key_none_on IsOfValue value_of hash_of_value value-alike hashes entries c.args.value c.self.invariant.hashes place (link_to c.previous-candidate.result) hash next other (λ k d from. old.none k d (omega arith));
     })
+
+pub returns-then-index-value : goal.returns-then-index-value
+returns-then-index-value c = grind (arith, common_steps)
+
+pub previous-candidate-requires : goal.previous-candidate-requires
+previous-candidate-requires c = grind (arith, common_steps)

@@ -1,4 +1,5 @@
 use Rattle.std.proofs.Common.{◌≡◌, ℕ, ◌+◌, ◌-◌, ◌<◌, length, get_or, map, swap_remove, sym, ◌∙◌, ap, pos, w64, arith}
+use Rattle.std.proofs.lemmas.Grind.{common_steps, elements}
 use Rattle.std.proofs.lemmas.Int.{to_z-of_z}
 use Rattle.level_table.specs.declared.leaves.LeafEntry.{LeafEntry}
 use Rattle.level_table.specs.Leaves.{Leaves, hash_of_value, IsOfValue, is_of_value, slot_at_value}
@@ -48,3 +49,9 @@ returns-in-Some-clause-others c = λ v other.
     key_without IsOfValue is_of_value value_of slot_of values c.self.inside.entries.items c.swap_remove-in-Some.new.self.items c.in-Some.place s.within s.long s.moved s.kept nothing v c.self.invariant.apart
     (λ d is. other (sym is ∙ s.here d))
     ∙ ap (λ (t : Leaves). slot_at_value t.entries v) c.self.view_is
+
+pub swap_remove-requires : goal.swap_remove-requires
+swap_remove-requires c = grind (arith, common_steps)
+
+pub returns-in-Some-clause-removed : goal.returns-in-Some-clause-removed
+returns-in-Some-clause-removed c = grind (arith, elements)

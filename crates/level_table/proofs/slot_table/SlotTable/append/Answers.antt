@@ -1,4 +1,5 @@
 use Rattle.std.proofs.Common.{◌≡◌, ◌<◌, ◌∙◌, ◌++◌, ◌∷◌, [], length, take, drop, ap, sym, subst, set, arith}
+use Rattle.std.proofs.lemmas.Grind.{common_steps}
 use Rattle.std.proofs.Math.Seq.{take-append_seam}
 use Rattle.std.proofs.lemmas.List.{length_push}
 use Rattle.level_table.specs.Slotted.{Slotted, AreSlots, padded}
@@ -37,3 +38,6 @@ returns-clause-words c =
     c.fill.ensures.words ∙ ap (λ ws. set ws c.len-slot.result c.args.bits) same
     ∙ ap (λ k. set (padded slots words) k c.args.bits) (c.len-slot.ensures ∙ c.self.inside.words.ok.0)
     ∙ ap (λ (t : Slotted). set t.words t.taken c.args.bits) c.self.view_is
+
+pub fill-requires-clause-free : goal.fill-requires-clause-free
+fill-requires-clause-free c = grind (arith, common_steps)

@@ -1,4 +1,5 @@
 use Rattle.std.proofs.Common.{◌≡◌, suc, ◌<◌, length, get_or, sym, ◌∙◌, ap, subst, arith}
+use Rattle.std.proofs.lemmas.Grind.{common_steps}
 use Rattle.std.proofs.lemmas.List.{length-map, get_or_read}
 use Rattle.level_table.specs.Chains.{link_to}
 use Rattle.level_table.specs.Tables.{hash_of, IsOf}
@@ -44,3 +45,9 @@ loop-candidate-preserved c =
       here = λ k e. next.here k e ∙ hash;
       none = none_on hashes entries c.args.hi c.args.lo are place (link_to c.previous-candidate.result) hash next other (λ k d from. old.none k d (omega arith));
     }
+
+pub returns-then-eq : goal.returns-then-eq
+returns-then-eq c = grind (arith, common_steps)
+
+pub previous-candidate-requires : goal.previous-candidate-requires
+previous-candidate-requires c = grind (arith, common_steps)

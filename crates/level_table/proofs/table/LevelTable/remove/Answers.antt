@@ -1,4 +1,5 @@
 use Rattle.std.proofs.Common.{◌≡◌, ℕ, ◌+◌, ◌-◌, ◌<◌, length, get_or, map, swap_remove, sym, ◌∙◌, ap, arith}
+use Rattle.std.proofs.lemmas.Grind.{common_steps, elements}
 use Rattle.level_table.specs.declared.table.Entry.{Entry}
 use Rattle.level_table.specs.Tables.{Table, hash_of, IsOf, slot_at}
 use Rattle.level_table.proofs.Keyed.{map-swap_remove}
@@ -45,3 +46,9 @@ returns-in-Some-clause-others c = λ h l other.
     slot_without c.self.inside.entries.items c.swap_remove-in-Some.new.self.items c.in-Some.place s.within s.long s.moved s.kept h l c.self.invariant.apart
     (λ d is. other (sym is.0 ∙ (s.here d).0) (sym is.1 ∙ (s.here d).1))
     ∙ ap (λ (t : Table). slot_at t.entries h l) c.self.view_is
+
+pub swap_remove-requires : goal.swap_remove-requires
+swap_remove-requires c = grind (arith, common_steps)
+
+pub returns-in-Some-clause-removed : goal.returns-in-Some-clause-removed
+returns-in-Some-clause-removed c = grind (arith, elements)
