@@ -1,4 +1,5 @@
 use Rattle.std.proofs.Common.{◌≡◌, ◌<◌, ◌+◌, length, set, inl, inr, Some, ap, sym, ◌∙◌, subst, arith}
+use Rattle.std.proofs.lemmas.Grind.{common_steps}
 use Rattle.std.proofs.lemmas.Bool.{cases_eq}
 use Rattle.std.proofs.lemmas.List.{length-set, get_or-set_same, get_or-set_other}
 use Rattle.edge_bits.specs.Words.{unpack_of}
@@ -33,3 +34,9 @@ loop-slot-preserved c =
       packed = subst ArePacked (sym new) (packed_put words slot bits c.permanent-word.result within c.pack.ensures.layout c.pack.ensures.reads_back i.packed);
       nodes = subst (λ ws. AreCounted ws c.add.new.self) (sym new) (counted_put words c.loop-slot.nodes c.add.new.self slot bits c.permanent-word.result within (i.free slot (omega arith)) c.pack.ensures.reads_back i.nodes c.add.ensures.all c.add.ensures.each);
     }
+
+pub add-requires-clause-few : goal.add-requires-clause-few
+add-requires-clause-few c = grind (arith, common_steps)
+
+pub returns-clause-packed : goal.returns-clause-packed
+returns-clause-packed c = grind (arith, common_steps)

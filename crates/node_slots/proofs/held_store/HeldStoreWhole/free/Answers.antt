@@ -1,4 +1,5 @@
-use Rattle.std.proofs.Common.{ap, sym, ◌∙◌, subst}
+use Rattle.std.proofs.Common.{ap, sym, ◌∙◌, subst, arith}
+use Rattle.std.proofs.lemmas.Grind.{common_steps}
 use Rattle.handle_count.specs.CountWords.{count_of, generation_of}
 use Rattle.std.specs.Prelude.{◌+◌, ◌%◌, ◌^◌}
 use Rattle.node_store.specs.Changes.{After, CanFree, without}
@@ -21,3 +22,6 @@ returns c =
     subst (λ h. After Alone (without (held_view h) c.args.slot) (held_view (record q { plain = record q.plain { words = c.free.new.self; counts = c.write.new.self } }))) c.self.view_is
     (freed_after q c.self.invariant c.args.slot can c.free.new.self c.write.new.self c.next_generation.result c.free.ensures c.write.ensures
     (c.next_generation.ensures.count ∙ ap count_of c.word-word.ensures) (c.next_generation.ensures.generation ∙ ap (λ x. (generation_of x + 1) % 2 ^ 32) c.word-word.ensures))
+
+pub write-requires : goal.write-requires
+write-requires c = grind (arith, common_steps)

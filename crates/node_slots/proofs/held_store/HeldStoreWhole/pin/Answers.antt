@@ -1,4 +1,5 @@
-use Rattle.std.proofs.Common.{true, sym, subst}
+use Rattle.std.proofs.Common.{true, sym, subst, arith}
+use Rattle.std.proofs.lemmas.Grind.{common_steps}
 use Rattle.node_store.specs.Contents.{IsUsed}
 use Rattle.node_slots.specs.Held.{held_view}
 use Rattle.node_slots.specs.contracts.held_store.HeldStore.{the_view}
@@ -16,3 +17,6 @@ returns c =
     let q = the_view c.self.inside in
     let used = subst (λ h. IsUsed (held_view h) c.args.slot) (sym c.self.view_is) c.requires.used in
     pinned_after q c.args.self.now c.self.view_is c.self.invariant c.args.slot true c.set_pin.new.self (used_within q c.self.invariant c.args.slot used) (used_on q c.args.slot true used) c.set_pin.ensures
+
+pub set_pin-requires : goal.set_pin-requires
+set_pin-requires c = grind (arith, common_steps)

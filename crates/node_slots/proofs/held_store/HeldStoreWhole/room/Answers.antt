@@ -1,4 +1,5 @@
 use Rattle.std.proofs.Common.{length, ap, ◌∙◌, arith}
+use Rattle.std.proofs.lemmas.Grind.{common_steps}
 use Rattle.std.specs.List.{count_by}
 use Rattle.std.proofs.lemmas.List.Sums.{count_by-le-length}
 use Rattle.node_store.specs.Contents.{is_used}
@@ -15,3 +16,6 @@ returns-clause-room c =
     let all = c.limit.ensures.limit ∙ ap (λ (h : Held). length h.plain.words) c.self.view_is in
     let few = count_by-le-length is_word words in
     omega (arith, used, counted, all, few)
+
+pub overflow_sub-result : goal.overflow_sub-result
+overflow_sub-result c = grind (arith, common_steps)

@@ -1,4 +1,5 @@
 use Rattle.std.proofs.Common.{◌≡◌, ◌<◌, length, get_or, Some, ap, sym, ◌∙◌, subst, arith}
+use Rattle.std.proofs.lemmas.Grind.{common_steps}
 use Rattle.std.specs.List.{count_by}
 use Rattle.std.proofs.lemmas.List.{length-set, length_push}
 use Rattle.edge_bits.specs.Words.{unpack_of}
@@ -31,3 +32,9 @@ invariant_of-self c =
       as_many = (let less = count_erased words slot word within reads in omega (arith, ap length p.items, length_push c.self.inside.freed.items slot, e.taken, less, old.counted, old.as_many));
       nodes = subst (λ ws. AreCounted ws c.remove.new.self) (sym e.words) (counted_erased words c.self.inside.nodes c.remove.new.self slot word within reads old.nodes r.all r.each);
     }
+
+pub push_reserved-requires : goal.push_reserved-requires
+push_reserved-requires c = grind (arith, common_steps)
+
+pub remove-requires-clause-some : goal.remove-requires-clause-some
+remove-requires-clause-some c = grind (arith, common_steps)

@@ -1,4 +1,5 @@
 use Rattle.std.proofs.Common.{◌≡◌, ◌+◌, ℕ, length, ap, ◌∙◌, arith}
+use Rattle.std.proofs.lemmas.Grind.{common_steps}
 use Rattle.std.specs.Prelude.{vec_capacity}
 use Rattle.std.proofs.lemmas.List.{length-replicate}
 use Rattle.node_slots.proofs.Taking.{table_opening}
@@ -13,3 +14,18 @@ invariant_of-result c =
     rw v.items
     (table_opening c.append_permanent.new.table (5 + c.args.vars) (vec_capacity c.in_ok-freed.freed)
     (omega (arith, long, c.requires.least)) (omega (arith, long, c.requires.most)) (omega (arith, long, v.capacity)) e.taken e.permanent e.free e.packed _ e.nodes)
+
+pub append_permanent-requires-clause-few : goal.append_permanent-requires-clause-few
+append_permanent-requires-clause-few c = grind (arith, common_steps)
+
+pub append_permanent-requires-clause-free : goal.append_permanent-requires-clause-free
+append_permanent-requires-clause-free c = grind (arith, common_steps) steps 4000000
+
+pub append_permanent-requires-clause-nodes : goal.append_permanent-requires-clause-nodes
+append_permanent-requires-clause-nodes c = grind (arith, common_steps)
+
+pub append_permanent-requires-clause-room : goal.append_permanent-requires-clause-room
+append_permanent-requires-clause-room c = grind (arith, common_steps)
+
+pub returns-clause-slots_are : goal.returns-clause-slots_are
+returns-clause-slots_are c = grind (arith, common_steps)

@@ -1,4 +1,5 @@
 use Rattle.std.proofs.Common.{◌+◌, length, ap, sym, ◌∙◌, subst, arith}
+use Rattle.std.proofs.lemmas.Grind.{common_steps}
 use Rattle.std.specs.List.{count_by}
 use Rattle.node_slots.specs.Stores.{is_word}
 use Rattle.std.proofs.lemmas.List.{length-set}
@@ -24,3 +25,6 @@ invariant_of-self-2 c =
       as_many = omega (arith, old.as_many, e.count);
       nodes = subst (λ ws. AreCounted ws c.add.new.self) (sym put.2) (counted_put words c.self.inside.nodes c.add.new.self slot bits c.args.word put.0 put.1 c.pack-bits.ensures.reads_back old.nodes c.add.ensures.all c.add.ensures.each);
     }
+
+pub add-requires-clause-few : goal.add-requires-clause-few
+add-requires-clause-few c = grind (arith, common_steps)

@@ -1,4 +1,5 @@
 use Rattle.std.proofs.Common.{◌≡◌, ◌<◌, length, get_or, Some, ap, sym, ◌∙◌, subst, arith}
+use Rattle.std.proofs.lemmas.Grind.{common_steps}
 use Rattle.std.specs.List.{count_by}
 use Rattle.std.proofs.lemmas.List.{length-set, get_or-set_same}
 use Rattle.edge_bits.specs.Words.{unpack_of}
@@ -46,3 +47,9 @@ returns-clause-reads c =
     let below = taken_word words c.self.inside.table.taken c.self.inside.freed.items slot c.in-Some.old old.free reads in
     let within : slot < length words = (let w = old.free.within in omega arith) in
     ap (λ ws. slots_of ws slot) c.overwrite.ensures.words ∙ ap unpack_of (get_or-set_same words slot c.pack.result 0 within) ∙ c.pack.ensures.reads_back
+
+pub add-requires-clause-few : goal.add-requires-clause-few
+add-requires-clause-few c = grind (arith, common_steps)
+
+pub remove-requires-clause-some : goal.remove-requires-clause-some
+remove-requires-clause-some c = grind (arith, common_steps)

@@ -1,4 +1,5 @@
 use Rattle.std.proofs.Common.{false, set, ◌≡◌, ◌≤◌, ◌+◌, suc, None, ◌∙◌, ap, sym, subst, arith}
+use Rattle.std.proofs.lemmas.Grind.{common_steps}
 use Rattle.std.proofs.lemmas.List.{length-set}
 use Rattle.node_slots.specs.Counts.{IsUnnamed}
 use Rattle.node_slots.specs.Stores.{Plain, slots, count_at, is_set, content_of, longest, plain_view}
@@ -41,3 +42,9 @@ returns-clause-gone c =
     let high = subst (λ (q : Plain). 5 + (plain_view q).vars ≤ slot) (sym c.self.view_is) c.requires.not_permanent in
     let unnamed = subst (λ q. IsUnnamed q slot) (sym c.self.view_is) c.requires.not_named in
     rw c.free.ensures (content_gone p slot c.write.new.self c.forget.new.self (used_within p slot used) (omega (arith, high)) unnamed)
+
+pub returns-clause-freed : goal.returns-clause-freed
+returns-clause-freed c = grind (arith, common_steps)
+
+pub write-requires : goal.write-requires
+write-requires c = grind (arith, common_steps)

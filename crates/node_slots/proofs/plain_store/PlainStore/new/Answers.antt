@@ -1,4 +1,5 @@
-use Rattle.std.proofs.Common.{refl}
+use Rattle.std.proofs.Common.{refl, arith}
+use Rattle.std.proofs.lemmas.Grind.{common_steps}
 use Rattle.node_slots.proofs.Opening.{IsStore-new}
 use Rattle.node_slots.proofs.plain_store.PlainStore.new.Goals as goal
 
@@ -22,3 +23,6 @@ invariant_of-result c =
       due = refl;
       memo = c.in_ok-memo.ensures.empty;
     })
+
+pub new-requires-4 : goal.new-requires-4
+new-requires-4 c = grind (arith, common_steps)

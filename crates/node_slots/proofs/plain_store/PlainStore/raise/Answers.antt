@@ -1,4 +1,5 @@
 use Rattle.std.proofs.Common.{◌<◌, ◌+◌, ◌≡◌, None, sym, subst, arith, ◌∙◌, ap}
+use Rattle.std.proofs.lemmas.Grind.{common_steps}
 use Rattle.std.specs.Prelude.{◌-◌, ◌^◌}
 use Rattle.node_slots.specs.contracts.plain_store.PlainStore.{the_view}
 use Rattle.node_slots.proofs.Remaining.{count_written, held_store, used_within}
@@ -29,3 +30,12 @@ returns-clause-count c =
     let used = subst (λ (q : Plain). slots q slot ≡ None → ⊥) (sym c.self.view_is) c.requires.used in
     ap count_of (count_written p.counts c.write.new.self slot c.raise.result (omega (arith, used_within p slot used, c.self.invariant.holds.counted)) c.write.ensures)
     ∙ c.raise.ensures.count ∙ ap (λ w. count_of w + 1) c.word-word.ensures ∙ ap (λ q. count_at q slot + 1) c.self.view_is
+
+pub returns-clause-generation : goal.returns-clause-generation
+returns-clause-generation c = grind (arith, common_steps) steps 4000000
+
+pub returns-clause-rest : goal.returns-clause-rest
+returns-clause-rest c = grind (arith, common_steps) steps 4000000
+
+pub word-word-requires : goal.word-word-requires
+word-word-requires c = grind (arith, common_steps)

@@ -1,0 +1,9 @@
+use Rattle.std.proofs.Common.{arith}
+use Rattle.std.proofs.lemmas.Grind.{common_steps, elements}
+use Rattle.node_slots.proofs.node_table.find.Goals as goal
+
+pub loop-slot-preserved : goal.loop-slot-preserved
+loop-slot-preserved c = grind (arith, elements)
+
+pub returns-clause-absent : goal.returns-clause-absent
+returns-clause-absent c = grind (arith, common_steps)
