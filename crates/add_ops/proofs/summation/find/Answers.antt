@@ -1,6 +1,6 @@
 use Rattle.std.proofs.Common.{arith}
 use Rattle.edge_bits.specs.declared.edges.Kind.TheVariants.{Add}
-use Rattle.node_store.specs.ViewLaws.{Grown-trans, IsVariable-grown, level-grown}
+use Rattle.node_store.specs.ViewLaws.{Grown-trans, IsVariable-grown, Kept-trans, level-grown}
 use Rattle.add_ops.proofs.SumLaws.{halves_leaf, halves_own, halves_below, SplitsAbove-from}
 use Rattle.add_ops.proofs.summation.find.Goals as goal
 
@@ -27,3 +27,9 @@ pub returns-clause-found : goal.returns-clause-found
 returns-clause-found g c =
     let e = c.in-Inner.ensures in let m1 = c.level-level.ensures.kept.grown in let m2 = c.level-top_level.ensures.kept.grown in
     SplitsAbove-from _ _ _ c.args.f c.args.var c.in-Inner.top c.in-Inner.hi c.in-Inner.lo e.kept.grown (Grown-trans m1 m2) c.requires.edge (e.opens Add c.requires.edge) c.if-top-var.false
+
+pub returns-then-level-top_level-clause-kept : goal.returns-then-level-top_level-clause-kept
+returns-then-level-top_level-clause-kept g c = Kept-trans c.in-Inner.ensures.kept (Kept-trans c.level-level.ensures.kept c.level-top_level.ensures.kept)
+
+pub returns-clause-kept : goal.returns-clause-kept
+returns-clause-kept g c = Kept-trans c.in-Inner.ensures.kept (Kept-trans c.level-level.ensures.kept c.level-top_level.ensures.kept)

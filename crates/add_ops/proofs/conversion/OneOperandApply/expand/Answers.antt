@@ -1,6 +1,6 @@
 use Rattle.std.proofs.Common.{rules, SFits, w64, sym}
 use Rattle.std.proofs.lemmas.Int.{to_z-of_z}
-use Rattle.node_store.specs.ViewLaws.{Kept-trans}
+use Rattle.node_store.specs.ViewLaws.{Is-grown, Kept-trans}
 use Rattle.node_store.specs.WorkLaws.{Moves-kept}
 use Rattle.add_ops.proofs.ConversionLaws.{One-branches, One-leaf}
 use Rattle.add_ops.proofs.conversion.OneOperandApply.expand.Goals as goal
@@ -11,6 +11,9 @@ returns-in-Leaf-clause-expanded g c =
     let fx : SFits w64 c.in-Leaf.number = search rules in
     One-leaf o.source o.target (o.op c.args.self.now.op) _ _ c.args.task c.in-Leaf.number _ c.at_leaf.result e.kept.grown c.requires.edge (e.opens o.source c.requires.edge) (sym (to_z-of_z w64 c.in-Leaf.number fx))
     (c.at_leaf.ensures _ e.permanent c.args.task.f _)
+
+pub known-requires : goal.known-requires
+known-requires g c = Is-grown g.C.Conversion.source c.in-Inner.ensures.kept.grown c.requires.edge
 
 pub returns-in-Some-clause-moved : goal.returns-in-Some-clause-moved
 returns-in-Some-clause-moved g c = Moves-kept _ _ _ _ (Kept-trans c.in-Inner.ensures.kept c.in-Some.ensures.kept)

@@ -1,4 +1,5 @@
-use Rattle.std.proofs.Common.{sym}
+use Rattle.std.proofs.Common.{sym, arith}
+use Rattle.std.proofs.lemmas.Grind.{common_steps}
 use Rattle.add_ops.proofs.summation.SummationOperator.resume.Goals as goal
 
 pub returns-in-First-clause-next : goal.returns-in-First-clause-next
@@ -21,3 +22,6 @@ join-requires g c =
 
 pub returns-in_ok-edge-in-Second-clause-next : goal.returns-in_ok-edge-in-Second-clause-next
 returns-in_ok-edge-in-Second-clause-next g c = λ root child due q is. rw (sym q.task) c.in_ok-edge-in-Second.ensures.answer
+
+pub returns-in-First-clause-moved : goal.returns-in-First-clause-moved
+returns-in-First-clause-moved g c = grind (arith, common_steps)
