@@ -1,4 +1,5 @@
 use Rattle.std.proofs.Common.{◌<◌, List, ap, arith, get_or, length, refl, subst, sym, ◌∙◌}
+use Rattle.std.proofs.lemmas.Grind.{common_steps}
 use Rattle.std.specs.List.{All}
 use Rattle.blif_net.specs.declared.covers.CoverDraft.{CoverDraft}
 use Rattle.blif_net.specs.Building.{gate_of}
@@ -26,3 +27,6 @@ loop-cover-preserved c =
     (c.in_ok-gate.ensures ∙ ap (gate_of c.args.signals.now) (this_cover c.loop-cover.covers.items (get_or order i 0) c.index_mut.result.now (omega (arith, within i 0 c.loop-cover-test.true, invariant.many)) c.index_mut.ensures.value))
     c.in_ok-push.ensures.items in
     record { gates = more.0; many = more.1; others = more.2 }
+
+pub returns : goal.returns
+returns c = grind (arith, common_steps)

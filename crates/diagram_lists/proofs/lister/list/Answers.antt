@@ -1,4 +1,5 @@
 use Rattle.std.proofs.Common.{rules, ◌≡◌, ◌∙◌, ◌+◌, ◌≤◌, ◌++◌, ◌∷◌, [], List, ℕ, ℤ, ap, sym, subst, arith, map, take}
+use Rattle.std.proofs.lemmas.Grind.{common_steps}
 use Rattle.std.proofs.lemmas.List.{map_push, take_all, take_more}
 use Rattle.std.proofs.lemmas.List.Elements.{All-push, All-same, All-weaker}
 use Rattle.edge_bits.specs.declared.edges.Edge.{Edge}
@@ -63,3 +64,9 @@ returns c =
     let have = All-same (λ (x : Edge). 1 ≤ number w.numbers.items x.index) edges (take c.loop-edge.edge-index edges) (sym all) i.have in
     subst (λ (order : List ℕ). IsListing p.variables_at (map (bdd_at (plain_view p)) edges) (record { order = order; nodes = w.lines; roots = c.loop-edge.roots })) (sym c.in_ok-order.ensures)
     (is_listing p c.limit.ensures.store w.numbers.items w.lines i.walk c.loop-edge.roots i.leads edges (i.roots ∙ ap (map (index_of w.numbers.items)) all) c.requires have)
+
+pub index_of-requires-clause-within : goal.index_of-requires-clause-within
+index_of-requires-clause-within c = grind (arith, common_steps)
+
+pub loop-edge-init : goal.loop-edge-init
+loop-edge-init c = grind (arith, common_steps)

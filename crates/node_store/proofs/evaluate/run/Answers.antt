@@ -1,4 +1,5 @@
 use Rattle.std.proofs.Common.{◌≡◌, List, [], ◌∷◌, ◌++◌, drop, length, ap, sym, ◌∙◌, arith}
+use Rattle.std.proofs.lemmas.Grind.{common_steps}
 use Rattle.std.proofs.lemmas.List.{length-append, length-drop}
 use Rattle.std.proofs.lemmas.Result.{err_from_is_err_and}
 use Rattle.node_store.specs.States.{state_of}
@@ -236,3 +237,12 @@ steps-preserved g c =
           let f = w.free in let f2 = e.free in let r = i.room in omega arith);
       runs = rw (frames, drop_push base _ _ _ split.old_is old, w.answers, w.marks) (Run-called (o.moves op) (o.due op) (o.answers op) (o.waits op) (o.depth op) (m.due_stays op) (m.answers_stay op) (m.waits_stay op) (m.depth_stays op) _ _ height _ _ _ _ _ below.1.0 e.moved asks);
     }
+
+pub returns-in_err-edge-in-Answer-clause-moved : goal.returns-in_err-edge-in-Answer-clause-moved
+returns-in_err-edge-in-Answer-clause-moved g c = grind (arith, common_steps)
+
+pub returns-in_err-edge-in-Ask-clause-moved : goal.returns-in_err-edge-in-Ask-clause-moved
+returns-in_err-edge-in-Ask-clause-moved g c = grind (arith, common_steps)
+
+pub steps-init : goal.steps-init
+steps-init g c = grind (arith, common_steps)

@@ -2,12 +2,15 @@ use Rattle.std.proofs.Common.{arith, rules, SFits, w64}
 use Rattle.std.proofs.lemmas.Int.{to_z-of_z}
 use Rattle.node_store.specs.Views.{values_at}
 use Rattle.node_store.specs.declared.grow.Opened.TheVariants.{Inner}
-use Rattle.node_store.specs.ViewLaws.{Is-grown, IsVariable-grown, Permanent-grown, level-grown, levels-grown, top-grown, values_at-grown}
+use Rattle.node_store.specs.ViewLaws.{Is-grown, IsVariable-grown, Kept-trans, Permanent-grown, level-grown, levels-grown, top-grown, values_at-grown}
 use Rattle.node_store.proofs.Operands.{Opens-grown}
 use Rattle.node_store.proofs.parts.look.Goals as goal
 
 pub level-requires : goal.level-requires
 level-requires g c = let i = c.in-Inner.ensures.opens c.requires.0 c.requires.1 in (c.requires.0, i.in_range)
+
+pub returns-in-Inner-clause-kept : goal.returns-in-Inner-clause-kept
+returns-in-Inner-clause-kept g c = Kept-trans c.in-Inner.ensures.kept c.level.ensures.kept
 
 pub returns-in-Inner-clause-permanent : goal.returns-in-Inner-clause-permanent
 returns-in-Inner-clause-permanent g c = Permanent-grown c.level.ensures.kept.grown c.in-Inner.ensures.permanent

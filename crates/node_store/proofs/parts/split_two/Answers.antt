@@ -1,4 +1,5 @@
-use Rattle.std.proofs.Common.{sym, ◌∙◌, subst}
+use Rattle.std.proofs.Common.{sym, ◌∙◌, subst, arith}
+use Rattle.std.proofs.lemmas.Grind.{common_steps}
 use Rattle.edge_bits.specs.declared.edges.Edge.{Edge}
 use Rattle.node_store.specs.Views.{IsLeaf, IsTop, PartsAt, values_at}
 use Rattle.node_store.specs.ViewLaws.{Is-grown, Kept-trans}
@@ -46,3 +47,6 @@ returns-clause-split g c = λ k two.
 
 pub returns-clause-kept : goal.returns-clause-kept
 returns-clause-kept g c = Kept-trans c.look-first.ensures.kept c.look-second.ensures.kept
+
+pub returns-in_default-clause-kept : goal.returns-in_default-clause-kept
+returns-in_default-clause-kept g c = grind (arith, common_steps)

@@ -1,4 +1,5 @@
-use Rattle.std.proofs.Common.{◌≡◌, ◌∙◌, ◌+◌, ◌++◌, ◌∷◌, [], List, ap, sym, subst, map, take, get_or}
+use Rattle.std.proofs.Common.{◌≡◌, ◌∙◌, ◌+◌, ◌++◌, ◌∷◌, [], List, ap, sym, subst, map, take, get_or, arith}
+use Rattle.std.proofs.lemmas.Grind.{common_steps}
 use Rattle.std.proofs.lemmas.List.{map-append, take_more}
 use Rattle.blif_net.specs.Text.{Word}
 use Rattle.blif_net.specs.Names.{with_names, words_in}
@@ -19,3 +20,9 @@ loop-word-preserved c =
       names = step.0 ∙ ap (λ (t : List Word). with_names c.args.self.now t c.args.line) (sym more);
       numbers = subst (λ (t : List Word). AreNumbers (words_in c.number_of.new.self) t c.push.new.self.items) (sym more) (rw c.in_ok-push.ensures.items step.1);
     }
+
+pub returns-clause-names : goal.returns-clause-names
+returns-clause-names c = grind (arith, common_steps)
+
+pub returns-clause-numbers : goal.returns-clause-numbers
+returns-clause-numbers c = grind (arith, common_steps)

@@ -1,4 +1,5 @@
 use Rattle.std.proofs.Common.{rules, ◌≡◌, ◌+◌, ◌++◌, ◌∷◌, [], List, ℕ, ap, sym, subst, arith, length, set}
+use Rattle.std.proofs.lemmas.Grind.{common_steps, elements}
 use Rattle.std.proofs.lemmas.List.{length_push}
 use Rattle.edge_bits.specs.declared.edges.Line.{Line}
 use Rattle.diagram_lists.specs.Walks.{IsNumbering, line_of, next}
@@ -24,3 +25,21 @@ returns-clause-numbers c =
     let lines_is : c.push.new.self ≡ old.lines ++ line ∷ [] = search rules in
     let value : c.len.result + 1 ≡ next old.lines = omega (arith, c.len.ensures, ap (λ (ls : List Line). length ls) lines_is, length_push old.lines line) in
     ap (set old.numbers.items c.args.slot) value
+
+pub index_mut-requires : goal.index_mut-requires
+index_mut-requires c = grind (arith, common_steps)
+
+pub index_of-requires-clause-small : goal.index_of-requires-clause-small
+index_of-requires-clause-small c = grind (arith, elements)
+
+pub index_of-requires-clause-within : goal.index_of-requires-clause-within
+index_of-requires-clause-within c = grind (arith, common_steps)
+
+pub number-requires : goal.number-requires
+number-requires c = grind (arith, common_steps)
+
+pub overflow_add-len : goal.overflow_add-len
+overflow_add-len c = grind (arith, common_steps)
+
+pub overflow_cast-len : goal.overflow_cast-len
+overflow_cast-len c = grind (arith, common_steps)

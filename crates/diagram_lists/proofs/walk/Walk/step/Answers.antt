@@ -1,4 +1,5 @@
 use Rattle.std.proofs.Common.{rules, ◌≡◌, ◌∙◌, ◌<◌, ◌++◌, ◌∷◌, [], List, ℕ, sym, subst, arith, set}
+use Rattle.std.proofs.lemmas.Grind.{common_steps}
 use Rattle.edge_bits.specs.declared.edges.Line.{Line}
 use Rattle.diagram_lists.specs.Walks.{Extends, IsOnWay, line_of, next, steps_left}
 use Rattle.diagram_lists.proofs.Numberings.{left_extends}
@@ -71,3 +72,9 @@ returns-in_ok-leave-in-None-clause-way c = λ start root way.
     (subst (λ (ls : List Line). IsOnWay p (set numbers c.args.slot (next w.lines)) ls start root r.top.0) (sym e.lines)
     (back p r.store numbers w.lines r.walk start root w.stack.items r.top.0 c.args.slot node r.top.1 c.node_in-node.ensures
     c.in-None.ensures.none.0 c.in-None.ensures.none.1 way)))
+
+pub returns-in_ok-leave-in-None-clause-fewer : goal.returns-in_ok-leave-in-None-clause-fewer
+returns-in_ok-leave-in-None-clause-fewer c = grind (arith, common_steps)
+
+pub returns-in_ok-leave-in-None-clause-walk : goal.returns-in_ok-leave-in-None-clause-walk
+returns-in_ok-leave-in-None-clause-walk c = grind (arith, common_steps)

@@ -1,4 +1,5 @@
 use Rattle.std.proofs.Common.{rules, ◌≡◌, ◌≤◌, ◌∷◌, [], List, ℕ, sym, subst, arith}
+use Rattle.std.proofs.lemmas.Grind.{common_steps}
 use Rattle.diagram_lists.specs.Walks.{IsOnWay, next, number}
 use Rattle.diagram_lists.proofs.Numberings.{Extends-refl, Extends-trans, number_below}
 use Rattle.diagram_lists.proofs.Paths.{already, sets_out}
@@ -32,3 +33,9 @@ pub loop-slot-preserved : goal.loop-slot-preserved
 loop-slot-preserved c =
     let e = c.in_ok-step.ensures in let i = c.loop-slot.invariant in
     record { walk = e.walk; extended = Extends-trans i.extended e.extended; way = e.way (next c.args.self.now.lines) c.args.root i.way }
+
+pub returns-clause-has : goal.returns-clause-has
+returns-clause-has c = grind (arith, common_steps)
+
+pub returns-clause-leads : goal.returns-clause-leads
+returns-clause-leads c = grind (arith, common_steps)

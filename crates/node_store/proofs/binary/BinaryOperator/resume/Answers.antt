@@ -1,4 +1,5 @@
-use Rattle.std.proofs.Common.{ap}
+use Rattle.std.proofs.Common.{ap, arith}
+use Rattle.std.proofs.lemmas.Grind.{common_steps}
 use Rattle.node_store.specs.Stacks.{Scratch}
 use Rattle.node_store.specs.ViewLaws.{Grown-trans}
 use Rattle.node_store.specs.WorkLaws.{Moves-both, Moves-kept}
@@ -28,3 +29,6 @@ returns-in_ok-edge-in-Second-clause-next g c = λ root child due q is.
     let put = c.finish-in-Second.ensures.kept.grown in
     let here = m.due_stays op _ _ c.args.frame.task e.moved.grown q.due in
     rw c.finish-in-Second.ensures.flipped (q.leads.gives _ c.in_ok-edge-in-Second.edge (Grown-trans e.moved.grown put) (m.answers_stay op _ _ c.args.frame.task _ put here e.answer))
+
+pub returns-in_default-settled-clause-moved : goal.returns-in_default-settled-clause-moved
+returns-in_default-settled-clause-moved g c = grind (arith, common_steps)

@@ -1,4 +1,5 @@
-use Rattle.std.proofs.Common.{rules, SFits, Ok, Err, w64, ap, sym, subst}
+use Rattle.std.proofs.Common.{rules, SFits, Ok, Err, w64, ap, sym, subst, arith}
+use Rattle.std.proofs.lemmas.Grind.{common_steps}
 use Rattle.std.proofs.lemmas.Int.{to_z-of_z}
 use Rattle.node_store.specs.Views.{IsLeaf, values_at}
 use Rattle.std.proofs.lemmas.Result.{err_from_is_err_and}
@@ -87,3 +88,12 @@ returns-in-At-clause-expanded g c =
 pub returns-in-At-clause-moved : goal.returns-in-At-clause-moved
 returns-in-At-clause-moved g c =
     Moves-kept _ _ _ _ (Kept-trans c.in_default-memo_get.ensures.kept c.in-At.ensures.kept)
+
+pub returns-in-Some-clause-moved : goal.returns-in-Some-clause-moved
+returns-in-Some-clause-moved g c = grind (arith, common_steps)
+
+pub returns-in_err-at_leaves-in-Leaves-clause-full : goal.returns-in_err-at_leaves-in-Leaves-clause-full
+returns-in_err-at_leaves-in-Leaves-clause-full g c = grind (arith, common_steps)
+
+pub returns-in_ok-at_leaves-in-Leaves-clause-full : goal.returns-in_ok-at_leaves-in-Leaves-clause-full
+returns-in_ok-at_leaves-in-Leaves-clause-full g c = grind (arith, common_steps)

@@ -1,4 +1,5 @@
-use Rattle.std.proofs.Common.{refl}
+use Rattle.std.proofs.Common.{refl, arith}
+use Rattle.std.proofs.lemmas.Grind.{common_steps}
 use Rattle.node_store.specs.WorkLaws.{Moves-none}
 use Rattle.node_store.specs.RememberingLaws.{RememberingMoves-same, RememberingMoves-more}
 use Rattle.node_store.proofs.remembering.RememberingOperator.resume.Goals as goal
@@ -32,3 +33,9 @@ returns-in-Some-clause-moved g c =
     let first = rw c.in-First.is at q.wait in
     RememberingMoves-more (a.roots op) (a.work op) (a.due op) (a.answers op) (m.due_stays op) (m.answers_stay op) _ _ c.args.stack.now c.args.stack.now c.remember.new.self c.args.frame.task c.in-Some.edge
     (Moves-none (a.roots op) (a.work op) _) refl c.remember.ensures.remembers c.remember.ensures.marks q.due (c.in-Some.ensures _ p.0.1 _ q.due first.splits first.hi_due p.1.answers)
+
+pub returns-in_default-settled-clause-moved : goal.returns-in_default-settled-clause-moved
+returns-in_default-settled-clause-moved g c = grind (arith, common_steps)
+
+pub returns-in_default-settled-clause-next : goal.returns-in_default-settled-clause-next
+returns-in_default-settled-clause-next g c = grind (arith, common_steps)

@@ -1,4 +1,5 @@
-use Rattle.std.proofs.Common.{refl}
+use Rattle.std.proofs.Common.{refl, arith}
+use Rattle.std.proofs.lemmas.Grind.{common_steps}
 use Rattle.node_store.specs.RememberingLaws.{Knows-grown, RememberingMoves-same}
 use Rattle.node_store.proofs.remembering.RememberingOperator.start.Goals as goal
 
@@ -30,3 +31,6 @@ returns-in-Split-clause-next g c =
       due = (b.hi_due, Knows-grown (a.due op) (a.answers op) (m.due_stays op) (m.answers_stay op) _ _ _ c.in_ok-edge.ensures.moved.grown c.requires.due.1);
       less = b.hi_less;
     }
+
+pub returns-in-Some-clause-moved : goal.returns-in-Some-clause-moved
+returns-in-Some-clause-moved g c = grind (arith, common_steps)
