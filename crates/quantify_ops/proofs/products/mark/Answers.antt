@@ -1,6 +1,6 @@
 use Rattle.std.proofs.Common.{Some, ap, ap₂, ◌∙◌, set, arith}
 use Rattle.edge_bits.specs.declared.edges.Kind.TheVariants.{Bdd}
-use Rattle.node_store.specs.ViewLaws.{Grown-trans, Is-from, IsProjection-grown, IsVariable-grown}
+use Rattle.node_store.specs.ViewLaws.{Grown-trans, Is-from, IsProjection-grown, IsVariable-grown, Kept-trans}
 use Rattle.quantify_ops.proofs.ProductLaws.{mark_of, no_projection_leaf}
 use Rattle.quantify_ops.proofs.products.mark.Goals as goal
 
@@ -35,3 +35,6 @@ returns-clause-is_mark g c =
     let o = l.operand Bdd (Is-from Bdd p.projection.denotes) in
     (mark_of _ c.args.var c.look.result c.in-Some.top (IsVariable-grown Bdd (Grown-trans p.kept.grown l.kept.grown) c.args.var c.requires.in_range)
     (rw l.edge (IsProjection-grown l.kept.grown p.projection)) o (rw c.in-Some.is at o.top)).1
+
+pub returns-clause-kept : goal.returns-clause-kept
+returns-clause-kept g c = Kept-trans c.projection-projection.ensures.kept c.look.ensures.kept

@@ -1,5 +1,6 @@
 use Rattle.std.proofs.Common.{true, false}
 use Rattle.edge_bits.specs.declared.edges.Kind.TheVariants.{Zdd}
+use Rattle.node_store.specs.ViewLaws.{Kept-trans}
 use Rattle.zdd_ops.proofs.ProductLaws.{CanPart-grown}
 use Rattle.zdd_ops.proofs.ProductSteps.{Reopened, Top-can}
 use Rattle.zdd_ops.proofs.products.without_first.Goals as goal
@@ -19,3 +20,9 @@ pub returns-else-with_second-clause-part : goal.returns-else-with_second-clause-
 returns-else-with_second-clause-part g c = λ p q due.
     let t = c.args.task in let v = c.args.var in let a = c.parts-f0.ensures in let b = c.parts-g1.ensures in let can = Top-can _ t v c.requires.two c.requires.top in
     rw c.if-with_second.false (Reopened p q _ _ _ t v _ _ _ _ c.requires.top a.kept.grown b.kept.grown (a.parts Zdd can.f) (b.parts Zdd (CanPart-grown _ _ t.g v a.kept.grown can.g)) due false c.two-else-with_second.result c.two-else-with_second.ensures.f c.two-else-with_second.ensures.g)
+
+pub returns-then-with_second-clause-kept : goal.returns-then-with_second-clause-kept
+returns-then-with_second-clause-kept g c = Kept-trans c.parts-f0.ensures.kept c.parts-g1.ensures.kept
+
+pub returns-else-with_second-clause-kept : goal.returns-else-with_second-clause-kept
+returns-else-with_second-clause-kept g c = Kept-trans c.parts-f0.ensures.kept c.parts-g1.ensures.kept

@@ -1,7 +1,7 @@
 use Rattle.std.proofs.Common.{sym, subst, arith}
 use Rattle.edge_bits.specs.declared.edges.Kind.TheVariants.{Zdd}
 use Rattle.node_store.specs.Views.{IsInner, IsLeaf, family_at}
-use Rattle.node_store.specs.ViewLaws.{Grown-trans, Is-grown, IsVariable-grown, Permanent-grown, level-grown, values_at-grown}
+use Rattle.node_store.specs.ViewLaws.{Grown-trans, Is-grown, IsVariable-grown, Kept-trans, Permanent-grown, level-grown, values_at-grown}
 use Rattle.zdd_ops.specs.QuotientLasts.{IsInner-grown}
 use Rattle.zdd_ops.proofs.SubsetLaws.{Here-below, Here-leaf, Here-own}
 use Rattle.zdd_ops.proofs.subsets.place.Goals as goal
@@ -49,3 +49,9 @@ returns-in-Leaf-clause-place g c =
     let m = c.in-Leaf.ensures.kept.grown in
     Here-leaf _ c.args.edge c.empty_family-in-Leaf.result c.args.element c.in-Leaf.field-0 c.in-Leaf.ensures.permanent (IsVariable-grown Zdd m c.args.element c.requires.element) (Is-grown Zdd m c.requires.family) c.empty_family-in-Leaf.ensures
     (subst (λ f. IsLeaf Zdd (g.G.Grow.view c.open.new.self) c.args.edge f c.in-Leaf.field-0) (sym (values_at-grown Zdd m c.requires.family)) (c.in-Leaf.ensures.opens Zdd c.requires.family))
+
+pub returns-then-level-wanted-clause-kept : goal.returns-then-level-wanted-clause-kept
+returns-then-level-wanted-clause-kept g c = Kept-trans c.in-Inner.ensures.kept (Kept-trans c.level-level.ensures.kept c.level-wanted.ensures.kept)
+
+pub returns-else-level-wanted-clause-kept : goal.returns-else-level-wanted-clause-kept
+returns-else-level-wanted-clause-kept g c = Kept-trans c.in-Inner.ensures.kept (Kept-trans c.level-level.ensures.kept c.level-wanted.ensures.kept)

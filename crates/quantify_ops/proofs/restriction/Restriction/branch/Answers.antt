@@ -1,7 +1,7 @@
 use Rattle.std.proofs.Common.{subst}
 use Rattle.edge_bits.specs.declared.edges.Kind.TheVariants.{Bdd}
 use Rattle.node_store.specs.Views.{PartsAt, bdd_at}
-use Rattle.node_store.specs.ViewLaws.{Grown-trans, Is-grown, values_at-grown}
+use Rattle.node_store.specs.ViewLaws.{Grown-trans, Is-grown, values_at-grown, Kept-trans}
 use Rattle.quantify_ops.proofs.RestrictLaws.{PartsAt-grown, asks_else, asks_first, asks_then}
 use Rattle.quantify_ops.proofs.restriction.Restriction.branch.Goals as goal
 use Rattle.quantify_ops.proofs.restriction.Restriction.branch.Goals.{After-parts}
@@ -44,3 +44,12 @@ returns-clause-asks g c = λ root leads.
     (PartsAt-grown Bdd n parts) a.ensures.f a.ensures.g b.ensures.f b.ensures.g leads
     (rw (a.ensures.g, values_at-grown Bdd c.is_false-2.ensures.kept.grown (Is-grown Bdd c.is_false.ensures.kept.grown parts.splits.hi_is)) (c.is_false.ensures.no c.if-is_false.false))
     (rw b.ensures.g (c.is_false-2.ensures.no c.if-is_false-2.false))
+
+pub returns-then-is_false-clause-kept : goal.returns-then-is_false-clause-kept
+returns-then-is_false-clause-kept g c = Kept-trans c.parts.ensures.kept c.is_false.ensures.kept
+
+pub returns-then-is_false-2-clause-kept : goal.returns-then-is_false-2-clause-kept
+returns-then-is_false-2-clause-kept g c = Kept-trans c.parts.ensures.kept (Kept-trans c.is_false.ensures.kept c.is_false-2.ensures.kept)
+
+pub returns-clause-kept : goal.returns-clause-kept
+returns-clause-kept g c = Kept-trans c.parts.ensures.kept (Kept-trans c.is_false.ensures.kept c.is_false-2.ensures.kept)

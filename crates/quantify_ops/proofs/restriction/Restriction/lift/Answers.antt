@@ -88,3 +88,9 @@ returns-clause-lifted g c =
     step_lifted o.f o.c _ _ c.args.condition c.in-Inner.hi c.in-Inner.lo c.in-Inner.var (roots_at g at _ k.grown) (condition_at g at _ k.grown) (inner_at g at _ k.grown) e.runs.grown c.in_ok-lifted.lifted e.runs.answer
     _ n.kept.grown c.open-top.result c.args.level (n.opens Bdd (Is-from Bdd e.runs.answer))
     (let test = c.if-level.false in let is = c.level.ensures.level in let same = level-grown k.grown c.in-Inner.var in omega arith)
+
+pub returns-in_default-clause-moved : goal.returns-in_default-clause-moved
+returns-in_default-clause-moved g c = Restrict-kept c.args.self.now.f c.args.self.now.c _ _ c.in_default.ensures.kept
+
+pub returns-then-level-clause-moved : goal.returns-then-level-clause-moved
+returns-then-level-clause-moved g c = Restrict-kept c.args.self.now.f c.args.self.now.c _ _ (Kept-trans c.in-Inner.ensures.kept c.level.ensures.kept)

@@ -137,3 +137,9 @@ returns-clause-next g c =
     let a = start_lifts c.args.self.now.f c.args.self.now.c _ _ _ c.args.task t.result c.regular-f.result c.in-Inner.hi c.in-Inner.lo c.in-Inner.var c.requires.due c.regular-f.ensures c.in-Inner.ensures.kept.grown here m
     t.ensures.f t.ensures.g b.result c.in-Some-2.condition c.level-level.result c.in-Inner.var (b.ensures.f ∙ sym t.ensures.f) b.ensures.g is (rw t.ensures.g lifted) in
     rw c.complement-flip.ensures (record { waits = a.waits; due = a.due; less = a.less })
+
+pub returns-in_default-clause-moved : goal.returns-in_default-clause-moved
+returns-in_default-clause-moved g c = record { moves = Restrict-kept c.args.self.now.f c.args.self.now.c _ _ c.in_default.ensures.kept; known = refl; marks = refl }
+
+pub returns-in-Some-clause-moved : goal.returns-in-Some-clause-moved
+returns-in-Some-clause-moved g c = record { moves = Restrict-kept c.args.self.now.f c.args.self.now.c _ _ c.in-Inner.ensures.kept; known = refl; marks = refl }

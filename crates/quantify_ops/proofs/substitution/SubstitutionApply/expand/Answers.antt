@@ -1,4 +1,6 @@
 use Rattle.edge_bits.specs.declared.edges.Kind.TheVariants.{Bdd}
+use Rattle.node_store.specs.ViewLaws.{Kept-trans}
+use Rattle.node_store.specs.WorkLaws.{Moves-kept}
 use Rattle.quantify_ops.proofs.SubstitutionLaws.{substitute_leaf, substitute_below, Substitute-branches}
 use Rattle.quantify_ops.proofs.substitution.SubstitutionApply.expand.Goals as goal
 
@@ -20,3 +22,9 @@ returns-clause-expanded g c =
     let o = c.args.self.now in let e = c.in-Inner.ensures in
     Substitute-branches o.f o.pairs.now o.lowest _ _ _ c.args.task c.two.result c.two-2.result c.in-Inner.var c.in-Inner.hi c.in-Inner.lo c.requires e.kept.grown (e.opens Bdd c.requires.edge)
     c.level-level.ensures.kept.grown c.two.ensures.f c.two-2.ensures.f
+
+pub returns-then-ends_above-clause-moved : goal.returns-then-ends_above-clause-moved
+returns-then-ends_above-clause-moved g c = Moves-kept _ _ _ _ (Kept-trans c.in-Inner.ensures.kept c.level-level.ensures.kept)
+
+pub returns-clause-moved : goal.returns-clause-moved
+returns-clause-moved g c = Moves-kept _ _ _ _ (Kept-trans c.in-Inner.ensures.kept c.level-level.ensures.kept)
