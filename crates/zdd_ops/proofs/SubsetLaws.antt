@@ -18,6 +18,13 @@ use Rattle.zdd_ops.proofs.Combinations.{base-without}
 use Rattle.zdd_ops.specs.Elementwise.{change-joined}
 use Rattle.zdd_ops.specs.Subsets.{Operation, SubsetAnswers, SubsetDue, SubsetSplits, subset_at, subset_at-grown, subset_depth, subset_work}
 
+-- a call that was refused made no node
+pub Moves-refused : (Roots : View → Type 0) (Work : View → Denoted → Type 0) (a u w : View) → Kept a u → Grown u w → ((s : ℕ) → w.made s ≡ true → (u.made s ≡ true) ⊎ ⊥) → Moves Roots Work a w
+Moves-refused Roots Work a u w k m made = record {
+  grown = Grown-trans k.grown m;
+  work = λ d s h. elim (made s h) [ inl old ↦ inl (sym (ap (λ (b : ℕ → Bool). b s) k.made) ∙ old) | inr bad ↦ absurd bad ];
+}
+
 -- where the element stands
 pub Here-own : (w : View) (e : Edge) (v x : ℕ) (hi lo : Edge) → IsInner Zdd w e (family_at w e) x hi lo → x ≡ v → Splits Zdd w v (family_at w e) hi lo
 Here-own w e v x hi lo i same = subst (λ y. Splits Zdd w y (family_at w e) hi lo) same i.splits

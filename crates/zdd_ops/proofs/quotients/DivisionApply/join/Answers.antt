@@ -9,6 +9,7 @@ use Rattle.node_store.proofs.Frames.{other_err}
 use Rattle.node_store.proofs.Stops.{full_stop}
 use Rattle.zdd_ops.specs.Quotients.{quotient_work}
 use Rattle.zdd_ops.proofs.QuotientSteps.{Above-can_later, Above-node_later, Both-answer, Both-meet, Divisor-can, Joined-answer, Joined-two_later, Made-due, Made-moved_later, Meet-moved, One-answer, Through}
+use Rattle.zdd_ops.proofs.SubsetLaws.{Moves-refused}
 use Rattle.zdd_ops.proofs.quotients.DivisionApply.join.Goals as goal
 
 pub divisor_at-requires : goal.divisor_at-requires
@@ -77,3 +78,6 @@ returns-in_err-meet-in-Has-clause-due g c =
     let r = err_from_is_err_and c.from_residual-in_err-meet-in-Has.result c.from_residual-in_err-meet-in-Has.ensures.1 in rw (r.1, r.2) (λ full.
     Through c.args.self.now.p c.args.self.now.q _ c.args.task _ _ c.args.var c.args.hi c.args.lo b.due b.splits b.hi_is b.lo_is _ _ _ k.grown e.runs.grown
     (Both-meet c.args.self.now.p c.args.self.now.q _ c.args.task _ _ c.args.var c.args.hi c.args.lo b.due b.splits b.hi_is b.lo_is _ c.in-Has.field-0 c.in-Has.without c.in-Has.ensures.kept c.in-Has.ensures.divided (c.is_empty.ensures.no c.if-is_empty.false)) (e.runs.due (other_err _ _ full)))
+
+pub returns-in_err-make-in-Lacks-clause-moved : goal.returns-in_err-make-in-Lacks-clause-moved
+returns-in_err-make-in-Lacks-clause-moved g c = let e = c.in_err-make-in-Lacks.ensures in Moves-refused _ _ _ _ _ c.in-Lacks.ensures.kept e.grown e.made

@@ -6,7 +6,7 @@ use Rattle.node_store.specs.Views.{Denotes}
 use Rattle.node_store.specs.ViewLaws.{Grown-trans}
 use Rattle.node_store.proofs.Stops.{full_stop}
 use Rattle.zdd_ops.specs.Subsets.{SubsetDue-stays, subset_at-grown}
-use Rattle.zdd_ops.proofs.SubsetLaws.{Subset-branches, Subset-moved-kept, Subset-refused, here_is}
+use Rattle.zdd_ops.proofs.SubsetLaws.{Moves-refused, Subset-branches, Subset-moved-kept, Subset-refused, here_is}
 use Rattle.zdd_ops.proofs.subsets.OneElementApply.expand.Goals as goal
 
 pub returns-in_ok-edge-in-Here-clause-moved : goal.returns-in_ok-edge-in-Here-clause-moved
@@ -36,3 +36,6 @@ returns-in-Above-clause-expanded g c =
     let o = g.O.ByElement in let l = g.met.O.ByElement in let el = c.args.self.now.element in let root = c.args.self.now.family in
     let m = c.in-Above.ensures.kept.grown in let p = c.in-Above.ensures.place in
     Subset-branches o.part l.other l.lacks el root _ c.args.task _ c.in-Above.hi c.in-Above.lo (SubsetDue-stays o.part el root _ _ c.args.task m c.requires) p.0 p.1 refl refl c.two.ensures.f c.two-in-Above.ensures.f
+
+pub returns-in_err-edge-in-Here-clause-moved : goal.returns-in_err-edge-in-Here-clause-moved
+returns-in_err-edge-in-Here-clause-moved g c = let e = c.in_err-edge-in-Here.ensures in Moves-refused _ _ _ _ _ c.in-Here.ensures.kept e.grown e.made
