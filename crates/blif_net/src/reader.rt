@@ -1,9 +1,10 @@
 //! The reader of networks, line by line.
 
-ghost use Rattle.std.specs.Prelude.{◌≡◌, List as ListOf, IfOk, IfErr};
+ghost use Rattle.std.specs.Prelude.{◌≡◌, List as ListOf, [], IfOk, IfErr};
 ghost use Rattle.blif_net.specs.Bounds.{NetworksAreBounded};
 ghost use Rattle.blif_net.specs.Cycles.{CyclesAreFound};
-ghost use Rattle.blif_net.specs.Drafts.{HasFaultIn, IsClosedFrom, IsNetFrom, stopped_at};
+ghost use Rattle.blif_net.specs.Circuits.{at_start};
+ghost use Rattle.blif_net.specs.Drafts.{HasFaultIn, IsClosedFrom, IsDraftOf, IsNetFrom, stopped_at, uses_in};
 ghost use Rattle.blif_net.specs.Faults.{HasFault, last_number};
 ghost use Rattle.blif_net.specs.Networks.{IsBlifText};
 ghost use Rattle.blif_net.specs.Readings.{EachHasOne, NetOrFault, OneFault, OneNet};
@@ -57,16 +58,13 @@ fn finish(alloc: Global, draft: &mut Draft, last: u64) -> Result<Net, BlifError>
     Ok(net_of(alloc, draft, &order)?)
 }
 
-/// The network of a text of any length in the Berkeley Logic Interchange Format, or its first faulty line and the first fault on it;
-/// where no line is faulty, what is wrong with the whole.
-///
-/// Names are looked up by an index whose hashes have these keys, so that chosen names do not make it slow. Want of memory may be
-/// the answer to any text.
-pub fn read(alloc: Global, keys: RandomState, text: &[u8]) -> Result<Net, BlifError>
+/// The network of a text, whose lines an empty draft takes, or its fault.
+fn read_into(alloc: Global, draft: &mut Draft, text: &[u8]) -> Result<Net, BlifError>
+    requires draft { IsDraftOf at_start draft.old }
+    requires uses { uses_in draft.old ≡ [] }
     ensures net { IfOk result (λ net. IsBlifText text.now net) }
     ensures fault { IfErr result (λ error. HasFault text.now error) }
 {
-    let mut draft = Draft::new(alloc, keys);
     let mut rest = text;
     let mut number = 1u64;
     let mut last = 0u64;
@@ -81,7 +79,20 @@ pub fn read(alloc: Global, keys: RandomState, text: &[u8]) -> Result<Net, BlifEr
         rest = next.rest;
     }
     draft.close()?;
-    finish(alloc, &mut draft, last)
+    finish(alloc, draft, last)
+}
+
+/// The network of a text of any length in the Berkeley Logic Interchange Format, or its first faulty line and the first fault on it;
+/// where no line is faulty, what is wrong with the whole.
+///
+/// Names are looked up by an index whose hashes have these keys, so that chosen names do not make it slow. Want of memory may be
+/// the answer to any text.
+pub fn read(alloc: Global, keys: RandomState, text: &[u8]) -> Result<Net, BlifError>
+    ensures net { IfOk result (λ net. IsBlifText text.now net) }
+    ensures fault { IfErr result (λ error. HasFault text.now error) }
+{
+    let mut draft = Draft::new(alloc, keys);
+    read_into(alloc, &mut draft, text)
 }
 
 /// Each text, of any length, is that of a network or has one fault, and not both; and the networks of one text give each output

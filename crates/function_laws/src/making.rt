@@ -1,8 +1,10 @@
 //! What makes a function of others, by the kind of what is made.
 
+use std::alloc::AllocError;
+
 /// What makes a function. `R` is what stands for one, as a name in a history or a register's number in a job; `V` are some
 /// variables, and `P` some with functions that are put for them.
-#[derive(Clone, Copy, Drop)]
+#[derive(Copy, Drop)]
 pub enum Making<R, V, P> {
     /// A BDD.
     Bdd(BddMaking<R, V, P>),
@@ -14,8 +16,14 @@ pub enum Making<R, V, P> {
     Zdd(ZddMaking<R>),
 }
 
+impl<R: Copy, V: Copy, P: Copy> Clone for Making<R, V, P> {
+    fn clone(&self) -> Result<Making<R, V, P>, AllocError> {
+        Ok(*self)
+    }
+}
+
 /// What makes a BDD.
-#[derive(Clone, Copy, Drop)]
+#[derive(Copy, Drop)]
 pub enum BddMaking<R, V, P> {
     /// The function that holds everywhere.
     One,
@@ -55,8 +63,14 @@ pub enum BddMaking<R, V, P> {
     Pattern(R),
 }
 
+impl<R: Copy, V: Copy, P: Copy> Clone for BddMaking<R, V, P> {
+    fn clone(&self) -> Result<BddMaking<R, V, P>, AllocError> {
+        Ok(*self)
+    }
+}
+
 /// What makes an ADD whose values are in range.
-#[derive(Clone, Copy, Drop)]
+#[derive(Copy, Drop)]
 pub enum AddMaking<R> {
     /// The constant, from -2^46 to 2^46 - 1.
     Constant(i64),
@@ -72,8 +86,14 @@ pub enum AddMaking<R> {
     AddIte(R, R, R),
 }
 
+impl<R: Copy> Clone for AddMaking<R> {
+    fn clone(&self) -> Result<AddMaking<R>, AllocError> {
+        Ok(*self)
+    }
+}
+
 /// What makes an ADD whose values may be out of range, from -2^46 to 2^46 - 1.
-#[derive(Clone, Copy, Drop)]
+#[derive(Copy, Drop)]
 pub enum ExactMaking<R> {
     /// The sum of two functions, place by place.
     Plus(R, R),
@@ -85,8 +105,14 @@ pub enum ExactMaking<R> {
     SumOver(R, u32),
 }
 
+impl<R: Copy> Clone for ExactMaking<R> {
+    fn clone(&self) -> Result<ExactMaking<R>, AllocError> {
+        Ok(*self)
+    }
+}
+
 /// What makes a ZDD, a family of combinations of elements.
-#[derive(Clone, Copy, Drop)]
+#[derive(Copy, Drop)]
 pub enum ZddMaking<R> {
     /// The family without combinations.
     Empty,
@@ -110,4 +136,10 @@ pub enum ZddMaking<R> {
     Product(R, R),
     /// The combinations that meet no combination of the second family and, joined with each of them, give one of the first; none where the second is empty.
     Quotient(R, R),
+}
+
+impl<R: Copy> Clone for ZddMaking<R> {
+    fn clone(&self) -> Result<ZddMaking<R>, AllocError> {
+        Ok(*self)
+    }
 }

@@ -446,6 +446,13 @@ impl Operands {
     pub fn act(mut self, alloc: Global, operation: Operation) -> Result<Act, AllocError>
         ensures { IfOk result (λ act. act ≡ act_of operation self) }
     {
+        self.take_act(alloc, operation)
+    }
+
+    /// The same, with the lists taken out.
+    fn take_act(&mut self, alloc: Global, operation: Operation) -> Result<Act, AllocError>
+        ensures { IfOk result (λ act. act ≡ act_of operation self.old) }
+    {
         let a = self.register(0);
         let b = self.register(1);
         let k = cell_at(self.cells.as_slice(), 0);

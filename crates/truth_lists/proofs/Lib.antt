@@ -1,2 +1,3 @@
 pub mod EightLemmas
 pub mod FourLemmas
+mod SizeRows

@@ -1,4 +1,4 @@
-use Rattle.std.proofs.Common.{◌≡◌, ◌+◌, ℕ, List, Some, ap, arith, length, map, sym, ◌∙◌}
+use Rattle.std.proofs.Common.{◌+◌, ℕ, List, Some, ap, arith, length, map, sym, ◌∙◌}
 use Rattle.std.specs.Prelude.{slice_get}
 use Rattle.blif_net.specs.declared.names.Role.{Role}
 use Rattle.blif_net.specs.Building.{signal_in}

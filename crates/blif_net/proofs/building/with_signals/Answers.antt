@@ -1,10 +1,9 @@
-use Rattle.std.proofs.Common.{◌≡◌, ◌<◌, ℕ, List, Some, ap, get_or, length, map, subst, sym, ◌∙◌}
+use Rattle.std.proofs.Common.{◌≡◌, ◌<◌, ℕ, List, ap, get_or, length, map, subst, sym, ◌∙◌}
 use Rattle.std.specs.Prelude.{slice_get, slice_index}
 use Rattle.std.specs.List.{All}
 use Rattle.std.proofs.lemmas.List.{length-map}
 use Rattle.blif_net.specs.declared.covers.CoverDraft.{CoverDraft}
 use Rattle.blif_net.specs.declared.draft.Draft.{Draft}
-use Rattle.blif_net.specs.declared.names.Role.{Role}
 use Rattle.blif_net.specs.Drafts.{AreCovers}
 use Rattle.blif_net.specs.Building.{AreSignals, gate_of, no_cover, signal_in}
 use Rattle.blif_net.specs.Names.{Name, words_in}

@@ -1,4 +1,5 @@
-use Rattle.std.proofs.Common.{◌++◌, [], ◌∷◌, List, get_or, sym, subst}
+use Rattle.std.proofs.Common.{◌++◌, [], ◌∷◌, List, get_or, sym, subst, arith}
+use Rattle.std.proofs.lemmas.Grind.{common_steps}
 use Rattle.function_laws.specs.declared.history.Name.{Name}
 use Rattle.net_builds.specs.Handings.{AreInTurn}
 use Rattle.net_builds.specs.declared.handing.Handover.{Handover}
@@ -32,3 +33,6 @@ loop-name-preserved g c =
       handed = hands_more (g.H.Host.standing c.args.session.now) (g.H.Host.standing c.loop-name.session) (g.H.Host.standing c.hand_one.new.session) c.args.names.now
           c.loop-name.name-index no_name earlier c.push.new.self.items next c.loop-name-test.true so_far one turns c.in-Ok-push.ensures.items;
     }
+
+pub returns-clause-handed : goal.returns-clause-handed
+returns-clause-handed g c = grind (arith, common_steps)

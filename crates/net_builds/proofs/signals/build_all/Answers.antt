@@ -1,4 +1,5 @@
 use Rattle.std.proofs.Common.{◌≡◌, ◌<◌, ◌∙◌, ℕ, List, get_or, arith, length, map, sym, ap, Some}
+use Rattle.std.proofs.lemmas.Grind.{common_steps}
 use Rattle.std.specs.Prelude.{is_some}
 use Rattle.std.proofs.lemmas.List.{length-map}
 use Rattle.blif_net.specs.declared.net.Output.{Output}
@@ -36,3 +37,6 @@ returns-clause-built g c =
       holds = all_hold new net rows built.built.held net.outputs names (c.note_names.ensures.long ∙ long) noted;
       rows = omega (arith, built.built.few, built.built.within);
     }
+
+pub note_names-requires-clause-long : goal.note_names-requires-clause-long
+note_names-requires-clause-long g c = grind (arith, common_steps)

@@ -1,4 +1,5 @@
-use Rattle.std.proofs.Common.{Bool, List}
+use Rattle.std.proofs.Common.{Bool, List, arith}
+use Rattle.std.proofs.lemmas.Grind.{common_steps}
 use Rattle.std.proofs.lemmas.List.Elements.{All-weaker}
 use Rattle.net_builds.specs.Standings.{IsLive}
 use Rattle.net_builds.proofs.Told.{asks_on, evaluations_more, held_asked}
@@ -24,3 +25,6 @@ loop-pattern-preserved g c =
           c.loop-pattern.evaluations.items c.push.new.self.items c.loop-pattern-test.true c.pattern-item.is c.as_slice.ensures asks c.loop-pattern.invariant.evaluations
           c.in_ok-evaluation.ensures.evaluation c.in_ok-push.ensures.items;
     }
+
+pub returns-clause-evaluations : goal.returns-clause-evaluations
+returns-clause-evaluations g c = grind (arith, common_steps)

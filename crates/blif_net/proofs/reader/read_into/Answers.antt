@@ -8,11 +8,11 @@ use Rattle.blif_net.specs.Text.{Line, joined_from, line_at, lines_of}
 use Rattle.blif_net.proofs.Reading.{all_lines, line_stops, nothing_read, read_step, text_fault, text_net}
 use Rattle.blif_net.proofs.Split.{is_nothing}
 use Rattle.blif_net.proofs.Wholes.{closed_from}
-use Rattle.blif_net.proofs.reader.read.Goals as goal
+use Rattle.blif_net.proofs.reader.read_into.Goals as goal
 
 pub loop-rest-init : goal.loop-rest-init
 loop-rest-init c = record {
-  read = record { lines = []; so_far = refl; read = nothing_read c.new-draft.result c.new-draft.ensures.draft c.new-draft.ensures.uses; last_line = refl };
+  read = record { lines = []; so_far = refl; read = nothing_read c.args.draft.now c.requires.draft c.requires.uses; last_line = refl };
   budget = omega arith;
 }
 

@@ -1,6 +1,6 @@
 use Rattle.std.proofs.Common.{◌≤◌, ◌+◌, length}
 use Rattle.blif_net.proofs.Reading.{IsReadOf}
-use Rattle.blif_net.proofs.reader.read.Given as goal
+use Rattle.blif_net.proofs.reader.read_into.Given as goal
 
 abbrev pub invariant-loop-rest : goal.invariant-loop-rest
 invariant-loop-rest l = record {
