@@ -1,6 +1,5 @@
 -- What comes of the calls on ADDs, by what their names stand for.
-use Rattle.std.proofs.Common.{arith, Bool, ◌<◌, not, true, false, ◌≡◌, ℕ, ◌^◌, cond, length, get_or, Option, Some, ap, ap₂, ◌∙◌, pos, ℤ, ◌+ℤ◌, ◌-ℤ◌, ◌*ℤ◌, int_le}
-use Rattle.std.specs.Prelude.{nat_lt}
+use Rattle.std.proofs.Common.{arith, Bool, ◌<◌, not, true, false, ◌≡◌, ℕ, ◌^◌, cond, length, Option, Some, ap, ap₂, ◌∙◌, pos, ℤ, ◌+ℤ◌, int_le}
 use Rattle.std.proofs.lemmas.Bool.{lt-ltb}
 use Rattle.edge_bits.specs.declared.edges.Edge.{Edge}
 use Rattle.edge_bits.specs.declared.edges.Kind.TheVariants as kinds

@@ -2,7 +2,7 @@
 
 ghost use Rattle.std.specs.Prelude.{◌≡◌, IfOk, codes, false};
 ghost use Rattle.clap.specs.declared.builder.command.Command.TheViews.{out-Command as fields_of};
-ghost use Rattle.clap.specs.Words.{app_of, rule_of, shape_of, with_rule, with_subcommand};
+ghost use Rattle.clap.specs.Words.{app_of, rule_of, shape_of, with_rule};
 ghost use Rattle.command_words.specs.Table.{bits, build_options, build_shape, count, flag, gen_shape, load_shape, option, table, top};
 
 use clap::{Arg, ArgAction, Command};
@@ -117,29 +117,15 @@ fn top<'a>(alloc: Global) -> Command<'a>
         .subcommand_required(true)
 }
 
-fn with_build<'a>(alloc: Global, command: Command<'a>) -> Result<Command<'a>, AllocError>
-    ensures { IfOk result (λ c. app_of c ≡ with_subcommand (app_of command.entry) build_shape) }
-{
-    command.subcommand(build_command(alloc)?)
-}
-
-fn with_load<'a>(alloc: Global, command: Command<'a>) -> Result<Command<'a>, AllocError>
-    ensures { IfOk result (λ c. app_of c ≡ with_subcommand (app_of command.entry) load_shape) }
-{
-    command.subcommand(load_command(alloc)?)
-}
-
-fn with_gen<'a>(alloc: Global, command: Command<'a>) -> Result<Command<'a>, AllocError>
-    ensures { IfOk result (λ c. app_of c ≡ with_subcommand (app_of command.entry) gen_shape) }
-{
-    command.subcommand(gen_command(alloc)?)
-}
-
 /// The commands with their options and words.
 pub fn commands<'a>(alloc: Global) -> Result<Command<'a>, AllocError>
     ensures { IfOk result (λ c. app_of c ≡ table) }
 {
-    let build = with_build(alloc, top(alloc))?;
-    let load = with_load(alloc, build)?;
-    with_gen(alloc, load)
+    let build = build_command(alloc)?;
+    let load = load_command(alloc)?;
+    let generate = gen_command(alloc)?;
+    top(alloc)
+        .subcommand(build)?
+        .subcommand(load)?
+        .subcommand(generate)
 }

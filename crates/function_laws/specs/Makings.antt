@@ -1,5 +1,5 @@
 -- What makes a function: what it takes, of what kind it is, and what comes of it.
-use Rattle.std.specs.Prelude.{◌==◌, ℕ, ◌^◌, ℤ, Bool, true, false, not, ◌&&◌, nat_lt, List, [], ◌∷◌, length, map, Option, Some, None, option_map, option_and_then}
+use Rattle.std.specs.Prelude.{◌==◌, ℕ, ◌^◌, ℤ, Bool, true, false, not, ◌&&◌, nat_lt, List, [], ◌∷◌, map, Option, Some, option_map, option_and_then}
 use Rattle.std.specs.List.{list_all, list_any}
 use Rattle.edge_bits.specs.declared.edges.Kind.{Kind}
 use Rattle.edge_bits.specs.declared.edges.Kind.TheVariants as kinds
@@ -12,7 +12,7 @@ use Rattle.function_laws.specs.declared.making.BddMaking.TheVariants as bdds
 use Rattle.function_laws.specs.declared.making.AddMaking.TheVariants as adds
 use Rattle.function_laws.specs.declared.making.ExactMaking.TheVariants as exacts
 use Rattle.function_laws.specs.declared.making.ZddMaking.TheVariants as zdds
-use Rattle.function_laws.specs.Lists.{list_of, truth, whole}
+use Rattle.function_laws.specs.Lists.{list_of}
 use Rattle.function_laws.specs.Values as values
 use Rattle.function_laws.specs.Numbers as numbers
 use Rattle.function_laws.specs.Families as families

@@ -108,8 +108,7 @@ fn text_of_report<H: Host>(
     let classes = classes_of(alloc, &listing)?;
     let nodes = listing.node_count();
     let order = listing.order.as_slice();
-    let text = report(alloc, net, &classes, &evaluations, order, nodes)?;
-    Ok(text)
+    report(alloc, net, &classes, &evaluations, order, nodes)
 }
 
 /// The report of a network whose outputs' functions have these names, with the outputs' values at each pattern.
@@ -154,8 +153,7 @@ fn text_of_summary<H: Host>(
 {
     let listing = host.list(session, names)?;
     let classes = classes_of(alloc, &listing)?;
-    let text = summary(alloc, net, &classes, listing.node_count())?;
-    Ok(text)
+    summary(alloc, net, &classes, listing.node_count())
 }
 
 /// The summary of a network whose outputs' functions have these names.

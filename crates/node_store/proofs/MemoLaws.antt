@@ -1,6 +1,6 @@
 -- What a computed table holds stays right as long as the slots that its key and its answer name denote what they did.
-use Rattle.std.proofs.Common.{◌≡◌, ℕ, Bool, true, false, not, Some, List, [], ◌∷◌, sym, subst, ◌==◌, ◌&&◌, ◌||◌}
-use Rattle.std.specs.Prelude.{◌^◌, if◌then◌else◌, pos, ◌+ℤ◌, ◌-ℤ◌, ◌*ℤ◌, int_le, nat_lt}
+use Rattle.std.proofs.Common.{◌≡◌, ℕ, Bool, true, false, Some, List, [], ◌∷◌, sym, subst, ◌==◌}
+use Rattle.std.specs.Prelude.{◌^◌, nat_lt}
 use Rattle.edge_bits.specs.declared.edges.Edge.{Edge}
 use Rattle.computed_cache.specs.declared.Key.{Key}
 use Rattle.edge_bits.specs.declared.edges.Kind.{Kind}

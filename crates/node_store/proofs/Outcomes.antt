@@ -1,5 +1,5 @@
 -- What comes of the questions that are asked of functions of any kind, by what their names stand for.
-use Rattle.std.proofs.Common.{◌≡◌, ℕ, ◌<◌, ◌^◌, Bool, true, List, length, Option, Some, option_and_then, refl, ap, ap₂, ◌∙◌, arith, subst, pos, ℤ, take_all}
+use Rattle.std.proofs.Common.{◌≡◌, ℕ, ◌<◌, ◌^◌, Bool, true, List, length, Option, Some, option_and_then, refl, ap, ap₂, ◌∙◌, arith, subst, pos, take_all}
 use Rattle.edge_bits.specs.declared.edges.Edge.{Edge}
 use Rattle.edge_bits.specs.declared.edges.Kind.{Kind}
 use Rattle.edge_bits.specs.declared.edges.Kind.TheVariants as kinds

@@ -1,4 +1,4 @@
-use Rattle.std.proofs.Common.{ap, subst, sym, ◌∙◌}
+use Rattle.std.proofs.Common.{ap, subst, sym, ◌∙◌, rules}
 use Rattle.edge_bits.specs.declared.edges.Kind.TheVariants.{Bdd}
 use Rattle.node_store.specs.Edges.{flip_if}
 use Rattle.node_store.specs.Views.{Denotes}
@@ -23,3 +23,6 @@ returns c = λ w p d.
     let s = SameAnswer-known w c.args.f c.args.g c.args.h c.flip_if-not_f.result _ _ c.flip_if-not_f.ensures d (c.known_where-then.ensures w p d.condition d.first)
     (c.known_where-other.ensures w p (Is-flip w c.args.f _ c.flip_if-not_f.ensures d.condition) d.second) in
     SameAnswer-reduced w c.args.f c.args.g c.args.h _ _ _ s c.in_order.result (c.in_order.ensures w s.three)
+
+pub returns-then-index-eq-TRUE_SLOT : goal.returns-then-index-eq-TRUE_SLOT
+returns-then-index-eq-TRUE_SLOT c = search (rules, c.requires)

@@ -1,4 +1,3 @@
-use Rattle.node_store.specs.Views.{Kept}
 use Rattle.node_store.specs.ViewLaws.{Kept-refl}
 use Rattle.node_store.proofs.binary.finish.Goals as goal
 use Rattle.node_store.proofs.binary.finish.Goals.{in-Some, in_default}

@@ -1,4 +1,4 @@
-use Rattle.std.proofs.Common.{◌+◌, length, ap, sym, ◌∙◌, subst, arith}
+use Rattle.std.proofs.Common.{◌+◌, length, ap, sym, ◌∙◌, subst, arith, rules}
 use Rattle.std.proofs.lemmas.Grind.{common_steps}
 use Rattle.std.specs.List.{count_by}
 use Rattle.node_slots.specs.Stores.{is_word}
@@ -28,3 +28,9 @@ invariant_of-self-2 c =
 
 pub add-requires-clause-few : goal.add-requires-clause-few
 add-requires-clause-few c = grind (arith, common_steps)
+
+pub returns-in_err-slot-clause-full : goal.returns-in_err-slot-clause-full
+returns-in_err-slot-clause-full c = search (rules, c.requires)
+
+pub returns-clause-placed : goal.returns-clause-placed
+returns-clause-placed c = search (rules, c.requires)
