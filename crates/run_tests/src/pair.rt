@@ -14,6 +14,7 @@ pub struct Pair {
 }
 
 impl Pair {
+    /// A gate that no worker has come to.
     pub fn new() -> Pair {
         Pair {
             first: AtomicU64::new(0),

@@ -1,0 +1,5 @@
+use Rattle.std.proofs.Common.{rules}
+use Rattle.dd_shell.proofs.adapters.Writing.new.Goals as goal
+
+pub returns : goal.returns
+returns g c = search (rules, c.requires)
