@@ -1,5 +1,7 @@
 //! What makes a function of others, by the kind of what is made.
 
+ghost use Rattle.std.specs.Prelude.{◌≡◌, ⊤};
+
 use std::alloc::AllocError;
 
 /// What makes a function. `R` is what stands for one, as a name in a history or a register's number in a job; `V` are some
@@ -17,6 +19,10 @@ pub enum Making<R, V, P> {
 }
 
 impl<R: Copy, V: Copy, P: Copy> Clone for Making<R, V, P> {
+    ghost is_clone = { λ x y. y ≡ x };
+
+    ghost is_infallible = { λ _. ⊤ };
+
     fn clone(&self) -> Result<Making<R, V, P>, AllocError> {
         Ok(*self)
     }
@@ -64,6 +70,10 @@ pub enum BddMaking<R, V, P> {
 }
 
 impl<R: Copy, V: Copy, P: Copy> Clone for BddMaking<R, V, P> {
+    ghost is_clone = { λ x y. y ≡ x };
+
+    ghost is_infallible = { λ _. ⊤ };
+
     fn clone(&self) -> Result<BddMaking<R, V, P>, AllocError> {
         Ok(*self)
     }
@@ -87,6 +97,10 @@ pub enum AddMaking<R> {
 }
 
 impl<R: Copy> Clone for AddMaking<R> {
+    ghost is_clone = { λ x y. y ≡ x };
+
+    ghost is_infallible = { λ _. ⊤ };
+
     fn clone(&self) -> Result<AddMaking<R>, AllocError> {
         Ok(*self)
     }
@@ -106,6 +120,10 @@ pub enum ExactMaking<R> {
 }
 
 impl<R: Copy> Clone for ExactMaking<R> {
+    ghost is_clone = { λ x y. y ≡ x };
+
+    ghost is_infallible = { λ _. ⊤ };
+
     fn clone(&self) -> Result<ExactMaking<R>, AllocError> {
         Ok(*self)
     }
@@ -139,6 +157,10 @@ pub enum ZddMaking<R> {
 }
 
 impl<R: Copy> Clone for ZddMaking<R> {
+    ghost is_clone = { λ x y. y ≡ x };
+
+    ghost is_infallible = { λ _. ⊤ };
+
     fn clone(&self) -> Result<ZddMaking<R>, AllocError> {
         Ok(*self)
     }
