@@ -47,8 +47,9 @@ use Rattle.dd_session.specs.declared.answers.Refusal.{Refusal}
 use Rattle.dd_session.specs.declared.answers.Refusal.TheVariants as refusals
 use Rattle.dd_session.specs.declared.book.Book.{Book}
 use Rattle.dd_session.specs.Sessions.{Called, Denies, IsAsBefore, Managed, Seen, fulls_in}
+use Rattle.node_slots.specs.Stores.{IsStore}
 use Rattle.dd_session.specs.Works.{HasRows, IsOfWork, StoresWork}
-use Rattle.dd_session.specs.Turns.{Gives, HasValue, IsCausedBy, IsRefused, IsSeatOf, MayBeFull, Notes, Stands, Tied, Told, Took, Tried, managed_by, names_by, seen_by, seen_of}
+use Rattle.dd_session.specs.Turns.{Gives, HasValue, IsCausedBy, IsRefused, IsSeatOf, IsSmall, MayBeFull, Notes, Stands, Tied, Told, Took, Tried, managed_by, names_by, seen_by, seen_of}
 use Rattle.dd_session.proofs.Tying.{tied_room, tied_same}
 
 -- from what a taking of the turn tells
@@ -77,21 +78,25 @@ pub gives_held : (d e : Draws) (x : Shared) (call : Call) (o : Outcome) → Took
 gives_held d e x call o took idle gives t agrees =
     subst (λ (s : ℕ). outcome t s call ≡ Some o) (sym (session-same d e x took)) (gives t (agrees_before d e x took idle t agrees))
 
+-- a store is small
+pub small_store : (x : Shared) → IsStore x.store → IsSmall (view_of x)
+small_store x of = (of.few_variables, of.few_elements)
+
 -- each store that lasts from the one that was taken keeps the rows
-pub stands_of : (d e : Draws) (x y : Shared) → Took d e x → Lasts x y → orders y ≡ orders x → Stands y d
+pub stands_of : (d e : Draws) (x y : Shared) → Took d e x → Lasts x y → orders y ≡ orders x → Stands (view_of y) d
 stands_of d e x y took lasts same = let serves = serves-lasts x y lasts e same took.serves in record {
   rows_kept = subst (KeepsRows keeps board counts count orders y) (ap (λ (z : Draws). z.rows) took.is) serves.rows_kept;
   counts_are = serves.counts_are ∙ (λ i. ((took.is i).vars, (took.is i).elements, (took.is i).slots));
 }
 
-pub stands_taken : (d e : Draws) (x : Shared) → Took d e x → Stands x d
+pub stands_taken : (d e : Draws) (x : Shared) → Took d e x → Stands (view_of x) d
 stands_taken d e x took = record {
   rows_kept = subst (KeepsRows keeps board counts count orders x) (ap (λ (z : Draws). z.rows) took.is) took.serves.rows_kept;
   counts_are = took.serves.counts_are ∙ (λ i. ((took.is i).vars, (took.is i).elements, (took.is i).slots));
 }
 
 -- a store that stands has the session's rows
-pub has_rows : (table : TableId) (d : Draws) (spare : ℕ) (x : Shared) → Stands x d → HasRows (view_of x) (seen_by table d spare)
+pub has_rows : (table : TableId) (d : Draws) (spare : ℕ) (x : Shared) → Stands (view_of x) d → HasRows (view_of x) (seen_by table d spare)
 has_rows table d spare x stands = record { vars = ap (λ (p : ℕ × ℕ × ℕ). p.0) stands.counts_are; elements = ap (λ (p : ℕ × ℕ × ℕ). p.1) stands.counts_are; rows = stands.rows_kept }
 
 adds_are : (c : Change) (n : ℕ) → adds_after c n ≡ n + names_by c

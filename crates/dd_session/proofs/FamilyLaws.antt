@@ -15,7 +15,6 @@ use Rattle.node_store.specs.Contents.{IsSound}
 use Rattle.node_store.specs.Listed.{listed, listed_at}
 use Rattle.node_store.specs.Views.{View, AreTwo, Denotes, Is, family_at}
 use Rattle.node_store.specs.ViewLaws.{Is-from, values_at-is}
-use Rattle.node_slots.specs.Stores.{IsStore}
 use Rattle.node_slots.proofs.Settling.{base-without}
 use Rattle.node_slots.specs.Wholes.{content_view}
 use Rattle.zdd_ops.specs.Elements.{IsElement}
@@ -24,7 +23,7 @@ use Rattle.seat_guard.specs.declared.view.Draws.{Draws}
 use Rattle.shared_store.specs.declared.shared.Shared.{Shared}
 use Rattle.shared_store.specs.Sharing.{view_of}
 use Rattle.dd_session.specs.Requests.{terminal_call, terminal_edge, terminal_family}
-use Rattle.dd_session.specs.Turns.{Gives, HasValue, IsEdgeOf, Stands}
+use Rattle.dd_session.specs.Turns.{Gives, HasValue, IsEdgeOf, IsSmall, Stands}
 use Rattle.dd_session.proofs.NumberLaws.{held_at}
 use Rattle.dd_session.proofs.Outcomes.{elements, has_value}
 
@@ -33,11 +32,11 @@ terminal_denotes : (x : Shared) (b : Bool) → IsSound (content_view x.store) �
 terminal_denotes x true sound = record { is = sound.base_family; beyond = λ v from. base-without (element_of v); fits = tt }
 terminal_denotes x false sound = record { is = sound.empty_family; beyond = λ v from a has. refl; fits = tt }
 
-pub told_terminal : (d : Draws) (b : Bool) (x : Shared) → IsSound (content_view x.store) → Stands x d → (e : Edge) → e ≡ terminal_edge b
+pub told_terminal : (d : Draws) (b : Bool) (x : Shared) → IsSound (content_view x.store) → Stands (view_of x) d → (e : Edge) → e ≡ terminal_edge b
     → Is kinds.Zdd (view_of x) e × Gives d (terminal_call b) (makes (listed_at kinds.Zdd (view_of x) e))
 told_terminal d b x sound stands e is = subst (λ (i : Edge). Is kinds.Zdd (view_of x) i × Gives d (terminal_call b) (makes (listed_at kinds.Zdd (view_of x) i))) (sym is) (
   Is-from kinds.Zdd denotes,
-  λ t agrees. by b t (elements d t x agrees stands) ∙ ap (λ (f : ℕ → Bool). Some (makes (listed kinds.Zdd (view_of x) f))) (sym (values_at-is kinds.Zdd denotes)),
+  λ t agrees. by b t (elements d t (view_of x) agrees stands) ∙ ap (λ (f : ℕ → Bool). Some (makes (listed kinds.Zdd (view_of x) f))) (sym (values_at-is kinds.Zdd denotes)),
 )
   where
     denotes : Denotes kinds.Zdd (view_of x) (terminal_edge b) (terminal_family b)
@@ -49,20 +48,20 @@ told_terminal d b x sound stands e is = subst (λ (i : Edge). Is kinds.Zdd (view
 
 module _ (d : Draws) where
   -- an element of the manager is one of the store
-  element_in : (x : Shared) → IsStore x.store → Stands x d → (e : ℕ) → e < d.elements → IsElement (view_of x) e
+  element_in : (x : View) → IsSmall x → Stands x d → (e : ℕ) → e < d.elements → IsElement x e
   element_in x of stands e lt =
-      let few = of.few_elements in
-      let n : (view_of x).elements ≡ d.elements = ap (λ (p : ℕ × ℕ × ℕ). p.1) stands.counts_are in
+      let few = of.1 in
+      let n : x.elements ≡ d.elements = ap (λ (p : ℕ × ℕ × ℕ). p.1) stands.counts_are in
       record { few = omega (arith, few, n, lt); in_range = omega (arith, n, lt) }
 
-  pub told_single : (e : ℕ) → e < d.elements → (x : Shared) → IsStore x.store → Stands x d → IsElement (view_of x) e × HasValue kinds.Zdd (λ u edge. Denotes kinds.Zdd u edge (single e)) d (view_of x) (calls.Makes (makings.Zdd (zdds.Single e)))
-  told_single e lt x of stands = let w = view_of x in let element = element_in x of stands e lt in
-      (element, has_value kinds.Zdd d (view_of x) (calls.Makes (makings.Zdd (zdds.Single e))) (single e) (λ t agrees. outcome-single w t.sizes t.cells (t.live d.session) (elements d t x agrees stands) e element.in_range))
+  pub told_single : (e : ℕ) → e < d.elements → (x : View) → IsSmall x → Stands x d → IsElement x e × HasValue kinds.Zdd (λ u edge. Denotes kinds.Zdd u edge (single e)) d x (calls.Makes (makings.Zdd (zdds.Single e)))
+  told_single e lt x of stands = let w = x in let element = element_in x of stands e lt in
+      (element, has_value kinds.Zdd d x (calls.Makes (makings.Zdd (zdds.Single e))) (single e) (λ t agrees. outcome-single w t.sizes t.cells (t.live d.session) (elements d t x agrees stands) e element.in_range))
 
   -- an operation by one element
-  module _ (a : Name) (i : Edge) (first : IsEdgeOf kinds.Zdd d a i) (e : ℕ) (lt : e < d.elements) (x : Shared) (of : IsStore x.store) (stands : Stands x d) where
+  module _ (a : Name) (i : Edge) (first : IsEdgeOf kinds.Zdd d a i) (e : ℕ) (lt : e < d.elements) (x : View) (of : IsSmall x) (stands : Stands x d) where
     abbrev w₁ : View
-    w₁ = view_of x
+    w₁ = x
 
     element : IsElement w₁ e
     element = element_in x of stands e lt
@@ -77,9 +76,9 @@ module _ (d : Draws) where
     told_change = (((first x stands).0, element), has_value kinds.Zdd d w₁ (calls.Makes (makings.Zdd (zdds.Change a e))) (change (family_at w₁ i) e) (λ t agrees. outcome-change w₁ t.sizes t.cells (t.live d.session) (elements d t x agrees stands) a e i element.in_range (held_at d kinds.Zdd a i first x stands t agrees)))
 
   -- and on two families
-  module _ (a b : Name) (e i : Edge) (first : IsEdgeOf kinds.Zdd d a e) (second : IsEdgeOf kinds.Zdd d b i) (x : Shared) (of : IsStore x.store) (stands : Stands x d) where
+  module _ (a b : Name) (e i : Edge) (first : IsEdgeOf kinds.Zdd d a e) (second : IsEdgeOf kinds.Zdd d b i) (x : View) (of : IsSmall x) (stands : Stands x d) where
     abbrev w : View
-    w = view_of x
+    w = x
 
     two : AreTwo kinds.Zdd w e i
     two = record { first = (first x stands).0; second = (second x stands).0 }

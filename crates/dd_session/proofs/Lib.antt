@@ -17,3 +17,4 @@ pub mod SessionLaws
 pub mod RestrictLaws
 pub mod WalkingLemmas
 pub mod ListingLaws
+mod Sweepings

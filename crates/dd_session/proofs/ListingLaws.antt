@@ -30,15 +30,15 @@ use Rattle.dd_session.proofs.Serving.{serves-same}
 use Rattle.dd_session.proofs.Tying.{tied_same}
 
 -- a store that serves keeps the rows
-pub serving_stands : (d : Draws) (x : Shared) → Serving x d → Stands x d
+pub serving_stands : (d : Draws) (x : Shared) → Serving x d → Stands (view_of x) d
 serving_stands d x serves = record { rows_kept = serves.rows_kept; counts_are = serves.counts_are }
 
-module _ (d : Draws) (x : Shared) (stands : Stands x d) where
+module _ (d : Draws) (x : Shared) (stands : Stands (view_of x) d) where
   -- the edges of BDDs' rows are BDDs of the store
   pub edges_are : (names : List Name) → All (IsNamed kinds.Bdd d.rows) names → All (Is kinds.Bdd (view_of x)) (map (edge_in d.rows) names)
   edges_are [] all = All-nil (Is kinds.Bdd (view_of x))
   edges_are (name ∷ names) all = All-cons (Is kinds.Bdd (view_of x)) (edge_in d.rows name) (map (edge_in d.rows) names)
-      (own_edge d name kinds.Bdd (All-head (IsNamed kinds.Bdd d.rows) name names all) x stands).0
+      (own_edge d name kinds.Bdd (All-head (IsNamed kinds.Bdd d.rows) name names all) (view_of x) stands).0
       (edges_are names (All-tail (IsNamed kinds.Bdd d.rows) name names all))
 
   -- and the names stand for what they denote
@@ -46,7 +46,7 @@ module _ (d : Draws) (x : Shared) (stands : Stands x d) where
       → map (stands_for d.rows) names ≡ map (λ (f : ℕ → Bool). Some (Bdd (list_of (2 ^ d.vars) f))) (map (bdd_at (view_of x)) (map (edge_in d.rows) names))
   stand_all [] all = refl
   stand_all (name ∷ names) all = ap₂ (λ (o : Option Function) (os : List (Option Function)). o ∷ os)
-      ((own_edge d name kinds.Bdd (All-head (IsNamed kinds.Bdd d.rows) name names all) x stands).1
+      ((own_edge d name kinds.Bdd (All-head (IsNamed kinds.Bdd d.rows) name names all) (view_of x) stands).1
       ∙ ap (λ (z : ℕ × ℕ × ℕ). Some (Bdd (list_of (2 ^ z.0) (bdd_at (view_of x) (edge_in d.rows name))))) stands.counts_are)
       (stand_all names (All-tail (IsNamed kinds.Bdd d.rows) name names all))
 

@@ -15,7 +15,7 @@ use Rattle.seat_guard.specs.declared.view.Held.{Held}
 use Rattle.seat_guard.specs.declared.view.Row.{Row}
 use Rattle.seat_guard.specs.declared.view.Draws.{Draws}
 use Rattle.seat_guard.specs.Views.{stands_for}
-use Rattle.shared_store.specs.Sharing.{keeps, kind_of, view_of}
+use Rattle.shared_store.specs.Sharing.{IsHeldIn, keeps, kind_of, view_of}
 use Rattle.dd_session.specs.Sessions.{IsNamed, Seen, edge_in, edge_or, held_as}
 use Rattle.dd_session.specs.Turns.{IsEdgeOf, IsSeatOf, Tied, live_as}
 
@@ -80,8 +80,8 @@ own_edge d name k named x stands =
     let h = stands_held d.rows name named.0 named.1 in
     let kind : kind_of h.0.function ≡ k = ap kind_of h.2 ∙ named.2 in
     let same : edge_in d.rows name ≡ h.0.edge = ap edge_or h.1 in
-    let kept : keeps x h.0 = held_kept (keeps x) d.rows name h.0 stands.rows_kept h.1 in
-    let w = view_of x in
+    let kept : IsHeldIn x h.0 = held_kept (IsHeldIn x) d.rows name h.0 stands.rows_kept h.1 in
+    let w = x in
     subst (λ (y : Kind × Edge). Is y.0 w y.1 × (stands_for d.rows name ≡ Some (listed_at y.0 w y.1))) (λ i. (kind i, sym same i))
     (kept.0, held_stands d.rows name ∙ ap (option_map (λ (z : Held). z.function)) h.1 ∙ ap Some (sym kept.1))
 
@@ -113,8 +113,8 @@ module _ (d : Draws) (rows : RowMap) (name : Name) (tied : Tied d rows) where
   edge_stands e is k named x stands =
       let h = finds_row k named in
       let same : e ≡ h.0.edge = subst (λ (o : Option Live). IfSome o (λ held. e ≡ held.edge)) h.2 is in
-      let kept : keeps x h.0 = held_kept (keeps x) d.rows name h.0 stands.rows_kept h.1 in
-      let w = view_of x in
+      let kept : IsHeldIn x h.0 = held_kept (IsHeldIn x) d.rows name h.0 stands.rows_kept h.1 in
+      let w = x in
       subst (λ (y : Kind × Edge). Is y.0 w y.1 × (stands_for d.rows name ≡ Some (listed_at y.0 w y.1))) (λ i. (h.3 i, sym same i))
       (kept.0, held_stands d.rows name ∙ ap (option_map (λ (z : Held). z.function)) h.1 ∙ ap Some (sym kept.1))
 

@@ -21,38 +21,37 @@ use Rattle.function_laws.specs.Values.{constant, if_then_else}
 use Rattle.node_store.specs.Listed.{listed_at}
 use Rattle.node_store.specs.Three.{AreThree}
 use Rattle.node_store.specs.Views.{View, AreTwo, Denotes, Is, IsVariable, add_at, bdd_at}
-use Rattle.node_slots.specs.Stores.{IsStore}
 use Rattle.add_ops.proofs.OutcomeLaws.{IsOf-place, IsOf-sum, outcome-add_ite, outcome-at_least, outcome-constant, outcome-exact, outcome-from_bdd, outcome-pattern, outcome-placed, outcome-sum_over}
 use Rattle.seat_guard.specs.declared.view.Draws.{Draws}
 use Rattle.seat_guard.specs.Views.{Agrees}
 use Rattle.shared_store.specs.declared.shared.Shared.{Shared}
 use Rattle.shared_store.specs.Sharing.{view_of}
-use Rattle.dd_session.specs.Turns.{HasExact, HasValue, IsEdgeOf, Stands}
+use Rattle.dd_session.specs.Turns.{HasExact, HasValue, IsEdgeOf, IsSmall, Stands}
 use Rattle.dd_session.proofs.OperationLaws.{variable_in}
 use Rattle.dd_session.proofs.Outcomes.{has_value, live, vars}
 
 -- what a row's name stands for, in a table that agrees
-pub held_at : (d : Draws) (k : Kind) (a : Name) (e : Edge) → IsEdgeOf k d a e → (x : Shared) → Stands x d → (t : Table) → Agrees d t → t.live d.session a ≡ Some (listed_at k (view_of x) e)
-held_at d k a e edge x stands t agrees = live d t a (listed_at k (view_of x) e) agrees (edge x stands).1
+pub held_at : (d : Draws) (k : Kind) (a : Name) (e : Edge) → IsEdgeOf k d a e → (x : View) → Stands x d → (t : Table) → Agrees d t → t.live d.session a ≡ Some (listed_at k x e)
+held_at d k a e edge x stands t agrees = live d t a (listed_at k x e) agrees (edge x stands).1
 
 module _ (d : Draws) where
-  pub told_constant : (v : ℤ) → IsLeafValue v → (x : Shared) → IsStore x.store → Stands x d → IsLeafValue v × HasValue kinds.Add (λ u edge. Denotes kinds.Add u edge (constant v)) d (view_of x) (calls.Makes (makings.Add (adds.Constant v)))
-  told_constant v fits x of stands = let w = view_of x in
-      (fits, has_value kinds.Add d (view_of x) (calls.Makes (makings.Add (adds.Constant v))) (constant v) (λ t agrees. outcome-constant w t.sizes t.cells (t.live d.session) (vars d t x agrees stands) v fits))
+  pub told_constant : (v : ℤ) → IsLeafValue v → (x : View) → IsSmall x → Stands x d → IsLeafValue v × HasValue kinds.Add (λ u edge. Denotes kinds.Add u edge (constant v)) d x (calls.Makes (makings.Add (adds.Constant v)))
+  told_constant v fits x of stands = let w = x in
+      (fits, has_value kinds.Add d x (calls.Makes (makings.Add (adds.Constant v))) (constant v) (λ t agrees. outcome-constant w t.sizes t.cells (t.live d.session) (vars d t x agrees stands) v fits))
 
-  pub told_from_bdd : (a : Name) (e : Edge) → IsEdgeOf kinds.Bdd d a e → (x : Shared) → IsStore x.store → Stands x d
-      → Is kinds.Bdd (view_of x) e × HasValue kinds.Add (λ u edge. Denotes kinds.Add u edge (from_truth (bdd_at (view_of x) e))) d (view_of x) (calls.Makes (makings.Add (adds.FromBdd a)))
-  told_from_bdd a e first x of stands = let w = view_of x in
-      ((first x stands).0, has_value kinds.Add d (view_of x) (calls.Makes (makings.Add (adds.FromBdd a))) (from_truth (bdd_at (view_of x) e)) (λ t agrees. outcome-from_bdd w t.sizes t.cells (t.live d.session) a e (held_at d kinds.Bdd a e first x stands t agrees)))
+  pub told_from_bdd : (a : Name) (e : Edge) → IsEdgeOf kinds.Bdd d a e → (x : View) → IsSmall x → Stands x d
+      → Is kinds.Bdd x e × HasValue kinds.Add (λ u edge. Denotes kinds.Add u edge (from_truth (bdd_at x e))) d x (calls.Makes (makings.Add (adds.FromBdd a)))
+  told_from_bdd a e first x of stands = let w = x in
+      ((first x stands).0, has_value kinds.Add d x (calls.Makes (makings.Add (adds.FromBdd a))) (from_truth (bdd_at x e)) (λ t agrees. outcome-from_bdd w t.sizes t.cells (t.live d.session) a e (held_at d kinds.Bdd a e first x stands t agrees)))
 
-  pub told_add_ite : (a b c : Name) (e i j : Edge) → IsEdgeOf kinds.Bdd d a e → IsEdgeOf kinds.Add d b i → IsEdgeOf kinds.Add d c j → (x : Shared) → IsStore x.store → Stands x d
-      → AreThree kinds.Add (view_of x) e i j × HasValue kinds.Add (λ u edge. Denotes kinds.Add u edge (if_then_else (bdd_at (view_of x) e) (add_at (view_of x) i) (add_at (view_of x) j))) d (view_of x) (calls.Makes (makings.Add (adds.AddIte a b c)))
-  told_add_ite a b c e i j first second third x of stands = let w = view_of x in (record { condition = (first x stands).0; first = (second x stands).0; second = (third x stands).0 }, has_value kinds.Add d (view_of x) (calls.Makes (makings.Add (adds.AddIte a b c))) (if_then_else (bdd_at (view_of x) e) (add_at (view_of x) i) (add_at (view_of x) j)) (λ t agrees. outcome-add_ite w t.sizes t.cells (t.live d.session) a b c e i j (held_at d kinds.Bdd a e first x stands t agrees) (held_at d kinds.Add b i second x stands t agrees) (held_at d kinds.Add c j third x stands t agrees)))
+  pub told_add_ite : (a b c : Name) (e i j : Edge) → IsEdgeOf kinds.Bdd d a e → IsEdgeOf kinds.Add d b i → IsEdgeOf kinds.Add d c j → (x : View) → IsSmall x → Stands x d
+      → AreThree kinds.Add x e i j × HasValue kinds.Add (λ u edge. Denotes kinds.Add u edge (if_then_else (bdd_at x e) (add_at x i) (add_at x j))) d x (calls.Makes (makings.Add (adds.AddIte a b c)))
+  told_add_ite a b c e i j first second third x of stands = let w = x in (record { condition = (first x stands).0; first = (second x stands).0; second = (third x stands).0 }, has_value kinds.Add d x (calls.Makes (makings.Add (adds.AddIte a b c))) (if_then_else (bdd_at x e) (add_at x i) (add_at x j)) (λ t agrees. outcome-add_ite w t.sizes t.cells (t.live d.session) a b c e i j (held_at d kinds.Bdd a e first x stands t agrees) (held_at d kinds.Add b i second x stands t agrees) (held_at d kinds.Add c j third x stands t agrees)))
 
   -- an operation on one function of numbers
-  module _ (a : Name) (e : Edge) (first : IsEdgeOf kinds.Add d a e) (x : Shared) (of : IsStore x.store) (stands : Stands x d) where
+  module _ (a : Name) (e : Edge) (first : IsEdgeOf kinds.Add d a e) (x : View) (of : IsSmall x) (stands : Stands x d) where
     abbrev w₁ : View
-    w₁ = view_of x
+    w₁ = x
 
     pub told_at_least : (v : ℤ) → Is kinds.Add w₁ e × HasValue kinds.Bdd (λ u edge. Denotes kinds.Bdd u edge (at_least (add_at w₁ e) v)) d w₁ (calls.Makes (makings.Bdd (bdds.AtLeast a v)))
     told_at_least v = ((first x stands).0, has_value kinds.Bdd d w₁ (calls.Makes (makings.Bdd (bdds.AtLeast a v))) (at_least (add_at w₁ e) v) (λ t agrees. outcome-at_least w₁ t.sizes t.cells (t.live d.session) a e (held_at d kinds.Add a e first x stands t agrees) v))
@@ -64,9 +63,9 @@ module _ (d : Draws) where
     told_sum_over v lt = let var = variable_in d x of stands v lt in (((first x stands).0, var), record { is_of = IsOf-sum w₁.vars v (add_at w₁ e) var.1 (first x stands).0.beyond; gives = λ t agrees. outcome-sum_over w₁ t.sizes t.cells (t.live d.session) a e (held_at d kinds.Add a e first x stands t agrees) (vars d t x agrees stands) v var.1 })
 
   -- and on two
-  module _ (a b : Name) (e i : Edge) (first : IsEdgeOf kinds.Add d a e) (second : IsEdgeOf kinds.Add d b i) (x : Shared) (of : IsStore x.store) (stands : Stands x d) where
+  module _ (a b : Name) (e i : Edge) (first : IsEdgeOf kinds.Add d a e) (second : IsEdgeOf kinds.Add d b i) (x : View) (of : IsSmall x) (stands : Stands x d) where
     abbrev w : View
-    w = view_of x
+    w = x
 
     two : AreTwo kinds.Add w e i
     two = record { first = (first x stands).0; second = (second x stands).0 }

@@ -24,7 +24,6 @@ use Rattle.function_laws.specs.Values.{conjunction, disjunction, exclusive, exis
 use Rattle.node_store.specs.Listed.{listed_at}
 use Rattle.node_store.specs.Three.{AreThree, ite_at}
 use Rattle.node_store.specs.Views.{View, AreTwo, Denotes, Is, IsVariable, bdd_at}
-use Rattle.node_slots.specs.Stores.{IsStore}
 use Rattle.seat_guard.specs.declared.view.Draws.{Draws}
 use Rattle.seat_guard.specs.Views.{Agrees}
 use Rattle.shared_store.specs.declared.shared.Shared.{Shared}
@@ -34,28 +33,28 @@ use Rattle.ite_core.proofs.OutcomeLaws.{outcome-and, outcome-cofactor, outcome-i
 use Rattle.quantify_ops.specs.Composed.{composed_at}
 use Rattle.quantify_ops.specs.Quantified.{both_at}
 use Rattle.quantify_ops.proofs.OutcomeLaws.{outcome-and_exists, outcome-compose, outcome-exists, outcome-forall, outcome-support, outcome-vector_compose}
-use Rattle.dd_session.specs.Turns.{Gives, HasValue, IsEdgeOf, Stands, Took}
+use Rattle.dd_session.specs.Turns.{Gives, HasValue, IsEdgeOf, IsSmall, Stands, Took}
 use Rattle.dd_session.proofs.Calls.{gives_held, stands_taken}
 use Rattle.dd_session.proofs.Outcomes.{has_value, live, vars}
 
 module _ (d : Draws) where
   -- a variable of the manager is one of the store
-  pub variable_in : (x : Shared) → IsStore x.store → Stands x d → (v : ℕ) → v < d.vars → IsVariable kinds.Bdd (view_of x) v
+  pub variable_in : (x : View) → IsSmall x → Stands x d → (v : ℕ) → v < d.vars → IsVariable kinds.Bdd x v
   variable_in x of stands v lt =
-      let few = of.few_variables in
-      let n : (view_of x).vars ≡ d.vars = ap (λ (p : ℕ × ℕ × ℕ). p.0) stands.counts_are in
+      let few = of.0 in
+      let n : x.vars ≡ d.vars = ap (λ (p : ℕ × ℕ × ℕ). p.0) stands.counts_are in
       (omega (arith, few, n, lt), omega (arith, n, lt))
 
-  variables_in : (x : Shared) → IsStore x.store → Stands x d → (vs : List ℕ) → All (λ v. v < d.vars) vs → All (IsVariable kinds.Bdd (view_of x)) vs
+  variables_in : (x : View) → IsSmall x → Stands x d → (vs : List ℕ) → All (λ v. v < d.vars) vs → All (IsVariable kinds.Bdd x) vs
   variables_in x of stands vs all = λ k v below. variable_in x of stands _ (all k v below)
 
-  variables_within : (x : Shared) → IsStore x.store → Stands x d → (vs : List ℕ) → All (λ v. v < d.vars) vs → All (λ v. v < (view_of x).vars) vs
+  variables_within : (x : View) → IsSmall x → Stands x d → (vs : List ℕ) → All (λ v. v < d.vars) vs → All (λ v. v < x.vars) vs
   variables_within x of stands vs all = λ k v below. (variable_in x of stands _ (all k v below)).1
 
   -- an operation on one row
-  module _ (a : Name) (e : Edge) (first : IsEdgeOf kinds.Bdd d a e) (x : Shared) (of : IsStore x.store) (stands : Stands x d) where
+  module _ (a : Name) (e : Edge) (first : IsEdgeOf kinds.Bdd d a e) (x : View) (of : IsSmall x) (stands : Stands x d) where
     abbrev w₁ : View
-    w₁ = view_of x
+    w₁ = x
 
     abbrev own : (t : Table) → Agrees d t → t.live d.session a ≡ Some (listed_at kinds.Bdd w₁ e)
     own t agrees = live d t a (listed_at kinds.Bdd w₁ e) agrees (first x stands).1
@@ -76,9 +75,9 @@ module _ (d : Draws) where
     told_support = ((first x stands).0, has_value kinds.Bdd d w₁ (calls.Makes (makings.Bdd (bdds.Support a))) (support w₁.vars (bdd_at w₁ e)) (λ t agrees. outcome-support w₁ t.sizes t.cells (t.live d.session) (vars d t x agrees stands) a e (own t agrees)))
 
   -- and on two
-  module _ (a b : Name) (e i : Edge) (first : IsEdgeOf kinds.Bdd d a e) (second : IsEdgeOf kinds.Bdd d b i) (x : Shared) (of : IsStore x.store) (stands : Stands x d) where
+  module _ (a b : Name) (e i : Edge) (first : IsEdgeOf kinds.Bdd d a e) (second : IsEdgeOf kinds.Bdd d b i) (x : View) (of : IsSmall x) (stands : Stands x d) where
     abbrev w : View
-    w = view_of x
+    w = x
 
     two : AreTwo kinds.Bdd w e i
     two = record { first = (first x stands).0; second = (second x stands).0 }
@@ -107,9 +106,9 @@ module _ (d : Draws) where
     told_compose v lt = let var = variable_in x of stands v lt in ((two, var), has_value kinds.Bdd d w (calls.Makes (makings.Bdd (bdds.Compose a v b))) (composed_at w e v i) (λ t agrees. outcome-compose w t.sizes t.cells (t.live d.session) a b e i (own_first t agrees) (own_second t agrees) (vars d t x agrees stands) v var.1))
 
   -- and on three
-  module _ (a b c : Name) (e i j : Edge) (first : IsEdgeOf kinds.Bdd d a e) (second : IsEdgeOf kinds.Bdd d b i) (third : IsEdgeOf kinds.Bdd d c j) (x : Shared) (of : IsStore x.store) (stands : Stands x d) where
+  module _ (a b c : Name) (e i j : Edge) (first : IsEdgeOf kinds.Bdd d a e) (second : IsEdgeOf kinds.Bdd d b i) (third : IsEdgeOf kinds.Bdd d c j) (x : View) (of : IsSmall x) (stands : Stands x d) where
     abbrev w₃ : View
-    w₃ = view_of x
+    w₃ = x
 
     pub told_ite : AreThree kinds.Bdd w₃ e i j × HasValue kinds.Bdd (λ v edge. Denotes kinds.Bdd v edge (ite_at kinds.Bdd w₃ e i j)) d w₃ (calls.Makes (makings.Bdd (bdds.Ite a b c)))
     told_ite = (record { condition = (first x stands).0; first = (second x stands).0; second = (third x stands).0 }, has_value kinds.Bdd d w₃ (calls.Makes (makings.Bdd (bdds.Ite a b c))) (ite_at kinds.Bdd w₃ e i j) (λ t agrees. outcome-ite w₃ t.sizes t.cells (t.live d.session) a b c e i j (live d t a (listed_at kinds.Bdd w₃ e) agrees (first x stands).1) (live d t b (listed_at kinds.Bdd w₃ i) agrees (second x stands).1) (live d t c (listed_at kinds.Bdd w₃ j) agrees (third x stands).1)))
@@ -119,9 +118,9 @@ edge_variables : (rows : List Row) (pairs : List (ℕ × Name)) → map (λ pair
 edge_variables rows [] = refl
 edge_variables rows (pair ∷ pairs) = ap (λ rest. pair.0 ∷ rest) (edge_variables rows pairs)
 
-module _ (d : Draws) (x : Shared) (of : IsStore x.store) (stands : Stands x d) where
+module _ (d : Draws) (x : View) (of : IsSmall x) (stands : Stands x d) where
   abbrev w₄ : View
-  w₄ = view_of x
+  w₄ = x
 
   pairs_live : (t : Table) (pairs : List (ℕ × Name)) → All (λ pair. IsNamed kinds.Bdd d.rows pair.1) pairs → Agrees d t
       → bdds_of (t.live d.session) pairs ≡ Some (map (listed_pair (2 ^ w₄.vars)) (functions_of w₄ (map (with_edge d.rows) pairs)))
@@ -152,8 +151,8 @@ pub gives_leq : (old held : Draws) (x : Shared) → Took old held x → old.hold
     → (b' : Bool) × (told ≡ b') × Gives held (calls.Leq a b) (tells b')
 gives_leq old held x took idle a b e i first second told is =
     let w = view_of x in
-    let s = first x (stands_taken old held x took) in
-    let r = second x (stands_taken old held x took) in (
+    let s = first (view_of x) (stands_taken old held x took) in
+    let r = second (view_of x) (stands_taken old held x took) in (
       leq_of (list_of (2 ^ w.vars) (bdd_at w e)) (list_of (2 ^ w.vars) (bdd_at w i)),
       leq_of-list_of w.vars (bdd_at w e) (bdd_at w i) told s.0.beyond r.0.beyond is,
       gives_held old held x (calls.Leq a b) (tells (leq_of (list_of (2 ^ w.vars) (bdd_at w e)) (list_of (2 ^ w.vars) (bdd_at w i)))) took idle
@@ -161,4 +160,4 @@ gives_leq old held x took idle a b e i first second told is =
     )
 
 pub two_held : (old held : Draws) (x : Shared) → Took old held x → (a b : Name) (e i : Edge) → IsEdgeOf kinds.Bdd old a e → IsEdgeOf kinds.Bdd old b i → AreTwo kinds.Bdd (view_of x) e i
-two_held old held x took a b e i first second = record { first = (first x (stands_taken old held x took)).0; second = (second x (stands_taken old held x took)).0 }
+two_held old held x took a b e i first second = record { first = (first (view_of x) (stands_taken old held x took)).0; second = (second (view_of x) (stands_taken old held x took)).0 }

@@ -39,8 +39,8 @@ module _ (d : Draws) where
   pub live : (t : Table) (name : Name) (f : Function) → Agrees d t → stands_for d.rows name ≡ Some f → t.live d.session name ≡ Some f
   live t name f agrees stands = ap (λ (h : Name → Option Function). h name) agrees.live ∙ stands
 
-  pub vars : (t : Table) (x : Shared) → Agrees d t → Stands x d → t.sizes.variables ≡ (view_of x).vars
-  vars t x agrees stands = ap (λ (z : Sizes). z.variables) agrees.sizes_are ∙ sym (ap (λ (p : ℕ × ℕ × ℕ). p.0) stands.counts_are)
+  pub vars : (t : Table) (w : View) → Agrees d t → Stands w d → t.sizes.variables ≡ w.vars
+  vars t w agrees stands = ap (λ (z : Sizes). z.variables) agrees.sizes_are ∙ sym (ap (λ (p : ℕ × ℕ × ℕ). p.0) stands.counts_are)
 
 -- an operation whose answers denote what the call makes
 pub has_value : (k : Kind) (d : Draws) (w : View) (call : Call) (f : ℕ → ValueOf k) → Gives d call (makes (listed k w f)) → HasValue k (λ u edge. Denotes k u edge f) d w call
@@ -50,29 +50,29 @@ has_value k d w call f gives = record { value = f; gives = gives; denotes = λ u
 module _ (old held : Draws) (x : Shared) (took : Took old held x) (idle : old.holds ≡ false) where
   pub gives_copy : (k k' : Kind) (a : Name) (e : Edge) → k' ≡ k → IsEdgeOf k old a e → Gives held (calls.Copy a) (makes (listed_at k' (view_of x) e))
   gives_copy k k' a e is edge = subst (λ (j : Kind). Gives held (calls.Copy a) (makes (listed_at j (view_of x) e))) (sym is) (gives_held old held x (calls.Copy a) (makes (listed_at k (view_of x) e)) took idle
-      (λ t agrees. ap (λ o. with_one o makes) (live old t a (listed_at k (view_of x) e) agrees (edge x (stands_taken old held x took)).1)))
+      (λ t agrees. ap (λ o. with_one o makes) (live old t a (listed_at k (view_of x) e) agrees (edge (view_of x) (stands_taken old held x took)).1)))
 
   pub is_kind : (k k' : Kind) (a : Name) (e : Edge) → k' ≡ k → IsEdgeOf k old a e → Is k' (view_of x) e
-  is_kind k k' a e is edge = subst (λ (j : Kind). Is j (view_of x) e) (sym is) (edge x (stands_taken old held x took)).0
+  is_kind k k' a e is edge = subst (λ (j : Kind). Is j (view_of x) e) (sym is) (edge (view_of x) (stands_taken old held x took)).0
 
   -- a comparison
   pub gives_same : (k : Kind) (a b : Name) (e i : Edge) → IsEdgeOf k old a e → IsEdgeOf k old b i → Gives held (calls.Same a b) (compares (listed_at k (view_of x) e) (listed_at k (view_of x) i))
   gives_same k a b e i first second = gives_held old held x (calls.Same a b) (compares (listed_at k (view_of x) e) (listed_at k (view_of x) i)) took idle (λ t agrees.
-      outcome-same (view_of x) t.sizes t.cells (t.live old.session) k a b e i (live old t a (listed_at k (view_of x) e) agrees (first x (stands_taken old held x took)).1) (live old t b (listed_at k (view_of x) i) agrees (second x (stands_taken old held x took)).1))
+      outcome-same (view_of x) t.sizes t.cells (t.live old.session) k a b e i (live old t a (listed_at k (view_of x) e) agrees (first (view_of x) (stands_taken old held x took)).1) (live old t b (listed_at k (view_of x) i) agrees (second (view_of x) (stands_taken old held x took)).1))
 
   pub same_told : (k : Kind) (a b : Name) (e i : Edge) (told : Bool) → IsEdgeOf k old a e → IsEdgeOf k old b i → IsTrue told ↔ (values_at k (view_of x) e ≡ values_at k (view_of x) i) → IsTrue told ↔ (listed_at k (view_of x) e ≡ listed_at k (view_of x) i)
   same_told k a b e i told first second is = let s = stands_taken old held x took in
-      ((λ yes. ap (listed k (view_of x)) (is.0 yes)), (λ same. is.1 (same-listed k (view_of x) (values_at k (view_of x) e) (values_at k (view_of x) i) (first x s).0.beyond (second x s).0.beyond same)))
+      ((λ yes. ap (listed k (view_of x)) (is.0 yes)), (λ same. is.1 (same-listed k (view_of x) (values_at k (view_of x) e) (values_at k (view_of x) i) (first (view_of x) s).0.beyond (second (view_of x) s).0.beyond same)))
 
   -- what the name stands for as the turn was taken
   pub stands_held_as : (k : Kind) (a : Name) (e : Edge) → IsEdgeOf k old a e → stands_for held.rows a ≡ Some (listed_at k (view_of x) e)
-  stands_held_as k a e edge = ap (λ (z : Draws). stands_for z.rows a) took.is ∙ (edge x (stands_taken old held x took)).1
+  stands_held_as k a e edge = ap (λ (z : Draws). stands_for z.rows a) took.is ∙ (edge (view_of x) (stands_taken old held x took)).1
 
 -- the complement of a row
-pub told_not : (d : Draws) (a : Name) (e e' : Edge) → e' ≡ record e { complement = not e.complement } → IsEdgeOf kinds.Bdd d a e → (x : Shared) → Stands x d
+pub told_not : (d : Draws) (a : Name) (e e' : Edge) → e' ≡ record e { complement = not e.complement } → IsEdgeOf kinds.Bdd d a e → (x : Shared) → Stands (view_of x) d
     → Is kinds.Bdd (view_of x) e' × Gives d (calls.Makes (makings.Bdd (bdds.Not a))) (makes (listed_at kinds.Bdd (view_of x) e'))
 told_not d a e e' is edge x stands =
-    let s = edge x stands in
+    let s = edge (view_of x) stands in
     let w = view_of x in
     let denotes : Denotes kinds.Bdd w e' (negation (bdd_at w e)) = subst (λ (i : Edge). Denotes kinds.Bdd w i (negation (bdd_at w e))) (sym is) (Denotes-flip s.0) in (
       Is-from kinds.Bdd denotes,
@@ -84,11 +84,11 @@ truth_denotes : (w : View) (b : Bool) → w.content true_slot ≡ Some (BddFunct
 truth_denotes w true is = record { is = is; beyond = λ v from k c. refl; fits = tt }
 truth_denotes w false is = record { is = ap (flipped true) is; beyond = λ v from k c. refl; fits = tt }
 
-pub told_truth : (d : Draws) (b : Bool) (x : Shared) → IsSound (content_view x.store) → Stands x d → (e : Edge) → e ≡ truth_edge b
+pub told_truth : (d : Draws) (b : Bool) (x : Shared) → IsSound (content_view x.store) → Stands (view_of x) d → (e : Edge) → e ≡ truth_edge b
     → Is kinds.Bdd (view_of x) e × Gives d (truth_call b) (makes (listed_at kinds.Bdd (view_of x) e))
 told_truth d b x sound stands e is = subst (λ (i : Edge). Is kinds.Bdd (view_of x) i × Gives d (truth_call b) (makes (listed_at kinds.Bdd (view_of x) i))) (sym is) (
   Is-from kinds.Bdd denotes,
-  λ t agrees. by b t (vars d t x agrees stands) ∙ ap (λ (f : ℕ → Bool). Some (makes (listed kinds.Bdd (view_of x) f))) (sym (values_at-is kinds.Bdd denotes)),
+  λ t agrees. by b t (vars d t (view_of x) agrees stands) ∙ ap (λ (f : ℕ → Bool). Some (makes (listed kinds.Bdd (view_of x) f))) (sym (values_at-is kinds.Bdd denotes)),
 )
   where
     denotes : Denotes kinds.Bdd (view_of x) (truth_edge b) (constant b)
@@ -105,11 +105,11 @@ gives_var old held x y took idle lasts same v e lt denotes =
     let stands = stands_of old held x y took lasts same in
     let within : v < (view_of y).vars = (let n = ap (λ (p : ℕ × ℕ × ℕ). p.0) stands.counts_are in omega (arith, n, lt)) in
     gives_held old held x (calls.Makes (makings.Bdd (bdds.Var v))) (makes (listed_at kinds.Bdd (view_of y) e)) took idle
-    (λ t agrees. outcome-var (view_of y) t.sizes t.cells (t.live old.session) (vars old t y agrees stands) v within ∙ ap (λ (f : ℕ → Bool). Some (makes (listed kinds.Bdd (view_of y) f))) (sym (values_at-is kinds.Bdd denotes)))
+    (λ t agrees. outcome-var (view_of y) t.sizes t.cells (t.live old.session) (vars old t (view_of y) agrees stands) v within ∙ ap (λ (f : ℕ → Bool). Some (makes (listed kinds.Bdd (view_of y) f))) (sym (values_at-is kinds.Bdd denotes)))
 
 -- the value at some bits
-pub elements : (d : Draws) (t : Table) (x : Shared) → Agrees d t → Stands x d → t.sizes.elements ≡ (view_of x).elements
-elements d t x agrees stands = ap (λ (z : Sizes). z.elements) agrees.sizes_are ∙ sym (ap (λ (p : ℕ × ℕ × ℕ). p.1) stands.counts_are)
+pub elements : (d : Draws) (t : Table) (w : View) → Agrees d t → Stands w d → t.sizes.elements ≡ w.elements
+elements d t w agrees stands = ap (λ (z : Sizes). z.elements) agrees.sizes_are ∙ sym (ap (λ (p : ℕ × ℕ × ℕ). p.1) stands.counts_are)
 
 pub walked_bits : (table : TableId) (old held : Draws) (x : Shared) → Took old held x → (k : Kind) (bits : List Bool) → length bits ≡ bits_of k (managed_by table old) → length bits ≡ levels k (view_of x)
 walked_bits table old held x took kinds.Bdd bits long = long ∙ sym (ap (λ (p : ℕ × ℕ × ℕ). p.0) (stands_taken old held x took).counts_are)
@@ -121,4 +121,4 @@ pub gives_eval : (old held : Draws) (x : Shared) → Took old held x → old.hol
 gives_eval old held x took idle k a e bits long edge =
     let s = stands_taken old held x took in
     gives_held old held x (calls.Eval a bits) (shows (number_of k (values_at k (view_of x) e (assignment_of bits)))) took idle
-    (λ t agrees. outcome-eval (view_of x) t.sizes t.cells (t.live old.session) (vars old t x agrees s) (elements old t x agrees s) k a bits e long (live old t a (listed_at k (view_of x) e) agrees (edge x s).1))
+    (λ t agrees. outcome-eval (view_of x) t.sizes t.cells (t.live old.session) (vars old t (view_of x) agrees s) (elements old t (view_of x) agrees s) k a bits e long (live old t a (listed_at k (view_of x) e) agrees (edge (view_of x) s).1))

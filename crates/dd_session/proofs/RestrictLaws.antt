@@ -36,12 +36,12 @@ module _ (d e : Draws) (x y : Shared) (made : Result Edge Stop) (took : Took d e
   abbrev v : View
   v = view_of tried.from
 
-  stands : Stands tried.from d
+  stands : Stands (view_of tried.from) d
   stands = stands_of d e x tried.from took tried.lasts tried.orders_are
 
   gives : Gives e (calls.Makes (makings.Bdd (bdds.Restrict a b))) (restricts (list_of (2 ^ v.vars) (bdd_at v i)) (list_of (2 ^ v.vars) (bdd_at v j)))
   gives = gives_held d e x (calls.Makes (makings.Bdd (bdds.Restrict a b))) (restricts (list_of (2 ^ v.vars) (bdd_at v i)) (list_of (2 ^ v.vars) (bdd_at v j))) took idle
-      (λ t agrees. outcome-restrict v t.sizes t.cells (t.live d.session) a b i j (live d t a (listed_at kinds.Bdd v i) agrees (first tried.from stands).1) (live d t b (listed_at kinds.Bdd v j) agrees (second tried.from stands).1))
+      (λ t agrees. outcome-restrict v t.sizes t.cells (t.live d.session) a b i j (live d t a (listed_at kinds.Bdd v i) agrees (first (view_of tried.from) stands).1) (live d t b (listed_at kinds.Bdd v j) agrees (second (view_of tried.from) stands).1))
 
   pub restrict_may_full : MayBeFull e (calls.Makes (makings.Bdd (bdds.Restrict a b)))
   restrict_may_full t agrees = (restricts (list_of (2 ^ v.vars) (bdd_at v i)) (list_of (2 ^ v.vars) (bdd_at v j)), gives t agrees, refl)

@@ -1,3 +1,4 @@
+pub mod Counting
 pub mod Sessions
 pub mod Walking
 pub mod Works

@@ -8,7 +8,6 @@ use Rattle.function_laws.specs.Histories.{IsLegal, table_after}
 use Rattle.function_laws.specs.SessionEntries.{Each, entries_of}
 use Rattle.function_laws.specs.Tables.{opening}
 use Rattle.node_store.specs.Contents.{Content}
-use Rattle.node_slots.specs.Held.{Alone}
 use Rattle.dead_sweep.specs.declared.sweeping.Swept.{Swept}
 use Rattle.dead_sweep.specs.Swept.{IsSwept}
 use Rattle.seat_guard.specs.declared.seat.Guard.{Guard}
@@ -22,6 +21,7 @@ pub use Rattle.seat_guard.specs.Views.{sizes_for, stands_for}
 use Rattle.shared_store.specs.declared.shared.Shared.{Shared}
 use Rattle.handle_count.specs.RowMaps.{RowMap}
 use Rattle.dd_session.specs.declared.answers.Fetched.{Fetched}
+use Rattle.dd_session.specs.Counting.{ZeroStays}
 use Rattle.dd_session.specs.declared.book.Book.{Book}
 use Rattle.dd_session.specs.Sessions as sessions
 use Rattle.dd_session.specs.Turns as turns
@@ -88,7 +88,7 @@ pub record IsSweptOut (m : Managed) (log : List Entry) (left : ℕ) : Type 0 whe
   pub unheld : (k : ℕ) → before.count k ≡ 0
   pub unpinned : (k : ℕ) → before.pinned k ≡ false
   pub orders_are : before.orders ≡ orders_from (opening_orders (sizes_for m.vars m.elements)) log
-  pub is_swept : IsSwept Alone before after swept
+  pub is_swept : IsSwept ZeroStays before after swept
   pub left_is : left ≡ swept.in_use
 
 -- The manager was closed with these sessions: so many calls are one history, and so many slots were left.

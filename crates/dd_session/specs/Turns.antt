@@ -17,6 +17,7 @@ use Rattle.function_laws.specs.Lists.{list_of, truth}
 use Rattle.function_laws.specs.Numbers.{exactly}
 use Rattle.function_laws.specs.Values.{IsOf}
 use Rattle.function_laws.specs.Outcomes.{Outcome, makes, restricts, fetches, in_range}
+use Rattle.function_laws.specs.SessionEntries.{Each}
 use Rattle.function_laws.specs.Steps.{needs_no_node, outcome}
 use Rattle.function_laws.specs.Tables.{Table}
 use Rattle.handle_count.specs.declared.rows.Held.{Held as Live}
@@ -35,14 +36,14 @@ use Rattle.seat_guard.specs.declared.view.Leaving.{Leaving}
 use Rattle.seat_guard.specs.declared.view.Row.{Row}
 use Rattle.seat_guard.specs.declared.view.Telling.{Telling}
 use Rattle.seat_guard.specs.Passes.{IsPassOf, in_hand, known}
-use Rattle.seat_guard.specs.Turn.{KeepsRows, one_if, row_count}
+use Rattle.seat_guard.specs.Turn.{one_if, row_count}
 use Rattle.seat_guard.specs.declared.view.Change.{Change}
 use Rattle.seat_guard.specs.declared.view.Change.TheVariants.{Adds}
 use Rattle.seat_guard.specs.Views.{Agrees, MayTell, holding, letting_go, stands_for, told_of}
 use Rattle.shared_store.specs.declared.shared.Cell.{Cell}
 use Rattle.shared_store.specs.declared.shared.Shared.{Shared}
 use Rattle.shared_store.specs.Lasting.{Lasts}
-use Rattle.shared_store.specs.Sharing.{Serving, board, count, counts, due, functions, keeps, kind_of, orders, view_of}
+use Rattle.shared_store.specs.Sharing.{IsHeldIn, Serving, board, count, counts, due, functions, keeps, kind_of, orders, view_of}
 use Rattle.shared_store.specs.Storing.{IsLeaving, IsListedWork, StoresOnly}
 use Rattle.dd_session.specs.declared.answers.Fetched.{Fetched}
 use Rattle.dd_session.specs.declared.answers.Fetched.TheVariants.{Posted, Empty}
@@ -139,14 +140,22 @@ pub record Started (g : Guard Shared) (p p' : Pass Shared) (book book' : Book) (
   pub spare : book'.rows.spare ≡ max book.rows.spare 1
   pub few : (k : ℕ) → count x k ≤ 2 ^ 31 + 256
 
--- a store that keeps the seat's rows
-pub record Stands (x : Shared) (d : Draws) : Type 0 where
-  pub rows_kept : KeepsRows keeps board counts count orders x d.rows
-  pub counts_are : counts x ≡ (d.vars, d.elements, d.slots)
+-- how many variables, elements and slots a view has
+abbrev pub sizes_in : View → ℕ × ℕ × ℕ
+sizes_in w = (w.vars, w.elements, w.slots)
 
--- the edge of a row, in each store that keeps the rows
+-- a view of a store that has the seat's rows
+pub record Stands (w : View) (d : Draws) : Type 0 where
+  pub rows_kept : Each (λ (row : Row). IsHeldIn w row.held) d.rows
+  pub counts_are : sizes_in w ≡ (d.vars, d.elements, d.slots)
+
+-- it has no more variables and elements than a store may have
+abbrev pub IsSmall : View → Type 0
+IsSmall w = (w.vars ≤ 1024) × (w.elements ≤ 1024)
+
+-- the edge of a row, in each view that has the rows
 abbrev pub IsEdgeOf : Kind → Draws → Name → Edge → Type 0
-IsEdgeOf k d name e = (x : Shared) → Stands x d → Is k (view_of x) e × (stands_for d.rows name ≡ Some (listed_at k (view_of x) e))
+IsEdgeOf k d name e = (w : View) → Stands w d → Is k w e × (stands_for d.rows name ≡ Some (listed_at k w e))
 
 -- the turn was given back with this content
 pub record Left (d d' : Draws) (y : Shared) : Type 0 where

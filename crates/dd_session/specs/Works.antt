@@ -3,18 +3,17 @@ use Rattle.std.specs.Prelude.{◌≡◌, ◌⊎◌, Contains, Some, Result, Ok, 
 use Rattle.function_laws.specs.declared.history.Function.{Function}
 use Rattle.function_laws.specs.Kinds.{Denoted}
 use Rattle.function_laws.specs.SessionEntries.{Each}
+use Rattle.node_store.specs.Contents.{Content}
 use Rattle.node_store.specs.Views.{View}
-use Rattle.node_slots.specs.Held.{Alone}
-use Rattle.node_slots.specs.Wholes.{content_view}
 use Rattle.dead_sweep.specs.declared.sweeping.Swept.{Swept}
 use Rattle.dead_sweep.specs.Swept.{IsSwept}
 use Rattle.seat_guard.specs.declared.view.Row.{Row}
-use Rattle.shared_store.specs.declared.shared.Shared.{Shared}
 use Rattle.shared_store.specs.Sharing.{IsHeldIn, view_of}
 use Rattle.shared_store.specs.Storing.{IsListedWork}
 use Rattle.dd_session.specs.declared.answers.Refusal.{Refusal}
 use Rattle.dd_session.specs.declared.answers.Refusal.TheVariants as refusals
 use Rattle.dd_session.specs.Sessions.{Seen}
+use Rattle.dd_session.specs.Counting.{ZeroStays}
 
 -- a store with the session's rows: each row's edge denotes its function
 pub record HasRows (w : View) (s : Seen) : Type 0 where
@@ -39,9 +38,12 @@ no_work w f = ⊥
 abbrev pub StoresNothing : Seen → Type 0
 StoresNothing s = (f : Function) → Contains s.stored f → ⊥
 
--- what a sweep told: of a store with the session's rows it freed what nothing reaches, and these are its numbers
+-- What a sweep told: out of a store with the session's rows it freed what nothing reaches, and these are its numbers. Others may have changed counts meanwhile.
 pub record IsSweepOf (s : Seen) (swept : Swept) : Type 0 where
-  pub before : Shared
-  pub after : Shared
-  pub has : HasRows (view_of before) s
-  pub is_swept : IsSwept Alone (content_view before.store) (content_view after.store) swept
+  pub before : Content
+  pub after : Content
+  -- what the session saw of the store before
+  pub seen : View
+  pub has : HasRows seen s
+  pub same : seen.content ≡ before.function
+  pub is_swept : IsSwept ZeroStays before after swept

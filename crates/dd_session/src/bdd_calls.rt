@@ -32,7 +32,7 @@ use crate::starting::start;
 use edge_bits::{Edge, Kind};
 use function_laws::{BddMaking, Making};
 use handle_count::H;
-use node_slots::{PlainStore, Stop};
+use node_slots::{Grow, Stop};
 use shared_store::Cell;
 use std::sync::Wait;
 
@@ -52,7 +52,7 @@ impl Operation for And {
 
     ghost work = { λ op w. value_of_two Bdd (λ a b. a && b) op.f op.g w };
 
-    fn run(&self, store: &mut PlainStore) -> Result<Edge, Stop> {
+    fn run<G: Grow>(&self, store: &mut G) -> Result<Edge, Stop> {
         ite_core::and(store, self.f, self.g)
     }
 }
@@ -73,7 +73,7 @@ impl Operation for Or {
 
     ghost work = { λ op w. value_of_two Bdd (λ a b. a || b) op.f op.g w };
 
-    fn run(&self, store: &mut PlainStore) -> Result<Edge, Stop> {
+    fn run<G: Grow>(&self, store: &mut G) -> Result<Edge, Stop> {
         ite_core::or(store, self.f, self.g)
     }
 }
@@ -94,7 +94,7 @@ impl Operation for Xor {
 
     ghost work = { λ op w. value_of_two Bdd differs op.f op.g w };
 
-    fn run(&self, store: &mut PlainStore) -> Result<Edge, Stop> {
+    fn run<G: Grow>(&self, store: &mut G) -> Result<Edge, Stop> {
         ite_core::xor(store, self.f, self.g)
     }
 }
@@ -116,7 +116,7 @@ impl Operation for Ite {
 
     ghost work = { λ op w. value_of_three Bdd op.f op.g op.h w };
 
-    fn run(&self, store: &mut PlainStore) -> Result<Edge, Stop> {
+    fn run<G: Grow>(&self, store: &mut G) -> Result<Edge, Stop> {
         ite_core::ite(store, self.f, self.g, self.h)
     }
 }
@@ -138,7 +138,7 @@ impl Operation for Cofactor {
 
     ghost work = { λ op w. value_of_cofactor op.f op.var op.bit w };
 
-    fn run(&self, store: &mut PlainStore) -> Result<Edge, Stop> {
+    fn run<G: Grow>(&self, store: &mut G) -> Result<Edge, Stop> {
         ite_core::cofactor(store, self.f, self.var, self.bit)
     }
 }
@@ -159,7 +159,7 @@ impl<'a> Operation for Exists<'a> {
 
     ghost work = { λ op w. work_of_exists op.f op.vars.now w };
 
-    fn run(&self, store: &mut PlainStore) -> Result<Edge, Stop> {
+    fn run<G: Grow>(&self, store: &mut G) -> Result<Edge, Stop> {
         quantify_ops::exists(store, self.f, self.vars)
     }
 }
@@ -180,7 +180,7 @@ impl<'a> Operation for Forall<'a> {
 
     ghost work = { λ op w. work_of_forall op.f op.vars.now w };
 
-    fn run(&self, store: &mut PlainStore) -> Result<Edge, Stop> {
+    fn run<G: Grow>(&self, store: &mut G) -> Result<Edge, Stop> {
         quantify_ops::forall(store, self.f, self.vars)
     }
 }
@@ -202,7 +202,7 @@ impl<'a> Operation for AndExists<'a> {
 
     ghost work = { λ op w. work_of_and_exists op.f op.g op.vars.now w };
 
-    fn run(&self, store: &mut PlainStore) -> Result<Edge, Stop> {
+    fn run<G: Grow>(&self, store: &mut G) -> Result<Edge, Stop> {
         quantify_ops::and_exists(store, self.f, self.g, self.vars)
     }
 }
@@ -224,7 +224,7 @@ impl Operation for Compose {
 
     ghost work = { λ op w. value_of_compose op.f op.var op.g w };
 
-    fn run(&self, store: &mut PlainStore) -> Result<Edge, Stop> {
+    fn run<G: Grow>(&self, store: &mut G) -> Result<Edge, Stop> {
         quantify_ops::compose(store, self.f, self.var, self.g)
     }
 }
@@ -244,7 +244,7 @@ impl Operation for Support {
 
     ghost work = { λ op w. value_of_support op.f w };
 
-    fn run(&self, store: &mut PlainStore) -> Result<Edge, Stop> {
+    fn run<G: Grow>(&self, store: &mut G) -> Result<Edge, Stop> {
         quantify_ops::support(store, self.f)
     }
 }
@@ -265,7 +265,7 @@ impl<'a> Operation for VectorCompose<'a> {
 
     ghost work = { λ op w. value_of_vector_compose op.f op.pairs.now w };
 
-    fn run(&self, store: &mut PlainStore) -> Result<Edge, Stop> {
+    fn run<G: Grow>(&self, store: &mut G) -> Result<Edge, Stop> {
         quantify_ops::vector_compose(store, self.f, self.pairs)
     }
 }
@@ -286,7 +286,7 @@ impl Operation for Restrict {
 
     ghost work = { λ op w. work_of_restrict op.f op.g w };
 
-    fn run(&self, store: &mut PlainStore) -> Result<Edge, Stop> {
+    fn run<G: Grow>(&self, store: &mut G) -> Result<Edge, Stop> {
         quantify_ops::restrict(store, self.f, self.g)
     }
 }

@@ -22,7 +22,7 @@ use crate::settling::{add_row, be_full, exceed};
 use add_ops::Overflow;
 use edge_bits::{Edge, Kind};
 use function_laws::Name;
-use node_slots::{PlainStore, Stop};
+use node_slots::{Grow, Stop};
 use seat_guard::seat::{Guard, Pass};
 use shared_store::{Cell, Shared, put_back};
 
@@ -33,7 +33,6 @@ pub trait ExactOperation {
     ghost use Rattle.function_laws.specs.Kinds.{Denoted};
     ghost use Rattle.node_store.specs.Operations.{Calls};
     ghost use Rattle.node_store.specs.Views.{View};
-    ghost use Rattle.node_slots.specs.Stores.{plain_view};
     ghost use Rattle.add_ops.specs.Exact.{exact_halts};
 
     // Its edges denote what it works on.
@@ -44,9 +43,9 @@ pub trait ExactOperation {
 
     ghost work: { Self → View → Denoted → Type 0 };
 
-    fn run(&self, store: &mut PlainStore) -> Result<Result<Edge, Overflow>, Stop>
-        requires { stands self.now (plain_view store.old) }
-        ensures { Calls Add (value self.now (plain_view store.old)) (work self.now (plain_view store.old)) (plain_view store.old) (plain_view store.new) (exact_halts result) };
+    fn run<G: Grow>(&self, store: &mut G) -> Result<Result<Edge, Overflow>, Stop>
+        requires { stands self.now (G.view store.old) }
+        ensures { Calls Add (value self.now (G.view store.old)) (work self.now (G.view store.old)) (G.view store.old) (G.view store.new) (exact_halts result) };
 }
 
 /// One try. Calls bound to `_before` and `_after` are there for what they tell: what holds of each store between two calls.

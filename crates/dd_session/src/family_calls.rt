@@ -26,7 +26,7 @@ use crate::session::Session;
 use edge_bits::{Edge, Kind};
 use function_laws::{Making, ZddMaking};
 use handle_count::H;
-use node_slots::{PlainStore, Stop};
+use node_slots::{Grow, Stop};
 use std::sync::Wait;
 
 /// The family of the combination of one element.
@@ -44,7 +44,7 @@ impl Operation for Single {
 
     ghost work = { λ op w. value_of_single op.element };
 
-    fn run(&self, store: &mut PlainStore) -> Result<Edge, Stop> {
+    fn run<G: Grow>(&self, store: &mut G) -> Result<Edge, Stop> {
         zdd_ops::single(store, self.element)
     }
 }
@@ -65,7 +65,7 @@ impl Operation for Union {
 
     ghost work = { λ op w. value_of_two Zdd (λ a b. a || b) op.p op.q w };
 
-    fn run(&self, store: &mut PlainStore) -> Result<Edge, Stop> {
+    fn run<G: Grow>(&self, store: &mut G) -> Result<Edge, Stop> {
         zdd_ops::union(store, self.p, self.q)
     }
 }
@@ -86,7 +86,7 @@ impl Operation for Meet {
 
     ghost work = { λ op w. value_of_two Zdd (λ a b. a && b) op.p op.q w };
 
-    fn run(&self, store: &mut PlainStore) -> Result<Edge, Stop> {
+    fn run<G: Grow>(&self, store: &mut G) -> Result<Edge, Stop> {
         zdd_ops::meet(store, self.p, self.q)
     }
 }
@@ -107,7 +107,7 @@ impl Operation for Diff {
 
     ghost work = { λ op w. value_of_two Zdd (λ a b. a && not b) op.p op.q w };
 
-    fn run(&self, store: &mut PlainStore) -> Result<Edge, Stop> {
+    fn run<G: Grow>(&self, store: &mut G) -> Result<Edge, Stop> {
         zdd_ops::diff(store, self.p, self.q)
     }
 }
@@ -128,7 +128,7 @@ impl Operation for Subset1 {
 
     ghost work = { λ op w. subset_work subset1 (first_element + op.element) op.p w };
 
-    fn run(&self, store: &mut PlainStore) -> Result<Edge, Stop> {
+    fn run<G: Grow>(&self, store: &mut G) -> Result<Edge, Stop> {
         zdd_ops::subset1(store, self.p, self.element)
     }
 }
@@ -149,7 +149,7 @@ impl Operation for Subset0 {
 
     ghost work = { λ op w. subset_work subset0 (first_element + op.element) op.p w };
 
-    fn run(&self, store: &mut PlainStore) -> Result<Edge, Stop> {
+    fn run<G: Grow>(&self, store: &mut G) -> Result<Edge, Stop> {
         zdd_ops::subset0(store, self.p, self.element)
     }
 }
@@ -170,7 +170,7 @@ impl Operation for Change {
 
     ghost work = { λ op w. subset_work change (first_element + op.element) op.p w };
 
-    fn run(&self, store: &mut PlainStore) -> Result<Edge, Stop> {
+    fn run<G: Grow>(&self, store: &mut G) -> Result<Edge, Stop> {
         zdd_ops::change(store, self.p, self.element)
     }
 }
@@ -191,7 +191,7 @@ impl Operation for Product {
 
     ghost work = { λ op w. product_work op.p op.q w };
 
-    fn run(&self, store: &mut PlainStore) -> Result<Edge, Stop> {
+    fn run<G: Grow>(&self, store: &mut G) -> Result<Edge, Stop> {
         zdd_ops::product(store, self.p, self.q)
     }
 }
@@ -212,7 +212,7 @@ impl Operation for Quotient {
 
     ghost work = { λ op w. quotient_work op.p op.q w };
 
-    fn run(&self, store: &mut PlainStore) -> Result<Edge, Stop> {
+    fn run<G: Grow>(&self, store: &mut G) -> Result<Edge, Stop> {
         zdd_ops::quotient(store, self.p, self.q)
     }
 }

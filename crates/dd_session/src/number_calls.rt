@@ -29,7 +29,7 @@ use add_ops::Overflow;
 use edge_bits::{Edge, Kind};
 use function_laws::{AddMaking, BddMaking, ExactMaking, Making};
 use handle_count::H;
-use node_slots::{PlainStore, Stop};
+use node_slots::{Grow, Stop};
 use std::sync::Wait;
 
 /// The constant function of a number.
@@ -47,7 +47,7 @@ impl Operation for Constant {
 
     ghost work = { λ op w. value_of_constant op.value };
 
-    fn run(&self, store: &mut PlainStore) -> Result<Edge, Stop> {
+    fn run<G: Grow>(&self, store: &mut G) -> Result<Edge, Stop> {
         add_ops::constant(store, self.value)
     }
 }
@@ -67,7 +67,7 @@ impl Operation for FromBdd {
 
     ghost work = { λ op w. value_of_one Bdd Add (λ b. if b then pos 1 else pos 0) op.f w };
 
-    fn run(&self, store: &mut PlainStore) -> Result<Edge, Stop> {
+    fn run<G: Grow>(&self, store: &mut G) -> Result<Edge, Stop> {
         add_ops::from_bdd(store, self.f)
     }
 }
@@ -88,7 +88,7 @@ impl Operation for Min {
 
     ghost work = { λ op w. value_of_two Add (λ a b. if int_le a b then a else b) op.f op.g w };
 
-    fn run(&self, store: &mut PlainStore) -> Result<Edge, Stop> {
+    fn run<G: Grow>(&self, store: &mut G) -> Result<Edge, Stop> {
         add_ops::min(store, self.f, self.g)
     }
 }
@@ -109,7 +109,7 @@ impl Operation for Max {
 
     ghost work = { λ op w. value_of_two Add (λ a b. if int_le b a then a else b) op.f op.g w };
 
-    fn run(&self, store: &mut PlainStore) -> Result<Edge, Stop> {
+    fn run<G: Grow>(&self, store: &mut G) -> Result<Edge, Stop> {
         add_ops::max(store, self.f, self.g)
     }
 }
@@ -130,7 +130,7 @@ impl Operation for Threshold {
 
     ghost work = { λ op w. value_of_two Add (λ a b. if int_le b a then a else pos 0) op.f op.g w };
 
-    fn run(&self, store: &mut PlainStore) -> Result<Edge, Stop> {
+    fn run<G: Grow>(&self, store: &mut G) -> Result<Edge, Stop> {
         add_ops::threshold(store, self.f, self.g)
     }
 }
@@ -152,7 +152,7 @@ impl Operation for AddIte {
 
     ghost work = { λ op w. value_of_three Add op.f op.g op.h w };
 
-    fn run(&self, store: &mut PlainStore) -> Result<Edge, Stop> {
+    fn run<G: Grow>(&self, store: &mut G) -> Result<Edge, Stop> {
         add_ops::add_ite(store, self.f, self.g, self.h)
     }
 }
@@ -173,7 +173,7 @@ impl Operation for AtLeast {
 
     ghost work = { λ op w. value_of_one Add Bdd (λ z. int_le op.value z) op.f w };
 
-    fn run(&self, store: &mut PlainStore) -> Result<Edge, Stop> {
+    fn run<G: Grow>(&self, store: &mut G) -> Result<Edge, Stop> {
         add_ops::at_least(store, self.f, self.value)
     }
 }
@@ -193,7 +193,7 @@ impl Operation for Pattern {
 
     ghost work = { λ op w. value_of_one Add Bdd (λ z. not (is_zero z)) op.f w };
 
-    fn run(&self, store: &mut PlainStore) -> Result<Edge, Stop> {
+    fn run<G: Grow>(&self, store: &mut G) -> Result<Edge, Stop> {
         add_ops::pattern(store, self.f)
     }
 }
@@ -212,7 +212,7 @@ impl ExactOperation for Plus {
 
     ghost work = { λ op w. value_of_two Add (λ a b. a +ℤ b) op.f op.g w };
 
-    fn run(&self, store: &mut PlainStore) -> Result<Result<Edge, Overflow>, Stop> {
+    fn run<G: Grow>(&self, store: &mut G) -> Result<Result<Edge, Overflow>, Stop> {
         add_ops::plus(store, self.f, self.g)
     }
 }
@@ -231,7 +231,7 @@ impl ExactOperation for Minus {
 
     ghost work = { λ op w. value_of_two Add (λ a b. a -ℤ b) op.f op.g w };
 
-    fn run(&self, store: &mut PlainStore) -> Result<Result<Edge, Overflow>, Stop> {
+    fn run<G: Grow>(&self, store: &mut G) -> Result<Result<Edge, Overflow>, Stop> {
         add_ops::minus(store, self.f, self.g)
     }
 }
@@ -250,7 +250,7 @@ impl ExactOperation for Times {
 
     ghost work = { λ op w. value_of_two Add (λ a b. a *ℤ b) op.f op.g w };
 
-    fn run(&self, store: &mut PlainStore) -> Result<Result<Edge, Overflow>, Stop> {
+    fn run<G: Grow>(&self, store: &mut G) -> Result<Result<Edge, Overflow>, Stop> {
         add_ops::times(store, self.f, self.g)
     }
 }
@@ -269,7 +269,7 @@ impl ExactOperation for SumOver {
 
     ghost work = { λ op w. value_of_sum op.f op.var w };
 
-    fn run(&self, store: &mut PlainStore) -> Result<Result<Edge, Overflow>, Stop> {
+    fn run<G: Grow>(&self, store: &mut G) -> Result<Result<Edge, Overflow>, Stop> {
         add_ops::sum_over(store, self.f, self.var)
     }
 }

@@ -7,7 +7,7 @@ ghost use Rattle.shared_store.specs.Sharing.{orders, view_of};
 ghost use Rattle.dd_session.specs.Turns.{Ran, Tried};
 
 use edge_bits::Edge;
-use node_slots::{PlainStore, Stop};
+use node_slots::{Grow, Stop};
 use shared_store::Shared;
 
 /// An operation of the store, with the edges that it works on.
@@ -17,7 +17,6 @@ pub trait Operation {
     ghost use Rattle.function_laws.specs.Kinds.{Denoted};
     ghost use Rattle.node_store.specs.Operations.{CallsTo, halts};
     ghost use Rattle.node_store.specs.Views.{View};
-    ghost use Rattle.node_slots.specs.Stores.{plain_view};
 
     // The kind of its answers.
     ghost kind: { Kind };
@@ -30,9 +29,9 @@ pub trait Operation {
 
     ghost work: { Self → View → Denoted → Type 0 };
 
-    fn run(&self, store: &mut PlainStore) -> Result<Edge, Stop>
-        requires { stands self.now (plain_view store.old) }
-        ensures { CallsTo kind (answers self.now (plain_view store.old) (plain_view store.new)) ⊥ (work self.now (plain_view store.old)) (plain_view store.old) (plain_view store.new) (halts result) };
+    fn run<G: Grow>(&self, store: &mut G) -> Result<Edge, Stop>
+        requires { stands self.now (G.view store.old) }
+        ensures { CallsTo kind (answers self.now (G.view store.old) (G.view store.new)) ⊥ (work self.now (G.view store.old)) (G.view store.old) (G.view store.new) (halts result) };
 }
 
 /// One try. Calls bound to `_before` and `_after` are there for what they tell: what holds of each store between two calls.

@@ -8,14 +8,13 @@ ghost use Rattle.function_laws.specs.Outcomes.{makes};
 ghost use Rattle.function_laws.specs.Steps.{may_be_full};
 ghost use Rattle.node_store.specs.Contents.{IsSound};
 ghost use Rattle.node_store.specs.Listed.{listed_at};
-ghost use Rattle.node_store.specs.Views.{Is};
-ghost use Rattle.node_slots.specs.Stores.{IsStore};
+ghost use Rattle.node_store.specs.Views.{Is, View};
 ghost use Rattle.node_slots.specs.Wholes.{content_view};
 ghost use Rattle.seat_guard.specs.declared.view.Draws.{Draws};
 ghost use Rattle.shared_store.specs.Sharing.{view_of};
 ghost use Rattle.dd_session.specs.Requests.{call_of};
 ghost use Rattle.dd_session.specs.Sessions.{Called, Denies, HasRoom, IsLive, IsLiveAs, edge_in, told_as, with_edge};
-ghost use Rattle.dd_session.specs.Turns.{Gives, HasExact, HasValue, IsEdgeOf, IsSeatOf, Stands};
+ghost use Rattle.dd_session.specs.Turns.{Gives, HasExact, HasValue, IsEdgeOf, IsSeatOf, IsSmall, Stands};
 ghost use Rattle.dd_session.specs.Works.{StoresWork, no_work};
 
 use crate::answers::{Placed, Refusal};
@@ -94,7 +93,7 @@ impl Session {
         requires room { HasRoom self.old }
         requires kind { kind ≡ O.kind }
         requires may { IsTrue (may_be_full (call_of request)) }
-        requires told { (d : Draws) → IsSeatOf self.old d → (x : Shared) → IsStore x.store → Stands x d → O.stands operation.now (view_of x) × HasValue kind (O.answers operation.now (view_of x)) d (view_of x) (call_of request) }
+        requires told { (d : Draws) → IsSeatOf self.old d → (w : View) → IsSmall w → Stands w d → O.stands operation.now w × HasValue kind (O.answers operation.now w) d w (call_of request) }
         ensures told { MatchResult result (λ placed. Called self.old self.new (call_of request.entry) (replies.Made placed.value) placed.place) (Denies self.old self.new (call_of request.entry)) }
         ensures stored { StoresWork (O.work operation.now) self.old self.new result }
         ensures spare { MatchResult result (λ placed. self.new.spare + 1 ≡ max self.old.spare 1) (λ refusal. self.old.spare ≤ self.new.spare) }
@@ -126,7 +125,7 @@ impl Session {
         requires own { self.old.manager ≡ manager.now }
         requires room { HasRoom self.old }
         requires may { IsTrue (may_be_full (call_of request)) }
-        requires told { (d : Draws) → IsSeatOf self.old d → (x : Shared) → IsStore x.store → Stands x d → O.stands operation.now (view_of x) × HasExact d (view_of x) (call_of request) (O.value operation.now (view_of x)) }
+        requires told { (d : Draws) → IsSeatOf self.old d → (w : View) → IsSmall w → Stands w d → O.stands operation.now w × HasExact d w (call_of request) (O.value operation.now w) }
         ensures told { MatchResult result (λ placed. Called self.old self.new (call_of request.entry) (told_as placed.value) placed.place) (Denies self.old self.new (call_of request.entry)) }
         ensures stored { StoresWork (O.work operation.now) self.old self.new result }
         ensures spare { MatchResult result (λ placed. MatchResult placed.value (λ name. self.new.spare + 1 ≡ max self.old.spare 1) (λ _. self.new.spare ≡ max self.old.spare 1)) (λ refusal. self.old.spare ≤ self.new.spare) }
@@ -157,7 +156,7 @@ impl Session {
     ) -> Result<Placed<H>, Refusal>
         requires own { self.old.manager ≡ manager.now }
         requires room { HasRoom self.old }
-        requires told { (d : Draws) → IsSeatOf self.old d → (x : Shared) → IsSound (content_view x.store) → Stands x d → Is kind (view_of x) edge × Gives d (call_of request) (makes (listed_at kind (view_of x) edge)) }
+        requires told { (d : Draws) → IsSeatOf self.old d → (x : Shared) → IsSound (content_view x.store) → Stands (view_of x) d → Is kind (view_of x) edge × Gives d (call_of request) (makes (listed_at kind (view_of x) edge)) }
         ensures told { MatchResult result (λ placed. Called self.old self.new (call_of request.entry) (replies.Made placed.value) placed.place) (λ refusal. (refusal ≡ Refusal.Memory) × Denies self.old self.new (call_of request.entry) refusal) }
         ensures stored { StoresWork no_work self.old self.new result }
         ensures spare { MatchResult result (λ placed. self.new.spare + 1 ≡ max self.old.spare 1) (λ refusal. self.old.spare ≤ self.new.spare) }

@@ -8,6 +8,7 @@ use Rattle.seat_guard.specs.Turn.{row_count}
 use Rattle.seat_guard.specs.Views.{sizes_for}
 use Rattle.shared_store.proofs.Handed.{unpinned}
 use Rattle.dd_session.specs.Managing.{Managed}
+use Rattle.dd_session.proofs.Sweepings.{swept_beside}
 use Rattle.dd_session.proofs.Ending.{all_back, history_of}
 use Rattle.dd_session.proofs.manager.Manager.close.Goals as goal
 
@@ -41,7 +42,7 @@ returns-clause-history g c =
             let r = c.join_all.ensures.rows k in let s = ap (λ (z : Draws). row_count k z.rows) same in omega (arith, a, b, e, r, s);
         unpinned = unpinned c.let_all_go.new.shared.store c.let_all_go.new.shared.idle;
         orders_are = c.let_all_go.ensures.orders ∙ c.clear_board.ensures.orders ∙ ends.orders_are ∙ (λ i. orders_from (opening_orders (sizes_for (vars i) (elements i))) (sym h.1 i));
-        is_swept = c.sweep-shared.ensures.swept;
+        is_swept = swept_beside _ _ _ c.sweep-shared.ensures.swept;
         left_is = Rattle.std.proofs.Common.refl;
       };
     }

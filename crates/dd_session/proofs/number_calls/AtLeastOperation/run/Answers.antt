@@ -5,13 +5,12 @@ use Rattle.edge_bits.specs.declared.edges.Kind.TheVariants.{Add, Bdd}
 use Rattle.function_laws.specs.Numbers.{at_least}
 use Rattle.node_store.specs.Operations.{Calls, halts}
 use Rattle.node_store.specs.Views.{add_at}
-use Rattle.node_slots.specs.Stores.{plain_view}
 use Rattle.add_ops.specs.Conversions.{value_of_one}
 use Rattle.dd_session.proofs.number_calls.AtLeastOperation.run.Goals as goal
 
 pub returns : goal.returns
-returns c =
-    let v = plain_view c.args.store.now in
+returns g c =
+    let v = g.G.Grow.view c.args.store.now in
     let f = c.args.self.now.f in
     let fit : SFits w64 c.args.self.now.value = search rules in
-    subst (λ y. Calls Bdd (at_least (add_at v f) y) (value_of_one Add Bdd (λ z. int_le y z) f v) v (plain_view c.at_least.new.store) (halts c.at_least.result)) (to_z-of_z w64 c.args.self.now.value fit) c.at_least.ensures
+    subst (λ y. Calls Bdd (at_least (add_at v f) y) (value_of_one Add Bdd (λ z. int_le y z) f v) v (g.G.Grow.view c.at_least.new.store) (halts c.at_least.result)) (to_z-of_z w64 c.args.self.now.value fit) c.at_least.ensures

@@ -3,11 +3,11 @@ use Rattle.function_laws.specs.declared.history.Reply.TheVariants as replies
 use Rattle.seat_guard.specs.Passes.{known}
 use Rattle.shared_store.specs.Sharing.{view_of}
 use Rattle.dd_session.specs.Requests.{call_of}
-use Rattle.dd_session.proofs.Calls.{answers_make, called_with, counted_ok, may_full, same_table, seat_of, served, spare_kept, stands_of, stores_work}
+use Rattle.dd_session.proofs.Calls.{answers_make, called_with, counted_ok, may_full, same_table, seat_of, served, small_store, spare_kept, stands_of, stores_work}
 use Rattle.dd_session.proofs.session.Session.operate.Goals as goal
 
 pub attempt-shared-requires : goal.attempt-shared-requires
-attempt-shared-requires g c = λ y lasts same of. (c.requires.told (known c.self.inside.pass) (seat_of c.self.inside.pass c.self.inside.book c.self.view_is) y of (stands_of (known c.self.inside.pass) (known c.start.new.pass) c.in-Ok.shared y c.in-Ok.ensures.took lasts same)).0
+attempt-shared-requires g c = λ y lasts same of. (c.requires.told (known c.self.inside.pass) (seat_of c.self.inside.pass c.self.inside.book c.self.view_is) (view_of y) (small_store y of) (stands_of (known c.self.inside.pass) (known c.start.new.pass) c.in-Ok.shared y c.in-Ok.ensures.took lasts same)).0
 
 pub settle-requires-clause-serves : goal.settle-requires-clause-serves
 settle-requires-clause-serves g c = served (known c.self.inside.pass) (known c.start.new.pass) c.in-Ok.shared c.attempt-shared.result.0 (g.O.Operation.answers c.args.operation.now) (g.O.Operation.work c.args.operation.now) c.attempt-shared.result.1 c.in-Ok.ensures.took c.attempt-shared.ensures
@@ -19,14 +19,14 @@ pub settle-requires-clause-ok : goal.settle-requires-clause-ok
 settle-requires-clause-ok g c =
     let tried = c.attempt-shared.ensures in
     answers_make c.args.kind (known c.self.inside.pass) (known c.start.new.pass) c.in-Ok.shared c.attempt-shared.result.0 (call_of c.args.request) (g.O.Operation.answers c.args.operation.now) (g.O.Operation.work c.args.operation.now) c.attempt-shared.result.1 c.in-Ok.ensures.took c.self.invariant.0.1 tried
-    (c.requires.told (known c.self.inside.pass) (seat_of c.self.inside.pass c.self.inside.book c.self.view_is) tried.from tried.ran.store (stands_of (known c.self.inside.pass) (known c.start.new.pass) c.in-Ok.shared tried.from c.in-Ok.ensures.took tried.lasts tried.orders_are)).1 c.attempt-shared.result.1 tried.ran.answer
+    (c.requires.told (known c.self.inside.pass) (seat_of c.self.inside.pass c.self.inside.book c.self.view_is) (view_of tried.from) (small_store tried.from tried.ran.store) (stands_of (known c.self.inside.pass) (known c.start.new.pass) c.in-Ok.shared tried.from c.in-Ok.ensures.took tried.lasts tried.orders_are)).1 c.attempt-shared.result.1 tried.ran.answer
 
 pub settle-requires-clause-full : goal.settle-requires-clause-full
 settle-requires-clause-full g c = λ is.
     let tried = c.attempt-shared.ensures in
     let due = tried.ran.due_is is in (
       c.requires.may,
-      may_full c.args.kind (known c.self.inside.pass) (known c.start.new.pass) c.in-Ok.shared (view_of tried.from) (call_of c.args.request) _ c.in-Ok.ensures.took c.self.invariant.0.1 (c.requires.told (known c.self.inside.pass) (seat_of c.self.inside.pass c.self.inside.book c.self.view_is) tried.from tried.ran.store (stands_of (known c.self.inside.pass) (known c.start.new.pass) c.in-Ok.shared tried.from c.in-Ok.ensures.took tried.lasts tried.orders_are)).1,
+      may_full c.args.kind (known c.self.inside.pass) (known c.start.new.pass) c.in-Ok.shared (view_of tried.from) (call_of c.args.request) _ c.in-Ok.ensures.took c.self.invariant.0.1 (c.requires.told (known c.self.inside.pass) (seat_of c.self.inside.pass c.self.inside.book c.self.view_is) (view_of tried.from) (small_store tried.from tried.ran.store) (stands_of (known c.self.inside.pass) (known c.start.new.pass) c.in-Ok.shared tried.from c.in-Ok.ensures.took tried.lasts tried.orders_are)).1,
       (due.0, due.1),
     )
 

@@ -22,7 +22,7 @@ pub set_cell-requires-clause-function : goal.set_cell-requires-clause-function
 set_cell-requires-clause-function g c =
     let live = c.requires.live in
     let s = stands_taken (known c.self.inside.pass) (known c.take-shared.new.pass) c.take-shared.result (took_of c.take-shared.ensures.took c.take-shared.ensures.board) in
-    (live.0, (c.edge-edge.ensures.edge live.0 live.1 (known c.self.inside.pass) (seat_of c.self.inside.pass c.self.inside.book c.self.view_is) c.take-shared.result s).0)
+    (live.0, (c.edge-edge.ensures.edge live.0 live.1 (known c.self.inside.pass) (seat_of c.self.inside.pass c.self.inside.book c.self.view_is) (view_of c.take-shared.result) s).0)
 
 pub set_cell-requires-clause-counted : goal.set_cell-requires-clause-counted
 set_cell-requires-clause-counted g c = cell_counted (known c.self.inside.pass) (known c.take-shared.new.pass) c.take-shared.result (took_of c.take-shared.ensures.took c.take-shared.ensures.board) c.args.cell

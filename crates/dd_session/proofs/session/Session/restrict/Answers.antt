@@ -5,6 +5,7 @@ use Rattle.function_laws.specs.declared.making.Making.TheVariants as makings
 use Rattle.function_laws.specs.declared.making.BddMaking.TheVariants as bdds
 use Rattle.quantify_ops.specs.Restricted.{Restricted, work_of_restrict}
 use Rattle.seat_guard.specs.Passes.{known}
+use Rattle.shared_store.specs.Sharing.{view_of}
 use Rattle.dd_session.proofs.Calls.{counted_ok, same_table, seat_of, served, spare_kept, stands_of, stores_work}
 use Rattle.dd_session.proofs.RestrictLaws.{called_chosen, restrict_chooses, restrict_may_full}
 use Rattle.dd_session.proofs.session.Session.restrict.Goals as goal
@@ -12,7 +13,7 @@ use Rattle.dd_session.proofs.session.Session.restrict.Goals as goal
 pub attempt-shared-requires : goal.attempt-shared-requires
 attempt-shared-requires g c = λ y lasts same of.
     let s = (stands_of (known c.self.inside.pass) (known c.start.new.pass) c.in-Ok.shared y c.in-Ok.ensures.took lasts same) in
-    record { first = ((c.edge.ensures.edge kinds.Bdd c.requires.first (known c.self.inside.pass) (seat_of c.self.inside.pass c.self.inside.book c.self.view_is)) y s).0; second = ((c.edge-2.ensures.edge kinds.Bdd c.requires.second (known c.self.inside.pass) (seat_of c.self.inside.pass c.self.inside.book c.self.view_is)) y s).0 }
+    record { first = ((c.edge.ensures.edge kinds.Bdd c.requires.first (known c.self.inside.pass) (seat_of c.self.inside.pass c.self.inside.book c.self.view_is)) (view_of y) s).0; second = ((c.edge-2.ensures.edge kinds.Bdd c.requires.second (known c.self.inside.pass) (seat_of c.self.inside.pass c.self.inside.book c.self.view_is)) (view_of y) s).0 }
 
 pub settle-requires-clause-serves : goal.settle-requires-clause-serves
 settle-requires-clause-serves g c = served (known c.self.inside.pass) (known c.start.new.pass) c.in-Ok.shared c.attempt-shared.result.0 (λ v w edge. Restricted v w c.edge.result c.edge-2.result edge) (λ v. work_of_restrict c.edge.result c.edge-2.result v) c.attempt-shared.result.1 c.in-Ok.ensures.took c.attempt-shared.ensures

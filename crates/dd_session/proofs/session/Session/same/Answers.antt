@@ -18,7 +18,7 @@ same-told-requires g c =
     let seat = seat_of c.self.inside.pass c.self.inside.book c.self.view_is in
     let s = stands_taken d (known c.take-shared.new.pass) c.take-shared.result (took_of c.take-shared.ensures.took c.take-shared.ensures.board) in
     let alike = c.requires.alike in
-    (alike.0, record { first = (c.edge-first.ensures.edge alike.0 alike.1 d seat c.take-shared.result s).0; second = (c.edge-second.ensures.edge alike.0 alike.2 d seat c.take-shared.result s).0 })
+    (alike.0, record { first = (c.edge-first.ensures.edge alike.0 alike.1 d seat (view_of c.take-shared.result) s).0; second = (c.edge-second.ensures.edge alike.0 alike.2 d seat (view_of c.take-shared.result) s).0 })
 
 pub finish-place-requires-clause-step : goal.finish-place-requires-clause-step
 finish-place-requires-clause-step g c =
@@ -32,7 +32,7 @@ finish-place-requires-clause-step g c =
     let second = c.edge-second.ensures.edge k alike.2 (known c.self.inside.pass) (seat_of c.self.inside.pass c.self.inside.book c.self.view_is) in
     let s = stands_taken d e x t in
     may_compare e (requests.Same c.args.f c.args.g) (listed_at k (view_of x) c.edge-first.result) (listed_at k (view_of x) c.edge-second.result) c.same-told.result
-    (same_told d e x t c.self.invariant.0.1 k c.args.f c.args.g c.edge-first.result c.edge-second.result c.same-told.result first second (c.same-told.ensures k (record { first = (first x s).0; second = (second x s).0 })))
+    (same_told d e x t c.self.invariant.0.1 k c.args.f c.args.g c.edge-first.result c.edge-second.result c.same-told.result first second (c.same-told.ensures k (record { first = (first (view_of x) s).0; second = (second (view_of x) s).0 })))
     (gives_same d e x t c.self.invariant.0.1 k c.args.f c.args.g c.edge-first.result c.edge-second.result first second)
 
 pub invariant_of-self : goal.invariant_of-self

@@ -7,7 +7,9 @@ use Rattle.dd_session.specs.declared.request.Request.TheVariants as requests
 use Rattle.dd_session.specs.Works.{HasRows}
 use Rattle.shared_store.specs.Sharing.{view_of}
 use Rattle.dd_session.proofs.Calls.{called, has_rows, stands_taken, took_of, same_table}
+use Rattle.node_slots.specs.Wholes.{content_view}
 use Rattle.dd_session.proofs.Serving.{serves-same}
+use Rattle.dd_session.proofs.Sweepings.{swept_beside}
 use Rattle.dd_session.proofs.Tellings.{knows_quiet, may_sweep, quiet}
 use Rattle.dd_session.proofs.Turning.{drew_nothing, kept_book}
 use Rattle.dd_session.proofs.session.Session.sweep.Goals as goal
@@ -33,8 +35,10 @@ returns-clause-stored g c = drew_nothing (known c.self.inside.pass) (known c.tak
 
 pub returns-clause-swept : goal.returns-clause-swept
 returns-clause-swept g c = record {
-  before = c.take-shared.result;
-  after = c.sweep-shared.result.0;
+  before = content_view c.take-shared.result.store;
+  after = content_view c.sweep-shared.result.0.store;
+  seen = view_of c.take-shared.result;
   has = subst (HasRows (view_of c.take-shared.result)) c.self.view_is (has_rows _ (known c.self.inside.pass) _ c.take-shared.result (stands_taken (known c.self.inside.pass) (known c.take-shared.new.pass) c.take-shared.result (took_of c.take-shared.ensures.took c.take-shared.ensures.board)));
-  is_swept = c.sweep-shared.ensures.swept;
+  same = refl;
+  is_swept = swept_beside _ _ _ c.sweep-shared.ensures.swept;
 }

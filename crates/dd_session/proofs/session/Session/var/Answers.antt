@@ -7,8 +7,9 @@ use Rattle.function_laws.specs.declared.history.Reply.TheVariants as replies
 use Rattle.node_store.specs.ViewLaws.{Is-from}
 use Rattle.seat_guard.specs.Passes.{known}
 use Rattle.shared_store.proofs.Lasting.{serves-lasts}
+use Rattle.shared_store.specs.Sharing.{view_of}
 use Rattle.dd_session.specs.Sessions.{Managed, Seen}
-use Rattle.dd_session.proofs.Calls.{called, same_table, stands_taken}
+use Rattle.dd_session.proofs.Calls.{called, same_table, small_store, stands_taken}
 use Rattle.dd_session.proofs.Outcomes.{gives_var}
 use Rattle.dd_session.proofs.OperationLaws.{variable_in}
 use Rattle.dd_session.proofs.Turning.{stored_nothing}
@@ -18,7 +19,7 @@ pub projection_in-requires : goal.projection_in-requires
 projection_in-requires g c =
     let seen = ap (λ (s : Seen). s.manager.vars) c.self.view_is in
     let own = ap (λ (m : Managed). m.vars) c.requires.own in
-    variable_in (known c.self.inside.pass) c.in-Ok.shared c.limit-sound.ensures.store (stands_taken (known c.self.inside.pass) (known c.start.new.pass) c.in-Ok.shared c.in-Ok.ensures.took) c.args.v (omega (arith, seen, own, c.requires.variable))
+    variable_in (known c.self.inside.pass) (view_of c.in-Ok.shared) (small_store c.in-Ok.shared c.limit-sound.ensures.store) (stands_taken (known c.self.inside.pass) (known c.start.new.pass) c.in-Ok.shared c.in-Ok.ensures.took) c.args.v (omega (arith, seen, own, c.requires.variable))
 
 pub add_row-requires-clause-serves : goal.add_row-requires-clause-serves
 add_row-requires-clause-serves g c = serves-lasts c.in-Ok.shared c.projection_in.new.shared c.projection_in.ensures.asked.lasts (known c.start.new.pass) c.projection_in.ensures.asked.orders_are c.in-Ok.ensures.took.serves
