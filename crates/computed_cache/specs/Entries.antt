@@ -1,5 +1,6 @@
 -- The entries of a computed table, and the two words of each.
 use Rattle.std.specs.Prelude.{◌≡◌, ℕ, ◌+◌, ◌*◌, ◌/◌, ◌%◌, ◌^◌, ◌<◌, ◌⊎◌, ◌==◌, ◌||◌, Bool, true, if◌then◌else◌, List, length, slice_index, Option, Some, None}
+use Rattle.edge_bits.specs.Mixing.{scattered, spread}
 use Rattle.edge_bits.specs.Words.{edge_of_word, word_of_edge}
 use Rattle.edge_bits.specs.declared.edges.Edge.{Edge}
 use Rattle.computed_cache.specs.declared.Key.{Key}
@@ -40,13 +41,9 @@ kept_at words i = kept_in (slice_index words (2 * i)) (slice_index words (2 * i 
 abbrev pub places : List ℕ → ℕ
 places words = length words / 2
 
--- a product of 64 bits with its high half added to it, times an odd number
-abbrev pub mixed : ℕ → ℕ
-mixed product = (product + product / 2 ^ 32) % 2 ^ 64 * 14029467366897019727 % 2 ^ 64
-
--- the place of a first word and an edge h: the high half of their mixed bits as a part of 2^32, of so many places
+-- the place of a first word and an edge h, of so many
 unfoldable pub place_at : ℕ → ℕ → ℕ → ℕ
-place_at first h places = mixed ((first + h * 11400714819323198485 % 2 ^ 64) % 2 ^ 64 * 11400714819323198485 % 2 ^ 64) / 2 ^ 32 * places / 2 ^ 32
+place_at first h places = scattered ((first + spread h) % 2 ^ 64) places
 
 -- the one place where an answer under this key may stand
 abbrev pub place_of : Key → ℕ → ℕ

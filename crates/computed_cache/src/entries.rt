@@ -5,7 +5,7 @@ ghost use Rattle.edge_bits.specs.Words.{edge_of_word, word_of_edge};
 ghost use Rattle.computed_cache.specs.Entries.{IsInRange, answer_word as answer_word_of, key_in, key_word as key_word_of, names, place_at};
 
 use crate::Key;
-use edge_bits::Edge;
+use edge_bits::{Edge, scatter, spread};
 
 /// The 24 bits of an edge: 23 to 1 are its slot, bit 0 is its complement.
 pub(crate) fn pack(edge: Edge) -> u64
@@ -41,7 +41,7 @@ pub(crate) fn answer_word(key: &Key, edge: Edge) -> u64
     (pack(key.h) << 24) + pack(edge)
 }
 
-/// The place of a first word and the bits of a third operand: three products mix all bits (Knuth 1973), and a fourth takes the place from the high ones in place of a division (Lemire 2019).
+/// The place of a first word and the bits of a third operand.
 #[tactic(auto, unfolding(crate::specs::Entries::place_at))]
 pub(crate) fn place(first: u64, h: u64, places: usize) -> usize
     requires some { 0 < places }
@@ -49,12 +49,7 @@ pub(crate) fn place(first: u64, h: u64, places: usize) -> usize
     ensures place { result ≡ place_at first h places }
     ensures within { result < places }
 {
-    let whole = first.wrapping_add(h.wrapping_mul(0x9e37_79b9_7f4a_7c15));
-    let product = whole.wrapping_mul(0x9e37_79b9_7f4a_7c15);
-    let mixed = product
-        .wrapping_add(product >> 32)
-        .wrapping_mul(0xc2b2_ae3d_27d4_eb4f);
-    (((mixed >> 32) * places as u64) >> 32) as usize
+    scatter(first.wrapping_add(spread(h)), places)
 }
 
 /// Whether two words are those of an entry that names a slot.

@@ -1,5 +1,6 @@
 -- The words of a store's slots, and the buckets by which they are found.
-use Rattle.std.specs.Prelude.{◌≡◌, ℕ, ◌+◌, ◌-◌, ◌*◌, ◌/◌, ◌%◌, ◌^◌, ◌<◌, ◌≤◌, ◌&&◌, ◌++◌, Bool, if◌then◌else◌, nat_lt, nat_le, List, length, replicate, slice_index}
+use Rattle.std.specs.Prelude.{◌≡◌, ℕ, ◌-◌, ◌^◌, ◌<◌, ◌≤◌, ◌&&◌, ◌++◌, Bool, if◌then◌else◌, nat_lt, nat_le, List, length, replicate, slice_index}
+use Rattle.edge_bits.specs.Mixing.{scattered}
 use Rattle.edge_bits.specs.Permanent.{zero_slot}
 use Rattle.level_table.specs.Chains.{IsChained}
 
@@ -12,13 +13,9 @@ pub record Slotted : Type 0 where
 abbrev pub padded : ℕ → List ℕ → List ℕ
 padded slots words = words ++ replicate (slots - length words) 0
 
--- a product of 64 bits with its high half added to it, times an odd number
-abbrev pub mixed : ℕ → ℕ
-mixed product = (product + product / 2 ^ 32) % 2 ^ 64 * 14029467366897019727 % 2 ^ 64
-
--- the bucket of a word: the high half of its mixed bits as a part of 2^32, of so many buckets
-unfoldable pub bucket_of_word : ℕ → ℕ → ℕ
-bucket_of_word bits buckets = mixed (bits * 11400714819323198485 % 2 ^ 64) / 2 ^ 32 * buckets / 2 ^ 32
+-- the bucket of a word, of so many
+abbrev pub bucket_of_word : ℕ → ℕ → ℕ
+bucket_of_word bits buckets = scattered bits buckets
 
 -- whether a slot is found by its word: it has one, and isn't told by its number
 abbrev pub is_found : List ℕ → ℕ → Bool

@@ -6,7 +6,7 @@ ghost use Rattle.level_table.specs.Chains.{IsChained, put};
 ghost use Rattle.level_table.specs.Slotted.{bucket_in, bucket_of_word, AreSlots};
 
 use crate::chains::{clear, link, place_of, unlink};
-use edge_bits::{Memory, ZERO_SLOT};
+use edge_bits::{Memory, ZERO_SLOT, scatter};
 use std::alloc::Global;
 use std::marker::Model;
 
@@ -42,19 +42,14 @@ impl Model for SlotTable {
     ghost invariant = { λ t. IsSlotTable t.words.items t.links.items t.heads.items t.slots (vec_capacity t.words) (vec_capacity t.links) };
 }
 
-/// The bucket of a word: two products mix its bits (Knuth 1973), with the high half of the first added to it between them, and a third takes the bucket from the high bits in place of a division (Lemire 2019).
-#[tactic(auto, unfolding(crate::specs::Slotted::bucket_of_word))]
+/// The bucket of a word.
 fn bucket_of(bits: u64, buckets: usize) -> usize
     requires some { 0 < buckets }
     requires few { buckets < 2 ^ 32 }
     ensures bucket { result ≡ bucket_of_word bits buckets }
     ensures within { result < buckets }
 {
-    let product = bits.wrapping_mul(0x9e37_79b9_7f4a_7c15);
-    let mixed = product
-        .wrapping_add(product >> 32)
-        .wrapping_mul(0xc2b2_ae3d_27d4_eb4f);
-    (((mixed >> 32) * buckets as u64) >> 32) as usize
+    scatter(bits, buckets)
 }
 
 /// The slot with the word, which is in the chain of the word's bucket if it is anywhere.
