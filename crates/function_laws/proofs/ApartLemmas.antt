@@ -5,9 +5,9 @@ use Rattle.function_laws.specs.declared.history.Function.{Function}
 use Rattle.function_laws.specs.declared.history.Call.{Call}
 use Rattle.function_laws.specs.declared.history.Call.TheVariants as calls
 use Rattle.function_laws.specs.declared.history.Reply.{Reply}
-use Rattle.function_laws.specs.declared.history.Reply.TheVariants.{Made, Chose, Fetched, Numbered, Done, Truth, Value, Overflow, Most, Full}
+use Rattle.function_laws.specs.declared.history.Reply.TheVariants.{Made, Chose, Fetched, Numbered, Done, Truth, Value, Overflow, Apart, Most, Full}
 use Rattle.function_laws.specs.Tables.{Table, with_row, with_name, same_name}
-use Rattle.function_laws.specs.Outcomes.{Outcome, makes, restricts, fetches, counts, overflows, is_most, compares, tells, shows, is_done}
+use Rattle.function_laws.specs.Outcomes.{Outcome, makes, fetches, counts}
 use Rattle.function_laws.specs.Steps.{outcome, with_result, changed, after}
 use Rattle.function_laws.specs.Handovers.{is_numbered}
 
@@ -25,17 +25,10 @@ row_apart : (t : Table) (s p : ℕ) (r : Name) (o : Option Function) → p ≢ s
 row_apart t s p r o apart = let no = ne_eqb p s apart in ((λ i name. cond (no i && same_name name r) o (t.live p name)), refl)
 
 result_apart : (t : Table) (s p : ℕ) (r : Name) (o : Option Outcome) → p ≢ s → Same p t (with_result t s r o)
-result_apart t s p r None apart = (refl, refl)
 result_apart t s p r (Some (makes f)) apart = name_apart t s p r f apart
-result_apart t s p r (Some (restricts f c)) apart = (refl, refl)
 result_apart t s p r (Some (fetches f posted)) apart = name_apart t s p r f apart
 result_apart t s p r (Some (counts f n)) apart = name_apart t s p r f apart
-result_apart t s p r (Some overflows) apart = (refl, refl)
-result_apart t s p r (Some is_most) apart = (refl, refl)
-result_apart t s p r (Some (compares f g)) apart = (refl, refl)
-result_apart t s p r (Some (tells b)) apart = (refl, refl)
-result_apart t s p r (Some (shows z)) apart = (refl, refl)
-result_apart t s p r (Some is_done) apart = (refl, refl)
+result_apart t s p r _ apart = (refl, refl)
 
 changed_apart : (t : Table) (s p : ℕ) (call : Call) → p ≢ s → Same p t (changed t s call)
 changed_apart t s p (calls.DropRow a) apart = row_apart t s p a None apart
@@ -50,5 +43,6 @@ after_apart t s p call Done plain apart = changed_apart t s p call apart
 after_apart t s p call (Truth told) plain apart = (refl, refl)
 after_apart t s p call (Value z) plain apart = (refl, refl)
 after_apart t s p call Overflow plain apart = (refl, refl)
+after_apart t s p call Apart plain apart = (refl, refl)
 after_apart t s p call Most plain apart = (refl, refl)
 after_apart t s p call (Full a b) plain apart = (refl, refl)

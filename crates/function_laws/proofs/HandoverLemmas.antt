@@ -5,10 +5,10 @@ use Rattle.function_laws.specs.declared.history.Function.{Function}
 use Rattle.function_laws.specs.declared.history.Call.{Call}
 use Rattle.function_laws.specs.declared.history.Call.TheVariants as calls
 use Rattle.function_laws.specs.declared.history.Reply.{Reply}
-use Rattle.function_laws.specs.declared.history.Reply.TheVariants.{Made, Chose, Fetched, Numbered, Done, Truth, Value, Overflow, Most, Full}
+use Rattle.function_laws.specs.declared.history.Reply.TheVariants.{Made, Chose, Fetched, Numbered, Done, Truth, Value, Overflow, Apart, Most, Full}
 use Rattle.function_laws.specs.declared.history.Entry.{Entry}
-use Rattle.function_laws.specs.Tables.{Table, cell_count}
-use Rattle.function_laws.specs.Outcomes.{Outcome, makes, restricts, fetches, counts, overflows, is_most, compares, tells, shows, is_done, with_one, when}
+use Rattle.function_laws.specs.Tables.{Table}
+use Rattle.function_laws.specs.Outcomes.{Outcome, makes, fetches, counts, with_one, when}
 use Rattle.function_laws.specs.Steps.{outcome, with_result, from_cell, same_kind, changed, Replies, IsAllowed, after}
 use Rattle.function_laws.specs.Histories.{after_entry, table_after}
 use Rattle.function_laws.specs.Handovers.{is_numbered}
@@ -16,17 +16,10 @@ use Rattle.function_laws.specs.SessionEntries.{Each}
 use Rattle.function_laws.specs.Handovers.{posts_to, LeavesCell, IsHandedOver}
 
 result_cells : (t : Table) (s : ℕ) (r : Name) (o : Option Outcome) → (with_result t s r o).cells ≡ t.cells
-result_cells t s r None = refl
 result_cells t s r (Some (makes f)) = refl
-result_cells t s r (Some (restricts f c)) = refl
 result_cells t s r (Some (fetches f posted)) = refl
 result_cells t s r (Some (counts f n)) = refl
-result_cells t s r (Some overflows) = refl
-result_cells t s r (Some is_most) = refl
-result_cells t s r (Some (compares f g)) = refl
-result_cells t s r (Some (tells b)) = refl
-result_cells t s r (Some (shows z)) = refl
-result_cells t s r (Some is_done) = refl
+result_cells t s r _ = refl
 
 changed_cell : (t : Table) (s i : ℕ) (call : Call) → posts_to i call ≡ false → (changed t s call).cells i ≡ t.cells i
 changed_cell t s i (calls.Post j a) apart = ap (λ b. cond b (t.live s a) (t.cells i)) apart
@@ -42,6 +35,7 @@ cell_kept t s i call Done plain apart = changed_cell t s i call apart
 cell_kept t s i call (Truth told) plain apart = refl
 cell_kept t s i call (Value z) plain apart = refl
 cell_kept t s i call Overflow plain apart = refl
+cell_kept t s i call Apart plain apart = refl
 cell_kept t s i call Most plain apart = refl
 cell_kept t s i call (Full a b) plain apart = refl
 
@@ -66,21 +60,13 @@ module _ (t : Table) (s i : ℕ) (other to : Name) where
     where
       some_same : (a b : Outcome) → Some a ≡ Some b → a ≡ b
       some_same a b e = cc
-  found_by true (Some f) (makes g) is replies = absurd replies
-  found_by true (Some f) (restricts g c) is replies = absurd replies
-  found_by true (Some f) (counts g n) is replies = absurd replies
-  found_by true (Some f) overflows is replies = absurd replies
-  found_by true (Some f) is_most is replies = absurd replies
-  found_by true (Some f) (compares g h) is replies = absurd replies
-  found_by true (Some f) (tells b) is replies = absurd replies
-  found_by true (Some f) (shows z) is replies = absurd replies
-  found_by true (Some f) is_done is replies = absurd replies
+  found_by true (Some f) _ is replies = absurd replies
   found_by true None o is replies = cc
   found_by false x o is replies = cc
 
   -- a name that a fetch found posted stands for what the cell had
   pub fetch_finds : IsAllowed t s (calls.Fetch i other) (Fetched to true) → (after t s (calls.Fetch i other) (Fetched to true)).live s to ≡ t.cells i
-  fetch_finds allowed = ap (λ o. (with_result t s to o).live s to) allowed.1 ∙ found_by (nat_lt i (cell_count t.sizes)) (t.live s other) allowed.0 allowed.1 allowed.2
+  fetch_finds allowed = ap (λ o. (with_result t s to o).live s to) allowed.1 ∙ found_by (nat_lt i t.sizes.cells) (t.live s other) allowed.0 allowed.1 allowed.2
 
 -- In a legal history the name that a fetch gives stands for what the posted name stood for, whoever did what in between.
 pub handed_over : (n : ℕ) (t : Table) (i : ℕ) (post fetch : Entry) (between : List Entry) (from to : Name) → IsHandedOver i post between fetch from to → Each (LeavesCell i) between

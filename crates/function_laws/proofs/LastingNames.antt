@@ -5,19 +5,19 @@ use native.Mathlib.Decide.{ℕ_discrete}
 use Rattle.std.proofs.lemmas.Bool.{eqb-true}
 use Rattle.function_laws.specs.declared.history.Name.{Name}
 use Rattle.function_laws.specs.declared.history.Function.{Function}
-use Rattle.function_laws.specs.declared.history.Function.TheVariants.{Bdd}
 use Rattle.function_laws.specs.declared.history.Call.{Call}
 use Rattle.function_laws.specs.declared.history.Call.TheVariants as calls
 use Rattle.function_laws.specs.declared.history.Reply.{Reply}
-use Rattle.function_laws.specs.declared.history.Reply.TheVariants.{Made, Chose, Fetched, Numbered, Done, Truth, Value, Overflow, Most, Full}
+use Rattle.function_laws.specs.declared.history.Reply.TheVariants.{Made, Chose, Fetched, Numbered, Done, Truth, Value, Overflow, Apart, Most, Full}
 use Rattle.function_laws.specs.declared.history.Entry.{Entry}
 use Rattle.function_laws.specs.Tables.{Table, same_name, with_name}
-use Rattle.function_laws.specs.Outcomes.{Outcome, makes, restricts, fetches, counts, overflows, is_most, compares, tells, shows, is_done}
+use Rattle.function_laws.specs.Outcomes.{Outcome, makes, fetches}
 use Rattle.function_laws.specs.Steps.{with_result, changed, Replies, IsAllowed, after}
 use Rattle.function_laws.specs.Histories.{IsLegalFrom, after_entry, table_after}
 use Rattle.function_laws.specs.Handovers.{is_numbered}
 use Rattle.function_laws.specs.SessionEntries.{Each}
 use Rattle.function_laws.specs.Handovers.{drops_it, LeavesName}
+use Rattle.function_laws.proofs.StepLemmas.{chosen-new}
 
 -- a live name that was given, as it should be
 abbrev Stands : ℕ → Name → Function → Table → Type 0
@@ -59,39 +59,11 @@ module _ (s : ℕ) (name : Name) (f : Function) where
 
   made : (t : Table) (p : ℕ) (r : Name) (o : Outcome) → Stands s name f t → Replies t p o (Made r) → Stands s name f (with_result t p r (Some o))
   made t p r (makes g) stands replies = named t p r g stands replies
-  made t p r (restricts g c) stands replies = absurd replies
-  made t p r (fetches g posted) stands replies = absurd replies
-  made t p r (counts g n) stands replies = absurd replies
-  made t p r overflows stands replies = absurd replies
-  made t p r is_most stands replies = absurd replies
-  made t p r (compares g h) stands replies = absurd replies
-  made t p r (tells b) stands replies = absurd replies
-  made t p r (shows z) stands replies = absurd replies
-  made t p r is_done stands replies = absurd replies
+  made t p r _ stands replies = absurd replies
 
   fetched : (t : Table) (p : ℕ) (r : Name) (told : Bool) (o : Outcome) → Stands s name f t → Replies t p o (Fetched r told) → Stands s name f (with_result t p r (Some o))
   fetched t p r told (fetches g posted) stands replies = named t p r g stands replies.0
-  fetched t p r told (makes g) stands replies = absurd replies
-  fetched t p r told (restricts g c) stands replies = absurd replies
-  fetched t p r told (counts g n) stands replies = absurd replies
-  fetched t p r told overflows stands replies = absurd replies
-  fetched t p r told is_most stands replies = absurd replies
-  fetched t p r told (compares g h) stands replies = absurd replies
-  fetched t p r told (tells b) stands replies = absurd replies
-  fetched t p r told (shows z) stands replies = absurd replies
-  fetched t p r told is_done stands replies = absurd replies
-
-  chosen : (t : Table) (p : ℕ) (r : Name) (g : List Bool) (o : Outcome) → Stands s name f t → Replies t p o (Chose r g) → Stands s name f (with_name t p r (Bdd g))
-  chosen t p r g (restricts h c) stands replies = named t p r (Bdd g) stands replies.0
-  chosen t p r g (makes h) stands replies = absurd replies
-  chosen t p r g (fetches h posted) stands replies = absurd replies
-  chosen t p r g (counts h n) stands replies = absurd replies
-  chosen t p r g overflows stands replies = absurd replies
-  chosen t p r g is_most stands replies = absurd replies
-  chosen t p r g (compares h i) stands replies = absurd replies
-  chosen t p r g (tells b) stands replies = absurd replies
-  chosen t p r g (shows z) stands replies = absurd replies
-  chosen t p r g is_done stands replies = absurd replies
+  fetched t p r told _ stands replies = absurd replies
 
   done : (t : Table) (p : ℕ) (call : Call) → Stands s name f t → (p ≡ s → drops_it name call ≡ false) → Stands s name f (changed t p call)
   done t p (calls.DropRow a) stands keeps = (
@@ -104,13 +76,14 @@ module _ (s : ℕ) (name : Name) (f : Function) where
 
   step : (t : Table) (p : ℕ) (call : Call) (reply : Reply) → IsAllowed t p call reply → is_numbered reply ≡ false → (p ≡ s → drops_it name call ≡ false) → Stands s name f t → Stands s name f (after t p call reply)
   step t p call (Made r) allowed plain keeps stands = subst (λ o. Stands s name f (with_result t p r o)) (sym allowed.1) (made t p r allowed.0 stands allowed.2)
-  step t p call (Chose r g) allowed plain keeps stands = chosen t p r g allowed.0 stands allowed.2
+  step t p call (Chose r g) allowed plain keeps stands = named t p r g stands (chosen-new t p r allowed.0 g allowed.2)
   step t p call (Fetched r told) allowed plain keeps stands = subst (λ o. Stands s name f (with_result t p r o)) (sym allowed.1) (fetched t p r told allowed.0 stands allowed.2)
   step t p call (Numbered r m) allowed plain keeps stands = absurd (true≢false plain)
   step t p call Done allowed plain keeps stands = done t p call stands keeps
   step t p call (Truth told) allowed plain keeps stands = stands
   step t p call (Value z) allowed plain keeps stands = stands
   step t p call Overflow allowed plain keeps stands = stands
+  step t p call Apart allowed plain keeps stands = stands
   step t p call Most allowed plain keeps stands = stands
   step t p call (Full a b) allowed plain keeps stands = stands
 

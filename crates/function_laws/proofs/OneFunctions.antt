@@ -1,5 +1,5 @@
 -- When two functions are one, for a diagram.
-use Rattle.std.proofs.Common.{◌≡◌, ℕ, zero, suc, ◌+◌, ◌^◌, ◌<◌, ◌≤◌, ◌⊎◌, inl, inr, Bool, true, false, not, ◌||◌, ⊎_elim, ℤ, length, refl, sym, ap, ◌∙◌, subst, arith, pow_mono}
+use Rattle.std.proofs.Common.{◌≡◌, ℕ, zero, suc, ◌+◌, ◌^◌, ◌<◌, ◌≤◌, ◌⊎◌, inl, inr, Bool, true, false, not, ◌||◌, ⊎_elim, ℤ, List, length, refl, sym, ap, ◌∙◌, subst, arith, pow_mono}
 use Rattle.std.proofs.Math.Nat.{pow-suc}
 use Rattle.std.specs.Int.{bit_at}
 use Rattle.std.specs.Ordering.{int_eq}
@@ -16,7 +16,8 @@ use Rattle.function_laws.proofs.ListLemmas.{all_below-true, true-all_below}
 use Rattle.function_laws.proofs.ValueLemmas.{everywhere}
 use Rattle.function_laws.proofs.WidthLemmas.{same_everywhere}
 use Rattle.function_laws.specs.Kinds.{Denoted, BddFunction, AddFunction, ZddFamily, opposite}
-use Rattle.function_laws.specs.Sizes.{Orders, agree, is_one}
+use Rattle.function_laws.specs.Sizes.{Orders, agree, all_parts, diagram, is_one, size}
+use Rattle.function_laws.proofs.DistinctLemmas.{Apart, Matched, Matched-distinct, no_longer}
 
 same_bool : (a b : Bool) → not (differs a b) ≡ true → a ≡ b
 same_bool true true h = refl
@@ -203,3 +204,9 @@ same_or_opposite o f g wf wg h = by_kind f g wf wg (Alike-is_one o f g h)
     by_kind (AddFunction f) (ZddFamily g) wf wg h = absurd h
     by_kind (ZddFamily f) (BddFunction g) wf wg h = absurd h
     by_kind (ZddFamily f) (AddFunction g) wf wg h = absurd h
+
+-- different parts of some functions are no more than the size
+pub size_counts : (o : Orders) (fs parts : List Denoted) → Apart (is_one o) parts → Matched (is_one o) parts (all_parts o fs) → length parts ≤ size o fs
+size_counts o fs parts apart matched =
+    no_longer (is_one o) (is_one-sym o) (is_one-trans o) parts (diagram o fs) apart
+    (λ x i. let y = matched x i in let z = Matched-distinct (is_one o) (is_one-refl o) (all_parts o fs) y.0 y.1 in (z.0, z.1, is_one-trans o x y.0 z.0 y.2 z.2))

@@ -1,6 +1,6 @@
 -- Scripts of one session, computed: what the plain table replies to each call. Names are the calls' own numbers.
-use Rattle.std.specs.Prelude.{◌≡◌, ℕ, ◌^◌, suc, ◌==◌, Bool, true, false, not, ◌&&◌, ℤ, pos, negsuc, List, [], ◌∷◌, Option, Some, None, refl}
-use Rattle.edge_bits.specs.Assignments.{set_bit}
+use Rattle.std.specs.Prelude.{◌≡◌, ℕ, ◌^◌, suc, ◌==◌, Bool, true, false, not, ◌&&◌, if◌then◌else◌, ℤ, pos, negsuc, map, List, [], ◌∷◌, Option, Some, None, refl}
+use Rattle.edge_bits.specs.Assignments.{bit, set_bit}
 use Rattle.function_laws.specs.declared.history.Name.{Name}
 use Rattle.function_laws.specs.declared.history.Function.{Function}
 use Rattle.function_laws.specs.declared.history.Function.TheVariants.{Bdd, Add, Zdd}
@@ -14,12 +14,14 @@ use Rattle.function_laws.specs.declared.making.ExactMaking.TheVariants as exacts
 use Rattle.function_laws.specs.declared.making.ZddMaking.TheVariants as zdds
 use Rattle.function_laws.specs.declared.history.Entry.{Entry}
 use Rattle.function_laws.specs.declared.history.Reply.{Reply}
-use Rattle.function_laws.specs.declared.history.Reply.TheVariants.{Made, Chose, Fetched, Numbered, Done, Truth, Value, Overflow, Most, Full}
+use Rattle.function_laws.specs.declared.history.Reply.TheVariants.{Made, Chose, Fetched, Numbered, Done, Truth, Value, Overflow, Apart, Most, Full}
 use Rattle.function_laws.specs.Lists.{any_below, all_below, list_of}
 use Rattle.function_laws.specs.Values.{constant, exists_all, forall_all, set_each, differs}
 use Rattle.function_laws.specs.Tables.{Table, Sizes, opening}
-use Rattle.function_laws.specs.Outcomes.{Outcome, makes, restricts, fetches, counts, overflows, is_most, compares, tells, shows, is_done}
+use Rattle.function_laws.specs.Outcomes.{Outcome, makes, restricts, covers, fetches, counts, overflows, is_apart, is_most, compares, tells, shows, is_done}
 use Rattle.function_laws.specs.Steps.{outcome, after}
+use Rattle.function_laws.specs.IrredundantCovers.{cover_value}
+use Rattle.function_laws.specs.MorrealeCalls.{interval, morreale}
 use Rattle.function_laws.specs.EntryOrders.{opening_orders, orders_from}
 
 -- the name of call i
@@ -50,10 +52,12 @@ same_functions _ _ = false
 -- the reply that tells the outcome, with this new name
 abbrev reply_for : Name → Option Outcome → Reply
 reply_for r (Some (makes f)) = Made r
-reply_for r (Some (restricts f c)) = Chose r f
+reply_for r (Some (restricts f c)) = Chose r (Bdd f)
+reply_for r (Some (covers lower upper)) = Chose r (Zdd [])
 reply_for r (Some (fetches f posted)) = Fetched r posted
 reply_for r (Some (counts f m)) = Numbered r m
 reply_for r (Some overflows) = Overflow
+reply_for r (Some is_apart) = Apart
 reply_for r (Some is_most) = Most
 reply_for r (Some (compares f g)) = Truth (same_functions f g)
 reply_for r (Some (tells b)) = Truth b
@@ -74,7 +78,7 @@ play i t [] = []
 play i t (c ∷ cs) = let reply = reply_for (n i) (outcome t 0 c) in shown reply ∷ play (suc i) (after t 0 c reply) cs
 
 abbrev sizes : ℕ → ℕ → Sizes
-sizes v e = record { variables = v; elements = e; most_variables = 3; most_elements = 3 }
+sizes v e = record { variables = v; elements = e; most_variables = 3; most_elements = 3; cells = 256 }
 
 abbrev run : ℕ → ℕ → List Call → List Reply
 run v e calls = play 0 (opening (sizes v e)) calls
@@ -135,7 +139,7 @@ most : run 3 0 (AddVar ∷ []) ≡ Most ∷ []
 most = refl
 
 -- with 16,384 variables no list is computed
-wide : outcome (opening (record { variables = 16384; elements = 16384; most_variables = 16384; most_elements = 16384 })) 0 (Makes (makings.Bdd bdds.One))
+wide : outcome (opening (record { variables = 16384; elements = 16384; most_variables = 16384; most_elements = 16384; cells = 256 })) 0 (Makes (makings.Bdd bdds.One))
     ≡ Some (makes (Bdd (list_of (2 ^ 16384) (constant true))))
 wide = refl
 
@@ -152,3 +156,25 @@ order_of_sift : orders_from (opening_orders (sizes 3 0)) (an_entry (Sift (record
     ≡ record { variables = 0 ∷ 2 ∷ 1 ∷ []; elements = [] }
 unfolding an_entry
 order_of_sift = refl
+
+-- the choice of b where a is 1 and of c where it is 0: Morreale's answer has the combinations a b and a' c, and not b c
+choice : ℕ → Bool
+choice k = if bit k 0 then bit k 1 else bit k 2
+
+cover_of_choice : map (morreale 3 6 (0 ∷ 1 ∷ 2 ∷ []) (interval choice choice)) (5 ∷ 18 ∷ 20 ∷ []) ≡ true ∷ true ∷ false ∷ []
+unfolding morreale choice any_below all_below cover_value set_bit
+cover_of_choice = refl
+
+-- the function of these two combinations is the choice; a cover lies between true and true, and none between true and false
+covers_of_choice : run 3 6 (Makes (makings.Bdd (bdds.Var 0)) ∷ Makes (makings.Bdd (bdds.Var 1)) ∷ Makes (makings.Bdd (bdds.Var 2)) ∷ Makes (makings.Bdd (bdds.Ite (n 0) (n 1) (n 2)))
+    ∷ (Makes (makings.Zdd zdds.Base)) ∷ Makes (makings.Zdd (zdds.Change (n 4) 0)) ∷ Makes (makings.Zdd (zdds.Change (n 5) 2)) ∷ Makes (makings.Zdd (zdds.Change (n 4) 1)) ∷ Makes (makings.Zdd (zdds.Change (n 7) 4))
+    ∷ Makes (makings.Zdd (zdds.Union (n 6) (n 8))) ∷ Makes (makings.Bdd (bdds.CoverOf (n 9))) ∷ Same (n 10) (n 3) ∷ (Makes (makings.Bdd bdds.One)) ∷ (Makes (makings.Bdd bdds.Zero))
+    ∷ Makes (makings.Zdd (zdds.Isop (n 12) (n 12))) ∷ Makes (makings.Zdd (zdds.Isop (n 12) (n 13))) ∷ [])
+    ≡ Done ∷ Done ∷ Done ∷ Done ∷ Done ∷ Done ∷ Done ∷ Done ∷ Done ∷ Done ∷ Done ∷ same ∷ Done ∷ Done ∷ Done ∷ Apart ∷ []
+unfolding list_of set_bit any_below all_below cover_value
+covers_of_choice = refl
+
+-- five elements are too few for the literals of three variables
+few_literals : run 3 5 ((Makes (makings.Bdd bdds.One)) ∷ Makes (makings.Zdd (zdds.Isop (n 0) (n 0))) ∷ []) ≡ Done ∷ Full 0 0 ∷ []
+unfolding list_of all_below
+few_literals = refl

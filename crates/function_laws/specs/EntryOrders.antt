@@ -7,7 +7,8 @@ use Rattle.function_laws.specs.declared.history.Reply.{Reply}
 use Rattle.function_laws.specs.declared.history.Reply.TheVariants.{Done, Numbered}
 use Rattle.function_laws.specs.declared.history.Entry.{Entry}
 use Rattle.function_laws.specs.Sizes.{Orders}
-use Rattle.function_laws.specs.Tables.{Sizes}
+use Rattle.function_laws.specs.Tables.{Table, Sizes}
+use Rattle.function_laws.specs.Histories.{after_entry}
 
 -- the order with the two at a level and the next one exchanged
 abbrev pub exchanged : ℕ → List ℕ → List ℕ
@@ -41,3 +42,8 @@ orders_after orders call _ = orders
 abbrev pub orders_from : Orders → List Entry → Orders
 orders_from orders [] = orders
 orders_from orders (e ∷ es) = orders_from (orders_after orders e.call e.reply) es
+
+-- this is said of each entry, with the table and the orders before it
+abbrev pub EachWith : (Table → Orders → Entry → Type 0) → Table → Orders → List Entry → Type 0
+EachWith P t orders [] = Unit {0}
+EachWith P t orders (e ∷ es) = P t orders e × EachWith P (after_entry t e) (orders_after orders e.call e.reply) es

@@ -1,5 +1,5 @@
 -- What makes a function: what it takes, of what kind it is, and what comes of it.
-use Rattle.std.specs.Prelude.{◌==◌, ℕ, ◌^◌, ℤ, Bool, true, false, not, ◌&&◌, nat_lt, List, [], ◌∷◌, map, Option, Some, option_map, option_and_then}
+use Rattle.std.specs.Prelude.{◌==◌, ℕ, ◌*◌, ◌^◌, ℤ, Bool, true, false, not, ◌&&◌, if◌then◌else◌, nat_le, nat_lt, List, [], ◌∷◌, map, Option, Some, option_map, option_and_then}
 use Rattle.std.specs.List.{list_all, list_any}
 use Rattle.edge_bits.specs.declared.edges.Kind.{Kind}
 use Rattle.edge_bits.specs.declared.edges.Kind.TheVariants as kinds
@@ -12,24 +12,28 @@ use Rattle.function_laws.specs.declared.making.BddMaking.TheVariants as bdds
 use Rattle.function_laws.specs.declared.making.AddMaking.TheVariants as adds
 use Rattle.function_laws.specs.declared.making.ExactMaking.TheVariants as exacts
 use Rattle.function_laws.specs.declared.making.ZddMaking.TheVariants as zdds
-use Rattle.function_laws.specs.Lists.{list_of}
+use Rattle.function_laws.specs.Lists.{list_of, truth}
 use Rattle.function_laws.specs.Values as values
 use Rattle.function_laws.specs.Numbers as numbers
 use Rattle.function_laws.specs.Families as families
 use Rattle.function_laws.specs.Functions as lists
-use Rattle.function_laws.specs.Outcomes.{Outcome, makes, restricts, as_add, as_bdd, as_zdd, in_range, when, with_one, with_two, with_three}
+use Rattle.function_laws.specs.IrredundantCovers.{cover_value}
+use Rattle.function_laws.specs.Outcomes.{Outcome, makes, restricts, covers, is_apart, as_add, as_bdd, as_zdd, in_range, when, with_one, with_two, with_three}
 use Rattle.function_laws.specs.Tables.{Sizes}
 
--- What an operation takes: a function of a kind, by what stands for it; a variable, an element, a number or a truth value; some
--- variables; or pairs of a variable and a function, a BDD, that is put for it.
+-- What an operation takes: a function of a kind, by what stands for it; a variable, an element, a value that a leaf may have, any
+-- number, or a truth value; some variables; pairs of a variable and a function, a BDD, that is put for it; or elements enough for the
+-- two literals of each variable that there may be.
 pub data Taken (R : Type 0) : Type 0 where
   function : Kind → R → Taken R
   variable : ℕ → Taken R
   element : ℕ → Taken R
+  value : ℤ → Taken R
   number : ℤ → Taken R
   bit : Bool → Taken R
   variables : List ℕ → Taken R
   pairs : List (ℕ × R) → Taken R
+  literals : Taken R
 
 -- what it takes, in order
 abbrev pub taken : {R : Type 0} → Making R (List ℕ) (List (ℕ × R)) → List (Taken R)
@@ -51,7 +55,8 @@ taken (makings.Bdd (bdds.Restrict a b)) = function kinds.Bdd a ∷ function kind
 taken (makings.Bdd (bdds.Support a)) = function kinds.Bdd a ∷ []
 taken (makings.Bdd (bdds.AtLeast a w)) = function kinds.Add a ∷ number w ∷ []
 taken (makings.Bdd (bdds.Pattern a)) = function kinds.Add a ∷ []
-taken (makings.Add (adds.Constant w)) = number w ∷ []
+taken (makings.Bdd (bdds.CoverOf a)) = literals ∷ function kinds.Zdd a ∷ []
+taken (makings.Add (adds.Constant w)) = value w ∷ []
 taken (makings.Add (adds.FromBdd a)) = function kinds.Bdd a ∷ []
 taken (makings.Add (adds.Min a b)) = function kinds.Add a ∷ function kinds.Add b ∷ []
 taken (makings.Add (adds.Max a b)) = function kinds.Add a ∷ function kinds.Add b ∷ []
@@ -72,6 +77,7 @@ taken (makings.Zdd (zdds.Subset0 a e)) = function kinds.Zdd a ∷ element e ∷ 
 taken (makings.Zdd (zdds.Change a e)) = function kinds.Zdd a ∷ element e ∷ []
 taken (makings.Zdd (zdds.Product a b)) = function kinds.Zdd a ∷ function kinds.Zdd b ∷ []
 taken (makings.Zdd (zdds.Quotient a b)) = function kinds.Zdd a ∷ function kinds.Zdd b ∷ []
+taken (makings.Zdd (zdds.Isop a b)) = literals ∷ function kinds.Bdd a ∷ function kinds.Bdd b ∷ []
 
 -- the kind of what it makes
 abbrev pub kind_made : {R V P : Type 0} → Making R V P → Kind
@@ -100,6 +106,7 @@ mapped f g h (makings.Bdd (bdds.Restrict a b)) = makings.Bdd (bdds.Restrict (f a
 mapped f g h (makings.Bdd (bdds.Support a)) = makings.Bdd (bdds.Support (f a))
 mapped f g h (makings.Bdd (bdds.AtLeast a w)) = makings.Bdd (bdds.AtLeast (f a) w)
 mapped f g h (makings.Bdd (bdds.Pattern a)) = makings.Bdd (bdds.Pattern (f a))
+mapped f g h (makings.Bdd (bdds.CoverOf a)) = makings.Bdd (bdds.CoverOf (f a))
 mapped f g h (makings.Add (adds.Constant w)) = makings.Add (adds.Constant w)
 mapped f g h (makings.Add (adds.FromBdd a)) = makings.Add (adds.FromBdd (f a))
 mapped f g h (makings.Add (adds.Min a b)) = makings.Add (adds.Min (f a) (f b))
@@ -121,6 +128,7 @@ mapped f g h (makings.Zdd (zdds.Subset0 a e)) = makings.Zdd (zdds.Subset0 (f a) 
 mapped f g h (makings.Zdd (zdds.Change a e)) = makings.Zdd (zdds.Change (f a) e)
 mapped f g h (makings.Zdd (zdds.Product a b)) = makings.Zdd (zdds.Product (f a) (f b))
 mapped f g h (makings.Zdd (zdds.Quotient a b)) = makings.Zdd (zdds.Quotient (f a) (f b))
+mapped f g h (makings.Zdd (zdds.Isop a b)) = makings.Zdd (zdds.Isop (f a) (f b))
 
 -- the same of names, where each that stands for a function has this one
 abbrev pub named : {R : Type 0} → (R → Name) → Making R (List ℕ) (List (ℕ × R)) → Making Name (List ℕ) (List (ℕ × Name))
@@ -144,6 +152,18 @@ are_distinct (v ∷ vs) = not (list_any (λ u. u == v) vs) && are_distinct vs
 abbrev pub bdds_of : (Name → Option Function) → List (ℕ × Name) → Option (List (ℕ × List Bool))
 bdds_of live [] = Some []
 bdds_of live (pair ∷ more) = option_and_then (λ f. option_map (λ rest. (pair.0, f) ∷ rest) (bdds_of live more)) (as_bdd (live pair.1))
+
+-- there are as many elements as literals of the greatest number of variables
+abbrev pub has_literals : Sizes → Bool
+has_literals z = nat_le (2 * z.most_variables) z.elements
+
+-- the function of a cover
+abbrev pub cover_function : Sizes → List Bool → List Bool
+cover_function z p = list_of (2 ^ z.variables) (cover_value z.variables z.elements (truth p))
+
+-- a cover between two functions, if the first is below the second
+abbrev pub covered : List Bool → List Bool → Outcome
+covered lower upper = if lists.leq_of lower upper then covers lower upper else is_apart
 
 -- What comes of it, by what the names stand for; none where the caller's conditions don't hold
 abbrev pub comes_of : Sizes → (Name → Option Function) → Making Name (List ℕ) (List (ℕ × Name)) → Option Outcome
@@ -169,6 +189,7 @@ comes_of z live (makings.Bdd (bdds.Restrict a b)) = with_two (as_bdd (live a)) (
 comes_of z live (makings.Bdd (bdds.Support a)) = with_one (as_bdd (live a)) (λ f. makes (Bdd (lists.support_of z.variables f)))
 comes_of z live (makings.Bdd (bdds.AtLeast a w)) = with_one (as_add (live a)) (λ f. makes (Bdd (lists.at_least_of f w)))
 comes_of z live (makings.Bdd (bdds.Pattern a)) = with_one (as_add (live a)) (λ f. makes (Bdd (lists.pattern_of f)))
+comes_of z live (makings.Bdd (bdds.CoverOf a)) = when (has_literals z) (with_one (as_zdd (live a)) (λ p. makes (Bdd (cover_function z p))))
 comes_of z live (makings.Add (adds.Constant w)) = when (numbers.is_value w) (Some (makes (Add (list_of (2 ^ z.variables) (values.constant w)))))
 comes_of z live (makings.Add (adds.FromBdd a)) = with_one (as_bdd (live a)) (λ f. makes (Add (lists.from_bdd_of f)))
 comes_of z live (makings.Add (adds.Min a b)) = with_two (as_add (live a)) (as_add (live b)) (λ f g. makes (Add (lists.on_numbers numbers.lesser f g)))
@@ -190,3 +211,4 @@ comes_of z live (makings.Zdd (zdds.Subset0 a e)) = when (nat_lt e z.elements) (w
 comes_of z live (makings.Zdd (zdds.Change a e)) = when (nat_lt e z.elements) (with_one (as_zdd (live a)) (λ p. makes (Zdd (lists.flip_of p e))))
 comes_of z live (makings.Zdd (zdds.Product a b)) = with_two (as_zdd (live a)) (as_zdd (live b)) (λ p q. makes (Zdd (lists.product_of p q)))
 comes_of z live (makings.Zdd (zdds.Quotient a b)) = with_two (as_zdd (live a)) (as_zdd (live b)) (λ p q. makes (Zdd (lists.quotient_of p q)))
+comes_of z live (makings.Zdd (zdds.Isop a b)) = when (has_literals z) (with_two (as_bdd (live a)) (as_bdd (live b)) covered)

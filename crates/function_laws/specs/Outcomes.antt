@@ -9,12 +9,15 @@ pub data Outcome : Type 0 where
   makes : Function → Outcome
   -- a new name with one of the functions that restrict may answer for f and c
   restricts : List Bool → List Bool → Outcome
+  -- a new name with an irredundant cover that reaches the first function and stays within the second
+  covers : List Bool → List Bool → Outcome
   -- a new name with this function, from the board or not
   fetches : Function → Bool → Outcome
   -- a new name with this function, and this number
   counts : Function → ℕ → Outcome
-  -- a value out of range; the greatest number reached already
+  -- a value out of range; two functions between which there is no cover; the greatest number reached already
   overflows : Outcome
+  is_apart : Outcome
   is_most : Outcome
   -- yes exactly if these are equal; yes or no; a value; ok
   compares : Function → Function → Outcome

@@ -68,8 +68,8 @@ pub enum Call {
 pub enum Reply {
     /// A new name.
     Made(Name),
-    /// A new name, and the function that a restrict chose.
-    Chose(Name, LinkedList<bool>),
+    /// A new name, and the function that was chosen for it: by a restrict, or as a cover between two functions.
+    Chose(Name, Function),
     /// A new name, and whether its function came from the board.
     Fetched(Name, bool),
     /// A new name, and the number of the new variable or element.
@@ -80,6 +80,8 @@ pub enum Reply {
     Value(i64),
     /// A value of the result is out of range.
     Overflow,
+    /// The function that a cover is to reach holds somewhere where the one that it is to stay within does not.
+    Apart,
     /// There are as many variables or elements as there may be.
     Most,
     /// The node table is full: the slots in use, and those that were needed.

@@ -67,6 +67,8 @@ pub enum BddMaking<R, V, P> {
     AtLeast(R, i64),
     /// Where the function is not 0.
     Pattern(R),
+    /// Where some combination of a cover fits: element 2v is the variable v, 2v + 1 its complement (Minato 1993).
+    CoverOf(R),
 }
 
 impl<R: Copy, V: Copy, P: Copy> Clone for BddMaking<R, V, P> {
@@ -154,6 +156,8 @@ pub enum ZddMaking<R> {
     Product(R, R),
     /// The combinations that meet no combination of the second family and, joined with each of them, give one of the first; none where the second is empty.
     Quotient(R, R),
+    /// An irredundant cover that reaches where the first function holds, and stays within where the second does (Morreale 1970, Minato 1993).
+    Isop(R, R),
 }
 
 impl<R: Copy> Clone for ZddMaking<R> {
