@@ -3,6 +3,7 @@ use Rattle.std.proofs.Common.{◌≡◌, ℕ, zero, suc, ◌+◌, ◌-◌, ◌*�
 use Rattle.std.specs.Prelude as std
 use mathlib.Core.Option.{some, some-injective, some-ne-none}
 use lib.ListN.{get_elem?}
+use Rattle.edge_bits.specs.declared.limits.TheConstants.{MOST_ROWS, MOST_SESSIONS}
 use Rattle.function_laws.specs.declared.history.Name.{Name}
 use Rattle.function_laws.specs.Tables.{same_name}
 use Rattle.seat_guard.specs.declared.view.Held.{Held}
@@ -29,12 +30,12 @@ cells_count-most k (std.None ∷ cells) = let a = cells_count-most k cells in om
 cells_count-most k (std.Some held ∷ cells) = let a = cells_count-most k cells in let b = one_at_most (held.edge.index == k) in omega (arith, a, b)
 
 -- a seat has no more sessions' rows than parts
-sessions-most : (live closing : Bool) (given gone : ℕ) → cond live 1 (cond closing gone 0) ≤ cond live 1 (cond closing ((64 - given) + gone) 0)
+sessions-most : (live closing : Bool) (given gone : ℕ) → cond live 1 (cond closing gone 0) ≤ cond live 1 (cond closing ((MOST_SESSIONS - given) + gone) 0)
 sessions-most true closing given gone = omega arith
 sessions-most false true given gone = omega arith
 sessions-most false false given gone = omega arith
 
-counted-most : (k : ℕ) (ds : List Draws) → ((id : ℕ) (d : Draws) → get_elem? ds id ≡ some d → HasFewRows d) → all_count k ds ≤ all_parts ds * 2 ^ 25
+counted-most : (k : ℕ) (ds : List Draws) → ((id : ℕ) (d : Draws) → get_elem? ds id ≡ some d → HasFewRows d) → all_count k ds ≤ all_parts ds * MOST_ROWS
 counted-most k [] each = omega arith
 counted-most k (d ∷ ds) each =
     let rest = counted-most k ds (λ j e at. each (suc j) e at) in
@@ -71,7 +72,7 @@ without-most name (row ∷ rows) = by (same_name row.name name) (without-most na
     by true le = omega (arith, le)
     by false le = omega (arith, le)
 
-rows-most : (change : Change) (rows : List Row) → length rows ≤ 2 ^ 25 → HasRoomFor change rows → length (rows_after change rows) ≤ 2 ^ 25
+rows-most : (change : Change) (rows : List Row) → length rows ≤ MOST_ROWS → HasRoomFor change rows → length (rows_after change rows) ≤ MOST_ROWS
 rows-most Nothing rows le room = le
 rows-most (Posts i held) rows le room = le
 rows-most (Adds row) rows le room = omega (arith, room)
@@ -81,20 +82,20 @@ one_session : (d : Draws) → d.live ≡ true → sessions_of d ≡ 1
 one_session d live = ap (λ b. cond b 1 (cond d.closing (length d.gone) 0)) live
 
 -- a live seat after a change of its rows
-pub few-after : (d : Draws) (change : Change) → d.live ≡ true → HasFewRows d → HasRoomFor change d.rows → length (rows_after change d.rows) ≤ sessions_of d * 2 ^ 25
+pub few-after : (d : Draws) (change : Change) → d.live ≡ true → HasFewRows d → HasRoomFor change d.rows → length (rows_after change d.rows) ≤ sessions_of d * MOST_ROWS
 few-after d change live few room =
     let one = one_session d live in
-    let le : length d.rows ≤ 2 ^ 25 = omega (arith, few, one) in
+    let le : length d.rows ≤ MOST_ROWS = omega (arith, few, one) in
     let r = rows-most change d.rows le room in omega (arith, r, one)
 
-pub allotted-split : (ds : List Draws) (id : ℕ) (d : Draws) → get_elem? ds id ≡ some d → d.closing ≡ true → d.live ≡ false → d.given < 64 → Allotted ds → Allotted (set ds id (one_more d) ++ session_of d ∷ [])
+pub allotted-split : (ds : List Draws) (id : ℕ) (d : Draws) → get_elem? ds id ≡ some d → d.closing ≡ true → d.live ≡ false → d.given < MOST_SESSIONS → Allotted ds → Allotted (set ds id (one_more d) ++ session_of d ∷ [])
 allotted-split ds id d at closing dead room a = record {
   most =
       let p = parts-set ds id d (one_more d) at in
       let q = parts-append (set ds id (one_more d)) (session_of d) in
       let m = a.most in
-      let old : parts_of d ≡ (64 - d.given) + length d.gone = ap (λ b. cond b 1 (cond d.closing ((64 - d.given) + length d.gone) 0)) dead ∙ ap (λ b. cond b ((64 - d.given) + length d.gone) 0) closing in
-      let new : parts_of (one_more d) ≡ (64 - suc d.given) + length d.gone = ap (λ b. cond b 1 (cond d.closing ((64 - suc d.given) + length d.gone) 0)) dead ∙ ap (λ b. cond b ((64 - suc d.given) + length d.gone) 0) closing in
+      let old : parts_of d ≡ (MOST_SESSIONS - d.given) + length d.gone = ap (λ b. cond b 1 (cond d.closing ((MOST_SESSIONS - d.given) + length d.gone) 0)) dead ∙ ap (λ b. cond b ((MOST_SESSIONS - d.given) + length d.gone) 0) closing in
+      let new : parts_of (one_more d) ≡ (MOST_SESSIONS - suc d.given) + length d.gone = ap (λ b. cond b 1 (cond d.closing ((MOST_SESSIONS - suc d.given) + length d.gone) 0)) dead ∙ ap (λ b. cond b ((MOST_SESSIONS - suc d.given) + length d.gone) 0) closing in
       omega (arith, p, q, m, old, new, room);
   each = λ j e here. ⊎_elim
       (each_set (λ j (e : Draws). HasFewRows e) ds id (one_more d) (λ j e apart there. a.each j e there) (a.each id d at) j e)
@@ -117,9 +118,9 @@ allotted-join ds id d other e at at_other there closing dead live a =
           let p = parts-set ds id d (with_gone d e) at in
           let q = parts-set (set ds id (with_gone d e)) other e blank there in
           let m = a.most in
-          let old : parts_of d ≡ (64 - d.given) + length d.gone = ap (λ b. cond b 1 (cond d.closing ((64 - d.given) + length d.gone) 0)) dead ∙ ap (λ b. cond b ((64 - d.given) + length d.gone) 0) closing in
-          let new : parts_of (with_gone d e) ≡ (64 - d.given) + length (with_gone d e).gone = ap (λ b. cond b 1 (cond d.closing ((64 - d.given) + length (with_gone d e).gone) 0)) dead ∙ ap (λ b. cond b ((64 - d.given) + length (with_gone d e).gone) 0) closing in
-          let its : parts_of e ≡ 1 = ap (λ b. cond b 1 (cond e.closing ((64 - e.given) + length e.gone) 0)) live in
+          let old : parts_of d ≡ (MOST_SESSIONS - d.given) + length d.gone = ap (λ b. cond b 1 (cond d.closing ((MOST_SESSIONS - d.given) + length d.gone) 0)) dead ∙ ap (λ b. cond b ((MOST_SESSIONS - d.given) + length d.gone) 0) closing in
+          let new : parts_of (with_gone d e) ≡ (MOST_SESSIONS - d.given) + length (with_gone d e).gone = ap (λ b. cond b 1 (cond d.closing ((MOST_SESSIONS - d.given) + length (with_gone d e).gone) 0)) dead ∙ ap (λ b. cond b ((MOST_SESSIONS - d.given) + length (with_gone d e).gone) 0) closing in
+          let its : parts_of e ≡ 1 = ap (λ b. cond b 1 (cond e.closing ((MOST_SESSIONS - e.given) + length e.gone) 0)) live in
           omega (arith, p, q, m, old, new, its, gone);
       each = each_set (λ j (f : Draws). HasFewRows f) (set ds id (with_gone d e)) other blank
           (λ j f apart here. each_set (λ j (f : Draws). HasFewRows f) ds id (with_gone d e) (λ j f apart here. a.each j f here) (omega (arith, gone, rows, mine, theirs, one, of_d, of_new)) j f here)
@@ -130,7 +131,7 @@ allotted-join ds id d other e at at_other there closing dead live a =
 pub allotted-one : (d : Draws) → d.closing ≡ true → d.live ≡ false → d.rows ≡ [] → d.given ≡ 0 → d.gone ≡ [] → Allotted (d ∷ [])
 allotted-one d closing dead rows given gone = record {
   most =
-      let p : parts_of d ≡ (64 - d.given) + length d.gone = ap (λ b. cond b 1 (cond d.closing ((64 - d.given) + length d.gone) 0)) dead ∙ ap (λ b. cond b ((64 - d.given) + length d.gone) 0) closing in
+      let p : parts_of d ≡ (MOST_SESSIONS - d.given) + length d.gone = ap (λ b. cond b 1 (cond d.closing ((MOST_SESSIONS - d.given) + length d.gone) 0)) dead ∙ ap (λ b. cond b ((MOST_SESSIONS - d.given) + length d.gone) 0) closing in
       let g : length d.gone ≡ 0 = ap length gone in omega (arith, p, g);
   each = one;
 }

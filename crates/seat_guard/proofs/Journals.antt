@@ -1,19 +1,20 @@
 -- Each change of a seat keeps the part of the journal.
-use Rattle.std.proofs.Common.{◌≡◌, ◌≢◌, ℕ, suc, ◌+◌, ◌^◌, ◌<◌, ◌≤◌, Bool, true, false, List, [], ◌∷◌, ◌++◌, length, set, refl, ap, sym, subst, ◌∙◌, ⊎_elim, arith, ◌⊎◌, length-append, length-set, true≢false}
+use Rattle.std.proofs.Common.{◌≡◌, ◌≢◌, ℕ, suc, ◌+◌, ◌^◌, ◌<◌, ◌≤◌, Bool, true, false, List, [], ◌∷◌, ◌++◌, length, set, refl, ap, sym, subst, ◌∙◌, ⊎_elim, arith, length-append, length-set, true≢false}
 use Rattle.std.specs.Prelude as std
 use mathlib.Core.Logic.{dite}
 use mathlib.Core.Option.{Option, none, some, some-injective, some-ne-none}
 use native.Mathlib.Decide.{ℕ_discrete, dec_lt}
 use lib.ListN.{get_elem?}
+use Rattle.edge_bits.specs.declared.limits.TheConstants.{CELLS, MOST_SESSIONS}
 use Rattle.atomic_table.proofs.Lists.{at_snoc, set_else}
 use Rattle.function_laws.specs.declared.history.Name.{Name}
 use Rattle.function_laws.specs.declared.history.Function.{Function}
 use Rattle.function_laws.specs.declared.history.Entry.{Entry}
 use Rattle.function_laws.specs.Tables.{Table, Sizes, opening}
 use Rattle.function_laws.specs.Steps.{IsAllowed, after}
-use Rattle.function_laws.specs.Histories.{IsLegal, EachFrom, table_after}
+use Rattle.function_laws.specs.Histories.{IsLegal, table_after}
 use Rattle.function_laws.proofs.HistoryLemmas.{table_after-push, IsLegal-push}
-use Rattle.function_laws.proofs.OrderLemmas.{EachFrom-append}
+use Rattle.function_laws.proofs.OrderLemmas.{EachWith-append}
 use Rattle.seat_guard.specs.declared.view.Held.{Held}
 use Rattle.seat_guard.specs.declared.view.Row.{Row}
 use Rattle.seat_guard.specs.declared.view.Telling.{Telling}
@@ -23,16 +24,17 @@ use Rattle.seat_guard.specs.declared.view.Leaving.{Leaving}
 use Rattle.seat_guard.specs.Views.{told_of, MayTell, stands_for, cell_in, sizes_for, blank, session_of, holding, letting_go, gone_of, with_gone, one_more, orders_of, note_of, noting}
 use Rattle.function_laws.specs.SessionEntries.{Each, entries_of, entry}
 use Rattle.function_laws.specs.Sizes.{Orders}
-use Rattle.function_laws.specs.EntryOrders.{opening_orders, orders_from}
+use Rattle.function_laws.specs.EntryOrders.{EachWith, opening_orders, orders_from}
 use Rattle.seat_guard.specs.Notes.{IsNotedIn}
 use Rattle.seat_guard.specs.Journal.{IsLeftRow, LiveFits, Fits, Journal}
-use Rattle.seat_guard.specs.Sifted.{Carries, IsOfOther, IsOfRow, IsOfCell, IsKnown, carried_by}
+use Rattle.function_laws.specs.SiftEntries.{Carries, CarriesCall}
+use Rattle.seat_guard.specs.Sifted.{IsOfOther}
 use Rattle.seat_guard.specs.Rule.{AllBack, Whole}
 use Rattle.function_laws.proofs.SessionEntryLemmas.{put_at, put_here, put_else, entries_same, entries_other}
 use Rattle.function_laws.proofs.ApartLemmas.{after_apart}
 use Rattle.seat_guard.proofs.RowCounts.{at_end, each_append, each_map, each_set, off, not_true}
 use Rattle.seat_guard.proofs.NoteLemmas.{notes-longer, noted-now}
-use Rattle.seat_guard.proofs.NameSteps.{given-after, known-left, stand-after}
+use Rattle.seat_guard.proofs.NameSteps.{carries-left, given-after, stand-after}
 
 module _ (place turn : ℕ) (ds : List Draws) (start : Sizes) (log : List Entry) (table : Table) (r : Journal place turn ds start log table) where
   abbrev pub mine : (id : ℕ) (d : Draws) → get_elem? ds id ≡ some d → d.live ≡ true → LiveFits turn log table r.seat id d
@@ -53,7 +55,7 @@ module _ (place turn : ℕ) (ds : List Draws) (start : Sizes) (log : List Entry)
   held_turn i d at h = (mine i d at ((r.each i d at).holder h)).held h
 
   -- the free turn is taken
-  pub takes_it : (id : ℕ) (d : Draws) (cells : List (std.Option Held)) (others : List Held) (now : Orders) (functions : List Function) → get_elem? ds id ≡ some d → d.live ≡ true → turn ≡ 0 → table.cells ≡ cell_in cells → length cells ≡ 256 → Each (IsOfOther table d.session) others
+  pub takes_it : (id : ℕ) (d : Draws) (cells : List (std.Option Held)) (others : List Held) (now : Orders) (functions : List Function) → get_elem? ds id ≡ some d → d.live ≡ true → turn ≡ 0 → table.cells ≡ cell_in cells → length cells ≡ CELLS → Each (IsOfOther table d.session) others
       → Journal place (suc d.session) (set ds id (holding d cells others now functions)) start log table
   takes_it id d cells others now functions at live free board len apart_from =
       let me = mine id d at live in record {
@@ -137,9 +139,9 @@ module _ (place turn : ℕ) (ds : List Draws) (start : Sizes) (log : List Entry)
       }
 
   -- a call draws its place
-  pub draws_it : (id : ℕ) (d : Draws) (x : Telling) → get_elem? ds id ≡ some d → d.holds ≡ true → length d.entries < 2 ^ 48 → MayTell d x
+  pub draws_it : (id : ℕ) (d : Draws) (x : Telling) → get_elem? ds id ≡ some d → d.holds ≡ true → length d.entries < 2 ^ 48 → MayTell d x → orders_of d ≡ orders_from (opening_orders start) log
       → Journal (suc (length log)) turn (set ds id (told_of d (length log) x)) start (log ++ entry (length log) d.session x.call x.reply ∷ []) (after table d.session x.call x.reply)
-  draws_it id d x at holds room may =
+  draws_it id d x at holds room may now =
       let live = (r.each id d at).holder holds in
       let me = mine id d at live in
       let n : ℕ = length log in
@@ -153,8 +155,8 @@ module _ (place turn : ℕ) (ds : List Draws) (start : Sizes) (log : List Entry)
       let other : (p : ℕ) → p ≢ d.session → entries_of p longer ≡ entries_of p log = λ p apart. entries_other log p e (λ is. apart (sym is)) in
       let aside : (p : ℕ) → p ≢ d.session → (u.live p ≡ table.live p) × (u.given p ≡ table.given p) = λ p apart. after_apart table d.session p x.call x.reply may.plain apart in
       let sizes : u.sizes ≡ table.sizes = says.1.sizes_are ∙ sym me.agrees.sizes_are in
-      let known : (f : Function) → IsKnown d f → IsOfRow table f ⊎ IsOfCell table f = known-left d table me.stand (me.others holds) (me.agrees.cells holds).0 in
-      let carries : Carries (table_after (opening start) log) e = subst (λ (t : Table). Carries t e) (sym r.leaves) (each_map (IsKnown d) (λ (f : Function). IsOfRow table f ⊎ IsOfCell table f) known (carried_by x.call) may.carries) in
+      let carries : CarriesCall table (orders_from (opening_orders start) log) d.session x.call =
+          carries-left d table (orders_from (opening_orders start) log) now me.stand (me.others holds) (me.agrees.cells holds).0 me.agrees.live x.call may.carries in
       let other_rows : (held : Held) → IsOfOther table d.session held → IsOfOther u d.session held = λ held o. (o.0, o.1, o.2, ap (λ (h : Name → std.Option Function). h o.1) (aside o.0 o.2).0 ∙ o.3) in
       record {
         seat = r.seat;
@@ -166,7 +168,7 @@ module _ (place turn : ℕ) (ds : List Draws) (start : Sizes) (log : List Entry)
             (λ is. let l : length (entries_of p longer) ≡ length d.entries + 1 = ap (λ (q : ℕ). length (entries_of q longer)) is ∙ (ap length same ∙ length-append d.entries (e ∷ [])) in omega (arith, l, room))
             (λ apart. subst (λ (l : List Entry). length l ≤ 2 ^ 48) (sym (other p apart)) (r.bounded p));
         beyond = λ p le. other p (λ is. let b = me.below in omega (arith, b, is, le)) ∙ r.beyond p le;
-        carried = EachFrom-append Carries (opening start) log (e ∷ []) r.carried (carries, tt);
+        carried = EachWith-append Carries (opening start) (opening_orders start) log (e ∷ []) r.carried (subst (λ (t : Table). Carries t (orders_from (opening_orders start) log) e) (sym r.leaves) carries, tt);
         each = each_set (Fits turn start longer u r.seat) ds id told
             (λ j f apart here. let fits = r.each j f here in record {
               live = λ l. let g = fits.live l in let away : f.session ≢ d.session = λ is. apart (one_seat j id f d g me is) in record {
@@ -254,7 +256,7 @@ module _ (place turn : ℕ) (ds : List Draws) (start : Sizes) (log : List Entry)
       }
 
   -- the closing seat gives a seat to the next session
-  pub splits_it : (id : ℕ) (d : Draws) → get_elem? ds id ≡ some d → d.closing ≡ true → d.given < 64
+  pub splits_it : (id : ℕ) (d : Draws) → get_elem? ds id ≡ some d → d.closing ≡ true → d.given < MOST_SESSIONS
       → Journal place turn (set ds id (one_more d) ++ session_of d ∷ []) start log table
   splits_it id d at is room =
       let fits = (r.each id d at).closing is in
@@ -400,7 +402,7 @@ module _ (place turn : ℕ) (ds : List Draws) (start : Sizes) (log : List Entry)
         log = log;
         legal = subst (λ (z : Sizes). IsLegal z log) k.start_is r.legal;
         count = sym r.drawn;
-        carried = subst (λ (z : Sizes). EachFrom Carries (opening z) log) k.start_is r.carried;
+        carried = subst (λ (z : Sizes). EachWith Carries (opening z) (opening_orders z) log) k.start_is r.carried;
         each = λ i g there. (k.back i g there).2;
         rows = λ i g there. ap (λ (z : Sizes). (table_after (opening z) log).live g.session) start_is ∙ ap (λ (t : Table). t.live g.session) r.leaves ∙ (k.back i g there).3;
         beyond = λ p le. (k.later p le).no_entry;

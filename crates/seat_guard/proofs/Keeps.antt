@@ -9,12 +9,14 @@ use native.Mathlib.Decide.{ℕ_discrete}
 use lib.ListN.{get_elem?}
 use lib.Seq.{set-get_or, map-set}
 use prog.Atomic.{either}
+use Rattle.edge_bits.specs.declared.limits.TheConstants.{CELLS, MOST_SESSIONS}
 use Rattle.atomic_table.specs.Table.{State, Me, step, keeps, takes, gives, stepped, Allows, Splits, Joins}
 use Rattle.atomic_table.proofs.Lists.{set_again, at_map, set_here, set_else}
 use Rattle.function_laws.specs.declared.history.Function.{Function}
 use Rattle.function_laws.specs.declared.history.Entry.{Entry}
 use Rattle.function_laws.specs.Tables.{Table, Sizes, opening}
 use Rattle.function_laws.specs.Steps.{after}
+use Rattle.seat_guard.specs.declared.guard.TheConstants.{CLOSING_TURN}
 use Rattle.seat_guard.specs.declared.view.Held.{Held}
 use Rattle.seat_guard.specs.declared.view.Row.{Row}
 use Rattle.seat_guard.specs.declared.view.Telling.{Telling}
@@ -112,7 +114,7 @@ module _ {S : Type 0} (keeps_it : S → Held → Type 0) (board : S → List (st
       ))
 
   pub takes_last : (slots id : ℕ) (me : Sat S) → me.0.draws.closing ≡ true → me.1 ≡ [] → AllBack me.0.draws
-      → Allows TheRule slots id me 1 (λ n. either (n == 0) 65 n) (ended keeps_it board counts count orders (step slots 1 0 65 none) me)
+      → Allows TheRule slots id me 1 (λ n. either (n == 0) CLOSING_TURN n) (ended keeps_it board counts count orders (step slots 1 0 CLOSING_TURN none) me)
   unfolding whole_of
   takes_last slots id me is free back s r long at small = dite (ℕ_discrete (get_or s.words 1 0) 0)
       (λ hit.
@@ -124,23 +126,23 @@ module _ {S : Type 0} (keeps_it : S → Held → Type 0) (board : S → List (st
       let h = part.home_is refl in
       let x : S = h.0 in
       let home_of = h.2 in
-      let ws = set s.words 1 65 in
+      let ws = set s.words 1 CLOSING_TURN in
       let hs = set s.homes 0 none in
-      let now : get_or ws 1 0 ≡ 65 = get_or-set_same s.words 1 65 0 (let l = r.wide in omega (arith, l)) in
-      let place : get_or ws 0 0 ≡ get_or s.words 0 0 = get_or-set_other s.words 1 0 65 0 (λ e. omega (arith, e)) in
+      let now : get_or ws 1 0 ≡ CLOSING_TURN = get_or-set_same s.words 1 CLOSING_TURN 0 (let l = r.wide in omega (arith, l)) in
+      let place : get_or ws 0 0 ≡ get_or s.words 0 0 = get_or-set_other s.words 1 0 CLOSING_TURN 0 (λ e. omega (arith, e)) in
       let none_holds : (i : ℕ) (f : Draws) → get_elem? (ds_of s.views) i ≡ some f → f.holds ≡ true → ⊥ =
       λ i f there held. let a = held_turn (get_or s.words 0 0) (get_or s.words 1 0) (ds_of s.views) r.start r.log r.table j i f there held in omega (arith, a, hit) in
       let empty = others_empty (get_or s.words 0 0) (get_or s.words 1 0) (ds_of s.views) r.start r.log r.table j id d here is back in
       let sizes = ((j.each id d here).closing is).2.start_is in
       let whole_now = whole_of (get_or s.words 0 0) (get_or s.words 1 0) (ds_of s.views) r.start r.log r.table j id d here is in
       let rule : TheRule (record { words = ws; homes = hs; views = s.views }) = record {
-        wide = length-set s.words 1 65 ∙ r.wide;
+        wide = length-set s.words 1 CLOSING_TURN ∙ r.wide;
         long = length-set s.homes 0 none ∙ r.long;
         start = r.start;
         slots = r.slots;
         log = r.log;
         table = r.table;
-        journal = subst (λ (y : ℕ × ℕ). Journal y.0 y.1 (ds_of s.views) r.start r.log r.table) (λ k. (sym place k, sym now k)) (turns (get_or s.words 0 0) (get_or s.words 1 0) (ds_of s.views) r.start r.log r.table j 65 hit);
+        journal = subst (λ (y : ℕ × ℕ). Journal y.0 y.1 (ds_of s.views) r.start r.log r.table) (λ k. (sym place k, sym now k)) (turns (get_or s.words 0 0) (get_or s.words 1 0) (ds_of s.views) r.start r.log r.table j CLOSING_TURN hit);
         turn = record {
           home_is = λ z. absurd (omega (arith, z, now));
           away = λ i f there held. absurd (none_holds i f there held);
@@ -153,7 +155,7 @@ module _ {S : Type 0} (keeps_it : S → Held → Type 0) (board : S → List (st
         me.0,
         takes 0 (std.Some x),
         h.1,
-        subst (λ b. TheRule (stepped s 1 (either b 65 (get_or s.words 1 0)) id me.1 me.0 (takes 0 (std.Some x)))) (sym (eq-eqb (get_or s.words 1 0) 0 hit))
+        subst (λ b. TheRule (stepped s 1 (either b CLOSING_TURN (get_or s.words 1 0)) id me.1 me.0 (takes 0 (std.Some x)))) (sym (eq-eqb (get_or s.words 1 0) 0 hit))
             (subst (λ (v : List View). TheRule (record { words = ws; homes = hs; views = v })) (sym (set_again s.views id me.0 at)) rule),
         (
           (λ _. (
@@ -177,7 +179,7 @@ module _ {S : Type 0} (keeps_it : S → Held → Type 0) (board : S → List (st
         me.0,
         keeps,
         tt,
-        subst (λ b. TheRule (stepped s 1 (either b 65 (get_or s.words 1 0)) id me.1 me.0 keeps)) (sym (ne_eqb (get_or s.words 1 0) 0 miss)) (stays s 1 id me r at),
+        subst (λ b. TheRule (stepped s 1 (either b CLOSING_TURN (get_or s.words 1 0)) id me.1 me.0 keeps)) (sym (ne_eqb (get_or s.words 1 0) 0 miss)) (stays s 1 id me r at),
         ((λ hit. absurd (miss hit)), (λ _. refl)),
       ))
 
@@ -233,7 +235,7 @@ module _ {S : Type 0} (keeps_it : S → Held → Type 0) (board : S → List (st
       let n : ℕ = get_or s.words 0 0 in
       let j : Journal (get_or s.words 0 0) (get_or s.words 1 0) (ds_of s.views) r.start r.log r.table = r.journal in
       let is : n ≡ length r.log = j.drawn in
-      let few : length r.log ≤ 64 * 2 ^ 48 = short 64 (2 ^ 48) r.log j.bounded j.beyond in
+      let few : length r.log ≤ MOST_SESSIONS * 2 ^ 48 = short MOST_SESSIONS (2 ^ 48) r.log j.bounded j.beyond in
       let next : (n + 1) % 2 ^ 64 ≡ suc (length r.log) = ap (λ (k : ℕ). (k + 1) % 2 ^ 64) is ∙ small_mod (length r.log) few in
       let live = (j.each id d here).holder holds in
       let mine_now = (j.each id d here).live live in
@@ -260,7 +262,7 @@ module _ {S : Type 0} (keeps_it : S → Held → Type 0) (board : S → List (st
           log = log;
           table = u;
           journal = subst (λ (y : ℕ × ℕ × List Draws). Journal y.0 y.1 y.2 r.start log u) (λ k. (sym place k, sym turn k, sym views k))
-              (draws_it (get_or s.words 0 0) (get_or s.words 1 0) (ds_of s.views) r.start r.log r.table j id d x here holds room may);
+              (draws_it (get_or s.words 0 0) (get_or s.words 1 0) (ds_of s.views) r.start r.log r.table j id d x here holds room may (r.turn.ordered id d here holds));
           turn = subst (λ (y : ℕ × List Draws × Orders). Turn keeps_it board counts count orders r.slots y.0 (get_elem? s.homes 0) y.1 u y.2) (λ k. (sym turn k, sym views k, sym then_left k)) turned;
           rows = subst Allotted (sym views) (allotted-set (ds_of s.views) id d (told_of d (length r.log) x) here r.rows refl (few-after d x.change live (r.rows.each id d here) may.room));
           sized = subst (AreSized r.slots) (sym views) (sized_set r.slots (ds_of s.views) id (told_of d (length r.log) x) r.sized (r.sized id d here));
@@ -312,7 +314,7 @@ module _ {S : Type 0} (keeps_it : S → Held → Type 0) (board : S → List (st
         (refl, refl, λ k e l. subst (λ (z : List Entry × ℕ). std.All (λ (e : Entry). e.place < z.1) z.0) (λ i. (mine_now.mine i, from_zero (length r.log) n j.drawn i)) (places_low r.log 0 (opening r.start) d.session j.legal) k e l),
       )
 
-  pub splits : (id : ℕ) (v : View) → v.draws.closing ≡ true → v.draws.given < 64 → Splits TheRule id v (viewed (one_more v.draws)) (viewed (session_of v.draws))
+  pub splits : (id : ℕ) (v : View) → v.draws.closing ≡ true → v.draws.given < MOST_SESSIONS → Splits TheRule id v (viewed (one_more v.draws)) (viewed (session_of v.draws))
   splits id v is room s r at =
       let d = v.draws in
       let here = seat_of s id v at in
@@ -385,7 +387,7 @@ module _ {S : Type 0} (keeps_it : S → Held → Type 0) (board : S → List (st
   none_counted k (std.Some held ∷ cells) none_there = absurd (let a : std.Some held.function ≡ std.None = none_there zero in cc)
 
   -- the table as it is made
-  pub starts : (x : S) (d : Draws) → orders x ≡ opening_orders (sizes_for d.vars d.elements) → counts x ≡ (d.vars, d.elements, d.slots) → ((k : ℕ) → count x k ≡ 0) → d.closing ≡ true → d.live ≡ false → d.holds ≡ false → d.rows ≡ [] → d.given ≡ 0 → d.gone ≡ [] → d.noted ≡ [] → length (board x) ≡ 256 → cell_in (board x) ≡ (λ (i : ℕ). std.None) → Each (IsKeptCell keeps_it board counts count orders x) (board x)
+  pub starts : (x : S) (d : Draws) → orders x ≡ opening_orders (sizes_for d.vars d.elements) → counts x ≡ (d.vars, d.elements, d.slots) → ((k : ℕ) → count x k ≡ 0) → d.closing ≡ true → d.live ≡ false → d.holds ≡ false → d.rows ≡ [] → d.given ≡ 0 → d.gone ≡ [] → d.noted ≡ [] → length (board x) ≡ CELLS → cell_in (board x) ≡ (λ (i : ℕ). std.None) → Each (IsKeptCell keeps_it board counts count orders x) (board x)
       → TheRule (record { words = 0 ∷ 0 ∷ []; homes = some (std.Some x) ∷ []; views = viewed d ∷ [] })
   starts x d ordered sizes zeros is dead free rows given gone notes len empty kept = record {
     wide = refl;

@@ -3,13 +3,13 @@ use Rattle.std.proofs.Common.{◌≡◌, ◌⊎◌, ℕ, ◌==◌, Bool, true, f
 use Rattle.std.proofs.lemmas.Bool.{eqb-true}
 use Rattle.function_laws.specs.declared.history.Name.{Name}
 use Rattle.function_laws.specs.declared.history.Function.{Function}
-use Rattle.function_laws.specs.declared.history.Function.TheVariants.{Bdd}
+use Rattle.function_laws.specs.declared.history.Sifting.{Sifting}
 use Rattle.function_laws.specs.declared.history.Call.{Call}
 use Rattle.function_laws.specs.declared.history.Call.TheVariants as calls
 use Rattle.function_laws.specs.declared.history.Reply.{Reply}
-use Rattle.function_laws.specs.declared.history.Reply.TheVariants.{Made, Chose, Fetched, Numbered, Done, Truth, Value, Overflow, Most, Full}
+use Rattle.function_laws.specs.declared.history.Reply.TheVariants.{Made, Chose, Fetched, Numbered, Done, Truth, Value, Overflow, Apart, Most, Full}
 use Rattle.function_laws.specs.Tables.{Table, same_name, with_name}
-use Rattle.function_laws.specs.Outcomes.{Outcome, makes, restricts, fetches, counts, overflows, is_most, compares, tells, shows, is_done}
+use Rattle.function_laws.specs.Outcomes.{Outcome, makes, fetches}
 use Rattle.function_laws.specs.Steps.{with_result, changed, Replies, IsAllowed, after}
 use Rattle.function_laws.specs.Handovers.{is_numbered}
 use Rattle.function_laws.specs.SessionEntries.{Each}
@@ -18,8 +18,11 @@ use Rattle.seat_guard.specs.declared.view.Change.{Change}
 use Rattle.seat_guard.specs.declared.view.Change.TheVariants.{Nothing, Adds, Takes, Posts}
 use Rattle.seat_guard.specs.declared.view.Telling.{Telling}
 use Rattle.seat_guard.specs.declared.view.Draws.{Draws}
-use Rattle.seat_guard.specs.Sifted.{IsOfRow, IsOfCell, IsOfOther, IsKnown}
-use Rattle.seat_guard.specs.Views.{Agrees, cell_in, function_in, stands_for, without, rows_after, told_of}
+use Rattle.function_laws.specs.Sizes.{Orders}
+use Rattle.function_laws.specs.SiftEntries.{CarriesCall, IsAmong, IsOfCell, IsOfRow, IsSiftOf}
+use Rattle.function_laws.proofs.StepLemmas.{chosen-new}
+use Rattle.seat_guard.specs.Sifted.{IsKnown, IsOfOther, IsSiftBy, MayCarry}
+use Rattle.seat_guard.specs.Views.{Agrees, cell_in, function_in, orders_of, stands_for, without, rows_after, told_of}
 use Rattle.seat_guard.proofs.RowCounts.{each_map, each_both, each_at}
 
 both_true : (x y : Bool) → (x && y) ≡ true → (x ≡ true) × (y ≡ true)
@@ -49,39 +52,11 @@ module _ (s : ℕ) (name : Name) where
 
   made : (t : Table) (r : Name) (o : Outcome) → Replies t s o (Made r) → Becomes s name t (with_result t s r (Some o))
   made t r (makes g) replies = named t r g replies
-  made t r (restricts g c) replies = absurd replies
-  made t r (fetches g posted) replies = absurd replies
-  made t r (counts g n) replies = absurd replies
-  made t r overflows replies = absurd replies
-  made t r is_most replies = absurd replies
-  made t r (compares g h) replies = absurd replies
-  made t r (tells b) replies = absurd replies
-  made t r (shows z) replies = absurd replies
-  made t r is_done replies = absurd replies
+  made t r _ replies = absurd replies
 
   fetched : (t : Table) (r : Name) (told : Bool) (o : Outcome) → Replies t s o (Fetched r told) → Becomes s name t (with_result t s r (Some o))
   fetched t r told (fetches g posted) replies = named t r g replies.0
-  fetched t r told (makes g) replies = absurd replies
-  fetched t r told (restricts g c) replies = absurd replies
-  fetched t r told (counts g n) replies = absurd replies
-  fetched t r told overflows replies = absurd replies
-  fetched t r told is_most replies = absurd replies
-  fetched t r told (compares g h) replies = absurd replies
-  fetched t r told (tells b) replies = absurd replies
-  fetched t r told (shows z) replies = absurd replies
-  fetched t r told is_done replies = absurd replies
-
-  chosen : (t : Table) (r : Name) (g : List Bool) (o : Outcome) → Replies t s o (Chose r g) → Becomes s name t (with_name t s r (Bdd g))
-  chosen t r g (restricts h c) replies = named t r (Bdd g) replies.0
-  chosen t r g (makes h) replies = absurd replies
-  chosen t r g (fetches h posted) replies = absurd replies
-  chosen t r g (counts h n) replies = absurd replies
-  chosen t r g overflows replies = absurd replies
-  chosen t r g is_most replies = absurd replies
-  chosen t r g (compares h i) replies = absurd replies
-  chosen t r g (tells b) replies = absurd replies
-  chosen t r g (shows z) replies = absurd replies
-  chosen t r g is_done replies = absurd replies
+  fetched t r told _ replies = absurd replies
 
   done : (t : Table) (call : Call) → Becomes s name t (changed t s call)
   done t (calls.DropRow a) = by ((s == s) && same_name name a) refl
@@ -93,13 +68,14 @@ module _ (s : ℕ) (name : Name) where
 
   becomes : (t : Table) (call : Call) (reply : Reply) → is_numbered reply ≡ false → IsAllowed t s call reply → Becomes s name t (after t s call reply)
   becomes t call (Made r) plain allowed = subst (λ o. Becomes s name t (with_result t s r o)) (sym allowed.1) (made t r allowed.0 allowed.2)
-  becomes t call (Chose r g) plain allowed = chosen t r g allowed.0 allowed.2
+  becomes t call (Chose r g) plain allowed = named t r g (chosen-new t s r allowed.0 g allowed.2)
   becomes t call (Fetched r told) plain allowed = subst (λ o. Becomes s name t (with_result t s r o)) (sym allowed.1) (fetched t r told allowed.0 allowed.2)
   becomes t call (Numbered r m) plain allowed = absurd (true≢false plain)
   becomes t call Done plain allowed = done t call
   becomes t call (Truth told) plain allowed = inl (refl, refl)
   becomes t call (Value z) plain allowed = inl (refl, refl)
   becomes t call Overflow plain allowed = inl (refl, refl)
+  becomes t call Apart plain allowed = inl (refl, refl)
   becomes t call Most plain allowed = inl (refl, refl)
   becomes t call (Full a b) plain allowed = inl (refl, refl)
 
@@ -187,3 +163,30 @@ known-left d t stand others cells f (inl (k, row, at, one)) = inl (d.session, ro
 known-left d t stand others cells f (inr (inl (k, held, at, one))) =
     let o = each_at (IsOfOther t d.session) d.others k held others at in inl (o.0, o.1, held.function, o.3, one)
 known-left d t stand others cells f (inr (inr (i, held, at, one))) = inr (i, held.function, ap (λ (h : ℕ → Option Function). h i) cells ∙ ap function_in at, one)
+
+-- what is among some functions for each row is so for each name
+among-named : (functions : List Function) (rows : List Row) → Each (λ (row : Row). IsAmong functions row.held.function) rows
+    → (name : Name) (f : Function) → stands_for rows name ≡ Some f → IsAmong functions f
+among-named functions [] among name f is = cc
+among-named functions (row ∷ rows) among name f is = by (same_name name row.name) (among-named functions rows among.1 name f) is
+  where
+    by : (b : Bool) → (stands_for rows name ≡ Some f → IsAmong functions f) → cond b (Some row.held.function) (stands_for rows name) ≡ Some f → IsAmong functions f
+    by true rest at = subst (IsAmong functions) (let e : row.held.function ≡ f = cc in e) among.0
+    by false rest at = rest at
+
+module _ (d : Draws) (t : Table) (orders : Orders) (now : orders_of d ≡ orders) (stand : Each (λ (row : Row). t.live d.session row.name ≡ Some row.held.function) d.rows)
+    (others : Each (IsOfOther t d.session) d.others) (cells : t.cells ≡ cell_in d.cells) (live : t.live d.session ≡ stands_for d.rows) where
+  sift-left : (told : Sifting) → IsSiftBy d told → IsSiftOf t orders d.session told
+  sift-left told by = record {
+    variables_are = by.variables_are ∙ ap (λ (o : Orders). o.variables) now;
+    elements_are = by.elements_are ∙ ap (λ (o : Orders). o.elements) now;
+    apart = by.apart;
+    of_table = each_map (IsKnown d) (λ (f : Function). IsOfRow t f ⊎ IsOfCell t f) (known-left d t stand others cells) told.functions by.known;
+    own = λ name f is. among-named told.functions d.rows by.own name f (sym (ap (λ (h : Name → Option Function). h name) live) ∙ is);
+  }
+
+  -- what a call carries by what the seat knows, it carries by the table and the orders
+  pub carries-left : (call : Call) → MayCarry d call → CarriesCall t orders d.session call
+  carries-left (calls.Sift told) by = sift-left told by
+  carries-left (calls.SiftElements told) by = sift-left told by
+  carries-left _ by = tt

@@ -3,6 +3,7 @@ use Rattle.std.proofs.Common.{◌≡◌, ◌≢◌, ◌⊎◌, ℕ, ◌+◌, tru
 use Rattle.std.specs.Prelude as std
 use mathlib.Core.Option.{Option, some, some-injective}
 use lib.ListN.{get_elem?}
+use Rattle.edge_bits.specs.declared.limits.TheConstants.{CELLS}
 use Rattle.atomic_table.proofs.Lists.{set_else}
 use Rattle.function_laws.specs.declared.history.Function.{Function}
 use Rattle.function_laws.specs.Tables.{Table, Sizes}
@@ -81,7 +82,7 @@ module _ {S : Type 0} (keeps_it : S → Held → Type 0) (board : S → List (st
   -- the turn comes home
   pub comes_home : (turn id : ℕ) (home : Option (Option (std.Option S))) (ds : List Draws) (t : Table) (now : Orders) (d : Draws) (x : S) (leaving : Leaving) → TurnOf turn home ds t now → get_elem? ds id ≡ some d → d.holds ≡ true
       → ((j : ℕ) (e : Draws) → get_elem? ds j ≡ some e → e.holds ≡ true → j ≡ id)
-      → t.cells ≡ cell_in d.cells → length d.cells ≡ 256 → t.sizes ≡ sizes_for d.vars d.elements → d.slots ≡ slots → Serves keeps_it board counts count orders x d
+      → t.cells ≡ cell_in d.cells → length d.cells ≡ CELLS → t.sizes ≡ sizes_for d.vars d.elements → d.slots ≡ slots → Serves keeps_it board counts count orders x d
       → TurnOf 0 (some (some (std.Some x))) (set ds id (letting_go d leaving)) t now
   comes_home turn id home ds t now d x leaving part at holds alone cells len sizes as_many serves = record {
     home_is = λ z. (

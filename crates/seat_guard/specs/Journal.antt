@@ -3,23 +3,26 @@ use Rattle.std.specs.Prelude.{◌≡◌, ◌≢◌, ℕ, suc, ◌+◌, ◌==◌,
 use Rattle.std.specs.Prelude as std
 use mathlib.Core.Option.{Option, none, some}
 use lib.ListN.{get_elem?}
+use Rattle.edge_bits.specs.declared.limits.TheConstants.{MOST_SESSIONS}
 use Rattle.function_laws.specs.declared.history.Name.{Name}
 use Rattle.function_laws.specs.declared.history.Function.{Function}
 use Rattle.function_laws.specs.declared.history.Entry.{Entry}
 use Rattle.function_laws.specs.Tables.{Table, Sizes, opening}
-use Rattle.function_laws.specs.Histories.{IsLegal, EachFrom, table_after}
+use Rattle.function_laws.specs.Histories.{IsLegal, table_after}
+use Rattle.function_laws.specs.EntryOrders.{EachWith, opening_orders}
+use Rattle.function_laws.specs.SiftEntries.{Carries}
 use Rattle.function_laws.specs.SessionEntries.{Each, entries_of}
 use Rattle.seat_guard.specs.declared.view.Row.{Row}
 use Rattle.seat_guard.specs.declared.view.Gone.{Gone}
 use Rattle.seat_guard.specs.declared.view.Draws.{Draws}
-use Rattle.seat_guard.specs.Sifted.{Carries, IsOfOther}
+use Rattle.seat_guard.specs.Sifted.{IsOfOther}
 use Rattle.seat_guard.specs.Notes.{IsNotedIn}
 use Rattle.seat_guard.specs.Views.{Agrees, sizes_for, stands_for}
 
 -- what the rule says of a live seat, and of the closing one
 pub record LiveFits (turn : ℕ) (log : List Entry) (t : Table) (seat : ℕ → Option ℕ) (id : ℕ) (d : Draws) : Type 0 where
   pub seated : seat d.session ≡ some id
-  pub below : d.session < 64
+  pub below : d.session < MOST_SESSIONS
   pub mine : entries_of d.session log ≡ d.entries
   pub agrees : Agrees d t
   pub held : d.holds ≡ true → turn ≡ suc d.session
@@ -39,7 +42,7 @@ abbrev pub IsLeftRow : Table → (ℕ → Option ℕ) → ℕ → Row → Type 0
 IsLeftRow t seat given row = (p : ℕ) × (p < given) × (seat p ≡ none) × (t.live p row.name ≡ std.Some row.held.function)
 
 pub record ClosingFits (start : Sizes) (log : List Entry) (t : Table) (seat : ℕ → Option ℕ) (d : Draws) : Type 0 where
-  pub few : d.given ≤ 64
+  pub few : d.given ≤ MOST_SESSIONS
   pub start_is : start ≡ sizes_for d.vars d.elements
   pub later : (p : ℕ) → d.given ≤ p → IsUnused log t seat p
   pub back : (k : ℕ) (g : Gone) → get_elem? d.gone k ≡ some g → (g.session < d.given) × (seat g.session ≡ none) × (entries_of g.session log ≡ g.entries) × (t.live g.session ≡ stands_for g.rows) × Each (IsNotedIn start log) g.noted
@@ -52,7 +55,7 @@ pub record Fits (turn : ℕ) (start : Sizes) (log : List Entry) (t : Table) (sea
   pub rowless : d.live ≡ false → d.closing ≡ false → d.rows ≡ []
   pub noted : Each (IsNotedIn start log) d.noted
 
--- The part of the journal: there is one legal history, whose length is the journal word, and each seat knows its session's entries of it. The orders that it noted at a place are those that the entries below that place leave. What a sift's entry carries are functions of rows and cells that the entries below it leave.
+-- The part of the journal: there is one legal history, whose length is the journal word, and each seat knows its session's entries of it. The orders that it noted at a place are those that the entries below that place leave. What a sift's entry carries is what the entries below it leave.
 pub record Journal (place turn : ℕ) (ds : List Draws) (start : Sizes) (log : List Entry) (table : Table) : Type 0 where
   pub seat : ℕ → Option ℕ
   pub legal : IsLegal start log
@@ -60,7 +63,7 @@ pub record Journal (place turn : ℕ) (ds : List Draws) (start : Sizes) (log : L
   pub fixed : table.sizes ≡ start
   pub drawn : place ≡ length log
   pub bounded : (p : ℕ) → length (entries_of p log) ≤ 2 ^ 48
-  pub beyond : (p : ℕ) → 64 ≤ p → entries_of p log ≡ []
-  -- each function that a sift's entry carries is that of a row or a cell which the entries below it leave
-  pub carried : EachFrom Carries (opening start) log
+  pub beyond : (p : ℕ) → MOST_SESSIONS ≤ p → entries_of p log ≡ []
+  -- a sift's entry carries both orders, and functions of rows and cells, as the entries below it leave them
+  pub carried : EachWith Carries (opening start) (opening_orders start) log
   pub each : (id : ℕ) (d : Draws) → get_elem? ds id ≡ some d → Fits turn start log table seat id d

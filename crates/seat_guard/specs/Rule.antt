@@ -3,14 +3,16 @@ use Rattle.std.specs.Prelude.{◌≡◌, ◌≢◌, ℕ, suc, ◌+◌, ◌==◌,
 use Rattle.std.specs.Prelude as std
 use mathlib.Core.Option.{some}
 use lib.ListN.{get_elem?}
+use Rattle.edge_bits.specs.declared.limits.TheConstants.{CELLS, MOST_COUNT}
 use Rattle.atomic_table.specs.Table.{State, Me, Step}
 use Rattle.function_laws.specs.declared.history.Entry.{Entry}
 use Rattle.function_laws.specs.declared.history.Function.{Function}
 use Rattle.function_laws.specs.Tables.{Table, Sizes, opening}
-use Rattle.function_laws.specs.Histories.{IsLegal, EachFrom, table_after}
+use Rattle.function_laws.specs.Histories.{IsLegal, table_after}
+use Rattle.function_laws.specs.SiftEntries.{Carries}
 use Rattle.function_laws.specs.SessionEntries.{Each, entries_of}
 use Rattle.function_laws.specs.Sizes.{Orders}
-use Rattle.function_laws.specs.EntryOrders.{opening_orders, orders_from}
+use Rattle.function_laws.specs.EntryOrders.{EachWith, opening_orders, orders_from}
 use Rattle.seat_guard.specs.declared.view.Held.{Held}
 use Rattle.seat_guard.specs.declared.view.Telling.{Telling}
 use Rattle.seat_guard.specs.declared.view.Leaving.{Leaving}
@@ -18,18 +20,17 @@ use Rattle.seat_guard.specs.declared.view.Gone.{Gone}
 use Rattle.seat_guard.specs.declared.view.Draws.{Draws}
 use Rattle.seat_guard.specs.declared.view.View.{View}
 use Rattle.seat_guard.specs.Allots.{Allotted}
-use Rattle.seat_guard.specs.Sifted.{Carries}
 use Rattle.seat_guard.specs.Notes.{IsNotedIn}
 use Rattle.seat_guard.specs.Views.{sizes_for, stands_for, told_of, holding, letting_go, noting}
 use Rattle.seat_guard.specs.Journal.{Journal}
 use Rattle.seat_guard.specs.Turn.{AreSized, IsKeptCell, KeepsRows, Serves, Turn, row_count, cells_count}
 
--- A legal history of n calls, in which each session that came back has the entries that it had, which leaves each its rows, and which has none of sessions that there never were. The orders that a session noted at a place are those that the entries below that place leave. Each function that a sift's entry carries is that of a row or a cell which the entries below it leave.
+-- A legal history of n calls, in which each session that came back has the entries that it had, which leaves each its rows, and which has none of sessions that there never were. The orders that a session noted at a place are those that the entries below that place leave. What a sift's entry carries is what the entries below it leave.
 pub record Whole (n : ℕ) (start : Sizes) (given : ℕ) (gone : List Gone) : Type 0 where
   pub log : List Entry
   pub legal : IsLegal start log
   pub count : length log ≡ n
-  pub carried : EachFrom Carries (opening start) log
+  pub carried : EachWith Carries (opening start) (opening_orders start) log
   pub each : (k : ℕ) (g : Gone) → get_elem? gone k ≡ some g → entries_of g.session log ≡ g.entries
   pub rows : (k : ℕ) (g : Gone) → get_elem? gone k ≡ some g → (table_after (opening start) log).live g.session ≡ stands_for g.rows
   pub beyond : (p : ℕ) → given ≤ p → entries_of p log ≡ []
@@ -68,7 +69,7 @@ module _ {S : Type 0} (keeps : S → Held → Type 0) (board : S → List (std.O
 
   abbrev pub took : (S → List Function) → Step (std.Option S) → Me (std.Option S) View → ℕ → Me (std.Option S) View → Type 0
   took functions st m r m' =
-      (r ≡ 0 → (x : S) × (others : List Held) × (m'.0.draws ≡ holding m.0.draws (board x) others (orders x) (functions x)) × (m'.1 ≡ (0, std.Some x) ∷ []) × (length (board x) ≡ 256) × Serves keeps board counts count orders x (holding m.0.draws (board x) others (orders x) (functions x)) × ((k : ℕ) → count x k ≤ 2 ^ 31 + 256))
+      (r ≡ 0 → (x : S) × (others : List Held) × (m'.0.draws ≡ holding m.0.draws (board x) others (orders x) (functions x)) × (m'.1 ≡ (0, std.Some x) ∷ []) × (length (board x) ≡ CELLS) × Serves keeps board counts count orders x (holding m.0.draws (board x) others (orders x) (functions x)) × ((k : ℕ) → count x k ≤ MOST_COUNT))
       × (r ≢ 0 → m' ≡ m)
 
 -- each session that was given a seat has come back

@@ -1,42 +1,19 @@
--- What a sift's entry carries, and of whom these functions are.
-use Rattle.std.specs.Prelude.{◌≡◌, ◌≢◌, ◌⊎◌, ℕ, List, [], slice_get}
+-- Of whom the functions that a seat with the turn knows are, and what a sift that it tells of has found.
+use Rattle.std.specs.Prelude.{◌≡◌, ◌≢◌, ◌⊎◌, ℕ, List, slice_get}
 use Rattle.std.specs.Prelude as std
 use mathlib.Core.Option.{some}
 use lib.ListN.{get_elem?}
 use Rattle.function_laws.specs.declared.history.Name.{Name}
 use Rattle.function_laws.specs.declared.history.Function.{Function}
-use Rattle.function_laws.specs.declared.history.Function.TheVariants.{Bdd}
+use Rattle.function_laws.specs.declared.history.Sifting.{Sifting}
 use Rattle.function_laws.specs.declared.history.Call.{Call}
 use Rattle.function_laws.specs.declared.history.Call.TheVariants.{Sift, SiftElements}
-use Rattle.function_laws.specs.declared.history.Entry.{Entry}
-use Rattle.function_laws.specs.Functions.{not_of}
 use Rattle.function_laws.specs.SessionEntries.{Each}
+use Rattle.function_laws.specs.SiftEntries.{AreApart, AreOne, IsAmong}
 use Rattle.function_laws.specs.Tables.{Table}
 use Rattle.seat_guard.specs.declared.view.Held.{Held}
 use Rattle.seat_guard.specs.declared.view.Row.{Row}
 use Rattle.seat_guard.specs.declared.view.Draws.{Draws}
-
--- the functions that a call carries: those that a sift pinned
-abbrev pub carried_by : Call → List Function
-carried_by (Sift told) = told.functions
-carried_by (SiftElements told) = told.functions
-carried_by _ = []
-
--- one node denotes both: they are equal, or of two BDDs one is the other's complement
-abbrev pub AreOne : Function → Function → Type 0
-AreOne (Bdd f) (Bdd g) = (f ≡ g) ⊎ (f ≡ not_of g)
-AreOne f g = f ≡ g
-
--- a row, or a cell, that the table has, has the function
-abbrev pub IsOfRow : Table → Function → Type 0
-IsOfRow t f = (s : ℕ) × (name : Name) × (g : Function) × (t.live s name ≡ std.Some g) × AreOne f g
-
-abbrev pub IsOfCell : Table → Function → Type 0
-IsOfCell t f = (i : ℕ) × (g : Function) × (t.cells i ≡ std.Some g) × AreOne f g
-
--- each function that the entry carries is that of a row or a cell of the table before it
-abbrev pub Carries : Table → Entry → Type 0
-Carries t e = Each (λ (f : Function). IsOfRow t f ⊎ IsOfCell t f) (carried_by e.call)
 
 -- a row of another session stands for what the edge denotes
 abbrev pub IsOfOther : Table → ℕ → Held → Type 0
@@ -54,3 +31,18 @@ IsOfBoard d f = (i : ℕ) × (held : Held) × (slice_get d.cells i ≡ std.Some 
 
 abbrev pub IsKnown : Draws → Function → Type 0
 IsKnown d f = IsOfOwn d f ⊎ (IsOfOthers d f ⊎ IsOfBoard d f)
+
+-- What a sift that the seat tells of has found: the orders that the seat knows; functions of which no two are one, each of a row or a cell
+-- that it knows; and among them those of all its rows.
+pub record IsSiftBy (d : Draws) (told : Sifting) : Type 0 where
+  pub variables_are : told.variables ≡ d.variable_order
+  pub elements_are : told.elements ≡ d.element_order
+  pub apart : AreApart told.functions
+  pub known : Each (IsKnown d) told.functions
+  pub own : Each (λ (row : Row). IsAmong told.functions row.held.function) d.rows
+
+-- the seat may tell of this call by what it carries
+abbrev pub MayCarry : Draws → Call → Type 0
+MayCarry d (Sift told) = IsSiftBy d told
+MayCarry d (SiftElements told) = IsSiftBy d told
+MayCarry d _ = Unit {0}

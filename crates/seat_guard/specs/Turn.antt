@@ -3,6 +3,7 @@ use Rattle.std.specs.Prelude.{◌≡◌, ◌≢◌, ℕ, suc, ◌+◌, ◌==◌,
 use Rattle.std.specs.Prelude as std
 use mathlib.Core.Option.{Option, some}
 use lib.ListN.{get_elem?}
+use Rattle.edge_bits.specs.declared.limits.TheConstants.{CELLS}
 use Rattle.function_laws.specs.Tables.{Table}
 use Rattle.function_laws.specs.SessionEntries.{Each}
 use Rattle.function_laws.specs.Sizes.{Orders}
@@ -66,7 +67,7 @@ module _ {S : Type 0} (keeps : S → Held → Type 0) (board : S → List (std.O
   -- the content at home: it has the table's board and sizes, so many slots and these orders, and keeps the cells and each session's rows
   pub record IsHome (slots : ℕ) (x : S) (ds : List Draws) (t : Table) (now : Orders) : Type 0 where
     pub cells_are : t.cells ≡ cell_in (board x)
-    pub as_many : length (board x) ≡ 256
+    pub as_many : length (board x) ≡ CELLS
     pub cells_kept : Each (IsKeptCell x) (board x)
     pub counts_are : counts x ≡ (t.sizes.variables, t.sizes.elements, slots)
     pub counted : (k : ℕ) → count x k ≡ all_count k ds + cells_count k (board x)

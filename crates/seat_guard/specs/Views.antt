@@ -1,12 +1,13 @@
 -- What a seat knows, when a table of functions agrees with it, and what a call may tell.
 use Rattle.std.specs.Prelude.{◌≡◌, ◌⊎◌, Contains, ℕ, suc, ◌≤◌, if◌then◌else◌, true, false, List, [], ◌∷◌, ◌++◌, length, slice_get, slice_set, Option, Some, None}
+use Rattle.edge_bits.specs.declared.limits.TheConstants.{CELLS}
 use Rattle.function_laws.specs.declared.history.Name.{Name}
 use Rattle.function_laws.specs.declared.history.Function.{Function}
 use Rattle.function_laws.specs.declared.history.Call.TheVariants as calls
 use Rattle.function_laws.specs.declared.history.Reply.TheVariants as replies
 use Rattle.function_laws.specs.Tables.{Table, Sizes, same_name}
 use Rattle.function_laws.specs.Steps.{IsAllowed, after}
-use Rattle.function_laws.specs.SessionEntries.{Each, entry}
+use Rattle.function_laws.specs.SessionEntries.{entry}
 use Rattle.function_laws.specs.Sizes.{Orders}
 use Rattle.function_laws.specs.EntryOrders.{orders_after}
 use Rattle.function_laws.specs.Handovers.{is_numbered}
@@ -21,12 +22,12 @@ use Rattle.seat_guard.specs.declared.view.Gone.{Gone}
 use Rattle.seat_guard.specs.declared.view.Draws.{Draws}
 use Rattle.seat_guard.specs.declared.view.View.{View}
 use Rattle.seat_guard.specs.declared.view.Opening.{Opening}
-use Rattle.seat_guard.specs.Sifted.{IsKnown, carried_by}
+use Rattle.seat_guard.specs.Sifted.{MayCarry}
 use Rattle.seat_guard.specs.Allots.{HasRoomFor}
 
 -- n variables and m elements
 abbrev pub sizes_for : ℕ → ℕ → Sizes
-sizes_for n m = record { variables = n; elements = m; most_variables = n; most_elements = m }
+sizes_for n m = record { variables = n; elements = m; most_variables = n; most_elements = m; cells = CELLS }
 
 -- what a name stands for
 abbrev pub stands_for : List Row → Name → Option Function
@@ -51,7 +52,7 @@ pub record Agrees (d : Draws) (t : Table) : Type 0 where
   pub sizes_are : t.sizes ≡ sizes_for d.vars d.elements
   pub live : t.live d.session ≡ stands_for d.rows
   pub fresh : (name : Name) → d.adds ≤ name.generation → t.given d.session name ≡ false
-  pub cells : d.holds ≡ true → (t.cells ≡ cell_in d.cells) × (length d.cells ≡ 256)
+  pub cells : d.holds ≡ true → (t.cells ≡ cell_in d.cells) × (length d.cells ≡ CELLS)
 
 abbrev pub rows_after : Change → List Row → List Row
 rows_after (Adds row) rows = row ∷ rows
@@ -81,11 +82,11 @@ told_of d n x = record d {
   element_order = (orders_after (orders_of d) x.call x.reply).elements;
 }
 
--- The entry is a step from every table that agrees with the seat, and agrees with what the seat knows then. What it carries are functions of rows and cells. A session has at most 2 ^ 25 rows.
+-- The entry is a step from every table that agrees with the seat, and agrees with what the seat knows then. What a sift carries is what the seat knows. A session has room for the row.
 pub record MayTell (d : Draws) (x : Telling) : Type 0 where
   pub plain : is_numbered x.reply ≡ false
   pub step : (t : Table) → Agrees d t → IsAllowed t d.session x.call x.reply × Agrees (told_of d 0 x) (after t d.session x.call x.reply)
-  pub carries : Each (IsKnown d) (carried_by x.call)
+  pub carries : MayCarry d x.call
   pub room : HasRoomFor x.change d.rows
 
 abbrev pub nothing_told : Telling

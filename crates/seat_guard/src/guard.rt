@@ -1,5 +1,6 @@
 //! The table under the rule.
 ghost use Rattle.std.specs.Prelude.{◌≡◌, ◌+◌, ◌<◌, ◌≤◌, ◌^◌, ℕ, List, [], ◌∷◌, ◌++◌, length, true, false, IfOk, Option, None, Some, All};
+ghost use Rattle.edge_bits.specs.declared.limits.TheConstants.{CELLS, MOST_COUNT};
 ghost use Rattle.function_laws.specs.declared.history.Entry.{Entry};
 ghost use Rattle.seat_guard.specs.declared.view.Held.{Held};
 ghost use Rattle.seat_guard.specs.Views.{sizes_for, session_of, holding, letting_go, one_more, with_gone, told_of, noting, AreTold, MayTell};
@@ -7,6 +8,7 @@ ghost use Rattle.seat_guard.specs.Rule.{AllBack, Ends, Whole};
 ghost use Rattle.seat_guard.specs.Turn.{Serves};
 ghost use Rattle.seat_guard.specs.Passes.{known, in_hand, IsPassOf, IsIdle};
 
+use edge_bits::MOST_SESSIONS;
 use crate::content::Content;
 use crate::plays::{Back, Draw, End, Give, Last, Look, Next, Take};
 use crate::seat::{Guard, Pass};
@@ -18,12 +20,15 @@ const JOURNAL: usize = 0;
 
 const TURN: usize = 1;
 
+/// What the turn word holds from the closing on: no session has this number.
+const CLOSING_TURN: u64 = MOST_SESSIONS as u64 + 1;
+
 impl<S: Content> Guard<S> {
     /// Gives the closing seat's next session a seat.
     pub fn split(&self, pass: &mut Pass<S>) -> Pass<S>
         requires own { IsPassOf self.now pass.old }
         requires closing { (known pass.old).closing ≡ true }
-        requires room { (known pass.old).given < 64 }
+        requires room { (known pass.old).given < MOST_SESSIONS }
         ensures closing { IsPassOf self.now pass.new × (known pass.new ≡ one_more (known pass.old)) × (in_hand pass.new ≡ in_hand pass.old) }
         ensures session { IsPassOf self.now result × (known result ≡ session_of (known pass.old)) × (in_hand result ≡ []) }
     {
@@ -56,8 +61,8 @@ impl<S: Content> Guard<S> {
         requires { IsIdle self.now pass.old }
         ensures own { IsPassOf self.now pass.new }
         ensures took { (others : List Held) × (known pass.new ≡ holding (known pass.old) (S.board result) others (S.orders result) (S.functions result)) × Serves S.keeps S.board S.counts S.count S.orders result (known pass.new) }
-        ensures board { length (S.board result) ≡ 256 }
-        ensures few { (k : ℕ) → S.count result k ≤ 2 ^ 31 + 256 }
+        ensures board { length (S.board result) ≡ CELLS }
+        ensures few { (k : ℕ) → S.count result k ≤ MOST_COUNT }
         ensures hand { in_hand pass.new ≡ (0, None) ∷ [] }
     {
         let backoff = Backoff::new();
@@ -138,7 +143,7 @@ impl<S: Content> Guard<S> {
             let found = self
                 .table
                 .shared
-                .compare_exchange::<End>(&mut pass.seat, TURN, 0, 65);
+                .compare_exchange::<End>(&mut pass.seat, TURN, 0, CLOSING_TURN);
             if found == 0 {
                 return self.table.shared.exchange(&mut pass.seat, 0, None).unwrap();
             }

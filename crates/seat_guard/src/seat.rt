@@ -1,5 +1,6 @@
 //! The types of the table and of a seat.
 ghost use Rattle.std.specs.Prelude.{◌≡◌, ◌<◌};
+ghost use Rattle.edge_bits.specs.declared.limits.TheConstants.{MOST_SESSIONS};
 
 use crate::content::Content;
 use crate::view::{Opening, View};
@@ -34,7 +35,7 @@ pub struct Pass<S> {
     pub(crate) seat: Seat<Option<S>, View>,
     pub(crate) number: u32,
     pub(crate) given: u32,
-    ghost number_is: { (number ≡ seat.me.0.draws.session) × (number < 64) },
+    ghost number_is: { (number ≡ seat.me.0.draws.session) × (number < MOST_SESSIONS) },
     ghost given_is: { given ≡ seat.me.0.draws.given },
 }
 
@@ -44,6 +45,6 @@ pub struct Rest<S> {
     pub(crate) perch: Perch<Option<S>, View>,
     pub(crate) number: u32,
     pub(crate) given: u32,
-    ghost number_is: { (number ≡ perch.view.draws.session) × (number < 64) },
+    ghost number_is: { (number ≡ perch.view.draws.session) × (number < MOST_SESSIONS) },
     ghost given_is: { given ≡ perch.view.draws.given },
 }
