@@ -156,7 +156,7 @@ module _ (place turn : ℕ) (ds : List Draws) (start : Sizes) (log : List Entry)
       let aside : (p : ℕ) → p ≢ d.session → (u.live p ≡ table.live p) × (u.given p ≡ table.given p) = λ p apart. after_apart table d.session p x.call x.reply may.plain apart in
       let sizes : u.sizes ≡ table.sizes = says.1.sizes_are ∙ sym me.agrees.sizes_are in
       let carries : CarriesCall table (orders_from (opening_orders start) log) d.session x.call =
-          carries-left d table (orders_from (opening_orders start) log) now me.stand (me.others holds) (me.agrees.cells holds).0 me.agrees.live x.call may.carries in
+      carries-left d table (orders_from (opening_orders start) log) now me.stand (me.others holds) (me.agrees.cells holds).0 me.agrees.live x.call may.carries in
       let other_rows : (held : Held) → IsOfOther table d.session held → IsOfOther u d.session held = λ held o. (o.0, o.1, o.2, ap (λ (h : Name → std.Option Function). h o.1) (aside o.0 o.2).0 ∙ o.3) in
       record {
         seat = r.seat;
@@ -256,7 +256,7 @@ module _ (place turn : ℕ) (ds : List Draws) (start : Sizes) (log : List Entry)
       }
 
   -- the closing seat gives a seat to the next session
-  pub splits_it : (id : ℕ) (d : Draws) → get_elem? ds id ≡ some d → d.closing ≡ true → d.given < MOST_SESSIONS
+  pub splits_it : (id : ℕ) (d : Draws) → get_elem? ds id ≡ some d → d.closing ≡ true → d.given < d.sessions
       → Journal place turn (set ds id (one_more d) ++ session_of d ∷ []) start log table
   splits_it id d at is room =
       let fits = (r.each id d at).closing is in
@@ -279,7 +279,7 @@ module _ (place turn : ℕ) (ds : List Draws) (start : Sizes) (log : List Entry)
           fits.0,
           fits.1,
           record {
-            few = omega (arith, room);
+            few = (omega (arith, room), k.few.1);
             start_is = k.start_is;
             later = λ p le. let a = k.later p (omega (arith, le)) in record {
               no_seat = put_else r.seat d.given p (some n) (λ e. omega (arith, e, le)) ∙ a.no_seat;
@@ -308,7 +308,7 @@ module _ (place turn : ℕ) (ds : List Draws) (start : Sizes) (log : List Entry)
             subst (λ (y : ℕ × Draws). Fits turn start log table seat y.0 y.1) (λ i. (sym (t.0 ∙ length-set ds id (one_more d)) i, t.1 i)) (record {
               live = λ l. record {
                 seated = put_here r.seat d.given (some n);
-                below = room;
+                below = let few = k.few.1 in omega (arith, room, few);
                 mine = fresh.no_entry;
                 agrees = record { sizes_are = r.fixed ∙ k.start_is; live = fresh.no_row; fresh = λ name le. ap (λ (h : Name → Bool). h name) fresh.no_name; cells = λ h. absurd (off h) };
                 held = λ h. absurd (off h);

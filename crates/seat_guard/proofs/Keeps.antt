@@ -73,7 +73,7 @@ module _ {S : Type 0} (keeps_it : S → Held → Type 0) (board : S → List (st
       let now_left : Orders = orders_from (opening_orders r.start) r.log in
       let part : Turn keeps_it board counts count orders r.slots 0 home (ds_of s.views) r.table now_left = subst (λ (n : ℕ). Turn keeps_it board counts count orders r.slots n home (ds_of s.views) r.table now_left) hit r.turn in
       let sizes : r.table.sizes ≡ sizes_for d.vars d.elements = ((j.each id d here).live live).agrees.sizes_are in
-      let t = finds_it keeps_it board counts count orders r.slots home (ds_of s.views) r.table now_left id d functions (IsOfOther r.table d.session) part here sizes ((r.sized id d here).0 live)
+      let t = finds_it keeps_it board counts count orders r.slots home (ds_of s.views) r.table now_left id d functions (IsOfOther r.table d.session) part here sizes ((r.sized id d here).0 live).0
       (rows_apart (get_or s.words 0 0) (get_or s.words 1 0) (ds_of s.views) r.start r.log r.table j id d here live) in
       let home_of = t.3 in
       let x : S = t.0 in
@@ -92,12 +92,13 @@ module _ {S : Type 0} (keeps_it : S → Held → Type 0) (board : S → List (st
         long = length-set s.homes 0 none ∙ r.long;
         start = r.start;
         slots = r.slots;
+        sessions = r.sessions;
         log = r.log;
         table = r.table;
         journal = subst (λ (y : ℕ × ℕ × List Draws). Journal y.0 y.1 y.2 r.start r.log r.table) (λ k. (sym place k, sym now k, sym views k)) journal;
         turn = subst (λ (y : ℕ × List Draws). Turn keeps_it board counts count orders r.slots y.0 (get_elem? hs 0) y.1 r.table now_left) (λ k. (sym now k, sym views k)) turned;
         rows = subst Allotted (sym views) (allotted-set (ds_of s.views) id d w.draws here r.rows refl (r.rows.each id d here));
-        sized = subst (AreSized r.slots) (sym views) (sized_set r.slots (ds_of s.views) id w.draws r.sized (r.sized id d here));
+        sized = subst (AreSized r.slots r.sessions) (sym views) (sized_set r.slots r.sessions (ds_of s.views) id w.draws r.sized (r.sized id d here));
       }) in (
         w,
         takes 0 (std.Some x),
@@ -140,6 +141,7 @@ module _ {S : Type 0} (keeps_it : S → Held → Type 0) (board : S → List (st
         long = length-set s.homes 0 none ∙ r.long;
         start = r.start;
         slots = r.slots;
+        sessions = r.sessions;
         log = r.log;
         table = r.table;
         journal = subst (λ (y : ℕ × ℕ). Journal y.0 y.1 (ds_of s.views) r.start r.log r.table) (λ k. (sym place k, sym now k)) (turns (get_or s.words 0 0) (get_or s.words 1 0) (ds_of s.views) r.start r.log r.table j CLOSING_TURN hit);
@@ -165,7 +167,7 @@ module _ {S : Type 0} (keeps_it : S → Held → Type 0) (board : S → List (st
             record {
               rows_kept = home_of.rows_kept id d here;
               cells_kept = home_of.cells_kept;
-              counts_are = home_of.counts_are ∙ ap₂ (λ (z : Sizes) (n : ℕ). (z.variables, z.elements, n)) (j.fixed ∙ sizes) (sym ((r.sized id d here).1 is));
+              counts_are = home_of.counts_are ∙ ap₂ (λ (z : Sizes) (n : ℕ). (z.variables, z.elements, n)) (j.fixed ∙ sizes) (sym ((r.sized id d here).1 is).0);
               counted = λ k. let a = home_of.counted k in let b = all_count-only k (ds_of s.views) id d here empty in omega (arith, a, b);
               calls = get_or s.words 0 0;
               whole = whole_now;
@@ -201,7 +203,7 @@ module _ {S : Type 0} (keeps_it : S → Held → Type 0) (board : S → List (st
       let back : get_elem? hs 0 ≡ home = set_here s.homes 0 (some (std.Some x)) (let l = r.long in omega (arith, l)) in
       let now_left : Orders = orders_from (opening_orders r.start) r.log in
       let turned = comes_home keeps_it board counts count orders r.slots (get_or s.words 1 0) id (get_elem? s.homes 0) (ds_of s.views) r.table now_left d x leaving r.turn here holds
-      (λ i f there h. one_holder (get_or s.words 0 0) (get_or s.words 1 0) (ds_of s.views) r.start r.log r.table j i id f d there here h holds) board_now.0 board_now.1 agrees.sizes_are ((r.sized id d here).0 live) serves in (
+      (λ i f there h. one_holder (get_or s.words 0 0) (get_or s.words 1 0) (ds_of s.views) r.start r.log r.table j i id f d there here h holds) board_now.0 board_now.1 agrees.sizes_are ((r.sized id d here).0 live).0 serves in (
         w,
         gives,
         tt,
@@ -210,13 +212,14 @@ module _ {S : Type 0} (keeps_it : S → Held → Type 0) (board : S → List (st
           long = length-set s.homes 0 (some (std.Some x)) ∙ r.long;
           start = r.start;
           slots = r.slots;
+          sessions = r.sessions;
           log = r.log;
           table = r.table;
           journal = subst (λ (y : ℕ × ℕ × List Draws). Journal y.0 y.1 y.2 r.start r.log r.table) (λ k. (sym place k, sym now k, sym views k))
               (gives_it (get_or s.words 0 0) (get_or s.words 1 0) (ds_of s.views) r.start r.log r.table j id d leaving here live holds);
           turn = subst (λ (y : ℕ × Option (Option (std.Option S)) × List Draws). Turn keeps_it board counts count orders r.slots y.0 y.1 y.2 r.table now_left) (λ k. (sym now k, sym back k, sym views k)) turned;
           rows = subst Allotted (sym views) (allotted-set (ds_of s.views) id d w.draws here r.rows refl (r.rows.each id d here));
-          sized = subst (AreSized r.slots) (sym views) (sized_set r.slots (ds_of s.views) id w.draws r.sized (r.sized id d here));
+          sized = subst (AreSized r.slots r.sessions) (sym views) (sized_set r.slots r.sessions (ds_of s.views) id w.draws r.sized (r.sized id d here));
         }),
         (refl, ap (Rattle.atomic_table.specs.Table.rest) has),
       )
@@ -259,13 +262,14 @@ module _ {S : Type 0} (keeps_it : S → Held → Type 0) (board : S → List (st
           long = r.long;
           start = r.start;
           slots = r.slots;
+          sessions = r.sessions;
           log = log;
           table = u;
           journal = subst (λ (y : ℕ × ℕ × List Draws). Journal y.0 y.1 y.2 r.start log u) (λ k. (sym place k, sym turn k, sym views k))
               (draws_it (get_or s.words 0 0) (get_or s.words 1 0) (ds_of s.views) r.start r.log r.table j id d x here holds room may (r.turn.ordered id d here holds));
           turn = subst (λ (y : ℕ × List Draws × Orders). Turn keeps_it board counts count orders r.slots y.0 (get_elem? s.homes 0) y.1 u y.2) (λ k. (sym turn k, sym views k, sym then_left k)) turned;
           rows = subst Allotted (sym views) (allotted-set (ds_of s.views) id d (told_of d (length r.log) x) here r.rows refl (few-after d x.change live (r.rows.each id d here) may.room));
-          sized = subst (AreSized r.slots) (sym views) (sized_set r.slots (ds_of s.views) id (told_of d (length r.log) x) r.sized (r.sized id d here));
+          sized = subst (AreSized r.slots r.sessions) (sym views) (sized_set r.slots r.sessions (ds_of s.views) id (told_of d (length r.log) x) r.sized (r.sized id d here));
         },
         (refl, refl, λ k e l. subst (λ (z : List Entry × ℕ). std.All (λ (e : Entry). e.place < z.1) z.0) (λ i. (mine_now.mine i, from_zero (length r.log) (get_or s.words 0 0) is i)) (places_low r.log 0 (opening r.start) d.session j.legal) k e l),
       )
@@ -296,6 +300,7 @@ module _ {S : Type 0} (keeps_it : S → Held → Type 0) (board : S → List (st
         long = r.long;
         start = r.start;
         slots = r.slots;
+        sessions = r.sessions;
         log = r.log;
         table = r.table;
         journal = subst (λ (l : List Draws). Journal n (get_or s.words 1 0) l r.start r.log r.table) (sym views)
@@ -305,7 +310,7 @@ module _ {S : Type 0} (keeps_it : S → Held → Type 0) (board : S → List (st
             (each_set (IsAsBefore keeps_it board counts count orders r.slots (ds_of s.views)) (ds_of s.views) id w.draws (λ i f apart lies. inl (f, lies, refl, refl, refl, refl)) (inl (d, here, refl, refl, refl, refl)))
             (λ k. all_count-same k (ds_of s.views) id d w.draws here refl));
         rows = subst Allotted (sym views) (allotted-set (ds_of s.views) id d w.draws here r.rows refl (r.rows.each id d here));
-        sized = subst (AreSized r.slots) (sym views) (sized_set r.slots (ds_of s.views) id w.draws r.sized (r.sized id d here));
+        sized = subst (AreSized r.slots r.sessions) (sym views) (sized_set r.slots r.sessions (ds_of s.views) id w.draws r.sized (r.sized id d here));
       } in (
         w,
         keeps,
@@ -314,7 +319,7 @@ module _ {S : Type 0} (keeps_it : S → Held → Type 0) (board : S → List (st
         (refl, refl, λ k e l. subst (λ (z : List Entry × ℕ). std.All (λ (e : Entry). e.place < z.1) z.0) (λ i. (mine_now.mine i, from_zero (length r.log) n j.drawn i)) (places_low r.log 0 (opening r.start) d.session j.legal) k e l),
       )
 
-  pub splits : (id : ℕ) (v : View) → v.draws.closing ≡ true → v.draws.given < MOST_SESSIONS → Splits TheRule id v (viewed (one_more v.draws)) (viewed (session_of v.draws))
+  pub splits : (id : ℕ) (v : View) → v.draws.closing ≡ true → v.draws.given < v.draws.sessions → Splits TheRule id v (viewed (one_more v.draws)) (viewed (session_of v.draws))
   splits id v is room s r at =
       let d = v.draws in
       let here = seat_of s id v at in
@@ -327,6 +332,7 @@ module _ {S : Type 0} (keeps_it : S → Held → Type 0) (board : S → List (st
         long = r.long;
         start = r.start;
         slots = r.slots;
+        sessions = r.sessions;
         log = r.log;
         table = r.table;
         journal = subst (λ (l : List Draws). Journal (get_or s.words 0 0) (get_or s.words 1 0) l r.start r.log r.table) (sym views)
@@ -338,10 +344,10 @@ module _ {S : Type 0} (keeps_it : S → Held → Type 0) (board : S → List (st
             (λ (t : (k ≡ length (set (ds_of s.views) id (one_more d))) × (session_of d ≡ e)). subst (IsAsBefore keeps_it board counts count orders r.slots (ds_of s.views) k) t.1 (inr (inl (refl, refl))))
             (at_end (set (ds_of s.views) id (one_more d)) (session_of d) e k there))
             (λ k. let a = all_count-append k (set (ds_of s.views) id (one_more d)) (session_of d) in let b = all_count-same k (ds_of s.views) id d (one_more d) here refl in omega (arith, a, b)));
-        rows = subst Allotted (sym views) (allotted-split (ds_of s.views) id d here is ((j.each id d here).closing is).0 room r.rows);
-        sized = subst (AreSized r.slots) (sym views) (λ k e there. ⊎_elim
-            (sized_set r.slots (ds_of s.views) id (one_more d) r.sized (r.sized id d here) k e)
-            (λ (t : (k ≡ length (set (ds_of s.views) id (one_more d))) × (session_of d ≡ e)). subst (IsSized r.slots) t.1 ((λ _. (r.sized id d here).1 is), (λ c. absurd (true≢false (sym c)))))
+        rows = subst Allotted (sym views) (allotted-split (ds_of s.views) id d here is ((j.each id d here).closing is).0 (let few = ((j.each id d here).closing is).2.few in omega (arith, room, few.1)) r.rows);
+        sized = subst (AreSized r.slots r.sessions) (sym views) (λ k e there. ⊎_elim
+            (sized_set r.slots r.sessions (ds_of s.views) id (one_more d) r.sized (r.sized id d here) k e)
+            (λ (t : (k ≡ length (set (ds_of s.views) id (one_more d))) × (session_of d ≡ e)). subst (IsSized r.slots r.sessions) t.1 ((λ _. (r.sized id d here).1 is), (λ c. absurd (true≢false (sym c)))))
             (at_end (set (ds_of s.views) id (one_more d)) (session_of d) e k there));
       }
 
@@ -362,6 +368,7 @@ module _ {S : Type 0} (keeps_it : S → Held → Type 0) (board : S → List (st
         long = r.long;
         start = r.start;
         slots = r.slots;
+        sessions = r.sessions;
         log = r.log;
         table = r.table;
         journal = subst (λ (l : List Draws). Journal (get_or s.words 0 0) (get_or s.words 1 0) l r.start r.log r.table) (sym views)
@@ -376,8 +383,8 @@ module _ {S : Type 0} (keeps_it : S → Held → Type 0) (board : S → List (st
             let b = all_count-set k (set (ds_of s.views) id (with_gone d e)) other e blank lies in
             let c = row_count-append k d.rows e.rows in omega (arith, a, b, c)));
         rows = subst Allotted (sym views) (allotted-join (ds_of s.views) id d other e here at_other lies is ((j.each id d here).closing is).0 live r.rows);
-        sized = subst (AreSized r.slots) (sym views) (sized_set r.slots (set (ds_of s.views) id (with_gone d e)) other blank
-            (sized_set r.slots (ds_of s.views) id (with_gone d e) r.sized (r.sized id d here)) ((λ l. absurd (true≢false (sym l))), (λ c. absurd (true≢false (sym c)))));
+        sized = subst (AreSized r.slots r.sessions) (sym views) (sized_set r.slots r.sessions (set (ds_of s.views) id (with_gone d e)) other blank
+            (sized_set r.slots r.sessions (ds_of s.views) id (with_gone d e) r.sized (r.sized id d here)) ((λ l. absurd (true≢false (sym l))), (λ c. absurd (true≢false (sym c)))));
       }
 
   -- an empty board names no slot
@@ -387,13 +394,14 @@ module _ {S : Type 0} (keeps_it : S → Held → Type 0) (board : S → List (st
   none_counted k (std.Some held ∷ cells) none_there = absurd (let a : std.Some held.function ≡ std.None = none_there zero in cc)
 
   -- the table as it is made
-  pub starts : (x : S) (d : Draws) → orders x ≡ opening_orders (sizes_for d.vars d.elements) → counts x ≡ (d.vars, d.elements, d.slots) → ((k : ℕ) → count x k ≡ 0) → d.closing ≡ true → d.live ≡ false → d.holds ≡ false → d.rows ≡ [] → d.given ≡ 0 → d.gone ≡ [] → d.noted ≡ [] → length (board x) ≡ CELLS → cell_in (board x) ≡ (λ (i : ℕ). std.None) → Each (IsKeptCell keeps_it board counts count orders x) (board x)
+  pub starts : (x : S) (d : Draws) → orders x ≡ opening_orders (sizes_for d.vars d.elements) → counts x ≡ (d.vars, d.elements, d.slots) → ((k : ℕ) → count x k ≡ 0) → d.closing ≡ true → d.live ≡ false → d.holds ≡ false → d.rows ≡ [] → d.given ≡ 0 → d.sessions ≤ MOST_SESSIONS → d.gone ≡ [] → d.noted ≡ [] → length (board x) ≡ CELLS → cell_in (board x) ≡ (λ (i : ℕ). std.None) → Each (IsKeptCell keeps_it board counts count orders x) (board x)
       → TheRule (record { words = 0 ∷ 0 ∷ []; homes = some (std.Some x) ∷ []; views = viewed d ∷ [] })
-  starts x d ordered sizes zeros is dead free rows given gone notes len empty kept = record {
+  starts x d ordered sizes zeros is dead free rows given most gone notes len empty kept = record {
     wide = refl;
     long = refl;
     start = sizes_for d.vars d.elements;
     slots = d.slots;
+    sessions = d.sessions;
     log = [];
     table = opening (sizes_for d.vars d.elements);
     journal = record {
@@ -414,7 +422,7 @@ module _ {S : Type 0} (keeps_it : S → Held → Type 0) (board : S → List (st
       ordered = λ i f at h. absurd (true≢false (sym h ∙ only i f at (λ f. f.holds ≡ false) free));
     };
     rows = allotted-one d is dead rows given gone;
-    sized = λ j e at. only j e at (IsSized d.slots) ((λ _. refl), (λ _. refl));
+    sized = λ j e at. only j e at (IsSized d.slots d.sessions) ((λ _. (refl, refl)), (λ _. (refl, refl)));
   }
     where
       only : (j : ℕ) (e : Draws) → get_elem? (d ∷ []) j ≡ some e → (P : Draws → Type 0) → P d → P e
@@ -428,7 +436,7 @@ module _ {S : Type 0} (keeps_it : S → Held → Type 0) (board : S → List (st
           dead,
           refl,
           record {
-            few = omega (arith, given);
+            few = (omega (arith, given), most);
             start_is = refl;
             later = λ p le. record { no_seat = refl; no_entry = refl; no_row = refl; no_name = refl };
             back = λ k g there. absurd (some-ne-none g (sym (sym (ap (λ (l : List Gone). get_elem? l k) gone) ∙ there)));

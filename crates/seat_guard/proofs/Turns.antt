@@ -23,8 +23,8 @@ abbrev no_rows : Draws → Draws
 no_rows d = record d { rows = [] }
 
 -- a seat changes that still knows the number of slots
-pub sized_set : (slots : ℕ) (ds : List Draws) (id : ℕ) (d : Draws) → AreSized slots ds → IsSized slots d → AreSized slots (set ds id d)
-sized_set slots ds id d all is = each_set (λ _. IsSized slots) ds id d (λ j e apart here. all j e here) is
+pub sized_set : (slots sessions : ℕ) (ds : List Draws) (id : ℕ) (d : Draws) → AreSized slots sessions ds → IsSized slots sessions d → AreSized slots sessions (set ds id d)
+sized_set slots sessions ds id d all is = each_set (λ _. IsSized slots sessions) ds id d (λ j e apart here. all j e here) is
 
 module _ {S : Type 0} (keeps_it : S → Held → Type 0) (board : S → List (std.Option Held)) (counts : S → ℕ × ℕ × ℕ) (count : S → ℕ → ℕ) (orders : S → Orders) (slots : ℕ) where
   abbrev TurnOf : ℕ → Option (Option (std.Option S)) → List Draws → Table → Orders → Type 0

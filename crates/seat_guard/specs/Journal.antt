@@ -42,7 +42,7 @@ abbrev pub IsLeftRow : Table → (ℕ → Option ℕ) → ℕ → Row → Type 0
 IsLeftRow t seat given row = (p : ℕ) × (p < given) × (seat p ≡ none) × (t.live p row.name ≡ std.Some row.held.function)
 
 pub record ClosingFits (start : Sizes) (log : List Entry) (t : Table) (seat : ℕ → Option ℕ) (d : Draws) : Type 0 where
-  pub few : d.given ≤ MOST_SESSIONS
+  pub few : (d.given ≤ d.sessions) × (d.sessions ≤ MOST_SESSIONS)
   pub start_is : start ≡ sizes_for d.vars d.elements
   pub later : (p : ℕ) → d.given ≤ p → IsUnused log t seat p
   pub back : (k : ℕ) (g : Gone) → get_elem? d.gone k ≡ some g → (g.session < d.given) × (seat g.session ≡ none) × (entries_of g.session log ≡ g.entries) × (t.live g.session ≡ stands_for g.rows) × Each (IsNotedIn start log) g.noted

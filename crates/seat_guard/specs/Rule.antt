@@ -42,12 +42,14 @@ module _ {S : Type 0} (keeps : S → Held → Type 0) (board : S → List (std.O
     pub long : length s.homes ≡ 1
     pub start : Sizes
     pub slots : ℕ
+    -- how many sessions the table was made for
+    pub sessions : ℕ
     pub log : List Entry
     pub table : Table
     pub journal : Journal (slice_index s.words 0) (slice_index s.words 1) (map (λ (v : View). v.draws) s.views) start log table
     pub turn : Turn keeps board counts count orders slots (slice_index s.words 1) (get_elem? s.homes 0) (map (λ (v : View). v.draws) s.views) table (orders_from (opening_orders start) log)
     pub rows : Allotted (map (λ (v : View). v.draws) s.views)
-    pub sized : AreSized slots (map (λ (v : View). v.draws) s.views)
+    pub sized : AreSized slots sessions (map (λ (v : View). v.draws) s.views)
 
   -- the content after all sessions came back: only the rows of the closing seat and the cells are left
   pub record Ends (x : S) (d : Draws) : Type 0 where

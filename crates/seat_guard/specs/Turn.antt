@@ -38,12 +38,12 @@ abbrev pub all_count : ℕ → List Draws → ℕ
 all_count k [] = 0
 all_count k (d ∷ ds) = row_count k d.rows + all_count k ds
 
--- the seat of a session, or the closing one, knows this number of slots
-abbrev pub IsSized : ℕ → Draws → Type 0
-IsSized slots d = (d.live ≡ true → d.slots ≡ slots) × (d.closing ≡ true → d.slots ≡ slots)
+-- the seat of a session, or the closing one, knows these numbers of slots and of sessions
+abbrev pub IsSized : ℕ → ℕ → Draws → Type 0
+IsSized slots sessions d = (d.live ≡ true → (d.slots ≡ slots) × (d.sessions ≡ sessions)) × (d.closing ≡ true → (d.slots ≡ slots) × (d.sessions ≡ sessions))
 
-abbrev pub AreSized : ℕ → List Draws → Type 0
-AreSized slots ds = (id : ℕ) (d : Draws) → get_elem? ds id ≡ some d → IsSized slots d
+abbrev pub AreSized : ℕ → ℕ → List Draws → Type 0
+AreSized slots sessions ds = (id : ℕ) (d : Draws) → get_elem? ds id ≡ some d → IsSized slots sessions d
 
 module _ {S : Type 0} (keeps : S → Held → Type 0) (board : S → List (std.Option Held)) (counts : S → ℕ × ℕ × ℕ) (count : S → ℕ → ℕ) (orders : S → Orders) where
   abbrev pub IsKeptCell : S → std.Option Held → Type 0

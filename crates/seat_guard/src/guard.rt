@@ -8,12 +8,12 @@ ghost use Rattle.seat_guard.specs.Rule.{AllBack, Ends, Whole};
 ghost use Rattle.seat_guard.specs.Turn.{Serves};
 ghost use Rattle.seat_guard.specs.Passes.{known, in_hand, IsPassOf, IsIdle};
 
-use edge_bits::MOST_SESSIONS;
 use crate::content::Content;
 use crate::plays::{Back, Draw, End, Give, Last, Look, Next, Take};
 use crate::seat::{Guard, Pass};
 use crate::told::{Leaves, Told};
 use crossbeam_utils::Backoff;
+use edge_bits::MOST_SESSIONS;
 use std::sync::Wait;
 
 const JOURNAL: usize = 0;
@@ -24,11 +24,12 @@ const TURN: usize = 1;
 const CLOSING_TURN: u64 = MOST_SESSIONS as u64 + 1;
 
 impl<S: Content> Guard<S> {
-    /// Gives the closing seat's next session a seat.
+    /// Gives the closing seat's next session a seat. There are no more sessions than the table was made for.
     pub fn split(&self, pass: &mut Pass<S>) -> Pass<S>
         requires own { IsPassOf self.now pass.old }
         requires closing { (known pass.old).closing ≡ true }
-        requires room { (known pass.old).given < MOST_SESSIONS }
+        requires room { (known pass.old).given < (known pass.old).sessions }
+        requires few { (known pass.old).sessions ≤ MOST_SESSIONS }
         ensures closing { IsPassOf self.now pass.new × (known pass.new ≡ one_more (known pass.old)) × (in_hand pass.new ≡ in_hand pass.old) }
         ensures session { IsPassOf self.now result × (known result ≡ session_of (known pass.old)) × (in_hand result ≡ []) }
     {

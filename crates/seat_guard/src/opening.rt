@@ -1,6 +1,6 @@
 //! A new table.
-ghost use Rattle.std.specs.Prelude.{◌≡◌, ℕ, [], length, IfOk, Option, None};
-ghost use Rattle.edge_bits.specs.declared.limits.TheConstants.{CELLS};
+ghost use Rattle.std.specs.Prelude.{◌≡◌, ◌≤◌, ℕ, [], length, IfOk, Option, None};
+ghost use Rattle.edge_bits.specs.declared.limits.TheConstants.{CELLS, MOST_SESSIONS};
 ghost use Rattle.function_laws.specs.EntryOrders.{opening_orders};
 ghost use Rattle.seat_guard.specs.Views.{cell_in, closing_of, sizes_for};
 ghost use Rattle.function_laws.specs.SessionEntries.{Each};
@@ -21,6 +21,7 @@ pub fn open<S: Content + Drop>(
 ) -> Result<(Guard<S>, Pass<S>), AllocError>
     requires counts { S.counts content ≡ (key.now.vars, key.now.elements, key.now.slots) }
     requires orders { S.orders content ≡ opening_orders (sizes_for key.now.vars key.now.elements) }
+    requires sessions { key.now.sessions ≤ MOST_SESSIONS }
     requires counted { (k : ℕ) → S.count content k ≡ 0 }
     requires cells { length (S.board content) ≡ CELLS }
     requires empty { cell_in (S.board content) ≡ (λ (i : ℕ). None) }
