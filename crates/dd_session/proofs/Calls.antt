@@ -1,5 +1,6 @@
 -- What a call is for its caller.
 use Rattle.std.proofs.Common.{◌≡◌, ◌⊎◌, inl, inr, ℕ, suc, ◌+◌, ◌≤◌, ◌^◌, Bool, true, false, cond, List, [], ◌∷◌, length, max, Contains, Option, Some, Result, Ok, Err, IfOk, MatchResult, OnOk, refl, ap, sym, subst, ◌∙◌, arith, true≢false}
+use Rattle.edge_bits.specs.declared.limits.TheConstants.{CELLS}
 use Rattle.atomic_table.specs.Seated.{TableId}
 use Rattle.std.specs.Result.{is_err}
 use Rattle.edge_bits.specs.declared.edges.Edge.{Edge}
@@ -15,7 +16,7 @@ use Rattle.function_laws.specs.declared.history.Reply.TheVariants as replies
 use Rattle.function_laws.specs.declared.history.Name.{Name}
 use Rattle.function_laws.specs.Kinds.{Denoted, ValueOf}
 use Rattle.function_laws.specs.Outcomes.{Outcome, makes}
-use Rattle.function_laws.specs.Steps.{outcome}
+use Rattle.function_laws.specs.Steps.{outcome, TellsFull}
 use Rattle.function_laws.specs.Tables.{Table, same_name}
 use Rattle.handle_count.specs.RowMaps.{RowMap}
 use Rattle.node_store.specs.declared.grow.Stop.{Stop}
@@ -53,7 +54,7 @@ use Rattle.dd_session.specs.Turns.{Gives, HasValue, IsCausedBy, IsRefused, IsSea
 use Rattle.dd_session.proofs.Tying.{tied_room, tied_same}
 
 -- from what a taking of the turn tells
-pub took_of : {d e : Draws} {x : Shared} → (others : List Held) × (e ≡ holding d (board x) others (orders x) (functions x)) × Serving x e → length (board x) ≡ 256 → Took d e x
+pub took_of : {d e : Draws} {x : Shared} → (others : List Held) × (e ≡ holding d (board x) others (orders x) (functions x)) × Serving x e → length (board x) ≡ CELLS → Took d e x
 took_of took many = record { others = took.0; is = took.1; serves = took.2; many = many }
 
 -- a session's seat is seen as the session
@@ -161,7 +162,7 @@ pub denied : (old held new : Draws) (x : Shared) (table table' : TableId) (spare
     → Denies (seen_by table old spare) (seen_by table' new spare') call (refusals.Full full)
 denied old held new x table table' spare spare' call full same took told =
     let slots : held.slots ≡ old.slots = ap (λ (d : Draws). d.slots) took.is in
-    (called old held new x table table' spare spare' call (replies.Full full.in_use full.need) full.place same took told.0, told.1 ∙ slots, told.2 ∙ slots, told.3)
+    (called old held new x table table' spare spare' call (replies.Full full.in_use full.need) full.place same took told.0, told.1 ∙ slots, subst (λ (n : ℕ). TellsFull n call full.in_use full.need) slots told.2)
 
 -- what an operation is for its caller, by what it replies where it was not refused
 pub called_with : {X : Type 0} (reply : X → Reply) (old held new : Draws) (x : Shared) (table table' : TableId) (spare spare' : ℕ) (call : Call) → table' ≡ table → Took old held x → (r : Result (Placed X) Refusal)

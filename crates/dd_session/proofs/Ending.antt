@@ -7,6 +7,8 @@ use Rattle.atomic_table.proofs.Lists.{at_map}
 use Rattle.function_laws.specs.declared.history.Entry.{Entry}
 use Rattle.function_laws.specs.Tables.{Sizes, Table, opening}
 use Rattle.function_laws.specs.Histories.{IsLegal, IsLegalFrom, after_entry, table_after}
+use Rattle.function_laws.specs.EntryOrders.{EachWith, opening_orders}
+use Rattle.function_laws.specs.SiftEntries.{Carries}
 use Rattle.function_laws.specs.SessionEntries.{Each, IsByPlace, entries_of}
 use Rattle.function_laws.proofs.PlaceOrder.{one_order}
 use Rattle.seat_guard.specs.declared.view.Gone.{Gone}
@@ -47,6 +49,7 @@ history_of m d n k sessions vars elements given gone all first whole = (
     log = whole.log;
     legal = subst (λ (z : Sizes). IsLegal z whole.log) (λ i. sizes_for (vars i) (elements i)) whole.legal;
     count = sym (ap (λ (l : List Entry). length l) (one_log d (sizes_for d.vars d.elements) n k (all_back m d sessions given gone all) first whole)) ∙ first.count;
+    carried = subst (λ (z : Sizes). EachWith Carries (opening z) (opening_orders z) whole.log) (λ i. sizes_for (vars i) (elements i)) whole.carried;
     each = λ k s at. whole.each k (gone_as s) (ap (λ (l : List Gone). get_elem? l k) gone ∙ at_map gone_as sessions k s at);
     rows = λ k s at. ap (λ (z : Sizes). (table_after (opening z) whole.log).live s.number) (λ i. sizes_for (sym vars i) (sym elements i)) ∙ whole.rows k (gone_as s) (ap (λ (l : List Gone). get_elem? l k) gone ∙ at_map gone_as sessions k s at);
     noted = λ k s at. subst (λ (z : Sizes). Each (IsNotedIn z whole.log) s.noted) (λ i. sizes_for (vars i) (elements i)) (whole.noted k (gone_as s) (ap (λ (l : List Gone). get_elem? l k) gone ∙ at_map gone_as sessions k s at));

@@ -4,6 +4,7 @@ use Rattle.atomic_table.specs.Seated.{TableId}
 use Rattle.edge_bits.specs.declared.edges.Edge.{Edge}
 use Rattle.edge_bits.specs.declared.edges.Kind.TheVariants as kinds
 use Rattle.function_laws.specs.declared.history.Name.{Name}
+use Rattle.function_laws.specs.declared.history.Function.{Function}
 use Rattle.function_laws.specs.declared.history.Call.{Call}
 use Rattle.function_laws.specs.declared.history.Call.TheVariants as calls
 use Rattle.function_laws.specs.declared.making.Making.TheVariants as makings
@@ -53,23 +54,22 @@ module _ (d e : Draws) (x y : Shared) (made : Result Edge Stop) (took : Took d e
       let made : List Bool = list_of (2 ^ (view_of y).vars) (bdd_at (view_of y) edge) in
       let list : made ≡ list_of (2 ^ v.vars) (bdd_at (view_of y) edge) = ap (λ n. list_of (2 ^ n) (bdd_at (view_of y) edge)) tried.ran.grown.vars in (
         is.answer,
-        (
-          refl,
-          record {
-            f = list_of (2 ^ v.vars) (bdd_at v i);
-            c = list_of (2 ^ v.vars) (bdd_at v j);
-            gives = gives;
-            long = ap length list ∙ length-list_of (2 ^ v.vars) (bdd_at (view_of y) edge) ∙ sym (length-list_of (2 ^ v.vars) (bdd_at v i));
-            says = subst (λ g. Restricts (length (list_of (2 ^ v.vars) (bdd_at v i))) (truth (list_of (2 ^ v.vars) (bdd_at v i))) (truth (list_of (2 ^ v.vars) (bdd_at v j))) (truth g)) (sym list)
-                (Restricts-list_of v.vars (bdd_at v i) (bdd_at v j) (bdd_at (view_of y) edge) is.restricts);
-          },
-        ),
+        record {
+          outcome = restricts (list_of (2 ^ v.vars) (bdd_at v i)) (list_of (2 ^ v.vars) (bdd_at v j));
+          gives = gives;
+          may = λ t agrees name new. (
+            new,
+            ap length list ∙ length-list_of (2 ^ v.vars) (bdd_at (view_of y) edge) ∙ sym (length-list_of (2 ^ v.vars) (bdd_at v i)),
+            subst (λ g. Restricts (length (list_of (2 ^ v.vars) (bdd_at v i))) (truth (list_of (2 ^ v.vars) (bdd_at v i))) (truth (list_of (2 ^ v.vars) (bdd_at v j))) (truth g)) (sym list)
+                (Restricts-list_of v.vars (bdd_at v i) (bdd_at v j) (bdd_at (view_of y) edge) is.restricts),
+          );
+        },
       )
 
 -- what it is for its caller
 module _ (old held new : Draws) (x : Shared) (table table' : TableId) (spare spare' : ℕ) (call : Call) (same : table' ≡ table) (took : Took old held x) where
-  pub called_chosen : (r : Result (Placed Name) Refusal) → MatchResult r (λ placed. Unit {0}) (λ refusal. spare ≤ spare') → MatchResult r (λ placed. (g : List Bool) × Told held new call (replies.Chose placed.value g) placed.place) (IsRefused held new call)
-      → MatchResult r (λ placed. (g : List Bool) × Called (seen_by table old spare) (seen_by table' new spare') call (replies.Chose placed.value g) placed.place) (Denies (seen_by table old spare) (seen_by table' new spare') call)
+  pub called_chosen : (r : Result (Placed Name) Refusal) → MatchResult r (λ placed. Unit {0}) (λ refusal. spare ≤ spare') → MatchResult r (λ placed. (g : Function) × Told held new call (replies.Chose placed.value g) placed.place) (IsRefused held new call)
+      → MatchResult r (λ placed. (g : Function) × Called (seen_by table old spare) (seen_by table' new spare') call (replies.Chose placed.value g) placed.place) (Denies (seen_by table old spare) (seen_by table' new spare') call)
   called_chosen (Ok placed) more told = (told.0, called old held new x table table' spare spare' call (replies.Chose placed.value told.0) placed.place same took told.1)
   called_chosen (Err refusals.Memory) more told = as_before old held new x table table' spare spare' told.0 same more took told.1
   called_chosen (Err (refusals.Full full)) more told = denied old held new x table table' spare spare' call full same took told

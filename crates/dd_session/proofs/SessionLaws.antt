@@ -12,7 +12,7 @@ use Rattle.function_laws.specs.declared.history.Reply.{Reply}
 use Rattle.function_laws.specs.declared.history.Reply.TheVariants as replies
 use Rattle.function_laws.specs.Tables.{Table, same_name}
 use Rattle.function_laws.specs.Lists.{truth}
-use Rattle.function_laws.specs.Outcomes.{Outcome, makes, restricts, fetches, counts, overflows, is_most, compares, tells, shows, is_done, in_range, with_one}
+use Rattle.function_laws.specs.Outcomes.{Outcome, makes, restricts, covers, is_apart, fetches, counts, overflows, is_most, compares, tells, shows, is_done, in_range, with_one}
 use Rattle.function_laws.specs.Steps.{outcome, value_at, with_result, IsAllowed, Replies, after}
 use Rattle.function_laws.specs.Values.{assignment_of}
 use Rattle.seat_guard.specs.Views.{sizes_for, stands_for}
@@ -83,9 +83,11 @@ module _ (old new : Seen) (call : Call) (name : Name) (place : ℕ) (called : Ca
       by : IsAllowed (table_of old called.board) old.number call (replies.Made name) → (f : Function) × (stands_for new.rows name ≡ Some f)
       by (makes f, is, replies) = (f, made_as f is)
       by (restricts f g, is, replies) = absurd replies
+      by (covers f g, is, replies) = absurd replies
       by (fetches f p, is, replies) = absurd replies
       by (counts f n, is, replies) = absurd replies
       by (overflows, is, replies) = absurd replies
+      by (is_apart, is, replies) = absurd replies
       by (is_most, is, replies) = absurd replies
       by (compares f g, is, replies) = absurd replies
       by (tells b, is, replies) = absurd replies
@@ -110,17 +112,19 @@ module _ (old new : Seen) (call : Call) (name : Name) (posted : Bool) (place : �
       by (fetches f p, is, replies) = (f, live f p is)
       by (makes f, is, replies) = absurd replies
       by (restricts f g, is, replies) = absurd replies
+      by (covers f g, is, replies) = absurd replies
       by (counts f n, is, replies) = absurd replies
       by (overflows, is, replies) = absurd replies
+      by (is_apart, is, replies) = absurd replies
       by (is_most, is, replies) = absurd replies
       by (compares f g, is, replies) = absurd replies
       by (tells b, is, replies) = absurd replies
       by (shows z, is, replies) = absurd replies
       by (is_done, is, replies) = absurd replies
 
--- a restriction stands for the function that it chose
-pub chosen_as : (old new : Seen) (call : Call) (name : Name) (g : List Bool) (place : ℕ) → Called old new call (replies.Chose name g) place → stands_for new.rows name ≡ Some (Bdd g)
-chosen_as old new call name g place called = stands_after old new call (replies.Chose name g) place called name ∙ with_here old.number (table_of old called.board) name (Bdd g)
+-- a name stands for the function that was chosen for it
+pub chosen_as : (old new : Seen) (call : Call) (name : Name) (g : Function) (place : ℕ) → Called old new call (replies.Chose name g) place → stands_for new.rows name ≡ Some g
+chosen_as old new call name g place called = stands_after old new call (replies.Chose name g) place called name ∙ with_here old.number (table_of old called.board) name g
 
 -- a truth, a value, a refusal and an overflow change no name
 pub told_stays : (old new : Seen) (call : Call) (b : Bool) (place : ℕ) → Called old new call (replies.Truth b) place → (name : Name) → stands_for new.rows name ≡ stands_for old.rows name

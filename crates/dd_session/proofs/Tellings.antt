@@ -5,6 +5,7 @@ use Rattle.std.proofs.Math.ListN.{length-set}
 use Rattle.std.proofs.lemmas.Bool.{lt-ltb}
 use mathlib.Core.Logic.{dite}
 use native.Mathlib.Decide.{ℕ_discrete}
+use Rattle.edge_bits.specs.declared.limits.TheConstants.{CELLS, MOST_ROWS}
 use Rattle.edge_bits.specs.declared.edges.Edge.{Edge}
 use Rattle.edge_bits.specs.declared.edges.Kind.{Kind}
 use Rattle.edge_bits.specs.declared.edges.Kind.TheVariants as kinds
@@ -43,7 +44,7 @@ use Rattle.dd_session.specs.declared.request.Adding.{Adding}
 use Rattle.dd_session.specs.declared.request.Adding.TheVariants.{Made, Chosen, Taken}
 use Rattle.dd_session.specs.declared.request.Answer.{Answer}
 use Rattle.dd_session.specs.declared.request.Answer.TheVariants.{Added, Dropped, Posted, Truth, Value, Done, Overflow, Full}
-use Rattle.dd_session.specs.Requests.{added_as, call_of, change_of, is_refusal, reply_of, truths_of}
+use Rattle.dd_session.specs.Requests.{added_as, call_of, change_of, is_refusal, reply_of}
 use Rattle.dd_session.specs.Sessions.{fulls_in, is_full, names_in}
 use Rattle.dd_session.specs.Turns.{AddsRow, Chooses, Drew, Gives, IsAdded, MayBeFull, Notes, Told, live_as, names_by}
 use Rattle.dd_session.proofs.Naming.{cond_none, same_name-eq}
@@ -74,7 +75,7 @@ agrees_made d t name held call reply agrees is = let here = eq-eqb d.session d.s
 }
 
 -- a call that adds a row
-module _ (d : Draws) (w : View) (r : Request) (name : Name) (cell : Cell) (new : name.generation ≡ d.adds) (few : length d.rows < 2 ^ 25) where
+module _ (d : Draws) (w : View) (r : Request) (name : Name) (cell : Cell) (new : name.generation ≡ d.adds) (few : length d.rows < MOST_ROWS) where
   abbrev held : Held
   held = held_of w cell
 
@@ -85,7 +86,7 @@ module _ (d : Draws) (w : View) (r : Request) (name : Name) (cell : Cell) (new :
       (makes held.function, is, agrees.fresh name (omega (arith, new))),
       subst (λ (u : Table). Agrees (told_of d 0 (adds (call_of r) (replies.Made name) name held)) u) (sym (ap (with_result t d.session name) is)) (agrees_made d t name held (call_of r) (replies.Made name) agrees new),
     );
-    carries = subst (λ (l : List Function). Rattle.function_laws.specs.SessionEntries.Each (Rattle.seat_guard.specs.Sifted.IsKnown d) l) (sym (carries_none r)) tt;
+    carries = carries_none d r;
     room = few;
   }
 
@@ -96,25 +97,21 @@ module _ (d : Draws) (w : View) (r : Request) (name : Name) (cell : Cell) (new :
       (fetches held.function posted, is, (agrees.fresh name (omega (arith, new)), refl)),
       subst (λ (u : Table). Agrees (told_of d 0 (adds (call_of r) (replies.Fetched name posted) name held)) u) (sym (ap (with_result t d.session name) is)) (agrees_made d t name held (call_of r) (replies.Fetched name posted) agrees new),
     );
-    carries = subst (λ (l : List Function). Rattle.function_laws.specs.SessionEntries.Each (Rattle.seat_guard.specs.Sifted.IsKnown d) l) (sym (carries_none r)) tt;
+    carries = carries_none d r;
     room = few;
   }
 
--- what a BDD is told as is its function
-whole_truths : (w : View) (cell : Cell) → cell.kind ≡ kinds.Bdd → Bdd (truths_of (listed_at cell.kind w cell.edge)) ≡ listed_at cell.kind w cell.edge
-whole_truths w cell is = subst (λ (k : Kind). Bdd (truths_of (listed_at k w cell.edge)) ≡ listed_at k w cell.edge) (sym is) refl
-
-pub may_add : (d : Draws) (w : View) (r : Request) (adding : Adding) (name : Name) (cell : Cell) → name.generation ≡ d.adds → length d.rows < 2 ^ 25 → AddsRow d w (call_of r) adding cell
+pub may_add : (d : Draws) (w : View) (r : Request) (adding : Adding) (name : Name) (cell : Cell) → name.generation ≡ d.adds → length d.rows < MOST_ROWS → AddsRow d w (call_of r) adding cell
     → MayTell d (record { call = call_of r; reply = added_as w adding name cell; change = Adds (record { name = name; held = held_of w cell }) })
 may_add d w r Made name cell new few gives = may_make d w r name cell new few gives
 may_add d w r (Taken posted) name cell new few gives = may_fetch d w r name cell new few posted gives
-may_add d w r Chosen name cell new few gives = let g = truths_of (listed_at cell.kind w cell.edge) in let held = held_of w cell in let c = gives.1 in record {
+may_add d w r Chosen name cell new few gives = let held = held_of w cell in record {
   plain = refl;
-  step = λ t agrees. let is = c.gives t agrees in (
-    (restricts c.f c.c, is, (agrees.fresh name (omega (arith, new)), c.long, c.says)),
-    subst (λ (f : Function). Agrees (told_of d 0 (adds (call_of r) (replies.Chose name g) name held)) (with_name t d.session name f)) (sym (whole_truths w cell gives.0)) (agrees_made d t name held (call_of r) (replies.Chose name g) agrees new),
+  step = λ t agrees. (
+    (gives.outcome, gives.gives t agrees, gives.may t agrees name (agrees.fresh name (omega (arith, new)))),
+    agrees_made d t name held (call_of r) (replies.Chose name held.function) agrees new,
   );
-  carries = subst (λ (l : List Function). Rattle.function_laws.specs.SessionEntries.Each (Rattle.seat_guard.specs.Sifted.IsKnown d) l) (sym (carries_none r)) tt;
+  carries = carries_none d r;
   room = few;
 }
 
@@ -140,7 +137,7 @@ pub may_be_refused : (d : Draws) (r : Request) (in_use need : ℕ) → IsTrue (m
 may_be_refused d r in_use need may is_outcome = record {
   plain = refl;
   step = λ t agrees. let o = is_outcome t agrees in ((o.0, o.1, o.2, may), agrees_quiet d t (call_of r) (replies.Full in_use need) agrees);
-  carries = subst (λ (l : List Function). Rattle.function_laws.specs.SessionEntries.Each (Rattle.seat_guard.specs.Sifted.IsKnown d) l) (sym (carries_none r)) tt;
+  carries = carries_none d r;
   room = tt;
 }
 
@@ -149,7 +146,7 @@ pub may_compare : (d : Draws) (r : Request) (f g : Function) (told : Bool) → I
 may_compare d r f g told iff is_outcome = record {
   plain = refl;
   step = λ t agrees. ((compares f g, is_outcome t agrees, iff), agrees_quiet d t (call_of r) (replies.Truth told) agrees);
-  carries = subst (λ (l : List Function). Rattle.function_laws.specs.SessionEntries.Each (Rattle.seat_guard.specs.Sifted.IsKnown d) l) (sym (carries_none r)) tt;
+  carries = carries_none d r;
   room = tt;
 }
 
@@ -157,7 +154,7 @@ pub may_tell_truth : (d : Draws) (r : Request) (b told : Bool) → told ≡ b �
 may_tell_truth d r b told is is_outcome = record {
   plain = refl;
   step = λ t agrees. ((tells b, is_outcome t agrees, is), agrees_quiet d t (call_of r) (replies.Truth told) agrees);
-  carries = subst (λ (l : List Function). Rattle.function_laws.specs.SessionEntries.Each (Rattle.seat_guard.specs.Sifted.IsKnown d) l) (sym (carries_none r)) tt;
+  carries = carries_none d r;
   room = tt;
 }
 
@@ -165,7 +162,7 @@ pub may_show : (d : Draws) (r : Request) (x told : ℤ) → told ≡ x → Gives
 may_show d r x told is is_outcome = record {
   plain = refl;
   step = λ t agrees. ((shows x, is_outcome t agrees, is), agrees_quiet d t (call_of r) (replies.Value told) agrees);
-  carries = subst (λ (l : List Function). Rattle.function_laws.specs.SessionEntries.Each (Rattle.seat_guard.specs.Sifted.IsKnown d) l) (sym (carries_none r)) tt;
+  carries = carries_none d r;
   room = tt;
 }
 
@@ -173,7 +170,7 @@ pub may_exceed : (d : Draws) (r : Request) → Gives d (call_of r) overflows →
 may_exceed d r is_outcome = record {
   plain = refl;
   step = λ t agrees. ((overflows, is_outcome t agrees, tt), agrees_quiet d t (call_of r) replies.Overflow agrees);
-  carries = subst (λ (l : List Function). Rattle.function_laws.specs.SessionEntries.Each (Rattle.seat_guard.specs.Sifted.IsKnown d) l) (sym (carries_none r)) tt;
+  carries = carries_none d r;
   room = tt;
 }
 
@@ -189,7 +186,7 @@ pub knows_quiet : (d : Draws) (r : Request) (reply : Reply) → ((name : Name) (
 knows_quiet d r reply plain = record { rows_are = refl; cells_are = refl; others_are = refl; counts_are = (refl, refl, refl); orders_are = orders_stay (orders_of d) r reply plain }
 
 -- a post puts a function into a cell
-pub may_post : (d : Draws) (i : ℕ) (a : Name) (held : Held) → i < 256 → length d.cells ≡ 256 → stands_for d.rows a ≡ Some held.function
+pub may_post : (d : Draws) (i : ℕ) (a : Name) (held : Held) → i < CELLS → length d.cells ≡ CELLS → stands_for d.rows a ≡ Some held.function
     → MayTell d (record { call = calls.Post i a; reply = replies.Done; change = Posts i held })
 may_post d i a held within len is = record {
   plain = refl;
@@ -202,7 +199,7 @@ may_post d i a held within len is = record {
       (λ other. ap (λ b. cond b (t.live d.session a) (t.cells k)) (ne_eqb k i other) ∙ ap (λ (f : ℕ → Option Function). f k) (agrees.cells h).0 ∙ sym (ap function_in (get-set_other d.cells (Some held) i k other))) in (
         (
           is_done,
-          ap (λ b. when b (with_one (t.live d.session a) (λ f. is_done))) (lt-ltb i 256 within) ∙ ap (λ o. with_one o (λ f. is_done)) live,
+          ap (λ b. when b (with_one (t.live d.session a) (λ f. is_done))) (lt-ltb i CELLS within) ∙ ap (λ o. with_one o (λ f. is_done)) live,
           tt,
         ),
         record {
@@ -269,10 +266,10 @@ may_drop d a f is = record {
         ap (λ b. cond (b && same_name name a) None (t.live d.session name)) (eq-eqb d.session d.session refl) ∙ ap (cond (same_name name a) None) (ap (λ (h : Name → Option Function). h name) agrees.live) ∙ sym (stands-without d.rows name)
 
 -- what a fetch finds
-pub outcome-of_fetch : (d : Draws) (i : ℕ) (a : Name) (f : Function) (o : Outcome) → i < 256 → d.holds ≡ true → stands_for d.rows a ≡ Some f → from_cell (cell_in d.cells i) f ≡ o → Gives d (calls.Fetch i a) o
+pub outcome-of_fetch : (d : Draws) (i : ℕ) (a : Name) (f : Function) (o : Outcome) → i < CELLS → d.holds ≡ true → stands_for d.rows a ≡ Some f → from_cell (cell_in d.cells i) f ≡ o → Gives d (calls.Fetch i a) o
 outcome-of_fetch d i a f o within holds is found t agrees =
     let live : t.live d.session a ≡ Some f = ap (λ (h : Name → Option Function). h a) agrees.live ∙ is in
-    ap (λ b. when b (with_one (t.live d.session a) (from_cell (t.cells i)))) (lt-ltb i 256 within)
+    ap (λ b. when b (with_one (t.live d.session a) (from_cell (t.cells i)))) (lt-ltb i CELLS within)
     ∙ ap (λ x. with_one x (from_cell (t.cells i))) live
     ∙ ap (λ (cells : ℕ → Option Function). Some (from_cell (cells i) f)) (agrees.cells holds).0
     ∙ ap Some found
@@ -317,6 +314,7 @@ is_full-most replies.Done = omega arith
 is_full-most (replies.Truth b) = omega arith
 is_full-most (replies.Value z) = omega arith
 is_full-most replies.Overflow = omega arith
+is_full-most replies.Apart = omega arith
 is_full-most replies.Most = omega arith
 is_full-most (replies.Full a b) = omega arith
 
@@ -355,12 +353,12 @@ module _ (x y : Shared) (view : view_of y ≡ record (view_of x) { count = count
 
   pub adds-on : (d : Draws) (call : Call) (adding : Adding) (cell : Cell) → AddsRow d (view_of x) call adding cell → AddsRow d (view_of y) call adding cell
   adds-on d call Made cell gives = subst (λ (f : Function). Gives d call (makes f)) (sym (listed-same cell.kind cell.edge)) gives
-  adds-on d call Chosen cell gives = subst (λ (f : Function). (cell.kind ≡ kinds.Bdd) × Chooses d call (truths_of f)) (sym (listed-same cell.kind cell.edge)) gives
+  adds-on d call Chosen cell gives = subst (λ (f : Function). Chooses d call f) (sym (listed-same cell.kind cell.edge)) gives
   adds-on d call (Taken posted) cell gives = subst (λ (f : Function). Gives d call (fetches f posted)) (sym (listed-same cell.kind cell.edge)) gives
 
   pub added-reply : (adding : Adding) (name : Name) (cell : Cell) → added_as (view_of y) adding name cell ≡ added_as (view_of x) adding name cell
   added-reply Made name cell = refl
-  added-reply Chosen name cell = ap (λ (f : Function). replies.Chose name (truths_of f)) (listed-same cell.kind cell.edge)
+  added-reply Chosen name cell = ap (λ (f : Function). replies.Chose name f) (listed-same cell.kind cell.edge)
   added-reply (Taken posted) name cell = refl
 
   -- what the cell's edge denotes is kept
@@ -408,5 +406,5 @@ knows_dropped d a = record { rows_are = refl; cells_are = refl; others_are = ref
 -- what a new row is told as
 pub added-told : (d d' : Draws) (call : Call) (adding : Adding) (name : Name) (w : View) (place : ℕ) (cell : Cell) → Told d d' call (added_as w adding name cell) place → IsAdded d d' call adding name place
 added-told d d' call Made name w place cell told = told
-added-told d d' call Chosen name w place cell told = (truths_of (listed_at cell.kind w cell.edge), told)
+added-told d d' call Chosen name w place cell told = (listed_at cell.kind w cell.edge, told)
 added-told d d' call (Taken posted) name w place cell told = told

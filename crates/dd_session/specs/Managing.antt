@@ -2,10 +2,12 @@
 use Rattle.std.specs.Prelude.{◌≡◌, ℕ, zero, suc, ◌+◌, ◌<◌, ◌≤◌, List, [], ◌∷◌, ◌++◌, Bool, true, false, None, length, All}
 use mathlib.Core.Option.{some}
 use lib.ListN.{get_elem?}
+use Rattle.edge_bits.specs.declared.limits.TheConstants.{MOST_ELEMENTS, MOST_SESSIONS, MOST_SLOTS, MOST_VARIABLES}
 use Rattle.function_laws.specs.declared.history.Entry.{Entry}
-use Rattle.function_laws.specs.EntryOrders.{opening_orders, orders_from}
+use Rattle.function_laws.specs.EntryOrders.{EachWith, opening_orders, orders_from}
 use Rattle.function_laws.specs.Histories.{IsLegal, table_after}
 use Rattle.function_laws.specs.SessionEntries.{Each, entries_of}
+use Rattle.function_laws.specs.SiftEntries.{Carries}
 use Rattle.function_laws.specs.Tables.{opening}
 use Rattle.node_store.specs.Contents.{Content}
 use Rattle.dead_sweep.specs.declared.sweeping.Swept.{Swept}
@@ -60,7 +62,7 @@ opened m = newcomers m m.sessions
 
 -- the numbers that a manager may be opened with
 abbrev pub IsConfig : ℕ → ℕ → ℕ → ℕ → Type 0
-IsConfig vars elements limit sessions = (vars ≤ 1024) × (elements ≤ 1024) × (5 + vars ≤ limit) × (limit ≤ 8388607) × (1 ≤ sessions) × (sessions ≤ 64)
+IsConfig vars elements limit sessions = (vars ≤ MOST_VARIABLES) × (elements ≤ MOST_ELEMENTS) × (5 + vars ≤ limit) × (limit ≤ MOST_SLOTS) × (1 ≤ sessions) × (sessions ≤ MOST_SESSIONS)
 
 -- all sessions that the manager has opened, in any order
 pub record AreAll (m : Managed) (sessions : List Seen) : Type 0 where
@@ -73,6 +75,8 @@ pub record IsHistoryOf (m : Managed) (sessions : List Seen) (n : ℕ) : Type 0 w
   pub log : List Entry
   pub legal : IsLegal (sizes_for m.vars m.elements) log
   pub count : length log ≡ n
+  -- a sift's entry carries both orders, and functions of rows and cells, as the calls below it leave them
+  pub carried : EachWith Carries (opening (sizes_for m.vars m.elements)) (opening_orders (sizes_for m.vars m.elements)) log
   pub each : (k : ℕ) (s : Seen) → get_elem? sessions k ≡ some s → entries_of s.number log ≡ s.entries
   -- the table that the history leaves has these rows of each session
   pub rows : (k : ℕ) (s : Seen) → get_elem? sessions k ≡ some s → (table_after (opening (sizes_for m.vars m.elements)) log).live s.number ≡ stands_for s.rows

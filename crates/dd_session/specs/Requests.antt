@@ -57,16 +57,10 @@ abbrev pub terminal_family : Bool → ℕ → Bool
 terminal_family true = base
 terminal_family false = empty
 
--- the truth values of a function that has such
-abbrev pub truths_of : Function → List Bool
-truths_of (Bdd f) = f
-truths_of (Add f) = []
-truths_of (Zdd p) = p
-
 -- what a new row is replied; a function that was chosen is told in whole
 abbrev pub added_as : View → Adding → Name → Cell → Reply
 added_as w Made name cell = replies.Made name
-added_as w Chosen name cell = replies.Chose name (truths_of (listed_at cell.kind w cell.edge))
+added_as w Chosen name cell = replies.Chose name (listed_at cell.kind w cell.edge)
 added_as w (Taken posted) name cell = replies.Fetched name posted
 
 abbrev pub reply_of : View → Answer → Reply

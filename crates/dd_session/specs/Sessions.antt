@@ -1,5 +1,6 @@
 -- What callers see of a session, and what a call says.
 use Rattle.std.specs.Prelude.{◌≡◌, ℕ, ◌+◌, ◌≤◌, ◌<◌, ◌^◌, List, [], ◌∷◌, ◌++◌, All, length, Option, Some, None, Result, Ok, Err, MatchResult, false, if◌then◌else◌}
+use Rattle.edge_bits.specs.declared.limits.TheConstants.{MOST_ROWS}
 use Rattle.add_ops.specs.declared.arithmetic.Overflow.{Overflow}
 use Rattle.atomic_table.specs.Seated.{TableId}
 use Rattle.edge_bits.specs.declared.edges.Edge.{Edge}
@@ -14,7 +15,7 @@ use Rattle.function_laws.specs.declared.history.Reply.TheVariants as replies
 use Rattle.function_laws.specs.declared.history.Entry.{Entry}
 use Rattle.function_laws.specs.SessionEntries.{entry}
 use Rattle.function_laws.specs.Tables.{Table, same_name}
-use Rattle.function_laws.specs.Steps.{IsAllowed, after}
+use Rattle.function_laws.specs.Steps.{IsAllowed, TellsFull, after}
 use Rattle.seat_guard.specs.declared.view.Held.{Held}
 use Rattle.seat_guard.specs.declared.view.Noted.{Noted}
 use Rattle.seat_guard.specs.declared.view.Row.{Row}
@@ -82,10 +83,10 @@ pub record Called (old new : Seen) (call : Call) (reply : Reply) (place : ℕ) :
 abbrev pub IsAsBefore : Seen → Seen → Type 0
 IsAsBefore old new = (new ≡ record old { spare = new.spare; stored = new.stored; due = new.due }) × (old.spare ≤ new.spare)
 
--- full is a call of the history that changes nothing: each slot is in use, and one more was needed
+-- full is a call of the history that changes nothing, and tells how many slots were in use and how many were needed
 abbrev pub Denies : Seen → Seen → Call → Refusal → Type 0
 Denies old new call refusals.Memory = IsAsBefore old new
-Denies old new call (refusals.Full full) = Called old new call (replies.Full full.in_use full.need) full.place × (full.in_use ≡ old.manager.limit) × (full.limit ≡ old.manager.limit) × (full.need ≡ 1)
+Denies old new call (refusals.Full full) = Called old new call (replies.Full full.in_use full.need) full.place × (full.limit ≡ old.manager.limit) × TellsFull old.manager.limit call full.in_use full.need
 
 -- what an operation replies whose values may be out of range
 abbrev pub told_as : Result Name Overflow → Reply
@@ -102,7 +103,7 @@ IsMadeInRange old new making result = MatchResult result (λ placed. Called old 
 
 -- the session may make one more call
 abbrev pub HasRoom : Seen → Type 0
-HasRoom s = (length s.rows < 2 ^ 25) × (length s.entries < 2 ^ 48)
+HasRoom s = (length s.rows < MOST_ROWS) × (length s.entries < 2 ^ 48)
 
 -- the name stands for a function of this kind
 abbrev pub IsNamed : Kind → List Row → Name → Type 0

@@ -1,5 +1,6 @@
 -- What the functions over a seat and its rows say.
 use Rattle.std.specs.Prelude.{◌≡◌, Bool, ◌==◌, ℕ, ◌+◌, ◌≤◌, ◌<◌, ◌^◌, List, [], ◌∷◌, All, length, option_map, Option, Some, None, true, false, ℤ, Result, Ok, Err, IfOk, IsErrOf, max}
+use Rattle.edge_bits.specs.declared.limits.TheConstants.{CELLS, MOST_COUNT, MOST_ELEMENTS, MOST_ROWS, MOST_VARIABLES}
 use Rattle.add_ops.specs.declared.arithmetic.Overflow.{Overflow}
 use Rattle.atomic_table.specs.Seated.{TableId}
 use Rattle.edge_bits.specs.declared.edges.Edge.{Edge}
@@ -18,7 +19,7 @@ use Rattle.function_laws.specs.Numbers.{exactly}
 use Rattle.function_laws.specs.Values.{IsOf}
 use Rattle.function_laws.specs.Outcomes.{Outcome, makes, restricts, fetches, in_range}
 use Rattle.function_laws.specs.SessionEntries.{Each}
-use Rattle.function_laws.specs.Steps.{needs_no_node, outcome}
+use Rattle.function_laws.specs.Steps.{IsNew, Replies, TellsFull, needs_no_node, outcome}
 use Rattle.function_laws.specs.Tables.{Table}
 use Rattle.handle_count.specs.declared.rows.Held.{Held as Live}
 use Rattle.handle_count.specs.RowMaps.{RowMap, find_row}
@@ -52,7 +53,6 @@ use Rattle.dd_session.specs.declared.answers.Refusal.TheVariants as refusals
 use Rattle.dd_session.specs.declared.book.Book.{Book}
 use Rattle.dd_session.specs.declared.request.Adding.{Adding}
 use Rattle.dd_session.specs.declared.request.Adding.TheVariants.{Made, Chosen, Taken}
-use Rattle.dd_session.specs.Requests.{truths_of}
 use Rattle.dd_session.specs.Sessions.{Managed, Seen, fulls_in, held_as, names_in}
 
 -- what callers see
@@ -114,7 +114,7 @@ pub record Keeps (d : Draws) (book : Book) : Type 0 where
 
 -- it may make one more call
 abbrev pub HasPlace : Draws → Type 0
-HasPlace d = (length d.rows < 2 ^ 25) × (length d.entries < 2 ^ 48)
+HasPlace d = (length d.rows < MOST_ROWS) × (length d.entries < 2 ^ 48)
 
 -- the turn
 
@@ -123,14 +123,14 @@ IsReady p = ((known p).live ≡ true) × ((known p).holds ≡ false) × (in_hand
 
 -- the pass has the turn, and what all share is in hand
 abbrev pub IsHolding : Guard Shared → Pass Shared → Type 0
-IsHolding g p = IsPassOf g p × ((known p).live ≡ true) × ((known p).holds ≡ true) × (in_hand p ≡ (0, None) ∷ []) × (length (known p).cells ≡ 256)
+IsHolding g p = IsPassOf g p × ((known p).live ≡ true) × ((known p).holds ≡ true) × (in_hand p ≡ (0, None) ∷ []) × (length (known p).cells ≡ CELLS)
 
 -- what the taker of the turn knows
 pub record Took (d e : Draws) (x : Shared) : Type 0 where
   pub others : List Held
   pub is : e ≡ holding d (board x) others (orders x) (functions x)
   pub serves : Serving x e
-  pub many : length (board x) ≡ 256
+  pub many : length (board x) ≡ CELLS
 
 -- the turn was taken, with room for one more row
 pub record Started (g : Guard Shared) (p p' : Pass Shared) (book book' : Book) (x : Shared) : Type 0 where
@@ -138,7 +138,7 @@ pub record Started (g : Guard Shared) (p p' : Pass Shared) (book book' : Book) (
   pub took : Took (known p) (known p') x
   pub keeps : Keeps (known p') book'
   pub spare : book'.rows.spare ≡ max book.rows.spare 1
-  pub few : (k : ℕ) → count x k ≤ 2 ^ 31 + 256
+  pub few : (k : ℕ) → count x k ≤ MOST_COUNT
 
 -- how many variables, elements and slots a view has
 abbrev pub sizes_in : View → ℕ × ℕ × ℕ
@@ -151,7 +151,7 @@ pub record Stands (w : View) (d : Draws) : Type 0 where
 
 -- it has no more variables and elements than a store may have
 abbrev pub IsSmall : View → Type 0
-IsSmall w = (w.vars ≤ 1024) × (w.elements ≤ 1024)
+IsSmall w = (w.vars ≤ MOST_VARIABLES) × (w.elements ≤ MOST_ELEMENTS)
 
 -- the edge of a row, in each view that has the rows
 abbrev pub IsEdgeOf : Kind → Draws → Name → Edge → Type 0
@@ -184,7 +184,7 @@ Told d d' call reply place = (y : Shared) × (x : Telling) × (x.call ≡ call) 
 -- what a new row is told as, by how it came to be
 abbrev pub IsAdded : Draws → Draws → Call → Adding → Name → ℕ → Type 0
 IsAdded d d' call Made name place = Told d d' call (replies.Made name) place
-IsAdded d d' call Chosen name place = (g : List Bool) × Told d d' call (replies.Chose name g) place
+IsAdded d d' call Chosen name place = (g : Function) × Told d d' call (replies.Chose name g) place
 IsAdded d d' call (Taken posted) name place = Told d d' call (replies.Fetched name posted) place
 
 -- what the seat notes as stored, and as due, is as if this content had been given back
@@ -194,7 +194,7 @@ Notes d d' y = (l : Leaving) × (d'.stored ≡ l.stored) × (d'.due ≡ l.due) �
 -- what a refusal leaves
 abbrev pub IsRefused : Draws → Draws → Call → Refusal → Type 0
 IsRefused d d' call refusals.Memory = (l : Leaving) × (d' ≡ letting_go d l)
-IsRefused d d' call (refusals.Full full) = Told d d' call (replies.Full full.in_use full.need) full.place × (full.in_use ≡ d.slots) × (full.limit ≡ d.slots) × (full.need ≡ 1)
+IsRefused d d' call (refusals.Full full) = Told d d' call (replies.Full full.in_use full.need) full.place × (full.limit ≡ d.slots) × TellsFull d.slots call full.in_use full.need
 
 -- why an operation was refused
 abbrev pub IsCausedBy : {X Y : Type 0} → Result X Stop → Result Y Refusal → Type 0
@@ -212,18 +212,16 @@ Gives d call o = (t : Table) → Agrees d t → outcome t d.session call ≡ Som
 abbrev pub MayBeFull : Draws → Call → Type 0
 MayBeFull d call = (t : Table) → Agrees d t → (o : Outcome) × (outcome t d.session call ≡ Some o) × (needs_no_node o ≡ false)
 
--- a choice that restrict may make
-pub record Chooses (d : Draws) (call : Call) (g : List Bool) : Type 0 where
-  pub f : List Bool
-  pub c : List Bool
-  pub gives : Gives d call (restricts f c)
-  pub long : length g ≡ length f
-  pub says : Restricts (length f) (truth f) (truth c) (truth g)
+-- a function that the call may choose, for a name that was never given
+pub record Chooses (d : Draws) (call : Call) (g : Function) : Type 0 where
+  pub outcome : Outcome
+  pub gives : Gives d call outcome
+  pub may : (t : Table) → Agrees d t → (name : Name) → IsNew t d.session name → Replies t d.session outcome (replies.Chose name g)
 
 -- what the cell's edge denotes is what the call adds
 abbrev pub AddsRow : Draws → View → Call → Adding → Cell → Type 0
 AddsRow d w call Made cell = Gives d call (makes (listed_at cell.kind w cell.edge))
-AddsRow d w call Chosen cell = (cell.kind ≡ kinds.Bdd) × Chooses d call (truths_of (listed_at cell.kind w cell.edge))
+AddsRow d w call Chosen cell = Chooses d call (listed_at cell.kind w cell.edge)
 AddsRow d w call (Taken posted) cell = Gives d call (fetches (listed_at cell.kind w cell.edge) posted)
 
 -- An operation's answers denote the function that the call makes.

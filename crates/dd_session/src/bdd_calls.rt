@@ -2,6 +2,7 @@
 
 ghost use Rattle.std.specs.Prelude.{All, Bool, List, MatchResult, map, max, true, ◌&&◌, ◌+◌, ◌<◌, ◌||◌, ◌≡◌, ◌≤◌};
 ghost use Rattle.edge_bits.specs.declared.edges.Kind.TheVariants as kinds;
+ghost use Rattle.function_laws.specs.declared.history.Function.{Function};
 ghost use Rattle.function_laws.specs.declared.history.Call.TheVariants as calls;
 ghost use Rattle.function_laws.specs.declared.making.Making.TheVariants as makings;
 ghost use Rattle.function_laws.specs.declared.making.BddMaking.TheVariants as bdds;
@@ -716,7 +717,7 @@ impl Session {
         requires room { HasRoom self.old }
         requires first { IsLiveAs kinds.Bdd self.old f }
         requires second { IsLiveAs kinds.Bdd self.old g }
-        ensures told { MatchResult result (λ placed. (chosen : List Bool) × Called self.old self.new (calls.Makes (makings.Bdd (bdds.Restrict f g))) (replies.Chose placed.value chosen) placed.place) (Denies self.old self.new (calls.Makes (makings.Bdd (bdds.Restrict f g)))) }
+        ensures told { MatchResult result (λ placed. (chosen : Function) × Called self.old self.new (calls.Makes (makings.Bdd (bdds.Restrict f g))) (replies.Chose placed.value chosen) placed.place) (Denies self.old self.new (calls.Makes (makings.Bdd (bdds.Restrict f g)))) }
         ensures stored { StoresWork (work_of_restrict (edge_in self.old.rows f) (edge_in self.old.rows g)) self.old self.new result }
         ensures spare { MatchResult result (λ placed. self.new.spare + 1 ≡ max self.old.spare 1) (λ refusal. self.old.spare ≤ self.new.spare) }
     {

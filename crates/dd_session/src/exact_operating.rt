@@ -1,6 +1,7 @@
 //! Operations on numbers whose values may be out of range: a try, and where no slot was free a sweep and another try, in one turn.
 
 ghost use Rattle.std.specs.Prelude.{◌≡◌, ◌+◌, ◌≤◌, ◌^◌, ℕ, [], IsTrue, MatchResult, IfOk, IsErrOf, Some};
+ghost use Rattle.edge_bits.specs.declared.limits.TheConstants.{MOST_COUNT};
 ghost use Rattle.edge_bits.specs.declared.edges.Kind.TheVariants as kinds;
 ghost use Rattle.function_laws.specs.declared.history.Function.{Function};
 ghost use Rattle.function_laws.specs.Outcomes.{makes, overflows};
@@ -104,7 +105,7 @@ pub fn settle(
     requires keeps { Keeps (known pass.old) book.old }
     requires place { HasPlace (known pass.old) }
     requires spare { 1 ≤ book.old.rows.spare }
-    requires few { (k : ℕ) → count shared k ≤ 2 ^ 31 + 256 }
+    requires few { (k : ℕ) → count shared k ≤ MOST_COUNT }
     requires ok { IfOk made (λ told. MatchResult told (λ edge. Is kinds.Add (view_of shared) edge × Gives (known pass.old) (call_of request) (makes (listed_at kinds.Add (view_of shared) edge))) (λ _. Gives (known pass.old) (call_of request) overflows)) }
     requires full { IsErrOf made Stop.Full → IsTrue (may_be_full (call_of request)) × MayBeFull (known pass.old) (call_of request) × ((f : Function) × (due shared ≡ Some f)) }
     ensures own { IsPassOf guard.now pass.new × (in_hand pass.new ≡ []) }

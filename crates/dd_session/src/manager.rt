@@ -9,7 +9,9 @@ ghost use Rattle.dd_session.specs.Turns.{managed_by};
 use crate::book::Book;
 use crate::closing::{clear_board, join_all, let_all_go};
 use crate::session::Session;
-use edge_bits::Memory;
+use edge_bits::{
+    FIRST_PROJECTION, MOST_ELEMENTS, MOST_SESSIONS, MOST_SLOTS, MOST_VARIABLES, Memory,
+};
 use handle_count::Rows;
 use seat_guard::opening::open;
 use seat_guard::seat::{Guard, Pass, Rest};
@@ -59,7 +61,8 @@ impl Model for Manager {
 /// The next session.
 fn next_session(alloc: Global, guard: &Guard<Shared>, closing: &mut Pass<Shared>) -> Session
     requires own { IsPassOf guard.now closing.old × ((known closing.old).closing ≡ true) }
-    requires room { (known closing.old).given < 64 }
+    requires room { (known closing.old).given < (known closing.old).sessions }
+    requires few { (known closing.old).sessions ≤ MOST_SESSIONS }
     ensures closing { IsPassOf guard.now closing.new × (known closing.new ≡ one_more (known closing.old)) × (in_hand closing.new ≡ in_hand closing.old) }
     ensures new { result ≡ newcomer (managed_by guard.now.table.shared.table_id (known closing.old)) (known closing.old).given }
 {
@@ -82,7 +85,7 @@ fn open_sessions(
     requires own { IsPassOf guard.now closing.old × (in_hand closing.old ≡ []) }
     requires closing { ((known closing.old).closing ≡ true) × ((known closing.old).gone ≡ []) × ((known closing.old).rows ≡ []) }
     requires first { (known closing.old).given ≡ 0 }
-    requires room { (count ≡ (known closing.old).sessions) × (count ≤ 64) }
+    requires room { (count ≡ (known closing.old).sessions) × (count ≤ MOST_SESSIONS) }
     ensures own { IsPassOf guard.now closing.new × (in_hand closing.new ≡ []) }
     ensures kept { managed_by guard.now.table.shared.table_id (known closing.new) ≡ managed_by guard.now.table.shared.table_id (known closing.old) }
     ensures sessions { IfOk result (λ all. IsClosing (known closing.new) × (all.items ≡ opened (managed_by guard.now.table.shared.table_id (known closing.old)))) }
@@ -105,7 +108,7 @@ fn with_sessions(
     requires own { IsPassOf guard closing × (in_hand closing ≡ []) }
     requires closing { ((known closing).closing ≡ true) × ((known closing).gone ≡ []) × ((known closing).rows ≡ []) }
     requires first { (known closing).given ≡ 0 }
-    requires room { (sessions ≡ (known closing).sessions) × (sessions ≤ 64) }
+    requires room { (sessions ≡ (known closing).sessions) × (sessions ≤ MOST_SESSIONS) }
     requires ended { (ended.items ≡ []) × (sessions ≤ vec_capacity ended) }
     ensures { IfOk result (λ r. (r.0 ≡ managed_by guard.table.shared.table_id (known closing)) × (r.1.items ≡ opened r.0)) }
 {
@@ -170,12 +173,12 @@ impl Manager {
             elements,
             limit,
         } = config;
-        if vars > 1024
-            || elements > 1024
-            || limit < 5 + vars
-            || limit > 8_388_607
+        if vars > MOST_VARIABLES
+            || elements > MOST_ELEMENTS
+            || limit < FIRST_PROJECTION + vars
+            || limit > MOST_SLOTS
             || sessions == 0
-            || sessions > 64
+            || sessions > MOST_SESSIONS
         {
             return Err(OpenFault::Config);
         }

@@ -1,6 +1,7 @@
 //! What a call leaves that adds a row, or that was refused.
 
 ghost use Rattle.std.specs.Prelude.{◌≡◌, ◌+◌, ◌<◌, ◌≤◌, ◌^◌, [], IfOk, IsErrOf, IsTrue, MatchResult, Some};
+ghost use Rattle.edge_bits.specs.declared.limits.TheConstants.{MOST_COUNT};
 ghost use Rattle.function_laws.specs.declared.history.Function.{Function};
 ghost use Rattle.function_laws.specs.declared.history.Reply.TheVariants as replies;
 ghost use Rattle.function_laws.specs.Outcomes.{overflows};
@@ -36,7 +37,7 @@ pub fn add_row(
     requires keeps { Keeps (known pass.old) book.old }
     requires place { HasPlace (known pass.old) }
     requires spare { 1 ≤ book.old.rows.spare }
-    requires few { count shared cell.edge.index ≤ 2 ^ 31 + 256 }
+    requires few { count shared cell.edge.index ≤ MOST_COUNT }
     requires is { Is cell.kind (view_of shared) cell.edge }
     requires adds { AddsRow (known pass.old) (view_of shared) (call_of request) adding cell }
     ensures own { IsPassOf guard.now pass.new × (in_hand pass.new ≡ []) }
@@ -123,7 +124,7 @@ pub fn settle(
     requires keeps { Keeps (known pass.old) book.old }
     requires place { HasPlace (known pass.old) }
     requires spare { 1 ≤ book.old.rows.spare }
-    requires few { IfOk made (λ edge. count shared edge.index ≤ 2 ^ 31 + 256) }
+    requires few { IfOk made (λ edge. count shared edge.index ≤ MOST_COUNT) }
     requires ok { IfOk made (λ edge. Is kind (view_of shared) edge × AddsRow (known pass.old) (view_of shared) (call_of request) adding (record { kind = kind; edge = edge })) }
     requires full { IsErrOf made Stop.Full → IsTrue (may_be_full (call_of request)) × MayBeFull (known pass.old) (call_of request) × ((f : Function) × (due shared ≡ Some f)) }
     ensures own { IsPassOf guard.now pass.new × (in_hand pass.new ≡ []) }

@@ -4,7 +4,7 @@ use Rattle.std.specs.Str.{bytes_eq}
 use Rattle.std.proofs.lemmas.Bool.{false≢true}
 use Rattle.std.proofs.lemmas.Bool.Decides.{nat_tests}
 use Rattle.job_commands.specs.declared.commands.Known.{Known}
-use Rattle.job_commands.specs.declared.commands.Operation.{Operation}
+use Rattle.job_commands.specs.declared.commands.Opcode.{Opcode}
 use Rattle.job_commands.specs.declared.commands.Place.{Place}
 use Rattle.job_words.specs.Text.{Word}
 use Rattle.job_commands.specs.Commands.{Form, form_in, filled, command_in}
@@ -102,6 +102,6 @@ fitting (p ∷ ps) repeated (w ∷ words) h =
 
 -- the line of a command that was found
 pub filled_is : (forms : List Form) (before : List (Place × Word)) (command : Word) (words : List Word) (own : Known) → Some (form_of own) ≡ form_in forms command
-    → option_map {U = Operation × List (Place × Word)} (λ more. (own.operation, before ++ more)) (filled own.places.now own.repeated.now words) ≡ command_in forms before command words
+    → option_map {U = Opcode × List (Place × Word)} (λ more. (own.opcode, before ++ more)) (filled own.places.now own.repeated.now words) ≡ command_in forms before command words
 filled_is forms before command words own found =
-    ap (λ o. option_and_then (λ known. option_map {U = Operation × List (Place × Word)} (λ more. (known.operation, before ++ more)) (filled known.places known.repeated words)) o) found
+    ap (λ o. option_and_then (λ known. option_map {U = Opcode × List (Place × Word)} (λ more. (known.opcode, before ++ more)) (filled known.places known.repeated words)) o) found

@@ -14,8 +14,8 @@ use Rattle.function_laws.specs.declared.making.ZddMaking.TheVariants as zdds
 use Rattle.function_laws.specs.Makings.{kind_made as kind_of_making}
 use Rattle.job_commands.specs.declared.acts.Act.{Act}
 use Rattle.job_commands.specs.declared.acts.Act.TheVariants as acts
-use Rattle.job_commands.specs.declared.commands.Operation.{Operation}
-use Rattle.job_commands.specs.declared.commands.Operation.TheVariants as does
+use Rattle.job_commands.specs.declared.commands.Opcode.{Opcode}
+use Rattle.job_commands.specs.declared.commands.Opcode.TheVariants as does
 use Rattle.job_commands.specs.declared.commands.Place.{Place}
 use Rattle.job_commands.specs.declared.commands.Place.TheVariants.{Fresh, Held, Any, Alike, Variable, NewVariable, Element, Cell, Value, Bit, Bits}
 use Rattle.job_commands.specs.declared.operands.Operands.{Operands}
@@ -25,12 +25,12 @@ use Rattle.job_words.specs.Text.{Word, is_number, is_integer, is_name, is_bit, i
 -- from the first to the last, any number of times.
 pub record Form : Type 0 where
   pub word : Word
-  pub operation : Operation
+  pub opcode : Opcode
   pub places : List Place
   pub repeated : List Place
 
-abbrev pub form : Word → Operation → List Place → List Place → Form
-form word operation places repeated = record { word = word; operation = operation; places = places; repeated = repeated }
+abbrev pub form : Word → Opcode → List Place → List Place → Form
+form word opcode places repeated = record { word = word; opcode = opcode; places = places; repeated = repeated }
 
 -- a register that is a BDD, one that is an ADD, and one that is a family
 abbrev pub bdd : Place
@@ -100,7 +100,7 @@ telling =
     ∷ []
 
 -- the kind of what an operation makes; that of a BDD, where it makes none
-abbrev pub kind_of : Operation → Kind
+abbrev pub kind_of : Opcode → Kind
 kind_of (does.Makes making) = kind_of_making making
 kind_of _ = Bdd
 
@@ -111,7 +111,7 @@ form_in forms word = find (λ known. bytes_eq known.word word) forms
 -- the kind of what a command makes, by its word; `copy` and `fetch` have that of their register
 abbrev pub kind_or : Option Form → Kind
 kind_or None = Bdd
-kind_or (Some own) = kind_of own.operation
+kind_or (Some own) = kind_of own.opcode
 
 abbrev pub kind_made : Word → Kind
 kind_made command = kind_or (form_in assigning command)
@@ -125,20 +125,20 @@ filled [] (place ∷ places) (word ∷ words) = option_map (λ slots. (place, wo
 filled (place ∷ places) repeated (word ∷ words) = option_map (λ slots. (place, word) ∷ slots) (filled places repeated words)
 
 -- what a command of a table does, behind these places, and all places with their words
-abbrev pub command_in : List Form → List (Place × Word) → Word → List Word → Option (Operation × List (Place × Word))
+abbrev pub command_in : List Form → List (Place × Word) → Word → List Word → Option (Opcode × List (Place × Word))
 command_in forms before command words =
-    option_and_then (λ known. option_map (λ slots. (known.operation, before ++ slots)) (filled known.places known.repeated words)) (form_in forms command)
+    option_and_then (λ known. option_map (λ slots. (known.opcode, before ++ slots)) (filled known.places known.repeated words)) (form_in forms command)
 
 -- of `r = COMMAND WORDS`
-abbrev pub assignment_of : Word → Word → List Word → Option (Operation × List (Place × Word))
+abbrev pub assignment_of : Word → Word → List Word → Option (Opcode × List (Place × Word))
 assignment_of r command words = command_in assigning ((Fresh, r) ∷ []) command words
 
 -- of `COMMAND WORDS`
-abbrev pub telling_of : Word → List Word → Option (Operation × List (Place × Word))
+abbrev pub telling_of : Word → List Word → Option (Opcode × List (Place × Word))
 telling_of command words = command_in telling [] command words
 
 -- what a line does and its places with their words, where it has the form of a command; where the second word is `=`, it assigns
-abbrev pub command_of : List Word → Option (Operation × List (Place × Word))
+abbrev pub command_of : List Word → Option (Opcode × List (Place × Word))
 command_of [] = None
 command_of (first ∷ []) = telling_of first []
 command_of (first ∷ second ∷ []) = telling_of first (second ∷ [])
@@ -179,6 +179,7 @@ made_of (makings.Bdd (bdds.Restrict _ _)) given = makings.Bdd (bdds.Restrict (sl
 made_of (makings.Bdd (bdds.Support _)) given = makings.Bdd (bdds.Support (slice_index given.registers 0))
 made_of (makings.Bdd (bdds.AtLeast _ _)) given = makings.Bdd (bdds.AtLeast (slice_index given.registers 0) (slice_index_or given.values 0 (pos 0)))
 made_of (makings.Bdd (bdds.Pattern _)) given = makings.Bdd (bdds.Pattern (slice_index given.registers 0))
+made_of (makings.Bdd (bdds.CoverOf _)) given = makings.Bdd (bdds.CoverOf (slice_index given.registers 0))
 made_of (makings.Add (adds.Constant _)) given = makings.Add (adds.Constant (slice_index_or given.values 0 (pos 0)))
 made_of (makings.Add (adds.FromBdd _)) given = makings.Add (adds.FromBdd (slice_index given.registers 0))
 made_of (makings.Add (adds.Min _ _)) given = makings.Add (adds.Min (slice_index given.registers 0) (slice_index given.registers 1))
@@ -200,9 +201,10 @@ made_of (makings.Zdd (zdds.Subset0 _ _)) given = makings.Zdd (zdds.Subset0 (slic
 made_of (makings.Zdd (zdds.Change _ _)) given = makings.Zdd (zdds.Change (slice_index given.registers 0) (slice_index given.elements 0))
 made_of (makings.Zdd (zdds.Product _ _)) given = makings.Zdd (zdds.Product (slice_index given.registers 0) (slice_index given.registers 1))
 made_of (makings.Zdd (zdds.Quotient _ _)) given = makings.Zdd (zdds.Quotient (slice_index given.registers 0) (slice_index given.registers 1))
+made_of (makings.Zdd (zdds.Isop _ _)) given = makings.Zdd (zdds.Isop (slice_index given.registers 0) (slice_index given.registers 1))
 
 -- what an operation does with its operands
-abbrev pub act_of : Operation → Operands → Act
+abbrev pub act_of : Opcode → Operands → Act
 act_of (does.Makes making) given = acts.Makes (made_of making given)
 act_of does.Copy given = acts.Copy (slice_index given.registers 0)
 act_of does.Fetch given = acts.Fetch (slice_index given.cells 0) (slice_index given.registers 0)

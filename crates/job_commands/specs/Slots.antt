@@ -1,7 +1,7 @@
 -- Commands and lines as the code has them.
 use Rattle.std.specs.Prelude.{List, [], ◌∷◌, ◌++◌, Option, Some, None}
 use Rattle.job_commands.specs.declared.commands.Known.{Known}
-use Rattle.job_commands.specs.declared.commands.Operation.{Operation}
+use Rattle.job_commands.specs.declared.commands.Opcode.{Opcode}
 use Rattle.job_commands.specs.declared.commands.Place.{Place}
 use Rattle.job_commands.specs.declared.slots.Slot.{Slot}
 use Rattle.job_commands.specs.declared.slots.Slots.{Slots}
@@ -11,7 +11,7 @@ use Rattle.job_commands.specs.Commands.{Form, form}
 
 -- a command of the reader's tables
 abbrev pub form_of : Known → Form
-form_of known = form known.word.now known.operation known.places.now known.repeated.now
+form_of known = form known.word.now known.opcode known.places.now known.repeated.now
 
 -- the places that are due, or those that repeat where none is left
 abbrev pub or_again : List Place → List Place → List Place
@@ -39,5 +39,5 @@ abbrev pub slots_of : Slots → List (Place × Word)
 slots_of slots = slots_before slots.first ++ placed slots.due.now slots.repeated.now (split_words slots.words.now)
 
 -- what a line does, and its places with their words
-abbrev pub line_of : Line → Operation × List (Place × Word)
-line_of line = (line.operation, slots_of line.slots)
+abbrev pub line_of : Line → Opcode × List (Place × Word)
+line_of line = (line.opcode, slots_of line.slots)

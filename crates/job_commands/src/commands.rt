@@ -15,7 +15,7 @@ use std::alloc::{AllocError, Global};
 
 /// What a command does, before it is told with what.
 #[derive(Clone, Copy)]
-pub enum Operation {
+pub enum Opcode {
     /// `r = COMMAND ..`: it makes a function.
     Makes(Making<(), (), ()>),
     /// `r = copy A`
@@ -67,7 +67,7 @@ pub enum Place {
 #[derive(Clone, Copy)]
 pub struct Known {
     pub word: &'static [u8],
-    pub operation: Operation,
+    pub opcode: Opcode,
     pub places: &'static [Place],
     pub repeated: &'static [Place],
 }
@@ -85,247 +85,247 @@ const ZDD: Place = Place::Held(Kind::Zdd);
 const ASSIGNING: [Known; 41] = [
     Known {
         word: b"true",
-        operation: Operation::Makes(Making::Bdd(BddMaking::One)),
+        opcode: Opcode::Makes(Making::Bdd(BddMaking::One)),
         places: &[],
         repeated: &[],
     },
     Known {
         word: b"false",
-        operation: Operation::Makes(Making::Bdd(BddMaking::Zero)),
+        opcode: Opcode::Makes(Making::Bdd(BddMaking::Zero)),
         places: &[],
         repeated: &[],
     },
     Known {
         word: b"var",
-        operation: Operation::Makes(Making::Bdd(BddMaking::Var(0))),
+        opcode: Opcode::Makes(Making::Bdd(BddMaking::Var(0))),
         places: &[Place::Variable],
         repeated: &[],
     },
     Known {
         word: b"not",
-        operation: Operation::Makes(Making::Bdd(BddMaking::Not(()))),
+        opcode: Opcode::Makes(Making::Bdd(BddMaking::Not(()))),
         places: &[BDD],
         repeated: &[],
     },
     Known {
         word: b"and",
-        operation: Operation::Makes(Making::Bdd(BddMaking::And((), ()))),
+        opcode: Opcode::Makes(Making::Bdd(BddMaking::And((), ()))),
         places: &[BDD, BDD],
         repeated: &[],
     },
     Known {
         word: b"or",
-        operation: Operation::Makes(Making::Bdd(BddMaking::Or((), ()))),
+        opcode: Opcode::Makes(Making::Bdd(BddMaking::Or((), ()))),
         places: &[BDD, BDD],
         repeated: &[],
     },
     Known {
         word: b"xor",
-        operation: Operation::Makes(Making::Bdd(BddMaking::Xor((), ()))),
+        opcode: Opcode::Makes(Making::Bdd(BddMaking::Xor((), ()))),
         places: &[BDD, BDD],
         repeated: &[],
     },
     Known {
         word: b"ite",
-        operation: Operation::Makes(Making::Bdd(BddMaking::Ite((), (), ()))),
+        opcode: Opcode::Makes(Making::Bdd(BddMaking::Ite((), (), ()))),
         places: &[BDD, BDD, BDD],
         repeated: &[],
     },
     Known {
         word: b"cofactor",
-        operation: Operation::Makes(Making::Bdd(BddMaking::Cofactor((), 0, false))),
+        opcode: Opcode::Makes(Making::Bdd(BddMaking::Cofactor((), 0, false))),
         places: &[BDD, Place::Variable, Place::Bit],
         repeated: &[],
     },
     Known {
         word: b"exists",
-        operation: Operation::Makes(Making::Bdd(BddMaking::Exists((), ()))),
+        opcode: Opcode::Makes(Making::Bdd(BddMaking::Exists((), ()))),
         places: &[BDD],
         repeated: &[Place::Variable],
     },
     Known {
         word: b"forall",
-        operation: Operation::Makes(Making::Bdd(BddMaking::Forall((), ()))),
+        opcode: Opcode::Makes(Making::Bdd(BddMaking::Forall((), ()))),
         places: &[BDD],
         repeated: &[Place::Variable],
     },
     Known {
         word: b"andexists",
-        operation: Operation::Makes(Making::Bdd(BddMaking::AndExists((), (), ()))),
+        opcode: Opcode::Makes(Making::Bdd(BddMaking::AndExists((), (), ()))),
         places: &[BDD, BDD],
         repeated: &[Place::Variable],
     },
     Known {
         word: b"compose",
-        operation: Operation::Makes(Making::Bdd(BddMaking::Compose((), 0, ()))),
+        opcode: Opcode::Makes(Making::Bdd(BddMaking::Compose((), 0, ()))),
         places: &[BDD, Place::Variable, BDD],
         repeated: &[],
     },
     Known {
         word: b"vcompose",
-        operation: Operation::Makes(Making::Bdd(BddMaking::VectorCompose((), ()))),
+        opcode: Opcode::Makes(Making::Bdd(BddMaking::VectorCompose((), ()))),
         places: &[BDD, Place::NewVariable, BDD],
         repeated: &[Place::NewVariable, BDD],
     },
     Known {
         word: b"restrict",
-        operation: Operation::Makes(Making::Bdd(BddMaking::Restrict((), ()))),
+        opcode: Opcode::Makes(Making::Bdd(BddMaking::Restrict((), ()))),
         places: &[BDD, BDD],
         repeated: &[],
     },
     Known {
         word: b"support",
-        operation: Operation::Makes(Making::Bdd(BddMaking::Support(()))),
+        opcode: Opcode::Makes(Making::Bdd(BddMaking::Support(()))),
         places: &[BDD],
         repeated: &[],
     },
     Known {
         word: b"num",
-        operation: Operation::Makes(Making::Add(AddMaking::Constant(0))),
+        opcode: Opcode::Makes(Making::Add(AddMaking::Constant(0))),
         places: &[Place::Value],
         repeated: &[],
     },
     Known {
         word: b"ofbdd",
-        operation: Operation::Makes(Making::Add(AddMaking::FromBdd(()))),
+        opcode: Opcode::Makes(Making::Add(AddMaking::FromBdd(()))),
         places: &[BDD],
         repeated: &[],
     },
     Known {
         word: b"plus",
-        operation: Operation::Makes(Making::Exact(ExactMaking::Plus((), ()))),
+        opcode: Opcode::Makes(Making::Exact(ExactMaking::Plus((), ()))),
         places: &[ADD, ADD],
         repeated: &[],
     },
     Known {
         word: b"minus",
-        operation: Operation::Makes(Making::Exact(ExactMaking::Minus((), ()))),
+        opcode: Opcode::Makes(Making::Exact(ExactMaking::Minus((), ()))),
         places: &[ADD, ADD],
         repeated: &[],
     },
     Known {
         word: b"times",
-        operation: Operation::Makes(Making::Exact(ExactMaking::Times((), ()))),
+        opcode: Opcode::Makes(Making::Exact(ExactMaking::Times((), ()))),
         places: &[ADD, ADD],
         repeated: &[],
     },
     Known {
         word: b"min",
-        operation: Operation::Makes(Making::Add(AddMaking::Min((), ()))),
+        opcode: Opcode::Makes(Making::Add(AddMaking::Min((), ()))),
         places: &[ADD, ADD],
         repeated: &[],
     },
     Known {
         word: b"max",
-        operation: Operation::Makes(Making::Add(AddMaking::Max((), ()))),
+        opcode: Opcode::Makes(Making::Add(AddMaking::Max((), ()))),
         places: &[ADD, ADD],
         repeated: &[],
     },
     Known {
         word: b"threshold",
-        operation: Operation::Makes(Making::Add(AddMaking::Threshold((), ()))),
+        opcode: Opcode::Makes(Making::Add(AddMaking::Threshold((), ()))),
         places: &[ADD, ADD],
         repeated: &[],
     },
     Known {
         word: b"addite",
-        operation: Operation::Makes(Making::Add(AddMaking::AddIte((), (), ()))),
+        opcode: Opcode::Makes(Making::Add(AddMaking::AddIte((), (), ()))),
         places: &[BDD, ADD, ADD],
         repeated: &[],
     },
     Known {
         word: b"sum",
-        operation: Operation::Makes(Making::Exact(ExactMaking::SumOver((), 0))),
+        opcode: Opcode::Makes(Making::Exact(ExactMaking::SumOver((), 0))),
         places: &[ADD, Place::Variable],
         repeated: &[],
     },
     Known {
         word: b"atleast",
-        operation: Operation::Makes(Making::Bdd(BddMaking::AtLeast((), 0))),
+        opcode: Opcode::Makes(Making::Bdd(BddMaking::AtLeast((), 0))),
         places: &[ADD, Place::Value],
         repeated: &[],
     },
     Known {
         word: b"pattern",
-        operation: Operation::Makes(Making::Bdd(BddMaking::Pattern(()))),
+        opcode: Opcode::Makes(Making::Bdd(BddMaking::Pattern(()))),
         places: &[ADD],
         repeated: &[],
     },
     Known {
         word: b"empty",
-        operation: Operation::Makes(Making::Zdd(ZddMaking::Empty)),
+        opcode: Opcode::Makes(Making::Zdd(ZddMaking::Empty)),
         places: &[],
         repeated: &[],
     },
     Known {
         word: b"base",
-        operation: Operation::Makes(Making::Zdd(ZddMaking::Base)),
+        opcode: Opcode::Makes(Making::Zdd(ZddMaking::Base)),
         places: &[],
         repeated: &[],
     },
     Known {
         word: b"single",
-        operation: Operation::Makes(Making::Zdd(ZddMaking::Single(0))),
+        opcode: Opcode::Makes(Making::Zdd(ZddMaking::Single(0))),
         places: &[Place::Element],
         repeated: &[],
     },
     Known {
         word: b"union",
-        operation: Operation::Makes(Making::Zdd(ZddMaking::Union((), ()))),
+        opcode: Opcode::Makes(Making::Zdd(ZddMaking::Union((), ()))),
         places: &[ZDD, ZDD],
         repeated: &[],
     },
     Known {
         word: b"meet",
-        operation: Operation::Makes(Making::Zdd(ZddMaking::Meet((), ()))),
+        opcode: Opcode::Makes(Making::Zdd(ZddMaking::Meet((), ()))),
         places: &[ZDD, ZDD],
         repeated: &[],
     },
     Known {
         word: b"diff",
-        operation: Operation::Makes(Making::Zdd(ZddMaking::Diff((), ()))),
+        opcode: Opcode::Makes(Making::Zdd(ZddMaking::Diff((), ()))),
         places: &[ZDD, ZDD],
         repeated: &[],
     },
     Known {
         word: b"on",
-        operation: Operation::Makes(Making::Zdd(ZddMaking::Subset1((), 0))),
+        opcode: Opcode::Makes(Making::Zdd(ZddMaking::Subset1((), 0))),
         places: &[ZDD, Place::Element],
         repeated: &[],
     },
     Known {
         word: b"off",
-        operation: Operation::Makes(Making::Zdd(ZddMaking::Subset0((), 0))),
+        opcode: Opcode::Makes(Making::Zdd(ZddMaking::Subset0((), 0))),
         places: &[ZDD, Place::Element],
         repeated: &[],
     },
     Known {
         word: b"flip",
-        operation: Operation::Makes(Making::Zdd(ZddMaking::Change((), 0))),
+        opcode: Opcode::Makes(Making::Zdd(ZddMaking::Change((), 0))),
         places: &[ZDD, Place::Element],
         repeated: &[],
     },
     Known {
         word: b"product",
-        operation: Operation::Makes(Making::Zdd(ZddMaking::Product((), ()))),
+        opcode: Opcode::Makes(Making::Zdd(ZddMaking::Product((), ()))),
         places: &[ZDD, ZDD],
         repeated: &[],
     },
     Known {
         word: b"quotient",
-        operation: Operation::Makes(Making::Zdd(ZddMaking::Quotient((), ()))),
+        opcode: Opcode::Makes(Making::Zdd(ZddMaking::Quotient((), ()))),
         places: &[ZDD, ZDD],
         repeated: &[],
     },
     Known {
         word: b"copy",
-        operation: Operation::Copy,
+        opcode: Opcode::Copy,
         places: &[Place::Any],
         repeated: &[],
     },
     Known {
         word: b"fetch",
-        operation: Operation::Fetch,
+        opcode: Opcode::Fetch,
         places: &[Place::Cell, Place::Any],
         repeated: &[],
     },
@@ -335,37 +335,37 @@ const ASSIGNING: [Known; 41] = [
 const TELLING: [Known; 6] = [
     Known {
         word: b"post",
-        operation: Operation::Post,
+        opcode: Opcode::Post,
         places: &[Place::Cell, Place::Any],
         repeated: &[],
     },
     Known {
         word: b"drop",
-        operation: Operation::Drop,
+        opcode: Opcode::Drop,
         places: &[Place::Any],
         repeated: &[],
     },
     Known {
         word: b"same",
-        operation: Operation::Same,
+        opcode: Opcode::Same,
         places: &[Place::Any, Place::Alike],
         repeated: &[],
     },
     Known {
         word: b"leq",
-        operation: Operation::Leq,
+        opcode: Opcode::Leq,
         places: &[BDD, BDD],
         repeated: &[],
     },
     Known {
         word: b"eval",
-        operation: Operation::Eval,
+        opcode: Opcode::Eval,
         places: &[Place::Any, Place::Bits],
         repeated: &[],
     },
     Known {
         word: b"sweep",
-        operation: Operation::Sweep,
+        opcode: Opcode::Sweep,
         places: &[],
         repeated: &[],
     },
@@ -397,14 +397,14 @@ pub fn telling(word: &[u8]) -> Option<Known>
     find_command(&TELLING, word)
 }
 
-impl Operation {
+impl Opcode {
     /// The kind of what it makes.
     fn kind(self) -> Kind
         ensures { result ≡ kind_of self }
     {
         match self {
-            Operation::Makes(Making::Add(_) | Making::Exact(_)) => Kind::Add,
-            Operation::Makes(Making::Zdd(_)) => Kind::Zdd,
+            Opcode::Makes(Making::Add(_) | Making::Exact(_)) => Kind::Add,
+            Opcode::Makes(Making::Zdd(_)) => Kind::Zdd,
             _ => Kind::Bdd,
         }
     }
@@ -415,7 +415,7 @@ pub fn kind_made(word: &[u8]) -> Kind
     ensures { result ≡ kind_made word.now }
 {
     match assigning(word) {
-        Some(known) => known.operation.kind(),
+        Some(known) => known.opcode.kind(),
         None => Kind::Bdd,
     }
 }
@@ -443,29 +443,29 @@ impl Operands {
     }
 
     /// What an operation does with them.
-    pub fn act(mut self, alloc: Global, operation: Operation) -> Result<Act, AllocError>
-        ensures { IfOk result (λ act. act ≡ act_of operation self) }
+    pub fn act(mut self, alloc: Global, opcode: Opcode) -> Result<Act, AllocError>
+        ensures { IfOk result (λ act. act ≡ act_of opcode self) }
     {
-        self.take_act(alloc, operation)
+        self.take_act(alloc, opcode)
     }
 
     /// The same, with the lists taken out.
-    fn take_act(&mut self, alloc: Global, operation: Operation) -> Result<Act, AllocError>
-        ensures { IfOk result (λ act. act ≡ act_of operation self.old) }
+    fn take_act(&mut self, alloc: Global, opcode: Opcode) -> Result<Act, AllocError>
+        ensures { IfOk result (λ act. act ≡ act_of opcode self.old) }
     {
         let a = self.register(0);
         let b = self.register(1);
         let k = cell_at(self.cells.as_slice(), 0);
-        match operation {
-            Operation::Makes(making) => Ok(Act::Makes(self.making(alloc, making)?)),
-            Operation::Copy => Ok(Act::Copy(a)),
-            Operation::Fetch => Ok(Act::Fetch(k, a)),
-            Operation::Post => Ok(Act::Post(k, a)),
-            Operation::Drop => Ok(Act::Drop(a)),
-            Operation::Same => Ok(Act::Same(a, b)),
-            Operation::Leq => Ok(Act::Leq(a, b)),
-            Operation::Eval => Ok(Act::Eval(a, self.take_bits(alloc))),
-            Operation::Sweep => Ok(Act::Sweep),
+        match opcode {
+            Opcode::Makes(making) => Ok(Act::Makes(self.making(alloc, making)?)),
+            Opcode::Copy => Ok(Act::Copy(a)),
+            Opcode::Fetch => Ok(Act::Fetch(k, a)),
+            Opcode::Post => Ok(Act::Post(k, a)),
+            Opcode::Drop => Ok(Act::Drop(a)),
+            Opcode::Same => Ok(Act::Same(a, b)),
+            Opcode::Leq => Ok(Act::Leq(a, b)),
+            Opcode::Eval => Ok(Act::Eval(a, self.take_bits(alloc))),
+            Opcode::Sweep => Ok(Act::Sweep),
         }
     }
 
@@ -522,6 +522,7 @@ impl Operands {
             BddMaking::Support(_) => BddMaking::Support(a),
             BddMaking::AtLeast(_, _) => BddMaking::AtLeast(a, w),
             BddMaking::Pattern(_) => BddMaking::Pattern(a),
+            BddMaking::CoverOf(_) => BddMaking::CoverOf(a),
         })
     }
 
@@ -577,6 +578,7 @@ impl Operands {
             ZddMaking::Change(_, _) => ZddMaking::Change(a, e),
             ZddMaking::Product(_, _) => ZddMaking::Product(a, b),
             ZddMaking::Quotient(_, _) => ZddMaking::Quotient(a, b),
+            ZddMaking::Isop(_, _) => ZddMaking::Isop(a, b),
         }
     }
 }

@@ -6,7 +6,7 @@ ghost use Rattle.job_words.specs.Text.{is_assignment, split_words};
 ghost use Rattle.job_commands.specs.Commands.{filled, assignment_of, telling_of, command_of, has_form};
 ghost use Rattle.job_commands.specs.Slots.{slot_of, slots_of, slots_before, line_of, or_again};
 
-use crate::commands::{Known, Operation, Place, assigning, telling};
+use crate::commands::{Known, Opcode, Place, assigning, telling};
 use job_words::{first_word, is_bit, is_bits, is_integer, is_name, is_number};
 
 /// A place of a line, and the word there.
@@ -28,7 +28,7 @@ pub struct Slots<'a> {
 /// A line that has the form of a command.
 #[derive(Clone, Copy)]
 pub struct Line<'a> {
-    pub operation: Operation,
+    pub opcode: Opcode,
     pub slots: Slots<'a>,
 }
 
@@ -129,13 +129,13 @@ fn fits(command: Known, words: &[u8]) -> bool
 
 /// The line, where there are as many words as are due: a place before the word of the command, and then these.
 fn filled<'a>(first: Option<Slot<'a>>, command: Known, words: &'a [u8]) -> Option<Line<'a>>
-    ensures { option_map line_of result ≡ option_map (λ slots. (command.operation, slots_before first.entry ++ slots)) (filled command.places.now command.repeated.now (split_words words.now)) }
+    ensures { option_map line_of result ≡ option_map (λ slots. (command.opcode, slots_before first.entry ++ slots)) (filled command.places.now command.repeated.now (split_words words.now)) }
 {
     if !fits(command, words) {
         return None;
     }
     Some(Line {
-        operation: command.operation,
+        opcode: command.opcode,
         slots: Slots {
             first,
             due: command.places,

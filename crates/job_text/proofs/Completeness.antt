@@ -13,7 +13,7 @@ use Rattle.function_laws.specs.Numbers.{is_value}
 use Rattle.job_commands.specs.declared.acts.Act.{Act}
 use Rattle.job_text.specs.declared.job.Command.{Command}
 use Rattle.job_text.specs.declared.job.Counts.{Counts}
-use Rattle.job_commands.specs.declared.commands.Operation.{Operation}
+use Rattle.job_commands.specs.declared.commands.Opcode.{Opcode}
 use Rattle.job_commands.specs.declared.commands.Place.{Place}
 use Rattle.job_commands.specs.declared.commands.Place.TheVariants as places
 use Rattle.job_text.specs.declared.operands.Operand.{Operand}
@@ -133,7 +133,7 @@ operands_at n rs others (slot ∷ slots) h e =
     (o.0 ∷ more.0, (o.1, more.1), (fits, more.2))
 
 -- what a command without a fault says
-of_command : (n : Counts) (rs : List Register) (words : List Word) (o : Option (Operation × List (Place × Word))) → command_of words ≡ o → fault_in n rs (option_map (λ known. known.1) o) ≡ None
+of_command : (n : Counts) (rs : List Register) (words : List Word) (o : Option (Opcode × List (Place × Word))) → command_of words ≡ o → fault_in n rs (option_map (λ known. known.1) o) ≡ None
     → (act : Act) × Says n rs words act
 of_command n rs words None e h = cc h
 of_command n rs words (Some known) e h =

@@ -2,7 +2,7 @@
 use Rattle.std.proofs.Common.{◌≡◌, Bool, true, false, cond, List, [], ◌∷◌, ◌++◌, Option, Some, None, option_map, option_and_then, refl, ap, sym, ◌∙◌, subst, codes}
 use Rattle.std.specs.Str.{bytes_eq}
 use Rattle.std.proofs.lemmas.Slice.Eq.{bytes_eq-Decides}
-use Rattle.job_commands.specs.declared.commands.Operation.{Operation}
+use Rattle.job_commands.specs.declared.commands.Opcode.{Opcode}
 use Rattle.job_commands.specs.declared.commands.Place.{Place}
 use Rattle.job_commands.specs.declared.commands.Place.TheVariants.{Fresh}
 use Rattle.job_text.specs.declared.job.Counts.{Counts}
@@ -19,29 +19,29 @@ use Rattle.job_commands.specs.Commands.{Form, form_in, filled, command_in, comma
 use Rattle.job_text.specs.Drafts.{AreOperands, IsOperand}
 
 -- The command of a line in a table, and its places.
-record IsFilled (forms : List Form) (before : List (Place × Word)) (command : Word) (words : List Word) (operation : Operation) (slots : List (Place × Word)) : Type 0 where
+record IsFilled (forms : List Form) (before : List (Place × Word)) (command : Word) (words : List Word) (opcode : Opcode) (slots : List (Place × Word)) : Type 0 where
   own : Form
   found : form_in forms command ≡ Some own
   behind : List (Place × Word)
   fills : filled own.places own.repeated words ≡ Some behind
-  does : own.operation ≡ operation
+  does : own.opcode ≡ opcode
   all : before ++ behind ≡ slots
 
-filled_from : (forms : List Form) (before : List (Place × Word)) (command : Word) (words : List Word) (operation : Operation) (slots : List (Place × Word)) → command_in forms before command words ≡ Some (operation, slots)
-    → IsFilled forms before command words operation slots
-filled_from forms before command words operation slots h = by_form (form_in forms command) refl h
+filled_from : (forms : List Form) (before : List (Place × Word)) (command : Word) (words : List Word) (opcode : Opcode) (slots : List (Place × Word)) → command_in forms before command words ≡ Some (opcode, slots)
+    → IsFilled forms before command words opcode slots
+filled_from forms before command words opcode slots h = by_form (form_in forms command) refl h
   where
     by_slots : (own : Form) → form_in forms command ≡ Some own → (o : Option (List (Place × Word))) → filled own.places own.repeated words ≡ o
-        → option_map {U = Operation × List (Place × Word)} (λ more. (own.operation, before ++ more)) o ≡ Some (operation, slots) → IsFilled forms before command words operation slots
+        → option_map {U = Opcode × List (Place × Word)} (λ more. (own.opcode, before ++ more)) o ≡ Some (opcode, slots) → IsFilled forms before command words opcode slots
     by_slots own e None f g = cc
     by_slots own e (Some behind) f g =
-        let one : Operation × List (Place × Word) = (own.operation, before ++ behind) in
-        let other : Operation × List (Place × Word) = (operation, slots) in
+        let one : Opcode × List (Place × Word) = (own.opcode, before ++ behind) in
+        let other : Opcode × List (Place × Word) = (opcode, slots) in
         let same : one ≡ other = cc in
         record { own = own; found = e; behind = behind; fills = f; does = ap (λ t. t.0) same; all = ap (λ t. t.1) same }
 
     by_form : (o : Option Form) → form_in forms command ≡ o
-        → option_and_then (λ own. option_map {U = Operation × List (Place × Word)} (λ more. (own.operation, before ++ more)) (filled own.places own.repeated words)) o ≡ Some (operation, slots) → IsFilled forms before command words operation slots
+        → option_and_then (λ own. option_map {U = Opcode × List (Place × Word)} (λ more. (own.opcode, before ++ more)) (filled own.places own.repeated words)) o ≡ Some (opcode, slots) → IsFilled forms before command words opcode slots
     by_form None e g = cc
     by_form (Some own) e g = by_slots own e (filled own.places own.repeated words) refl g
 
@@ -89,10 +89,10 @@ target_is n rs r (operands.Value w) h = cc h.0
 target_is n rs r (operands.Bit b) h = cc h.0
 target_is n rs r (operands.Bits bits) h = cc h.0
 
-assigns_from : (n : Counts) (rs : List Register) (words : List Word) (r command : Word) (rest : List Word) (operation : Operation) (slots : List (Place × Word)) (os : List Operand)
-    → words ≡ r ∷ codes "=" ∷ command ∷ rest → IsFilled assigning ((Fresh, r) ∷ []) command rest operation slots → AreOperands n rs slots os → AllFit n rs no_operands os → Says n rs words (act_of operation (with_operands rs no_operands os))
-assigns_from n rs words r command rest operation slots [] e h a new = absurd (subst (λ (t : List (Place × Word)). AreOperands n rs t []) (sym h.all) a)
-assigns_from n rs words r command rest operation slots (o ∷ os) e h a new =
+assigns_from : (n : Counts) (rs : List Register) (words : List Word) (r command : Word) (rest : List Word) (opcode : Opcode) (slots : List (Place × Word)) (os : List Operand)
+    → words ≡ r ∷ codes "=" ∷ command ∷ rest → IsFilled assigning ((Fresh, r) ∷ []) command rest opcode slots → AreOperands n rs slots os → AllFit n rs no_operands os → Says n rs words (act_of opcode (with_operands rs no_operands os))
+assigns_from n rs words r command rest opcode slots [] e h a new = absurd (subst (λ (t : List (Place × Word)). AreOperands n rs t []) (sym h.all) a)
+assigns_from n rs words r command rest opcode slots (o ∷ os) e h a new =
     let all : IsOperand n rs (Fresh, r) o × AreOperands n rs h.behind os = subst (λ (t : List (Place × Word)). AreOperands n rs t (o ∷ os)) (sym h.all) a in
     let target = target_is n rs r o all.0 in
     let own = meant n rs h.own.places h.own.repeated rest h.behind os h.fills all.1 in
@@ -100,12 +100,12 @@ assigns_from n rs words r command rest operation slots (o ∷ os) e h a new =
       own = h.own;
       operands = os;
       forms = assigns r command rest e target.0 (record { found = h.found; follows = own.0; stand = own.1; fit = subst (λ (t : Operands). AllFit n rs t os) target.1 new.1 });
-      means = ap (λ t. act_of operation (with_operands rs t os)) target.1 ∙ ap (λ t. act_of t (with_operands rs no_operands os)) (sym h.does);
+      means = ap (λ t. act_of opcode (with_operands rs t os)) target.1 ∙ ap (λ t. act_of t (with_operands rs no_operands os)) (sym h.does);
     }
 
-tells_from : (n : Counts) (rs : List Register) (words : List Word) (command : Word) (rest : List Word) (operation : Operation) (slots : List (Place × Word)) (os : List Operand)
-    → words ≡ command ∷ rest → IsFilled telling [] command rest operation slots → AreOperands n rs slots os → AllFit n rs no_operands os → Says n rs words (act_of operation (with_operands rs no_operands os))
-tells_from n rs words command rest operation slots os e h a new =
+tells_from : (n : Counts) (rs : List Register) (words : List Word) (command : Word) (rest : List Word) (opcode : Opcode) (slots : List (Place × Word)) (os : List Operand)
+    → words ≡ command ∷ rest → IsFilled telling [] command rest opcode slots → AreOperands n rs slots os → AllFit n rs no_operands os → Says n rs words (act_of opcode (with_operands rs no_operands os))
+tells_from n rs words command rest opcode slots os e h a new =
     let all : AreOperands n rs h.behind os = subst (λ (t : List (Place × Word)). AreOperands n rs t os) (sym h.all) a in
     let own = meant n rs h.own.places h.own.repeated rest h.behind os h.fills all in
     record {
@@ -115,18 +115,18 @@ tells_from n rs words command rest operation slots os e h a new =
       means = ap (λ t. act_of t (with_operands rs no_operands os)) (sym h.does);
     }
 
-pub says_from : (n : Counts) (rs : List Register) (words : List Word) (operation : Operation) (slots : List (Place × Word)) (os : List Operand) → command_of words ≡ Some (operation, slots) → AreOperands n rs slots os
-    → AllFit n rs no_operands os → Says n rs words (act_of operation (with_operands rs no_operands os))
-says_from n rs [] operation slots os e h new = cc
-says_from n rs (first ∷ []) operation slots os e h new = tells_from n rs (first ∷ []) first [] operation slots os refl (filled_from telling [] first [] operation slots e) h new
-says_from n rs (first ∷ second ∷ []) operation slots os e h new =
-    tells_from n rs (first ∷ second ∷ []) first (second ∷ []) operation slots os refl (filled_from telling [] first (second ∷ []) operation slots e) h new
-says_from n rs (first ∷ second ∷ third ∷ words) operation slots os e h new = by_cases (bytes_eq second (codes "=")) refl
+pub says_from : (n : Counts) (rs : List Register) (words : List Word) (opcode : Opcode) (slots : List (Place × Word)) (os : List Operand) → command_of words ≡ Some (opcode, slots) → AreOperands n rs slots os
+    → AllFit n rs no_operands os → Says n rs words (act_of opcode (with_operands rs no_operands os))
+says_from n rs [] opcode slots os e h new = cc
+says_from n rs (first ∷ []) opcode slots os e h new = tells_from n rs (first ∷ []) first [] opcode slots os refl (filled_from telling [] first [] opcode slots e) h new
+says_from n rs (first ∷ second ∷ []) opcode slots os e h new =
+    tells_from n rs (first ∷ second ∷ []) first (second ∷ []) opcode slots os refl (filled_from telling [] first (second ∷ []) opcode slots e) h new
+says_from n rs (first ∷ second ∷ third ∷ words) opcode slots os e h new = by_cases (bytes_eq second (codes "=")) refl
   where
-    by_cases : (b : Bool) → bytes_eq second (codes "=") ≡ b → Says n rs (first ∷ second ∷ third ∷ words) (act_of operation (with_operands rs no_operands os))
+    by_cases : (b : Bool) → bytes_eq second (codes "=") ≡ b → Says n rs (first ∷ second ∷ third ∷ words) (act_of opcode (with_operands rs no_operands os))
     by_cases true f =
-        assigns_from n rs (first ∷ second ∷ third ∷ words) first third words operation slots os (ap (λ t. first ∷ t ∷ third ∷ words) ((bytes_eq-Decides second (codes "=")).0 f))
-        (filled_from assigning ((Fresh, first) ∷ []) third words operation slots (sym (ap (λ b. cond b (assignment_of first third words) (telling_of first (second ∷ third ∷ words))) f) ∙ e)) h new
+        assigns_from n rs (first ∷ second ∷ third ∷ words) first third words opcode slots os (ap (λ t. first ∷ t ∷ third ∷ words) ((bytes_eq-Decides second (codes "=")).0 f))
+        (filled_from assigning ((Fresh, first) ∷ []) third words opcode slots (sym (ap (λ b. cond b (assignment_of first third words) (telling_of first (second ∷ third ∷ words))) f) ∙ e)) h new
     by_cases false f =
-        tells_from n rs (first ∷ second ∷ third ∷ words) first (second ∷ third ∷ words) operation slots os refl
-        (filled_from telling [] first (second ∷ third ∷ words) operation slots (sym (ap (λ b. cond b (assignment_of first third words) (telling_of first (second ∷ third ∷ words))) f) ∙ e)) h new
+        tells_from n rs (first ∷ second ∷ third ∷ words) first (second ∷ third ∷ words) opcode slots os refl
+        (filled_from telling [] first (second ∷ third ∷ words) opcode slots (sym (ap (λ b. cond b (assignment_of first third words) (telling_of first (second ∷ third ∷ words))) f) ∙ e)) h new

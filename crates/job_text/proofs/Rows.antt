@@ -14,8 +14,8 @@ use Rattle.function_laws.specs.declared.making.BddMaking.TheVariants as bdds
 use Rattle.function_laws.specs.declared.making.Making.TheVariants as makings
 use Rattle.job_text.specs.declared.job.Counts.{Counts}
 use Rattle.job_text.specs.declared.job.Register.{Register}
-use Rattle.job_commands.specs.declared.commands.Operation.{Operation}
-use Rattle.job_commands.specs.declared.commands.Operation.TheVariants as does
+use Rattle.job_commands.specs.declared.commands.Opcode.{Opcode}
+use Rattle.job_commands.specs.declared.commands.Opcode.TheVariants as does
 use Rattle.job_commands.specs.declared.commands.Place.{Place}
 use Rattle.job_commands.specs.declared.commands.Place.TheVariants.{Fresh, Held, Any, Alike, Variable, NewVariable, Element, Cell, Value, Bit, Bits}
 use Rattle.job_text.specs.declared.faults.FaultKind.TheVariants as kinds
@@ -150,16 +150,16 @@ module _ (n : Counts) (rs : List Register) where
 
   -- The operands that follow the places of a command are those of what it does.
   record IsRow (own : Form) : Type 0 where
-    takes : (os : List Operand) → Follows own.places own.repeated os → AllFit n rs no_operands os → Takes (act_of own.operation (with_operands rs no_operands os)) os
+    takes : (os : List Operand) → Follows own.places own.repeated os → AllFit n rs no_operands os → Takes (act_of own.opcode (with_operands rs no_operands os)) os
 
   -- where that is so of the operands as the places have them
-  along : (operation : Operation) (os given : List Operand) → os ≡ given → Takes (act_of operation (with_operands rs no_operands given)) given → Takes (act_of operation (with_operands rs no_operands os)) os
-  along operation os given e h = subst (λ (t : List Operand). Takes (act_of operation (with_operands rs no_operands t)) t) (sym e) h
+  along : (opcode : Opcode) (os given : List Operand) → os ≡ given → Takes (act_of opcode (with_operands rs no_operands given)) given → Takes (act_of opcode (with_operands rs no_operands os)) os
+  along opcode os given e h = subst (λ (t : List Operand). Takes (act_of opcode (with_operands rs no_operands t)) t) (sym e) h
 
-  plain : (word : Word) (operation : Operation) (due : List Place)
-      → ((given : Given due) → Takes (act_of operation (with_operands rs no_operands (operands_with due given))) (operands_with due given))
-      → IsRow (record { word = word; operation = operation; places = due; repeated = [] })
-  plain word operation due h = record { takes = λ os follows fit. let g = all_given due os follows in along operation os (operands_with due g.0) g.1 (h g.0) }
+  plain : (word : Word) (opcode : Opcode) (due : List Place)
+      → ((given : Given due) → Takes (act_of opcode (with_operands rs no_operands (operands_with due given))) (operands_with due given))
+      → IsRow (record { word = word; opcode = opcode; places = due; repeated = [] })
+  plain word opcode due h = record { takes = λ os follows fit. let g = all_given due os follows in along opcode os (operands_with due g.0) g.1 (h g.0) }
 
   -- variables that repeat
   only_variables : (os : List Operand) → Follows [] (Variable ∷ []) os → (vs : List ℕ) × (os ≡ map operands.Variable vs)
@@ -175,37 +175,37 @@ module _ (n : Counts) (rs : List Register) where
       with_variables (record given { variables = given.variables ++ v ∷ [] }) vs ∙ ap (λ us. record given { variables = us }) (append_assoc given.variables (v ∷ []) vs)
 
   -- a register and variables
-  one_and_variables : (operation : Operation) (a : ℕ) (vs : List ℕ)
-      → Takes (act_of operation (record (with_operand rs no_operands (operands.Register Bdd a)) { variables = vs })) (operands.Register Bdd a ∷ map operands.Variable vs)
-      → Takes (act_of operation (with_operands rs no_operands (operands.Register Bdd a ∷ map operands.Variable vs))) (operands.Register Bdd a ∷ map operands.Variable vs)
-  one_and_variables operation a vs h =
+  one_and_variables : (opcode : Opcode) (a : ℕ) (vs : List ℕ)
+      → Takes (act_of opcode (record (with_operand rs no_operands (operands.Register Bdd a)) { variables = vs })) (operands.Register Bdd a ∷ map operands.Variable vs)
+      → Takes (act_of opcode (with_operands rs no_operands (operands.Register Bdd a ∷ map operands.Variable vs))) (operands.Register Bdd a ∷ map operands.Variable vs)
+  one_and_variables opcode a vs h =
       let given = operands.Register Bdd a ∷ map operands.Variable vs in
-      subst (λ (t : Operands). Takes (act_of operation t) given) (sym (with_variables (with_operand rs no_operands (operands.Register Bdd a)) vs)) h
+      subst (λ (t : Operands). Takes (act_of opcode t) given) (sym (with_variables (with_operand rs no_operands (operands.Register Bdd a)) vs)) h
 
-  quantified : (word : Word) (operation : Operation)
-      → ((a : ℕ) (vs : List ℕ) → Takes (act_of operation (record (with_operand rs no_operands (operands.Register Bdd a)) { variables = vs })) (operands.Register Bdd a ∷ map operands.Variable vs))
-      → IsRow (record { word = word; operation = operation; places = bdd_place ∷ []; repeated = Variable ∷ [] })
-  quantified word operation h = record {
+  quantified : (word : Word) (opcode : Opcode)
+      → ((a : ℕ) (vs : List ℕ) → Takes (act_of opcode (record (with_operand rs no_operands (operands.Register Bdd a)) { variables = vs })) (operands.Register Bdd a ∷ map operands.Variable vs))
+      → IsRow (record { word = word; opcode = opcode; places = bdd_place ∷ []; repeated = Variable ∷ [] })
+  quantified word opcode h = record {
     takes = λ os follows fit.
         let x = first_due bdd_place [] (Variable ∷ []) os follows in
         let vs = only_variables x.1 x.3 in
         let given = operands.Register Bdd x.0 ∷ map operands.Variable vs.0 in
-        along operation os given (x.2 ∙ ap (λ t. operands.Register Bdd x.0 ∷ t) vs.1) (one_and_variables operation x.0 vs.0 (h x.0 vs.0));
+        along opcode os given (x.2 ∙ ap (λ t. operands.Register Bdd x.0 ∷ t) vs.1) (one_and_variables opcode x.0 vs.0 (h x.0 vs.0));
   }
 
   -- two registers and variables
-  conjoined : (word : Word) (operation : Operation)
-      → ((a b : ℕ) (vs : List ℕ) → Takes (act_of operation (record (with_operands rs no_operands (operands.Register Bdd a ∷ operands.Register Bdd b ∷ [])) { variables = vs })) (operands.Register Bdd a ∷ operands.Register Bdd b ∷ map operands.Variable vs))
-      → IsRow (record { word = word; operation = operation; places = bdd_place ∷ bdd_place ∷ []; repeated = Variable ∷ [] })
-  conjoined word operation h = record {
+  conjoined : (word : Word) (opcode : Opcode)
+      → ((a b : ℕ) (vs : List ℕ) → Takes (act_of opcode (record (with_operands rs no_operands (operands.Register Bdd a ∷ operands.Register Bdd b ∷ [])) { variables = vs })) (operands.Register Bdd a ∷ operands.Register Bdd b ∷ map operands.Variable vs))
+      → IsRow (record { word = word; opcode = opcode; places = bdd_place ∷ bdd_place ∷ []; repeated = Variable ∷ [] })
+  conjoined word opcode h = record {
     takes = λ os follows fit.
         let x = first_due bdd_place (bdd_place ∷ []) (Variable ∷ []) os follows in
         let y = first_due bdd_place [] (Variable ∷ []) x.1 x.3 in
         let vs = only_variables y.1 y.3 in
         let two = operands.Register Bdd x.0 ∷ operands.Register Bdd y.0 ∷ [] in
         let given = operands.Register Bdd x.0 ∷ operands.Register Bdd y.0 ∷ map operands.Variable vs.0 in
-        along operation os given (x.2 ∙ ap (λ t. operands.Register Bdd x.0 ∷ t) (y.2 ∙ ap (λ t. operands.Register Bdd y.0 ∷ t) vs.1))
-        (subst (λ (t : Operands). Takes (act_of operation t) given) (sym (with_variables (with_operands rs no_operands two) vs.0)) (h x.0 y.0 vs.0));
+        along opcode os given (x.2 ∙ ap (λ t. operands.Register Bdd x.0 ∷ t) (y.2 ∙ ap (λ t. operands.Register Bdd y.0 ∷ t) vs.1))
+        (subst (λ (t : Operands). Takes (act_of opcode t) given) (sym (with_variables (with_operands rs no_operands two) vs.0)) (h x.0 y.0 vs.0));
   }
 
   -- pairs that repeat
@@ -239,7 +239,7 @@ module _ (n : Counts) (rs : List Register) where
       ∙ ap (λ (t : List ℕ). act_of (does.Makes (makings.Bdd (bdds.VectorCompose tt tt))) (record given { registers = a ∷ map (λ (pair : ℕ × ℕ). pair.1) ps; variables = t })) v
       ∙ ap (λ t. acts.Makes (makings.Bdd (bdds.VectorCompose a t))) (zipped ps)
 
-  composed : (word : Word) → IsRow (record { word = word; operation = does.Makes (makings.Bdd (bdds.VectorCompose tt tt)); places = bdd_place ∷ NewVariable ∷ bdd_place ∷ []; repeated = NewVariable ∷ bdd_place ∷ [] })
+  composed : (word : Word) → IsRow (record { word = word; opcode = does.Makes (makings.Bdd (bdds.VectorCompose tt tt)); places = bdd_place ∷ NewVariable ∷ bdd_place ∷ []; repeated = NewVariable ∷ bdd_place ∷ [] })
   composed word = record {
     takes = λ os follows fit.
         let x = first_due bdd_place (NewVariable ∷ bdd_place ∷ []) (NewVariable ∷ bdd_place ∷ []) os follows in
@@ -269,7 +269,7 @@ module _ (n : Counts) (rs : List Register) where
           let k : Some kinds.Range ≡ None = sym (ap (λ t. cond t None (Some kinds.Range)) e) ∙ h in
           cc
 
-  compared : (word : Word) → IsRow (record { word = word; operation = does.Same; places = Any ∷ Alike ∷ []; repeated = [] })
+  compared : (word : Word) → IsRow (record { word = word; opcode = does.Same; places = Any ∷ Alike ∷ []; repeated = [] })
   compared word = record {
     takes = λ os follows fit.
         let g = all_given (Any ∷ Alike ∷ []) os follows in
@@ -278,7 +278,7 @@ module _ (n : Counts) (rs : List Register) where
         along does.Same os given g.1 (refl, alike_are (kind_at rs g.0.0) (kind_at rs g.0.1.0) all.1.0);
   }
 
-  evaluated : (word : Word) → IsRow (record { word = word; operation = does.Eval; places = Any ∷ Bits ∷ []; repeated = [] })
+  evaluated : (word : Word) → IsRow (record { word = word; opcode = does.Eval; places = Any ∷ Bits ∷ []; repeated = [] })
   evaluated word = record {
     takes = λ os follows fit.
         let g = all_given (Any ∷ Bits ∷ []) os follows in
@@ -288,10 +288,10 @@ module _ (n : Counts) (rs : List Register) where
   }
 
   -- a command that makes a function, from operands that its places give alone
-  makes : {word : Word} {operation : Operation} {due : List Place}
-      → ((given : Given due) → Takes (act_of operation (with_operands rs no_operands (operands_with due given))) (operands_with due given))
-      → IsRow (record { word = word; operation = operation; places = due; repeated = [] })
-  makes {word} {operation} {due} h = plain word operation due h
+  makes : {word : Word} {opcode : Opcode} {due : List Place}
+      → ((given : Given due) → Takes (act_of opcode (with_operands rs no_operands (operands_with due given))) (operands_with due given))
+      → IsRow (record { word = word; opcode = opcode; places = due; repeated = [] })
+  makes {word} {opcode} {due} h = plain word opcode due h
 
   -- each command that assigns, in the order of the table
   each_assigns : EachRow IsRow assigning
@@ -419,6 +419,6 @@ module _ (n : Counts) (rs : List Register) where
   pub takes : (words : List Word) (act : Act) (says : Says n rs words act) → Takes act says.operands
   takes words act says = subst (λ (t : Act). Takes t says.operands) (sym says.means) (by says.forms)
     where
-      by : Forms n rs words says.own says.operands → Takes (act_of says.own.operation (with_operands rs no_operands says.operands)) says.operands
+      by : Forms n rs words says.own says.operands → Takes (act_of says.own.opcode (with_operands rs no_operands says.operands)) says.operands
       by (assigns r command rest e fresh is) = (row_has IsRow assigning command says.own is.found each_assigns).0.takes says.operands is.follows is.fit
       by (tells command rest e is) = (row_has IsRow telling command says.own is.found each_tells).0.takes says.operands is.follows is.fit
