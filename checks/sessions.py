@@ -3,7 +3,7 @@
 usage: sessions.py PROGRAM EXAMPLE..
 
 Each example is played some times, and so is a job of 64 sections with 200 calls each. A comment behind `eval`, `same` or `leq` begins
-with the reply that is due. Then come two long jobs of one section: one that makes more dead nodes than there are slots, and one that
+with the reply that is due, and one behind an assignment may begin with `overflow` or `full`. Then come two long jobs of one section: one that makes more dead nodes than there are slots, and one that
 makes and drops many registers.
 """
 import random
@@ -27,9 +27,9 @@ def said(job):
     """The calls with a comment behind them, each with the reply that it says."""
     for line in job.split("\n"):
         call, _, comment = line.partition("#")
-        words = call.split()
-        if words[:1] and words[0] in ("eval", "same", "leq") and comment.split():
-            yield " ".join(words), comment.split()[0].rstrip(":")
+        words, reply = call.split(), (comment.split() or [""])[0].rstrip(":")
+        if words and reply and (words[0] in ("eval", "same", "leq") or reply in ("overflow", "full")):
+            yield " ".join(words), reply
 
 
 def judge_with_comments(job, history):
