@@ -7,6 +7,8 @@ from itertools import product
 
 LEAST, MOST = -(2**46), 2**46 - 1
 MANY = 10
+# At how many places an answer of `restrict` may be left free, so that all of them are gone through.
+FREE = 8
 # The commands whose result is there already, so that they are never refused a slot.
 READY = {"true", "false", "var", "not", "empty", "base", "copy", "fetch"}
 # The commands that make numbers and families. What copies and fetches make is of the kind of their operand, the others make BDDs.
@@ -116,9 +118,15 @@ def may_restrict_to(f, c, r, n):
 
 def restrictions(f, c, n):
     """All answers that a restrict of f by c may give."""
-    if n > 3:
+    literals = literals_of(c, n)
+    if literals is not None or not any(c):
+        for v, bit in literals or []:
+            f = cofactor(f, v, bit)
+        return [f if any(c) else (0,) * len(f)]
+    if c.count(0) > FREE:
         raise TooLarge
-    return [r for r in product((0, 1), repeat=len(f)) if may_restrict_to(f, c, r, n)]
+    answers = product(*[(f[k],) if c[k] else (0, 1) for k in range(len(f))])
+    return [r for r in answers if may_restrict_to(f, c, r, n)]
 
 
 def product_of(p, q):

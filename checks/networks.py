@@ -5,7 +5,8 @@ usage: networks.py PROGRAM
 
 Each network here is a text of the Berkeley Logic Interchange Format with a few inputs, and the words behind `build`. Its outputs
 are evaluated at each assignment of the inputs; classes, values and the number of nodes are counted from these tables, where no
-node occurs: the nodes are the distinct functions, up to complement, among the cofactors by the first inputs. The networks of `gen` have known summaries.
+node occurs: the nodes are the distinct functions, up to complement, among the cofactors by the first inputs. A comment of an example
+that begins with `out`, `eval` or `nodes` is a line of its report. The networks of `gen` have known summaries.
 """
 import random
 import subprocess
@@ -126,6 +127,24 @@ def generated(program):
     return faults
 
 
+def said(text):
+    """The lines of the report that comments tell."""
+    lines = [line[2:] for line in text.split("\n") if line.startswith("# ")]
+    return [line for line in lines if line.split()[:1] and line.split()[0] in ("out", "eval", "nodes")]
+
+
+def in_one_text(first, second):
+    words = [sys.executable, "examples/one_text.py", f"examples/{first}.blif", f"examples/{second}.blif"]
+    return subprocess.run(words, capture_output=True, check=True, text=True).stdout
+
+
+def pairs():
+    """Two networks in one text, each with the lines that say which outputs are equal: their numbers, and the signs."""
+    yield "chain", "far_chain", ["out 1 2.f 0 +"]
+    yield "differs", "differs", ["out 2 2.carry 0 +", "out 3 2.broken 1 +"]
+    yield "adders", "adders", ["out 7 2.s0 0 +", "out 12 2.t2 2 +", "out 13 2.even 0 -"]
+
+
 def main():
     program = sys.argv[1]
     jobs = []
@@ -135,17 +154,25 @@ def main():
         ("far_chain", ["100100", "111000"]),
         ("faults", ["110000", "100000", "000011"]),
         ("arbiter", ["1010000000", "1010010000"]),
+        ("differs", ["0110", "1111", "1010"]),
+        ("differs_fixed", ["00", "10", "01", "11"]),
     ]:
         with open(f"examples/{name}.blif") as file:
-            jobs.append((name, file.read(), patterns))
+            text = file.read()
+        jobs.append((name, text, patterns, said(text)))
+    jobs += [(f"{first} and {second}", in_one_text(first, second), [], lines) for first, second, lines in pairs()]
     rng = random.Random(2026)
     for k in range(300):
         patterns = ["".join(rng.choice("01") for _ in range(rng.randint(1, 8))) for _ in range(rng.randint(0, 3))]
-        jobs.append((f"network {k}", made(rng), patterns))
+        jobs.append((f"network {k}", made(rng), patterns, []))
     faults = generated(program)
-    for name, text, patterns in jobs:
+    for name, text, patterns, lines in jobs:
         ran = subprocess.run([program, "build", *patterns], input=text.encode(), capture_output=True, timeout=60)
         due = report(text, patterns)
+        missing = [line for line in lines if line not in due.split("\n")]
+        if missing:
+            faults += 1
+            print(f"NOT IN THE REPORT of {name}: {missing}")
         if ran.returncode != 0 or ran.stderr or ran.stdout.decode() != due:
             faults += 1
             print(f"NOT AS DUE {name}: status {ran.returncode}\n{text}\ncame\n{ran.stdout.decode()}\ndue\n{due}")

@@ -3,8 +3,9 @@
 usage: sessions.py PROGRAM EXAMPLE..
 
 Each example is played some times, and so is a job of 64 sections with 200 calls each. A comment behind `eval`, `same` or `leq` begins
-with the reply that is due. Then come two long jobs of one section: one that makes more dead nodes than there are slots, and one that
-makes and drops many registers.
+with the reply that is due, and one behind an assignment may begin with `overflow` or `full`. Then come jobs in whose full table a dropped
+number makes room for the last one that is made, and two long jobs of one section: one that makes more dead nodes than there are slots, and
+one that makes and drops many registers.
 """
 import random
 import subprocess
@@ -27,9 +28,9 @@ def said(job):
     """The calls with a comment behind them, each with the reply that it says."""
     for line in job.split("\n"):
         call, _, comment = line.partition("#")
-        words = call.split()
-        if words[:1] and words[0] in ("eval", "same", "leq") and comment.split():
-            yield " ".join(words), comment.split()[0].rstrip(":")
+        words, reply = call.split(), (comment.split() or [""])[0].rstrip(":")
+        if words and reply and (words[0] in ("eval", "same", "leq") or reply in ("overflow", "full")):
+            yield " ".join(words), reply
 
 
 def judge_with_comments(job, history):
@@ -118,6 +119,28 @@ def dead_nodes(count, most):
     return "\n".join(lines) + "\n", ends
 
 
+# The limit, and the commands: all slots are in use before the last number is made, and one of them is dead. 5 slots and one for the
+# variable are permanent, and so are the numbers 0 and 1.
+ROOMS = {
+    "plus": (7, ["k = num 5", "drop k", "a = num 1", "s = plus a a", "eval s 0 # 2"]),
+    "minus": (7, ["k = num 5", "drop k", "a = num 0", "b = num 1", "s = minus a b", "eval s 0 # -1"]),
+    "times": (8, ["a = num 2", "k = num 5", "drop k", "s = times a a", "eval s 0 # 4"]),
+    "sum": (7, ["k = num 5", "drop k", "a = num 1", "s = sum a 0", "eval s 1 # 2"]),
+}
+
+
+def makes_room(program, word):
+    """What is wrong with the play in which a dead number makes room for one by this word, or nothing."""
+    limit, lines = ROOMS[word]
+    job = "\n".join(["vars 1", f"limit {limit}", "session", *lines]) + "\n"
+    try:
+        history = played(program, job)
+        judge_with_comments(job, history)
+        return f"full before a sweep:\n{history}" if " -> full" in history else ""
+    except Illegal as fault:
+        return str(fault)
+
+
 def many_registers(count):
     lines = ["vars 4", "session"] + [f"v{v} = var {v}" for v in range(4)]
     for step in range(count):
@@ -142,12 +165,17 @@ def main(program, *examples):
                 print(f"NO LEGAL HISTORY of {name}: {fault}")
                 faults += 1
                 break
+    for word in ROOMS:
+        fault = makes_room(program, word)
+        if fault:
+            print(f"NOT AS DUE room for {word}: {fault}")
+            faults += 1
     for name, (job, due) in (("dead nodes", dead_nodes(346_000, 20)), ("many registers", many_registers(500_000))):
         history = played(program, job)
         if evals(history) != due or " -> full" in history:
             print(f"NOT AS DUE {name}: {evals(history)}, due {due}")
             faults += 1
-    print(f"{len(examples)} examples and {RUNS} runs of 64 sessions judged, and 2 long jobs: {faults} faults")
+    print(f"{len(examples)} examples, {RUNS} runs of 64 sessions, {len(ROOMS)} full tables and 2 long jobs: {faults} faults")
     return faults > 0
 
 
