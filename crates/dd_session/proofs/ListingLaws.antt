@@ -2,8 +2,8 @@
 use Rattle.std.proofs.Common.{◌≡◌, ℕ, ◌^◌, ◌<◌, Bool, List, [], ◌∷◌, ◌++◌, All, length, map, Option, Some, Result, Ok, Err, IfOk, refl, ap, ap₂, sym, subst, ◌∙◌, arith}
 use Rattle.std.proofs.lemmas.List.Elements.{All-cons, All-head, All-nil, All-tail}
 use Rattle.atomic_table.specs.Seated.{TableId}
-use Rattle.dddmp_text.specs.declared.listings.Listing.{Listing}
-use Rattle.dddmp_text.specs.Listings.{IsListing}
+use Rattle.diagram_dumps.specs.declared.listings.Listing.{Listing}
+use Rattle.diagram_dumps.specs.Listings.{IsListing}
 use Rattle.edge_bits.specs.declared.edges.Edge.{Edge}
 use Rattle.edge_bits.specs.declared.lists.Memory.{Memory}
 use Rattle.edge_bits.specs.declared.edges.Kind.TheVariants as kinds

@@ -1,7 +1,7 @@
 -- What a listing of rows tells.
 use Rattle.std.specs.Prelude.{◌≡◌, ℕ, ◌^◌, ◌<◌, Bool, List, [], ◌∷◌, ◌++◌, All, length, map, Some}
-use Rattle.dddmp_text.specs.declared.listings.Listing.{Listing}
-use Rattle.dddmp_text.specs.Listings.{IsListing}
+use Rattle.diagram_dumps.specs.declared.listings.Listing.{Listing}
+use Rattle.diagram_dumps.specs.Listings.{IsListing}
 use Rattle.function_laws.specs.declared.history.Entry.{Entry}
 use Rattle.function_laws.specs.declared.history.Function.TheVariants.{Bdd}
 use Rattle.function_laws.specs.declared.history.Name.{Name}

@@ -15,7 +15,7 @@ ghost use Rattle.dd_session.specs.Works.{StoresNothing};
 
 use crate::book::Book;
 use crate::drawing::edge_at;
-use dddmp_text::Listing;
+use diagram_dumps::Listing;
 use edge_bits::{Edge, Memory};
 use function_laws::Name;
 use seat_guard::seat::{Guard, Pass};

@@ -10,7 +10,7 @@ use Rattle.dddmp_text.specs.Fields.{is_small, is_small_integer}
 use Rattle.dddmp_text.specs.Faults.{fault_if, is_bad_root, or_else}
 use Rattle.dddmp_text.proofs.Decimals.{both_true, decimal-integer, decimal-number, decimal-value, decimal-word, is_word, signed-integer, signed-value, signed-word}
 use Rattle.dddmp_text.proofs.NodeSteps.{lt_test}
-use Rattle.dddmp_text.proofs.Walks.{AreLines}
+use Rattle.diagram_dumps.proofs.Walks.{AreLines}
 
 -- lists of small numbers
 abbrev pub AreSmall : List ℕ → Type 0

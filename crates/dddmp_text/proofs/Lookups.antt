@@ -7,7 +7,8 @@ use Rattle.std.proofs.lemmas.List.Kept.{AllPairs-from_increasing}
 use Rattle.std.proofs.lemmas.List.Sums.{fails_before_first, passes_at_first}
 use Rattle.std.proofs.lemmas.Bool.{eq-eqb, eqb-true}
 use Rattle.std.proofs.lemmas.Bool.Decides.{nat_tests}
-use Rattle.dddmp_text.specs.Dumps.{place_among, rank_of}
+use Rattle.dddmp_text.specs.Ranks.{rank_of}
+use Rattle.diagram_dumps.specs.Dumps.{place_among}
 
 -- the rank of one more id is set
 pub set_rank : (ids shown internals permids : List ℕ) (place rank : ℕ) → shown ≡ ids → IsStrictlyIncreasing ids → place < length ids

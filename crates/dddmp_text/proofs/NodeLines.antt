@@ -4,8 +4,8 @@ use Rattle.std.specs.List.{enumerate_from, flat_map}
 use Rattle.std.proofs.lemmas.List.{append-nil, length-take-le, take_more}
 use Rattle.std.proofs.lemmas.Grind.{flat_map-append}
 use Rattle.edge_bits.specs.declared.edges.Line.{Line}
-use Rattle.dddmp_text.specs.declared.dump.Dump.{Dump}
-use Rattle.dddmp_text.specs.Dumps.{internal_of}
+use Rattle.diagram_dumps.specs.declared.dump.Dump.{Dump}
+use Rattle.dddmp_text.specs.Ranks.{internal_of}
 use Rattle.dddmp_text.specs.Written.{AreInternals, node_item, node_items}
 use Rattle.dddmp_text.proofs.Counting.{enumerate-append}
 

@@ -12,20 +12,21 @@ use Rattle.std.proofs.lemmas.List.{append-nil}
 use Rattle.std.proofs.Math.Seq.{get_or-append_seam}
 use Rattle.job_words.specs.Text.{integer_value}
 use Rattle.edge_bits.specs.declared.edges.Line.{Line}
-use Rattle.dddmp_text.specs.declared.dump.Dump.{Dump}
+use Rattle.diagram_dumps.specs.declared.dump.Dump.{Dump}
 use Rattle.dddmp_text.specs.declared.fields.Field.TheVariants as fields
 use Rattle.dddmp_text.specs.declared.fields.Given.{Given}
 use Rattle.dddmp_text.specs.declared.faults.FaultKind.TheVariants as kinds
 use Rattle.dddmp_text.specs.Fields.{Fields, is_node, number, numbers}
-use Rattle.dddmp_text.specs.Dumps.{internal_of, place_among, variable_of}
+use Rattle.dddmp_text.specs.Ranks.{internal_of, variable_of}
+use Rattle.diagram_dumps.specs.Dumps.{place_among}
 use Rattle.dddmp_text.specs.Faults.{Context, after_words, ended, fault_if, fields_fault, listing, node_of, or_else, words_fault}
-use Rattle.dddmp_text.specs.WellMade.{IsWritable}
+use Rattle.diagram_dumps.specs.WellMade.{IsWritable}
 use Rattle.dddmp_text.proofs.Decimals.{both_true, decimal-digits, decimal-number, decimal-value, decimal-word, not_none, signed-integer, signed-value, signed-word}
 use Rattle.dddmp_text.proofs.Lookups.{place_among-is}
 use Rattle.dddmp_text.proofs.Ranks.{rank-below, variable_of-rank}
 use Rattle.dddmp_text.proofs.Spelled.{Line as Words, is_line}
 use Rattle.dddmp_text.proofs.Steps.{Fine, left_by, words_of}
-use Rattle.dddmp_text.proofs.Walks.{IsEarlier, are_earlier}
+use Rattle.diagram_dumps.proofs.Walks.{IsEarlier, are_earlier}
 use Rattle.dddmp_text.proofs.WrittenLines.{end_lines, node_line, node_lines}
 
 -- the fields tell the ids, the positions and the counts of the dump

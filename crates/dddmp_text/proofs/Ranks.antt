@@ -5,7 +5,8 @@ use Rattle.std.specs.List.{range_with_len}
 use Rattle.std.specs.Option.{unwrap_or}
 use Rattle.std.proofs.lemmas.Bool.{eq-eqb, eqb-true}
 use Rattle.std.proofs.lemmas.Bool.Decides.{nat_tests}
-use Rattle.dddmp_text.specs.Dumps.{comes_before, place_among, place_of, rank_of, variable_of}
+use Rattle.dddmp_text.specs.Ranks.{comes_before, place_of, rank_of, variable_of}
+use Rattle.diagram_dumps.specs.Dumps.{place_among}
 use Rattle.dddmp_text.proofs.Counting.{count-more, count-most}
 use Rattle.dddmp_text.proofs.Lookups.{place_among-is}
 

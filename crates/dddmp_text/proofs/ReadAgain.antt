@@ -8,13 +8,14 @@ use Rattle.std.proofs.lemmas.List.{length-map}
 use Rattle.std.proofs.lemmas.List.Sums.{list_all-from_AllPass}
 use Rattle.job_words.specs.Text.{integer_value, is_number, lines_of}
 use Rattle.edge_bits.specs.declared.edges.Line.{Line}
-use Rattle.dddmp_text.specs.declared.dump.Dump.{Dump}
+use Rattle.edge_bits.specs.declared.limits.TheConstants.{MOST_VARIABLES}
+use Rattle.diagram_dumps.specs.declared.dump.Dump.{Dump}
 use Rattle.dddmp_text.specs.declared.fields.Field.TheVariants as fields
 use Rattle.dddmp_text.specs.declared.fields.Given.{Given}
 use Rattle.dddmp_text.specs.declared.faults.FaultKind.TheVariants as kinds
 use Rattle.dddmp_text.specs.Fields.{number, numbers, whole_numbers}
-use Rattle.dddmp_text.specs.Faults.{at_start, behind, dump_in, dump_of, ended, fault_if, fault_of, faulty_line, heading, is_bad_root, is_other_count, listing, most_variables, words_fault}
-use Rattle.dddmp_text.specs.WellMade.{IsWritable}
+use Rattle.dddmp_text.specs.Faults.{at_start, behind, dump_in, dump_of, ended, fault_if, fault_of, faulty_line, heading, is_bad_root, is_other_count, listing, words_fault}
+use Rattle.diagram_dumps.specs.WellMade.{IsWritable}
 use Rattle.dddmp_text.specs.Written.{written}
 use Rattle.dddmp_text.specs.Readings.{IsReadAgain, IsSmall}
 use Rattle.dddmp_text.proofs.Decimals.{both_true, decimal-integer}
@@ -22,7 +23,7 @@ use Rattle.dddmp_text.proofs.HeaderSteps.{AreSmall, are_small, few, no_header_fa
 use Rattle.dddmp_text.proofs.NodeSteps.{Read, Tell, lt_test, nodes_read}
 use Rattle.dddmp_text.proofs.Spelled.{Line as Words, is_line, joined, lines_of-text}
 use Rattle.dddmp_text.proofs.Steps.{Fine, fine-lines, left-lines, left_by}
-use Rattle.dddmp_text.proofs.Walks.{AreLines, are_lines}
+use Rattle.diagram_dumps.proofs.Walks.{AreLines, are_lines}
 use Rattle.dddmp_text.proofs.WrittenLines.{end_lines, header_lines, node_lines, written-text, written_lines}
 
 -- the fields of the header that is written
@@ -45,7 +46,7 @@ given_two = record { field = fields.Ver; numbers = [] } ∷ record { field = fie
 
 -- the numbers of the dump are small
 record Sizes (dump : Dump) : Type 0 where
-  variables : dump.nvars ≤ most_variables
+  variables : dump.nvars ≤ MOST_VARIABLES
   ids : AreSmall dump.ids
   permids : AreSmall dump.permids
   support : length dump.ids < 2 ^ 31
@@ -94,14 +95,14 @@ counts_fine dump may small =
     (same_count (map integer_value (map decimal dump.permids)) (length dump.ids) _ (length-map (map decimal dump.permids) integer_value ∙ length-map dump.permids decimal ∙ may.as_many) support))
     (same_count (map integer_value (map signed_decimal dump.roots)) (length dump.roots) _ (length-map (map signed_decimal dump.roots) integer_value ∙ length-map dump.roots signed_decimal) count)
 
-few_variables : (n : ℕ) → n ≤ 1024 → nat_lt 1024 n ≡ false
-few_variables n h = grind (arith, nat_tests)
+not_more : (most n : ℕ) → n ≤ most → nat_lt most n ≡ false
+not_more most n h = grind (arith, nat_tests)
 
 variables_fine : (dump : Dump) → IsWritable dump → Sizes dump
-    → (nat_lt most_variables (number (given_of dump) fields.Nvars) || not (list_all (λ id. nat_lt id (number (given_of dump) fields.Nvars)) (numbers (given_of dump) fields.Ids))) ≡ false
+    → (nat_lt MOST_VARIABLES (number (given_of dump) fields.Nvars) || not (list_all (λ id. nat_lt id (number (given_of dump) fields.Nvars)) (numbers (given_of dump) fields.Ids))) ≡ false
 variables_fine dump may small =
     let vars : number (given_of dump) fields.Nvars ≡ dump.nvars = ap nat_abs (decimal-integer dump.nvars (omega (arith, small.variables))) in
-    none_or _ _ (ap (λ n. nat_lt most_variables n) vars ∙ few_variables dump.nvars small.variables)
+    none_or _ _ (ap (λ n. nat_lt MOST_VARIABLES n) vars ∙ not_more MOST_VARIABLES dump.nvars small.variables)
     (ap (λ n. not (list_all (λ id. nat_lt id n) (numbers (given_of dump) fields.Ids))) vars
     ∙ ap (λ ids. not (list_all (λ id. nat_lt id dump.nvars) ids)) (numbers-values dump.ids small.ids)
     ∙ ap not (list_all-from_AllPass (λ id. nat_lt id dump.nvars) dump.ids (λ i d within. lt_test (get_or dump.ids i d) dump.nvars (may.below i d within))))

@@ -4,7 +4,7 @@ use Rattle.std.specs.Fmt.{digits}
 use Rattle.job_words.specs.Text.{lines_of, is_number}
 use Rattle.dddmp_text.specs.declared.faults.FaultKind.TheVariants as kinds
 use Rattle.dddmp_text.specs.Fields.{words_in}
-use Rattle.dddmp_text.specs.Dumps.{root_value, value_within}
+use Rattle.diagram_dumps.specs.Dumps.{root_value, value_within}
 use Rattle.dddmp_text.specs.Faults.{behind, dump_of, fault_of, faulty_line}
 use Rattle.dddmp_text.specs.Written.{counts, header, written}
 

@@ -5,8 +5,8 @@ use Rattle.std.specs.Fmt.{decimal, signed_decimal}
 use Rattle.std.proofs.lemmas.List.{append-nil}
 use Rattle.std.proofs.lemmas.Grind.{flat_map-append}
 use Rattle.edge_bits.specs.declared.edges.Line.{Line}
-use Rattle.dddmp_text.specs.declared.dump.Dump.{Dump}
-use Rattle.dddmp_text.specs.Dumps.{internal_of}
+use Rattle.diagram_dumps.specs.declared.dump.Dump.{Dump}
+use Rattle.dddmp_text.specs.Ranks.{internal_of}
 use Rattle.dddmp_text.specs.Written.{counts, header, item, node_item, node_items, written}
 use Rattle.dddmp_text.proofs.Spelled.{Line as Words, text_of}
 

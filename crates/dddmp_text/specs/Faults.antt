@@ -8,13 +8,14 @@ use Rattle.job_words.specs.Text.{Word, lines_of, integer_value}
 use Rattle.dddmp_text.specs.declared.fields.Field.{Field}
 use Rattle.dddmp_text.specs.declared.fields.Field.TheVariants as fields
 use Rattle.dddmp_text.specs.declared.fields.Given.{Given}
-use Rattle.dddmp_text.specs.declared.dump.Dump.{Dump}
+use Rattle.diagram_dumps.specs.declared.dump.Dump.{Dump}
 use Rattle.edge_bits.specs.declared.edges.Line.{Line}
+use Rattle.edge_bits.specs.declared.limits.TheConstants.{MOST_VARIABLES}
 use Rattle.dddmp_text.specs.declared.faults.DddmpFault.{DddmpFault}
 use Rattle.dddmp_text.specs.declared.faults.FaultKind.{FaultKind}
 use Rattle.dddmp_text.specs.declared.faults.FaultKind.TheVariants as kinds
 use Rattle.dddmp_text.specs.Fields.{words_in, passed_words, is_among, field_of, all_fields, has_form, numbers_of, is_given, numbers, whole_numbers, number, is_terminal, Fields, fields_of, is_node}
-use Rattle.dddmp_text.specs.Dumps.{variable_of}
+use Rattle.dddmp_text.specs.Ranks.{variable_of}
 
 abbrev pub or_else : Option FaultKind → Option FaultKind → Option FaultKind
 or_else None later = later
@@ -35,10 +36,6 @@ pub data Context : Type 0 where
 abbrev pub at_start : Context
 at_start = heading []
 
--- the most variables
-abbrev pub most_variables : ℕ
-most_variables = 1024
-
 -- the number of a list is not what a field says
 abbrev pub is_other_count : List Given → Field → Field → Bool
 is_other_count given list count = not (length (whole_numbers given list) == number given count)
@@ -52,7 +49,7 @@ abbrev pub nodes_fault : List Given → Option FaultKind
 nodes_fault given =
     or_else (fault_if (not (list_all (is_given given) all_fields)) kinds.Missing)
     (or_else (fault_if (is_other_count given fields.Ids fields.Nsuppvars || is_other_count given fields.Permids fields.Nsuppvars || is_other_count given fields.Rootids fields.Nroots) kinds.Count)
-    (or_else (fault_if (nat_lt most_variables (number given fields.Nvars) || not (list_all (λ id. nat_lt id (number given fields.Nvars)) (numbers given fields.Ids))) kinds.Variable)
+    (or_else (fault_if (nat_lt MOST_VARIABLES (number given fields.Nvars) || not (list_all (λ id. nat_lt id (number given fields.Nvars)) (numbers given fields.Ids))) kinds.Variable)
     (fault_if (list_any (is_bad_root (number given fields.Nnodes)) (whole_numbers given fields.Rootids)) kinds.Root)))
 
 -- of a field's line

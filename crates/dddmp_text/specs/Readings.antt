@@ -1,9 +1,10 @@
 -- A text has one reading: it is that of one dump, or it has one fault. What is written for a dump is read as that dump.
 use Rattle.std.specs.Prelude.{◌≡◌, ◌⊎◌, ◌+◌, ◌^◌, ◌<◌, ◌≤◌, ℕ, List, Some, All, length}
-use Rattle.dddmp_text.specs.declared.dump.Dump.{Dump}
+use Rattle.edge_bits.specs.declared.limits.TheConstants.{MOST_VARIABLES}
+use Rattle.diagram_dumps.specs.declared.dump.Dump.{Dump}
 use Rattle.dddmp_text.specs.declared.faults.DddmpFault.{DddmpFault}
-use Rattle.dddmp_text.specs.Faults.{IsDddmpText, fault_of, most_variables}
-use Rattle.dddmp_text.specs.WellMade.{IsWritable}
+use Rattle.dddmp_text.specs.Faults.{IsDddmpText, fault_of}
+use Rattle.diagram_dumps.specs.WellMade.{IsWritable}
 use Rattle.dddmp_text.specs.Written.{written}
 
 -- each text is that of a dump or has a fault
@@ -24,7 +25,7 @@ DumpOrFault = (text : List ℕ) (dump : Dump) (fault : DddmpFault) → IsDddmpTe
 
 -- a dump whose numbers may stand in a text
 pub record IsSmall (dump : Dump) : Type 0 where
-  pub variables : dump.nvars ≤ most_variables
+  pub variables : dump.nvars ≤ MOST_VARIABLES
   pub positions : All (λ position. position < 2 ^ 31) dump.permids
   pub nodes : length dump.nodes + 1 < 2 ^ 31
   pub roots : length dump.roots < 2 ^ 31

@@ -4,8 +4,8 @@ use Rattle.std.specs.List.{enumerate_from, flat_map}
 use Rattle.std.specs.Fmt.{decimal, signed_decimal}
 use Rattle.job_words.specs.Text.{Word}
 use Rattle.edge_bits.specs.declared.edges.Line.{Line}
-use Rattle.dddmp_text.specs.declared.dump.Dump.{Dump}
-use Rattle.dddmp_text.specs.Dumps.{internal_of}
+use Rattle.diagram_dumps.specs.declared.dump.Dump.{Dump}
+use Rattle.dddmp_text.specs.Ranks.{internal_of}
 
 -- a word and numbers, each behind a blank, and a line feed
 abbrev pub item : Word → List Word → List ℕ

@@ -13,7 +13,7 @@ pub enum FaultKind {
     Node,
     /// A child whose index is not below that of its parent.
     Order,
-    /// More than 1,024 variables, or one that is not among them.
+    /// More variables than `MOST_VARIABLES`, or one that is not among them.
     Variable,
     /// A root that is 0 or beyond the nodes.
     Root,

@@ -10,7 +10,7 @@ pub fn texts_have_one_reading()
     ensures dump_or_fault { DumpOrFault }
 {}
 
-/// The text that is written for a dump of at most 1,024 variables, with fewer than 2^31 - 1 node lines, fewer than 2^31 roots and
+/// The text that is written for a dump of at most `MOST_VARIABLES` variables, with fewer than 2^31 - 1 node lines, fewer than 2^31 roots and
 /// positions below 2^31, is that dump's, and so has no fault.
 pub fn written_texts_are_read_again()
     ensures { IsReadAgain }

@@ -2,11 +2,11 @@
 
 ghost use Rattle.std.specs.Prelude.{◌≡◌, ◌<◌, ◌++◌, ◌∷◌, [], All, Contains, OnOk, IfOk, length, map, string_bytes};
 ghost use Rattle.std.specs.Fmt.{decimal, signed_decimal};
-ghost use Rattle.dddmp_text.specs.Dumps.{comes_before, rank_of};
-ghost use Rattle.dddmp_text.specs.WellMade.{IsWritable};
+ghost use Rattle.dddmp_text.specs.Ranks.{comes_before, rank_of};
+ghost use Rattle.diagram_dumps.specs.WellMade.{IsWritable};
 ghost use Rattle.dddmp_text.specs.Written.{AreInternals, counts, header, item, node_item, node_items, written};
 
-use crate::dump::Dump;
+use diagram_dumps::Dump;
 use edge_bits::{Line, Memory};
 use std::alloc::{AllocError, Global};
 

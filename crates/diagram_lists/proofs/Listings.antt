@@ -9,21 +9,22 @@ use Rattle.edge_bits.specs.declared.edges.Line.{Line}
 use Rattle.edge_bits.specs.declared.edges.Kind.TheVariants.{Bdd}
 use Rattle.edge_bits.specs.Permanent.{truth_edge}
 use Rattle.edge_bits.specs.Reading.{plain}
-use Rattle.dddmp_text.specs.declared.dump.Dump.{Dump}
-use Rattle.dddmp_text.specs.Dumps.{line_value, root_value, signed}
-use Rattle.dddmp_text.specs.WellMade.{IsAbove, IsWellMade, IsWritable, position_of}
-use Rattle.dddmp_text.proofs.Walks.{IsEarlier}
+use Rattle.diagram_dumps.specs.declared.dump.Dump.{Dump}
+use Rattle.diagram_dumps.specs.Agreement.{AreSame}
+use Rattle.diagram_dumps.specs.Dumps.{line_value, root_value, signed}
+use Rattle.diagram_dumps.specs.WellMade.{IsAbove, IsWellMade, IsWritable, position_of}
+use Rattle.diagram_dumps.proofs.Walks.{IsEarlier}
 use Rattle.function_laws.specs.Kinds.{BddFunction}
 use Rattle.function_laws.specs.SiftedOrders.{place_of}
 use Rattle.function_laws.specs.Values.{choice, constant, negation}
 use Rattle.function_laws.proofs.ValueLemmas.{everywhere}
-use Rattle.dddmp_text.specs.declared.listings.Listing.{Listing}
-use Rattle.dddmp_text.specs.Listings.{IsListing, dump_of, ids_of}
-use Rattle.dddmp_text.specs.Under.{IsUnder}
-use Rattle.dddmp_text.proofs.Identifiers.{ids_hold, ids_rise, place_listed, places_apart}
-use Rattle.dddmp_text.proofs.LineValues.{low_of, signed_value}
-use Rattle.dddmp_text.proofs.LineValues as values
-use Rattle.dddmp_text.proofs.Listed.{ids_below}
+use Rattle.diagram_dumps.specs.declared.listings.Listing.{Listing}
+use Rattle.diagram_dumps.specs.Listings.{IsListing, dump_of, ids_of}
+use Rattle.diagram_dumps.specs.Under.{IsUnder}
+use Rattle.diagram_dumps.proofs.Identifiers.{ids_hold, ids_rise, place_listed, places_apart}
+use Rattle.diagram_dumps.proofs.LineValues.{low_of, signed_value}
+use Rattle.diagram_dumps.proofs.LineValues as values
+use Rattle.diagram_dumps.proofs.Listed.{ids_below}
 use Rattle.node_store.specs.ViewLaws.{Denotes-flip, Denotes-truth, values_at-is}
 use Rattle.node_store.specs.Views.{Is, IsVariable, bdd_at}
 use Rattle.node_slots.specs.Stores.{IsStore, Plain, plain_view, top_in}
@@ -215,6 +216,13 @@ module _ (p : Plain) (st : IsStore p) (numbers : List ℕ) (lines : List Line) (
   is_under : IsUnder p.variables_at dump
   is_under = record {
     below = λ k d lt. (let b = (is_order p st).below k lt in omega (arith, b, get_or_default p.variables_at k d 0 lt));
+    once = λ i j d before lt same.
+        let order = is_order p st in
+        let early : i < length p.variables_at = omega (arith, before, lt) in
+        let at : slice_index p.variables_at i ≡ slice_index p.variables_at j =
+        get_or_default p.variables_at i 0 d early ∙ same ∙ get_or_default p.variables_at j d 0 lt in
+        let one : i ≡ j = sym (order.once i early) ∙ ap (λ v. place_of v p.variables_at) at ∙ order.once j lt in
+        omega (arith, one, before);
     there = λ k d lt. in_order (get_or lines k d).var (variables_below k d lt);
     places = λ k d lt. position_is k (get_or lines k d) (slice_get-get_or lines k d lt);
   }
@@ -241,15 +249,15 @@ module _ (p : Plain) (st : IsStore p) (numbers : List ℕ) (lines : List Line) (
 
     -- the roots' functions are the edges'
     root_values : (edges : List Edge) → All (λ e. Is Bdd (plain_view p) e) edges → All (λ e. 1 ≤ number numbers e.index) edges
-        → map (root_value dump) (map (index_of numbers) edges) ≡ map (bdd_at (plain_view p)) edges
-    root_values [] are have = refl
+        → AreSame (length p.variables_at) (map (root_value dump) (map (index_of numbers) edges)) (map (bdd_at (plain_view p)) edges)
+    root_values [] are have = tt
     root_values (e ∷ edges) are have =
         let d = All-head (λ (x : Edge). Is Bdd (plain_view p) x) e edges are in
         let has = All-head (λ (x : Edge). 1 ≤ number numbers x.index) e edges have in
-        let own = edge_value e d has (value_of e.index has (regular_is p st e d)) in
-        ap (λ (g : ℕ → Bool). g ∷ map (root_value dump) (map (index_of numbers) edges)) own
-        ∙ ap (λ t. bdd_at (plain_view p) e ∷ t)
-        (root_values edges (All-tail (λ (x : Edge). Is Bdd (plain_view p) x) e edges are) (All-tail (λ (x : Edge). 1 ≤ number numbers x.index) e edges have))
+        let own = edge_value e d has (value_of e.index has (regular_is p st e d)) in (
+          (λ k below. ap (λ (g : ℕ → Bool). g k) own),
+          root_values edges (All-tail (λ (x : Edge). Is Bdd (plain_view p) x) e edges are) (All-tail (λ (x : Edge). 1 ≤ number numbers x.index) e edges have),
+        )
 
     pub is_listing : (edges : List Edge) → roots ≡ map (index_of numbers) edges → All (λ e. Is Bdd (plain_view p) e) edges → All (λ e. 1 ≤ number numbers e.index) edges
         → IsListing p.variables_at (map (bdd_at (plain_view p)) edges) listing
@@ -257,7 +265,7 @@ module _ (p : Plain) (st : IsStore p) (numbers : List ℕ) (lines : List Line) (
       order_is = refl;
       writable = writable;
       under = is_under;
-      roots = ap (map (root_value dump)) roots_are ∙ root_values edges are have;
+      roots = subst (λ (rs : List ℤ). AreSame (length p.variables_at) (map (root_value dump) rs) (map (bdd_at (plain_view p)) edges)) (sym roots_are) (root_values edges are have);
       few_variables = (let few = st.few_variables in let all = as_many p st in omega arith);
       few_lines = (let few = st.few_words in let many = n.as_many in let count = n.count in omega arith);
     }

@@ -6,7 +6,7 @@ use Rattle.edge_bits.specs.declared.edges.Line.{Line}
 use Rattle.edge_bits.specs.declared.words.Node.{Node}
 use Rattle.edge_bits.specs.declared.words.Word.TheVariants.{Inner}
 use Rattle.edge_bits.specs.Reading.{plain}
-use Rattle.dddmp_text.specs.WellMade.{Numbers, fresh, numbered}
+use Rattle.diagram_dumps.specs.WellMade.{Numbers, fresh, numbered}
 use Rattle.node_store.specs.Views.{Is}
 use Rattle.node_slots.specs.Stores.{IsStore, Plain, plain_view, slots, top_in}
 use Rattle.diagram_lists.specs.Walks.{Begins, IsMet, IsNumbering, IsOnWay, IsOpen, IsPath, Leads, arrived, at_first, at_top, behind_hi, behind_lo, bottom, by_hi, by_lo, line_of, next, number, steps_left, unnumbered}

@@ -3,8 +3,8 @@ use Rattle.std.proofs.Common.{◌≡◌, ℕ, ◌≤◌, List, [], ◌∷◌, �
 use Rattle.std.specs.Prelude.{All}
 use Rattle.std.proofs.lemmas.List.Elements.{All-head, All-tail}
 use Rattle.edge_bits.specs.declared.edges.Edge.{Edge}
-use Rattle.dddmp_text.specs.declared.dump.Dump.{Dump}
-use Rattle.dddmp_text.specs.WellMade.{Numbers, NumbersAll}
+use Rattle.diagram_dumps.specs.declared.dump.Dump.{Dump}
+use Rattle.diagram_dumps.specs.WellMade.{Numbers, NumbersAll}
 use Rattle.diagram_lists.specs.Walks.{index_of, number}
 use Rattle.diagram_lists.proofs.Numberings.{same_index}
 

@@ -7,8 +7,8 @@ use Rattle.edge_bits.specs.declared.edges.Kind.TheVariants.{Bdd}
 use Rattle.edge_bits.specs.declared.words.Node.{Node}
 use Rattle.edge_bits.specs.declared.words.Word.TheVariants.{Inner}
 use Rattle.edge_bits.specs.Reading.{plain}
-use Rattle.dddmp_text.specs.declared.dump.Dump.{Dump}
-use Rattle.dddmp_text.specs.WellMade.{Numbers, NumbersAll}
+use Rattle.diagram_dumps.specs.declared.dump.Dump.{Dump}
+use Rattle.diagram_dumps.specs.WellMade.{Numbers, NumbersAll}
 use Rattle.node_store.specs.Views.{Is}
 use Rattle.node_slots.specs.Stores.{Plain, plain_view, slots}
 use Rattle.diagram_lists.specs.declared.walk.Walk.{Walk}

@@ -2,12 +2,12 @@
 
 ghost use Rattle.std.specs.Prelude.{◌≡◌, All, IfOk, map};
 ghost use Rattle.edge_bits.specs.declared.edges.Kind.TheVariants.{Bdd};
-ghost use Rattle.dddmp_text.specs.Listings.{IsListing};
+ghost use Rattle.diagram_dumps.specs.Listings.{IsListing};
 ghost use Rattle.node_store.specs.Views.{Is, bdd_at};
 ghost use Rattle.node_slots.specs.Stores.{IsStore, plain_view};
 
 use crate::walk::Walk;
-use dddmp_text::Listing;
+use diagram_dumps::Listing;
 use edge_bits::{Edge, List as Elements, Memory};
 use node_slots::PlainStore;
 use std::alloc::Global;

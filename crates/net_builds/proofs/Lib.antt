@@ -11,7 +11,6 @@ pub mod ReplaceLemmas
 pub mod RowLemmas
 pub mod SameReports
 pub mod SignalSteps
-pub mod SizeLaws
 pub mod StandingLemmas
 pub mod Told
 pub mod ToldLaws

@@ -7,7 +7,7 @@ use Rattle.function_laws.specs.declared.history.Name.{Name}
 use Rattle.function_laws.specs.Lists.{truth}
 use Rattle.function_laws.proofs.ListLemmas.{truth-list_of}
 use Rattle.blif_net.specs.declared.net.Net.{Net}
-use Rattle.dddmp_text.specs.declared.listings.Listing.{Listing}
+use Rattle.diagram_dumps.specs.declared.listings.Listing.{Listing}
 use Rattle.net_reports.specs.Classes.{AreClasses}
 use Rattle.net_reports.specs.Evaluations.{assignment, evaluation_at, values_at}
 use Rattle.net_reports.specs.Reports.{count_firsts, node_count, output_names, report_text, summary_text}

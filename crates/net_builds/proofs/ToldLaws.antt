@@ -26,7 +26,7 @@ use Rattle.net_builds.specs.Builds.{AllGain, AllHandedOver, Builds, IsHandedOver
 use Rattle.net_builds.specs.Handings.{AreInTurn, IsKnown}
 use Rattle.net_builds.specs.Standings.{IsPlain, Note, Standing, values_of}
 use Rattle.net_builds.specs.declared.handing.Handover.{Handover}
-use Rattle.net_builds.proofs.SizeLaws.{AreSame, IsSame}
+use Rattle.diagram_dumps.specs.Agreement.{AreSame, IsSame}
 
 contains_in : {X : Type 0} (xs : List X) (x : X) → Contains xs x → In x xs
 contains_in [] x (k, inside, is) = absurd (omega (arith, inside))

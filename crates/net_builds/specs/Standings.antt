@@ -1,7 +1,7 @@
 -- What is seen of a session that builds functions, and what its calls leave.
 use Rattle.std.specs.Prelude.{◌≡◌, ℕ, ◌+◌, ◌<◌, ◌≤◌, ◌^◌, Bool, false, List, [], ◌∷◌, ◌++◌, All, Option, Some, length, map}
-use Rattle.dddmp_text.specs.declared.listings.Listing.{Listing}
-use Rattle.dddmp_text.specs.Listings.{IsListing}
+use Rattle.diagram_dumps.specs.declared.listings.Listing.{Listing}
+use Rattle.diagram_dumps.specs.Listings.{IsListing}
 use Rattle.function_laws.specs.declared.history.Call.TheVariants as calls
 use Rattle.function_laws.specs.declared.history.Entry.{Entry}
 use Rattle.function_laws.specs.declared.history.Function.{Function}

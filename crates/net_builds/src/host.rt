@@ -1,6 +1,6 @@
 //! A manager, as a session sees it that builds functions of truth values.
 
-use dddmp_text::Listing;
+use diagram_dumps::Listing;
 use edge_bits::Memory;
 use function_laws::Name;
 

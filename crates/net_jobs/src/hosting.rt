@@ -7,7 +7,7 @@ ghost use Rattle.net_jobs.specs.Hosts.{named_by, standing_of};
 
 use crate::gate::Gate;
 use dd_session::{Full, Manager, Refusal, Session};
-use dddmp_text::Listing;
+use diagram_dumps::Listing;
 use edge_bits::Memory;
 use function_laws::Name;
 use net_builds::{Fetched, Host, Placed, Stop};

@@ -3,4 +3,5 @@ mod Firsts
 mod Padding
 mod RootLaws
 mod Rows
+pub mod SameClasses
 mod Texts

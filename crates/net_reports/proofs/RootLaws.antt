@@ -7,23 +7,24 @@ use Rattle.std.proofs.lemmas.Bool.Decides.{nat_tests}
 use Rattle.std.proofs.lemmas.List.{get_or-map, length-map}
 use Rattle.std.proofs.lemmas.List.Sums.{fails_before_first, passes_at_first}
 use Rattle.std.proofs.lemmas.Option.{get_or_from_slice_get, slice_get-get_or, slice_get_within}
-use Rattle.dddmp_text.specs.declared.dump.Dump.{Dump}
-use Rattle.dddmp_text.specs.Dumps.{line_value, root_value}
-use Rattle.dddmp_text.specs.WellMade.{IsWellMade}
-use Rattle.dddmp_text.proofs.Walks.{AreLines, are_lines}
+use Rattle.diagram_dumps.specs.declared.dump.Dump.{Dump}
+use Rattle.diagram_dumps.specs.Dumps.{line_value, root_value}
+use Rattle.diagram_dumps.specs.WellMade.{IsWellMade}
+use Rattle.diagram_dumps.proofs.Walks.{AreLines, are_lines}
 use Rattle.function_laws.specs.Kinds.{BddFunction, opposite}
 use Rattle.function_laws.specs.Sizes.{Orders}
 use Rattle.function_laws.specs.Values.{IsOf, differs, negation}
 use Rattle.function_laws.proofs.WidthLemmas.{same_everywhere}
-use Rattle.dddmp_text.specs.declared.listings.Listing.{Listing}
-use Rattle.dddmp_text.specs.Listings.{IsListing, dump_of}
-use Rattle.dddmp_text.specs.Under.{IsUnder}
-use Rattle.dddmp_text.proofs.Lines.{Indexed, indexed}
-use Rattle.dddmp_text.proofs.Standing.{of_order}
-use Rattle.dddmp_text.proofs.Shown.{IsUpTo, at_index, signed_up_to, turned, up_to_twice}
-use Rattle.dddmp_text.proofs.Counted.{both_apart}
+use Rattle.diagram_dumps.specs.declared.listings.Listing.{Listing}
+use Rattle.diagram_dumps.specs.Listings.{IsListing, dump_of}
+use Rattle.diagram_dumps.specs.Under.{IsUnder}
+use Rattle.diagram_dumps.proofs.Lines.{Indexed, indexed}
+use Rattle.diagram_dumps.proofs.Standing.{of_order}
+use Rattle.diagram_dumps.proofs.Shown.{IsUpTo, at_index, signed_up_to, turned, up_to_twice}
+use Rattle.diagram_dumps.proofs.Counted.{both_apart}
 use Rattle.net_reports.specs.Classes.{Agree, AreClasses, Function, IsClass}
 use Rattle.net_reports.specs.RootClasses.{class_among, root_functions}
+use Rattle.net_reports.proofs.SameClasses.{classes_same}
 use Rattle.net_reports.specs.declared.classes.Class.{Class}
 
 -- an element of a mapped list
@@ -189,5 +190,5 @@ module _ (dump : Dump) (well : IsWellMade dump) (order : List ℕ) (under : IsUn
 pub listed_classes : (order : List ℕ) (functions : List Function) (listing : Listing) → IsListing order functions listing
     → AreClasses (length order) functions (map (class_among listing.roots) listing.roots)
 listed_classes order functions listing is =
-    subst (λ (found : List Function). AreClasses (length order) found (map (class_among listing.roots) listing.roots)) is.roots
+    classes_same (length order) (root_functions (dump_of listing)) functions is.roots (map (class_among listing.roots) listing.roots)
     (are_classes (dump_of listing) is.writable.well_made order is.under)

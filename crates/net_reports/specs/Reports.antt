@@ -6,10 +6,10 @@ use Rattle.function_laws.specs.Kinds.{BddFunction}
 use Rattle.function_laws.specs.Sizes.{size}
 use Rattle.blif_net.specs.declared.net.Net.{Net}
 use Rattle.blif_net.specs.Networks.{signal_value}
-use Rattle.dddmp_text.specs.declared.dump.Dump.{Dump}
+use Rattle.diagram_dumps.specs.declared.dump.Dump.{Dump}
 use Rattle.dddmp_text.specs.Written.{written}
-use Rattle.dddmp_text.specs.declared.listings.Listing.{Listing}
-use Rattle.dddmp_text.specs.Listings.{IsListing, dump_of}
+use Rattle.diagram_dumps.specs.declared.listings.Listing.{Listing}
+use Rattle.diagram_dumps.specs.Listings.{IsListing, dump_of}
 use Rattle.net_reports.specs.Classes.{AreClasses, Function}
 use Rattle.net_reports.specs.Evaluations.{evaluation_at}
 use Rattle.net_reports.specs.RootClasses.{root_functions}

@@ -3,8 +3,8 @@ use Rattle.std.specs.Prelude.{◌==◌, List, ℤ, pos, nat_abs, slice_index_or,
 use Rattle.std.specs.Int.{is_negative}
 use Rattle.std.specs.List.{position_or_len}
 use Rattle.function_laws.specs.Values.{differs}
-use Rattle.dddmp_text.specs.declared.dump.Dump.{Dump}
-use Rattle.dddmp_text.specs.Dumps.{root_value}
+use Rattle.diagram_dumps.specs.declared.dump.Dump.{Dump}
+use Rattle.diagram_dumps.specs.Dumps.{root_value}
 use Rattle.net_reports.specs.Classes.{Function}
 use Rattle.net_reports.specs.declared.classes.Class.{Class}
 

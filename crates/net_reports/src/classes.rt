@@ -3,12 +3,12 @@
 ghost use Rattle.std.specs.Prelude.{◌≡◌, ◌<◌, List as ListOf, ℕ, pos, nat_abs, IfOk, length, map, slice_index_or};
 ghost use Rattle.std.specs.Int.{is_negative};
 ghost use Rattle.function_laws.specs.Values.{differs};
-ghost use Rattle.dddmp_text.specs.WellMade.{IsWellMade};
-ghost use Rattle.dddmp_text.specs.Listings.{IsListing, dump_of};
+ghost use Rattle.diagram_dumps.specs.WellMade.{IsWellMade};
+ghost use Rattle.diagram_dumps.specs.Listings.{IsListing, dump_of};
 ghost use Rattle.net_reports.specs.Classes.{AreClasses, Function};
 ghost use Rattle.net_reports.specs.RootClasses.{class_among};
 
-use dddmp_text::Listing;
+use diagram_dumps::Listing;
 use edge_bits::Memory;
 use std::alloc::Global;
 

@@ -11,7 +11,7 @@ use crate::classes::Class;
 use crate::lines::{put_count, put_evaluation, put_order, put_output};
 use crate::patterns::Evaluation;
 use blif_net::{Net, Output};
-use dddmp_text::Dump;
+use diagram_dumps::Dump;
 use edge_bits::Memory;
 use std::alloc::{AllocError, Global};
 

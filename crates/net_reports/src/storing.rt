@@ -1,12 +1,13 @@
 //! The text of a listing.
 
 ghost use Rattle.std.specs.Prelude.{◌≡◌, ◌<◌, ◌^◌, IfOk, length};
-ghost use Rattle.dddmp_text.specs.WellMade.{IsWritable};
+ghost use Rattle.diagram_dumps.specs.WellMade.{IsWritable};
 ghost use Rattle.dddmp_text.specs.Written.{written};
-ghost use Rattle.dddmp_text.specs.Listings.{IsListing, dump_of};
+ghost use Rattle.diagram_dumps.specs.Listings.{IsListing, dump_of};
 ghost use Rattle.net_reports.specs.Reports.{IsStored, Subject};
 
-use dddmp_text::{Listing, write};
+use dddmp_text::write;
+use diagram_dumps::Listing;
 use edge_bits::Memory;
 use std::alloc::Global;
 

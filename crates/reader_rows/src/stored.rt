@@ -1,7 +1,7 @@
 //! The text of a stored diagram.
 
 ghost use Rattle.std.specs.Prelude.{IfOk};
-ghost use Rattle.dddmp_text.specs.WellMade.{IsWritable};
+ghost use Rattle.diagram_dumps.specs.WellMade.{IsWritable};
 
 use dddmp_text::{Dump, Line, write};
 use edge_bits::{List, Memory};

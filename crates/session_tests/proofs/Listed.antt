@@ -1,8 +1,8 @@
 -- What is known of a listing that a session made.
 use Rattle.std.proofs.Common.{◌≡◌, ◌^◌, ◌<◌, List, length, Result, Ok, MatchResult, subst, arith}
-use Rattle.dddmp_text.specs.WellMade.{IsWritable}
-use Rattle.dddmp_text.specs.declared.listings.Listing.{Listing}
-use Rattle.dddmp_text.specs.Listings.{dump_of}
+use Rattle.diagram_dumps.specs.WellMade.{IsWritable}
+use Rattle.diagram_dumps.specs.declared.listings.Listing.{Listing}
+use Rattle.diagram_dumps.specs.Listings.{dump_of}
 use Rattle.edge_bits.specs.declared.lists.Memory.{Memory}
 use Rattle.function_laws.specs.declared.history.Name.{Name}
 use Rattle.dd_session.specs.Listings.{IsListed}

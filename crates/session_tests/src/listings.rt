@@ -1,12 +1,12 @@
 //! A session lists the nodes of its rows, and the listing is told of.
 
 ghost use Rattle.std.specs.Prelude.{◌≡◌, ◌<◌, ◌^◌, length, IfOk};
-ghost use Rattle.dddmp_text.specs.WellMade.{IsWritable};
-ghost use Rattle.dddmp_text.specs.Listings.{dump_of};
+ghost use Rattle.diagram_dumps.specs.WellMade.{IsWritable};
+ghost use Rattle.diagram_dumps.specs.Listings.{dump_of};
 
 use crate::calls::{and, ready, var};
 use dd_session::{Config, H, Manager, OpenFault, Session};
-use dddmp_text::Listing;
+use diagram_dumps::Listing;
 use edge_bits::Line;
 use net_reports::{Class, classes_of, padded, stored};
 use std::alloc::Global;

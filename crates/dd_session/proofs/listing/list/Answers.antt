@@ -1,5 +1,5 @@
 use Rattle.std.proofs.Common.{◌≡◌, All, Result, IfOk, ap, refl, subst, sym, ◌∙◌}
-use Rattle.dddmp_text.specs.declared.listings.Listing.{Listing}
+use Rattle.diagram_dumps.specs.declared.listings.Listing.{Listing}
 use Rattle.edge_bits.specs.declared.edges.Kind.TheVariants as kinds
 use Rattle.edge_bits.specs.declared.lists.Memory.{Memory}
 use Rattle.seat_guard.specs.declared.view.Draws.{Draws}

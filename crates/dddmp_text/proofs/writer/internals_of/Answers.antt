@@ -1,6 +1,6 @@
 use Rattle.std.proofs.Common.{◌<◌, ◌∙◌, ap, length, get_or, arith, ℕ, List}
 use Rattle.std.proofs.lemmas.List.{length-set}
-use Rattle.dddmp_text.specs.Dumps.{rank_of}
+use Rattle.dddmp_text.specs.Ranks.{rank_of}
 use Rattle.dddmp_text.proofs.Lookups.{looked_up, set_rank}
 use Rattle.dddmp_text.proofs.writer.internals_of.Goals as goal
 

@@ -1,5 +1,5 @@
 use Rattle.std.proofs.Common.{◌≡◌, ◌<◌, ℕ, get_or, length}
-use Rattle.dddmp_text.specs.Dumps.{rank_of}
+use Rattle.dddmp_text.specs.Ranks.{rank_of}
 use Rattle.dddmp_text.proofs.writer.internals_of.Given as goal
 
 abbrev pub invariant-loop-place : goal.invariant-loop-place

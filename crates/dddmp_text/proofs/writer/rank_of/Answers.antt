@@ -1,5 +1,5 @@
 use Rattle.std.proofs.Common.{◌∙◌, sym, true, false, arith}
-use Rattle.dddmp_text.specs.Dumps.{comes_before}
+use Rattle.dddmp_text.specs.Ranks.{comes_before}
 use Rattle.dddmp_text.proofs.Counting.{count-most, count-step}
 use Rattle.dddmp_text.proofs.writer.rank_of.Goals as goal
 use Rattle.dddmp_text.proofs.writer.rank_of.Goals.{then-comes_before, else-comes_before}

@@ -1,6 +1,6 @@
 use Rattle.std.proofs.Common.{◌≡◌}
 use Rattle.std.specs.List.{count_by, range_with_len}
-use Rattle.dddmp_text.specs.Dumps.{comes_before}
+use Rattle.dddmp_text.specs.Ranks.{comes_before}
 use Rattle.dddmp_text.proofs.writer.rank_of.Given as goal
 
 abbrev pub invariant-loop-other : goal.invariant-loop-other

@@ -3,8 +3,8 @@ use Rattle.std.proofs.lemmas.Grind.{common_steps}
 use Rattle.std.proofs.lemmas.List.{map_push, take_all, take_more}
 use Rattle.std.proofs.lemmas.List.Elements.{All-push, All-same, All-weaker}
 use Rattle.edge_bits.specs.declared.edges.Edge.{Edge}
-use Rattle.dddmp_text.specs.WellMade.{Numbers, NumbersAll}
-use Rattle.dddmp_text.specs.Listings.{IsListing}
+use Rattle.diagram_dumps.specs.WellMade.{Numbers, NumbersAll}
+use Rattle.diagram_dumps.specs.Listings.{IsListing}
 use Rattle.node_store.specs.Views.{bdd_at}
 use Rattle.node_slots.specs.Stores.{plain_view}
 use Rattle.diagram_lists.specs.Walks.{Leads, index_of, next, number}

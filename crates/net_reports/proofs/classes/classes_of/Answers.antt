@@ -3,7 +3,7 @@ use Rattle.std.specs.Int.{is_negative}
 use Rattle.std.specs.Option.{unwrap_or}
 use Rattle.std.proofs.lemmas.List.{get_or_read, length-set, map_more, take_all}
 use Rattle.function_laws.specs.Values.{differs}
-use Rattle.dddmp_text.specs.Listings.{dump_of}
+use Rattle.diagram_dumps.specs.Listings.{dump_of}
 use Rattle.net_reports.specs.Classes.{AreClasses}
 use Rattle.net_reports.specs.RootClasses.{class_among}
 use Rattle.net_reports.specs.declared.classes.Class.{Class}

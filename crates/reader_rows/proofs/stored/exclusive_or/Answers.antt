@@ -1,7 +1,7 @@
 use Rattle.std.proofs.Common.{◌≡◌, ◌∙◌, ℕ, ℤ, List, subst, sym}
 use Rattle.edge_bits.specs.declared.edges.Line.{Line}
-use Rattle.dddmp_text.specs.WellMade.{IsWritable}
-use Rattle.dddmp_text.proofs.Writable.{may_be_written, two_lines}
+use Rattle.diagram_dumps.specs.WellMade.{IsWritable}
+use Rattle.diagram_dumps.proofs.Writable.{may_be_written, two_lines}
 use Rattle.reader_rows.proofs.stored.exclusive_or.Goals as goal
 
 -- a dump with these lists

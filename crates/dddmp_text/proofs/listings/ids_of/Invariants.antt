@@ -1,6 +1,0 @@
-use Rattle.std.proofs.Common.{◌≡◌}
-use Rattle.dddmp_text.specs.Listings.{ids_of}
-use Rattle.dddmp_text.proofs.listings.ids_of.Given as goal
-
-abbrev pub invariant-loop-var : goal.invariant-loop-var
-invariant-loop-var l = l.ids ≡ ids_of l.var l.lines

@@ -1,6 +1,0 @@
-use Rattle.std.proofs.Common.{◌≡◌, map, take}
-use Rattle.function_laws.specs.SiftedOrders.{place_of}
-use Rattle.dddmp_text.proofs.listings.places_of.Given as goal
-
-abbrev pub invariant-loop-var : goal.invariant-loop-var
-invariant-loop-var l = l.found ≡ map (λ v. place_of v l.order) (take l.var-index l.vars)
