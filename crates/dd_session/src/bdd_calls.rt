@@ -339,7 +339,7 @@ impl Session {
         let Ok(mut shared) = start(rt, &manager.guard, &mut self.pass, &mut self.book) else {
             return Err(Refusal::Memory);
         };
-        let _sound = shared.store.limit();
+        shared.store.tell_sound();
         let cell = Cell {
             kind: Kind::Bdd,
             edge: projection_in(&mut shared, v),

@@ -49,7 +49,7 @@ pub trait ExactOperation {
         ensures { Calls Add (value self.now (G.view store.old)) (work self.now (G.view store.old)) (G.view store.old) (G.view store.new) (exact_halts result) };
 }
 
-/// One try. Calls bound to `_before` and `_after` are there for what they tell: what holds of each store between two calls.
+/// One try.
 fn run_once<O: ExactOperation>(
     shared: &mut Shared,
     operation: &O,
@@ -57,9 +57,9 @@ fn run_once<O: ExactOperation>(
     requires { IsStore shared.old.store → O.stands operation.now (view_of shared.old) }
     ensures { Ran (exact_answers (O.value operation.now)) (O.work operation.now) shared.old shared.new result }
 {
-    let _before = shared.store.limit();
+    shared.store.tell_sound();
     let made = operation.run(&mut shared.store);
-    let _after = shared.store.limit();
+    shared.store.tell_sound();
     made
 }
 

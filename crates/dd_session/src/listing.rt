@@ -54,7 +54,7 @@ fn listing_of(
     requires serves { Serving shared.now (known pass.now) }
     ensures { IfOk result (λ listing. (listing.order ≡ (known pass.now).variable_order) × ListsRows (known pass.now).vars (known pass.now).rows rows.now listing) }
 {
-    let _sound = shared.store.limit();
+    shared.store.tell_sound();
     let edges = edges_of(alloc, pass, book, rows)?;
     diagram_lists::list(alloc, &shared.store, &edges)
 }

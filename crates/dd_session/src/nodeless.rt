@@ -14,29 +14,27 @@ use edge_bits::{Edge, Kind, Memory};
 use node_slots::Grow;
 use shared_store::Shared;
 
-/// The edge of a variable's projection. Calls bound to `_before` and `_after` are there for what they tell: what holds of each
-/// store between two calls.
+/// The edge of a variable's projection.
 pub fn projection_in(shared: &mut Shared, v: u32) -> Edge
     requires { IsVariable kinds.Bdd (view_of shared.old) v }
     ensures denotes { Denotes kinds.Bdd (view_of shared.new) result (projection v) }
     ensures asked { IsAsked shared.old shared.new }
 {
-    let _before = shared.store.limit();
+    shared.store.tell_sound();
     let edge = shared.store.projection(v);
-    let _after = shared.store.limit();
+    shared.store.tell_sound();
     edge
 }
 
-/// Whether a function is true wherever another is, told by a store that may keep answers. Calls bound to `_before` and `_after` are
-/// there for what they tell: what holds of each store between two calls.
+/// Whether a function is true wherever another is, told by a store that may keep answers.
 pub fn implies(shared: &mut Shared, f: Edge, g: Edge) -> Result<bool, Memory>
     requires { AreTwo kinds.Bdd (view_of shared.old) f g }
     ensures asked { IsAsked shared.old shared.new }
     ensures implies { IfOk result (λ told. (told ≡ true) ↔ Implies (bdd_at (view_of shared.old) f) (bdd_at (view_of shared.old) g)) }
 {
-    let _before = shared.store.limit();
+    shared.store.tell_sound();
     let told = ite_core::leq(&mut shared.store, f, g);
-    let _after = shared.store.limit();
+    shared.store.tell_sound();
     told
 }
 
@@ -53,16 +51,15 @@ fn value_of<G: Grow>(store: &mut G, kind: Kind, edge: Edge, bits: &[bool]) -> i6
     }
 }
 
-/// The same, of a store that may keep answers. Calls bound to `_before` and `_after` are there for what they tell: what holds of
-/// each store between two calls.
+/// The same, of a store that may keep answers.
 pub fn walked(shared: &mut Shared, kind: Kind, edge: Edge, bits: &[bool]) -> i64
     requires edge { Is kind (view_of shared.old) edge }
     requires bits { length bits.now ≡ levels kind (view_of shared.old) }
     ensures asked { IsAsked shared.old shared.new }
     ensures value { result ≡ number_of kind (values_at kind (view_of shared.old) edge (assignment_of bits.now)) }
 {
-    let _before = shared.store.limit();
+    shared.store.tell_sound();
     let value = value_of(&mut shared.store, kind, edge, bits);
-    let _after = shared.store.limit();
+    shared.store.tell_sound();
     value
 }

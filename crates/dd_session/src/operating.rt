@@ -34,14 +34,14 @@ pub trait Operation {
         ensures { CallsTo kind (answers self.now (G.view store.old) (G.view store.new)) ⊥ (work self.now (G.view store.old)) (G.view store.old) (G.view store.new) (halts result) };
 }
 
-/// One try. Calls bound to `_before` and `_after` are there for what they tell: what holds of each store between two calls.
+/// One try.
 fn run_once<O: Operation>(shared: &mut Shared, operation: &O) -> Result<Edge, Stop>
     requires { IsStore shared.old.store → O.stands operation.now (view_of shared.old) }
     ensures { Ran (O.answers operation.now) (O.work operation.now) shared.old shared.new result }
 {
-    let _before = shared.store.limit();
+    shared.store.tell_sound();
     let made = operation.run(&mut shared.store);
-    let _after = shared.store.limit();
+    shared.store.tell_sound();
     made
 }
 

@@ -144,8 +144,7 @@ impl Session {
         )
     }
 
-    /// A new row of an edge that needs no new node. The call bound to `_sound` is there for what it tells: what stands in the
-    /// permanent slots.
+    /// A new row of an edge that needs no new node.
     pub(crate) fn add_known<R: Wait>(
         &mut self,
         rt: &R,
@@ -164,7 +163,7 @@ impl Session {
         let Ok(shared) = start(rt, &manager.guard, &mut self.pass, &mut self.book) else {
             return Err(Refusal::Memory);
         };
-        let _sound = shared.store.limit();
+        shared.store.tell_sound();
         let cell = Cell { kind, edge };
         Ok(add_row(
             &manager.guard,

@@ -13,4 +13,4 @@ list-requires c =
     subst (All (Is kinds.Bdd (view_of x))) (sym (c.deref.ensures.value ∙ c.in_ok-edges.ensures)) (edges_are d x (serving_stands d x c.requires.serves) c.args.rows.now c.requires.live)
 
 pub returns : goal.returns
-returns c = list_told (known c.args.pass.now) c.args.shared.now c.args.rows.now c.deref.result.now c.requires.serves c.limit-sound.ensures.store c.requires.live (c.deref.ensures.value ∙ c.in_ok-edges.ensures) c.list.result c.list.ensures
+returns c = list_told (known c.args.pass.now) c.args.shared.now c.args.rows.now c.deref.result.now c.requires.serves c.tell_sound.ensures.store c.requires.live (c.deref.ensures.value ∙ c.in_ok-edges.ensures) c.list.result c.list.ensures

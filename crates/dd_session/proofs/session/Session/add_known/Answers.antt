@@ -10,11 +10,11 @@ use Rattle.dd_session.proofs.Turning.{notes_nothing}
 use Rattle.dd_session.proofs.session.Session.add_known.Goals as goal
 
 pub add_row-requires-clause-is : goal.add_row-requires-clause-is
-add_row-requires-clause-is g c = (c.requires.told (known c.self.inside.pass) (seat_of c.self.inside.pass c.self.inside.book c.self.view_is) c.in-Ok.shared c.limit-sound.ensures.sound (stands_taken (known c.self.inside.pass) (known c.start.new.pass) c.in-Ok.shared c.in-Ok.ensures.took)).0
+add_row-requires-clause-is g c = (c.requires.told (known c.self.inside.pass) (seat_of c.self.inside.pass c.self.inside.book c.self.view_is) c.in-Ok.shared c.tell_sound.ensures.sound (stands_taken (known c.self.inside.pass) (known c.start.new.pass) c.in-Ok.shared c.in-Ok.ensures.took)).0
 
 pub add_row-requires-clause-adds : goal.add_row-requires-clause-adds
 add_row-requires-clause-adds g c =
-    gives_held (known c.self.inside.pass) (known c.start.new.pass) c.in-Ok.shared (call_of c.args.request) (makes (listed_at c.args.kind (view_of c.in-Ok.shared) c.args.edge)) c.in-Ok.ensures.took c.self.invariant.0.1 (c.requires.told (known c.self.inside.pass) (seat_of c.self.inside.pass c.self.inside.book c.self.view_is) c.in-Ok.shared c.limit-sound.ensures.sound (stands_taken (known c.self.inside.pass) (known c.start.new.pass) c.in-Ok.shared c.in-Ok.ensures.took)).1
+    gives_held (known c.self.inside.pass) (known c.start.new.pass) c.in-Ok.shared (call_of c.args.request) (makes (listed_at c.args.kind (view_of c.in-Ok.shared) c.args.edge)) c.in-Ok.ensures.took c.self.invariant.0.1 (c.requires.told (known c.self.inside.pass) (seat_of c.self.inside.pass c.self.inside.book c.self.view_is) c.in-Ok.shared c.tell_sound.ensures.sound (stands_taken (known c.self.inside.pass) (known c.start.new.pass) c.in-Ok.shared c.in-Ok.ensures.took)).1
 
 pub returns-clause-told : goal.returns-clause-told
 returns-clause-told g c =

@@ -19,7 +19,7 @@ pub projection_in-requires : goal.projection_in-requires
 projection_in-requires g c =
     let seen = ap (λ (s : Seen). s.manager.vars) c.self.view_is in
     let own = ap (λ (m : Managed). m.vars) c.requires.own in
-    variable_in (known c.self.inside.pass) (view_of c.in-Ok.shared) (small_store c.in-Ok.shared c.limit-sound.ensures.store) (stands_taken (known c.self.inside.pass) (known c.start.new.pass) c.in-Ok.shared c.in-Ok.ensures.took) c.args.v (omega (arith, seen, own, c.requires.variable))
+    variable_in (known c.self.inside.pass) (view_of c.in-Ok.shared) (small_store c.in-Ok.shared c.tell_sound.ensures.store) (stands_taken (known c.self.inside.pass) (known c.start.new.pass) c.in-Ok.shared c.in-Ok.ensures.took) c.args.v (omega (arith, seen, own, c.requires.variable))
 
 pub add_row-requires-clause-serves : goal.add_row-requires-clause-serves
 add_row-requires-clause-serves g c = serves-lasts c.in-Ok.shared c.projection_in.new.shared c.projection_in.ensures.asked.lasts (known c.start.new.pass) c.projection_in.ensures.asked.orders_are c.in-Ok.ensures.took.serves
