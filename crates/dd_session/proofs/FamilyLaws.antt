@@ -15,7 +15,7 @@ use Rattle.node_store.specs.Contents.{IsSound}
 use Rattle.node_store.specs.Listed.{listed, listed_at}
 use Rattle.node_store.specs.Views.{View, AreTwo, Denotes, Is, family_at}
 use Rattle.node_store.specs.ViewLaws.{Is-from, values_at-is}
-use Rattle.node_slots.proofs.Settling.{base-without}
+use Rattle.node_store.proofs.TwoParts.{base-without}
 use Rattle.node_slots.specs.Wholes.{content_view}
 use Rattle.zdd_ops.specs.Elements.{IsElement}
 use Rattle.zdd_ops.proofs.OutcomeLaws.{outcome-base, outcome-change, outcome-diff, outcome-empty, outcome-meet, outcome-product, outcome-quotient, outcome-single, outcome-subset0, outcome-subset1, outcome-union}

@@ -6,6 +6,7 @@ use Rattle.edge_bits.specs.Reading.{element_of}
 use Rattle.edge_bits.specs.declared.words.Node.{Node}
 use Rattle.edge_bits.specs.declared.words.Word.{Word}
 use Rattle.edge_bits.specs.declared.words.Word.TheVariants.{Inner, Leaf}
+use Rattle.edge_bits.specs.Permanent.{first_element}
 use Rattle.function_laws.specs.Kinds.{Denoted, BddFunction, AddFunction, ZddFamily, opposite}
 use Rattle.function_laws.specs.declared.orders.Order.{Order}
 use Rattle.function_laws.specs.declared.orders.Order.TheVariants.{Variables, Elements}
@@ -22,12 +23,12 @@ module _ (w : Content) (sound : IsSound w) (settled : w.half ≡ None) where
   number_rank : (which : Order) (v : ℕ) (node : Node) → v < length (in_order w.orders which) → number_of which v ≡ node.var → rank_of w.orders (Inner node) ≡ rank_at w.orders which (place_of v (in_order w.orders which))
   number_rank Variables v node lt e =
       let f = sound.few_variables in
-      let small : node.var < 16384 = omega (arith, e, lt, f) in
-      rw (lt-ltb node.var 16384 small) (ap (λ x. place_of x w.orders.variables) (sym e))
+      let small : node.var < first_element = omega (arith, e, lt, f) in
+      rw (lt-ltb node.var first_element small) (ap (λ x. place_of x w.orders.variables) (sym e))
   number_rank Elements v node lt e =
-      let large : 16384 ≤ node.var = omega (arith, e) in
+      let large : first_element ≤ node.var = omega (arith, e) in
       let own : element_of node.var ≡ v = omega (arith, e) in
-      rw (le-ltb node.var 16384 large) (ap (λ x. length w.orders.variables + place_of x w.orders.elements) own)
+      rw (le-ltb node.var first_element large) (ap (λ x. length w.orders.variables + place_of x w.orders.elements) own)
 
   pub rank_is : (node : Node) (f : Denoted) → (st : Stands w node f) → rank_of w.orders (Inner node) ≡ rank_at w.orders (which_of f) (place_of st.var (order_of w.orders f))
   rank_is node f st =

@@ -3,7 +3,7 @@
 ghost use Rattle.std.specs.Prelude.{◌≡◌, ◌≤◌, IfOk};
 ghost use Rattle.node_slots.specs.Stores.{plain_view};
 
-use edge_bits::{Edge, Kind};
+use edge_bits::{Edge, Kind, MOST_ELEMENTS, MOST_VARIABLES};
 use node_slots::{Grow, Key, Opened, PlainStore, Stack, Stop};
 use std::alloc::Global;
 use std::process::Abort;
@@ -26,10 +26,10 @@ pub struct Watched<R: Abort + Drop> {
 }
 
 impl<R: Abort + Drop> Watched<R> {
-    /// A store of so many variables and elements, at most 1,024 each.
+    /// A store of so many variables and elements, at most `MOST_VARIABLES` and `MOST_ELEMENTS`.
     pub fn new(rt: R, alloc: Global, vars: u32, elements: u32) -> Result<Watched<R>, Fail>
-        requires vars { vars ≤ 1024 }
-        requires elements { elements ≤ 1024 }
+        requires vars { vars ≤ MOST_VARIABLES }
+        requires elements { elements ≤ MOST_ELEMENTS }
         ensures vars { IfOk result (λ w. (plain_view w.store).vars ≡ vars) }
         ensures elements { IfOk result (λ w. (plain_view w.store).elements ≡ elements) }
     {

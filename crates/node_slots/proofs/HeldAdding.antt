@@ -1,5 +1,5 @@
 -- A store in its holder's hands, after a node was found or stored: what its words say of the node, in the middle of a swap too.
-use Rattle.std.proofs.Common.{◌≡◌, ℕ, zero, suc, ◌+◌, ◌^◌, ◌<◌, ◌≤◌, inl, inr, Bool, true, List, length, set, Option, Some, None, ℤ, refl, ap, sym, ◌∙◌, subst, arith}
+use Rattle.std.proofs.Common.{◌≡◌, ℕ, ◌+◌, ◌^◌, ◌<◌, ◌≤◌, inl, inr, Bool, true, List, length, set, Option, Some, None, refl, ap, sym, ◌∙◌, subst, arith}
 use Rattle.std.proofs.lemmas.Bool.{cases_lt}
 use Rattle.std.proofs.lemmas.List.{length-set, get_or_past, get_or-set_other}
 use Rattle.edge_bits.specs.declared.edges.Edge.{Edge}
@@ -9,10 +9,9 @@ use Rattle.edge_bits.specs.declared.words.Node.{Node}
 use Rattle.edge_bits.specs.declared.words.Word.{Word}
 use Rattle.edge_bits.specs.declared.words.Word.TheVariants.{Inner, Leaf}
 use Rattle.edge_bits.specs.Permanent.{empty_edge}
-use Rattle.edge_bits.specs.Reading.{element_of, plain, slots_of}
+use Rattle.edge_bits.specs.Reading.{plain, slots_of}
 use Rattle.edge_bits.specs.Words.{IsInRange, unpack_of}
-use Rattle.function_laws.specs.Values.{constant}
-use Rattle.function_laws.specs.Families.{empty, base}
+use Rattle.function_laws.specs.Families.{empty}
 use Rattle.function_laws.specs.Kinds.{Denoted, BddFunction, AddFunction, ZddFamily, ValueOf, function_of, joined_at, Lacks, flipped}
 use Rattle.node_store.specs.Edges.{flip_if}
 use Rattle.node_store.specs.KindLaws.{flipped-some}
@@ -20,6 +19,7 @@ use Rattle.node_store.specs.Views.{IsVariable, IsProper, CanMake, function_at, v
 use Rattle.node_store.specs.Contents.{Content, IsSound, constant_value, is_used, used_slots, view_of}
 use Rattle.node_store.specs.Changes.{Added, CanAdd, HasRoomFor, put_at, with_node}
 use Rattle.node_store.proofs.Adding.{added_sound}
+use Rattle.node_store.proofs.LeafLemmas.{leaf_lacks}
 use Rattle.node_store.proofs.Parting.{depends, same_kind, same_parts, same_values}
 use Rattle.node_store.proofs.Rewriting.{put_at-same}
 use Rattle.node_store.proofs.Standing.{flipped_up_to}
@@ -33,7 +33,6 @@ use Rattle.node_slots.proofs.HeldLaws.{after_none, slots_put}
 use Rattle.node_slots.proofs.HeldRewriting.{edge_small, unlinked, variable_small, with_words, words_become}
 use Rattle.node_slots.proofs.Looking.{count_words}
 use Rattle.node_slots.proofs.Making.{Normal, child_is, node_with, normal, unturned}
-use Rattle.node_slots.proofs.Settling.{base-without}
 
 -- a node is told by its variable and its children
 node_is : (a b i j : ℕ) (d e : Edge) → a ≡ b → i ≡ j → d ≡ e → ◌≡◌ {A = Node} (record { var = a; hi = i; lo = d }) (record { var = b; hi = j; lo = e })
@@ -66,33 +65,6 @@ module _ (w : Content) (sound : IsSound w) where
       by_kind : (j : Kind) → j ≡ k → (f g : ℕ → ValueOf j) → function_of j f ≡ function_of k high → function_of j g ≡ function_of k low → function_of j (joined_at j node.var f g) ≡ function_of k (joined_at k node.var high low)
       by_kind j jk = subst (λ j. (f g : ℕ → ValueOf j) → function_of j f ≡ function_of k high → function_of j g ≡ function_of k low → function_of j (joined_at j node.var f g) ≡ function_of k (joined_at k node.var high low)) (sym jk)
           (λ f g eh el. ap (function_of k) (ap (λ x. joined_at k node.var x g) (same_values k f high eh) ∙ ap (joined_at k node.var high) (same_values k g low el)))
-
-  -- a leaf's function depends on no variable
-  leaf_lacks : (s : ℕ) (x : ℤ) (k : Kind) (f : ℕ → ValueOf k) (v : ℕ) → w.word s ≡ Some (Leaf x) → w.function s ≡ Some (function_of k f) → Lacks k f v
-  leaf_lacks zero x k f v word h = by_kind k f (let e : Some (function_of k f) ≡ Some (BddFunction (constant true)) = sym h ∙ sound.logic_one in cc)
-    where
-      by_kind : (k : Kind) (f : ℕ → ValueOf k) → function_of k f ≡ BddFunction (constant true) → Lacks k f v
-      by_kind Bdd f e = let same : f ≡ constant true = cc in subst (λ g. Lacks Bdd g v) (sym same) (λ a b. refl)
-      by_kind Add f e = cc
-      by_kind Zdd f e = cc
-  leaf_lacks (suc zero) x k f v word h = by_kind k f (let e : Some (function_of k f) ≡ Some (ZddFamily empty) = sym h ∙ sound.empty_family in cc)
-    where
-      by_kind : (k : Kind) (f : ℕ → ValueOf k) → function_of k f ≡ ZddFamily empty → Lacks k f v
-      by_kind Zdd f e = let same : f ≡ empty = cc in subst (λ g. Lacks Zdd g v) (sym same) (λ a has. refl)
-      by_kind Add f e = cc
-      by_kind Bdd f e = cc
-  leaf_lacks (suc (suc zero)) x k f v word h = by_kind k f (let e : Some (function_of k f) ≡ Some (ZddFamily base) = sym h ∙ sound.base_family in cc)
-    where
-      by_kind : (k : Kind) (f : ℕ → ValueOf k) → function_of k f ≡ ZddFamily base → Lacks k f v
-      by_kind Zdd f e = let same : f ≡ base = cc in subst (λ g. Lacks Zdd g v) (sym same) (base-without (element_of v))
-      by_kind Add f e = cc
-      by_kind Bdd f e = cc
-  leaf_lacks (suc (suc (suc s))) x k f v word h = by_kind k f (let e : Some (function_of k f) ≡ Some (AddFunction (constant x)) = sym h ∙ (sound.leaves (suc (suc (suc s))) x (omega arith) word).0 in cc)
-    where
-      by_kind : (k : Kind) (f : ℕ → ValueOf k) → function_of k f ≡ AddFunction (constant x) → Lacks k f v
-      by_kind Add f e = let same : f ≡ constant x = cc in subst (λ g. Lacks Add g v) (sym same) (λ a b. refl)
-      by_kind Bdd f e = cc
-      by_kind Zdd f e = cc
 
   -- a node's slot is none of the constants'
   node_high : (s : ℕ) (node : Node) → w.word s ≡ Some (Inner node) → 5 ≤ s
@@ -163,7 +135,7 @@ module _ (w : Content) (sound : IsSound w) where
                   node_is v node.var hi.index node.hi (flip_if hi.complement lo) node.lo (sym var) then_same else_same)
 
           by_word : (word : Word) → w.word s ≡ Some word → w.word s ≡ Some (Inner stored)
-          by_word (Leaf x) word = absurd (depends k v high low lacks_high lacks_low proper (leaf_lacks s x k (joined_at k v high low) v word h))
+          by_word (Leaf x) word = absurd (depends k v high low lacks_high lacks_low proper (leaf_lacks w sound s x k (joined_at k v high low) v word h))
           by_word (Inner node) word =
               let denoted = turned.gives (w.function s) h in
               let var = can.alone (children_proper child) s node word (flipped_up_to k hi.complement (w.function s) (node_values k (view_of w) v hi lo) denoted) in

@@ -10,6 +10,8 @@ use Rattle.edge_bits.specs.declared.words.Node.{Node}
 use Rattle.edge_bits.specs.declared.words.Word.TheVariants.{Inner}
 use Rattle.edge_bits.specs.Words.{IsInRange, unpack_of}
 use Rattle.edge_bits.specs.Reading.{element_of, slots_of}
+use Rattle.edge_bits.specs.Permanent.{first_element}
+use Rattle.edge_bits.specs.declared.limits.TheConstants.{MOST_LEVELS}
 use Rattle.function_laws.specs.Kinds.{function_of}
 use Rattle.function_laws.specs.SiftedOrders.{place_of}
 use Rattle.node_store.specs.KindLaws.{flipped-some}
@@ -33,18 +35,18 @@ abbrev pub with_words : Held → List ℕ → Option HalfSwap → Held
 with_words h ws half = record { plain = record h.plain { words = ws }; half = half; chain = record h.chain { linked = false } }
 
 module _ (h : Held) (held : IsHeld h) where
-  -- the level of a variable, below 1024
-  levels_known : (levels at : List ℕ) → AreInverse levels at → IsOrder at → length levels ≤ 1024 → (v : ℕ) → v < length levels → (get_or levels v 0 ≡ place_of v at) × (get_or levels v 0 < 1024)
+  -- the level of a variable, below the most
+  levels_known : (levels at : List ℕ) → AreInverse levels at → IsOrder at → length levels ≤ MOST_LEVELS → (v : ℕ) → v < length levels → (get_or levels v 0 ≡ place_of v at) × (get_or levels v 0 < MOST_LEVELS)
   levels_known levels at inverse order few v lt =
       let e = level_is levels at inverse order v lt in
       let long = inverse.as_many in
       let stands = order.stands v (omega (arith, lt, long)) in
       (e, omega (arith, e, stands, long, few))
 
-  pub level_known : (k : Kind) (v : ℕ) → IsVariable k (plain_view h.plain) v → (level_in h.plain v ≡ level_of (held_view h).orders v) × (level_in h.plain v < 1024)
-  level_known Bdd v vn = rw (lt-ltb v 16384 vn.0) (levels_known h.plain.variable_levels h.plain.variables_at held.variables_stand held.sound.variables held.few_variables v vn.1)
-  level_known Add v vn = rw (lt-ltb v 16384 vn.0) (levels_known h.plain.variable_levels h.plain.variables_at held.variables_stand held.sound.variables held.few_variables v vn.1)
-  level_known Zdd v vn = rw (le-ltb v 16384 vn.0)
+  pub level_known : (k : Kind) (v : ℕ) → IsVariable k (plain_view h.plain) v → (level_in h.plain v ≡ level_of (held_view h).orders v) × (level_in h.plain v < MOST_LEVELS)
+  level_known Bdd v vn = rw (lt-ltb v first_element vn.0) (levels_known h.plain.variable_levels h.plain.variables_at held.variables_stand held.sound.variables held.few_variables v vn.1)
+  level_known Add v vn = rw (lt-ltb v first_element vn.0) (levels_known h.plain.variable_levels h.plain.variables_at held.variables_stand held.sound.variables held.few_variables v vn.1)
+  level_known Zdd v vn = rw (le-ltb v first_element vn.0)
       (levels_known h.plain.element_levels h.plain.elements_at held.elements_stand held.sound.elements held.few_elements (element_of v) (let a = vn.0 in let b = vn.1 in omega arith))
 
   pub variable_held : (k : Kind) (v : ℕ) → IsVariable k (view_of (held_view h)) v → IsVariable k (plain_view h.plain) v
@@ -155,30 +157,30 @@ rewriting q h same held s v hi lo can old was ws bits is here half pair =
     (subst (λ xs. Becomes (rewritten (held_view q) s v hi lo) (with_words q xs (Some half))) (sym is) done)
 
 -- a level that is read out of an order's list
-pub variable_level_few : (q h : Held) → q ≡ h → IsHeld q → (v x : ℕ) → (k : Kind) × IsVariable k (plain_view h.plain) v → v < 16384 → x ≡ get_or q.plain.variable_levels v x → x < 1024
-variable_level_few q h same held v x vn below is = subst (λ y. (k : Kind) × IsVariable k (plain_view y.plain) v → x < 1024) same (λ n. at n.0 n.1) vn
+pub variable_level_few : (q h : Held) → q ≡ h → IsHeld q → (v x : ℕ) → (k : Kind) × IsVariable k (plain_view h.plain) v → v < first_element → x ≡ get_or q.plain.variable_levels v x → x < MOST_LEVELS
+variable_level_few q h same held v x vn below is = subst (λ y. (k : Kind) × IsVariable k (plain_view y.plain) v → x < MOST_LEVELS) same (λ n. at n.0 n.1) vn
   where
-    within : v < length q.plain.variable_levels → x < 1024
+    within : v < length q.plain.variable_levels → x < MOST_LEVELS
     within lt =
         let known = levels_known q held q.plain.variable_levels q.plain.variables_at held.variables_stand held.sound.variables held.few_variables v lt in
         let read = get_or_default_zero q.plain.variable_levels v x lt in
         omega (arith, known.1, read, is)
 
-    at : (k : Kind) → IsVariable k (plain_view q.plain) v → x < 1024
+    at : (k : Kind) → IsVariable k (plain_view q.plain) v → x < MOST_LEVELS
     at Bdd n = within n.1
     at Add n = within n.1
     at Zdd n = let high = n.0 in absurd (omega arith)
 
-pub element_level_few : (q h : Held) → q ≡ h → IsHeld q → (v x : ℕ) → (k : Kind) × IsVariable k (plain_view h.plain) v → 16384 ≤ v → x ≡ get_or q.plain.element_levels (v - 16384) x → x < 1024
-element_level_few q h same held v x vn above is = subst (λ y. (k : Kind) × IsVariable k (plain_view y.plain) v → x < 1024) same (λ n. at n.0 n.1) vn
+pub element_level_few : (q h : Held) → q ≡ h → IsHeld q → (v x : ℕ) → (k : Kind) × IsVariable k (plain_view h.plain) v → first_element ≤ v → x ≡ get_or q.plain.element_levels (v - first_element) x → x < MOST_LEVELS
+element_level_few q h same held v x vn above is = subst (λ y. (k : Kind) × IsVariable k (plain_view y.plain) v → x < MOST_LEVELS) same (λ n. at n.0 n.1) vn
   where
-    within : v - 16384 < length q.plain.element_levels → x < 1024
+    within : v - first_element < length q.plain.element_levels → x < MOST_LEVELS
     within lt =
-        let known = levels_known q held q.plain.element_levels q.plain.elements_at held.elements_stand held.sound.elements held.few_elements (v - 16384) lt in
-        let read = get_or_default_zero q.plain.element_levels (v - 16384) x lt in
+        let known = levels_known q held q.plain.element_levels q.plain.elements_at held.elements_stand held.sound.elements held.few_elements (v - first_element) lt in
+        let read = get_or_default_zero q.plain.element_levels (v - first_element) x lt in
         omega (arith, known.1, read, is)
 
-    at : (k : Kind) → IsVariable k (plain_view q.plain) v → x < 1024
+    at : (k : Kind) → IsVariable k (plain_view q.plain) v → x < MOST_LEVELS
     at Bdd n = let low = n.0 in absurd (omega arith)
     at Add n = let low = n.0 in absurd (omega arith)
     at Zdd n = let low = n.1 in within (omega arith)

@@ -12,6 +12,8 @@ use Rattle.edge_bits.specs.declared.words.Word.{Word}
 use Rattle.edge_bits.specs.declared.words.Word.TheVariants.{Inner, Leaf}
 use Rattle.edge_bits.specs.Assignments.{bit, set_bit}
 use Rattle.edge_bits.proofs.AssignmentLemmas.{bit-set_same, bit-set_other}
+use Rattle.edge_bits.specs.Permanent.{first_element}
+use Rattle.edge_bits.specs.declared.limits.TheConstants.{MOST_ELEMENTS, MOST_SLOTS, MOST_VARIABLES}
 use Rattle.function_laws.specs.Values.{constant, projection}
 use Rattle.function_laws.specs.Numbers.{is_value, is_zero}
 use Rattle.function_laws.specs.Families.{empty, base}
@@ -68,17 +70,17 @@ IsOrdered-ascending p n m lv le = record { within = within; alone = alone }
     count_e : length p.element_levels ≡ m
     count_e = ap length le ∙ length-range_with_len 0 m
 
-    of_variable : (v : ℕ) → v < 16384 → v < length p.variable_levels → level_in p v ≡ v
+    of_variable : (v : ℕ) → v < first_element → v < length p.variable_levels → level_in p v ≡ v
     of_variable v small lt =
-        let t : nat_lt v 16384 ≡ true = grind (arith, small) in
+        let t : nat_lt v first_element ≡ true = grind (arith, small) in
         let lt2 : v < n = omega (arith, count_v, lt) in
         rw t (ap (λ (xs : List ℕ). slice_index xs v) lv ∙ get_or-range_with_len 0 n v 0 lt2 ∙ zero-add v)
 
-    of_element : (v : ℕ) → 16384 ≤ v → v < 16384 + length p.element_levels → level_in p v ≡ v - 16384
+    of_element : (v : ℕ) → first_element ≤ v → v < first_element + length p.element_levels → level_in p v ≡ v - first_element
     of_element v high lt =
-        let t : nat_lt v 16384 ≡ false = grind (arith, high) in
-        let lt2 : v - 16384 < m = omega (arith, count_e, lt) in
-        rw t (ap (λ (xs : List ℕ). slice_index xs (v - 16384)) le ∙ get_or-range_with_len 0 m (v - 16384) 0 lt2 ∙ zero-add (v - 16384))
+        let t : nat_lt v first_element ≡ false = grind (arith, high) in
+        let lt2 : v - first_element < m = omega (arith, count_e, lt) in
+        rw t (ap (λ (xs : List ℕ). slice_index xs (v - first_element)) le ∙ get_or-range_with_len 0 m (v - first_element) 0 lt2 ∙ zero-add (v - first_element))
 
     within : (k : Kind) (v : ℕ) → IsVariable k (plain_view p) v → level_in p v < levels k (plain_view p)
     within Bdd v h = let e = of_variable v h.0 h.1 in let l = h.1 in omega (arith, e, l)
@@ -176,7 +178,7 @@ module _ (p : Plain) (first : HasPermanent p) (free : (s : ℕ) → 5 + length p
     | inr le ↦ (let w = high_slot s le (Leaf x) is in let e = w.2 in cc)
   ]
 
-  module _ (orders : IsOrdered p) (few : length p.variable_levels ≤ 1024) where
+  module _ (orders : IsOrdered p) (few : length p.variable_levels ≤ MOST_VARIABLES) where
     projection_kept : (v : ℕ) → v < length p.variable_levels → IsNode Bdd p (projection_node v)
     unfolding function_at_most
     projection_kept v lt =
@@ -207,7 +209,7 @@ module _ (p : Plain) (first : HasPermanent p) (free : (s : ℕ) → 5 + length p
     never_some kept e = cc
 
     -- the store is canonical
-    pub IsStore-opening : ((r : Refused) → p.due ≡ Some r → ⊥) → length p.element_levels ≤ 1024 → 5 + length p.variable_levels ≤ length p.words → length p.words < 2 ^ 23 → AreHolds p
+    pub IsStore-opening : ((r : Refused) → p.due ≡ Some r → ⊥) → length p.element_levels ≤ MOST_ELEMENTS → 5 + length p.variable_levels ≤ length p.words → length p.words < 2 ^ 23 → AreHolds p
         → AreInverse p.variable_levels p.variables_at → AreInverse p.element_levels p.elements_at → ((i : ℕ) → kept_at p.memo i ≡ None) → IsStore p
     IsStore-opening none elements room words holds variables_stand elements_stand empty = record {
       ordered = orders;
@@ -239,7 +241,7 @@ ascending_inverse n =
           (omega arith, ap (slice_index (range_with_len 0 n)) here ∙ here));
     }
 
-pub IsStore-new : (p : Plain) (vars elements limit : ℕ) → vars ≤ 1024 → elements ≤ 1024 → 5 + vars ≤ limit → limit ≤ 8388607 → IsOpening vars elements limit p → IsStore p
+pub IsStore-new : (p : Plain) (vars elements limit : ℕ) → vars ≤ MOST_VARIABLES → elements ≤ MOST_ELEMENTS → 5 + vars ≤ limit → limit ≤ MOST_SLOTS → IsOpening vars elements limit p → IsStore p
 IsStore-new p vars elements limit fv fe least most o =
     let n = ap length o.variable_levels ∙ length-range_with_len 0 vars in
     let m = ap length o.element_levels ∙ length-range_with_len 0 elements in

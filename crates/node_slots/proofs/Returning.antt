@@ -7,6 +7,7 @@ use Rattle.edge_bits.specs.declared.edges.Kind.TheVariants.{Bdd, Add, Zdd}
 use Rattle.edge_bits.specs.declared.words.Node.{Node}
 use Rattle.edge_bits.specs.declared.words.Word.TheVariants.{Inner, Leaf}
 use Rattle.edge_bits.specs.Reading.{element_of, plain}
+use Rattle.edge_bits.specs.Permanent.{first_element}
 use Rattle.function_laws.specs.Values.{negation}
 use Rattle.function_laws.specs.Numbers.{is_value}
 use Rattle.function_laws.specs.SiftedOrders.{place_of}
@@ -55,22 +56,22 @@ level_is levels at inverse order v lt =
 module _ (p : Plain) (variables : AreInverse p.variable_levels p.variables_at) (elements : AreInverse p.element_levels p.elements_at)
     (first : HasPermanent p) (sound : IsSound (content_view p)) where
   level_known : (k : Kind) (v : ℕ) → IsVariable k (plain_view p) v → level_in p v ≡ level_of (content_view p).orders v
-  level_known Bdd v h = rw (lt-ltb v 16384 h.0) (level_is p.variable_levels p.variables_at variables sound.variables v h.1)
-  level_known Add v h = rw (lt-ltb v 16384 h.0) (level_is p.variable_levels p.variables_at variables sound.variables v h.1)
-  level_known Zdd v h = rw (le-ltb v 16384 h.0) (level_is p.element_levels p.elements_at elements sound.elements (element_of v) (let a = h.0 in let b = h.1 in omega arith))
+  level_known Bdd v h = rw (lt-ltb v first_element h.0) (level_is p.variable_levels p.variables_at variables sound.variables v h.1)
+  level_known Add v h = rw (lt-ltb v first_element h.0) (level_is p.variable_levels p.variables_at variables sound.variables v h.1)
+  level_known Zdd v h = rw (le-ltb v first_element h.0) (level_is p.element_levels p.elements_at elements sound.elements (element_of v) (let a = h.0 in let b = h.1 in omega arith))
 
   on : (k : Kind) (v : ℕ) → IsVariable k (plain_view p) v → IsVariable k (view_of (content_view p)) v
   on = variable_on p variables.as_many elements.as_many
 
   level_within : (k : Kind) (v : ℕ) → IsVariable k (plain_view p) v → level_in p v < levels k (plain_view p)
   level_within Bdd v h = let e = level_is p.variable_levels p.variables_at variables sound.variables v h.1 in let long = variables.as_many in
-      let s = sound.variables.stands v (omega (arith, h.1, long)) in rw (lt-ltb v 16384 h.0) (omega (arith, e, s, long))
+      let s = sound.variables.stands v (omega (arith, h.1, long)) in rw (lt-ltb v first_element h.0) (omega (arith, e, s, long))
   level_within Add v h = let e = level_is p.variable_levels p.variables_at variables sound.variables v h.1 in let long = variables.as_many in
-      let s = sound.variables.stands v (omega (arith, h.1, long)) in rw (lt-ltb v 16384 h.0) (omega (arith, e, s, long))
+      let s = sound.variables.stands v (omega (arith, h.1, long)) in rw (lt-ltb v first_element h.0) (omega (arith, e, s, long))
   level_within Zdd v h =
       let a = h.0 in let b = h.1 in
       let e = level_is p.element_levels p.elements_at elements sound.elements (element_of v) (omega arith) in let long = elements.as_many in
-      let s = sound.elements.stands (element_of v) (omega (arith, a, b, long)) in rw (le-ltb v 16384 h.0) (omega (arith, e, s, long))
+      let s = sound.elements.stands (element_of v) (omega (arith, a, b, long)) in rw (le-ltb v first_element h.0) (omega (arith, e, s, long))
 
   level_alone : (k : Kind) (u v : ℕ) → IsVariable k (plain_view p) u → IsVariable k (plain_view p) v → level_in p u ≡ level_in p v → u ≡ v
   level_alone k u v hu hv e = level_once (content_view p) sound k u v (on k u hu) (on k v hv) (sym (level_known k u hu) ∙ e ∙ level_known k v hv)

@@ -1,35 +1,32 @@
 -- A store as it is between swaps is a sound whole store.
-use Rattle.std.proofs.Common.{◌≡◌, ◌≢◌, ℕ, zero, suc, ◌+◌, ◌-◌, ◌<◌, ◌≤◌, inl, inr, true, false, length, Some, ℤ, refl, ap, sym, ◌∙◌, subst, arith}
+use Rattle.std.proofs.Common.{◌≡◌, ◌≢◌, ℕ, zero, suc, ◌+◌, ◌-◌, ◌<◌, ◌≤◌, inl, inr, true, length, Some, ℤ, refl, ap, sym, ◌∙◌, subst, arith}
 use Rattle.std.specs.Prelude.{slice_index}
-use Rattle.std.proofs.lemmas.Bool.{lt-ltb, le-ltb, ne_eqb}
+use Rattle.std.proofs.lemmas.Bool.{lt-ltb, le-ltb}
 use Rattle.edge_bits.specs.declared.edges.Edge.{Edge}
 use Rattle.edge_bits.specs.declared.edges.Kind.{Kind}
 use Rattle.edge_bits.specs.declared.edges.Kind.TheVariants.{Bdd, Add, Zdd}
 use Rattle.edge_bits.specs.declared.words.Node.{Node}
 use Rattle.edge_bits.specs.declared.words.Word.{Word}
 use Rattle.edge_bits.specs.declared.words.Word.TheVariants.{Inner, Leaf}
-use Rattle.edge_bits.specs.Assignments.{bit}
 use Rattle.edge_bits.specs.Reading.{element_of, plain}
+use Rattle.edge_bits.specs.Permanent.{first_element}
 use Rattle.function_laws.specs.Values.{constant}
 use Rattle.function_laws.specs.Numbers.{is_value}
-use Rattle.function_laws.specs.Families.{empty, base, IsWithout}
+use Rattle.function_laws.specs.Families.{empty, base}
 use Rattle.function_laws.specs.Kinds.{Denoted, BddFunction, AddFunction, ZddFamily, ValueOf, function_of, Lacks}
 use Rattle.node_store.specs.KindLaws.{Fits-joined, Lacks-joined}
 use Rattle.node_store.specs.Views.{View, Denotes, IsBeyond, IsLeafOf, logic_one, logic_zero, number, no_member, only_base, IsVariable, function_at, values_at, node_values}
 use Rattle.node_store.specs.ViewLaws.{Apart-beyond, Apart-variables}
 use Rattle.node_store.specs.Contents.{IsNodeOf, IsSound, constant_value, level_of, view_of}
+use Rattle.node_store.proofs.TwoParts.{base-without}
 use Rattle.node_slots.specs.Stores.{Plain, slots, level_in, longest, content_of, plain_view, IsStore}
 use Rattle.node_slots.specs.Wholes.{content_view}
 use Rattle.node_slots.proofs.Reading.{in_words, used}
 use Rattle.node_slots.proofs.Solving.{content_node}
 use Rattle.node_slots.proofs.Canonical.{inner_high, leaf_or_node, regular_slot}
 use Rattle.node_slots.proofs.Calls.{leaf_content, permanent_is}
-use Rattle.node_slots.proofs.Opening.{bit-zero}
 use Rattle.node_slots.proofs.Ones.{true_on_ones}
 use Rattle.node_slots.proofs.Orders.{IsOrderOf, order_of_levels}
-
-pub base-without : (e : ℕ) → IsWithout base e
-base-without e a has = ne_eqb a 0 (λ none. let never : true ≡ false = sym has ∙ ap (λ x. bit x e) none ∙ bit-zero e in cc)
 
 -- a leaf's function, whatever the store
 leaf_denotes : (w : View) (k : Kind) (e : Edge) (f : ℕ → ValueOf k) (x : ℤ) → IsLeafOf k e f x → function_at w e ≡ Some (function_of k f) → is_value x ≡ true → Denotes k w e f
@@ -63,15 +60,15 @@ module _ (p : Plain) (variables : length p.variables_at ≡ length p.variable_le
 
 module _ (p : Plain) (st : IsStore p) where
   -- the two orders
-  variable_level : (v : ℕ) → v < 16384 → level_in p v ≡ slice_index p.variable_levels v
-  variable_level v lt = rw (lt-ltb v 16384 lt) refl
+  variable_level : (v : ℕ) → v < first_element → level_in p v ≡ slice_index p.variable_levels v
+  variable_level v lt = rw (lt-ltb v first_element lt) refl
 
-  element_level : (e : ℕ) → level_in p (16384 + e) ≡ slice_index p.element_levels e
+  element_level : (e : ℕ) → level_in p (first_element + e) ≡ slice_index p.element_levels e
   element_level e =
-      let own : 16384 + e - 16384 ≡ e = omega arith in
-      rw (le-ltb (16384 + e) 16384 (omega arith)) (ap (slice_index p.element_levels) own)
+      let own : first_element + e - first_element ≡ e = omega arith in
+      rw (le-ltb (first_element + e) first_element (omega arith)) (ap (slice_index p.element_levels) own)
 
-  small : (v : ℕ) → v < length p.variable_levels → v < 16384
+  small : (v : ℕ) → v < length p.variable_levels → v < first_element
   small v lt = let f = st.few_variables in omega arith
 
   variables_ordered : IsOrderOf p.variable_levels p.variables_at
@@ -81,13 +78,13 @@ module _ (p : Plain) (st : IsStore p) where
 
   elements_ordered : IsOrderOf p.element_levels p.elements_at
   elements_ordered = order_of_levels p.element_levels p.elements_at st.elements_stand
-      (λ v lt. let w = st.ordered.within Zdd (16384 + v) (omega arith, omega arith) in omega (arith, w, element_level v))
-      (λ u v lu lv e. let s = st.ordered.alone Zdd (16384 + u) (16384 + v) (omega arith, omega arith) (omega arith, omega arith) (element_level u ∙ e ∙ sym (element_level v)) in omega (arith, s))
+      (λ v lt. let w = st.ordered.within Zdd (first_element + v) (omega arith, omega arith) in omega (arith, w, element_level v))
+      (λ u v lu lv e. let s = st.ordered.alone Zdd (first_element + u) (first_element + v) (omega arith, omega arith) (omega arith, omega arith) (element_level u ∙ e ∙ sym (element_level v)) in omega (arith, s))
 
   pub level_same : (k : Kind) (v : ℕ) → IsVariable k (plain_view p) v → level_of (content_view p).orders v ≡ level_in p v
-  level_same Bdd v h = rw (lt-ltb v 16384 h.0) (variables_ordered.place v h.1)
-  level_same Add v h = rw (lt-ltb v 16384 h.0) (variables_ordered.place v h.1)
-  level_same Zdd v h = rw (le-ltb v 16384 h.0) (elements_ordered.place (element_of v) (let a = h.0 in let b = h.1 in omega arith))
+  level_same Bdd v h = rw (lt-ltb v first_element h.0) (variables_ordered.place v h.1)
+  level_same Add v h = rw (lt-ltb v first_element h.0) (variables_ordered.place v h.1)
+  level_same Zdd v h = rw (le-ltb v first_element h.0) (elements_ordered.place (element_of v) (let a = h.0 in let b = h.1 in omega arith))
 
   -- what a slot denotes is a function of the store's variables
   pub slot_denotes : (k : Kind) (s : ℕ) (f : ℕ → ValueOf k) → content_of p s ≡ Some (function_of k f) → Denotes k (plain_view p) (plain s) f

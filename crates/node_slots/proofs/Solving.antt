@@ -9,6 +9,7 @@ use Rattle.edge_bits.specs.declared.words.Node.{Node}
 use Rattle.edge_bits.specs.declared.words.Word.{Word}
 use Rattle.edge_bits.specs.declared.words.Word.TheVariants.{Inner}
 use Rattle.edge_bits.specs.Reading.{plain}
+use Rattle.edge_bits.specs.Permanent.{first_element}
 use Rattle.function_laws.specs.Values.{constant}
 use Rattle.function_laws.specs.Kinds.{AddFunction, ValueOf, function_of, Lacks, flipped}
 use Rattle.function_laws.proofs.DistinctLemmas.{In}
@@ -24,13 +25,13 @@ use Rattle.node_slots.proofs.Bridge.{denoted-by, in-without, without, without-le
 pub all_of : Kind → View → List ℕ
 all_of Bdd w = range_with_len 0 w.vars
 all_of Add w = range_with_len 0 w.vars
-all_of Zdd w = range_with_len 16384 w.elements
+all_of Zdd w = range_with_len first_element w.elements
 
 pub length-all : (k : Kind) (w : View) → length (all_of k w) ≡ levels k w
 unfolding all_of
 length-all Bdd w = length-range_with_len 0 w.vars
 length-all Add w = length-range_with_len 0 w.vars
-length-all Zdd w = length-range_with_len 16384 w.elements
+length-all Zdd w = length-range_with_len first_element w.elements
 
 in-range : (a n v : ℕ) → a ≤ v → v < a + n → In v (range_with_len a n)
 in-range a zero v le lt = absurd (omega arith)
@@ -43,7 +44,7 @@ pub in-all : (k : Kind) (w : View) (v : ℕ) → IsVariable k w v → In v (all_
 unfolding all_of
 in-all Bdd w v h = in-range 0 w.vars v (omega arith) (omega (arith, h.1))
 in-all Add w v h = in-range 0 w.vars v (omega arith) (omega (arith, h.1))
-in-all Zdd w v h = in-range 16384 w.elements v h.0 h.1
+in-all Zdd w v h = in-range first_element w.elements v h.0 h.1
 
 pub levels_short : (p : Plain) (k : Kind) → levels k (plain_view p) ≤ longest p
 levels_short p Bdd = omega arith

@@ -1,6 +1,7 @@
 -- A plain store in its holder's hands.
 use Rattle.std.proofs.Common.{refl, ap, ◌∙◌}
 use Rattle.std.specs.Prelude.{◌≡◌, ℕ, ◌+◌, ◌≤◌, length, Option, Some, None}
+use Rattle.edge_bits.specs.declared.limits.TheConstants.{MOST_ELEMENTS, MOST_VARIABLES}
 use Rattle.computed_cache.specs.Entries.{kept_at}
 use Rattle.node_store.specs.Contents.{Content, Pair, IsSound}
 use Rattle.level_table.specs.Linked.{IsLinkedTo}
@@ -29,8 +30,8 @@ pub record IsHeld (h : Held) : Type 0 where
   pub variables_stand : AreInverse h.plain.variable_levels h.plain.variables_at
   pub elements_stand : AreInverse h.plain.element_levels h.plain.elements_at
   pub permanent : HasPermanent h.plain
-  pub few_variables : length h.plain.variable_levels ≤ 1024
-  pub few_elements : length h.plain.element_levels ≤ 1024
+  pub few_variables : length h.plain.variable_levels ≤ MOST_VARIABLES
+  pub few_elements : length h.plain.element_levels ≤ MOST_ELEMENTS
   pub room : 5 + length h.plain.variable_levels ≤ length h.plain.words
   pub counted : length h.plain.counts ≡ length h.plain.words
   pub marks_fit : length h.plain.marks ≡ length h.plain.words

@@ -12,6 +12,7 @@ use Rattle.edge_bits.specs.declared.words.Word.{Word}
 use Rattle.edge_bits.specs.declared.words.Word.TheVariants.{Inner, Leaf}
 use Rattle.edge_bits.specs.Assignments.{set_bit}
 use Rattle.edge_bits.specs.Reading.{slots_of, element_of, plain}
+use Rattle.edge_bits.specs.declared.limits.TheConstants.{MOST_ELEMENTS, MOST_VARIABLES}
 use Rattle.function_laws.specs.Values.{constant}
 use Rattle.function_laws.specs.Numbers.{is_value}
 use Rattle.function_laws.specs.Kinds.{Denoted, AddFunction, ValueOf, flipped}
@@ -185,8 +186,8 @@ pub record IsStore (p : Plain) : Type 0 where
   pub elements_stand : AreInverse p.element_levels p.elements_at
   pub permanent : HasPermanent p
   pub canonical : IsCanonical p
-  pub few_variables : length p.variable_levels ≤ 1024
-  pub few_elements : length p.element_levels ≤ 1024
+  pub few_variables : length p.variable_levels ≤ MOST_VARIABLES
+  pub few_elements : length p.element_levels ≤ MOST_ELEMENTS
   pub room : 5 + length p.variable_levels ≤ length p.words
   pub few_words : length p.words < 2 ^ 23
   pub holds : AreHolds p

@@ -22,7 +22,7 @@ pub record AreFree (words : List ℕ) (taken : ℕ) (freed : List ℕ) : Type 0 
   pub once : (i j : ℕ) → i < j → j < length freed → slice_index freed i ≢ slice_index freed j
   pub all : (s : ℕ) → s < taken → slice_index words s ≡ 0 → (i : ℕ) × (i < length freed) × (slice_index freed i ≡ s)
 
--- whether the bits are those of a node of this variable, or of an element by 16384 and its number
+-- whether the bits are those of a node of this variable, or of an element by first_element and its number
 abbrev pub is_node_of : ℕ → ℕ → Bool
 is_node_of v bits = is_node_in v (unpack_of bits)
 

@@ -8,7 +8,7 @@ use crate::count_table::CountTable;
 use crate::node_table::{NodeTable, next_number};
 use crate::plain_store::{only_child, opened};
 use computed_cache::Memo;
-use edge_bits::{Edge, FIRST_ELEMENT, Node, Word, unpack};
+use edge_bits::{Edge, FIRST_ELEMENT, MOST_LEVELS, Node, Word, unpack};
 use handle_count::next_generation;
 use level_table::SlotNotes;
 use node_store::binary::flip_if;
@@ -59,7 +59,7 @@ impl Model for HeldStore {
 fn exchange_places(levels: &mut [u32], at: &mut [u32], level: usize)
     requires inverse { AreInverse levels.old at.old }
     requires within { level + 1 < length at.old }
-    requires few { length at.old ≤ 1024 }
+    requires few { length at.old ≤ MOST_LEVELS }
     ensures inverse { AreInverse levels.new at.new }
     ensures at { at.new ≡ swap at.old level (level + 1) }
     ensures as_many { length levels.new ≡ length levels.old }
@@ -86,7 +86,7 @@ impl HeldStore {
         requires { (k : Kind) × IsVariable k (plain_view self.now.plain) var }
         ensures stored { result ≡ level_in self.now.plain var }
         ensures level { result ≡ level_of (held_view self.now).orders var }
-        ensures few { result < 1024 }
+        ensures few { result < MOST_LEVELS }
     {
         if var < FIRST_ELEMENT {
             self.variable_levels[var as usize]

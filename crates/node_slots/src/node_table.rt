@@ -10,7 +10,10 @@ ghost use Rattle.node_slots.specs.Stores.{is_word, permanent_word};
 ghost use Rattle.node_slots.specs.Taking.{ArePacked, AreCounted, AreFree, HasNoZero, IsPut, nodes_of};
 
 use crate::node_counts::NodeCounts;
-use edge_bits::{Edge, FIRST_PROJECTION, Memory, Node, TRUE_SLOT, Word, ZERO_SLOT, unpack};
+use edge_bits::{
+    Edge, FIRST_PROJECTION, MOST_SLOTS, MOST_VARIABLES, Memory, Node, TRUE_SLOT, Word, ZERO_SLOT,
+    unpack,
+};
 use level_table::SlotTable;
 use std::alloc::Global;
 use std::marker::Model;
@@ -48,21 +51,6 @@ fn pack(word: &Word) -> u64
     edge_bits::pack(*word)
 }
 
-/// Where a word stands, beyond the slots that are told by their number.
-pub(crate) fn find(words: &[u64], wanted: &Word) -> Option<usize>
-    ensures found { IfSome result (λ s. slots_of words.now s ≡ Some wanted.now) }
-    ensures high { IfSome result (λ s. zero_slot ≤ s) }
-    ensures within { IfSome result (λ s. s < length words.now) }
-    ensures absent { IfNone result ((t : ℕ) → zero_slot ≤ t → slots_of words.now t ≡ Some wanted.now → ⊥) }
-{
-    for (slot, bits) in words.iter().enumerate() {
-        if slot >= ZERO_SLOT as usize && unpack(*bits) == Some(*wanted) {
-            return Some(slot);
-        }
-    }
-    None
-}
-
 /// Whether the bits are those of a leaf.
 fn is_number(bits: u64) -> bool
     ensures { result ≡ is_leaf (unpack_of bits) }
@@ -87,7 +75,7 @@ pub(crate) fn next_number(words: &[u64], from: u32) -> Option<u32>
 
 /// The word of a permanent slot.
 fn permanent(slot: u32) -> Word
-    requires { slot < first_projection + 1024 }
+    requires { slot < first_projection + MOST_VARIABLES }
     ensures word { result ≡ permanent_word slot }
     ensures range { IsInRange result }
 {
@@ -104,7 +92,7 @@ fn permanent(slot: u32) -> Word
 
 /// Writes the words of the permanent slots into a table without any, and counts their nodes.
 fn append_permanent(table: &mut SlotTable, nodes: &mut NodeCounts, vars: u32)
-    requires vars { vars ≤ 1024 }
+    requires vars { vars ≤ MOST_VARIABLES }
     requires room { first_projection + vars ≤ length table.old.words }
     requires empty { table.old.taken ≡ 0 }
     requires free { (s : ℕ) → slice_index table.old.words s ≡ 0 }
@@ -160,9 +148,9 @@ fn overwrite(table: &mut SlotTable, slot: u32, bits: u64)
 impl NodeTable {
     /// So many slots, of which the permanent ones have their words. Room for the others is taken and not written to.
     pub fn new(alloc: Global, vars: u32, limit: u32) -> Result<NodeTable, Memory>
-        requires vars { vars ≤ 1024 }
+        requires vars { vars ≤ MOST_VARIABLES }
         requires least { first_projection + vars ≤ limit }
-        requires most { limit ≤ 8388607 }
+        requires most { limit ≤ MOST_SLOTS }
         ensures slots_are { IfOk result (λ words. length words ≡ limit) }
         ensures permanent { IfOk result (λ words. (s : ℕ) → s < first_projection + vars → slots_of words s ≡ Some (permanent_word s)) }
         ensures free { IfOk result (λ words. (s : ℕ) → first_projection + vars ≤ s → slots_of words s ≡ None) }

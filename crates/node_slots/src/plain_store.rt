@@ -11,10 +11,11 @@ ghost use Rattle.node_store.specs.Contents.{opened_of};
 
 use crate::count_table::CountTable;
 use crate::held_store::HeldStore;
-use crate::node_table::{NodeTable, find};
+use crate::node_table::NodeTable;
 use computed_cache::Memo;
 use edge_bits::{
-    EMPTY_SLOT, Edge, FIRST_ELEMENT, FIRST_PROJECTION, Kind, Memory, Node, Word, unpack,
+    EMPTY_SLOT, Edge, FIRST_ELEMENT, FIRST_PROJECTION, Kind, MOST_ELEMENTS, MOST_SLOTS,
+    MOST_VARIABLES, Memory, Node, Word, unpack,
 };
 use handle_count::{lower, next_generation, raise};
 use level_table::SlotNotes;
@@ -256,17 +257,6 @@ fn ascending(alloc: Global, count: u32) -> Result<Vec<u32>, Memory>
     Ok(levels)
 }
 
-/// Whether the bits are those of a node that names the slot.
-fn names(bits: u64, slot: u32) -> bool
-    ensures no { result ≡ false → (node : Node) → unpack_of bits ≡ Some (Word.Inner node) → (node.hi ≢ slot) × (node.lo.index ≢ slot) }
-    ensures yes { IsTrue result → (node : Node) × (unpack_of bits ≡ Some (Word.Inner node)) × ((node.hi ≡ slot) ⊎ (node.lo.index ≡ slot)) }
-{
-    match unpack(bits) {
-        Some(Word::Inner(node)) => node.hi == slot || node.lo.index() == slot,
-        _ => false,
-    }
-}
-
 impl PlainStore {
     ghost use Rattle.edge_bits.specs.declared.edges.Kind.{Kind};
     ghost use Rattle.std.specs.Prelude.{Bool, ℤ};
@@ -284,12 +274,12 @@ impl PlainStore {
     ghost use Rattle.node_slots.specs.Counts.{IsFreed, IsRecounted, IsUnnamed};
     ghost use Rattle.node_slots.specs.Taking.{nodes_of};
 
-    /// A store of so many variables and elements, at most 1,024 each, with so many slots: 5 and one for each variable at least, 8,388,607 at most. Both orders are 0, 1, 2, ..
+    /// A store of so many variables and elements, at most `MOST_VARIABLES` and `MOST_ELEMENTS`, with so many slots: 5 and one for each variable at least, `MOST_SLOTS` at most. Both orders are 0, 1, 2, ..
     pub fn new(alloc: Global, vars: u32, elements: u32, limit: u32) -> Result<PlainStore, Memory>
-        requires vars { vars ≤ 1024 }
-        requires elements { elements ≤ 1024 }
+        requires vars { vars ≤ MOST_VARIABLES }
+        requires elements { elements ≤ MOST_ELEMENTS }
         requires least { 5 + vars ≤ limit }
-        requires most { limit ≤ 8388607 }
+        requires most { limit ≤ MOST_SLOTS }
         ensures { IfOk result (IsOpening vars elements limit) }
     {
         let variable_levels = ascending(alloc, vars)?;
@@ -320,17 +310,9 @@ impl PlainStore {
     /// The number of variables.
     pub fn vars(&self) -> u32
         ensures vars { result ≡ (plain_view self.now).vars }
-        ensures few { result ≤ 1024 }
+        ensures few { result ≤ MOST_VARIABLES }
     {
         self.variable_levels.len() as u32
-    }
-
-    /// The number of elements, at most 1,024.
-    pub fn elements(&self) -> u32
-        ensures elements { result ≡ (plain_view self.now).elements }
-        ensures few { result ≤ 1024 }
-    {
-        self.element_levels.len() as u32
     }
 
     /// The variable at a level of the order of the variables.
@@ -342,15 +324,6 @@ impl PlainStore {
         self.variables_at[level as usize]
     }
 
-    /// The element at a level of the order of the elements, as 16,384 and its number.
-    pub fn element_at(&self, level: u32) -> u32
-        requires { level < (plain_view self.now).elements }
-        ensures in_range { IsVariable Zdd (plain_view self.now) result }
-        ensures level { (plain_view self.now).level result ≡ level }
-    {
-        FIRST_ELEMENT + self.elements_at[level as usize]
-    }
-
     /// The number of slots. Between two calls the store is sound, as a holder knows it.
     pub fn limit(&self) -> u32
         ensures limit { result ≡ length self.now.words }
@@ -358,6 +331,16 @@ impl PlainStore {
         ensures sound { IsSound (content_view self.now) }
     {
         self.nodes.limit()
+    }
+
+    /// Tells that the store is sound, as it is between two calls. It does no work.
+    #[inline]
+    pub fn tell_sound(&self)
+        ensures store { IsStore self.now }
+        ensures sound { IsSound (content_view self.now) }
+    {
+        // The words make it so.
+        let _ = &self.nodes;
     }
 
     /// The words of all slots up to the last that was ever in use, out of which the function of an edge is read.
@@ -368,15 +351,6 @@ impl PlainStore {
         ensures zdd { (e : Edge) (p : ℕ → Bool) → Denotes Zdd (plain_view self.now) e p → DenotesZdd (plain_view self.now).elements (slots_of result.now) e p }
     {
         self.nodes.words()
-    }
-
-    /// The slot of a node, by a walk over all words: the plain program with which tests compare the tables.
-    pub fn find_by_walk(&self, node: Node) -> Option<u32>
-        ensures some { IfSome result (λ s. (3 ≤ s) × (slots_of self.now.words s ≡ Some (Word.Inner node))) }
-        ensures none { IfNone result ((s : ℕ) → 3 ≤ s → slots_of self.now.words s ≡ Some (Word.Inner node) → ⊥) }
-    {
-        let slot = find(self.nodes.words(), &Word::Inner(node))?;
-        Some(slot as u32)
     }
 
     /// The number of slots that have a word: all, where a function was refused and nothing was freed since, and then no slot has that function.
@@ -394,13 +368,6 @@ impl PlainStore {
         ensures { result ≡ count_at self.now slot }
     {
         (self.counts.word(slot) % (1 << 32)) as u32
-    }
-
-    /// How often a slot was freed, modulo 2^32.
-    pub fn generation_of(&self, slot: u32) -> u32
-        ensures { result ≡ generation_at self.now slot }
-    {
-        (self.counts.word(slot) >> 32) as u32
     }
 
     /// One more row or cell holds the slot, which has a word.
@@ -425,34 +392,6 @@ impl PlainStore {
     {
         let word = self.counts.word(slot);
         self.counts.write(slot, lower(word));
-    }
-
-    /// The number of nodes of a variable, and of element e by 16,384 + e.
-    pub fn nodes_of(&self, var: u32) -> u32
-        requires { (k : Kind) × IsVariable k (plain_view self.now) var }
-        ensures nodes { result ≡ nodes_of self.now.words var }
-        ensures of_holder { result ≡ nodes_at (content_view self.now) var }
-    {
-        self.nodes.nodes_of(var)
-    }
-
-    /// Whether a slot has a word.
-    pub fn is_used(&self, slot: u32) -> bool
-        ensures { IsTrue result ↔ (slots self.now slot ≡ None → ⊥) }
-    {
-        unpack(self.nodes.word(slot)).is_some()
-    }
-
-    /// Whether a node names a slot, by a walk over all words.
-    pub fn is_named(&self, slot: u32) -> bool
-        ensures { MatchBool result (IsUnnamed self.now slot → ⊥) (IsUnnamed self.now slot) }
-    {
-        for bits in self.nodes.words() {
-            if names(*bits, slot) {
-                return true;
-            }
-        }
-        false
     }
 
     /// Whether a slot is pinned.

@@ -14,6 +14,7 @@ pub mod SlotLists
 pub mod Parting
 pub mod Ordering
 pub mod Standing
+pub mod LeafLemmas
 pub mod SweptSize
 pub mod Rewriting
 pub mod Tops

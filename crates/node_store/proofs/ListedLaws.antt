@@ -6,6 +6,7 @@ use Rattle.edge_bits.specs.declared.edges.Kind.TheVariants as kinds
 use Rattle.edge_bits.specs.Assignments.{bit}
 use Rattle.edge_bits.specs.Words.{digit}
 use Rattle.edge_bits.proofs.AssignmentLemmas.{below_from_bits, digit-bit}
+use Rattle.edge_bits.specs.Permanent.{first_element}
 use Rattle.function_laws.specs.declared.history.Function.TheVariants.{Bdd, Add, Zdd}
 use Rattle.function_laws.specs.Families.{IsWithout}
 use Rattle.function_laws.specs.Kinds.{Lacks, ValueOf}
@@ -37,9 +38,9 @@ lacking p e a without member = by_bit (bit a e) refl
     by_bit true has = absurd (false≢true (sym (without a has) ∙ member))
     by_bit false has = refl
 
-member-below : (m : ℕ) (p : ℕ → Bool) → ((v : ℕ) → 16384 + m ≤ v → IsWithout p (v - 16384)) → (a : ℕ) → p a ≡ true → a < 2 ^ m
+member-below : (m : ℕ) (p : ℕ → Bool) → ((v : ℕ) → first_element + m ≤ v → IsWithout p (v - first_element)) → (a : ℕ) → p a ≡ true → a < 2 ^ m
 member-below m p beyond a member = below_from_bits m a (λ i from.
-    let without : IsWithout p i = subst (λ e. IsWithout p e) (omega arith) (beyond (16384 + i) (omega arith)) in
+    let without : IsWithout p i = subst (λ e. IsWithout p e) (omega arith) (beyond (first_element + i) (omega arith)) in
     sym (digit-bit a i) ∙ ap digit (lacking p i a without member))
 
 -- families of the first m elements are one if their lists are

@@ -5,6 +5,7 @@ use Rattle.std.proofs.lemmas.Bool.{lt-ltb, le-ltb}
 use Rattle.edge_bits.specs.Reading.{element_of}
 use Rattle.edge_bits.specs.declared.edges.Kind.{Kind}
 use Rattle.edge_bits.specs.declared.edges.Kind.TheVariants.{Bdd, Add, Zdd}
+use Rattle.edge_bits.specs.Permanent.{first_element}
 use Rattle.function_laws.specs.Kinds.{Denoted, ValueOf, function_of}
 use Rattle.node_store.specs.Views.{IsVariable}
 use Rattle.function_laws.specs.Sizes.{Orders, order_of}
@@ -23,14 +24,14 @@ order_at Zdd o = o.elements
 abbrev pub name_of : Kind → ℕ → ℕ
 name_of Bdd u = u
 name_of Add u = u
-name_of Zdd e = 16384 + e
+name_of Zdd e = first_element + e
 
 pub order_of-kind : (o : Orders) (k : Kind) (f : ℕ → ValueOf k) → order_of o (function_of k f) ≡ order_at k o
 order_of-kind o Bdd f = refl
 order_of-kind o Add f = refl
 order_of-kind o Zdd f = refl
 
-own_element : (v : ℕ) → element_of (16384 + v) ≡ v
+own_element : (v : ℕ) → element_of (first_element + v) ≡ v
 own_element v = omega arith
 
 pub own-name : (k : Kind) (u : ℕ) → own k (name_of k u) ≡ u
@@ -38,11 +39,11 @@ own-name Bdd u = refl
 own-name Add u = refl
 own-name Zdd u = own_element u
 
-variable_level : (o : Orders) (v : ℕ) → v < 16384 → level_of o v ≡ place_of v o.variables
-variable_level o v lt = rw (lt-ltb v 16384 lt) refl
+variable_level : (o : Orders) (v : ℕ) → v < first_element → level_of o v ≡ place_of v o.variables
+variable_level o v lt = rw (lt-ltb v first_element lt) refl
 
-element_level : (o : Orders) (v : ℕ) → 16384 ≤ v → level_of o v ≡ place_of (element_of v) o.elements
-element_level o v le = rw (le-ltb v 16384 le) refl
+element_level : (o : Orders) (v : ℕ) → first_element ≤ v → level_of o v ≡ place_of (element_of v) o.elements
+element_level o v le = rw (le-ltb v first_element le) refl
 
 pub level-own : (k : Kind) (w : Content) (v : ℕ) → IsVariable k (view_of w) v → level_of w.orders v ≡ place_of (own k v) (order_at k w.orders)
 level-own Bdd w v h = variable_level w.orders v h.0

@@ -42,7 +42,7 @@ subset0-without p e h = everywhere (subset0 p e) p (λ a. at (bit a e) (p a) (h 
     at false y h = refl
 
 -- the parts of a function that lacks the variable
-part-lacking : (k : Kind) (v : ℕ) (f : ℕ → ValueOf k) → Lacks k f v → (part_at k f v true ≡ absent_part k f) × (part_at k f v false ≡ f)
+pub part-lacking : (k : Kind) (v : ℕ) (f : ℕ → ValueOf k) → Lacks k f v → (part_at k f v true ≡ absent_part k f) × (part_at k f v false ≡ f)
 part-lacking Bdd v f h = (cofactor-free f v true h, cofactor-free f v false h)
 part-lacking Add v f h = (cofactor-free f v true h, cofactor-free f v false h)
 part-lacking Zdd v f h = (subset1-without f (element_of v) h, subset0-without f (element_of v) h)

@@ -7,6 +7,7 @@ use Rattle.edge_bits.proofs.AssignmentLemmas.{bit-set_same, bit-set_other}
 use Rattle.edge_bits.specs.Reading.{element_of}
 use Rattle.edge_bits.specs.declared.words.Word.{Word}
 use Rattle.edge_bits.specs.declared.edges.Kind.TheVariants.{Bdd, Add, Zdd}
+use Rattle.edge_bits.specs.Permanent.{first_element}
 use Rattle.function_laws.specs.Values.{negation}
 use Rattle.function_laws.specs.Families.{IsWithout}
 use Rattle.function_laws.specs.Kinds.{Denoted, BddFunction, AddFunction, ZddFamily, opposite}
@@ -65,14 +66,14 @@ pub range-In : (s a n : ℕ) → a ≤ s → s < a + n → In s (range_with_len 
 range-In s a zero le lt = absurd (omega arith)
 range-In s a (suc n) le lt = elim (cases_eq s a) [ inl e ↦ inl e | inr ne ↦ inr (range-In s (a + 1) n (omega arith) (omega arith)) ]
 
-own_element : (v : ℕ) → element_of (16384 + v) ≡ v
+own_element : (v : ℕ) → element_of (first_element + v) ≡ v
 own_element v = omega arith
 
 module _ (w : Content) (sound : IsSound w) where
   pub within_orders : (s : ℕ) (f : Denoted) → w.function s ≡ Some f → IsWithin w.orders f
   within_orders s (BddFunction f) e = λ v le. (sound.of_store s Bdd f e).0 v le
   within_orders s (AddFunction f) e = λ v le. (sound.of_store s Add f e).0 v le
-  within_orders s (ZddFamily p) e = λ v le. subst (λ x. IsWithout p x) (own_element v) ((sound.of_store s Zdd p e).0 (16384 + v) (omega arith))
+  within_orders s (ZddFamily p) e = λ v le. subst (λ x. IsWithout p x) (own_element v) ((sound.of_store s Zdd p e).0 (first_element + v) (omega arith))
 
   never : false ≡ true → ⊥
   never e = cc

@@ -1,19 +1,16 @@
 -- After a sweep there are as many slots in use as the size of the roots' functions with the permanent ones.
-use Rattle.std.proofs.Common.{◌≡◌, ℕ, zero, suc, ◌+◌, ◌<◌, ◌⊎◌, inl, inr, Bool, true, false, cond, List, [], ◌∷◌, ◌++◌, length, map, Option, Some, None, ℤ, pos, eqb, eqb-true, refl, sym, ap, ◌∙◌, subst, arith}
+use Rattle.std.proofs.Common.{◌≡◌, ℕ, zero, suc, ◌+◌, ◌<◌, ◌⊎◌, inl, inr, Bool, true, false, cond, List, [], ◌∷◌, ◌++◌, length, map, Option, Some, None, pos, refl, sym, ap, ◌∙◌, subst, arith}
 use Rattle.std.specs.Prelude.{slice_index}
 use Rattle.std.specs.List.{filter, range_with_len}
 use Rattle.std.proofs.lemmas.Bool.{cases_lt}
-use Rattle.std.proofs.lemmas.Nat.Bits.{bit_at-zero}
 use Rattle.edge_bits.specs.Assignments.{bit}
-use Rattle.edge_bits.specs.Words.{digit}
-use Rattle.edge_bits.proofs.AssignmentLemmas.{digit-bit}
 use Rattle.edge_bits.specs.declared.edges.Kind.{Kind}
 use Rattle.edge_bits.specs.declared.edges.Kind.TheVariants.{Bdd, Add, Zdd}
 use Rattle.edge_bits.specs.declared.words.Node.{Node}
 use Rattle.edge_bits.specs.declared.words.Word.{Word}
 use Rattle.edge_bits.specs.declared.words.Word.TheVariants.{Inner, Leaf}
 use Rattle.function_laws.specs.Values.{constant, projection, negation}
-use Rattle.function_laws.specs.Families.{empty, base, IsWithout}
+use Rattle.function_laws.specs.Families.{empty, base}
 use Rattle.function_laws.proofs.ValueLemmas.{everywhere}
 use Rattle.function_laws.specs.Kinds.{Denoted, BddFunction, AddFunction, ZddFamily, ValueOf, function_of, joined_at, flipped, opposite}
 use Rattle.function_laws.specs.Sizes.{Orders, order_of, part_of, parts, all_parts, is_one, permanent}
@@ -27,6 +24,7 @@ use Rattle.edge_bits.specs.Reading.{IsReached as LeadsTo, itself, then_child, el
 use Rattle.node_store.specs.Sweeps.{IsStart, IsReached, functions_of, root_functions, full_size}
 use Rattle.node_store.proofs.SlotLists.{In-functions, functions-In, In-range, range-In, slots_apart, slots_counted}
 use Rattle.node_store.proofs.Ordering.{above_from}
+use Rattle.node_store.proofs.LeafLemmas.{leaf_free}
 use Rattle.node_store.proofs.Standing.{UpTo, Stands, stands}
 
 -- parts of several functions
@@ -77,16 +75,6 @@ order_of-opposite : (o : Orders) (f : Denoted) → order_of o (opposite f) ≡ o
 order_of-opposite o (BddFunction f) = refl
 order_of-opposite o (AddFunction f) = refl
 order_of-opposite o (ZddFamily f) = refl
-
--- no member of Base has an element
-base_without : (e : ℕ) → IsWithout base e
-base_without e a has = by_zero (eqb a 0) refl
-  where
-    by_zero : (b : Bool) → eqb a 0 ≡ b → eqb a 0 ≡ false
-    by_zero false is = is
-    by_zero true is =
-        let zero_bit : bit 0 e ≡ true = ap (λ x. bit x e) (sym (eqb-true a 0 is)) ∙ has in
-        let one : ◌≡◌ {A = ℕ} 1 0 = ap digit (sym zero_bit) ∙ digit-bit 0 e ∙ bit_at-zero e in absurd (omega arith)
 
 module _ (w : Content) (sound : IsSound w) (settled : w.half ≡ None) where
   -- what the constants denote
@@ -234,13 +222,6 @@ module _ (w : Content) (sound : IsSound w) (settled : w.half ≡ None) where
     | inr e ↦ subst Known (sym e) (1, inl sound.empty_family)
   ]
 
-  pub leaf_free : (s : ℕ) (x : ℤ) (f : Denoted) → w.word s ≡ Some (Leaf x) → w.function s ≡ Some f → (v : ℕ) → Free f v
-  leaf_free zero x f word e v = subst (λ g. Free g v) (injective (BddFunction (constant true)) f (sym sound.logic_one ∙ e)) (λ k b. refl)
-  leaf_free (suc zero) x f word e v = subst (λ g. Free g v) (injective (ZddFamily empty) f (sym sound.empty_family ∙ e)) (λ a has. refl)
-  leaf_free (suc (suc zero)) x f word e v = subst (λ g. Free g v) (injective (ZddFamily base) f (sym sound.base_family ∙ e)) (base_without v)
-  leaf_free (suc (suc (suc s))) x f word e v =
-      subst (λ g. Free g v) (injective (AddFunction (constant x)) f (sym (sound.leaves (suc (suc (suc s))) x (omega arith) word).0 ∙ e)) (λ k b. refl)
-
   -- the order of a function
   pub order_is : (f : Denoted) → IsOrder (order_of w.orders f)
   order_is (BddFunction f) = sound.variables
@@ -271,7 +252,7 @@ module _ (w : Content) (sound : IsSound w) (settled : w.half ≡ None) where
   known_by_word : (o : Option Word) (f : Denoted) (s i v : ℕ) (b : Bool) → w.word s ≡ o → w.function s ≡ Some f → slice_index (order_of w.orders f) i ≡ v → i < length (order_of w.orders f)
       → ((j : ℕ) → j < i → Free f (slice_index (order_of w.orders f) j)) → Known (part_of f v b)
   known_by_word None f s i v b word is at lt before = let u = sound.used s f is in let c : None ≡ Some u.0 = sym word ∙ u.1 in cc
-  known_by_word (Some (Leaf x)) f s i v b word is at lt before = known_free f v b (s, inl is) (leaf_free s x f word is v)
+  known_by_word (Some (Leaf x)) f s i v b word is at lt before = known_free f v b (s, inl is) (leaf_free w sound s x f word is v)
   known_by_word (Some (Inner node)) f s i v b word is at lt before = known_at node f s i v b (stands w sound settled s node f word is) is at lt before
 
   pub known_part : (f : Denoted) (i v : ℕ) (b : Bool) → Known f → slice_index (order_of w.orders f) i ≡ v → i < length (order_of w.orders f)
@@ -333,7 +314,7 @@ module _ (w : Content) (sound : IsSound w) (settled : w.half ≡ None) where
       functions-In w.function f s (filter is_root (range_with_len 0 w.limit)) (In-filter is_root s (range_with_len 0 w.limit) (range-In s 0 w.limit (omega arith) (omega arith)) r) e
 
   module _ (is_root : ℕ → Bool) (reached : (s : ℕ) → IsUsed w s → IsReached w is_root s) where
-    pub swept_functions : List Denoted
+    unfoldable pub swept_functions : List Denoted
     swept_functions = permanent (length w.orders.variables) ++ root_functions w is_root
 
     -- each slot's function, or its opposite, is a part, and each part or its opposite is a slot's function

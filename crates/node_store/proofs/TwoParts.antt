@@ -79,7 +79,8 @@ Leads-order k op w t u is = record {
 pub bit-zero : (e : ℕ) → bit 0 e ≡ false
 bit-zero e = ap (λ (n : ℕ). eqb n 1) (bit_at-zero e)
 
-base-without : (e : ℕ) → IsWithout base e
+-- no member of Base has an element
+pub base-without : (e : ℕ) → IsWithout base e
 base-without e zero has = let no : false ≡ true = sym (bit-zero e) ∙ has in cc
 base-without e (suc a) has = grind arith
 

@@ -18,8 +18,9 @@ use Rattle.node_store.specs.Sweeps.{IsReached, functions_of}
 use Rattle.node_store.proofs.SlotLists.{In-functions, functions-In, In-range, within_orders, slot_once, apart_with}
 use Rattle.node_store.proofs.Ordering.{above_from}
 use Rattle.node_store.proofs.Standing.{Stands, stands}
-use Rattle.node_store.proofs.SweptSize.{swept_functions, slot_part, part_slot, slot_in, one_of, leaf_free}
+use Rattle.node_store.proofs.SweptSize.{swept_functions, slot_part, part_slot, slot_in, one_of}
 use Rattle.node_store.proofs.Tops.{which_of, other, order_of-which, depends-free, topmost_is, topmost_none, topmost_other, topmost_opposite}
+use Rattle.node_store.proofs.LeafLemmas.{leaf_free}
 
 module _ {X : Type 0} (test : X → Bool) where
   pub In-filter : (x : X) (xs : List X) → In x xs → test x ≡ true → In x (filter test xs)
@@ -122,7 +123,7 @@ module _ (w : Content) (sound : IsSound w) (settled : w.half ≡ None) (is_root 
   slot_top : (s : ℕ) (o : Option Word) (f : Denoted) (which : Order) (v : ℕ) → v < length (in_order w.orders which) → w.word s ≡ o → w.function s ≡ Some f
       → has_top which v f ≡ is_node_of (number_of which v) o
   slot_top s None f which v lt word is = let u = sound.used s f is in let c : None ≡ Some u.0 = sym word ∙ u.1 in cc
-  slot_top s (Some (Leaf x)) f which v lt word is = leaf_top f which v (λ u. leaf_free w sound settled s x f word is u)
+  slot_top s (Some (Leaf x)) f which v lt word is = leaf_top f which v (λ u. leaf_free w sound s x f word is u)
   slot_top s (Some (Inner node)) f which v lt word is = node_top s node f which v lt word is
 
   module _ (which : Order) (v : ℕ) (lt : v < length (in_order w.orders which)) where

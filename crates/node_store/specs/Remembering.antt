@@ -13,16 +13,16 @@ abbrev pub IsRecalled : List (Option Answer) → Task → Edge → Type 0
 IsRecalled items task e = (j : ℕ) × (slice_index_or items j None ≡ Some (record { task = task; edge = e }))
 
 -- the answer stands somewhere in the table
-abbrev pub Stands : List (Option Answer) → Answer → Type 0
-Stands items a = (j : ℕ) × (slice_index_or items j None ≡ Some a)
+abbrev pub IsAmong : List (Option Answer) → Answer → Type 0
+IsAmong items a = (j : ℕ) × (slice_index_or items j None ≡ Some a)
 
 -- the answers of the second table are some of the first
 abbrev pub IsOf : List (Option Answer) → List (Option Answer) → Type 0
-IsOf old new = (j : ℕ) (a : Answer) → slice_index_or new j None ≡ Some a → Stands old a
+IsOf old new = (j : ℕ) (a : Answer) → slice_index_or new j None ≡ Some a → IsAmong old a
 
 -- the answers of the second table are some of the first, and that of a task
 abbrev pub Remembers : List (Option Answer) → List (Option Answer) → Task → Edge → Type 0
-Remembers old new task e = (j : ℕ) (a : Answer) → slice_index_or new j None ≡ Some a → Stands old a ⊎ (a ≡ record { task = task; edge = e })
+Remembers old new task e = (j : ℕ) (a : Answer) → slice_index_or new j None ≡ Some a → IsAmong old a ⊎ (a ≡ record { task = task; edge = e })
 
 -- what the table holds are answers of tasks of this call
 abbrev pub Knows : (View → Task → Type 0) → (View → Task → Edge → Type 0) → View → List (Option Answer) → Type 0

@@ -9,6 +9,7 @@ pub mod grow;
 pub mod numbers;
 pub mod operator;
 pub mod parts;
+pub mod permanent;
 pub mod pointwise;
 pub mod remembering;
 pub mod scratch;
@@ -17,5 +18,6 @@ pub mod whole;
 
 pub use computed_cache::Key;
 pub use grow::{Grow, Opened, Stop};
+pub use permanent::tell_permanent;
 pub use stack::Stack;
 pub use whole::{Order, Whole};

@@ -4,6 +4,7 @@ use Rattle.std.specs.List.{list_any}
 use Rattle.std.proofs.lemmas.List.{get_or-replicate, get_or_past, length-map, length-replicate}
 use Rattle.std.proofs.lemmas.List.FromFn.{length-range_with_len}
 use Rattle.std.proofs.lemmas.Bool.{cases_lt}
+use Rattle.edge_bits.specs.declared.limits.TheConstants.{CELLS}
 use Rattle.function_laws.specs.SessionEntries.{Each}
 use Rattle.handle_count.specs.CountWords.{count_of}
 use Rattle.node_store.specs.Views.{View}
@@ -39,18 +40,18 @@ zero_at n s = elim (cases_lt s n) [
   | inr ge ↦ get_or_past (replicate n zero) s zero (let l = length-replicate n zero in omega (arith, ge, l))
 ]
 
-pub cells_many : length (replicate 256 no_cell) ≡ 256
-cells_many = length-replicate 256 no_cell
+pub cells_many : length (replicate CELLS no_cell) ≡ CELLS
+cells_many = length-replicate CELLS no_cell
 
-pub new_shared : (vars elements limit : ℕ) (x : Shared) → IsOpening vars elements limit x.store → x.cells.items ≡ replicate 256 None → IsNew vars elements limit x
+pub new_shared : (vars elements limit : ℕ) (x : Shared) → IsOpening vars elements limit x.store → x.cells.items ≡ replicate CELLS None → IsNew vars elements limit x
 new_shared vars elements limit x o cells = record {
   store = o;
   counts_are = λ i. (opened_variables i, opened_elements i, o.slots_are i);
   orders_are = λ i. record { variables = o.variables_at i; elements = o.elements_at i };
   uncounted = λ k. ap (λ (cs : List ℕ). count_of (get_or cs k 0)) o.counts ∙ ap count_of (zero_at limit k);
   as_many = length-map x.cells.items (held_in (view_of x)) ∙ ap (λ (l : List (Option Cell)). length l) cells ∙ cells_many;
-  empty = ap (λ (l : List (Option Cell)). cell_in (map (held_in (view_of x)) l)) cells ∙ (λ k i. cells_none (view_of x) 256 i k);
-  kept = subst (λ (l : List (Option Cell)). Each (IsKeptCell keeps board counts count orders x) (map (held_in (view_of x)) l)) (sym cells) (cells_kept x (view_of x) 256);
+  empty = ap (λ (l : List (Option Cell)). cell_in (map (held_in (view_of x)) l)) cells ∙ (λ k i. cells_none (view_of x) CELLS i k);
+  kept = subst (λ (l : List (Option Cell)). Each (IsKeptCell keeps board counts count orders x) (map (held_in (view_of x)) l)) (sym cells) (cells_kept x (view_of x) CELLS);
 }
   where
     opened_variables : (view_of x).vars ≡ vars

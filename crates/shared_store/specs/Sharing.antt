@@ -2,6 +2,7 @@
 use Rattle.std.specs.Prelude.{◌≡◌, ◌==◌, ◌^◌, ℕ, suc, zero, List, [], ◌∷◌, length, map, Option, Some, None, option_map}
 use Rattle.edge_bits.specs.declared.edges.Kind.{Kind}
 use Rattle.edge_bits.specs.declared.edges.Kind.TheVariants as kinds
+use Rattle.edge_bits.specs.declared.limits.TheConstants.{CELLS}
 use Rattle.function_laws.specs.declared.history.Function.{Function}
 use Rattle.function_laws.specs.declared.history.Function.TheVariants.{Bdd, Add, Zdd}
 use Rattle.function_laws.specs.EntryOrders.{opening_orders}
@@ -104,6 +105,6 @@ pub record IsNew (vars elements limit : ℕ) (x : Shared) : Type 0 where
   pub counts_are : counts x ≡ (vars, elements, limit)
   pub orders_are : orders x ≡ opening_orders (sizes_for vars elements)
   pub uncounted : (k : ℕ) → count x k ≡ 0
-  pub as_many : length (board x) ≡ 256
+  pub as_many : length (board x) ≡ CELLS
   pub empty : cell_in (board x) ≡ (λ (i : ℕ). None)
   pub kept : Each (IsKeptCell keeps board counts count orders x) (board x)

@@ -1,4 +1,4 @@
-//! How often rows and cells hold a slot. A call bound to `_sound` is there for what it tells: the store is sound.
+//! How often rows and cells hold a slot.
 
 ghost use Rattle.std.specs.Prelude.{◌≡◌, ◌+◌, ◌-◌, ◌<◌, ◌^◌, ◌==◌, ℕ, Some};
 ghost use Rattle.node_store.specs.Views.{IsFunction};
@@ -17,7 +17,7 @@ impl Shared {
         ensures count { (k : ℕ) → count self.new k ≡ count self.old k + one_if (edge.index == k) }
         ensures rest { IsRecounted self.old self.new }
     {
-        let _sound = self.store.limit();
+        self.store.tell_sound();
         self.store.raise(edge.index());
     }
 
@@ -27,7 +27,7 @@ impl Shared {
         ensures count { (k : ℕ) → count self.new k + one_if (edge.index == k) ≡ count self.old k }
         ensures rest { IsRecounted self.old self.new }
     {
-        let _sound = self.store.limit();
+        self.store.tell_sound();
         self.store.lower(edge.index());
     }
 

@@ -4,7 +4,7 @@ ghost use Rattle.std.specs.Prelude.{◌≡◌, ◌+◌, ◌≤◌, IfOk, None, r
 ghost use Rattle.shared_store.specs.Sharing.{IsNew};
 
 use crate::shared::{Cell, Shared};
-use edge_bits::Memory;
+use edge_bits::{CELLS, MOST_ELEMENTS, MOST_SLOTS, MOST_VARIABLES, Memory};
 use node_slots::PlainStore;
 use seat_guard::content::Content;
 use std::alloc::Global;
@@ -29,23 +29,23 @@ impl Content for Shared {
 
 /// An empty board.
 fn empty_board(alloc: Global) -> Result<Vec<Option<Cell>>, Memory>
-    ensures { IfOk result (λ cells. cells.items ≡ replicate 256 None) }
+    ensures { IfOk result (λ cells. cells.items ≡ replicate CELLS None) }
 {
     let mut cells = Vec::new(alloc);
-    for _ in 0..256u32 {
+    for _ in 0..CELLS {
         cells.push(None)?;
     }
     Ok(cells)
 }
 
 impl Shared {
-    /// A store of so many variables and elements, at most 1,024 each, with so many slots: 5 and one for each variable at
-    /// least, 8,388,607 at most. The board is empty, nothing is counted, and both orders are 0, 1, 2, ..
+    /// A store of so many variables and elements, at most `MOST_VARIABLES` and `MOST_ELEMENTS`, with so many slots: 5 and one
+    /// for each variable at least, `MOST_SLOTS` at most. The board is empty, nothing is counted, and both orders are 0, 1, 2, ..
     pub fn new(alloc: Global, vars: u32, elements: u32, limit: u32) -> Result<Shared, Memory>
-        requires vars { vars ≤ 1024 }
-        requires elements { elements ≤ 1024 }
+        requires vars { vars ≤ MOST_VARIABLES }
+        requires elements { elements ≤ MOST_ELEMENTS }
         requires least { 5 + vars ≤ limit }
-        requires most { limit ≤ 8388607 }
+        requires most { limit ≤ MOST_SLOTS }
         ensures { IfOk result (IsNew vars elements limit) }
     {
         let store = PlainStore::new(alloc, vars, elements, limit)?;

@@ -1,6 +1,7 @@
 //! The store and the board.
 
 ghost use Rattle.std.specs.Prelude.{◌≡◌, length, false};
+ghost use Rattle.edge_bits.specs.declared.limits.TheConstants.{CELLS};
 ghost use Rattle.node_slots.specs.Stores.{is_held};
 
 use edge_bits::{Edge, Kind};
@@ -13,12 +14,12 @@ pub struct Cell {
     pub edge: Edge,
 }
 
-/// The store, and the 256 cells of the board. Between two calls no sweep is on, and no slot is pinned.
+/// The store, and the cells of the board. Between two calls no sweep is on, and no slot is pinned.
 #[derive(Drop)]
 pub struct Shared {
     pub store: PlainStore,
     pub cells: Vec<Option<Cell>>,
-    ghost as_many: { length cells.items ≡ 256 },
+    ghost as_many: { length cells.items ≡ CELLS },
     // No sweep is on, and no slot is pinned.
     ghost idle: { is_held store ≡ false },
 }

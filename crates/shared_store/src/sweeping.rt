@@ -1,4 +1,4 @@
-//! The sweep. A call bound to `_store` is there for what it tells: what holds of each store between two calls.
+//! The sweep.
 
 ghost use Rattle.std.specs.Prelude.{◌≡◌, ◌+◌, ℕ};
 ghost use Rattle.dead_sweep.specs.Swept.{IsSwept};
@@ -23,12 +23,12 @@ impl Shared {
         ensures stored { StoresOnly (λ _. ⊥) self result.0 }
         ensures emptied { ((k : ℕ) → count self k ≡ 0) → result.1.in_use ≡ 5 + (view_of self).vars }
     {
-        let _store = self.store.limit();
+        self.store.tell_sound();
         let Shared { store, cells } = self;
         let mut held = store.hold();
         let swept = sweep(&mut held);
         let store = held.release();
-        let _store = store.limit();
+        store.tell_sound();
         (Shared { store, cells }, swept)
     }
 }

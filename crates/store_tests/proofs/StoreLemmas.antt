@@ -1,13 +1,13 @@
 -- Edges of a store that a test hands on.
-use Rattle.std.proofs.Common.{◌≡◌, ℕ, ◌+◌, ◌<◌, ◌≤◌, false, Option, Some, None, ℤ, pos, refl, sym, arith, subst}
+use Rattle.std.proofs.Common.{◌≡◌, ℕ, ◌<◌, Option, Some, None, ℤ, pos, refl, sym, arith, subst}
 use Rattle.edge_bits.specs.declared.edges.Edge.{Edge}
-use Rattle.edge_bits.specs.declared.edges.Kind.TheVariants.{Bdd, Add, Zdd}
+use Rattle.edge_bits.specs.declared.edges.Kind.TheVariants.{Add, Zdd}
 use Rattle.edge_bits.specs.declared.words.Word.{Word}
 use Rattle.edge_bits.specs.Permanent.{base_edge, empty_edge, first_element, zero_edge}
 use Rattle.function_laws.specs.Families.{base, empty}
 use Rattle.function_laws.specs.Values.{constant}
-use Rattle.node_store.specs.Views.{View, CanMake, Denotes, Grown, Is, IsBelow, Permanent, values_at, number, no_member, only_base}
-use Rattle.node_store.specs.ViewLaws.{Is-from, Is-grown, values_at-is}
+use Rattle.node_store.specs.Views.{View, CanMake, Denotes, IsBelow, Permanent, values_at, number, no_member, only_base}
+use Rattle.node_store.specs.ViewLaws.{Is-from, values_at-is}
 use Rattle.node_store.proofs.TwoParts.{Lacks-leaf}
 
 -- the leaf of 0

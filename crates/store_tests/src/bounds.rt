@@ -6,8 +6,9 @@ ghost use Rattle.function_laws.specs.Values.{constant};
 ghost use Rattle.node_slots.specs.Stores.{plain_view};
 ghost use Rattle.node_store.specs.Views.{AreTwo, Denotes, Grown, Is};
 
-use edge_bits::{Edge, Kind};
+use edge_bits::Edge;
 use node_slots::{Grow, PlainStore};
+use node_store::tell_permanent;
 use std::alloc::Global;
 use std::marker::Model;
 use std::process::Abort;
@@ -43,7 +44,7 @@ impl Functions {
     /// A store of 2,000 slots, more than all functions of a test need.
     fn new(alloc: Global) -> Result<Functions, Fail> {
         let mut store = PlainStore::new(alloc, 2, 0, 2000)?;
-        let _levels = store.levels(Kind::Add);
+        tell_permanent(&mut store);
         Ok(Functions { store })
     }
 

@@ -12,3 +12,5 @@ mod rows;
 mod stores;
 #[cfg(test)]
 mod unique_tables;
+#[cfg(test)]
+mod walks;

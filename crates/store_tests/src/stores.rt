@@ -5,9 +5,11 @@ ghost use Rattle.edge_bits.specs.declared.edges.Kind.TheVariants.{Bdd};
 ghost use Rattle.node_slots.specs.Stores.{plain_view};
 ghost use Rattle.node_store.specs.Three.{AreThree};
 
-use edge_bits::{Edge, FIRST_ELEMENT, FIRST_PROJECTION, Kind, Node, VALUE_END};
+use crate::walks::{find_by_walk, is_named, is_used};
+use edge_bits::{Edge, FIRST_ELEMENT, FIRST_PROJECTION, Node, VALUE_END};
 use ite_core::and;
 use node_slots::{Grow, Opened, PlainStore, Stop, Whole};
+use node_store::tell_permanent;
 use std::process::Abort;
 use std::test::Fail;
 
@@ -64,9 +66,9 @@ fn fill_with_products(rt: &impl Abort, store: &mut PlainStore) -> Result<(), Fai
 
 /// The tables find what a walk over all words finds.
 fn found_by_walk(rt: &impl Abort, store: &PlainStore, two: u32, three: u32) {
-    assert!(rt; store.find_by_walk(node(1, 7)) == Some(two));
-    assert!(rt; store.find_by_walk(node(0, two)) == Some(three));
-    assert!(rt; store.find_by_walk(node(0, 6)) == None);
+    assert!(rt; find_by_walk(store, node(1, 7)) == Some(two as usize));
+    assert!(rt; find_by_walk(store, node(0, two)) == Some(three as usize));
+    assert!(rt; find_by_walk(store, node(0, 6)) == None);
 }
 
 #[test]
@@ -84,7 +86,7 @@ fn fill_with_each_kind(rt: &impl Abort, store: &mut PlainStore) -> Result<(), Fa
     let empty = Edge::empty_family();
     let base = Edge::base_family();
     let zero = Edge::number_zero();
-    let _levels = store.levels(Kind::Add);
+    tell_permanent(store);
     let Ok(leaf) = store.leaf(21) else {
         return Err(Fail::new("no leaf with three free slots"));
     };
@@ -112,14 +114,14 @@ fn leaves_and_nodes_of_each_kind(rt: HostRuntime) -> Result<(), Fail> {
 
 /// Raises the count of a slot with a word.
 fn raise(store: &mut PlainStore, slot: u32) {
-    if store.is_used(slot) && store.count_of(slot) < u32::MAX - 1 {
+    if is_used(store, slot) && store.count_of(slot) < u32::MAX - 1 {
         store.raise(slot);
     }
 }
 
 /// Lowers the count of a slot with a word.
 fn lower(store: &mut PlainStore, slot: u32) {
-    if store.is_used(slot) && store.count_of(slot) > 0 {
+    if is_used(store, slot) && store.count_of(slot) > 0 {
         store.lower(slot);
     }
 }
@@ -129,7 +131,7 @@ fn pin(store: PlainStore, slot: u32) -> PlainStore {
     if store.is_pinned(slot) {
         return store;
     }
-    if store.is_used(slot) {
+    if is_used(&store, slot) {
         let mut held = store.hold();
         held.pin(slot);
         return held.release();
@@ -149,11 +151,11 @@ fn unpin(store: PlainStore, slot: u32) -> PlainStore {
 
 /// Frees a slot, if nothing holds it and no node names it.
 fn free(store: &mut PlainStore, slot: u32) -> bool {
-    let may = store.is_used(slot)
+    let may = is_used(store, slot)
         && slot >= FIRST_PROJECTION + store.vars()
         && store.count_of(slot) == 0
         && !store.is_pinned(slot)
-        && !store.is_named(slot);
+        && !is_named(store, slot);
     if may {
         store.free(slot);
     }
@@ -207,9 +209,7 @@ fn free_both(rt: &impl Abort, store: &mut PlainStore, slots: Slots) {
     assert!(rt; free(store, three));
     assert!(rt; free(store, two));
     assert!(rt; store.in_use() == 8);
-    assert!(rt; store.generation_of(two) == 1);
-    assert!(rt; store.generation_of(5) == 0);
-    assert!(rt; store.find_by_walk(node(1, 7)) == None);
+    assert!(rt; find_by_walk(store, node(1, 7)) == None);
 }
 
 /// Takes the two free slots again, first the one that was freed last.
@@ -217,15 +217,14 @@ fn take_again(rt: &impl Abort, store: &mut PlainStore, slots: Slots) {
     let Slots { two, three } = slots;
     assert!(rt; leaf_slot(rt, store) == two);
     assert!(rt; products(store).is_none());
-    assert!(rt; store.find_by_walk(node(1, 7)) == Some(three));
+    assert!(rt; find_by_walk(store, node(1, 7)) == Some(three as usize));
     assert!(rt; store.in_use() == 10);
 }
 
-/// Frees the slot of the leaf, which is then in its third generation.
+/// Frees the slot of the leaf.
 fn free_leaf(rt: &impl Abort, store: &mut PlainStore, slot: u32) {
     assert!(rt; free(store, slot));
     assert!(rt; store.in_use() == 9);
-    assert!(rt; store.generation_of(slot) == 2);
 }
 
 /// The slot of a leaf.
@@ -282,7 +281,7 @@ fn a_pinned_slot_is_not_freed(rt: HostRuntime) -> Result<(), Fail> {
 /// The slot of the node of variable 0 over this many times 2^20, and 0.
 fn node_over(store: &mut PlainStore, value: u32) -> Option<u32> {
     let number = i64::from(value) * 1_048_576;
-    let _levels = store.levels(Kind::Add);
+    tell_permanent(store);
     if store.vars() == 0 || number >= VALUE_END {
         return None;
     }

@@ -6,7 +6,7 @@ use Rattle.std.proofs.lemmas.Nat.Bits.{bit_at-zero, bit_at-pow_same, bit_at-pow_
 use Rattle.edge_bits.specs.Words.{digit}
 use Rattle.edge_bits.specs.Assignments.{bit, set_bit}
 use Rattle.edge_bits.proofs.AssignmentLemmas.{bit-set_same, bit-set_other, set_bit-own, set_bit-set_same, same_bits, digit-bit}
-use Rattle.function_laws.specs.Families.{IsWithout, base, single, joined, empty}
+use Rattle.function_laws.specs.Families.{base, single, joined, empty}
 use Rattle.function_laws.proofs.ValueLemmas.{everywhere}
 
 pub bit-zero : (v : ℕ) → bit 0 v ≡ false
@@ -47,10 +47,6 @@ set_own a e has = ap (set_bit a e) (sym has) ∙ set_bit-own a e
 
 clear_own : (a e : ℕ) → bit a e ≡ false → set_bit a e false ≡ a
 clear_own a e lacks = ap (set_bit a e) (sym lacks) ∙ set_bit-own a e
-
--- Base has no member with an element
-pub base-without : (e : ℕ) → IsWithout base e
-base-without e a has = ne_eqb a 0 (λ none. let never : true ≡ false = sym has ∙ ap (λ x. bit x e) none ∙ bit-zero e in cc)
 
 -- the node of an element over Base and Empty
 pub joined-single : (e : ℕ) → joined e base empty ≡ single e

@@ -7,10 +7,10 @@ use Rattle.node_store.specs.Views.{View, Grown, IsVariable, family_at}
 use Rattle.node_store.specs.ViewLaws.{IsVariable-grown}
 use Rattle.zdd_ops.specs.Elements.{IsElement}
 use Rattle.zdd_ops.proofs.Singles.{IsVariable-element, element_of-number}
-use Rattle.zdd_ops.specs.Subsets.{Operation, subset_at}
+use Rattle.zdd_ops.specs.Subsets.{ElementOperation, subset_at}
 
 pub element_at : (v w : View) (e : ℕ) → Grown v w → IsElement v e → IsVariable Zdd w (first_element + e)
 element_at v w e m i = IsVariable-grown Zdd m (first_element + e) (IsVariable-element v e i)
 
-pub element_value : (part : Operation) (w : View) (p : Edge) (e : ℕ) → subset_at part (first_element + e) w p ≡ part (family_at w p) e
+pub element_value : (part : ElementOperation) (w : View) (p : Edge) (e : ℕ) → subset_at part (first_element + e) w p ≡ part (family_at w p) e
 element_value part w p e = ap (part (family_at w p)) (element_of-number e)

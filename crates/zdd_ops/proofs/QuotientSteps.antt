@@ -23,8 +23,7 @@ use Rattle.node_store.specs.Work.{Adds, IsPart, IsWork, Moves, whole}
 use Rattle.node_store.specs.WorkLaws.{IsPart-half, IsWork-due, Moves-made}
 use Rattle.node_store.specs.declared.binary.Branch.{Branch}
 use Rattle.node_store.specs.declared.operator.Task.{Task}
-use Rattle.node_store.proofs.TwoParts.{PartsAt-grown}
-use Rattle.zdd_ops.proofs.Combinations.{base-without}
+use Rattle.node_store.proofs.TwoParts.{base-without, PartsAt-grown}
 use Rattle.zdd_ops.proofs.Members.{IsWithin, clash, two_ways}
 use Rattle.zdd_ops.specs.Products.{CanPartBoth}
 use Rattle.zdd_ops.specs.Quotients.{AreByIt, HasMember, IsSplitTask, LacksIt, QuotientAnswers, QuotientDue, QuotientSplits, quotient_at, quotient_key, quotient_work}

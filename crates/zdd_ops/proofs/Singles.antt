@@ -12,7 +12,8 @@ use Rattle.node_store.specs.ViewLaws.{Denotes-empty, Grown-trans, Is-from, value
 use Rattle.node_store.specs.Work.{Adds, IsWork, whole}
 use Rattle.node_store.specs.WorkLaws.{IsWork-due, Moves-made}
 use Rattle.node_store.specs.declared.grow.Stop.{Stop}
-use Rattle.zdd_ops.proofs.Combinations.{base-without, joined-single}
+use Rattle.node_store.proofs.TwoParts.{base-without}
+use Rattle.zdd_ops.proofs.Combinations.{joined-single}
 use Rattle.zdd_ops.specs.Elements.{IsElement, value_of_single}
 
 -- the variable number of an element's nodes

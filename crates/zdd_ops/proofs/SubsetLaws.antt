@@ -14,9 +14,9 @@ use Rattle.node_store.specs.Work.{Adds, IsWork, Moves}
 use Rattle.node_store.specs.WorkLaws.{IsPart-grown, IsPart-half, IsWork-due, IsWork-grown, Moves-made}
 use Rattle.node_store.specs.declared.binary.Branch.{Branch}
 use Rattle.node_store.specs.declared.operator.Task.{Task}
-use Rattle.zdd_ops.proofs.Combinations.{base-without}
+use Rattle.node_store.proofs.TwoParts.{base-without}
 use Rattle.zdd_ops.specs.Elementwise.{change-joined}
-use Rattle.zdd_ops.specs.Subsets.{Operation, SubsetAnswers, SubsetDue, SubsetSplits, subset_at, subset_at-grown, subset_depth, subset_work}
+use Rattle.zdd_ops.specs.Subsets.{ElementOperation, SubsetAnswers, SubsetDue, SubsetSplits, subset_at, subset_at-grown, subset_depth, subset_work}
 
 -- a call that was refused made no node
 pub Moves-refused : (Roots : View → Type 0) (Work : View → Denoted → Type 0) (a u w : View) → Kept a u → Grown u w → ((s : ℕ) → w.made s ≡ true → (u.made s ≡ true) ⊎ ⊥) → Moves Roots Work a w
@@ -72,11 +72,11 @@ module _ (w : View) (v : ℕ) (hi lo : Edge) (can : CanMake Zdd w v hi lo) where
   Toggled-is = sym (change-joined (family_at w hi) (family_at w lo) (element_of v) at_hi at_lo)
 
 -- the node of the element, as the operand has it
-pub here_is : (part : Operation) (a w : View) (v : ℕ) (e hi lo : Edge) → Grown a w → Is Zdd a e → Splits Zdd w v (family_at w e) hi lo → part (node_values Zdd w v hi lo) (element_of v) ≡ subset_at part v a e
+pub here_is : (part : ElementOperation) (a w : View) (v : ℕ) (e hi lo : Edge) → Grown a w → Is Zdd a e → Splits Zdd w v (family_at w e) hi lo → part (node_values Zdd w v hi lo) (element_of v) ≡ subset_at part v a e
 here_is part a w v e hi lo m d s = ap (λ f. part f (element_of v)) (sym s.is ∙ values_at-grown Zdd m d)
 
 -- the step at another element
-module _ (part : Operation)
+module _ (part : ElementOperation)
     (other : (p q : ℕ → Bool) (x e : ℕ) → x ≢ e → part (joined x p q) e ≡ joined x (part p e) (part q e))
     (lacks : (p : ℕ → Bool) (e u : ℕ) → u ≢ e → IsWithout p u → IsWithout (part p e) u)
     (v : ℕ) (root : Edge) where

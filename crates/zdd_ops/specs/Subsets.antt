@@ -13,11 +13,11 @@ use Rattle.zdd_ops.specs.declared.subsets.Standing.{Standing}
 use Rattle.zdd_ops.specs.declared.subsets.Standing.TheVariants.{Here, Above}
 
 -- an operation by one element
-abbrev pub Operation : Type 0
-Operation = (ℕ → Bool) → ℕ → ℕ → Bool
+abbrev pub ElementOperation : Type 0
+ElementOperation = (ℕ → Bool) → ℕ → ℕ → Bool
 
 -- what it makes of the family of an edge and the element with this variable number
-abbrev pub subset_at : Operation → ℕ → View → Edge → ℕ → Bool
+abbrev pub subset_at : ElementOperation → ℕ → View → Edge → ℕ → Bool
 subset_at part v w e = part (family_at w e) (element_of v)
 
 -- the family and the element are of the store
@@ -26,14 +26,14 @@ pub record HasElement (w : View) (p : Edge) (v : ℕ) : Type 0 where
   pub element : IsVariable Zdd w v
 
 -- a task of the call on this family
-pub record SubsetDue (part : Operation) (v : ℕ) (root : Edge) (w : View) (t : Task) : Type 0 where
+pub record SubsetDue (part : ElementOperation) (v : ℕ) (root : Edge) (w : View) (t : Task) : Type 0 where
   pub permanent : Permanent w
   pub element : IsVariable Zdd w v
   pub of_root : Is Zdd w root
   pub family : Is Zdd w t.f
   pub is_part : IsPart Zdd w (subset_at part v w root) (subset_at part v w t.f)
 
-abbrev pub SubsetAnswers : Operation → ℕ → View → Task → Edge → Type 0
+abbrev pub SubsetAnswers : ElementOperation → ℕ → View → Task → Edge → Type 0
 SubsetAnswers part v w t e = Denotes Zdd w e (subset_at part v w t.f)
 
 -- a task splits at an element above
@@ -46,7 +46,7 @@ abbrev pub subset_depth : View → Task → ℕ
 subset_depth w t = w.elements - w.top t.f.index
 
 -- the work of a call is its value
-abbrev pub subset_work : Operation → ℕ → Edge → View → Denoted → Type 0
+abbrev pub subset_work : ElementOperation → ℕ → Edge → View → Denoted → Type 0
 subset_work part v p w F = F ≡ ZddFamily (subset_at part v w p)
 
 -- where an element stands to a family
@@ -55,7 +55,7 @@ IsStanding w e v (Here hi lo) = Splits Zdd w v (family_at w e) hi lo
 IsStanding w e v (Above x hi lo) = IsInner Zdd w e (family_at w e) x hi lo × (w.level x < w.level v)
 
 -- all this lasts while the store grows
-module _ (part : Operation) (v : ℕ) (p : Edge) (a b : View) where
+module _ (part : ElementOperation) (v : ℕ) (p : Edge) (a b : View) where
   pub subset_at-grown : {e : Edge} → Grown a b → Is Zdd a e → subset_at part v b e ≡ subset_at part v a e
   subset_at-grown m d = rw (values_at-grown Zdd m d) refl
 
@@ -86,8 +86,8 @@ pub HasElement-grown : {a b : View} {p : Edge} {v : ℕ} → Grown a b → HasEl
 HasElement-grown {a} {b} {p} {v} m d = record { family = Is-grown Zdd m d.family; element = IsVariable-grown Zdd m v d.element }
 
 -- a call's answer and its work, by the family at its start
-pub subset_at-lasts : (part : Operation) (v : ℕ) (p : Edge) (a b c d : View) (e : Edge) → Grown a b → Grown c d → HasElement a p v → Denotes Zdd c e (subset_at part v b p) → Denotes Zdd d e (subset_at part v a p)
+pub subset_at-lasts : (part : ElementOperation) (v : ℕ) (p : Edge) (a b c d : View) (e : Edge) → Grown a b → Grown c d → HasElement a p v → Denotes Zdd c e (subset_at part v b p) → Denotes Zdd d e (subset_at part v a p)
 subset_at-lasts part v p a b c d e before after has is = Denotes-lasts Zdd after (subset_at-grown part v p a b before has.family) is
 
-pub subset_work-back : (part : Operation) (v : ℕ) (p : Edge) (a b : View) (F : Denoted) → Grown a b → HasElement a p v → subset_work part v p b F → subset_work part v p a F
+pub subset_work-back : (part : ElementOperation) (v : ℕ) (p : Edge) (a b : View) (F : Denoted) → Grown a b → HasElement a p v → subset_work part v p b F → subset_work part v p a F
 subset_work-back part v p a b F m has is = is ∙ ap ZddFamily (subset_at-grown part v p a b m has.family)

@@ -1,4 +1,4 @@
-//! The families of no operand. A call bound to `_levels` is there for what it tells: where the permanent slots are.
+//! The families of no operand.
 
 ghost use Rattle.std.specs.Prelude.{◌≡◌, IfOk, Ok};
 ghost use Rattle.edge_bits.specs.Permanent.{base_edge, empty_edge};
@@ -8,8 +8,8 @@ ghost use Rattle.node_store.specs.Operations.{Calls, halts};
 ghost use Rattle.node_store.specs.Views.{Denotes, Kept};
 ghost use Rattle.zdd_ops.specs.Elements.{IsElement, value_of_single};
 
-use edge_bits::{Edge, FIRST_ELEMENT, Kind};
-use node_store::{Grow, Stop};
+use edge_bits::{Edge, FIRST_ELEMENT};
+use node_store::{Grow, Stop, tell_permanent};
 
 /// The family without members. It makes no node and is never refused.
 pub fn empty<G: Grow>(store: &mut G) -> Result<Edge, Stop>
@@ -18,7 +18,7 @@ pub fn empty<G: Grow>(store: &mut G) -> Result<Edge, Stop>
     ensures ok { result ≡ Ok empty_edge }
     ensures empty { IfOk result (λ e. Denotes Zdd (G.view store.new) e empty_of) }
 {
-    let _levels = store.levels(Kind::Zdd);
+    tell_permanent(store);
     Ok(Edge::empty_family())
 }
 
@@ -29,7 +29,7 @@ pub fn base<G: Grow>(store: &mut G) -> Result<Edge, Stop>
     ensures ok { result ≡ Ok base_edge }
     ensures base { IfOk result (λ e. Denotes Zdd (G.view store.new) e base_of) }
 {
-    let _levels = store.levels(Kind::Zdd);
+    tell_permanent(store);
     Ok(Edge::base_family())
 }
 
@@ -38,6 +38,6 @@ pub fn single<G: Grow>(store: &mut G, e: u32) -> Result<Edge, Stop>
     requires { IsElement (G.view store.old) e }
     ensures { Calls Zdd (single_of e) (value_of_single e) (G.view store.old) (G.view store.new) (halts result) }
 {
-    let _levels = store.levels(Kind::Zdd);
+    tell_permanent(store);
     store.make(FIRST_ELEMENT + e, Edge::base_family(), Edge::empty_family())
 }

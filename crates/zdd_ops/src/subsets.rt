@@ -1,4 +1,4 @@
-//! Operations on a family by one element, as the evaluator runs them. A call bound to `_levels` is there for what it tells: where the permanent slots are.
+//! Operations on a family by one element, as the evaluator runs them.
 
 ghost use Rattle.std.specs.Prelude.{◌≡◌, ℕ, Bool};
 ghost use Rattle.edge_bits.specs.declared.edges.Kind.TheVariants.{Zdd};
@@ -11,7 +11,7 @@ use node_store::evaluate::evaluate;
 use node_store::operator::{Halt, Task};
 use node_store::remembering::Remembering;
 use node_store::scratch::Operation;
-use node_store::{Grow, Key, Opened, Stack, Stop};
+use node_store::{Grow, Key, Opened, Stack, Stop, tell_permanent};
 
 /// An operation on a family by one element. At a node of another element it is the operation on both children.
 pub(crate) trait ByElement<G: Grow> {
@@ -199,7 +199,7 @@ impl<G: Grow> ByElement<G> for With {
     ghost part = { subset1 };
 
     fn answer(&self, store: &mut G, _var: u32, hi: Edge, _lo: Edge) -> Result<Edge, Stop> {
-        let _levels = store.levels(Kind::Zdd);
+        tell_permanent(store);
         Ok(hi)
     }
 
@@ -219,7 +219,7 @@ impl<G: Grow> ByElement<G> for Without {
     ghost part = { subset0 };
 
     fn answer(&self, store: &mut G, _var: u32, _hi: Edge, lo: Edge) -> Result<Edge, Stop> {
-        let _levels = store.levels(Kind::Zdd);
+        tell_permanent(store);
         Ok(lo)
     }
 

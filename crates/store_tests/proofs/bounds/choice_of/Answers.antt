@@ -1,6 +1,5 @@
 use Rattle.std.proofs.Common.{arith}
 use Rattle.edge_bits.specs.declared.edges.Kind.TheVariants.{Add, Bdd}
-use Rattle.node_slots.specs.Stores.{plain_view}
 use Rattle.node_store.specs.ViewLaws.{Grown-trans, Is-from, Is-grown}
 use Rattle.store_tests.proofs.bounds.choice_of.Goals as goal
 

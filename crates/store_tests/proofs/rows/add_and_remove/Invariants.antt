@@ -1,4 +1,4 @@
-use Rattle.std.proofs.Common.{◌≡◌, ◌+◌, ◌≤◌}
+use Rattle.std.proofs.Common.{◌≡◌, ◌+◌}
 use Rattle.store_tests.proofs.rows.add_and_remove.Given as goal
 
 abbrev pub invariant-loop-i : goal.invariant-loop-i

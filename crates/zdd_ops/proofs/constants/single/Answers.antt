@@ -10,13 +10,13 @@ use Rattle.zdd_ops.proofs.constants.single.Goals as goal
 
 pub make-requires : goal.make-requires
 make-requires g c =
-    let n = c.levels-levels.ensures.kept.grown.elements in
-    (Zdd, Single-can (g.G.Grow.view c.levels-levels.new.self) c.args.e c.base_family.result c.empty_family.result (record { few = c.requires.few; in_range = rw n c.requires.in_range }) c.levels-levels.ensures.permanent c.base_family.ensures c.empty_family.ensures)
+    let n = c.tell_permanent.ensures.kept.grown.elements in
+    (Zdd, Single-can (g.G.Grow.view c.tell_permanent.new.store) c.args.e c.base_family.result c.empty_family.result (record { few = c.requires.few; in_range = rw n c.requires.in_range }) c.tell_permanent.ensures.permanent c.base_family.ensures c.empty_family.ensures)
 
 pub returns : goal.returns
 returns g c =
-    let v = g.G.Grow.view c.args.store.now in let u = g.G.Grow.view c.levels-levels.new.self in let w = g.G.Grow.view c.make.new.self in
-    let l = c.levels-levels.ensures in let e = c.make.ensures in let n = l.kept.grown.elements in
+    let v = g.G.Grow.view c.args.store.now in let u = g.G.Grow.view c.tell_permanent.new.store in let w = g.G.Grow.view c.make.new.self in
+    let l = c.tell_permanent.ensures in let e = c.make.ensures in let n = l.kept.grown.elements in
     let can : CanMake Zdd u (first_element + c.args.e) c.base_family.result c.empty_family.result =
     Single-can u c.args.e c.base_family.result c.empty_family.result (record { few = c.requires.few; in_range = rw n c.requires.in_range }) l.permanent c.base_family.ensures c.empty_family.ensures in
     stored_calls Zdd (single c.args.e) v u w c.make.result l.kept l.room e.grown e.room e.made
