@@ -15,7 +15,7 @@ use Rattle.seat_guard.specs.declared.view.Held.{Held}
 use Rattle.seat_guard.specs.declared.view.Row.{Row}
 use Rattle.seat_guard.specs.declared.view.Draws.{Draws}
 use Rattle.seat_guard.specs.Views.{stands_for}
-use Rattle.shared_store.specs.Sharing.{IsHeldIn, keeps, kind_of, view_of}
+use Rattle.shared_store.specs.Sharing.{IsHeldIn, kind_of}
 use Rattle.dd_session.specs.Sessions.{IsNamed, Seen, edge_in, edge_or, held_as}
 use Rattle.dd_session.specs.Turns.{IsEdgeOf, IsSeatOf, Tied, live_as}
 

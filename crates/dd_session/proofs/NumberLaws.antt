@@ -24,8 +24,6 @@ use Rattle.node_store.specs.Views.{View, AreTwo, Denotes, Is, IsVariable, add_at
 use Rattle.add_ops.proofs.OutcomeLaws.{IsOf-place, IsOf-sum, outcome-add_ite, outcome-at_least, outcome-constant, outcome-exact, outcome-from_bdd, outcome-pattern, outcome-placed, outcome-sum_over}
 use Rattle.seat_guard.specs.declared.view.Draws.{Draws}
 use Rattle.seat_guard.specs.Views.{Agrees}
-use Rattle.shared_store.specs.declared.shared.Shared.{Shared}
-use Rattle.shared_store.specs.Sharing.{view_of}
 use Rattle.dd_session.specs.Turns.{HasExact, HasValue, IsEdgeOf, IsSmall, Stands}
 use Rattle.dd_session.proofs.OperationLaws.{variable_in}
 use Rattle.dd_session.proofs.Outcomes.{has_value, live, vars}

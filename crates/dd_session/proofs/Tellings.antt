@@ -1,5 +1,5 @@
 -- What each call may tell, and what it then is for its caller.
-use Rattle.std.proofs.Common.{◌≡◌, ◌≢◌, ℕ, zero, suc, ◌+◌, ◌<◌, ◌≤◌, ◌^◌, Bool, true, false, cond, ◌&&◌, ◌||◌, ◌==◌, List, [], ◌∷◌, ◌++◌, length, set, Option, Some, None, IsTrue, ◌↔◌, refl, ap, ap₂, sym, subst, ◌∙◌, arith, eq-eqb, ne_eqb, ℤ}
+use Rattle.std.proofs.Common.{◌≡◌, ◌≢◌, ℕ, zero, suc, ◌+◌, ◌<◌, ◌≤◌, Bool, true, false, cond, ◌&&◌, ◌||◌, ◌==◌, List, [], ◌∷◌, ◌++◌, length, set, Option, Some, None, IsTrue, ◌↔◌, refl, ap, ap₂, sym, subst, ◌∙◌, arith, eq-eqb, ne_eqb, ℤ, nat_lt}
 use Rattle.std.specs.Prelude.{slice_get, All, Contains}
 use Rattle.std.proofs.Math.ListN.{length-set}
 use Rattle.std.proofs.lemmas.Bool.{lt-ltb}
@@ -8,18 +8,16 @@ use native.Mathlib.Decide.{ℕ_discrete}
 use Rattle.edge_bits.specs.declared.limits.TheConstants.{CELLS, MOST_ROWS}
 use Rattle.edge_bits.specs.declared.edges.Edge.{Edge}
 use Rattle.edge_bits.specs.declared.edges.Kind.{Kind}
-use Rattle.edge_bits.specs.declared.edges.Kind.TheVariants as kinds
 use Rattle.function_laws.specs.declared.history.Name.{Name}
 use Rattle.function_laws.specs.declared.history.Function.{Function}
-use Rattle.function_laws.specs.declared.history.Function.TheVariants.{Bdd}
 use Rattle.function_laws.specs.declared.history.Call.{Call}
 use Rattle.function_laws.specs.declared.history.Call.TheVariants as calls
 use Rattle.function_laws.specs.declared.history.Reply.{Reply}
 use Rattle.function_laws.specs.declared.history.Reply.TheVariants as replies
 use Rattle.function_laws.specs.declared.history.Entry.{Entry}
 use Rattle.function_laws.specs.Kinds.{Denoted}
-use Rattle.function_laws.specs.Tables.{Table, same_name, with_name}
-use Rattle.function_laws.specs.Outcomes.{Outcome, makes, restricts, fetches, overflows, compares, tells, shows, is_done, with_one, when}
+use Rattle.function_laws.specs.Tables.{Sizes, Table, same_name, with_name}
+use Rattle.function_laws.specs.Outcomes.{Outcome, makes, fetches, overflows, compares, tells, shows, is_done, with_one, when}
 use Rattle.function_laws.specs.Steps.{may_be_full, with_result, from_cell}
 use Rattle.node_store.specs.Listed.{listed_at}
 use Rattle.node_store.specs.Views.{View, Is, values_at}
@@ -199,7 +197,8 @@ may_post d i a held within len is = record {
       (λ other. ap (λ b. cond b (t.live d.session a) (t.cells k)) (ne_eqb k i other) ∙ ap (λ (f : ℕ → Option Function). f k) (agrees.cells h).0 ∙ sym (ap function_in (get-set_other d.cells (Some held) i k other))) in (
         (
           is_done,
-          ap (λ b. when b (with_one (t.live d.session a) (λ f. is_done))) (lt-ltb i CELLS within) ∙ ap (λ o. with_one o (λ f. is_done)) live,
+          ap (λ (z : Sizes). when (nat_lt i z.cells) (with_one (t.live d.session a) (λ f. is_done))) agrees.sizes_are
+              ∙ ap (λ b. when b (with_one (t.live d.session a) (λ f. is_done))) (lt-ltb i CELLS within) ∙ ap (λ o. with_one o (λ f. is_done)) live,
           tt,
         ),
         record {
@@ -269,7 +268,8 @@ may_drop d a f is = record {
 pub outcome-of_fetch : (d : Draws) (i : ℕ) (a : Name) (f : Function) (o : Outcome) → i < CELLS → d.holds ≡ true → stands_for d.rows a ≡ Some f → from_cell (cell_in d.cells i) f ≡ o → Gives d (calls.Fetch i a) o
 outcome-of_fetch d i a f o within holds is found t agrees =
     let live : t.live d.session a ≡ Some f = ap (λ (h : Name → Option Function). h a) agrees.live ∙ is in
-    ap (λ b. when b (with_one (t.live d.session a) (from_cell (t.cells i)))) (lt-ltb i CELLS within)
+    ap (λ (z : Sizes). when (nat_lt i z.cells) (with_one (t.live d.session a) (from_cell (t.cells i)))) agrees.sizes_are
+    ∙ ap (λ b. when b (with_one (t.live d.session a) (from_cell (t.cells i)))) (lt-ltb i CELLS within)
     ∙ ap (λ x. with_one x (from_cell (t.cells i))) live
     ∙ ap (λ (cells : ℕ → Option Function). Some (from_cell (cells i) f)) (agrees.cells holds).0
     ∙ ap Some found

@@ -13,11 +13,10 @@ use Rattle.function_laws.specs.declared.history.Reply.{Reply}
 use Rattle.function_laws.specs.declared.history.Reply.TheVariants as replies
 use Rattle.function_laws.specs.declared.history.Entry.{Entry}
 use Rattle.function_laws.specs.Kinds.{Denoted, ValueOf}
-use Rattle.function_laws.specs.Restricting.{Restricts}
-use Rattle.function_laws.specs.Lists.{list_of, truth}
+use Rattle.function_laws.specs.Lists.{list_of}
 use Rattle.function_laws.specs.Numbers.{exactly}
 use Rattle.function_laws.specs.Values.{IsOf}
-use Rattle.function_laws.specs.Outcomes.{Outcome, makes, restricts, fetches, in_range}
+use Rattle.function_laws.specs.Outcomes.{Outcome, makes, fetches, in_range}
 use Rattle.function_laws.specs.SessionEntries.{Each}
 use Rattle.function_laws.specs.Steps.{IsNew, Replies, TellsFull, needs_no_node, outcome}
 use Rattle.function_laws.specs.Tables.{Table}
@@ -44,7 +43,7 @@ use Rattle.seat_guard.specs.Views.{Agrees, MayTell, holding, letting_go, stands_
 use Rattle.shared_store.specs.declared.shared.Cell.{Cell}
 use Rattle.shared_store.specs.declared.shared.Shared.{Shared}
 use Rattle.shared_store.specs.Lasting.{Lasts}
-use Rattle.shared_store.specs.Sharing.{IsHeldIn, Serving, board, count, counts, due, functions, keeps, kind_of, orders, view_of}
+use Rattle.shared_store.specs.Sharing.{IsHeldIn, Serving, board, count, due, functions, kind_of, orders, view_of}
 use Rattle.shared_store.specs.Storing.{IsLeaving, IsListedWork, StoresOnly}
 use Rattle.dd_session.specs.declared.answers.Fetched.{Fetched}
 use Rattle.dd_session.specs.declared.answers.Fetched.TheVariants.{Posted, Empty}

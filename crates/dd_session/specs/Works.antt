@@ -8,7 +8,7 @@ use Rattle.node_store.specs.Views.{View}
 use Rattle.dead_sweep.specs.declared.sweeping.Swept.{Swept}
 use Rattle.dead_sweep.specs.Swept.{IsSwept}
 use Rattle.seat_guard.specs.declared.view.Row.{Row}
-use Rattle.shared_store.specs.Sharing.{IsHeldIn, view_of}
+use Rattle.shared_store.specs.Sharing.{IsHeldIn}
 use Rattle.shared_store.specs.Storing.{IsListedWork}
 use Rattle.dd_session.specs.declared.answers.Refusal.{Refusal}
 use Rattle.dd_session.specs.declared.answers.Refusal.TheVariants as refusals

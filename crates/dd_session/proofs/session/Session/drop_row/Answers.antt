@@ -1,4 +1,4 @@
-use Rattle.std.proofs.Common.{◌==◌, refl, ap, sym, subst, ◌∙◌, arith, length, rules}
+use Rattle.std.proofs.Common.{refl, ap, sym, subst, ◌∙◌, arith, length, rules}
 use Rattle.function_laws.specs.declared.history.Call.TheVariants as calls
 use Rattle.function_laws.specs.declared.history.Reply.TheVariants as replies
 use Rattle.seat_guard.specs.Passes.{known}
