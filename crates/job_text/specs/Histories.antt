@@ -82,47 +82,47 @@ stops reply.Overflow = true
 stops _ = false
 
 -- A register of a session: the word that it is called by, and its name in the table.
-pub record Held : Type 0 where
+pub record NamedRegister : Type 0 where
   pub word : Word
   pub name : Name
 
-abbrev pub held_as : List Word → Option Name → Option Held
-held_as words None = None
-held_as words (Some name) = Some (record { word = target_of words; name = name })
+abbrev pub register_as : List Word → Option Name → Option NamedRegister
+register_as words None = None
+register_as words (Some name) = Some (record { word = target_of words; name = name })
 
 -- the register that a line assigns
-abbrev pub held_by : HistoryLine → Option Held
-held_by line = held_as line.words (given_by line.entry.reply)
+abbrev pub held_by : HistoryLine → Option NamedRegister
+held_by line = register_as line.words (given_by line.entry.reply)
 
 -- the registers that the lines assign, in order of assignment
-abbrev pub registers_of : List HistoryLine → List Held
+abbrev pub registers_of : List HistoryLine → List NamedRegister
 registers_of lines = filter_map held_by lines
 
 -- the register of this number has this name
-abbrev pub IsNamed : List Held → ℕ → Name → Type 0
-IsNamed registers a name = (word : Word) × (slice_get registers a ≡ Some (record { word = word; name = name }))
+abbrev pub IsNamedAs : List NamedRegister → ℕ → Name → Type 0
+IsNamedAs registers a name = (word : Word) × (slice_get registers a ≡ Some (record { word = word; name = name }))
 
 -- each register that is taken, in a pair or alone, has the name that stands for it
-abbrev pub AreNamed : List Held → (ℕ → Name) → List (Taken ℕ) → Type 0
+abbrev pub AreNamed : List NamedRegister → (ℕ → Name) → List (Taken ℕ) → Type 0
 AreNamed registers name [] = Unit {0}
-AreNamed registers name (function k a ∷ more) = IsNamed registers a (name a) × AreNamed registers name more
-AreNamed registers name (pairs ps ∷ more) = All (λ pair. IsNamed registers pair.1 (name pair.1)) ps × AreNamed registers name more
+AreNamed registers name (function k a ∷ more) = IsNamedAs registers a (name a) × AreNamed registers name more
+AreNamed registers name (pairs ps ∷ more) = All (λ pair. IsNamedAs registers pair.1 (name pair.1)) ps × AreNamed registers name more
 AreNamed registers name (_ ∷ more) = AreNamed registers name more
 
 -- what a command calls, by the registers
-abbrev pub IsCallOf : List Held → Act → Call → Type 0
+abbrev pub IsCallOf : List NamedRegister → Act → Call → Type 0
 IsCallOf registers (Makes making) call = (name : ℕ → Name) × AreNamed registers name (taken making) × (call ≡ calls.Makes (named name making))
-IsCallOf registers (Copy a) call = (x : Name) × IsNamed registers a x × (call ≡ calls.Copy x)
-IsCallOf registers (Fetch k a) call = (x : Name) × IsNamed registers a x × (call ≡ calls.Fetch k x)
-IsCallOf registers (Post k a) call = (x : Name) × IsNamed registers a x × (call ≡ calls.Post k x)
-IsCallOf registers (Drop a) call = (x : Name) × IsNamed registers a x × (call ≡ calls.DropRow x)
-IsCallOf registers (Same a b) call = (x y : Name) × IsNamed registers a x × IsNamed registers b y × (call ≡ calls.Same x y)
-IsCallOf registers (Leq a b) call = (x y : Name) × IsNamed registers a x × IsNamed registers b y × (call ≡ calls.Leq x y)
-IsCallOf registers (Eval a bits) call = (x : Name) × IsNamed registers a x × (call ≡ calls.Eval x bits)
+IsCallOf registers (Copy a) call = (x : Name) × IsNamedAs registers a x × (call ≡ calls.Copy x)
+IsCallOf registers (Fetch k a) call = (x : Name) × IsNamedAs registers a x × (call ≡ calls.Fetch k x)
+IsCallOf registers (Post k a) call = (x : Name) × IsNamedAs registers a x × (call ≡ calls.Post k x)
+IsCallOf registers (Drop a) call = (x : Name) × IsNamedAs registers a x × (call ≡ calls.DropRow x)
+IsCallOf registers (Same a b) call = (x y : Name) × IsNamedAs registers a x × IsNamedAs registers b y × (call ≡ calls.Same x y)
+IsCallOf registers (Leq a b) call = (x y : Name) × IsNamedAs registers a x × IsNamedAs registers b y × (call ≡ calls.Leq x y)
+IsCallOf registers (Eval a bits) call = (x : Name) × IsNamedAs registers a x × (call ≡ calls.Eval x bits)
 IsCallOf registers Sweep call = call ≡ calls.Sweep
 
 -- each line has the words of the command at its place, and calls what that says; there may be further commands
-abbrev pub SayInOrder : List Held → List HistoryLine → List Command → Type 0
+abbrev pub SayInOrder : List NamedRegister → List HistoryLine → List Command → Type 0
 SayInOrder registers [] commands = Unit {0}
 SayInOrder registers (line ∷ lines) [] = ⊥
 SayInOrder registers (line ∷ lines) (command ∷ commands) =
@@ -134,11 +134,11 @@ drops name (calls.DropRow other) = (name.row == other.row) && (name.generation =
 drops name _ = false
 
 -- the registers that the lines assign and do not drop
-abbrev pub left_of : List HistoryLine → List Held
+abbrev pub left_of : List HistoryLine → List NamedRegister
 left_of lines = filter (λ register. not (list_any (λ line. drops register.name line.entry.call) lines)) (registers_of lines)
 
 -- `drop` and the register's word, and that call
-abbrev pub drop_of : Held → List Word × Call
+abbrev pub drop_of : NamedRegister → List Word × Call
 drop_of register = (codes "drop" ∷ register.word ∷ [], calls.DropRow register.name)
 
 -- The lines of a script of one session: its commands in order, up to the first that stops it or to their end, and then the

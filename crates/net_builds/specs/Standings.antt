@@ -1,5 +1,6 @@
 -- What is seen of a session that builds functions, and what its calls leave.
 use Rattle.std.specs.Prelude.{◌≡◌, ℕ, ◌+◌, ◌<◌, ◌≤◌, ◌^◌, Bool, false, List, [], ◌∷◌, ◌++◌, All, Option, Some, length, map}
+use Rattle.edge_bits.specs.declared.limits.TheConstants.{MOST_ROWS}
 use Rattle.dddmp_text.specs.declared.listings.Listing.{Listing}
 use Rattle.dddmp_text.specs.Listings.{IsListing}
 use Rattle.function_laws.specs.declared.history.Call.TheVariants as calls
@@ -57,7 +58,7 @@ IsLive s name = (f : List Bool) × (s.stands name ≡ Some (Bdd f)) × (name.gen
 
 -- the session may make one more row
 abbrev pub HasRoom : Standing → Type 0
-HasRoom s = s.rows < 2 ^ 25
+HasRoom s = s.rows < MOST_ROWS
 
 -- the entry adds no variable and leaves the order as it is
 pub record IsPlain (e : Entry) : Type 0 where
