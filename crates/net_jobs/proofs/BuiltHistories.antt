@@ -1,5 +1,5 @@
 -- One session that built a network, in the history that the closing of its manager tells.
-use Rattle.std.proofs.Common.{◌≡◌, ◌⊎◌, Bool, Option, ℕ, zero, suc, ◌+◌, ◌*◌, Result, Ok, Err, IfErr, inr, List, [], ◌∷◌, ◌++◌, length, map, take, drop, All, Contains, refl, ap, sym, ◌∙◌, subst, arith}
+use Rattle.std.proofs.Common.{◌≡◌, ◌⊎◌, Bool, Option, ℕ, zero, suc, ◌*◌, Result, Ok, Err, IfErr, inr, List, [], ◌∷◌, ◌++◌, length, map, take, drop, All, Contains, refl, ap, sym, ◌∙◌, subst, arith}
 use mathlib.Core.Option.{some}
 use lib.ListN.{get_elem?}
 use Rattle.std.proofs.Math.Seq.{take-append_seam}
@@ -48,6 +48,7 @@ all_noted sizes log (note ∷ noted) each =
 pub history_of : (m : Managed) (s : Seen) (n : ℕ) (h : IsHistoryOf m (s ∷ []) n) → builds.IsLegalHistoryOf (sizes_for m.vars m.elements) h.log (standing_of s ∷ [])
 history_of m s n h = record {
   legal = h.legal;
+  carried = h.carried;
   each = one (λ (t : Standing). entries_of t.number h.log ≡ t.entries) (h.each 0 s refl);
   rows = one (λ (t : Standing). (name : Name) → (table_after (opening (sizes_for m.vars m.elements)) h.log).live t.number name ≡ t.stands name)
       (λ name. ap (λ (f : Name → Option Function). f name) (h.rows 0 s refl));

@@ -12,7 +12,7 @@ use Rattle.function_laws.specs.declared.history.Name.{Name}
 use Rattle.function_laws.specs.declared.history.Reply.{Reply}
 use Rattle.function_laws.specs.declared.history.Reply.TheVariants as replies
 use Rattle.function_laws.specs.Tables.{Sizes, Table, same_name, with_name}
-use Rattle.function_laws.specs.Outcomes.{Outcome, makes, restricts, covers, fetches, counts, overflows, is_most, compares, tells, shows, is_done}
+use Rattle.function_laws.specs.Outcomes.{Outcome, makes, restricts, covers, fetches, counts, is_done}
 use Rattle.function_laws.specs.Steps.{IsAllowed, IsNew, Replies, after, outcome, outcome_of, with_result}
 use Rattle.function_laws.proofs.StepLemmas.{chosen-new}
 use Rattle.dd_session.specs.Managing.{stands_for}

@@ -1,5 +1,5 @@
 -- Of a text of a job there is nothing to tell but its history, and of one of a network but its report.
-use Rattle.std.proofs.Common.{◌≡◌, ℕ, ◌≤◌, List, ◌++◌, length, Option, Some, None, inl, inr, refl, sym, ap, ◌∙◌, subst, arith, append-nil, length-append}
+use Rattle.std.proofs.Common.{◌≡◌, ℕ, ◌+◌, ◌≤◌, List, ◌++◌, length, Option, Some, None, inl, inr, refl, sym, ap, ◌∙◌, subst, arith, append-nil, length-append}
 use Rattle.std.specs.Io.KnownBytes.{Consumes}
 use Rattle.edge_bits.specs.declared.limits.TheConstants.{LONGEST_TEXT}
 use Rattle.blif_net.specs.declared.faults.BlifFault.{BlifFault}
