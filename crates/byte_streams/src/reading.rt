@@ -2,7 +2,7 @@
 
 ghost use Rattle.std.specs.Prelude.{◌≡◌, ◌^◌, ◌+◌, ◌<◌, ◌≤◌, ◌++◌, ℕ, List, [], length, IfSome, IfOk, OnOk, OnErr, vec_len, IsErrOf, IfErr, ◌≢◌};
 ghost use Rattle.std.specs.Io.KnownBytes.{Consumes, IsAtEnd};
-ghost use Rattle.byte_streams.specs.Causes.{Rose};
+ghost use Rattle.byte_streams.specs.Causes.{FaultsRose};
 
 use crate::Source;
 use std::alloc::{AllocError, Global};
@@ -49,7 +49,7 @@ fn read_part<S: Source>(
         × Consumes (S.left source.old) (S.left source.new) bytes) }
     ensures end { result ≡ Ok 0 → IsAtEnd (S.left source.new) }
     ensures stop { IfErr result (λ e. e ≢ ReadStop.TooLong) }
-    ensures failed { IsErrOf result ReadStop.Failed → Rose (S.faults source.old) (S.faults source.new) }
+    ensures failed { IsErrOf result ReadStop.Failed → FaultsRose (S.faults source.old) (S.faults source.new) }
     ensures later { S.faults source.old ≤ S.faults source.new }
 {
     match source.read(buffer) {
@@ -72,7 +72,7 @@ pub fn read_to_end<S: Source>(
     ensures end { OnOk result (IsAtEnd (S.left source.new)) }
     ensures within { IfOk result (λ text. vec_len text ≤ limit) }
     ensures too_long { IsErrOf result ReadStop.TooLong → (bytes : List ℕ) × Consumes (S.left source.old) (S.left source.new) bytes × (length bytes ≡ limit + 1) }
-    ensures failed { IsErrOf result ReadStop.Failed → Rose (S.faults source.old) (S.faults source.new) }
+    ensures failed { IsErrOf result ReadStop.Failed → FaultsRose (S.faults source.old) (S.faults source.new) }
     ensures later { S.faults source.old ≤ S.faults source.new }
 {
     let mut chunk = buffer(alloc, CHUNK)?;

@@ -3,7 +3,7 @@
 ghost use Rattle.std.specs.Prelude.{◌≡◌, ◌<◌, List, ℕ, Option, length};
 ghost use Rattle.std.specs.Io.{WritesAtMost};
 ghost use Rattle.std.specs.Io.KnownBytes.{WriteAppends};
-ghost use Rattle.byte_streams.specs.Causes.{HasCause, Rose};
+ghost use Rattle.byte_streams.specs.Causes.{HasCause, FaultsRose};
 
 use crate::Failed;
 
@@ -18,5 +18,5 @@ pub trait Sink {
         ensures bound { WritesAtMost result bytes.now }
         ensures bytes { WriteAppends (written self.old) (written self.new) result bytes.now }
         ensures cause { HasCause (faults self.old) (faults self.new) result }
-        ensures stuck { result ≡ Ok 0 → 0 < length bytes.now → Rose (faults self.old) (faults self.new) };
+        ensures stuck { result ≡ Ok 0 → 0 < length bytes.now → FaultsRose (faults self.old) (faults self.new) };
 }

@@ -68,7 +68,7 @@ impl<W: Write> Writing<W> {
 impl<W: Write> Sink for Writing<W> {
     ghost use Rattle.std.specs.Io.{WritesAtMost};
     ghost use Rattle.std.specs.Io.KnownBytes.{WriteAppends};
-    ghost use Rattle.byte_streams.specs.Causes.{HasCause, Rose};
+    ghost use Rattle.byte_streams.specs.Causes.{HasCause, FaultsRose};
 
     ghost written = { λ s. W.contents s.inner };
 
@@ -79,7 +79,7 @@ impl<W: Write> Sink for Writing<W> {
         ensures bound { WritesAtMost result bytes.now }
         ensures bytes { WriteAppends (W.contents self.old.inner) (W.contents self.new.inner) result bytes.now }
         ensures cause { HasCause self.old.faults self.new.faults result }
-        ensures stuck { result ≡ Ok 0 → 0 < length bytes.now → Rose self.old.faults self.new.faults }
+        ensures stuck { result ≡ Ok 0 → 0 < length bytes.now → FaultsRose self.old.faults self.new.faults }
         ensures counted { OnErr result (self.new.faults ≡ min (self.old.faults + 1) (2 ^ 64 - 1)) }
         ensures stuck_counted { IfOk result (λ count. count ≡ 0 → 0 < length bytes.now → self.new.faults ≡ min (self.old.faults + 1) (2 ^ 64 - 1)) }
         ensures uncounted { IfOk result (λ count. (0 < count) ⊎ (length bytes.now ≡ 0) → self.new.faults ≡ self.old.faults) }

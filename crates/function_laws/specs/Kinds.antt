@@ -71,10 +71,10 @@ Fits Add f = (x : ℕ) → is_value (f x) ≡ true
 Fits Zdd p = Unit {0}
 
 -- place by place, what is no member of any operand is no member of the result
-abbrev pub Keeps : (k : Kind) → (ValueOf k → ValueOf k → ValueOf k) → Type 0
-Keeps Bdd op = Unit {0}
-Keeps Add op = Unit {0}
-Keeps Zdd op = op false false ≡ false
+abbrev pub KeepsAbsent : (k : Kind) → (ValueOf k → ValueOf k → ValueOf k) → Type 0
+KeepsAbsent Bdd op = Unit {0}
+KeepsAbsent Add op = Unit {0}
+KeepsAbsent Zdd op = op false false ≡ false
 
 abbrev pub place : {X Y Z : Type 0} → (X → Y → Z) → (ℕ → X) → (ℕ → Y) → ℕ → Z
 place op f g x = op (f x) (g x)

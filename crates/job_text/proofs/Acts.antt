@@ -120,7 +120,7 @@ one_form n rs words own own' os os' (tells command rest e k) (tells command' res
 one_act : (n : Counts) (rs : List Register) (words words' : List Word) (act act' : Act) → words ≡ words' → Says n rs words act → Says n rs words' act' → act ≡ act'
 one_act n rs words words' act act' e h h' =
     let same = one_form n rs words h.own h'.own h.operands h'.operands h.forms (subst (λ (t : List Word). Forms n rs t h'.own h'.operands) (sym e) h'.forms) in
-    h.means ∙ ap (λ (t : Form). act_of t.operation (with_operands rs no_operands h.operands)) same.0 ∙ ap (λ t. act_of h'.own.operation (with_operands rs no_operands t)) same.1 ∙ sym h'.means
+    h.means ∙ ap (λ (t : Form). act_of t.opcode (with_operands rs no_operands h.operands)) same.0 ∙ ap (λ t. act_of h'.own.opcode (with_operands rs no_operands t)) same.1 ∙ sym h'.means
 
 -- a command is no line that begins a section
 no_begin : (n : Counts) (rs : List Register) (c : Command) (words : List Word) → Says n rs c.words c.act → is_session words ≡ true → words ≡ c.words → ⊥

@@ -8,6 +8,7 @@ use Rattle.std.proofs.lemmas.Bool.{false≢true}
 use Rattle.std.proofs.lemmas.Bool.Decides.{nat_tests}
 use Rattle.std.proofs.lemmas.List.{append-nil}
 use Rattle.std.proofs.lemmas.Slice.Eq.{bytes_eq-Decides}
+use Rattle.edge_bits.specs.declared.limits.TheConstants.{CELLS, MOST_ELEMENTS, MOST_SESSIONS, MOST_SLOTS, MOST_VARIABLES}
 use Rattle.edge_bits.specs.declared.edges.Kind.{Kind}
 use Rattle.function_laws.specs.Numbers.{is_value}
 use Rattle.job_commands.specs.declared.acts.Act.{Act}
@@ -90,8 +91,8 @@ variable_of n rs w h = (digits_value 10 w, (h.0, refl), below (digits_value 10 w
 element_of : (n : Counts) (rs : List Register) (w : Word) → Fits n rs (places.Element, w) → (e : ℕ) × IsNumber w e × (e < n.elements)
 element_of n rs w h = (digits_value 10 w, (h.0, refl), below (digits_value 10 w) n.elements (where_true (nat_lt (digits_value 10 w) n.elements) kinds.Range h.1))
 
-cell_of : (n : Counts) (rs : List Register) (w : Word) → Fits n rs (places.Cell, w) → (k : ℕ) × IsNumber w k × (k < 256)
-cell_of n rs w h = (digits_value 10 w, (h.0, refl), below (digits_value 10 w) 256 (where_true (nat_lt (digits_value 10 w) 256) kinds.Range h.1))
+cell_of : (n : Counts) (rs : List Register) (w : Word) → Fits n rs (places.Cell, w) → (k : ℕ) × IsNumber w k × (k < CELLS)
+cell_of n rs w h = (digits_value 10 w, (h.0, refl), below (digits_value 10 w) CELLS (where_true (nat_lt (digits_value 10 w) CELLS) kinds.Range h.1))
 
 word_of_bits : (w : Word) → is_bits w ≡ true → (bs : List Bool) × (w ≡ bit_word bs)
 word_of_bits w h = by_cases (bytes_eq w (codes "none")) refl
@@ -164,32 +165,32 @@ session_form [] h = absurd (false≢true h)
 session_form (word ∷ []) h = ap (λ w. w ∷ []) (is_word word (codes "session") h)
 session_form (word ∷ second ∷ words) h = absurd (false≢true h)
 
-few : (d : ℕ) → nat_le d 1024 ≡ true → d ≤ 1024
-few d e = grind (arith, nat_tests)
+few : (most d : ℕ) → nat_le d most ≡ true → d ≤ most
+few most d e = grind (arith, nat_tests)
 
 limit_low : (d n : ℕ) → nat_le (5 + n) d ≡ true → 5 + n ≤ d
 limit_low d n e = grind (arith, nat_tests)
 
-limit_high : (d : ℕ) → nat_le d 8388607 ≡ true → d ≤ 8388607
+limit_high : (d : ℕ) → nat_le d MOST_SLOTS ≡ true → d ≤ MOST_SLOTS
 limit_high d e = grind (arith, nat_tests)
 
 abbrev is_limit : ℕ → ℕ → Bool
-is_limit n limit = nat_le (5 + n) limit && nat_le limit 8388607
+is_limit n limit = nat_le (5 + n) limit && nat_le limit MOST_SLOTS
 
 abbrev is_few : ℕ → Bool
-is_few m = nat_le m 1024
+is_few m = nat_le m MOST_ELEMENTS
 
 limit_adds : (n : ℕ) (elements : Option ℕ) (words : List Word) → number_fault (codes "limit") (is_limit n) kinds.Limit words ≡ None → (next : Draft) × Adds (Sized n elements None) words next
 limit_adds n elements words h =
     let form = number_form (codes "limit") (is_limit n) kinds.Limit words h in
     let d = digits_value 10 form.0 in
-    let range = and_true (nat_le (5 + n) d) (nat_le d 8388607) form.3 in
+    let range = and_true (nat_le (5 + n) d) (nat_le d MOST_SLOTS) form.3 in
     (_, adds_limit (form.0, n, d, elements, form.1, (form.2, refl), limit_low d n range.0, limit_high d range.1, refl, refl))
 
 elements_add : (n : ℕ) (words : List Word) → number_fault (codes "elements") is_few kinds.Range words ≡ None → (next : Draft) × Adds (Sized n None None) words next
 elements_add n words h =
     let form = number_form (codes "elements") is_few kinds.Range words h in
-    (_, adds_elements (form.0, n, digits_value 10 form.0, form.1, (form.2, refl), few (digits_value 10 form.0) form.3, refl, refl))
+    (_, adds_elements (form.0, n, digits_value 10 form.0, form.1, (form.2, refl), few MOST_ELEMENTS (digits_value 10 form.0) form.3, refl, refl))
 
 -- a line between `vars` and `session`: of elements, or of the limit
 sized_adds : (n : ℕ) (elements given : Option ℕ) (words : List Word) (b c : Bool) → is_session words ≡ b
@@ -203,10 +204,10 @@ sized_adds n (Some m) None words false true e h = limit_adds n (Some m) words h
 sized_adds n elements None words false false e h = limit_adds n elements words h
 
 begun_adds : (limit : ℕ) (done : List (List Command)) (section : Section) (words : List Word) (b : Bool) → is_session words ≡ b
-    → cond b (cond (nat_lt (length done + 1) 64) None (Some kinds.Limit)) (command_fault section.scope.counts section.scope.registers words) ≡ None
+    → cond b (cond (nat_lt (length done + 1) MOST_SESSIONS) None (Some kinds.Limit)) (command_fault section.scope.counts section.scope.registers words) ≡ None
     → (next : Draft) × Adds (Begun limit done section) words next
 begun_adds limit done section words true e h =
-    let few = below (length done + 1) 64 (where_true (nat_lt (length done + 1) 64) kinds.Limit h) in
+    let few = below (length done + 1) MOST_SESSIONS (where_true (nat_lt (length done + 1) MOST_SESSIONS) kinds.Limit h) in
     (_, adds_further (limit, done, section, session_form words e, few, refl, refl))
 begun_adds limit done section words false e h =
     let says = command_says section.scope.counts section.scope.registers words h in
@@ -215,8 +216,8 @@ begun_adds limit done section words false e h =
 adds : (draft : Draft) (words : List Word) → words_fault (context_in draft) words ≡ None → (next : Draft) × Adds draft words next
 adds draft [] h = (draft, adds_nothing refl refl)
 adds Nothing (word ∷ words) h =
-    let form = number_form (codes "vars") (λ n. nat_le n 1024) kinds.Range (word ∷ words) h in
-    (_, adds_vars (form.0, digits_value 10 form.0, form.1, (form.2, refl), few (digits_value 10 form.0) form.3, refl, refl))
+    let form = number_form (codes "vars") (λ n. nat_le n MOST_VARIABLES) kinds.Range (word ∷ words) h in
+    (_, adds_vars (form.0, digits_value 10 form.0, form.1, (form.2, refl), few MOST_VARIABLES (digits_value 10 form.0) form.3, refl, refl))
 adds (Sized n elements given) (word ∷ words) h = sized_adds n elements given (word ∷ words) (is_session (word ∷ words)) (bytes_eq word (codes "elements")) refl h
 adds (Begun limit done section) (word ∷ words) h = begun_adds limit done section (word ∷ words) (is_session (word ∷ words)) refl h
 

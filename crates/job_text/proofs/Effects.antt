@@ -101,7 +101,7 @@ module _ (n : Counts) (rs : List Register) where
   TellsKind word (acts.Fetch k a) = word ≡ codes "fetch"
   TellsKind word _ = ⊥
 
-  each_tells_kind : EachRow (λ own. (given : Operands) → TellsKind own.word (act_of own.operation given)) assigning
+  each_tells_kind : EachRow (λ own. (given : Operands) → TellsKind own.word (act_of own.opcode given)) assigning
   each_tells_kind = (
     (λ g rest. refl),
     (
@@ -217,7 +217,7 @@ module _ (n : Counts) (rs : List Register) where
   TellsDrop word (acts.Drop a) = word ≡ codes "drop"
   TellsDrop word _ = bytes_eq word (codes "drop") ≡ false
 
-  each_tells_drop : EachRow (λ own. (given : Operands) → TellsDrop own.word (act_of own.operation given)) telling
+  each_tells_drop : EachRow (λ own. (given : Operands) → TellsDrop own.word (act_of own.opcode given)) telling
   each_tells_drop = ((λ g. refl), ((λ g. refl), ((λ g. refl), ((λ g. refl), ((λ g. refl), ((λ g. refl), tt))))))
 
   abbrev pub Leaves : List Word → Act → Type 0
@@ -250,12 +250,12 @@ module _ (n : Counts) (rs : List Register) where
     where
       by : Forms n rs words says.own says.operands → Leaves words act
       by (assigns r command rest e fresh is) =
-          let row = row_has (λ own. (given : Operands) → TellsKind own.word (act_of own.operation given)) assigning command says.own is.found each_tells_kind in
+          let row = row_has (λ own. (given : Operands) → TellsKind own.word (act_of own.opcode given)) assigning command says.own is.found each_tells_kind in
           let kind = subst (λ (t : Act). TellsKind command t) (sym says.means)
-          (subst (λ (w : Word). TellsKind w (act_of says.own.operation (with_operands rs no_operands says.operands))) row.1 (row.0 (with_operands rs no_operands says.operands))) in
+          (subst (λ (w : Word). TellsKind w (act_of says.own.opcode (with_operands rs no_operands says.operands))) row.1 (row.0 (with_operands rs no_operands says.operands))) in
           assigned words act r command rest says.operands e kind (takes n rs words act says) is.stand
       by (tells command rest e is) =
-          let row = row_has (λ own. (given : Operands) → TellsDrop own.word (act_of own.operation given)) telling command says.own is.found each_tells_drop in
+          let row = row_has (λ own. (given : Operands) → TellsDrop own.word (act_of own.opcode given)) telling command says.own is.found each_tells_drop in
           let drops = subst (λ (t : Act). TellsDrop command t) (sym says.means)
-          (subst (λ (w : Word). TellsDrop w (act_of says.own.operation (with_operands rs no_operands says.operands))) row.1 (row.0 (with_operands rs no_operands says.operands))) in
+          (subst (λ (w : Word). TellsDrop w (act_of says.own.opcode (with_operands rs no_operands says.operands))) row.1 (row.0 (with_operands rs no_operands says.operands))) in
           told words act command rest says.operands e drops (takes n rs words act says) is.stand

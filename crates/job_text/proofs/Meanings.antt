@@ -7,6 +7,7 @@ use Rattle.std.specs.Str.Parse.{digits_value}
 use Rattle.std.proofs.lemmas.Bool.{false≢true}
 use Rattle.std.proofs.lemmas.Bool.Decides.{nat_tests}
 use Rattle.std.proofs.lemmas.Slice.Eq.{bytes_eq-Decides}
+use Rattle.edge_bits.specs.declared.limits.TheConstants.{CELLS}
 use Rattle.edge_bits.specs.declared.edges.Kind.{Kind}
 use Rattle.function_laws.specs.Numbers.{is_value}
 use Rattle.job_commands.specs.declared.acts.Act.{Act}
@@ -63,8 +64,8 @@ variable_fits n rs w v h lt = (h.0, ap (λ b. cond b None (Some kinds.Range)) (b
 pub element_fits : (n : Counts) (rs : List Register) (w : Word) (e : ℕ) → IsNumber w e → e < n.elements → Fits n rs (places.Element, w)
 element_fits n rs w e h lt = (h.0, ap (λ b. cond b None (Some kinds.Range)) (below e (digits_value 10 w) n.elements h.1 lt))
 
-pub cell_fits : (n : Counts) (rs : List Register) (w : Word) (k : ℕ) → IsNumber w k → k < 256 → Fits n rs (places.Cell, w)
-cell_fits n rs w k h lt = (h.0, ap (λ b. cond b None (Some kinds.Range)) (below k (digits_value 10 w) 256 h.1 lt))
+pub cell_fits : (n : Counts) (rs : List Register) (w : Word) (k : ℕ) → IsNumber w k → k < CELLS → Fits n rs (places.Cell, w)
+cell_fits n rs w k h lt = (h.0, ap (λ b. cond b None (Some kinds.Range)) (below k (digits_value 10 w) CELLS h.1 lt))
 
 pub bit_fits : (n : Counts) (rs : List Register) (w : Word) (b : Bool) → w ≡ bit_word (b ∷ []) → Fits n rs (places.Bit, w)
 bit_fits n rs w true e = (ap is_bit e, refl)
@@ -133,10 +134,10 @@ filled_by n rs (p ∷ ps) repeated (w ∷ words) (o ∷ os) h f =
     ap (λ slots. option_map (λ more. (p, w) ∷ more) slots) (filled_by n rs ps repeated words os h.1 f.1) ∙ ap (λ q. Some ((q, w) ∷ slots_for os words)) (sym f.0)
 
 pub command_is : (forms : List Form) (before : List (Place × Word)) (command : Word) (words : List Word) (own : Form) (slots : List (Place × Word)) → form_in forms command ≡ Some own
-    → filled own.places own.repeated words ≡ Some slots → command_in forms before command words ≡ Some (own.operation, before ++ slots)
+    → filled own.places own.repeated words ≡ Some slots → command_in forms before command words ≡ Some (own.opcode, before ++ slots)
 command_is forms before command words own slots e f =
-    ap (λ o. option_and_then (λ known. option_map (λ slots. (known.operation, before ++ slots)) (filled known.places known.repeated words)) o) e
-    ∙ ap (λ o. option_map (λ slots. (own.operation, before ++ slots)) o) f
+    ap (λ o. option_and_then (λ known. option_map (λ slots. (known.opcode, before ++ slots)) (filled known.places known.repeated words)) o) e
+    ∙ ap (λ o. option_map (λ slots. (own.opcode, before ++ slots)) o) f
 
 -- `=` stands for nothing
 equals_is_none : (is_name (codes "=") ≡ false) × (is_number (codes "=") ≡ false) × (is_integer (codes "=") ≡ false)

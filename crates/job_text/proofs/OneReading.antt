@@ -4,6 +4,7 @@ use Rattle.std.specs.List.{list_all, flat_map, All}
 use Rattle.std.specs.Str.Parse.{digits_value}
 use Rattle.std.proofs.lemmas.Bool.{false≢true}
 use Rattle.std.proofs.lemmas.Slice.Eq.{bytes_eq-Decides}
+use Rattle.edge_bits.specs.declared.limits.TheConstants.{MOST_ELEMENTS, MOST_SESSIONS}
 use Rattle.job_text.specs.declared.job.Command.{Command}
 use Rattle.job_text.specs.declared.job.Job.{Job}
 use Rattle.job_text.specs.declared.job.Counts.{Counts}
@@ -115,7 +116,7 @@ commands_well c n k rs (command ∷ commands) rest e h more =
     let others = commands_well (context_after c command.words) n k (registers_after rs command.words) commands rest line.1 h.1 more in
     ((line.0, others.0), others.1)
 
-sections_well : (c : Context) (n : Counts) (k : ℕ) (rs : List Register) (sections : List (List Command)) → c ≡ within n k rs → k + length sections ≤ 64 → All (CommandsSay n []) sections
+sections_well : (c : Context) (n : Counts) (k : ℕ) (rs : List Register) (sections : List (List Command)) → c ≡ within n k rs → k + length sections ≤ MOST_SESSIONS → All (CommandsSay n []) sections
     → BeginsWell n c (flat_map section_lines sections)
 sections_well c n k rs [] e few says = (tt, (k, rs, e))
 sections_well c n k rs (commands ∷ sections) e few says =
@@ -124,9 +125,9 @@ sections_well c n k rs (commands ∷ sections) e few says =
     (λ c' rs' e'. sections_well c' n (k + 1) rs' sections e' (omega (arith, few)) (λ i d lt. says (suc i) d (omega arith))) in
     ((line.0, others.0), others.1)
 
--- the sections of a job: 1 to 64
+-- the sections of a job: 1 to so many
 abbrev AreSections : Counts → List (List Command) → Type 0
-AreSections n sections = (1 ≤ length sections) × (length sections ≤ 64) × All (CommandsSay n []) sections
+AreSections n sections = (1 ≤ length sections) × (length sections ≤ MOST_SESSIONS) × All (CommandsSay n []) sections
 
 -- the lines of the limit and the sections, behind `vars`
 first_well : (c : Context) (n : ℕ) (elements : Option ℕ) (limited : Bool) (sections : List (List Command)) → c ≡ sized n elements limited → AreSections (counts_with n elements) sections
@@ -152,7 +153,7 @@ behind_limit c n elements limit limits sections e (inr h) low high says =
 abbrev counts : ℕ → ℕ → Counts
 counts n m = record { vars = n; elements = m }
 
-behind_elements : (c : Context) (n m limit : ℕ) (counted limits : List (List Word)) (sections : List (List Command)) → c ≡ sized n None false → ElementLines m counted → m ≤ 1024 → LimitLines limit limits → 5 + n ≤ limit → limit ≤ 8388607
+behind_elements : (c : Context) (n m limit : ℕ) (counted limits : List (List Word)) (sections : List (List Command)) → c ≡ sized n None false → ElementLines m counted → m ≤ MOST_ELEMENTS → LimitLines limit limits → 5 + n ≤ limit → limit ≤ 8388607
     → AreSections (counts n m) sections → BeginsWell (counts n m) c (counted ++ (limits ++ flat_map section_lines sections))
 behind_elements c n m limit counted limits sections e (inl h) few limited low high says =
     let said = limits ++ flat_map section_lines sections in

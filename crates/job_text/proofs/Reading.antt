@@ -8,6 +8,7 @@ use Rattle.std.proofs.lemmas.List.{append-nil, map-append}
 use Rattle.std.proofs.lemmas.List.Folds.{list_all-append}
 use Rattle.std.proofs.lemmas.List.Elements.{filter-append, All-append, All-cons}
 use Rattle.std.proofs.lemmas.Grind.{flat_map-append}
+use Rattle.edge_bits.specs.declared.limits.TheConstants.{MOST_ELEMENTS, MOST_SESSIONS, MOST_SLOTS, MOST_VARIABLES, USUAL_LIMIT}
 use Rattle.job_commands.specs.declared.acts.Act.{Act}
 use Rattle.job_text.specs.declared.job.Command.{Command}
 use Rattle.job_text.specs.declared.job.Job.{Job}
@@ -106,10 +107,10 @@ section_more : (commands : List Command) (words : List Word) (act : Act) → sec
 section_more commands words act = ap (λ t. (codes "session" ∷ []) ∷ t) (map-append (λ (c : Command). c.words) commands (record { words = words; act = act } ∷ []))
 
 -- What a line that adds something has: no fault, and what it leaves.
-in_range : (d n : ℕ) → d ≡ n → n ≤ 1024 → nat_le d 1024 ≡ true
-in_range d n e h = grind (arith, nat_tests)
+in_range : (most d n : ℕ) → d ≡ n → n ≤ most → nat_le d most ≡ true
+in_range most d n e h = grind (arith, nat_tests)
 
-limit_in_range : (d l n : ℕ) → d ≡ l → 5 + n ≤ l → l ≤ 8388607 → (nat_le (5 + n) d && nat_le d 8388607) ≡ true
+limit_in_range : (d l n : ℕ) → d ≡ l → 5 + n ≤ l → l ≤ MOST_SLOTS → (nat_le (5 + n) d && nat_le d MOST_SLOTS) ≡ true
 limit_in_range d l n e low high = grind (arith, nat_tests)
 
 number_well : (b c : Bool) (fault : FaultKind) → b ≡ true → c ≡ true → cond (true && b) (cond c None (Some fault)) (Some kinds.Word) ≡ None
@@ -119,7 +120,7 @@ number_well b c fault e f = ap (λ t. cond (true && t) (cond c None (Some fault)
 no_session : (n : Counts) (k : ℕ) (rs : List Register) (first : Word) (rest : List Word) → is_session (first ∷ rest) ≡ false
     → (words_fault (within n k rs) (first ∷ rest) ≡ command_fault n rs (first ∷ rest)) × (context_after (within n k rs) (first ∷ rest) ≡ within n k (registers_after rs (first ∷ rest)))
 no_session n k rs first rest e = (
-  ap (λ b. cond b (cond (nat_lt k 64) None (Some kinds.Limit)) (command_fault n rs (first ∷ rest))) e,
+  ap (λ b. cond b (cond (nat_lt k MOST_SESSIONS) None (Some kinds.Limit)) (command_fault n rs (first ∷ rest))) e,
   ap (λ b. cond b (within n (k + 1) []) (within n k (registers_after rs (first ∷ rest)))) e,
 )
 
@@ -133,33 +134,33 @@ command_line c n k rs words act e says =
     )
 
 -- the line of a further section
-may_begin : (k : ℕ) → k < 64 → nat_lt k 64 ≡ true
+may_begin : (k : ℕ) → k < MOST_SESSIONS → nat_lt k MOST_SESSIONS ≡ true
 may_begin k h = grind (arith, nat_tests)
 
-pub session_line : (c : Context) (n : Counts) (k : ℕ) (rs : List Register) → c ≡ within n k rs → k < 64
+pub session_line : (c : Context) (n : Counts) (k : ℕ) (rs : List Register) → c ≡ within n k rs → k < MOST_SESSIONS
     → (words_fault c (codes "session" ∷ []) ≡ None) × (context_after c (codes "session" ∷ []) ≡ within n (k + 1) [])
 session_line c n k rs e few = (
   ap (λ t. words_fault t (codes "session" ∷ [])) e ∙ ap (λ b. cond b None (Some kinds.Limit)) (may_begin k few),
   ap (λ t. context_after t (codes "session" ∷ [])) e,
 )
 
-pub vars_line : (number : Word) (n : ℕ) → IsNumber number n → n ≤ 1024
+pub vars_line : (number : Word) (n : ℕ) → IsNumber number n → n ≤ MOST_VARIABLES
     → (words_fault at_start (codes "vars" ∷ number ∷ []) ≡ None) × (context_after at_start (codes "vars" ∷ number ∷ []) ≡ sized n None false)
 vars_line number n h le = (
-  number_well (is_number number) (nat_le (digits_value 10 number) 1024) kinds.Range h.0 (in_range (digits_value 10 number) n h.1 le),
+  number_well (is_number number) (nat_le (digits_value 10 number) MOST_VARIABLES) kinds.Range h.0 (in_range MOST_VARIABLES (digits_value 10 number) n h.1 le),
   ap (λ k. sized k None false) h.1,
 )
 
-pub elements_line : (n : ℕ) (number : Word) (m : ℕ) → IsNumber number m → m ≤ 1024
+pub elements_line : (n : ℕ) (number : Word) (m : ℕ) → IsNumber number m → m ≤ MOST_ELEMENTS
     → (words_fault (sized n None false) (codes "elements" ∷ number ∷ []) ≡ None) × (context_after (sized n None false) (codes "elements" ∷ number ∷ []) ≡ sized n (Some m) false)
 elements_line n number m h le = (
-  number_well (is_number number) (nat_le (digits_value 10 number) 1024) kinds.Range h.0 (in_range (digits_value 10 number) m h.1 le),
+  number_well (is_number number) (nat_le (digits_value 10 number) MOST_ELEMENTS) kinds.Range h.0 (in_range MOST_ELEMENTS (digits_value 10 number) m h.1 le),
   ap (λ k. sized n (Some k) false) h.1,
 )
 
-pub limit_line : (n : ℕ) (elements : Option ℕ) (number : Word) (limit : ℕ) → IsNumber number limit → 5 + n ≤ limit → limit ≤ 8388607 → words_fault (sized n elements false) (codes "limit" ∷ number ∷ []) ≡ None
+pub limit_line : (n : ℕ) (elements : Option ℕ) (number : Word) (limit : ℕ) → IsNumber number limit → 5 + n ≤ limit → limit ≤ MOST_SLOTS → words_fault (sized n elements false) (codes "limit" ∷ number ∷ []) ≡ None
 limit_line n elements number limit h low high =
-    number_well (is_number number) (nat_le (5 + n) (digits_value 10 number) && nat_le (digits_value 10 number) 8388607) kinds.Limit h.0
+    number_well (is_number number) (nat_le (5 + n) (digits_value 10 number) && nat_le (digits_value 10 number) MOST_SLOTS) kinds.Limit h.0
     (limit_in_range (digits_value 10 number) limit n h.1 low high)
 
 pub adds_well : (old new : Draft) (words : List Word) → Adds old words new → (words_fault (context_in old) words ≡ None) × (context_after (context_in old) words ≡ context_in new)
@@ -194,7 +195,7 @@ adds_well old new words (adds_command h) =
     (line.0, line.1 ∙ sym (ap context_in h.6))
 
 -- What it makes of the lines with words
-limit_lines : (given : Option ℕ) (limits : List (List Word)) → GivenLine (codes "limit") given limits → LimitLines (unwrap_or given 262144) limits
+limit_lines : (given : Option ℕ) (limits : List (List Word)) → GivenLine (codes "limit") given limits → LimitLines (unwrap_or given USUAL_LIMIT) limits
 limit_lines None limits h = inl (h, refl)
 limit_lines (Some limit) limits h = inr h
 
@@ -311,11 +312,11 @@ adds_spelled old new words said (adds_command g) h =
       ap (λ t. registers_after t words) k.9 ∙ sym (behind_more [] commands words g.3),
     )
 
-default_limit : (n : ℕ) (given : Option ℕ) → n ≤ 1024 → IfSome given (λ limit. (5 + n ≤ limit) × (limit ≤ 8388607)) → (5 + n ≤ unwrap_or given 262144) × (unwrap_or given 262144 ≤ 8388607)
+default_limit : (n : ℕ) (given : Option ℕ) → n ≤ MOST_VARIABLES → IfSome given (λ limit. (5 + n ≤ limit) × (limit ≤ MOST_SLOTS)) → (5 + n ≤ unwrap_or given USUAL_LIMIT) × (unwrap_or given USUAL_LIMIT ≤ MOST_SLOTS)
 default_limit n None le h = (omega arith, omega arith)
 default_limit n (Some limit) le h = h
 
-few_elements : (elements : Option ℕ) → IfSome elements (λ m. m ≤ 1024) → unwrap_or elements 0 ≤ 1024
+few_elements : (elements : Option ℕ) → IfSome elements (λ m. m ≤ MOST_ELEMENTS) → unwrap_or elements 0 ≤ MOST_ELEMENTS
 few_elements None h = omega arith
 few_elements (Some m) h = h
 

@@ -24,7 +24,7 @@ use Rattle.job_text.specs.declared.operands.Operand.TheVariants as operands
 use Rattle.job_commands.specs.declared.operands.Operands.{Operands}
 use Rattle.job_words.specs.Text.{Word}
 use Rattle.job_commands.specs.Commands.{Form, form_in, assigning, telling, bdd as bdd_place}
-use Rattle.function_laws.specs.Makings.{Taken, bit, element, function, number, pairs, taken, variable, variables}
+use Rattle.function_laws.specs.Makings.{Taken, bit, element, function, literals, number, pairs, taken, value, variable, variables}
 use Rattle.job_commands.specs.Commands.{act_of}
 use Rattle.job_commands.specs.Commands.{no_operands}
 use Rattle.job_text.specs.Places.{AllFit, Follows, bits_for, kind_at, place_of, with_operand, with_operands}
@@ -124,21 +124,24 @@ abbrev pub operands_for : Taken ℕ → List Operand
 operands_for (function k a) = operands.Register k a ∷ []
 operands_for (variable v) = operands.Variable v ∷ []
 operands_for (element e) = operands.Element e ∷ []
+operands_for (value w) = operands.Value w ∷ []
 operands_for (number w) = operands.Value w ∷ []
 operands_for (bit b) = operands.Bit b ∷ []
 operands_for (variables vs) = map operands.Variable vs
 operands_for (pairs ps) = flat_map pair_operands ps
+operands_for literals = []
 
--- no variable is put twice
-abbrev pub ArePutOnce : List (Taken ℕ) → Type 0
-ArePutOnce [] = Unit {0}
-ArePutOnce (pairs ps ∷ more) = (are_distinct (map (λ pair. pair.0) ps) ≡ true) × ArePutOnce more
-ArePutOnce (_ ∷ more) = ArePutOnce more
+-- as a command takes it: no variable is put twice, and no command asks for the literals of all variables
+abbrev pub AreOfCommand : List (Taken ℕ) → Type 0
+AreOfCommand [] = Unit {0}
+AreOfCommand (pairs ps ∷ more) = (are_distinct (map (λ pair. pair.0) ps) ≡ true) × AreOfCommand more
+AreOfCommand (literals ∷ more) = ⊥
+AreOfCommand (_ ∷ more) = AreOfCommand more
 
 module _ (n : Counts) (rs : List Register) where
   -- the operands of what a command does
   abbrev pub Takes : Act → List Operand → Type 0
-  Takes (acts.Makes making) os = (os ≡ flat_map operands_for (taken making)) × ArePutOnce (taken making)
+  Takes (acts.Makes making) os = (os ≡ flat_map operands_for (taken making)) × AreOfCommand (taken making)
   Takes (acts.Copy a) os = os ≡ operands.Any a ∷ []
   Takes (acts.Fetch k a) os = os ≡ operands.Cell k ∷ operands.Any a ∷ []
   Takes (acts.Post k a) os = os ≡ operands.Cell k ∷ operands.Any a ∷ []

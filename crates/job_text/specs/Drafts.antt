@@ -1,5 +1,6 @@
 -- What the reader keeps from line to line.
 use Rattle.std.specs.Prelude.{◌≡◌, ℕ, ◌+◌, ◌<◌, ◌≤◌, List, [], ◌∷◌, ◌++◌, Some, None, length, codes, is_some, unwrap_or, IfSome, false, Option}
+use Rattle.edge_bits.specs.declared.limits.TheConstants.{MOST_ELEMENTS, MOST_SESSIONS, MOST_SLOTS, MOST_VARIABLES, USUAL_LIMIT}
 use Rattle.job_commands.specs.declared.acts.Act.{Act}
 use Rattle.job_text.specs.declared.job.Command.{Command}
 use Rattle.job_text.specs.declared.job.Counts.{Counts}
@@ -28,15 +29,15 @@ context_in (Begun limit done section) = within section.scope.counts (length done
 
 -- what a line of these words makes of a draft
 abbrev pub AddsVars : Draft → List Word → Draft → Type 0
-AddsVars old words new = (number : Word) × (n : ℕ) × (words ≡ codes "vars" ∷ number ∷ []) × IsNumber number n × (n ≤ 1024)
+AddsVars old words new = (number : Word) × (n : ℕ) × (words ≡ codes "vars" ∷ number ∷ []) × IsNumber number n × (n ≤ MOST_VARIABLES)
     × (old ≡ Nothing) × (new ≡ Sized n None None)
 
 abbrev pub AddsElements : Draft → List Word → Draft → Type 0
-AddsElements old words new = (number : Word) × (n m : ℕ) × (words ≡ codes "elements" ∷ number ∷ []) × IsNumber number m × (m ≤ 1024)
+AddsElements old words new = (number : Word) × (n m : ℕ) × (words ≡ codes "elements" ∷ number ∷ []) × IsNumber number m × (m ≤ MOST_ELEMENTS)
     × (old ≡ Sized n None None) × (new ≡ Sized n (Some m) None)
 
 abbrev pub AddsLimit : Draft → List Word → Draft → Type 0
-AddsLimit old words new = (number : Word) × (n limit : ℕ) × (elements : Option ℕ) × (words ≡ codes "limit" ∷ number ∷ []) × IsNumber number limit × (5 + n ≤ limit) × (limit ≤ 8388607)
+AddsLimit old words new = (number : Word) × (n limit : ℕ) × (elements : Option ℕ) × (words ≡ codes "limit" ∷ number ∷ []) × IsNumber number limit × (5 + n ≤ limit) × (limit ≤ MOST_SLOTS)
     × (old ≡ Sized n elements None) × (new ≡ Sized n elements (Some limit))
 
 -- a section without commands
@@ -45,10 +46,10 @@ new_section n = record { scope = record { counts = n; registers = [] }; commands
 
 abbrev pub AddsSession : Draft → List Word → Draft → Type 0
 AddsSession old words new = (n : ℕ) × (elements given : Option ℕ) × (words ≡ codes "session" ∷ []) × (old ≡ Sized n elements given)
-    × (new ≡ Begun (unwrap_or given 262144) [] (new_section (counts_with n elements)))
+    × (new ≡ Begun (unwrap_or given USUAL_LIMIT) [] (new_section (counts_with n elements)))
 
 abbrev pub AddsFurther : Draft → List Word → Draft → Type 0
-AddsFurther old words new = (limit : ℕ) × (done : List (List Command)) × (section : Section) × (words ≡ codes "session" ∷ []) × (length done + 1 < 64)
+AddsFurther old words new = (limit : ℕ) × (done : List (List Command)) × (section : Section) × (words ≡ codes "session" ∷ []) × (length done + 1 < MOST_SESSIONS)
     × (old ≡ Begun limit done section) × (new ≡ Begun limit (done ++ section.commands ∷ []) (new_section section.scope.counts))
 
 -- the section with one more command
@@ -114,6 +115,6 @@ EndStop draft lines (errors.Fault fault) = (has_begun (context_in draft) ≡ fal
 -- the numbers of a draft are in range
 abbrev pub IsSmall : Draft → Type 0
 IsSmall Nothing = Unit {0}
-IsSmall (Sized n elements given) = (n ≤ 1024) × IfSome elements (λ m. m ≤ 1024) × IfSome given (λ limit. (5 + n ≤ limit) × (limit ≤ 8388607))
+IsSmall (Sized n elements given) = (n ≤ MOST_VARIABLES) × IfSome elements (λ m. m ≤ MOST_ELEMENTS) × IfSome given (λ limit. (5 + n ≤ limit) × (limit ≤ MOST_SLOTS))
 IsSmall (Begun limit done section) =
-    (section.scope.counts.vars ≤ 1024) × (section.scope.counts.elements ≤ 1024) × (5 + section.scope.counts.vars ≤ limit) × (limit ≤ 8388607) × (length done < 64)
+    (section.scope.counts.vars ≤ MOST_VARIABLES) × (section.scope.counts.elements ≤ MOST_ELEMENTS) × (5 + section.scope.counts.vars ≤ limit) × (limit ≤ MOST_SLOTS) × (length done < MOST_SESSIONS)

@@ -4,6 +4,7 @@ use Rattle.std.specs.List.{list_all, list_any}
 use Rattle.std.specs.Option.{option_map}
 use Rattle.std.specs.Str.{bytes_eq}
 use Rattle.std.specs.Str.Parse.{digits_value}
+use Rattle.edge_bits.specs.declared.limits.TheConstants.{CELLS, MOST_ELEMENTS, MOST_SESSIONS, MOST_SLOTS, MOST_VARIABLES}
 use Rattle.edge_bits.specs.declared.edges.Kind.{Kind}
 use Rattle.edge_bits.specs.declared.edges.Kind.TheVariants.{Bdd}
 use Rattle.function_laws.specs.Numbers.{is_value}
@@ -42,7 +43,7 @@ slot_fault n registers (Alike, word) = name_fault (register_called registers wor
 slot_fault n registers (Variable, word) = below_fault n.vars word
 slot_fault n registers (NewVariable, word) = below_fault n.vars word
 slot_fault n registers (Element, word) = below_fault n.elements word
-slot_fault n registers (Cell, word) = below_fault 256 word
+slot_fault n registers (Cell, word) = below_fault CELLS word
 slot_fault n registers (Value, word) = if is_value (integer_value word) then None else Some kinds.Range
 slot_fault n registers (Bit, word) = None
 slot_fault n registers (Bits, word) = None
@@ -128,13 +129,13 @@ counts_with n elements = record { vars = n; elements = unwrap_or elements 0 }
 -- the fault of a line of these words
 abbrev pub words_fault : Context → List Word → Option FaultKind
 words_fault context [] = None
-words_fault at_start (word ∷ words) = number_fault (codes "vars") (λ n. nat_le n 1024) kinds.Range (word ∷ words)
+words_fault at_start (word ∷ words) = number_fault (codes "vars") (λ n. nat_le n MOST_VARIABLES) kinds.Range (word ∷ words)
 words_fault (sized n elements limited) (word ∷ words) =
     if is_session (word ∷ words) then None else if limited then Some kinds.Word else
-    if bytes_eq word (codes "elements") && not (is_some elements) then number_fault (codes "elements") (λ m. nat_le m 1024) kinds.Range (word ∷ words) else
-    number_fault (codes "limit") (λ limit. nat_le (5 + n) limit && nat_le limit 8388607) kinds.Limit (word ∷ words)
+    if bytes_eq word (codes "elements") && not (is_some elements) then number_fault (codes "elements") (λ m. nat_le m MOST_ELEMENTS) kinds.Range (word ∷ words) else
+    number_fault (codes "limit") (λ limit. nat_le (5 + n) limit && nat_le limit MOST_SLOTS) kinds.Limit (word ∷ words)
 words_fault (within n sections registers) (word ∷ words) =
-    if is_session (word ∷ words) then (if nat_lt sections 64 then None else Some kinds.Limit) else command_fault n registers (word ∷ words)
+    if is_session (word ∷ words) then (if nat_lt sections MOST_SESSIONS then None else Some kinds.Limit) else command_fault n registers (word ∷ words)
 
 -- the fault of a line: first the bytes that may not stand in one
 abbrev pub line_fault : Context → List ℕ → Option FaultKind

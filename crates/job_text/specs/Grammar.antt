@@ -2,6 +2,7 @@
 use Rattle.std.specs.Prelude.{◌≡◌, ℕ, ◌≤◌, ◌==◌, Bool, true, false, not, List, [], ◌∷◌, ◌++◌, Option, Some, All, length, map, filter, drop, ◌&&◌, codes, ◌+◌, ◌⊎◌, if◌then◌else◌, find}
 use Rattle.std.specs.List.{list_all, flat_map}
 use Rattle.std.specs.Str.{bytes_eq}
+use Rattle.edge_bits.specs.declared.limits.TheConstants.{MOST_ELEMENTS, MOST_SESSIONS, MOST_SLOTS, MOST_VARIABLES, USUAL_LIMIT}
 use Rattle.edge_bits.specs.declared.edges.Kind.{Kind}
 use Rattle.job_commands.specs.declared.acts.Act.{Act}
 use Rattle.job_text.specs.declared.job.Command.{Command}
@@ -34,7 +35,7 @@ pub record Says (n : Counts) (registers : List Register) (words : List Word) (ac
   pub own : Form
   pub operands : List Operand
   pub forms : Forms n registers words own operands
-  pub means : act ≡ act_of own.operation (with_operands registers no_operands operands)
+  pub means : act ≡ act_of own.opcode (with_operands registers no_operands operands)
 
 -- the name that a command assigns
 abbrev pub target_of : List Word → Word
@@ -92,15 +93,15 @@ said_lines lines = filter (λ words. not (length words == 0)) (map words_of line
 abbrev pub counts_of : Job → Counts
 counts_of job = record { vars = job.vars; elements = job.elements }
 
--- what holds of every job that is read: its numbers are in range, it has 1 to 64 sections, and in each of them each command says
+-- what holds of every job that is read: its numbers are in range, it has 1 to so many sections, and in each of them each command says
 -- what it does, over registers that are the section's own
 pub record IsJob (job : Job) : Type 0 where
-  pub few_variables : job.vars ≤ 1024
-  pub few_elements : job.elements ≤ 1024
+  pub few_variables : job.vars ≤ MOST_VARIABLES
+  pub few_elements : job.elements ≤ MOST_ELEMENTS
   pub lowest_limit : 5 + job.vars ≤ job.limit
-  pub highest_limit : job.limit ≤ 8388607
+  pub highest_limit : job.limit ≤ MOST_SLOTS
   pub some_sections : 1 ≤ length job.sections
-  pub few_sections : length job.sections ≤ 64
+  pub few_sections : length job.sections ≤ MOST_SESSIONS
   pub commands : All (CommandsSay (counts_of job) []) job.sections
 
 -- the line that gives the number of elements; there is none for no elements
@@ -109,7 +110,7 @@ ElementLines m lines = ((lines ≡ []) × (m ≡ 0)) ⊎ ((number : Word) × (li
 
 -- the line that gives the limit; there is none for 262,144
 abbrev pub LimitLines : ℕ → List (List Word) → Type 0
-LimitLines limit lines = ((lines ≡ []) × (limit ≡ 262144)) ⊎ ((number : Word) × (lines ≡ (codes "limit" ∷ number ∷ []) ∷ []) × IsNumber number limit)
+LimitLines limit lines = ((lines ≡ []) × (limit ≡ USUAL_LIMIT)) ⊎ ((number : Word) × (lines ≡ (codes "limit" ∷ number ∷ []) ∷ []) × IsNumber number limit)
 
 -- The text is this job's: no byte of a line is out of range, and its lines that have words are `vars` with the number
 -- of variables, then that of the number of elements, that of the limit, and then those of the sections.

@@ -2,12 +2,14 @@
 use Rattle.std.specs.Prelude.{◌≡◌, ℕ, ◌+◌, ◌-◌, ◌<◌, ◌==◌, not, Bool, true, false, ◌&&◌, List, [], ◌∷◌, ◌++◌, pos, codes, length, filter, map, slice_get, take, Some, None, Option, All}
 use Rattle.std.specs.Fmt.{decimal, signed_decimal}
 use Rattle.std.specs.List.{flat_map, filter_map, list_any, list_all, range_with_len}
+use Rattle.edge_bits.specs.declared.limits.TheConstants.{CELLS}
 use Rattle.function_laws.specs.declared.history.Name.{Name}
 use Rattle.function_laws.specs.declared.history.Call.{Call}
 use Rattle.function_laws.specs.declared.history.Call.TheVariants as calls
 use Rattle.function_laws.specs.declared.history.Reply.TheVariants as replies
 use Rattle.function_laws.specs.declared.history.Reply.{Reply as Answer}
 use Rattle.function_laws.specs.declared.history.Entry.{Entry}
+use Rattle.function_laws.specs.Steps.{TellsFull}
 use Rattle.function_laws.specs.Tables.{Sizes}
 use Rattle.function_laws.specs.Histories.{IsLegal}
 use Rattle.job_text.specs.declared.history_line.Reply.{Reply}
@@ -49,7 +51,7 @@ pub record HistoryLine : Type 0 where
 abbrev pub text_of : HistoryLine → List ℕ
 text_of line = line_text line.entry.place line.entry.session line.words line.reply
 
--- what the reply of an entry is called; no job is told that there are as many variables as may be
+-- what the reply of an entry is called; no job is told that two functions are apart, or that there are as many variables as may be
 abbrev pub told_of : Answer → Option Reply
 told_of (replies.Made name) = Some reply.Done
 told_of (replies.Chose name f) = Some reply.Done
@@ -61,6 +63,7 @@ told_of (replies.Truth true) = Some reply.Yes
 told_of (replies.Truth false) = Some reply.No
 told_of (replies.Value value) = Some (reply.Number value)
 told_of replies.Overflow = Some reply.Overflow
+told_of replies.Apart = None
 told_of replies.Most = None
 told_of (replies.Full in_use need) = Some reply.Full
 
@@ -79,51 +82,51 @@ stops reply.Overflow = true
 stops _ = false
 
 -- A register of a session: the word that it is called by, and its name in the table.
-pub record Held : Type 0 where
+pub record NamedRegister : Type 0 where
   pub word : Word
   pub name : Name
 
-abbrev pub held_as : List Word → Option Name → Option Held
-held_as words None = None
-held_as words (Some name) = Some (record { word = target_of words; name = name })
+abbrev pub register_as : List Word → Option Name → Option NamedRegister
+register_as words None = None
+register_as words (Some name) = Some (record { word = target_of words; name = name })
 
 -- the register that a line assigns
-abbrev pub held_by : HistoryLine → Option Held
-held_by line = held_as line.words (given_by line.entry.reply)
+abbrev pub held_by : HistoryLine → Option NamedRegister
+held_by line = register_as line.words (given_by line.entry.reply)
 
 -- the registers that the lines assign, in order of assignment
-abbrev pub registers_of : List HistoryLine → List Held
+abbrev pub registers_of : List HistoryLine → List NamedRegister
 registers_of lines = filter_map held_by lines
 
 -- the register of this number has this name
-abbrev pub IsNamed : List Held → ℕ → Name → Type 0
-IsNamed registers a name = (word : Word) × (slice_get registers a ≡ Some (record { word = word; name = name }))
+abbrev pub IsNamedAs : List NamedRegister → ℕ → Name → Type 0
+IsNamedAs registers a name = (word : Word) × (slice_get registers a ≡ Some (record { word = word; name = name }))
 
 -- each register that is taken, in a pair or alone, has the name that stands for it
-abbrev pub AreNamed : List Held → (ℕ → Name) → List (Taken ℕ) → Type 0
+abbrev pub AreNamed : List NamedRegister → (ℕ → Name) → List (Taken ℕ) → Type 0
 AreNamed registers name [] = Unit {0}
-AreNamed registers name (function k a ∷ more) = IsNamed registers a (name a) × AreNamed registers name more
-AreNamed registers name (pairs ps ∷ more) = All (λ pair. IsNamed registers pair.1 (name pair.1)) ps × AreNamed registers name more
+AreNamed registers name (function k a ∷ more) = IsNamedAs registers a (name a) × AreNamed registers name more
+AreNamed registers name (pairs ps ∷ more) = All (λ pair. IsNamedAs registers pair.1 (name pair.1)) ps × AreNamed registers name more
 AreNamed registers name (_ ∷ more) = AreNamed registers name more
 
 -- what a command calls, by the registers
-abbrev pub Calls : List Held → Act → Call → Type 0
-Calls registers (Makes making) call = (name : ℕ → Name) × AreNamed registers name (taken making) × (call ≡ calls.Makes (named name making))
-Calls registers (Copy a) call = (x : Name) × IsNamed registers a x × (call ≡ calls.Copy x)
-Calls registers (Fetch k a) call = (x : Name) × IsNamed registers a x × (call ≡ calls.Fetch k x)
-Calls registers (Post k a) call = (x : Name) × IsNamed registers a x × (call ≡ calls.Post k x)
-Calls registers (Drop a) call = (x : Name) × IsNamed registers a x × (call ≡ calls.DropRow x)
-Calls registers (Same a b) call = (x y : Name) × IsNamed registers a x × IsNamed registers b y × (call ≡ calls.Same x y)
-Calls registers (Leq a b) call = (x y : Name) × IsNamed registers a x × IsNamed registers b y × (call ≡ calls.Leq x y)
-Calls registers (Eval a bits) call = (x : Name) × IsNamed registers a x × (call ≡ calls.Eval x bits)
-Calls registers Sweep call = call ≡ calls.Sweep
+abbrev pub IsCallOf : List NamedRegister → Act → Call → Type 0
+IsCallOf registers (Makes making) call = (name : ℕ → Name) × AreNamed registers name (taken making) × (call ≡ calls.Makes (named name making))
+IsCallOf registers (Copy a) call = (x : Name) × IsNamedAs registers a x × (call ≡ calls.Copy x)
+IsCallOf registers (Fetch k a) call = (x : Name) × IsNamedAs registers a x × (call ≡ calls.Fetch k x)
+IsCallOf registers (Post k a) call = (x : Name) × IsNamedAs registers a x × (call ≡ calls.Post k x)
+IsCallOf registers (Drop a) call = (x : Name) × IsNamedAs registers a x × (call ≡ calls.DropRow x)
+IsCallOf registers (Same a b) call = (x y : Name) × IsNamedAs registers a x × IsNamedAs registers b y × (call ≡ calls.Same x y)
+IsCallOf registers (Leq a b) call = (x y : Name) × IsNamedAs registers a x × IsNamedAs registers b y × (call ≡ calls.Leq x y)
+IsCallOf registers (Eval a bits) call = (x : Name) × IsNamedAs registers a x × (call ≡ calls.Eval x bits)
+IsCallOf registers Sweep call = call ≡ calls.Sweep
 
 -- each line has the words of the command at its place, and calls what that says; there may be further commands
-abbrev pub SayInOrder : List Held → List HistoryLine → List Command → Type 0
+abbrev pub SayInOrder : List NamedRegister → List HistoryLine → List Command → Type 0
 SayInOrder registers [] commands = Unit {0}
 SayInOrder registers (line ∷ lines) [] = ⊥
 SayInOrder registers (line ∷ lines) (command ∷ commands) =
-    (line.words ≡ command.words) × Calls registers command.act line.entry.call × SayInOrder registers lines commands
+    (line.words ≡ command.words) × IsCallOf registers command.act line.entry.call × SayInOrder registers lines commands
 
 -- a call takes this name away
 abbrev pub drops : Name → Call → Bool
@@ -131,11 +134,11 @@ drops name (calls.DropRow other) = (name.row == other.row) && (name.generation =
 drops name _ = false
 
 -- the registers that the lines assign and do not drop
-abbrev pub left_of : List HistoryLine → List Held
+abbrev pub left_of : List HistoryLine → List NamedRegister
 left_of lines = filter (λ register. not (list_any (λ line. drops register.name line.entry.call) lines)) (registers_of lines)
 
 -- `drop` and the register's word, and that call
-abbrev pub drop_of : Held → List Word × Call
+abbrev pub drop_of : NamedRegister → List Word × Call
 drop_of register = (codes "drop" ∷ register.word ∷ [], calls.DropRow register.name)
 
 -- The lines of a script of one session: its commands in order, up to the first that stops it or to their end, and then the
@@ -157,7 +160,7 @@ IsSession commands lines = IsScript 0 commands lines
 
 -- the numbers of a job, which no command of it changes
 abbrev pub sizes_of : Job → Sizes
-sizes_of job = record { variables = job.vars; elements = job.elements; most_variables = job.vars; most_elements = job.elements }
+sizes_of job = record { variables = job.vars; elements = job.elements; most_variables = job.vars; most_elements = job.elements; cells = CELLS }
 
 -- The lines are a legal history of the job: their entries are one of the plain table of functions, and those of each
 -- session are its section's.
@@ -168,10 +171,10 @@ pub record IsHistory (job : Job) (lines : List HistoryLine) : Type 0 where
       → IsSession commands (filter (λ line. line.entry.session == s) lines)
   pub no_other : All (λ line. line.entry.session < length job.sections) lines
 
--- full is told where as many slots are in use as the job's limit says, and one more was needed
-abbrev pub IsFullOf : ℕ → Answer → Type 0
-IsFullOf limit (replies.Full in_use need) = (in_use ≡ limit) × (need ≡ 1)
-IsFullOf limit _ = Unit {0}
+-- full is told where as many slots are in use as the job's limit says, and one more was needed; of a swap, where those that it needs are too many
+abbrev pub IsFullOf : ℕ → Call → Answer → Type 0
+IsFullOf limit call (replies.Full in_use need) = TellsFull limit call in_use need
+IsFullOf limit call _ = Unit {0}
 
 -- `left` and the number of slots in use at the end
 abbrev pub left_text : ℕ → List ℕ
@@ -181,5 +184,5 @@ left_text count = codes "left " ++ decimal count ++ codes "\n"
 pub record IsPlayed (job : Job) (text : List ℕ) : Type 0 where
   pub lines : List HistoryLine
   pub history : IsHistory job lines
-  pub full : All (λ line. IsFullOf job.limit line.entry.reply) lines
+  pub full : All (λ line. IsFullOf job.limit line.entry.call line.entry.reply) lines
   pub bytes : text ≡ flat_map text_of lines ++ left_text (5 + job.vars)

@@ -2,6 +2,7 @@
 use Rattle.std.specs.Prelude.{◌≡◌, ◌≢◌, ℕ, ◌<◌, ◌==◌, Bool, true, false, List, [], ◌∷◌, ◌++◌, Option, Some, None, All, length, slice_get, if◌then◌else◌}
 use Rattle.std.specs.List.{list_any, position_or_len}
 use Rattle.std.specs.Str.{bytes_eq}
+use Rattle.edge_bits.specs.declared.limits.TheConstants.{CELLS}
 use Rattle.edge_bits.specs.declared.edges.Kind.{Kind}
 use Rattle.edge_bits.specs.declared.edges.Kind.TheVariants.{Bdd, Add, Zdd}
 use Rattle.function_laws.specs.Numbers.{is_value}
@@ -39,7 +40,7 @@ StandsFor n registers word (operands.Alike a) = (kind : Kind) × Refers register
 StandsFor n registers word (operands.Variable v) = IsNumber word v × (v < n.vars)
 StandsFor n registers word (operands.NewVariable v) = IsNumber word v × (v < n.vars)
 StandsFor n registers word (operands.Element e) = IsNumber word e × (e < n.elements)
-StandsFor n registers word (operands.Cell k) = IsNumber word k × (k < 256)
+StandsFor n registers word (operands.Cell k) = IsNumber word k × (k < CELLS)
 StandsFor n registers word (operands.Value w) = IsInteger word w × (is_value w ≡ true)
 StandsFor n registers word (operands.Bit b) = word ≡ bit_word (b ∷ [])
 StandsFor n registers word (operands.Bits bits) = word ≡ bit_word bits

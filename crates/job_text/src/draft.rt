@@ -1,6 +1,7 @@
 //! What the lines that were read give.
 
 ghost use Rattle.std.specs.Prelude.{◌≡◌, ◌++◌, ◌∷◌, [], ◌<◌, ◌≤◌, length, map, codes, IfErr, OnOk, MatchOption, true, false};
+ghost use Rattle.edge_bits.specs.declared.limits.TheConstants.{MOST_ELEMENTS, MOST_VARIABLES};
 ghost use Rattle.job_words.specs.Text.{split_words};
 ghost use Rattle.job_text.specs.Grammar.{Says, registers_after, without, is_drop};
 ghost use Rattle.job_text.specs.Drafts.{CommandStop, new_section, with_act};
@@ -59,8 +60,8 @@ impl Section {
     /// Takes one more command.
     pub fn add_command(&mut self, alloc: Global, words: &[u8]) -> Result<(), Stop>
         requires some { 0 < length (split_words words.now) }
-        requires vars { self.old.scope.counts.vars ≤ 1024 }
-        requires elements { self.old.scope.counts.elements ≤ 1024 }
+        requires vars { self.old.scope.counts.vars ≤ MOST_VARIABLES }
+        requires elements { self.old.scope.counts.elements ≤ MOST_ELEMENTS }
         ensures ok { OnOk result ((act : Act) × Says self.old.scope.counts self.old.scope.registers (split_words words.now) act × (self.new ≡ with_act self.old (split_words words.now) act)) }
         ensures stop { IfErr result (CommandStop self.old.scope.counts self.old.scope.registers (split_words words.now)) }
     {

@@ -16,19 +16,11 @@ ghost use Rattle.job_text.specs.declared.job.Command.{Command as CommandOf};
 use crate::draft::{Draft, Section};
 use crate::faults::{FaultKind, JobError, JobFault, Stop};
 use crate::job::{Command, Counts, Job};
-use edge_bits::List;
+use edge_bits::{
+    FIRST_PROJECTION, List, MOST_ELEMENTS, MOST_SESSIONS, MOST_SLOTS, MOST_VARIABLES, USUAL_LIMIT,
+};
 use job_words::{cut_line, first_word, is_number, number_value, words};
 use std::alloc::Global;
-
-/// The greatest numbers of variables and of elements.
-const MAX_COUNT: u32 = 1024;
-
-/// The most sections of a job.
-const MOST_SECTIONS: usize = 64;
-
-const MAX_LIMIT: u32 = 8_388_607;
-
-const DEFAULT_LIMIT: u32 = 262_144;
 
 /// The number of a line that is this word and a number.
 fn number_line(words: &[u8], due: &[u8]) -> Option<u32>
@@ -44,15 +36,16 @@ fn number_line(words: &[u8], due: &[u8]) -> Option<u32>
     }
 }
 
-/// `vars N` or `elements M`
-fn count_line(words: &[u8], due: &[u8]) -> Result<u32, FaultKind>
-    ensures ok { IfOk result (λ n. (w : ListOf ℕ) × ((split_words words.now) ≡ due.now ∷ w ∷ []) × IsNumber w n × (n ≤ 1024)) }
-    ensures fault { IfErr result (λ kind. number_fault due.now (λ n. nat_le n 1024) kinds.Range (split_words words.now) ≡ Some kind) }
+/// `vars N` or `elements M`, of at most so many
+fn count_line(words: &[u8], due: &[u8], most: u32) -> Result<u32, FaultKind>
+    requires { most < 4000000000 }
+    ensures ok { IfOk result (λ n. (w : ListOf ℕ) × ((split_words words.now) ≡ due.now ∷ w ∷ []) × IsNumber w n × (n ≤ most)) }
+    ensures fault { IfErr result (λ kind. number_fault due.now (λ n. nat_le n most) kinds.Range (split_words words.now) ≡ Some kind) }
 {
     let Some(n) = number_line(words, due) else {
         return Err(FaultKind::Word);
     };
-    if n <= MAX_COUNT {
+    if n <= most {
         Ok(n)
     } else {
         Err(FaultKind::Range)
@@ -61,14 +54,14 @@ fn count_line(words: &[u8], due: &[u8]) -> Result<u32, FaultKind>
 
 /// `limit L`
 fn limit_line(vars: u32, words: &[u8]) -> Result<u32, FaultKind>
-    requires { vars ≤ 1024 }
-    ensures ok { IfOk result (λ limit. (w : ListOf ℕ) × ((split_words words.now) ≡ codes "limit" ∷ w ∷ []) × IsNumber w limit × (5 + vars ≤ limit) × (limit ≤ 8388607)) }
-    ensures fault { IfErr result (λ kind. number_fault (codes "limit") (λ limit. nat_le (5 + vars) limit && nat_le limit 8388607) kinds.Limit (split_words words.now) ≡ Some kind) }
+    requires { vars ≤ MOST_VARIABLES }
+    ensures ok { IfOk result (λ limit. (w : ListOf ℕ) × ((split_words words.now) ≡ codes "limit" ∷ w ∷ []) × IsNumber w limit × (5 + vars ≤ limit) × (limit ≤ MOST_SLOTS)) }
+    ensures fault { IfErr result (λ kind. number_fault (codes "limit") (λ limit. nat_le (5 + vars) limit && nat_le limit MOST_SLOTS) kinds.Limit (split_words words.now) ≡ Some kind) }
 {
     let Some(limit) = number_line(words, b"limit".as_slice()) else {
         return Err(FaultKind::Word);
     };
-    if 5 + vars <= limit && limit <= MAX_LIMIT {
+    if FIRST_PROJECTION + vars <= limit && limit <= MOST_SLOTS {
         Ok(limit)
     } else {
         Err(FaultKind::Limit)
@@ -96,7 +89,7 @@ fn with_line(alloc: Global, draft: Draft, words: &[u8]) -> Result<Draft, Stop>
     }
     match draft {
         Draft::Nothing => Ok(Draft::Sized {
-            vars: count_line(words, b"vars".as_slice())?,
+            vars: count_line(words, b"vars".as_slice(), MOST_VARIABLES)?,
             elements: None,
             limit: None,
         }),
@@ -122,12 +115,12 @@ fn sized_line(
     words: &[u8],
 ) -> Result<Draft, Stop>
     requires some { 0 < length (split_words words.now) }
-    requires vars { vars ≤ 1024 }
+    requires vars { vars ≤ MOST_VARIABLES }
     ensures ok { IfOk result (λ next. Adds (Draft.Sized vars elements limit) (split_words words.now) next) }
     ensures stop { IfErr result (λ stop. LineStop (Draft.Sized vars elements limit) (split_words words.now) stop) }
 {
     if session_line(words) {
-        let limit = limit.unwrap_or(DEFAULT_LIMIT);
+        let limit = limit.unwrap_or(USUAL_LIMIT);
         let counts = Counts {
             vars,
             elements: elements.unwrap_or(0),
@@ -170,7 +163,7 @@ fn elements_line(vars: u32, words: &[u8]) -> Result<Draft, Stop>
 {
     Ok(Draft::Sized {
         vars,
-        elements: Some(count_line(words, b"elements".as_slice())?),
+        elements: Some(count_line(words, b"elements".as_slice(), MOST_ELEMENTS)?),
         limit: None,
     })
 }
@@ -184,9 +177,9 @@ fn begun_line(
     words: &[u8],
 ) -> Result<Draft, Stop>
     requires some { 0 < length (split_words words.now) }
-    requires vars { section.scope.counts.vars ≤ 1024 }
-    requires elements { section.scope.counts.elements ≤ 1024 }
-    requires few { length done < 64 }
+    requires vars { section.scope.counts.vars ≤ MOST_VARIABLES }
+    requires elements { section.scope.counts.elements ≤ MOST_ELEMENTS }
+    requires few { length done < MOST_SESSIONS }
     ensures ok { IfOk result (λ next. Adds (Draft.Begun limit done section) (split_words words.now) next) }
     ensures stop { IfErr result (λ stop. LineStop (Draft.Begun limit done section) (split_words words.now) stop) }
 {
@@ -209,11 +202,11 @@ fn next_section(
     done: List<List<Command>>,
     section: Section,
 ) -> Result<Draft, Stop>
-    requires { length done < 64 }
+    requires { length done < MOST_SESSIONS }
     ensures ok { IfOk result (λ next. Adds (Draft.Begun limit done section) (codes "session" ∷ []) next) }
     ensures stop { IfErr result (λ stop. LineStop (Draft.Begun limit done section) (codes "session" ∷ []) stop) }
 {
-    if done.len() + 1 >= MOST_SECTIONS {
+    if done.len() + 1 >= MOST_SESSIONS as usize {
         return Err(Stop::Fault(FaultKind::Limit));
     }
     let Section { scope, commands } = section;

@@ -2,6 +2,7 @@
 
 ghost use Rattle.std.specs.Prelude.{◌≡◌, ◌<◌, ◌≤◌, ◌^◌, true, length, IfOk, IfErr, OnOk, None, Some, if◌then◌else◌, List as ListOf};
 ghost use Rattle.std.specs.List.{list_all};
+ghost use Rattle.edge_bits.specs.declared.limits.TheConstants.{MOST_ELEMENTS, MOST_VARIABLES};
 ghost use Rattle.job_words.specs.Text.{IsNumber, is_integer, is_name, is_number, is_bit, is_bits, split_words};
 ghost use Rattle.job_commands.specs.Commands.{no_operands};
 ghost use Rattle.job_text.specs.Places.{AllFit, Refers, bits_for, misfit, with_operand, with_operands};
@@ -19,13 +20,10 @@ use crate::faults::{FaultKind, Stop};
 use crate::job::Counts;
 use crate::operands::{Operand, add_operand, names};
 use crate::registers::{Found, Registers, kind_at, same_kind};
-use edge_bits::{Kind, List};
+use edge_bits::{CELLS, Kind, List};
 use job_commands::{Act, Operands, Place, Slot, Slots, all_have_form, command_line};
 use job_words::{bits_of, integer_value, number_value};
 use std::alloc::Global;
-
-/// How many cells there are.
-const CELLS: u32 = 256;
 
 /// What the commands of a section may name.
 #[derive(Drop)]
@@ -58,7 +56,7 @@ fn unless(well: bool, fault: FaultKind) -> Option<FaultKind>
 /// The number that a word is, where it is below another.
 fn number_below(bound: u32, word: &[u8]) -> Result<u32, Stop>
     requires number { is_number word.now ≡ true }
-    requires few { bound ≤ 1024 }
+    requires few { bound < 4000000000 }
     ensures ok { IfOk result (λ number. IsNumber word.now number × (number < bound)) }
     ensures stop { IfErr result (λ stop. (stop ≡ Stop.Fault kinds.Range) × (below_fault bound word.now ≡ Some kinds.Range)) }
 {
@@ -124,7 +122,7 @@ impl Scope {
     /// The number of a variable.
     fn variable(&self, word: &[u8]) -> Result<u32, Stop>
         requires number { is_number word.now ≡ true }
-        requires few { self.now.counts.vars ≤ 1024 }
+        requires few { self.now.counts.vars ≤ MOST_VARIABLES }
         ensures ok { IfOk result (λ v. IsOperand self.now.counts self.now.registers (places.Variable, word.now) (Operand.Variable v)) }
         ensures ok_new { IfOk result (λ v. IsOperand self.now.counts self.now.registers (places.NewVariable, word.now) (Operand.NewVariable v)) }
         ensures stop { IfErr result (λ stop. SlotStop self.now.counts self.now.registers (places.Variable, word.now) stop) }
@@ -136,7 +134,7 @@ impl Scope {
     /// The number of an element.
     fn element(&self, word: &[u8]) -> Result<Operand, Stop>
         requires number { is_number word.now ≡ true }
-        requires few { self.now.counts.elements ≤ 1024 }
+        requires few { self.now.counts.elements ≤ MOST_ELEMENTS }
         ensures ok { IfOk result (λ operand. IsOperand self.now.counts self.now.registers (places.Element, word.now) operand) }
         ensures stop { IfErr result (λ stop. SlotStop self.now.counts self.now.registers (places.Element, word.now) stop) }
     {
@@ -176,8 +174,8 @@ impl Scope {
     /// What a word of due form stands for.
     fn operand(&self, alloc: Global, slot: &Slot<'_>) -> Result<Operand, Stop>
         requires form { has_form (slot_of slot.now) ≡ true }
-        requires vars { self.now.counts.vars ≤ 1024 }
-        requires elements { self.now.counts.elements ≤ 1024 }
+        requires vars { self.now.counts.vars ≤ MOST_VARIABLES }
+        requires elements { self.now.counts.elements ≤ MOST_ELEMENTS }
         ensures ok { IfOk result (λ operand. IsOperand self.now.counts self.now.registers (slot_of slot.now) operand) }
         ensures stop { IfErr result (λ stop. SlotStop self.now.counts self.now.registers (slot_of slot.now) stop) }
     {
@@ -217,8 +215,8 @@ impl Scope {
     /// Takes what a word of due form stands for, where it fits those to its left.
     fn take(&self, alloc: Global, operands: &mut Operands, slot: &Slot<'_>) -> Result<(), Stop>
         requires form { has_form (slot_of slot.now) ≡ true }
-        requires vars { self.now.counts.vars ≤ 1024 }
-        requires elements { self.now.counts.elements ≤ 1024 }
+        requires vars { self.now.counts.vars ≤ MOST_VARIABLES }
+        requires elements { self.now.counts.elements ≤ MOST_ELEMENTS }
         ensures ok { OnOk result ((own : OperandOf) × IsOperand self.now.counts self.now.registers (slot_of slot.now) own × (misfit self.now.counts self.now.registers operands.old own ≡ None) × (operands.new ≡ with_operand self.now.registers operands.old own)) }
         ensures stop { IfErr result (λ stop. (fault : FaultOf) → stop ≡ Stop.Fault fault → word_fault self.now.counts self.now.registers (left_by operands.old) (slot_of slot.now) ≡ Some fault) }
     {
@@ -232,8 +230,8 @@ impl Scope {
     /// What words of due form stand for.
     fn operands(&self, alloc: Global, slots: Slots<'_>) -> Result<Operands, Stop>
         requires forms { list_all has_form (slots_of slots) ≡ true }
-        requires vars { self.now.counts.vars ≤ 1024 }
-        requires elements { self.now.counts.elements ≤ 1024 }
+        requires vars { self.now.counts.vars ≤ MOST_VARIABLES }
+        requires elements { self.now.counts.elements ≤ MOST_ELEMENTS }
         ensures ok { IfOk result (λ operands. (each : ListOf OperandOf) × AreOperands self.now.counts self.now.registers (slots_of slots.entry) each × AllFit self.now.counts self.now.registers no_operands each × (operands ≡ with_operands self.now.registers no_operands each)) }
         ensures stop { IfErr result (λ stop. SlotsStop self.now.counts self.now.registers (slots_of slots.entry) stop) }
     {
@@ -249,8 +247,8 @@ impl Scope {
     /// A line of a section that is no `session`.
     pub fn command(&self, alloc: Global, words: &[u8]) -> Result<Act, Stop>
         requires some { 0 < length (split_words words.now) }
-        requires vars { self.now.counts.vars ≤ 1024 }
-        requires elements { self.now.counts.elements ≤ 1024 }
+        requires vars { self.now.counts.vars ≤ MOST_VARIABLES }
+        requires elements { self.now.counts.elements ≤ MOST_ELEMENTS }
         ensures ok { IfOk result (λ act. Says self.now.counts self.now.registers (split_words words.now) act) }
         ensures stop { IfErr result (λ stop. CommandStop self.now.counts self.now.registers (split_words words.now) stop) }
     {
@@ -261,6 +259,6 @@ impl Scope {
             return Err(Stop::Fault(FaultKind::Word));
         }
         let operands = self.operands(alloc, line.slots)?;
-        Ok(operands.act(alloc, line.operation)?)
+        Ok(operands.act(alloc, line.opcode)?)
     }
 }

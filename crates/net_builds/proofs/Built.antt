@@ -3,6 +3,7 @@ use Rattle.std.proofs.Common.{◌≡◌, ℕ, ◌+◌, ◌≤◌, ◌^◌, ◌++
 use Rattle.std.specs.List.{Contains}
 use Rattle.std.proofs.lemmas.List.{length-map}
 use Rattle.std.proofs.lemmas.List.Elements.{All-append, All-cons, All-head, All-map, All-nil, All-tail, All-weaker, Contains-push}
+use Rattle.edge_bits.specs.declared.limits.TheConstants.{MOST_ROWS}
 use Rattle.function_laws.specs.declared.history.Entry.{Entry}
 use Rattle.function_laws.specs.declared.history.Name.{Name}
 use Rattle.blif_net.specs.declared.net.Net.{Net}
@@ -33,7 +34,7 @@ as_many_held s net (output ∷ outputs) [] hold = absurd hold
 as_many_held s net (output ∷ outputs) (name ∷ names) hold = omega (arith, as_many_held s net outputs names hold.1)
 
 -- rows are few enough for the handing over
-pub room_to_hand : (net : Net) (old mid : Standing) (names : List Name) → IsBounded net → BuildsOutputs net old mid names → mid.rows + length names ≤ 2 ^ 25
+pub room_to_hand : (net : Net) (old mid : Standing) (names : List Name) → IsBounded net → BuildsOutputs net old mid names → mid.rows + length names ≤ MOST_ROWS
 room_to_hand net old mid names bounded builds =
     omega (arith, bounded.signals, bounded.outputs, builds.rows, as_many_held mid net net.outputs names builds.holds)
 

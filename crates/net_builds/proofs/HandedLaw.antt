@@ -12,7 +12,7 @@ use Rattle.function_laws.specs.Histories.{IsLegal, IsLegalFrom, after_entry, tab
 use Rattle.function_laws.specs.SessionEntries.{Each}
 use Rattle.function_laws.specs.Outcomes.{when, with_one, is_done}
 use Rattle.function_laws.specs.Steps.{IsAllowed}
-use Rattle.function_laws.specs.Tables.{Sizes, Table, opening, cell_count}
+use Rattle.function_laws.specs.Tables.{Sizes, Table, opening}
 use Rattle.std.specs.Prelude.{nat_lt}
 use Rattle.function_laws.proofs.HandoverLemmas.{handed_over}
 use Rattle.function_laws.proofs.HistoryLemmas.{table_after-append}
@@ -69,7 +69,7 @@ later-part n t (b ∷ before) rest e x legal (inr has) less = later-part (n + 1)
 
 -- what is posted stands for something
 posted-lives : (t : Table) (s i : ℕ) (from : Name) → IsAllowed t s (calls.Post i from) replies.Done → (f : Function) × (t.live s from ≡ Some f)
-posted-lives t s i from (o, is, replies) = by (t.live s from) (nat_lt i (cell_count t.sizes)) refl is
+posted-lives t s i from (o, is, replies) = by (t.live s from) (nat_lt i t.sizes.cells) refl is
   where
     by : (x : Option Function) (b : Bool) → t.live s from ≡ x → when b (with_one x (λ f. is_done)) ≡ Some o → (f : Function) × (t.live s from ≡ Some f)
     by (Some f) b live is = (f, live)

@@ -7,14 +7,15 @@ use Rattle.function_laws.specs.declared.history.Function.TheVariants.{Bdd}
 use Rattle.function_laws.specs.declared.history.Call.{Call}
 use Rattle.function_laws.specs.declared.history.Call.TheVariants as calls
 use Rattle.function_laws.specs.declared.history.Reply.{Reply}
-use Rattle.function_laws.specs.declared.history.Reply.TheVariants.{Made, Chose, Fetched, Numbered, Done, Truth, Value, Overflow, Most, Full}
+use Rattle.function_laws.specs.declared.history.Reply.TheVariants.{Made, Chose, Fetched, Numbered, Done, Truth, Value, Overflow, Apart, Most, Full}
 use Rattle.function_laws.specs.declared.history.Entry.{Entry}
 use Rattle.function_laws.specs.Tables.{Sizes, Table, opening, same_name, with_name}
-use Rattle.function_laws.specs.Outcomes.{Outcome, makes, restricts, fetches, counts, overflows, is_most, compares, tells, shows, is_done}
+use Rattle.function_laws.specs.Outcomes.{Outcome, makes, fetches}
 use Rattle.function_laws.specs.Steps.{with_result, changed, Replies, IsAllowed, after}
 use Rattle.function_laws.specs.Histories.{IsLegalFrom, after_entry, table_after}
 use Rattle.function_laws.specs.Handovers.{is_numbered}
 use Rattle.function_laws.specs.SessionEntries.{Each}
+use Rattle.function_laws.proofs.StepLemmas.{chosen-new}
 
 both_true : (x y : Bool) → (x && y) ≡ true → (x ≡ true) × (y ≡ true)
 both_true true true e = (refl, refl)
@@ -44,39 +45,11 @@ module _ (s : ℕ) (name : Name) where
 
   made : (t : Table) (p : ℕ) (r : Name) (o : Outcome) → Replies t p o (Made r) → Becomes s name t (with_result t p r (Some o))
   made t p r (makes g) replies = named t p r g replies
-  made t p r (restricts g c) replies = absurd replies
-  made t p r (fetches g posted) replies = absurd replies
-  made t p r (counts g n) replies = absurd replies
-  made t p r overflows replies = absurd replies
-  made t p r is_most replies = absurd replies
-  made t p r (compares g h) replies = absurd replies
-  made t p r (tells b) replies = absurd replies
-  made t p r (shows z) replies = absurd replies
-  made t p r is_done replies = absurd replies
+  made t p r _ replies = absurd replies
 
   fetched : (t : Table) (p : ℕ) (r : Name) (told : Bool) (o : Outcome) → Replies t p o (Fetched r told) → Becomes s name t (with_result t p r (Some o))
   fetched t p r told (fetches g posted) replies = named t p r g replies.0
-  fetched t p r told (makes g) replies = absurd replies
-  fetched t p r told (restricts g c) replies = absurd replies
-  fetched t p r told (counts g n) replies = absurd replies
-  fetched t p r told overflows replies = absurd replies
-  fetched t p r told is_most replies = absurd replies
-  fetched t p r told (compares g h) replies = absurd replies
-  fetched t p r told (tells b) replies = absurd replies
-  fetched t p r told (shows z) replies = absurd replies
-  fetched t p r told is_done replies = absurd replies
-
-  chosen : (t : Table) (p : ℕ) (r : Name) (g : List Bool) (o : Outcome) → Replies t p o (Chose r g) → Becomes s name t (with_name t p r (Bdd g))
-  chosen t p r g (restricts h c) replies = named t p r (Bdd g) replies.0
-  chosen t p r g (makes h) replies = absurd replies
-  chosen t p r g (fetches h posted) replies = absurd replies
-  chosen t p r g (counts h n) replies = absurd replies
-  chosen t p r g overflows replies = absurd replies
-  chosen t p r g is_most replies = absurd replies
-  chosen t p r g (compares h i) replies = absurd replies
-  chosen t p r g (tells b) replies = absurd replies
-  chosen t p r g (shows z) replies = absurd replies
-  chosen t p r g is_done replies = absurd replies
+  fetched t p r told _ replies = absurd replies
 
   done : (t : Table) (p : ℕ) (call : Call) → Becomes s name t (changed t p call)
   done t p (calls.DropRow a) = by ((s == p) && same_name name a) refl
@@ -88,13 +61,14 @@ module _ (s : ℕ) (name : Name) where
 
   pub becomes : (t : Table) (p : ℕ) (call : Call) (reply : Reply) → IsAllowed t p call reply → is_numbered reply ≡ false → Becomes s name t (after t p call reply)
   becomes t p call (Made r) allowed plain = subst (λ o. Becomes s name t (with_result t p r o)) (sym allowed.1) (made t p r allowed.0 allowed.2)
-  becomes t p call (Chose r g) allowed plain = chosen t p r g allowed.0 allowed.2
+  becomes t p call (Chose r g) allowed plain = named t p r g (chosen-new t p r allowed.0 g allowed.2)
   becomes t p call (Fetched r told) allowed plain = subst (λ o. Becomes s name t (with_result t p r o)) (sym allowed.1) (fetched t p r told allowed.0 allowed.2)
   becomes t p call (Numbered r m) allowed plain = absurd (true≢false plain)
   becomes t p call Done allowed plain = done t p call
   becomes t p call (Truth told) allowed plain = inl (refl, refl)
   becomes t p call (Value z) allowed plain = inl (refl, refl)
   becomes t p call Overflow allowed plain = inl (refl, refl)
+  becomes t p call Apart allowed plain = inl (refl, refl)
   becomes t p call Most allowed plain = inl (refl, refl)
   becomes t p call (Full a b) allowed plain = inl (refl, refl)
 

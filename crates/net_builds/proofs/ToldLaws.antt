@@ -22,7 +22,7 @@ use Rattle.function_laws.proofs.DistinctLemmas.{In}
 use Rattle.function_laws.proofs.ListLemmas.{same-list_of}
 use Rattle.net_builds.proofs.Contained.{all-has, has-contained}
 use Rattle.net_builds.proofs.HandedLaw.{Has, handed-law}
-use Rattle.net_builds.specs.Builds.{AllGain, AllHandedOver, Builds, IsHandedOver, IsHistoryOf}
+use Rattle.net_builds.specs.Builds.{AllGain, AllHandedOver, Builds, IsHandedOver, IsLegalHistoryOf}
 use Rattle.net_builds.specs.Handings.{AreInTurn, IsKnown}
 use Rattle.net_builds.specs.Standings.{IsPlain, Note, Standing, values_of}
 use Rattle.net_builds.specs.declared.handing.Handover.{Handover}
@@ -119,7 +119,7 @@ same_values n f g is =
 
 -- A legal history of sessions which had made no call, and gained plain entries that post to the first cell in these handovers alone.
 module _ (n : ℕ) (sizes : Sizes) (log : List Entry) (old new : List Standing) (handovers : List Handover) (first : Standing) (has_first : Contains new first)
-    (wide : All (λ (s : Standing). s.vars ≡ n) new) (fresh : All (λ (s : Standing). s.entries ≡ []) old) (history : IsHistoryOf sizes log new)
+    (wide : All (λ (s : Standing). s.vars ≡ n) new) (fresh : All (λ (s : Standing). s.entries ≡ []) old) (history : IsLegalHistoryOf sizes log new)
     (turns : AreInTurn 0 handovers) (gains : AllGain handovers old new) where
   known : (e : Entry) → Has e log → IsKnown handovers e
   known e has = elim (owner handovers log e.session old new gains fresh history.each) [
@@ -190,7 +190,7 @@ module _ (n : ℕ) (sizes : Sizes) (log : List Entry) (old new : List Standing) 
 -- What is told of functions under the order 0, 1, 2, .. and depends on their values at n variables alone, is told of the network's outputs.
 pub told_true : (Tells : List (ℕ → Bool) → List ℕ → List ℕ → Type 0) (net : Net) (sizes : Sizes) (log : List Entry) (old new : List Standing) (text : List ℕ)
     → sizes.variables ≡ length net.inputs → All (λ (s : Standing). s.vars ≡ length net.inputs) new → All (λ (s : Standing). s.entries ≡ []) old
-    → IsHistoryOf sizes log new → Builds Tells net old new text
+    → IsLegalHistoryOf sizes log new → Builds Tells net old new text
     → (functions : List (ℕ → Bool)) × AreSame (length net.inputs) functions (map (λ (output : Output). signal_value net output.signal) net.outputs)
     × Tells functions (range_with_len 0 (length net.inputs)) text
 told_true Tells net sizes log old new text all wide fresh history builds =

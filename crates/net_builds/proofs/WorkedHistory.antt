@@ -4,6 +4,7 @@ use Rattle.std.specs.Prelude.{Some, None, slice_get}
 use Rattle.std.specs.List.{All}
 use Rattle.std.specs.Fmt.{digits}
 use Rattle.std.proofs.lemmas.Option.{slice_get_within}
+use Rattle.edge_bits.specs.declared.limits.TheConstants.{CELLS}
 use Rattle.edge_bits.specs.Assignments.{set_bit}
 use Rattle.blif_net.specs.declared.net.Net.{Net}
 use Rattle.blif_net.specs.Networks.{value_within}
@@ -27,7 +28,7 @@ use Rattle.net_builds.proofs.HandedLaw.{Has}
 use Rattle.net_reports.specs.Classes.{AreClasses, Function as Values, IsClass}
 use Rattle.net_reports.specs.Reports.{report_text}
 use Rattle.net_reports.specs.declared.classes.Class.{Class}
-use Rattle.net_builds.specs.Builds.{Builds, IsHistoryOf, Reports}
+use Rattle.net_builds.specs.Builds.{Builds, IsLegalHistoryOf, Reports}
 use Rattle.net_builds.specs.Handings.{IsKnown}
 use Rattle.net_builds.specs.Standings.{IsPlain, Note, Standing}
 use Rattle.net_builds.specs.declared.handing.Handover.{Handover}
@@ -39,7 +40,7 @@ abbrev net : Net
 net = record { inputs = codes "a" ∷ []; outputs = record { name = codes "f"; signal = 0 } ∷ []; gates = [] }
 
 abbrev sizes : Sizes
-sizes = record { variables = 1; elements = 0; most_variables = 1; most_elements = 0 }
+sizes = record { variables = 1; elements = 0; most_variables = 1; most_elements = 0; cells = CELLS }
 
 abbrev other : Entry
 other = entry 0 0 (calls.Makes (makings.Bdd bdds.One)) (replies.Made (name 0))
@@ -115,9 +116,10 @@ abbrev Noted : Note → Type 0
 Noted one = (orders_from (opening_orders sizes) (take one.place log)).variables ≡ one.order
 
 -- the entries are a legal history of the two
-history : IsHistoryOf sizes log (first ∷ second ∷ [])
+history : IsLegalHistoryOf sizes log (first ∷ second ∷ [])
 history = record {
   legal = legal;
+  carried = (tt, (tt, (tt, (tt, tt))));
   each = all_two (λ (s : Standing). entries_of s.number log ≡ s.entries) first second refl refl;
   rows = all_two (λ (s : Standing). (x : Name) → (table_after (opening sizes) log).live s.number x ≡ s.stands x) first second (λ x. refl) (λ x. refl);
   noted = all_two (λ (s : Standing). All Noted s.notes) first second (all_one Noted note refl) (λ k d inside. absurd (omega (arith, inside)));

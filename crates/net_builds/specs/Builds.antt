@@ -6,8 +6,9 @@ use Rattle.blif_net.specs.declared.net.Output.{Output}
 use Rattle.blif_net.specs.Networks.{signal_value}
 use Rattle.function_laws.specs.declared.history.Entry.{Entry}
 use Rattle.function_laws.specs.declared.history.Name.{Name}
-use Rattle.function_laws.specs.EntryOrders.{opening_orders, orders_from}
+use Rattle.function_laws.specs.EntryOrders.{EachWith, opening_orders, orders_from}
 use Rattle.function_laws.specs.Histories.{IsLegal, table_after}
+use Rattle.function_laws.specs.SiftEntries.{Carries}
 use Rattle.function_laws.specs.SessionEntries.{entries_of}
 use Rattle.function_laws.specs.Tables.{Sizes, opening}
 use Rattle.net_reports.specs.Reports.{IsReport, IsSummary, Subject, net_subject, output_names}
@@ -67,8 +68,10 @@ abbrev pub SumsUp : Net → List (ℕ → Bool) → List ℕ → List ℕ → Ty
 SumsUp net functions order text = IsSummary (subject_with net functions order []) text
 
 -- The entries are a legal history of these sessions, which had made no call: it leaves their names standing for what they do, and what they noted of the order is what the entries below its place leave.
-pub record IsHistoryOf (sizes : Sizes) (log : List Entry) (sessions : List Standing) : Type 0 where
+pub record IsLegalHistoryOf (sizes : Sizes) (log : List Entry) (sessions : List Standing) : Type 0 where
   pub legal : IsLegal sizes log
+  -- a sift's entry carries both orders, and functions of rows and cells, as the entries below it leave them
+  pub carried : EachWith Carries (opening sizes) (opening_orders sizes) log
   pub each : All (λ (s : Standing). entries_of s.number log ≡ s.entries) sessions
   pub rows : All (λ (s : Standing). (name : Name) → (table_after (opening sizes) log).live s.number name ≡ s.stands name) sessions
   pub noted : All (λ (s : Standing). All (λ (note : Note). (orders_from (opening_orders sizes) (take note.place log)).variables ≡ note.order) s.notes) sessions
@@ -78,7 +81,7 @@ pub record IsHistoryOf (sizes : Sizes) (log : List Entry) (sessions : List Stand
 abbrev pub ToldTrue : (List (ℕ → Bool) → List ℕ → List ℕ → Type 0) → (List ℕ → List ℕ → Type 0) → Net → Type 0
 ToldTrue Tells IsTold net = (sizes : Sizes) (log : List Entry) (old new : List Standing) (text : List ℕ)
     → sizes.variables ≡ length net.inputs → All (λ (s : Standing). s.vars ≡ length net.inputs) new → All (λ (s : Standing). s.entries ≡ []) old
-    → IsHistoryOf sizes log new → Builds Tells net old new text → IsTold (range_with_len 0 (length net.inputs)) text
+    → IsLegalHistoryOf sizes log new → Builds Tells net old new text → IsTold (range_with_len 0 (length net.inputs)) text
 
 -- a report that was told is one of the network's own outputs
 abbrev pub ReportsAreTrue : Type 0

@@ -2,6 +2,7 @@
 use Rattle.std.specs.Prelude.{◌≡◌, ℕ, ◌+◌, ◌<◌, ◌≤◌, ◌^◌, Bool, false, List, [], ◌∷◌, ◌++◌, All, Option, Some, length, map}
 use Rattle.diagram_dumps.specs.declared.listings.Listing.{Listing}
 use Rattle.diagram_dumps.specs.Listings.{IsListing}
+use Rattle.edge_bits.specs.declared.limits.TheConstants.{MOST_ROWS}
 use Rattle.function_laws.specs.declared.history.Call.TheVariants as calls
 use Rattle.function_laws.specs.declared.history.Entry.{Entry}
 use Rattle.function_laws.specs.declared.history.Function.{Function}
@@ -57,7 +58,7 @@ IsLive s name = (f : List Bool) × (s.stands name ≡ Some (Bdd f)) × (name.gen
 
 -- the session may make one more row
 abbrev pub HasRoom : Standing → Type 0
-HasRoom s = s.rows < 2 ^ 25
+HasRoom s = s.rows < MOST_ROWS
 
 -- the entry adds no variable and leaves the order as it is
 pub record IsPlain (e : Entry) : Type 0 where

@@ -1,6 +1,7 @@
 //! The handing over of built functions to the first session.
 
 ghost use Rattle.std.specs.Prelude.{◌≡◌, ◌+◌, ◌≤◌, ◌^◌, [], ◌∷◌, ◌++◌, true, length, All, IfErr, IfOk};
+ghost use Rattle.edge_bits.specs.declared.limits.TheConstants.{MOST_ROWS};
 ghost use Rattle.net_builds.specs.Handings.{AreInTurn, HandsOver};
 ghost use Rattle.net_builds.specs.Standings.{HasRoom, IsCaused, IsLive};
 
@@ -78,7 +79,7 @@ pub fn hand_over<R: Wait, H: Host>(
     names: &[Name],
 ) -> Result<Vec<Handover>, Stop<H::Full>>
     requires own { H.has host.now session.old }
-    requires room { (H.standing session.old).rows + length names.now ≤ 2 ^ 25 }
+    requires room { (H.standing session.old).rows + length names.now ≤ MOST_ROWS }
     requires held { All (IsLive (H.standing session.old)) names.now }
     ensures own { H.has host.now session.new }
     ensures handed { IfOk result (λ handovers. HandsOver (H.standing session.old) (H.standing session.new) names.now handovers.items) }

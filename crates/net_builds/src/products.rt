@@ -1,6 +1,7 @@
 //! The function of a cover, from the rows of the signals that it reads.
 
 ghost use Rattle.std.specs.Prelude.{◌≡◌, ◌≢◌, ◌+◌, ◌<◌, ◌≤◌, ◌^◌, Some, ℕ, Bool, IfErr, IfOk, length, slice_get};
+ghost use Rattle.edge_bits.specs.declared.limits.TheConstants.{MOST_ROWS};
 ghost use Rattle.blif_net.specs.Networks.{cover_value};
 ghost use Rattle.blif_net.specs.declared.net.Literal.TheVariants.{Any};
 ghost use Rattle.function_laws.specs.Values.{conjunction, disjunction, negation};
@@ -39,7 +40,7 @@ fn with_complement<H: Host>(
     product: Name,
 ) -> Result<Name, Stop<H::Full>>
     requires own { H.has host.now session.old }
-    requires room { (H.standing session.old).rows + 3 ≤ 2 ^ 25 }
+    requires room { (H.standing session.old).rows + 3 ≤ MOST_ROWS }
     requires row { IsHeld (H.standing session.old) row }
     requires product { IsHeld (H.standing session.old) product }
     ensures own { H.has host.now session.new }
@@ -61,7 +62,7 @@ fn with_factor<H: Host>(
     product: Name,
 ) -> Result<Name, Stop<H::Full>>
     requires own { H.has host.now session.old }
-    requires room { (H.standing session.old).rows + 3 ≤ 2 ^ 25 }
+    requires room { (H.standing session.old).rows + 3 ≤ MOST_ROWS }
     requires row { IsHeld (H.standing session.old) row }
     requires product { IsHeld (H.standing session.old) product }
     requires asks { literal ≢ Any }
@@ -85,7 +86,7 @@ fn with_literal<H: Host>(
     product: Name,
 ) -> Result<Name, Stop<H::Full>>
     requires own { H.has host.now session.old }
-    requires room { (H.standing session.old).rows + 3 ≤ 2 ^ 25 }
+    requires room { (H.standing session.old).rows + 3 ≤ MOST_ROWS }
     requires row { IsHeld (H.standing session.old) row }
     requires product { IsHeld (H.standing session.old) product }
     ensures own { H.has host.now session.new }
@@ -109,7 +110,7 @@ fn product<H: Host>(
     rows: &[Option<Name>],
 ) -> Result<Name, Stop<H::Full>>
     requires own { H.has host.now session.old }
-    requires room { (H.standing session.old).rows + 4 ≤ 2 ^ 25 }
+    requires room { (H.standing session.old).rows + 4 ≤ MOST_ROWS }
     requires rows { HaveRows (H.standing session.old) rows.now ins.now }
     ensures own { H.has host.now session.new }
     ensures made { IfOk result (λ name. (values : ℕ → ℕ → Bool) → HaveValues (H.standing session.old) rows.now values ins.now → Makes (H.standing session.old) (H.standing session.new) name (match_at values ins.now literals.now)) }
@@ -136,7 +137,7 @@ fn with_product<H: Host>(
     sum: Name,
 ) -> Result<Name, Stop<H::Full>>
     requires own { H.has host.now session.old }
-    requires room { (H.standing session.old).rows + 4 ≤ 2 ^ 25 }
+    requires room { (H.standing session.old).rows + 4 ≤ MOST_ROWS }
     requires rows { HaveRows (H.standing session.old) rows.now ins.now }
     requires sum { IsHeld (H.standing session.old) sum }
     ensures own { H.has host.now session.new }
@@ -159,7 +160,7 @@ fn sum<H: Host>(
     rows: &[Option<Name>],
 ) -> Result<Name, Stop<H::Full>>
     requires own { H.has host.now session.old }
-    requires room { (H.standing session.old).rows + 5 ≤ 2 ^ 25 }
+    requires room { (H.standing session.old).rows + 5 ≤ MOST_ROWS }
     requires rows { HaveRows (H.standing session.old) rows.now ins.now }
     ensures own { H.has host.now session.new }
     ensures made { IfOk result (λ name. (values : ℕ → ℕ → Bool) → HaveValues (H.standing session.old) rows.now values ins.now → Makes (H.standing session.old) (H.standing session.new) name (match_any values ins.now cubes.now)) }
@@ -181,7 +182,7 @@ pub fn cover<H: Host>(
     rows: &[Option<Name>],
 ) -> Result<Name, Stop<H::Full>>
     requires own { H.has host.now session.old }
-    requires room { (H.standing session.old).rows + 5 ≤ 2 ^ 25 }
+    requires room { (H.standing session.old).rows + 5 ≤ MOST_ROWS }
     requires rows { HaveRows (H.standing session.old) rows.now gate.now.ins }
     ensures own { H.has host.now session.new }
     ensures made { IfOk result (λ name. (values : ℕ → ℕ → Bool) → HaveValues (H.standing session.old) rows.now values gate.now.ins → Makes (H.standing session.old) (H.standing session.new) name (λ k. cover_value gate.now (λ signal. values signal k))) }

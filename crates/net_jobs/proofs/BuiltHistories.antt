@@ -1,5 +1,5 @@
 -- One session that built a network, in the history that the closing of its manager tells.
-use Rattle.std.proofs.Common.{◌≡◌, ◌⊎◌, Bool, Option, ℕ, zero, suc, ◌+◌, ◌*◌, Result, Ok, Err, IfErr, inr, List, [], ◌∷◌, ◌++◌, length, map, take, drop, All, Contains, refl, ap, sym, ◌∙◌, subst, arith}
+use Rattle.std.proofs.Common.{◌≡◌, ◌⊎◌, Bool, Option, ℕ, zero, suc, ◌*◌, Result, Ok, Err, IfErr, inr, List, [], ◌∷◌, ◌++◌, length, map, take, drop, All, Contains, refl, ap, sym, ◌∙◌, subst, arith}
 use mathlib.Core.Option.{some}
 use lib.ListN.{get_elem?}
 use Rattle.std.proofs.Math.Seq.{take-append_seam}
@@ -45,9 +45,10 @@ all_noted sizes log (note ∷ noted) each =
     All-cons (IsRight sizes log) (note_of note) (map note_of noted) (ap (λ (o : Orders). o.variables) each.0.1) (all_noted sizes log noted each.1)
 
 -- of one session
-pub history_of : (m : Managed) (s : Seen) (n : ℕ) (h : IsHistoryOf m (s ∷ []) n) → builds.IsHistoryOf (sizes_for m.vars m.elements) h.log (standing_of s ∷ [])
+pub history_of : (m : Managed) (s : Seen) (n : ℕ) (h : IsHistoryOf m (s ∷ []) n) → builds.IsLegalHistoryOf (sizes_for m.vars m.elements) h.log (standing_of s ∷ [])
 history_of m s n h = record {
   legal = h.legal;
+  carried = h.carried;
   each = one (λ (t : Standing). entries_of t.number h.log ≡ t.entries) (h.each 0 s refl);
   rows = one (λ (t : Standing). (name : Name) → (table_after (opening (sizes_for m.vars m.elements)) h.log).live t.number name ≡ t.stands name)
       (λ name. ap (λ (f : Name → Option Function). f name) (h.rows 0 s refl));
@@ -94,10 +95,10 @@ module _ (m : Managed) (Tells : List (ℕ → Bool) → List ℕ → List ℕ �
       let many = ap length only.1 in
       let same = ap (length {A = Seen}) at in ap (λ k. take k (new ++ drop (length new) items)) (omega (arith, long, many, same)) ∙ take-append_seam new (drop (length new) items)
 
-  history : (n : ℕ) (h : IsHistoryOf m new n) → (log : List Entry) × builds.IsHistoryOf (sizes_for m.vars m.elements) log (map standing_of new)
+  history : (n : ℕ) (h : IsHistoryOf m new n) → (log : List Entry) × builds.IsLegalHistoryOf (sizes_for m.vars m.elements) log (map standing_of new)
   history n h =
       let one : IsHistoryOf m (only.0 ∷ []) n = subst (λ (xs : List Seen). IsHistoryOf m xs n) only.1 h in
-      (one.log, subst (λ (xs : List Seen). builds.IsHistoryOf (sizes_for m.vars m.elements) one.log (map standing_of xs)) (sym only.1) (history_of m only.0 n one))
+      (one.log, subst (λ (xs : List Seen). builds.IsLegalHistoryOf (sizes_for m.vars m.elements) one.log (map standing_of xs)) (sym only.1) (history_of m only.0 n one))
 
   vars_are : m.vars ≡ length net.inputs → All (λ (s : Standing). s.vars ≡ length net.inputs) (map standing_of new)
   vars_are vars =

@@ -7,13 +7,14 @@ use Rattle.edge_bits.specs.declared.edges.Kind.{Kind}
 use Rattle.function_laws.specs.declared.history.Call.{Call}
 use Rattle.function_laws.specs.declared.history.Call.TheVariants as calls
 use Rattle.function_laws.specs.declared.history.Function.{Function}
-use Rattle.function_laws.specs.declared.history.Function.TheVariants.{Bdd}
+use Rattle.function_laws.specs.declared.history.Function.TheVariants.{Bdd, Zdd}
 use Rattle.function_laws.specs.declared.history.Name.{Name}
 use Rattle.function_laws.specs.declared.history.Reply.{Reply}
 use Rattle.function_laws.specs.declared.history.Reply.TheVariants as replies
 use Rattle.function_laws.specs.Tables.{Sizes, Table, same_name, with_name}
-use Rattle.function_laws.specs.Outcomes.{Outcome, makes, restricts, fetches, counts, overflows, is_most, compares, tells, shows, is_done}
+use Rattle.function_laws.specs.Outcomes.{Outcome, makes, restricts, covers, fetches, counts, is_done}
 use Rattle.function_laws.specs.Steps.{IsAllowed, IsNew, Replies, after, outcome, outcome_of, with_result}
+use Rattle.function_laws.proofs.StepLemmas.{chosen-new}
 use Rattle.dd_session.specs.Managing.{stands_for}
 use Rattle.dd_session.specs.Sessions.{kind_of}
 use Rattle.job_text.specs.Histories.{drops, given_by}
@@ -104,6 +105,12 @@ kind_of_outcome k old new call reply place called comes o at =
     let t = table_of old called.board in
     comes t.sizes t.cells o (sym (ap (λ live. outcome_of t.sizes t.cells live call) (live_before old new call reply place called)) ∙ at)
 
+-- a function that was chosen is of the kind of what comes of the call
+chosen-kind : (t : Table) (s : ℕ) (r : Name) (k : Kind) (o : Outcome) (f : Function) → Replies t s o (replies.Chose r f) → IsOfKind k o → kind_of f ≡ k
+chosen-kind t s r k (restricts f c) (Bdd g) says is = sym is
+chosen-kind t s r k (covers lower upper) (Zdd p) says is = sym is
+chosen-kind t s r k _ _ says is = absurd says
+
 -- a call that gives a name
 pub given : (old new : Seen) (call : Call) (reply : Reply) (place : ℕ) (called : Called old new call reply place) (name : Name) → is_plain call ≡ true → given_by reply ≡ Some name → Given old new call name
 given old new call (replies.Made r) place called name plain is = subst (Given old new call) (same is) (by (is_allowed old new call (replies.Made r) place called))
@@ -113,60 +120,28 @@ given old new call (replies.Made r) place called name plain is = subst (Given ol
 
     by : IsAllowed (table_of old called.board) old.number call (replies.Made r) → Given old new call r
     by (makes f, at, fresh) = core old new call (replies.Made r) place called r f (ap (with_result (table_of old called.board) old.number r) at) fresh (λ k comes. kind_of_outcome k old new call (replies.Made r) place called comes (makes f) at)
-    by (restricts f g, at, says) = absurd says
-    by (fetches f p, at, says) = absurd says
-    by (counts f n, at, says) = absurd says
-    by (overflows, at, says) = absurd says
-    by (is_most, at, says) = absurd says
-    by (compares f g, at, says) = absurd says
-    by (tells b, at, says) = absurd says
-    by (shows z, at, says) = absurd says
-    by (is_done, at, says) = absurd says
+    by (_, at, says) = absurd says
 given old new call (replies.Chose r g) place called name plain is = subst (Given old new call) (same is) (by (is_allowed old new call (replies.Chose r g) place called))
   where
     same : Some r ≡ Some name → r ≡ name
     same e = cc
 
     by : IsAllowed (table_of old called.board) old.number call (replies.Chose r g) → Given old new call r
-    by (makes f, at, says) = absurd says
-    by (restricts f c, at, says) = core old new call (replies.Chose r g) place called r (Bdd g) refl says.0 (λ k comes. sym (kind_of_outcome k old new call (replies.Chose r g) place called comes (restricts f c) at))
-    by (fetches f p, at, says) = absurd says
-    by (counts f n, at, says) = absurd says
-    by (overflows, at, says) = absurd says
-    by (is_most, at, says) = absurd says
-    by (compares f g, at, says) = absurd says
-    by (tells b, at, says) = absurd says
-    by (shows z, at, says) = absurd says
-    by (is_done, at, says) = absurd says
+    by (o, at, says) = core old new call (replies.Chose r g) place called r g refl (chosen-new (table_of old called.board) old.number r o g says)
+        (λ k comes. chosen-kind (table_of old called.board) old.number r k o g says (kind_of_outcome k old new call (replies.Chose r g) place called comes o at))
 given old new call (replies.Fetched r posted) place called name plain is = subst (Given old new call) (same is) (by (is_allowed old new call (replies.Fetched r posted) place called))
   where
     same : Some r ≡ Some name → r ≡ name
     same e = cc
 
     by : IsAllowed (table_of old called.board) old.number call (replies.Fetched r posted) → Given old new call r
-    by (makes f, at, says) = absurd says
-    by (restricts f g, at, says) = absurd says
     by (fetches f p, at, says) = core old new call (replies.Fetched r posted) place called r f (ap (with_result (table_of old called.board) old.number r) at) says.0 (λ k comes. kind_of_outcome k old new call (replies.Fetched r posted) place called comes (fetches f p) at)
-    by (counts f n, at, says) = absurd says
-    by (overflows, at, says) = absurd says
-    by (is_most, at, says) = absurd says
-    by (compares f g, at, says) = absurd says
-    by (tells b, at, says) = absurd says
-    by (shows z, at, says) = absurd says
-    by (is_done, at, says) = absurd says
+    by (_, at, says) = absurd says
 given old new call (replies.Numbered r n) place called name plain is = by (is_allowed old new call (replies.Numbered r n) place called)
   where
     by : IsAllowed (table_of old called.board) old.number call (replies.Numbered r n) → Given old new call name
-    by (makes f, at, says) = absurd says
-    by (restricts f g, at, says) = absurd says
-    by (fetches f p, at, says) = absurd says
     by (counts f m, at, says) = absurd (no-count _ _ _ call (counts f m) plain at)
-    by (overflows, at, says) = absurd says
-    by (is_most, at, says) = absurd says
-    by (compares f g, at, says) = absurd says
-    by (tells b, at, says) = absurd says
-    by (shows z, at, says) = absurd says
-    by (is_done, at, says) = absurd says
+    by (_, at, says) = absurd says
 given old new call reply place called name plain is = cc
 
 -- what a call that gives no name leaves of what a name stands for
@@ -205,6 +180,10 @@ left old new (calls.DropRow a) replies.Overflow place called none name =
     let allowed = is_allowed old new (calls.DropRow a) replies.Overflow place called in
     absurd (drop_allowed (table_of old called.board) old.number a (λ o. Replies (table_of old called.board) old.number o replies.Overflow → ⊥) (λ says. says) allowed.0 allowed.1 allowed.2)
 left old new call replies.Overflow place called none name = stands_still old new call replies.Overflow place called refl name
+left old new (calls.DropRow a) replies.Apart place called none name =
+    let allowed = is_allowed old new (calls.DropRow a) replies.Apart place called in
+    absurd (drop_allowed (table_of old called.board) old.number a (λ o. Replies (table_of old called.board) old.number o replies.Apart → ⊥) (λ says. says) allowed.0 allowed.1 allowed.2)
+left old new call replies.Apart place called none name = stands_still old new call replies.Apart place called refl name
 left old new (calls.DropRow a) replies.Most place called none name =
     let allowed = is_allowed old new (calls.DropRow a) replies.Most place called in
     absurd (drop_allowed (table_of old called.board) old.number a (λ o. Replies (table_of old called.board) old.number o replies.Most → ⊥) (λ says. says) allowed.0 allowed.1 allowed.2)

@@ -11,12 +11,12 @@ use Rattle.job_text.specs.declared.job.Register.{Register}
 use Rattle.job_text.specs.declared.operands.Operand.TheVariants as operands
 use Rattle.job_words.specs.Text.{Word}
 use Rattle.job_text.specs.declared.operands.Operand.{Operand}
-use Rattle.function_laws.specs.Makings.{Taken, bit, element, function, number, pairs, taken, variable, variables}
+use Rattle.function_laws.specs.Makings.{Taken, bit, element, function, literals, number, pairs, taken, value, variable, variables}
 use Rattle.job_text.specs.Places.{Refers, StandsFor, bits_for, kind_at, kind_of}
 use Rattle.job_text.specs.Grammar.{Says}
 use Rattle.job_text.proofs.Effects.{EachStands, operands_stand}
 use Rattle.job_text.proofs.Naming.{pair_operands}
-use Rattle.job_text.proofs.Rows.{ArePutOnce, Takes, operands_for, takes}
+use Rattle.job_text.proofs.Rows.{AreOfCommand, Takes, operands_for, takes}
 use Rattle.dd_session.specs.Sessions.{Seen}
 use Rattle.net_jobs.specs.declared.registers.Assigned.{Assigned}
 use Rattle.net_jobs.specs.Saying.{CanCall, CanTake, CanTakeAll, Covers, IsHeldAs}
@@ -66,20 +66,23 @@ stand_back n registers [] ys each = each
 stand_back n registers (x ∷ xs) ys each = stand_back n registers xs ys each.1
 
 -- what an operation takes, where words stand for it
-can_take : (n : Counts) (registers : List Register) (s : Seen) (names : List Assigned) (one : Taken ℕ) → Covers registers s names → EachStands n registers (operands_for one) → ArePutOnce (one ∷ []) → CanTake n s names one
+can_take : (n : Counts) (registers : List Register) (s : Seen) (names : List Assigned) (one : Taken ℕ) → Covers registers s names → EachStands n registers (operands_for one) → AreOfCommand (one ∷ []) → CanTake n s names one
 can_take n registers s names (function k a) covers each once = held n registers s names k a covers each.0
 can_take n registers s names (variable v) covers each once = each.0.1.1
 can_take n registers s names (element e) covers each once = each.0.1.1
-can_take n registers s names (number z) covers each once = each.0.1.1
+can_take n registers s names (value z) covers each once = each.0.1.1
+can_take n registers s names (number z) covers each once = tt
 can_take n registers s names (bit b) covers each once = tt
 can_take n registers s names (variables vs) covers each once = variables_stand n registers vs each
 can_take n registers s names (pairs ps) covers each once = (pairs_stand n registers s names ps covers each, once.0)
+can_take n registers s names literals covers each once = absurd once
 
-once_first : (one : Taken ℕ) (more : List (Taken ℕ)) → ArePutOnce (one ∷ more) → ArePutOnce (one ∷ []) × ArePutOnce more
+once_first : (one : Taken ℕ) (more : List (Taken ℕ)) → AreOfCommand (one ∷ more) → AreOfCommand (one ∷ []) × AreOfCommand more
 once_first (pairs ps) more once = ((once.0, tt), once.1)
+once_first literals more once = absurd once
 once_first one more once = (tt, once)
 
-can_take_all : (n : Counts) (registers : List Register) (s : Seen) (names : List Assigned) (all : List (Taken ℕ)) → Covers registers s names → EachStands n registers (flat_map operands_for all) → ArePutOnce all → CanTakeAll n s names all
+can_take_all : (n : Counts) (registers : List Register) (s : Seen) (names : List Assigned) (all : List (Taken ℕ)) → Covers registers s names → EachStands n registers (flat_map operands_for all) → AreOfCommand all → CanTakeAll n s names all
 can_take_all n registers s names [] covers each once = tt
 can_take_all n registers s names (one ∷ more) covers each once =
     let apart = once_first one more once in (

@@ -1,6 +1,7 @@
 -- Of a text of a job there is nothing to tell but its history, and of one of a network but its report.
-use Rattle.std.proofs.Common.{◌≡◌, ℕ, ◌≤◌, List, ◌++◌, length, Option, Some, None, inl, inr, refl, sym, ap, ◌∙◌, subst, arith, append-nil, length-append}
+use Rattle.std.proofs.Common.{◌≡◌, ℕ, ◌+◌, ◌≤◌, List, ◌++◌, length, Option, Some, None, inl, inr, refl, sym, ap, ◌∙◌, subst, arith, append-nil, length-append}
 use Rattle.std.specs.Io.KnownBytes.{Consumes}
+use Rattle.edge_bits.specs.declared.limits.TheConstants.{LONGEST_TEXT}
 use Rattle.blif_net.specs.declared.faults.BlifFault.{BlifFault}
 use Rattle.blif_net.specs.Faults.{fault_of}
 use Rattle.job_text.specs.Faults.{IsFaultText}
@@ -12,7 +13,7 @@ whole_is : (bytes other : List ℕ) (rest : Option (List ℕ)) → IsWhole (Some
 whole_is bytes other None w = absurd w.taken
 whole_is bytes other (Some ys) w = sym (append-nil other) ∙ ap (λ xs. other ++ xs) (sym w.end) ∙ sym w.taken
 
-not_too_long : (bytes other : List ℕ) (rest : Option (List ℕ)) → Consumes (Some bytes) rest other → length bytes ≤ 67108864 → length other ≡ 67108865 → ⊥
+not_too_long : (bytes other : List ℕ) (rest : Option (List ℕ)) → Consumes (Some bytes) rest other → length bytes ≤ LONGEST_TEXT → length other ≡ LONGEST_TEXT + 1 → ⊥
 not_too_long bytes other None taken short long = taken
 not_too_long bytes other (Some ys) taken short long = omega (arith, short, long, ap length taken, length-append other ys)
 

@@ -19,13 +19,13 @@ use Rattle.job_commands.specs.declared.acts.Act.TheVariants.{Drop}
 use Rattle.job_text.specs.declared.job.Command.{Command}
 use Rattle.job_text.specs.declared.job.Counts.{Counts}
 use Rattle.job_words.specs.Text.{Word}
-use Rattle.job_text.specs.Histories.{Held, HistoryLine, drop_of, drops, line_text, registers_of, stops}
+use Rattle.job_text.specs.Histories.{NamedRegister, HistoryLine, drop_of, drops, line_text, registers_of, stops}
 use Rattle.dd_session.specs.Sessions.{IsLive, IsLiveAs, Seen, names_in}
 use Rattle.net_jobs.specs.declared.answering.Answered.{Answered}
 use Rattle.net_jobs.specs.declared.registers.Assigned.{Assigned}
 use Rattle.net_jobs.specs.declared.section.Script.{Script}
 use Rattle.net_jobs.specs.Sections.{written_as}
-use Rattle.net_jobs.specs.Saying.{CanCall, DropsOne, DropsTheRest, IsAnswered, IsKept, Stands, assigned_after, call_of, drop_words, is_dropped, is_none, name_at, name_in, register_of, spoken}
+use Rattle.net_jobs.specs.Saying.{CanCall, DropsOne, DropsTheRest, IsAnswered, IsKept, HasSaid, assigned_after, call_of, drop_words, is_dropped, is_none, name_at, name_in, register_of, spoken}
 use Rattle.net_jobs.proofs.CallLaws.{count_of, left, names_given}
 use Rattle.net_jobs.proofs.CoverLemmas.{name-apart, numbered}
 use Rattle.net_jobs.proofs.StandsLemmas.{said_line, stands-after}
@@ -96,18 +96,18 @@ drop_line gone commands assigned = if gone then [] else drop_of (register_of com
 -- What a register's turn adds to the lines, and leaves of the other names.
 pub record Turned (start now new : Seen) (commands : List Command) (after : Script) (assigned : Assigned) (said : List HistoryLine) : Type 0 where
   pub added : List HistoryLine
-  pub stands : Stands start new commands after.names.items after.lines.items (said ++ added)
+  pub stands : HasSaid start new commands after.names.items after.lines.items (said ++ added)
   pub says : map spoken added ≡ drop_line (is_none (stands_for now.rows assigned.name)) commands assigned
   pub others : (name : Name) → same_name name assigned.name ≡ false → stands_for new.rows name ≡ stands_for now.rows name
 
 turned : (start now new : Seen) (commands : List Command) (before after : Script) (row : ℕ) (assigned : Assigned) (said : List HistoryLine) → slice_get before.names.items row ≡ Some assigned
-    → Stands start now commands before.names.items before.lines.items said → DropsOne commands now new before after row assigned → Turned start now new commands after assigned said
+    → HasSaid start now commands before.names.items before.lines.items said → DropsOne commands now new before after row assigned → Turned start now new commands after assigned said
 turned start now new commands before after row assigned said at stands drops_it = ⊎_elim
     (λ gone. record {
       added = [];
-      stands = subst (λ lines. Stands start new commands after.names.items after.lines.items lines) (sym (append-nil said))
-          (subst (λ (s : Seen). Stands start s commands after.names.items after.lines.items said) (sym gone.1)
-          (subst (λ (x : Script). Stands start now commands x.names.items x.lines.items said) (sym gone.2) stands));
+      stands = subst (λ lines. HasSaid start new commands after.names.items after.lines.items lines) (sym (append-nil said))
+          (subst (λ (s : Seen). HasSaid start s commands after.names.items after.lines.items said) (sym gone.1)
+          (subst (λ (x : Script). HasSaid start now commands x.names.items x.lines.items said) (sym gone.2) stands));
       says = sym (ap (λ b. drop_line b commands assigned) gone.0);
       others = λ name apart. ap (λ (s : Seen). stands_for s.rows name) gone.1;
     })
@@ -123,7 +123,7 @@ turned start now new commands before after row assigned said at stands drops_it 
     let line = said_line start now new commands before.names.items before.lines.items after.lines.items said (drop_words commands assigned) (calls.DropRow assigned.name) answered row stands spoke.is refl fresh in
     record {
       added = line ∷ [];
-      stands = subst (λ ns. Stands start new commands ns after.lines.items (said ++ line ∷ [])) (sym spoke.names)
+      stands = subst (λ ns. HasSaid start new commands ns after.lines.items (said ++ line ∷ [])) (sym spoke.names)
           (stands-after start now new commands before.names.items before.lines.items after.lines.items said (drop_words commands assigned) (calls.DropRow assigned.name) answered row stands spoke.is refl fresh
           (λ made. absurd (false≢true (sym (ap is_some none) ∙ made))) spoke.lines);
       says = sym (ap (λ b. drop_line b commands assigned) live.0);
@@ -133,13 +133,13 @@ turned start now new commands before after row assigned said at stands drops_it 
     drops_it
 
 -- the lines do not drop the register
-abbrev is_left : List HistoryLine → Held → Bool
+abbrev is_left : List HistoryLine → NamedRegister → Bool
 is_left said register = not (list_any (λ line. drops register.name line.entry.call) said)
 
 -- The registers of the lines before the drops, up to so many, were dropped; the others are as they were.
 pub record Dropping (start old now : Seen) (commands : List Command) (before script : Script) (row : ℕ) (said : List HistoryLine) : Type 0 where
   pub dropped : List HistoryLine
-  pub stands : Stands start now commands script.names.items script.lines.items (said ++ dropped)
+  pub stands : HasSaid start now commands script.names.items script.lines.items (said ++ dropped)
   pub says : map spoken dropped ≡ map drop_of (filter (is_left said) (take row (registers_of said)))
   pub others : (k : ℕ) → row ≤ k → k < length before.names.items → stands_for now.rows (name_at before.names.items k) ≡ stands_for old.rows (name_at before.names.items k)
 
@@ -155,20 +155,20 @@ live_at s commands (a ∷ names) said (suc row) assigned at live =
 
 -- So many registers are dropped.
 pub record DropsUpTo (old now : Seen) (commands : List Command) (before script : Script) (row : ℕ) : Type 0 where
-  pub lines : (start : Seen) (said : List HistoryLine) → Stands start old commands before.names.items before.lines.items said → Dropping start old now commands before script row said
+  pub lines : (start : Seen) (said : List HistoryLine) → HasSaid start old commands before.names.items before.lines.items said → Dropping start old now commands before script row said
   pub names : script.names.items ≡ before.names.items
   pub rows : length now.rows ≤ length old.rows
   pub entries : length now.entries ≤ length old.entries + row
   pub kept : IsKept old now
 
-take-next : (xs : List Held) (i : ℕ) (x : Held) → slice_get xs i ≡ Some x → take (i + 1) xs ≡ take i xs ++ x ∷ []
+take-next : (xs : List NamedRegister) (i : ℕ) (x : NamedRegister) → slice_get xs i ≡ Some x → take (i + 1) xs ≡ take i xs ++ x ∷ []
 take-next [] i x is = cc
 take-next (y ∷ xs) zero x is = let same : y ≡ x = cc in ap (λ z. z ∷ []) same
 take-next (y ∷ xs) (suc i) x is =
     let next : suc i + 1 ≡ suc (i + 1) = omega arith in
     ap (λ k. take k (y ∷ xs)) next ∙ ap (λ zs. y ∷ zs) (take-next xs i x is)
 
-filter-push : (p : Held → Bool) (xs : List Held) (x : Held) → filter p (xs ++ x ∷ []) ≡ filter p xs ++ (if p x then x ∷ [] else [])
+filter-push : (p : NamedRegister → Bool) (xs : List NamedRegister) (x : NamedRegister) → filter p (xs ++ x ∷ []) ≡ filter p xs ++ (if p x then x ∷ [] else [])
 filter-push p [] x = by_test (p x)
   where
     by_test : (b : Bool) → (if b then x ∷ [] else []) ≡ [] ++ (if b then x ∷ [] else [])
@@ -176,12 +176,12 @@ filter-push p [] x = by_test (p x)
     by_test false = refl
 filter-push p (y ∷ xs) x = ap (λ zs. if p y then y ∷ zs else zs) (filter-push p xs x) ∙ by_test (p y) (filter p xs) (if p x then x ∷ [] else [])
   where
-    by_test : (b : Bool) (zs ws : List Held) → (if b then y ∷ (zs ++ ws) else (zs ++ ws)) ≡ (if b then y ∷ zs else zs) ++ ws
+    by_test : (b : Bool) (zs ws : List NamedRegister) → (if b then y ∷ (zs ++ ws) else (zs ++ ws)) ≡ (if b then y ∷ zs else zs) ++ ws
     by_test true zs ws = refl
     by_test false zs ws = refl
 
 -- a register is dropped, or says its drop
-said_if : (gone left : Bool) (register : Held) → left ≡ not gone → (if gone then [] else drop_of register ∷ []) ≡ map drop_of (if left then register ∷ [] else [])
+said_if : (gone left : Bool) (register : NamedRegister) → left ≡ not gone → (if gone then [] else drop_of register ∷ []) ≡ map drop_of (if left then register ∷ [] else [])
 said_if true left register is = sym (ap (λ b. map drop_of (if b then register ∷ [] else [])) is)
 said_if false left register is = sym (ap (λ b. map drop_of (if b then register ∷ [] else [])) is)
 
@@ -189,7 +189,7 @@ pub first_drop : (old : Seen) (commands : List Command) (before : Script) → Dr
 first_drop old commands before = record {
   lines = λ start said stands. record {
     dropped = [];
-    stands = subst (λ lines. Stands start old commands before.names.items before.lines.items lines) (sym (append-nil said)) stands;
+    stands = subst (λ lines. HasSaid start old commands before.names.items before.lines.items lines) (sym (append-nil said)) stands;
     says = refl;
     others = λ k from below. refl;
   };
@@ -223,7 +223,7 @@ next_drop old now new commands before script after row assigned up at drops_it r
       let left_is : is_left said register ≡ not (is_none (stands_for now.rows assigned.name)) = ap not (live_at old commands before.names.items said row assigned here stands.live ∙ ap is_none (sym same)) in
       record {
         dropped = was.dropped ++ turn.added;
-        stands = subst (λ lines. Stands start new commands after.names.items after.lines.items lines) (append_assoc said was.dropped turn.added) turn.stands;
+        stands = subst (λ lines. HasSaid start new commands after.names.items after.lines.items lines) (append_assoc said was.dropped turn.added) turn.stands;
         says = map-append spoken was.dropped turn.added ∙ ap₂ (λ xs ys. xs ++ ys) was.says (turn.says ∙ said_if (is_none (stands_for now.rows assigned.name)) (is_left said register) register left_is)
             ∙ sym (map-append drop_of (filter (is_left said) (take row (registers_of said))) (if is_left said register then register ∷ [] else []))
             ∙ ap (map drop_of) (sym (filter-push (is_left said) (take row (registers_of said)) register))
@@ -240,7 +240,7 @@ next_drop old now new commands before script after row assigned up at drops_it r
 }
 
 pub last_drop : (old now : Seen) (commands : List Command) (before script : Script) (row : ℕ) → DropsUpTo old now commands before script row → row ≡ length before.names.items
-    → (start : Seen) (said : List HistoryLine) → Stands start old commands before.names.items before.lines.items said → DropsTheRest start now commands script said
+    → (start : Seen) (said : List HistoryLine) → HasSaid start old commands before.names.items before.lines.items said → DropsTheRest start now commands script said
 last_drop old now commands before script row up end start said stands =
     let was = up.lines start said stands in
     let all : take row (registers_of said) ≡ registers_of said =

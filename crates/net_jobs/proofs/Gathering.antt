@@ -193,7 +193,7 @@ plays_in m sections old new written sorted text can numbers p permutes up bytes 
   lines = lines;
   sorted = by_place lines ordered;
   told = All-permutation (λ (line : HistoryLine). told_of line.entry.reply ≡ Some line.reply) all lines moved (all_are (λ (line : HistoryLine). told_of line.entry.reply ≡ Some line.reply) m sections old new written p can (λ c a b here own q. q.told));
-  full = All-permutation (λ (line : HistoryLine). IsFullBy m line.entry.reply) all lines moved (all_are (λ (line : HistoryLine). IsFullBy m line.entry.reply) m sections old new written p can (λ c a b here own q. subst (λ (n : Managed). All (λ (line : HistoryLine). IsFullBy n line.entry.reply) q.lines) own q.full));
+  full = All-permutation (λ (line : HistoryLine). IsFullBy m line.entry.call line.entry.reply) all lines moved (all_are (λ (line : HistoryLine). IsFullBy m line.entry.call line.entry.reply) m sections old new written p can (λ c a b here own q. subst (λ (n : Managed). All (λ (line : HistoryLine). IsFullBy n line.entry.call line.entry.reply) q.lines) own q.full));
   no_other = All-permutation (λ (line : HistoryLine). line.entry.session < length sections) all lines moved (each_all (λ (line : HistoryLine). line.entry.session < length sections) all (each_weaker (IsWithin 0 (length sections)) (λ (line : HistoryLine). line.entry.session < length sections) (λ line at. let h = at.1 in omega (arith, h)) all (within 0 sections old new written p numbers)));
   each = spread 0 [] lines sections old new written p tt numbers (λ s rises. part_sorted place_of (λ (line : HistoryLine). line.entry.session == s) all lines moved ordered rises);
   bytes = bytes ∙ bytes_same sorted lines (sym same);

@@ -22,7 +22,7 @@ use Rattle.function_laws.specs.Functions.{and_of, not_of, or_of}
 use Rattle.function_laws.specs.Lists.{list_of, truth}
 use Rattle.function_laws.specs.SessionEntries.{entry}
 use Rattle.function_laws.specs.Outcomes.{as_bdd, makes, with_one, with_two}
-use Rattle.function_laws.specs.Steps.{outcome}
+use Rattle.function_laws.specs.Steps.{TellsFull, outcome}
 use Rattle.function_laws.specs.Values.{assignment_of, conjunction, constant, disjunction, negation, projection}
 use Rattle.function_laws.proofs.BridgeLemmas.{and_of-list_of, not_of-list_of, place_two-list_of}
 use Rattle.function_laws.proofs.StepLemmas.{outcome-var}
@@ -100,18 +100,19 @@ module _ (old new : Seen) (call : Call) where
         by (Ok placed) called = holds placed.value placed.place called
         by (Err refusal) denies = tt
 
-    pub named_caused : IfErr result (IsCaused (IsRefusedBy new))
-    named_caused = subst (λ r. IfErr r (IsCaused (IsRefusedBy new))) (sym is) (by told tells)
+    -- where a refusal of the call tells that all slots were in use
+    pub named_caused : ((limit in_use need : ℕ) → TellsFull limit call in_use need → in_use ≡ limit) → IfErr result (IsCaused (IsRefusedBy new))
+    named_caused all = subst (λ r. IfErr r (IsCaused (IsRefusedBy new))) (sym is) (by told tells)
       where
         by : (told : Result (Placed Name) Refusal) → Tells told → IfErr (named_by told) (IsCaused (IsRefusedBy new))
         by (Ok placed) called = tt
         by (Err refusals.Memory) denies = tt
-        by (Err (refusals.Full full)) (called, in_use, limit, need) = record {
+        by (Err (refusals.Full full)) (called, limit, tells) = record {
           call = call;
           refused = subst (λ es. Contains es (entry full.place new.number call (replies.Full full.in_use full.need))) (sym called.entries_are)
               (Contains-append_right old.entries (entry full.place old.number call (replies.Full full.in_use full.need) ∷ []) (entry full.place new.number call (replies.Full full.in_use full.need))
               (0, omega arith, ap (λ n. entry full.place n call (replies.Full full.in_use full.need)) (sym called.number_is)));
-          in_use = in_use ∙ ap (λ (m : Managed). m.limit) (sym called.manager_is);
+          in_use = all old.manager.limit full.in_use full.need tells ∙ ap (λ (m : Managed). m.limit) (sym called.manager_is);
           limit = limit ∙ ap (λ (m : Managed). m.limit) (sym called.manager_is);
         }
 

@@ -20,7 +20,7 @@ use Rattle.net_jobs.specs.declared.answering.Answered.{Answered}
 use Rattle.net_jobs.specs.declared.registers.Assigned.{Assigned}
 use Rattle.net_jobs.specs.declared.section.Script.{Script}
 use Rattle.net_jobs.specs.Sections.{CanPlay, counts_of, entry_of}
-use Rattle.net_jobs.specs.Saying.{CanCall, Covers, SaysOne, SaysThrough, Spoke, Stands, assigned_after, call_of, name_at, target_in}
+use Rattle.net_jobs.specs.Saying.{CanCall, Covers, SaysOne, SaysThrough, Spoke, HasSaid, assigned_after, call_of, name_at, target_in}
 use Rattle.net_jobs.proofs.CanLemmas.{can_call}
 use Rattle.net_jobs.proofs.CoverLemmas.{covers-after, name-apart, numbered, plain}
 use Rattle.net_jobs.proofs.OrderLemmas.{in_order-after}
@@ -39,7 +39,7 @@ pub record SaysUpTo (old now : Seen) (commands : List Command) (script : Script)
   pub rest : CommandsSay (counts_of old.manager) registers (drop i commands)
   pub covers : Covers registers now script.names.items
   pub said : List HistoryLine
-  pub stands : Stands old now commands script.names.items script.lines.items said
+  pub stands : HasSaid old now commands script.names.items script.lines.items said
   pub in_order : SayInOrder (registers_of said) said commands
   pub none_stops : list_any (λ line. stops line.reply) said ≡ false
   pub count : length said ≡ i
@@ -58,7 +58,7 @@ rest_at n registers (first ∷ commands) (suc i) command is rest =
     (inner.0, subst (λ k. CommandsSay n (registers_after registers command.words) (drop k (first ∷ commands))) (sym next) inner.1)
 
 -- how many calls the session made
-pub entries_said : (old now : Seen) (commands : List Command) (script : Script) (said : List HistoryLine) → Stands old now commands script.names.items script.lines.items said
+pub entries_said : (old now : Seen) (commands : List Command) (script : Script) (said : List HistoryLine) → HasSaid old now commands script.names.items script.lines.items said
     → length now.entries ≡ length old.entries + length said
 entries_said old now commands script said stands =
     omega (arith, ap length stands.gained, length-append old.entries (map entry_of said), length-map said entry_of)
@@ -123,7 +123,7 @@ front_goes_on said none = by_take (length said - 1) said (none_stops_all said no
 
 -- what say_all tells
 abbrev pub Through : Seen → Seen → List Command → Script → Type 0
-Through old now commands script = (said : List HistoryLine) × Stands old now commands script.names.items script.lines.items said × SaysThrough commands said × (length said ≤ length commands)
+Through old now commands script = (said : List HistoryLine) × HasSaid old now commands script.names.items script.lines.items said × SaysThrough commands said × (length said ≤ length commands)
 
 length-after : (made : Option Name) (i : ℕ) (names : List Assigned) → length (assigned_after made i names) ≤ length names + 1
 length-after None i names = omega arith
@@ -136,7 +136,7 @@ says-first m old commands script can names lines = record {
   rest = subst (λ x. CommandsSay (counts_of x) [] commands) (sym can.own) can.say;
   covers = record { as_many = sym (ap length names); held = λ a word k at. cc };
   said = [];
-  stands = subst (λ ns. Stands old old commands ns script.lines.items []) (sym names) (subst (λ ls. Stands old old commands [] ls []) (sym lines) (stands-first old commands can.empty));
+  stands = subst (λ ns. HasSaid old old commands ns script.lines.items []) (sym names) (subst (λ ls. HasSaid old old commands [] ls []) (sym lines) (stands-first old commands can.empty));
   in_order = tt;
   none_stops = refl;
   count = refl;
@@ -160,8 +160,8 @@ module _ (old now new : Seen) (commands : List Command) (before after : Script) 
   abbrev line : HistoryLine
   line = said_line old now new commands names before.lines.items after.lines.items up.said command.words call answered i up.stands spoke.is (plain names command.act) old_drops
 
-  stands-next : Stands old new commands after.names.items after.lines.items (up.said ++ line ∷ [])
-  stands-next = subst (λ ns. Stands old new commands ns after.lines.items (up.said ++ line ∷ [])) (sym spoke.names)
+  stands-next : HasSaid old new commands after.names.items after.lines.items (up.said ++ line ∷ [])
+  stands-next = subst (λ ns. HasSaid old new commands ns after.lines.items (up.said ++ line ∷ [])) (sym spoke.names)
       (stands-after old now new commands names before.lines.items after.lines.items up.said command.words call answered i up.stands spoke.is (plain names command.act) old_drops
       (λ made. (slice_get_within commands i command at, sym (ap target_in at))) spoke.lines)
 

@@ -1,10 +1,11 @@
 -- The sessions of a manager that was opened for a job, before and after they play.
-use Rattle.std.proofs.Common.{◌≡◌, ℕ, zero, suc, ◌+◌, ◌^◌, ◌<◌, ◌≤◌, List, [], ◌∷◌, ◌++◌, length, take, drop, All, refl, ap, ap₂, sym, subst, ◌∙◌, arith}
+use Rattle.std.proofs.Common.{◌≡◌, ℕ, zero, suc, ◌+◌, ◌<◌, ◌≤◌, List, [], ◌∷◌, ◌++◌, length, take, drop, All, refl, ap, ap₂, sym, subst, ◌∙◌, arith}
 use mathlib.Core.Option.{some}
 use lib.ListN.{get_elem?}
 use Rattle.std.proofs.Math.Seq.{take-append_seam}
 use Rattle.std.proofs.lemmas.List.{append_assoc, append-nil}
 use Rattle.std.proofs.lemmas.List.Elements.{All-cons, All-head, All-nil, All-tail}
+use Rattle.edge_bits.specs.declared.limits.TheConstants.{MOST_ROWS, MOST_SESSIONS}
 use Rattle.job_text.specs.declared.job.Command.{Command}
 use Rattle.job_text.specs.declared.job.Counts.{Counts}
 use Rattle.job_text.specs.declared.job.Job.{Job}
@@ -31,17 +32,17 @@ newcomers_from m k (suc n) = sym (append_assoc (newcomers m k) (newcomer m k ∷
 opened_from : (m : Managed) → from m 0 m.sessions ≡ opened m
 opened_from m = newcomers_from m 0 m.sessions ∙ so_many m (m.sessions + 0) m.sessions (omega arith)
 
-can_from : (m : Managed) (k : ℕ) (sections : List (List Command)) → All (CommandsSay (counts_of m) []) sections → All (λ (commands : List Command). length commands < 2 ^ 25) sections → AllCan m sections (from m k (length sections))
+can_from : (m : Managed) (k : ℕ) (sections : List (List Command)) → All (CommandsSay (counts_of m) []) sections → All (λ (commands : List Command). length commands < MOST_ROWS) sections → AllCan m sections (from m k (length sections))
 can_from m k [] say few = tt
 can_from m k (c ∷ sections) say few = (
   record {
     own = refl;
     empty = refl;
     say = All-head (CommandsSay (counts_of m) []) c sections say;
-    few = All-head (λ (commands : List Command). length commands < 2 ^ 25) c sections few;
+    few = All-head (λ (commands : List Command). length commands < MOST_ROWS) c sections few;
     calls = omega arith;
   },
-  can_from m (suc k) sections (All-tail (CommandsSay (counts_of m) []) c sections say) (All-tail (λ (commands : List Command). length commands < 2 ^ 25) c sections few),
+  can_from m (suc k) sections (All-tail (CommandsSay (counts_of m) []) c sections say) (All-tail (λ (commands : List Command). length commands < MOST_ROWS) c sections few),
 )
 
 numbered_from : (m : Managed) (k n : ℕ) → AreNumbered k (from m k n)
@@ -81,13 +82,13 @@ module _ (job : Job) (m : Managed) (is_job : IsJob job) (is : IsFor job m) where
   counts_are : counts_of m ≡ grammar.counts_of job
   counts_are i = record { vars = is.vars i; elements = is.elements i }
 
-  pub can_play : All (λ (commands : List Command). length commands < 2 ^ 25) job.sections → AllCan m job.sections (opened m)
+  pub can_play : All (λ (commands : List Command). length commands < MOST_ROWS) job.sections → AllCan m job.sections (opened m)
   can_play few = subst (AllCan m job.sections) from_opened (can_from m 0 job.sections (subst (λ (n : Counts). All (CommandsSay n []) job.sections) (sym counts_are) is_job.commands) few)
 
   pub are_numbered : AreNumbered 0 (opened m)
   are_numbered = subst (AreNumbered 0) from_opened (numbered_from m 0 (length job.sections))
 
-  pub few_sessions : length (opened m) ≤ 64
+  pub few_sessions : length (opened m) ≤ MOST_SESSIONS
   few_sessions = let n = ap (length {A = Seen}) from_opened in let l = long_from m 0 (length job.sections) in let few = is_job.few_sections in omega (arith, n, l, few)
 
   are_fresh : AreFresh (opened m)
@@ -135,6 +136,6 @@ module _ (job : Job) (m : Managed) (is_job : IsJob job) (is : IsFor job m) where
   is_played new text whole n left p closed is_left is_whole = record {
     lines = p.lines;
     history = is_history job m (opened m) new n text is.vars is.elements p are_numbered are_fresh closed.history;
-    full = subst (λ (k : ℕ). All (λ (line : HistoryLine). IsFullOf k line.entry.reply) p.lines) is.limit p.full;
+    full = subst (λ (k : ℕ). All (λ (line : HistoryLine). IsFullOf k line.entry.call line.entry.reply) p.lines) is.limit p.full;
     bytes = is_whole ∙ ap₂ (λ xs k. xs ++ left_text k) p.bytes (is_left ∙ ap (λ k. 5 + k) is.vars);
   }

@@ -1,7 +1,7 @@
 -- The commands were said in order.
 use Rattle.std.proofs.Common.{◌≡◌, ℕ, zero, suc, ◌<◌, List, [], ◌∷◌, ◌++◌, length, map, Some, refl, sym, ap, ◌∙◌, subst}
 use Rattle.std.specs.Prelude.{option_map, slice_get}
-use Rattle.std.specs.List.{All, cons_option}
+use Rattle.std.specs.List.{cons_option}
 use Rattle.std.proofs.lemmas.List.Elements.{All-weaker, filter_map-append}
 use Rattle.std.proofs.lemmas.Option.{slice_get-map}
 use Rattle.edge_bits.specs.declared.edges.Kind.{Kind}
@@ -10,36 +10,38 @@ use Rattle.function_laws.specs.declared.history.Call.{Call}
 use Rattle.function_laws.specs.declared.history.Name.{Name}
 use Rattle.job_commands.specs.declared.acts.Act.{Act}
 use Rattle.job_commands.specs.declared.acts.Act.TheVariants.{Makes, Copy, Fetch, Post, Drop, Same, Leq, Eval, Sweep}
-use Rattle.function_laws.specs.Makings.{Taken, bit, element, function, number, pairs, taken, variable, variables}
+use Rattle.function_laws.specs.Makings.{Taken, bit, element, function, literals, number, pairs, taken, value, variable, variables}
 use Rattle.job_text.specs.declared.job.Command.{Command}
 use Rattle.job_text.specs.declared.job.Counts.{Counts}
-use Rattle.job_text.specs.Histories.{AreNamed, Calls, Held, HistoryLine, IsNamed, SayInOrder, held_by, registers_of}
+use Rattle.job_text.specs.Histories.{AreNamed, IsCallOf, NamedRegister, HistoryLine, IsNamedAs, SayInOrder, held_by, registers_of}
 use Rattle.dd_session.specs.Sessions.{Seen}
 use Rattle.net_jobs.specs.declared.registers.Assigned.{Assigned}
 use Rattle.net_jobs.specs.Saying.{CanCall, CanTakeAll, IsHeldAs, call_of, name_at, name_in, register_of}
 use Rattle.net_jobs.proofs.ListLemmas.{some_at}
 
 -- what is named among some registers is named among more
-named-more : (registers more : List Held) (a : ℕ) (name : Name) → IsNamed registers a name → IsNamed (registers ++ more) a name
+named-more : (registers more : List NamedRegister) (a : ℕ) (name : Name) → IsNamedAs registers a name → IsNamedAs (registers ++ more) a name
 named-more registers more a name is = (is.0, slice_get-more registers more a _ is.1)
   where
-    slice_get-more : (xs ys : List Held) (i : ℕ) (x : Held) → slice_get xs i ≡ Some x → slice_get (xs ++ ys) i ≡ Some x
+    slice_get-more : (xs ys : List NamedRegister) (i : ℕ) (x : NamedRegister) → slice_get xs i ≡ Some x → slice_get (xs ++ ys) i ≡ Some x
     slice_get-more [] ys i x is = cc
     slice_get-more (y ∷ xs) ys zero x is = is
     slice_get-more (y ∷ xs) ys (suc i) x is = slice_get-more xs ys i x is
 
-are_named-more : (registers more : List Held) (name : ℕ → Name) (all : List (Taken ℕ)) → AreNamed registers name all → AreNamed (registers ++ more) name all
+are_named-more : (registers more : List NamedRegister) (name : ℕ → Name) (all : List (Taken ℕ)) → AreNamed registers name all → AreNamed (registers ++ more) name all
 are_named-more registers more name [] are = are
 are_named-more registers more name (function k a ∷ all) are = (named-more registers more a (name a) are.0, are_named-more registers more name all are.1)
 are_named-more registers more name (pairs ps ∷ all) are =
-    (All-weaker (λ pair. IsNamed registers pair.1 (name pair.1)) (λ pair. IsNamed (registers ++ more) pair.1 (name pair.1)) (λ pair is. named-more registers more pair.1 (name pair.1) is) ps are.0, are_named-more registers more name all are.1)
+    (All-weaker (λ pair. IsNamedAs registers pair.1 (name pair.1)) (λ pair. IsNamedAs (registers ++ more) pair.1 (name pair.1)) (λ pair is. named-more registers more pair.1 (name pair.1) is) ps are.0, are_named-more registers more name all are.1)
 are_named-more registers more name (variable v ∷ all) are = are_named-more registers more name all are
 are_named-more registers more name (element e ∷ all) are = are_named-more registers more name all are
+are_named-more registers more name (value z ∷ all) are = are_named-more registers more name all are
 are_named-more registers more name (number z ∷ all) are = are_named-more registers more name all are
+are_named-more registers more name (literals ∷ all) are = are_named-more registers more name all are
 are_named-more registers more name (bit b ∷ all) are = are_named-more registers more name all are
 are_named-more registers more name (variables vs ∷ all) are = are_named-more registers more name all are
 
-calls-more : (registers more : List Held) (act : Act) (call : Call) → Calls registers act call → Calls (registers ++ more) act call
+calls-more : (registers more : List NamedRegister) (act : Act) (call : Call) → IsCallOf registers act call → IsCallOf (registers ++ more) act call
 calls-more registers more (Makes making) call is = (is.0, are_named-more registers more is.0 (taken making) is.1, is.2)
 calls-more registers more (Copy a) call is = (is.0, named-more registers more a is.0 is.1, is.2)
 calls-more registers more (Fetch cell a) call is = (is.0, named-more registers more a is.0 is.1, is.2)
@@ -50,19 +52,19 @@ calls-more registers more (Same a b) call is = (is.0, is.1, named-more registers
 calls-more registers more (Leq a b) call is = (is.0, is.1, named-more registers more a is.0 is.2, named-more registers more b is.1 is.3, is.4)
 calls-more registers more (Eval a bits) call is = (is.0, named-more registers more a is.0 is.1, is.2)
 
-in_order-more : (registers more : List Held) (lines : List HistoryLine) (commands : List Command) → SayInOrder registers lines commands → SayInOrder (registers ++ more) lines commands
+in_order-more : (registers more : List NamedRegister) (lines : List HistoryLine) (commands : List Command) → SayInOrder registers lines commands → SayInOrder (registers ++ more) lines commands
 in_order-more registers more [] commands says = says
 in_order-more registers more (line ∷ lines) [] says = says
 in_order-more registers more (line ∷ lines) (command ∷ commands) says =
     (says.0, calls-more registers more command.act line.entry.call says.1, in_order-more registers more lines commands says.2)
 
-in_order-push : (registers : List Held) (lines : List HistoryLine) (commands : List Command) (line : HistoryLine) (command : Command) → SayInOrder registers lines commands
-    → slice_get commands (length lines) ≡ Some command → line.words ≡ command.words → Calls registers command.act line.entry.call
+in_order-push : (registers : List NamedRegister) (lines : List HistoryLine) (commands : List Command) (line : HistoryLine) (command : Command) → SayInOrder registers lines commands
+    → slice_get commands (length lines) ≡ Some command → line.words ≡ command.words → IsCallOf registers command.act line.entry.call
     → SayInOrder registers (lines ++ line ∷ []) commands
 in_order-push registers [] [] line command says at words call = cc
 in_order-push registers [] (first ∷ commands) line command says at words call =
     let same : first ≡ command = cc in
-    (words ∙ ap (λ (c : Command). c.words) (sym same), subst (λ (c : Command). Calls registers c.act line.entry.call) (sym same) call, tt)
+    (words ∙ ap (λ (c : Command). c.words) (sym same), subst (λ (c : Command). IsCallOf registers c.act line.entry.call) (sym same) call, tt)
 in_order-push registers (x ∷ lines) [] line command says at words call = says
 in_order-push registers (x ∷ lines) (first ∷ commands) line command says at words call =
     (says.0, says.1, in_order-push registers lines commands line command says.2 at words call)
@@ -73,25 +75,27 @@ registers-grow said line = filter_map-append held_by said (line ∷ [])
 
 module _ (n : Counts) (s : Seen) (commands : List Command) (names : List Assigned) (said : List HistoryLine) (registers : registers_of said ≡ map (register_of commands) names) where
   -- the name of a register, by its number
-  named : (k : Kind) (a : ℕ) → IsHeldAs k s names a → IsNamed (registers_of said) a (name_at names a)
+  named : (k : Kind) (a : ℕ) → IsHeldAs k s names a → IsNamedAs (registers_of said) a (name_at names a)
   named k a held =
       let at = some_at names a held.0 in
       let name : name_at names a ≡ (at.0).name = ap name_in at.1 in
-      subst (IsNamed (registers_of said) a) (sym name)
+      subst (IsNamedAs (registers_of said) a) (sym name)
       ((register_of commands at.0).word, ap (λ rs. slice_get rs a) registers ∙ slice_get-map (register_of commands) names a ∙ ap (option_map (register_of commands)) at.1)
 
   are_named : (all : List (Taken ℕ)) → CanTakeAll n s names all → AreNamed (registers_of said) (name_at names) all
   are_named [] can = tt
   are_named (function k a ∷ all) can = (named k a can.0, are_named all can.1)
   are_named (pairs ps ∷ all) can =
-      (All-weaker (λ pair. (pair.0 < n.vars) × IsHeldAs kinds.Bdd s names pair.1) (λ pair. IsNamed (registers_of said) pair.1 (name_at names pair.1)) (λ pair held. named kinds.Bdd pair.1 held.1) ps can.0.0, are_named all can.1)
+      (All-weaker (λ pair. (pair.0 < n.vars) × IsHeldAs kinds.Bdd s names pair.1) (λ pair. IsNamedAs (registers_of said) pair.1 (name_at names pair.1)) (λ pair held. named kinds.Bdd pair.1 held.1) ps can.0.0, are_named all can.1)
   are_named (variable v ∷ all) can = are_named all can.1
   are_named (element e ∷ all) can = are_named all can.1
+  are_named (value z ∷ all) can = are_named all can.1
   are_named (number z ∷ all) can = are_named all can.1
+  are_named (literals ∷ all) can = absurd can.0
   are_named (bit b ∷ all) can = are_named all can.1
   are_named (variables vs ∷ all) can = are_named all can.1
 
-  calls_of : (act : Act) → CanCall n s names act → Calls (registers_of said) act (call_of names act)
+  calls_of : (act : Act) → CanCall n s names act → IsCallOf (registers_of said) act (call_of names act)
   calls_of (Makes making) can = (name_at names, are_named (taken making) can, refl)
   calls_of (Copy a) can = (name_at names a, named can.0 a can.1, refl)
   calls_of (Fetch cell a) can = (name_at names a, named can.0 a can.1, refl)
@@ -110,4 +114,4 @@ module _ (n : Counts) (s : Seen) (commands : List Command) (names : List Assigne
       subst (λ rs. SayInOrder rs (said ++ line ∷ []) commands) (sym (registers-grow said line))
       (in_order-more (registers_of said) (cons_option (held_by line) []) (said ++ line ∷ []) commands
       (in_order-push (registers_of said) said commands line command says at words
-      (subst (λ (c : Call). Calls (registers_of said) command.act c) (sym call) (calls_of command.act can))))
+      (subst (λ (c : Call). IsCallOf (registers_of said) command.act c) (sym call) (calls_of command.act can))))

@@ -1,5 +1,5 @@
 -- The kind of what comes of a call.
-use Rattle.std.proofs.Common.{◌≡◌, ℕ, ℤ, Bool, true, false, Option, Some, None, List, option_and_then, refl, subst}
+use Rattle.std.proofs.Common.{◌≡◌, ℕ, ℤ, Bool, true, false, Option, Some, None, List, option_and_then, refl, subst, cond}
 use Rattle.edge_bits.specs.declared.edges.Kind.{Kind}
 use Rattle.edge_bits.specs.declared.edges.Kind.TheVariants as kinds
 use Rattle.function_laws.specs.declared.history.Call.{Call}
@@ -7,8 +7,9 @@ use Rattle.function_laws.specs.declared.history.Call.TheVariants as calls
 use Rattle.function_laws.specs.declared.history.Function.{Function}
 use Rattle.function_laws.specs.declared.history.Function.TheVariants.{Bdd, Add, Zdd}
 use Rattle.function_laws.specs.declared.history.Name.{Name}
+use Rattle.function_laws.specs.Functions.{leq_of}
 use Rattle.function_laws.specs.Tables.{Sizes}
-use Rattle.function_laws.specs.Outcomes.{Outcome, makes, restricts, fetches, counts, compares, as_add, in_range, when, with_one, with_two, with_three}
+use Rattle.function_laws.specs.Outcomes.{Outcome, makes, restricts, covers, fetches, counts, compares, is_apart, as_add, as_bdd, in_range, when, with_one, with_two, with_three}
 use Rattle.function_laws.specs.Steps.{from_cell, outcome_of, same_kind}
 use Rattle.dd_session.specs.Sessions.{kind_of}
 use Rattle.function_laws.specs.declared.making.Making.{Making}
@@ -17,12 +18,13 @@ use Rattle.function_laws.specs.declared.making.BddMaking.TheVariants as bdds
 use Rattle.function_laws.specs.declared.making.AddMaking.TheVariants as adds
 use Rattle.function_laws.specs.declared.making.ExactMaking.TheVariants as exacts
 use Rattle.function_laws.specs.declared.making.ZddMaking.TheVariants as zdds
-use Rattle.function_laws.specs.Makings.{comes_of, kind_made, named}
+use Rattle.function_laws.specs.Makings.{comes_of, covered, kind_made, named}
 
 -- what comes of a call is of this kind
 abbrev pub IsOfKind : Kind → Outcome → Type 0
 IsOfKind k (makes f) = kind_of f ≡ k
 IsOfKind k (restricts f c) = k ≡ kinds.Bdd
+IsOfKind k (covers lower upper) = k ≡ kinds.Zdd
 IsOfKind k (fetches f posted) = kind_of f ≡ k
 IsOfKind k (counts f n) = ⊥
 IsOfKind k _ = Unit {0}
@@ -74,6 +76,13 @@ of_number : (x : Option (List ℤ)) → IsOfKind kinds.Add (in_range x)
 of_number (Some f) = refl
 of_number None = tt
 
+of_cover : (lower upper : List Bool) → IsOfKind kinds.Zdd (covered lower upper)
+of_cover lower upper = by (leq_of lower upper)
+  where
+    by : (b : Bool) → IsOfKind kinds.Zdd (cond b (covers lower upper) is_apart)
+    by true = refl
+    by false = tt
+
 of_copy : (x : Option Function) (o : Outcome) → with_one x makes ≡ Some o → IsOfKind (kind_or x) o
 of_copy None o is = cc
 of_copy (Some f) o is = itself (IsOfKind (kind_of f)) (makes f) o refl is
@@ -121,6 +130,7 @@ module _ (z : Sizes) (live : Name → Option Function) where
   made-kind (makes.Exact (exacts.SumOver a v)) o is = guarded (IsOfKind kinds.Add) _ _ o (one (IsOfKind kinds.Add) (as_add (live a)) _ o (λ f. of_number _)) is
   made-kind (makes.Exact making) o is = search (itself (IsOfKind kinds.Add), one (IsOfKind kinds.Add), two (IsOfKind kinds.Add), guarded (IsOfKind kinds.Add), of_number, is)
   made-kind (makes.Zdd zdds.Empty) o is = itself (IsOfKind kinds.Zdd) _ o refl is
+  made-kind (makes.Zdd (zdds.Isop a b)) o is = guarded (IsOfKind kinds.Zdd) _ _ o (two (IsOfKind kinds.Zdd) (as_bdd (live a)) (as_bdd (live b)) covered o of_cover) is
   made-kind (makes.Zdd making) o is = search (itself (IsOfKind kinds.Zdd), one (IsOfKind kinds.Zdd), two (IsOfKind kinds.Zdd), three (IsOfKind kinds.Zdd), guarded (IsOfKind kinds.Zdd), is)
 
 -- the same of names is of the same kind

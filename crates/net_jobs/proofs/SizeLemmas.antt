@@ -1,9 +1,10 @@
 -- A job has no more commands than half of its text's bytes.
-use Rattle.std.proofs.Common.{◌≡◌, ℕ, zero, suc, ◌+◌, ◌*◌, ◌^◌, ◌<◌, ◌≤◌, Bool, true, false, cond, List, [], ◌∷◌, ◌++◌, length, get_or, refl, arith, ap, length-append}
+use Rattle.std.proofs.Common.{◌≡◌, ℕ, zero, suc, ◌+◌, ◌*◌, ◌<◌, ◌≤◌, Bool, true, false, cond, List, [], ◌∷◌, ◌++◌, length, get_or, refl, arith, ap, length-append}
 use Rattle.std.specs.Prelude.{◌==◌, not, All}
 use Rattle.std.specs.List.{flat_map, join_with_byte, slice_split}
 use Rattle.std.proofs.lemmas.List.{length-map}
 use Rattle.std.proofs.lemmas.List.Splits.{join_with_byte-slice_split}
+use Rattle.edge_bits.specs.declared.limits.TheConstants.{LONGEST_TEXT, MOST_ROWS}
 use Rattle.job_text.specs.declared.job.Command.{Command}
 use Rattle.job_text.specs.declared.job.Job.{Job}
 use Rattle.job_words.specs.Text.{Word, lines_of, split_words, without_empty_end, words_of}
@@ -59,7 +60,7 @@ length-sections (section ∷ sections) zero d below =
 length-sections (section ∷ sections) (suc k) d below =
     omega (arith, length-append (section_lines section) (flat_map section_lines sections), length-sections sections k d (omega arith))
 
-pub few_commands : (text : List ℕ) (job : Job) → length text ≤ 67108864 → IsJobText text job → All (λ commands. length commands < 2 ^ 25) job.sections
+pub few_commands : (text : List ℕ) (job : Job) → length text ≤ LONGEST_TEXT → IsJobText text job → All (λ commands. length commands < MOST_ROWS) job.sections
 few_commands text job short is k d below =
     omega (
       arith,

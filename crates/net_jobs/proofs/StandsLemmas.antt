@@ -16,13 +16,13 @@ use Rattle.dd_session.specs.Managing.{stands_for}
 use Rattle.job_text.specs.declared.job.Command.{Command}
 use Rattle.job_words.specs.Text.{Word}
 use Rattle.job_text.specs.Grammar.{target_of}
-use Rattle.job_text.specs.Histories.{HistoryLine, drops, given_by, held_as, held_by, line_text, registers_of, stops, told_of}
+use Rattle.job_text.specs.Histories.{HistoryLine, drops, given_by, register_as, held_by, line_text, registers_of, stops, told_of}
 use Rattle.dd_session.specs.Sessions.{Seen}
 use Rattle.net_jobs.specs.declared.answering.Answered.{Answered}
 use Rattle.net_jobs.specs.declared.registers.Assigned.{Assigned}
 use Rattle.net_jobs.specs.declared.said.Said.{Said}
 use Rattle.net_jobs.specs.Sections.{IsFullBy, Rises, entry_of, said_of, written_as}
-use Rattle.net_jobs.specs.Saying.{IsAnswered, Stands, assigned_after, is_dropped, is_none, makes_row, register_of, target_at}
+use Rattle.net_jobs.specs.Saying.{IsAnswered, HasSaid, assigned_after, is_dropped, is_none, makes_row, register_of, target_at}
 use Rattle.net_jobs.proofs.CallLaws.{Given, count_of, given, left, left_none, names_given}
 use Rattle.net_jobs.proofs.OutcomeKinds.{is_plain}
 
@@ -73,8 +73,8 @@ or_false : (b : Bool) → (b || false) ≡ b
 or_false true = refl
 or_false false = refl
 
-registers-grow : (said : List HistoryLine) (line : HistoryLine) (o : Option Name) → given_by line.entry.reply ≡ o → registers_of (said ++ line ∷ []) ≡ registers_of said ++ cons_option (held_as line.words o) []
-registers-grow said line o is = filter_map-append held_by said (line ∷ []) ∙ ap (λ o. registers_of said ++ cons_option (held_as line.words o) []) is
+registers-grow : (said : List HistoryLine) (line : HistoryLine) (o : Option Name) → given_by line.entry.reply ≡ o → registers_of (said ++ line ∷ []) ≡ registers_of said ++ cons_option (register_as line.words o) []
+registers-grow said line o is = filter_map-append held_by said (line ∷ []) ∙ ap (λ o. registers_of said ++ cons_option (register_as line.words o) []) is
 
 -- a call that makes a row drops none
 makes_drops : (call : Call) (name : Name) → makes_row call ≡ true → drops name call ≡ false
@@ -93,7 +93,7 @@ and_first true b is = refl
 and_first false b is = absurd (false≢true (sym is))
 
 module _ (start old new : Seen) (commands : List Command) (names : List Assigned) (written written' : List Said) (said : List HistoryLine) (words : List Word) (call : Call) (answered : Answered) (i : ℕ)
-    (stands : Stands start old commands names written said) (is : IsAnswered old new call answered) (plain : is_plain call ≡ true)
+    (stands : HasSaid start old commands names written said) (is : IsAnswered old new call answered) (plain : is_plain call ≡ true)
     (given_before : (name : Name) → old.adds ≤ name.generation → drops name call ≡ false) where
   -- the line of the call
   abbrev pub said_line : HistoryLine
@@ -180,13 +180,13 @@ module _ (start old new : Seen) (commands : List Command) (names : List Assigned
 
   pub stands-after : (is_some answered.made ≡ true → (i < length commands) × (target_of words ≡ target_at commands i))
       → map written_as written' ≡ map written_as written ++ (answered.place, line_text answered.place old.number words answered.reply) ∷ []
-      → Stands start new commands (assigned_after answered.made i names) written' after
+      → HasSaid start new commands (assigned_after answered.made i names) written' after
   stands-after word text =
       let r = registers-after answered.made refl (λ made. (word made).1) in record {
         gained = gained-after;
         own = all-after (λ (line : HistoryLine). line.entry.session ≡ start.number) stands.own stands.number_is;
         told = all-after (λ (line : HistoryLine). told_of line.entry.reply ≡ Some line.reply) stands.told is.told;
-        full = all-after (λ (line : HistoryLine). IsFullBy start.manager line.entry.reply) stands.full (subst (λ m. IsFullBy m is.reply) stands.manager_is is.full);
+        full = all-after (λ (line : HistoryLine). IsFullBy start.manager line.entry.call line.entry.reply) stands.full (subst (λ m. IsFullBy m call is.reply) stands.manager_is is.full);
         rises = rises-after;
         texts = text ∙ ap (λ xs. xs ++ said_of said_line ∷ []) stands.texts ∙ sym (map-append said_of said (said_line ∷ []));
         manager_is = is.called.manager_is ∙ stands.manager_is;
@@ -201,12 +201,12 @@ module _ (start old new : Seen) (commands : List Command) (names : List Assigned
       }
 
 -- at the beginning nothing was said
-pub stands-first : (s : Seen) (commands : List Command) → s.rows ≡ [] → Stands s s commands [] [] []
+pub stands-first : (s : Seen) (commands : List Command) → s.rows ≡ [] → HasSaid s s commands [] [] []
 stands-first s commands empty = record {
   gained = sym (append-nil s.entries);
   own = All-nil (λ (line : HistoryLine). line.entry.session ≡ s.number);
   told = All-nil (λ (line : HistoryLine). told_of line.entry.reply ≡ Some line.reply);
-  full = All-nil (λ (line : HistoryLine). IsFullBy s.manager line.entry.reply);
+  full = All-nil (λ (line : HistoryLine). IsFullBy s.manager line.entry.call line.entry.reply);
   rises = tt;
   texts = refl;
   manager_is = refl;

@@ -3,6 +3,7 @@ use Rattle.std.specs.Prelude.{◌≡◌, ℕ, ◌+◌, ◌==◌, ◌≤◌, ◌�
 use Rattle.std.specs.Io.KnownBytes.{Consumes, IsAtEnd}
 use Rattle.std.specs.Fmt.{decimal}
 use Rattle.std.specs.List.{range_with_len}
+use Rattle.edge_bits.specs.declared.limits.TheConstants.{LONGEST_TEXT, USUAL_LIMIT}
 use Rattle.blif_net.specs.declared.faults.BlifFault.{BlifFault}
 use Rattle.blif_net.specs.declared.faults.FaultKind.{FaultKind as BlifKind}
 use Rattle.blif_net.specs.declared.faults.FaultKind.TheVariants as blif_kinds
@@ -12,7 +13,7 @@ use Rattle.blif_net.specs.Networks.{IsBlifText}
 use Rattle.command_words.specs.declared.order.Options.{Options}
 use Rattle.command_words.specs.declared.order.Order.{Order}
 use Rattle.command_words.specs.declared.order.Order.TheVariants.{Play, Build, Load, Gen}
-use Rattle.command_words.specs.Orders.{is_play, order_of, usual_limit}
+use Rattle.command_words.specs.Orders.{is_play, order_of}
 use Rattle.job_text.specs.declared.job.Job.{Job}
 use Rattle.job_text.specs.declared.faults.JobFault.{JobFault}
 use Rattle.job_text.specs.declared.faults.FaultKind.{FaultKind}
@@ -20,7 +21,7 @@ use Rattle.job_text.specs.declared.faults.FaultKind.TheVariants as kinds
 use Rattle.job_text.specs.Grammar.{IsJobText}
 use Rattle.job_text.specs.Faults.{IsFaultText}
 use Rattle.job_text.specs.Histories.{IsPlayed}
-use Rattle.byte_streams.specs.Causes.{Rose}
+use Rattle.byte_streams.specs.Causes.{FaultsRose}
 use Rattle.net_reports.specs.GenTexts.{gen_text}
 use Rattle.net_reports.specs.Reports.{IsReport, IsSummary, net_subject}
 use Rattle.net_jobs.specs.declared.status.Status.{Status}
@@ -48,7 +49,7 @@ PlaysAlone words = (is_play words ≡ true → asked_of words ≡ Some Play) × 
 pub record IsWhole (left rest : Option (List ℕ)) (bytes : List ℕ) : Type 0 where
   pub taken : Consumes left rest bytes
   pub end : IsAtEnd rest
-  pub short : length bytes ≤ 67108864
+  pub short : length bytes ≤ LONGEST_TEXT
 
 -- the name of a kind of fault of a job
 abbrev pub kind_word : FaultKind → List ℕ
@@ -111,7 +112,7 @@ IsFilled (Some (Build workers limit options)) left rest text =
     (bytes : List ℕ) × (net : Net) × IsWhole left rest bytes × IsBlifText bytes net × (text ≡ full_line (5 + length net.inputs + limit) (5 + length net.inputs + limit))
 IsFilled (Some (Load patterns)) left rest text = ⊥
 IsFilled (Some (Gen workers bits)) left rest text =
-    (rest ≡ left) × (net : Net) × IsBlifText (gen_text bits) net × (text ≡ full_line (5 + length net.inputs + usual_limit) (5 + length net.inputs + usual_limit))
+    (rest ≡ left) × (net : Net) × IsBlifText (gen_text bits) net × (text ≡ full_line (5 + length net.inputs + USUAL_LIMIT) (5 + length net.inputs + USUAL_LIMIT))
 
 -- a fault of the text of a network that was to be built
 abbrev pub IsFaulty : Option Order → Option (List ℕ) → Option (List ℕ) → List ℕ → Type 0
@@ -132,24 +133,24 @@ Due order left rest failed status.WriteFault text = ⊥
 Due order left rest failed status.Job text =
     (order ≡ Some Play) × (bytes : List ℕ) × (fault : JobFault) × IsWhole left rest bytes × IsFaultText bytes fault.line fault.what × (text ≡ fault_line fault)
 Due order left rest failed status.TooLong text =
-    Reads order × (bytes : List ℕ) × Consumes left rest bytes × (length bytes ≡ 67108865) × (text ≡ codes "fault: too long\n")
+    Reads order × (bytes : List ℕ) × Consumes left rest bytes × (length bytes ≡ LONGEST_TEXT + 1) × (text ≡ codes "fault: too long\n")
 
 -- Where the words are `play`, the source tells what it has left, which is the text of a job and not too long, and its count of
 -- faults did not rise, there is the history to tell, or want of memory.
 abbrev pub IsComplete : Type 0
 IsComplete = (bytes : List ℕ) (job : Job) (rest : Option (List ℕ)) (before now : ℕ) (ended : Status) (text : List ℕ)
-    → IsJobText bytes job → length bytes ≤ 67108864 → (Rose before now → ⊥)
-    → Due (Some Play) (Some bytes) rest (Rose before now) ended text → (ended ≡ status.Ok) ⊎ (ended ≡ status.Memory)
+    → IsJobText bytes job → length bytes ≤ LONGEST_TEXT → (FaultsRose before now → ⊥)
+    → Due (Some Play) (Some bytes) rest (FaultsRose before now) ended text → (ended ≡ status.Ok) ⊎ (ended ≡ status.Memory)
 
 -- Where the words ask for a network to be built, the source tells what it has left, which is the text of one and not too long, and
 -- its count of faults did not rise, there is the report to tell, that the manager is full, or want of memory.
 abbrev pub IsCompleteForBuilds : Type 0
 IsCompleteForBuilds = (workers limit : ℕ) (options : Options) (bytes : List ℕ) (net : Net) (rest : Option (List ℕ)) (before now : ℕ) (ended : Status) (text : List ℕ)
-    → IsBlifText bytes net → length bytes ≤ 67108864 → (Rose before now → ⊥)
-    → Due (Some (Build workers limit options)) (Some bytes) rest (Rose before now) ended text → (ended ≡ status.Ok) ⊎ ((ended ≡ status.Full) ⊎ (ended ≡ status.Memory))
+    → IsBlifText bytes net → length bytes ≤ LONGEST_TEXT → (FaultsRose before now → ⊥)
+    → Due (Some (Build workers limit options)) (Some bytes) rest (FaultsRose before now) ended text → (ended ≡ status.Ok) ⊎ ((ended ≡ status.Full) ⊎ (ended ≡ status.Memory))
 
 -- Where they ask for a network that is made, whatever the source has left and whether or not it fails, there is the summary to
 -- tell, that the manager is full, or want of memory.
 abbrev pub IsCompleteForMade : Type 0
 IsCompleteForMade = (workers bits : ℕ) (left rest : Option (List ℕ)) (before now : ℕ) (ended : Status) (text : List ℕ)
-    → Due (Some (Gen workers bits)) left rest (Rose before now) ended text → (ended ≡ status.Ok) ⊎ ((ended ≡ status.Full) ⊎ (ended ≡ status.Memory))
+    → Due (Some (Gen workers bits)) left rest (FaultsRose before now) ended text → (ended ≡ status.Ok) ⊎ ((ended ≡ status.Full) ⊎ (ended ≡ status.Memory))

@@ -49,7 +49,7 @@ pub record PlaysIn (m : Managed) (sections : List (List Command)) (old new : Lis
   pub lines : List HistoryLine
   pub sorted : IsByPlace (map entry_of lines)
   pub told : All (λ (line : HistoryLine). told_of line.entry.reply ≡ Some line.reply) lines
-  pub full : All (λ (line : HistoryLine). IsFullBy m line.entry.reply) lines
+  pub full : All (λ (line : HistoryLine). IsFullBy m line.entry.call line.entry.reply) lines
   pub no_other : All (λ (line : HistoryLine). line.entry.session < length sections) lines
   pub each : AllGain 0 sections old new lines
   pub bytes : text ≡ flat_map text_of lines

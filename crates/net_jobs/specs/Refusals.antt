@@ -1,7 +1,7 @@
 -- A refusal's status and line.
 use Rattle.std.specs.Prelude.{ℕ, List, codes}
-use Rattle.net_jobs.specs.declared.refusal.Refusal.{Refusal}
-use Rattle.net_jobs.specs.declared.refusal.Refusal.TheVariants as refusal
+use Rattle.net_jobs.specs.declared.refusal.RunRefusal.{RunRefusal}
+use Rattle.net_jobs.specs.declared.refusal.RunRefusal.TheVariants as refusal
 use Rattle.net_jobs.specs.declared.status.Status.{Status}
 use Rattle.net_jobs.specs.declared.status.Status.TheVariants as status
 use Rattle.dd_session.specs.declared.answers.Full.{Full}
@@ -9,7 +9,7 @@ use Rattle.net_builds.specs.declared.host.Stop.{Stop}
 use Rattle.net_builds.specs.declared.host.Stop.TheVariants as stops
 use Rattle.net_jobs.specs.Ends.{blif_line, fault_line, full_line}
 
-abbrev pub status_of : Refusal → Status
+abbrev pub status_of : RunRefusal → Status
 status_of refusal.Usage = status.Usage
 status_of refusal.Memory = status.Memory
 status_of refusal.Read = status.ReadFault
@@ -18,7 +18,7 @@ status_of (refusal.Job fault) = status.Job
 status_of (refusal.Blif fault) = status.Blif
 status_of (refusal.Full full) = status.Full
 
-abbrev pub refusal_line : Refusal → List ℕ
+abbrev pub refusal_line : RunRefusal → List ℕ
 refusal_line refusal.Usage = codes "fault: usage\n"
 refusal_line refusal.Memory = codes "fault: memory\n"
 refusal_line refusal.Read = codes "fault: read\n"
@@ -28,6 +28,6 @@ refusal_line (refusal.Blif fault) = blif_line fault
 refusal_line (refusal.Full full) = full_line full.in_use full.limit
 
 -- what a part's stop is told as
-abbrev pub part_refusal : Stop Full → Refusal
+abbrev pub part_refusal : Stop Full → RunRefusal
 part_refusal stops.Memory = refusal.Memory
 part_refusal (stops.Full full) = refusal.Full full

@@ -1,6 +1,7 @@
 -- How far a session has come: what its rows and its registers have to do with the lines said so far.
 use Rattle.std.specs.Prelude.{◌≡◌, ℕ, ◌+◌, ◌≤◌, ◌<◌, Bool, true, false, not, ◌&&◌, List, [], ◌∷◌, ◌++◌, length, map, take, Option, Some, None, slice_get, All, ◌-◌, is_some, ◌⊎◌, codes}
 use Rattle.std.specs.List.{list_any, list_all, range_with_len}
+use Rattle.edge_bits.specs.declared.limits.TheConstants.{CELLS}
 use Rattle.edge_bits.specs.declared.edges.Kind.{Kind}
 use Rattle.edge_bits.specs.declared.edges.Kind.TheVariants as kinds
 use Rattle.function_laws.specs.declared.history.Call.{Call}
@@ -17,10 +18,10 @@ use Rattle.job_text.specs.declared.job.Command.{Command}
 use Rattle.job_text.specs.declared.job.Counts.{Counts}
 use Rattle.job_text.specs.declared.job.Register.{Register}
 use Rattle.job_words.specs.Text.{Word}
-use Rattle.function_laws.specs.Makings.{Taken, bit, element, function, named, number, pairs, taken, variable, variables}
+use Rattle.function_laws.specs.Makings.{Taken, bit, element, function, literals, named, number, pairs, taken, value, variable, variables}
 use Rattle.job_text.specs.Places.{bits_for}
 use Rattle.job_text.specs.Grammar.{target_of}
-use Rattle.job_text.specs.Histories.{Held, HistoryLine, SayInOrder, drop_of, drops, given_by, left_of, line_text, registers_of, stops, told_of}
+use Rattle.job_text.specs.Histories.{NamedRegister, HistoryLine, SayInOrder, drop_of, drops, given_by, left_of, line_text, registers_of, stops, told_of}
 use Rattle.dd_session.specs.Managing.{stands_for}
 use Rattle.dd_session.specs.declared.answers.Placed.{Placed}
 use Rattle.dd_session.specs.Sessions.{Called, IsLiveAs, Seen}
@@ -43,15 +44,17 @@ abbrev pub IsHeldAs : Kind → Seen → List Assigned → ℕ → Type 0
 IsHeldAs k s names a = (a < length names) × IsLiveAs k s (name_at names a)
 
 -- the conditions of what an operation takes, over so many variables and elements: a register is live and of its kind, a variable or an
--- element is one of these, a number is one, and no variable is put twice
+-- element is one of these, a value is one of a leaf, and no variable is put twice; no call here asks for the literals of all variables
 abbrev pub CanTake : Counts → Seen → List Assigned → Taken ℕ → Type 0
 CanTake n s names (function k a) = IsHeldAs k s names a
 CanTake n s names (variable v) = v < n.vars
 CanTake n s names (element e) = e < n.elements
-CanTake n s names (number z) = is_value z ≡ true
+CanTake n s names (value z) = is_value z ≡ true
+CanTake n s names (number z) = Unit {0}
 CanTake n s names (bit b) = Unit {0}
 CanTake n s names (variables vs) = All (λ v. v < n.vars) vs
 CanTake n s names (pairs ps) = All (λ pair. (pair.0 < n.vars) × IsHeldAs kinds.Bdd s names pair.1) ps × (are_distinct (map (λ pair. pair.0) ps) ≡ true)
+CanTake n s names literals = ⊥
 
 abbrev pub CanTakeAll : Counts → Seen → List Assigned → List (Taken ℕ) → Type 0
 CanTakeAll n s names [] = Unit {0}
@@ -61,8 +64,8 @@ CanTakeAll n s names (one ∷ more) = CanTake n s names one × CanTakeAll n s na
 abbrev pub CanCall : Counts → Seen → List Assigned → Act → Type 0
 CanCall n s names (Makes making) = CanTakeAll n s names (taken making)
 CanCall n s names (Copy a) = (k : Kind) × IsHeldAs k s names a
-CanCall n s names (Fetch cell a) = (k : Kind) × IsHeldAs k s names a × (cell < 256)
-CanCall n s names (Post cell a) = (k : Kind) × IsHeldAs k s names a × (cell < 256)
+CanCall n s names (Fetch cell a) = (k : Kind) × IsHeldAs k s names a × (cell < CELLS)
+CanCall n s names (Post cell a) = (k : Kind) × IsHeldAs k s names a × (cell < CELLS)
 CanCall n s names Sweep = Unit {0}
 CanCall n s names (Drop a) = (k : Kind) × IsHeldAs k s names a
 CanCall n s names (Same a b) = (k : Kind) × IsHeldAs k s names a × IsHeldAs k s names b
@@ -96,8 +99,8 @@ makes_row calls.Sweep = false
 makes_row _ = true
 
 -- what a call made a row of, under a name that was told
-abbrev pub Gives : Seen → Seen → Call → Placed Name → Type 0
-Gives old new call placed = (reply : LawReply) × (told_of reply ≡ Some replies.Done) × (given_by reply ≡ Some placed.value) × Called old new call reply placed.place
+abbrev pub GivesName : Seen → Seen → Call → Placed Name → Type 0
+GivesName old new call placed = (reply : LawReply) × (told_of reply ≡ Some replies.Done) × (given_by reply ≡ Some placed.value) × Called old new call reply placed.place
 
 -- The call was made, and this was answered.
 pub record IsAnswered (old new : Seen) (call : Call) (answered : Answered) : Type 0 where
@@ -105,7 +108,7 @@ pub record IsAnswered (old new : Seen) (call : Call) (answered : Answered) : Typ
   pub called : Called old new call reply answered.place
   pub told : told_of reply ≡ Some answered.reply
   pub gives : given_by reply ≡ answered.made
-  pub full : IsFullBy old.manager reply
+  pub full : IsFullBy old.manager call reply
   pub made_if : is_some answered.made ≡ (makes_row call && not (stops answered.reply))
 
 -- the session is of the same manager, and has the same number
@@ -121,7 +124,7 @@ abbrev pub target_at : List Command → ℕ → Word
 target_at commands i = target_in (slice_get commands i)
 
 -- the register, by its word
-abbrev pub register_of : List Command → Assigned → Held
+abbrev pub register_of : List Command → Assigned → NamedRegister
 register_of commands assigned = record { word = target_at commands assigned.command; name = assigned.name }
 
 -- the registers after one that the command at place i assigned, or none
@@ -143,11 +146,11 @@ AreWithin commands names = All (λ (a : Assigned). a.command < length commands) 
 
 -- These lines were said. Their entries are those that the session gained, in the order of their places; `names` has the
 -- registers that they assigned, of which those are live that they did not drop.
-pub record Stands (old now : Seen) (commands : List Command) (names : List Assigned) (written : List Said) (said : List HistoryLine) : Type 0 where
+pub record HasSaid (old now : Seen) (commands : List Command) (names : List Assigned) (written : List Said) (said : List HistoryLine) : Type 0 where
   pub gained : now.entries ≡ old.entries ++ map entry_of said
   pub own : All (λ (line : HistoryLine). line.entry.session ≡ old.number) said
   pub told : All (λ (line : HistoryLine). told_of line.entry.reply ≡ Some line.reply) said
-  pub full : All (λ (line : HistoryLine). IsFullBy old.manager line.entry.reply) said
+  pub full : All (λ (line : HistoryLine). IsFullBy old.manager line.entry.call line.entry.reply) said
   pub rises : Rises (map entry_of said)
   pub texts : map written_as written ≡ map said_of said
   pub manager_is : now.manager ≡ old.manager
@@ -201,5 +204,5 @@ spoken line = (line.words, line.entry.call)
 -- The registers that are left were dropped, in order.
 pub record DropsTheRest (start new : Seen) (commands : List Command) (after : Script) (said : List HistoryLine) : Type 0 where
   pub dropped : List HistoryLine
-  pub stands : Stands start new commands after.names.items after.lines.items (said ++ dropped)
+  pub stands : HasSaid start new commands after.names.items after.lines.items (said ++ dropped)
   pub rest : map spoken dropped ≡ map drop_of (left_of said)

@@ -1,5 +1,7 @@
 -- What the part of one session says of a play.
 use Rattle.std.specs.Prelude.{◌≡◌, ℕ, ◌<◌, ◌^◌, List, [], ◌∷◌, ◌++◌, map, length, All, Some}
+use Rattle.edge_bits.specs.declared.limits.TheConstants.{MOST_ROWS}
+use Rattle.function_laws.specs.declared.history.Call.{Call}
 use Rattle.function_laws.specs.declared.history.Entry.{Entry}
 use Rattle.function_laws.specs.declared.history.Reply.{Reply as Answer}
 use Rattle.job_text.specs.declared.job.Command.{Command}
@@ -18,7 +20,7 @@ pub record CanPlay (m : Managed) (commands : List Command) (s : Seen) : Type 0 w
   pub own : s.manager ≡ m
   pub empty : s.rows ≡ []
   pub say : CommandsSay (counts_of m) [] commands
-  pub few : length commands < 2 ^ 25
+  pub few : length commands < MOST_ROWS
   pub calls : length s.entries < 2 ^ 47
 
 abbrev pub entry_of : HistoryLine → Entry
@@ -37,9 +39,9 @@ abbrev pub Rises : List Entry → Type 0
 Rises [] = Unit {0}
 Rises (e ∷ es) = All (λ (f : Entry). e.place < f.place) es × Rises es
 
--- full is told where all slots are in use, and one more was needed
-abbrev pub IsFullBy : Managed → Answer → Type 0
-IsFullBy m reply = IsFullOf m.limit reply
+-- full is told of a call where all slots are in use, and one more was needed
+abbrev pub IsFullBy : Managed → Call → Answer → Type 0
+IsFullBy m call reply = IsFullOf m.limit call reply
 
 -- The session said the commands, up to the first that stopped it or to their end, and dropped what was left: its entries
 -- grew by those of these lines, whose texts were written with their places.
@@ -49,7 +51,7 @@ pub record PlaysSection (commands : List Command) (old new : Seen) (written : Li
   pub own : All (λ (line : HistoryLine). line.entry.session ≡ old.number) lines
   pub told : All (λ (line : HistoryLine). told_of line.entry.reply ≡ Some line.reply) lines
   pub says : IsScript old.adds commands lines
-  pub full : All (λ (line : HistoryLine). IsFullBy old.manager line.entry.reply) lines
+  pub full : All (λ (line : HistoryLine). IsFullBy old.manager line.entry.call line.entry.reply) lines
   pub rises : Rises (map entry_of lines)
   pub texts : map written_as written ≡ map said_of lines
   pub manager_is : new.manager ≡ old.manager

@@ -5,7 +5,7 @@ ghost use Rattle.function_laws.specs.declared.history.Call.{Call};
 ghost use Rattle.function_laws.specs.declared.history.Reply.TheVariants as laws;
 ghost use Rattle.dd_session.specs.Managing.{is_posted};
 ghost use Rattle.dd_session.specs.Sessions.{Called, Denies, Seen, told_as};
-ghost use Rattle.net_jobs.specs.Saying.{Gives, IsAnswered, makes_row};
+ghost use Rattle.net_jobs.specs.Saying.{GivesName, IsAnswered, makes_row};
 
 use dd_session::{Again, Fetched, Overflow, Placed, Refusal};
 use edge_bits::Memory;
@@ -22,7 +22,7 @@ pub struct Answered {
 
 /// What an operation that makes a row is answered.
 pub fn answer_of(made: Result<Placed<Name>, Refusal>) -> Result<Answered, Memory>
-    ensures { IfOk result (λ answered. (old new : Seen) (call : Call) → makes_row call ≡ true → MatchResult made (Gives old new call) (Denies old new call) → IsAnswered old new call answered) }
+    ensures { IfOk result (λ answered. (old new : Seen) (call : Call) → makes_row call ≡ true → MatchResult made (GivesName old new call) (Denies old new call) → IsAnswered old new call answered) }
 {
     match made {
         Ok(placed) => Ok(Answered {

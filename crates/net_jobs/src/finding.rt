@@ -1,11 +1,12 @@
 //! What the commands tell: of what the source holds, or of a network that is made.
 
 ghost use Rattle.std.specs.Prelude.{◌≡◌, ◌<◌, ◌≤◌, ◌^◌, All, length, false, ℕ, List as ListOf, Option, Some, IfOk, IfErr, string_bytes};
+ghost use Rattle.edge_bits.specs.declared.limits.TheConstants.{MOST_BITS, MOST_LIMIT, MOST_ROWS};
 ghost use Rattle.command_words.specs.declared.order.Order.{Order};
 ghost use Rattle.command_words.specs.declared.order.Order.TheVariants.{Build, Gen, Play};
 ghost use Rattle.job_text.specs.Grammar.{IsJob};
 ghost use Rattle.job_text.specs.Histories.{IsPlayed, left_text};
-ghost use Rattle.byte_streams.specs.Causes.{Rose};
+ghost use Rattle.byte_streams.specs.Causes.{FaultsRose};
 ghost use Rattle.net_jobs.specs.Ends.{Due, IsWhole, Reads};
 ghost use Rattle.net_jobs.specs.Refusals.{part_refusal, refusal_line, status_of};
 ghost use Rattle.net_jobs.specs.declared.status.Status.{Status};
@@ -13,21 +14,18 @@ ghost use Rattle.net_jobs.specs.declared.status.Status.{Status};
 use crate::gate::Gate;
 use crate::networks::{PartStop, report_of, summary_of};
 use crate::playing::play;
-use crate::refusal::Refusal;
+use crate::refusal::RunRefusal;
 use blif_net::{BlifError, networks_are_bounded, read};
 use byte_streams::{ReadStop, Source, read_to_end};
 use command_words::Options;
 use dd_session::{Config, Manager, OpenFault};
-use edge_bits::Memory;
+use edge_bits::{LONGEST_TEXT, Memory};
 use job_text::{Job, JobError, parse};
 use std::alloc::{AllocError, Global};
 use std::hash::RandomState;
 use std::random::RandomSource;
 use std::sync::Wait;
 use std::thread::Threads;
-
-/// The most bytes of a text that is read.
-const MAX_LEN: usize = 67_108_864;
 
 /// The last line of a history: the number of slots in use at its end.
 fn left_line(alloc: Global, count: u32) -> Result<String, AllocError>
@@ -45,7 +43,7 @@ fn history<R: Threads + Wait + Sync, G: Gate>(
     gate: &G,
 ) -> Result<Vec<u8>, Memory>
     requires job { IsJob job.now }
-    requires few { All (λ commands. length commands < 2 ^ 25) job.now.sections }
+    requires few { All (λ commands. length commands < MOST_ROWS) job.now.sections }
     ensures { IfOk result (λ text. IsPlayed job.now text.items) }
 {
     let config = Config {
@@ -65,16 +63,16 @@ fn history<R: Threads + Wait + Sync, G: Gate>(
 }
 
 /// The whole text of the source.
-fn whole_text<S: Source>(alloc: Global, source: &mut S) -> Result<Vec<u8>, Refusal>
+fn whole_text<S: Source>(alloc: Global, source: &mut S) -> Result<Vec<u8>, RunRefusal>
     ensures text { IfOk result (λ text. IsWhole (S.left source.old) (S.left source.new) text.items) }
     ensures refusal { IfErr result (λ refusal. (order : Order) → Reads (Some order) → Due (Some order) (S.left source.old) (S.left source.new)
-        (Rose (S.faults source.old) (S.faults source.new)) (status_of refusal) (refusal_line refusal)) }
+        (FaultsRose (S.faults source.old) (S.faults source.new)) (status_of refusal) (refusal_line refusal)) }
 {
-    match read_to_end(alloc, MAX_LEN, source) {
+    match read_to_end(alloc, LONGEST_TEXT as usize, source) {
         Ok(text) => Ok(text),
-        Err(ReadStop::Memory) => Err(Refusal::Memory),
-        Err(ReadStop::Failed) => Err(Refusal::Read),
-        Err(ReadStop::TooLong) => Err(Refusal::TooLong),
+        Err(ReadStop::Memory) => Err(RunRefusal::Memory),
+        Err(ReadStop::Failed) => Err(RunRefusal::Read),
+        Err(ReadStop::TooLong) => Err(RunRefusal::TooLong),
     }
 }
 
@@ -84,31 +82,31 @@ pub fn play_source<R: Threads + Wait + Sync, S: Source, G: Gate>(
     alloc: Global,
     source: &mut S,
     gate: &G,
-) -> Result<Vec<u8>, Refusal>
+) -> Result<Vec<u8>, RunRefusal>
     ensures text { IfOk result (λ text. Due (Some Play) (S.left source.old) (S.left source.new)
-        (Rose (S.faults source.old) (S.faults source.new)) Status.Ok text.items) }
+        (FaultsRose (S.faults source.old) (S.faults source.new)) Status.Ok text.items) }
     ensures refusal { IfErr result (λ refusal. Due (Some Play) (S.left source.old) (S.left source.new)
-        (Rose (S.faults source.old) (S.faults source.new)) (status_of refusal) (refusal_line refusal)) }
+        (FaultsRose (S.faults source.old) (S.faults source.new)) (status_of refusal) (refusal_line refusal)) }
 {
     let text = whole_text(alloc, source)?;
     let job = match parse(alloc, &text) {
         Ok(job) => job,
-        Err(JobError::Memory) => return Err(Refusal::Memory),
-        Err(JobError::Fault(fault)) => return Err(Refusal::Job(fault)),
+        Err(JobError::Memory) => return Err(RunRefusal::Memory),
+        Err(JobError::Fault(fault)) => return Err(RunRefusal::Job(fault)),
     };
     match history(rt, alloc, &job, gate) {
         Ok(text) => Ok(text),
-        Err(Memory) => Err(Refusal::Memory),
+        Err(Memory) => Err(RunRefusal::Memory),
     }
 }
 
 /// Why a part has nothing to tell.
-fn refusal_of(stop: PartStop) -> Refusal
+fn refusal_of(stop: PartStop) -> RunRefusal
     ensures { result ≡ part_refusal stop }
 {
     match stop {
-        PartStop::Memory => Refusal::Memory,
-        PartStop::Full(full) => Refusal::Full(full),
+        PartStop::Memory => RunRefusal::Memory,
+        PartStop::Full(full) => RunRefusal::Full(full),
     }
 }
 
@@ -120,24 +118,24 @@ pub fn build_source<R: Wait + RandomSource, S: Source, G: Gate>(
     options: &Options,
     source: &mut S,
     gate: &G,
-) -> Result<Vec<u8>, Refusal>
-    requires limit { limit ≤ 8000000 }
+) -> Result<Vec<u8>, RunRefusal>
+    requires limit { limit ≤ MOST_LIMIT }
     requires unsifted { options.now.sift ≡ false }
     requires unstored { options.now.store ≡ false }
     ensures text { IfOk result (λ text. (workers : ℕ) → Due (Some (Build workers limit options.now)) (S.left source.old) (S.left source.new)
-        (Rose (S.faults source.old) (S.faults source.new)) Status.Ok text.items) }
+        (FaultsRose (S.faults source.old) (S.faults source.new)) Status.Ok text.items) }
     ensures refusal { IfErr result (λ refusal. (workers : ℕ) → Due (Some (Build workers limit options.now)) (S.left source.old) (S.left source.new)
-        (Rose (S.faults source.old) (S.faults source.new)) (status_of refusal) (refusal_line refusal)) }
+        (FaultsRose (S.faults source.old) (S.faults source.new)) (status_of refusal) (refusal_line refusal)) }
 {
     let text = whole_text(alloc, source)?;
     let Ok(keys) = RandomState::new(rt) else {
         // No status tells that there are no keys.
-        return Err(Refusal::Memory);
+        return Err(RunRefusal::Memory);
     };
     let net = match read(alloc, keys, &text) {
         Ok(net) => net,
-        Err(BlifError::Memory) => return Err(Refusal::Memory),
-        Err(BlifError::Fault(fault)) => return Err(Refusal::Blif(fault)),
+        Err(BlifError::Memory) => return Err(RunRefusal::Memory),
+        Err(BlifError::Fault(fault)) => return Err(RunRefusal::Blif(fault)),
     };
     networks_are_bounded();
     match report_of(rt, alloc, &net, limit, options, gate) {
@@ -152,10 +150,10 @@ pub fn made_summary<R: Wait + RandomSource, G: Gate>(
     alloc: Global,
     bits: u32,
     gate: &G,
-) -> Result<Vec<u8>, Refusal>
-    requires { bits ≤ 256 }
-    ensures text { IfOk result (λ text. (workers before now : ℕ) (left : Option (ListOf ℕ)) → Due (Some (Gen workers bits)) left left (Rose before now) Status.Ok text.items) }
-    ensures refusal { IfErr result (λ refusal. (workers before now : ℕ) (left : Option (ListOf ℕ)) → Due (Some (Gen workers bits)) left left (Rose before now) (status_of refusal) (refusal_line refusal)) }
+) -> Result<Vec<u8>, RunRefusal>
+    requires { bits ≤ MOST_BITS }
+    ensures text { IfOk result (λ text. (workers before now : ℕ) (left : Option (ListOf ℕ)) → Due (Some (Gen workers bits)) left left (FaultsRose before now) Status.Ok text.items) }
+    ensures refusal { IfErr result (λ refusal. (workers before now : ℕ) (left : Option (ListOf ℕ)) → Due (Some (Gen workers bits)) left left (FaultsRose before now) (status_of refusal) (refusal_line refusal)) }
 {
     match summary_of(rt, alloc, bits, gate) {
         Ok(text) => Ok(text),

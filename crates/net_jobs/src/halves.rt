@@ -2,6 +2,7 @@
 
 ghost use Rattle.std.specs.Prelude.{◌≡◌, ◌+◌, ◌<◌, ◌≤◌, [], ◌∷◌, ◌++◌, IfOk, length};
 ghost use Rattle.std.specs.Prelude.{List as ListOf};
+ghost use Rattle.edge_bits.specs.declared.limits.TheConstants.{MOST_SESSIONS};
 ghost use denote.Param.Send.{IsSync};
 ghost use Rattle.net_jobs.specs.declared.said.Said.{Said as Written};
 ghost use Rattle.net_jobs.specs.Plays.{AllCan, AllPlay, AreNumbered};
@@ -30,7 +31,7 @@ pub fn parts<R: Threads + Wait + Sync, G: Gate>(
 ) -> Result<Vec<Said>, Memory>
     requires can { AllCan manager.now sections.now sessions.old }
     requires numbers { AreNumbered first sessions.old }
-    requires few { first + length sessions.old ≤ 64 }
+    requires few { first + length sessions.old ≤ MOST_SESSIONS }
     ensures { IfOk result (λ said. AllPlay sections.now sessions.old sessions.new said.items) }
 {
     if sessions.is_empty() {
@@ -72,16 +73,16 @@ fn both_halves<R: Threads + Wait + Sync, G: Gate>(
     high: &mut [Session],
 ) -> Result<Vec<Said>, Memory>
     requires some { (0 < length low.old) × (0 < length high.old) }
-    requires low { AllCan manager.now low_sections.now low.old × AreNumbered first low.old × (first + length low.old ≤ 64) }
-    requires high { AllCan manager.now high_sections.now high.old × AreNumbered up high.old × (up + length high.old ≤ 64) }
+    requires low { AllCan manager.now low_sections.now low.old × AreNumbered first low.old × (first + length low.old ≤ MOST_SESSIONS) }
+    requires high { AllCan manager.now high_sections.now high.old × AreNumbered up high.old × (up + length high.old ≤ MOST_SESSIONS) }
     ensures { IfOk result (λ said. (here : ListOf Written) × (rest : ListOf Written) × (said.items ≡ here ++ rest) × AllPlay low_sections.now low.old low.new here × AllPlay high_sections.now high.old high.new rest) }
 {
     let mut front = || -> Result<Vec<Said>, Memory>
-        requires { IsSync R.row × IsSync G.row × AllCan manager.now low_sections.now low.now × AreNumbered first low.now × (first + length low.now ≤ 64) }
+        requires { IsSync R.row × IsSync G.row × AllCan manager.now low_sections.now low.now × AreNumbered first low.now × (first + length low.now ≤ MOST_SESSIONS) }
         ensures { IfOk result (λ said. AllPlay low_sections.entry.now low.entry.now low.exit.now said.items) }
     { parts(rt, alloc, manager, gate, first, low_sections, low) };
     let mut back = || -> Result<Vec<Said>, Memory>
-        requires { IsSync R.row × IsSync G.row × AllCan manager.now high_sections.now high.now × AreNumbered up high.now × (up + length high.now ≤ 64) }
+        requires { IsSync R.row × IsSync G.row × AllCan manager.now high_sections.now high.now × AreNumbered up high.now × (up + length high.now ≤ MOST_SESSIONS) }
         ensures { IfOk result (λ said. AllPlay high_sections.entry.now high.entry.now high.exit.now said.items) }
     { parts(rt, alloc, manager, gate, up, high_sections, high) };
     let (a, b) = join_mut(rt, &mut front, &mut back);

@@ -1,6 +1,7 @@
 //! The sessions of a manager, as those that build the functions of networks.
 
 ghost use Rattle.std.specs.Prelude.{◌≡◌, ◌<◌, ◌≤◌, ◌^◌, length};
+ghost use Rattle.edge_bits.specs.declared.limits.TheConstants.{MOST_ROWS};
 ghost use Rattle.dd_session.specs.Managing.{is_posted};
 ghost use Rattle.net_builds.specs.Standings.{Fetches, IsLive};
 ghost use Rattle.net_jobs.specs.Hosts.{named_by, standing_of};
@@ -63,7 +64,7 @@ fn fetch_row<R: Wait>(
     other: Name,
 ) -> Placed<Fetched>
     requires own { session.old.manager ≡ manager.now }
-    requires room { length session.old.rows < 2 ^ 25 }
+    requires room { length session.old.rows < MOST_ROWS }
     requires spare { 1 ≤ session.old.spare }
     requires live { IsLive (standing_of session.old) other }
     ensures own { session.new.manager ≡ session.old.manager }

@@ -1,10 +1,10 @@
 //! Networks that are built by the sessions of a manager, and what is told of them.
 
 ghost use Rattle.std.specs.Prelude.{◌≡◌, ◌⊎◌, ◌+◌, ◌*◌, ◌≤◌, [], false, length, map, All, IfErr, IfOk};
+ghost use Rattle.edge_bits.specs.declared.limits.TheConstants.{MOST_BITS, MOST_LIMIT, MOST_VARIABLES};
 ghost use Rattle.blif_net.specs.Bounds.{IsBounded};
 ghost use Rattle.blif_net.specs.declared.net.Net.{Net as NetOf};
 ghost use Rattle.blif_net.specs.Networks.{IsBlifText};
-ghost use Rattle.command_words.specs.Orders.{usual_limit};
 ghost use Rattle.net_builds.specs.Builds.{Builds, Reports, SumsUp};
 ghost use Rattle.net_reports.specs.GenTexts.{gen_text};
 ghost use Rattle.net_reports.specs.Reports.{IsReport, IsSummary, net_subject};
@@ -17,16 +17,13 @@ use crate::hosting::SessionHost;
 use blif_net::{BlifError, Net, networks_are_bounded, read};
 use command_words::Options;
 use dd_session::{Config, Full, Manager, OpenFault, Session};
-use edge_bits::Memory;
+use edge_bits::{Memory, USUAL_LIMIT};
 use net_builds::{Stop, build_report, build_summary, reports_are_true, summaries_are_true};
 use net_reports::gen_text;
 use std::alloc::Global;
 use std::hash::RandomState;
 use std::random::RandomSource;
 use std::sync::Wait;
-
-/// How many slots there are beyond the permanent ones, where nothing is said.
-const USUAL_LIMIT: u32 = 262_144;
 
 /// Why a part has nothing to tell: want of memory, or a call of a session was refused for a full node table.
 pub type PartStop = Stop<Full>;
@@ -65,7 +62,7 @@ pub fn build<R: Wait, G: Gate>(
 /// The network that is made for so many bits. Its text is read without a fault; what the prover does not know of that is
 /// answered as want of memory.
 fn made<R: RandomSource>(rt: &R, alloc: Global, bits: u32) -> Result<Net, Memory>
-    requires { bits ≤ 256 }
+    requires { bits ≤ MOST_BITS }
     ensures text { IfOk result (λ net. IsBlifText (gen_text bits) net) }
     ensures inputs { IfOk result (λ net. length net.inputs ≡ 2 * bits) }
 {
@@ -91,7 +88,7 @@ pub fn generate<R: Wait + RandomSource, G: Gate>(
 ) -> Result<Vec<u8>, PartStop>
     requires one { length sessions.old ≡ 1 }
     requires fresh { All (IsFreshOf manager.now) sessions.old }
-    requires bits { bits ≤ 256 }
+    requires bits { bits ≤ MOST_BITS }
     requires vars { manager.now.vars ≡ 2 * bits }
     ensures own { All (λ s. s.manager ≡ manager.now) sessions.new }
     ensures built { IfOk result (λ text. (net : NetOf) × IsBlifText (gen_text bits) net × (length net.inputs ≡ 2 * bits) × Builds (SumsUp net) net (map standing_of sessions.old) (map standing_of sessions.new) text.items) }
@@ -112,8 +109,8 @@ pub fn generate<R: Wait + RandomSource, G: Gate>(
 
 /// A manager with one session, for so many inputs and so many slots beyond the permanent ones.
 fn opened(alloc: Global, inputs: u32, limit: u32) -> Result<(Manager, Vec<Session>), Memory>
-    requires inputs { inputs ≤ 1024 }
-    requires limit { limit ≤ 8000000 }
+    requires inputs { inputs ≤ MOST_VARIABLES }
+    requires limit { limit ≤ MOST_LIMIT }
     ensures { IfOk result (λ r. IsOpenedFor inputs limit r.0 r.1.items) }
 {
     let config = Config {
@@ -139,7 +136,7 @@ pub fn report_of<R: Wait, G: Gate>(
     gate: &G,
 ) -> Result<Vec<u8>, PartStop>
     requires bounded { IsBounded net.now }
-    requires limit { limit ≤ 8000000 }
+    requires limit { limit ≤ MOST_LIMIT }
     requires unsifted { options.now.sift ≡ false }
     requires unstored { options.now.store ≡ false }
     ensures report { IfOk result (λ text. IsReport (net_subject net.now (rising net.now) options.now.patterns) text.items) }
@@ -161,9 +158,9 @@ pub fn summary_of<R: Wait + RandomSource, G: Gate>(
     bits: u32,
     gate: &G,
 ) -> Result<Vec<u8>, PartStop>
-    requires { bits ≤ 256 }
+    requires { bits ≤ MOST_BITS }
     ensures summary { IfOk result (λ text. (net : NetOf) × IsBlifText (gen_text bits) net × IsSummary (net_subject net (rising net) []) text.items) }
-    ensures full { IfErr result (IsFilledBy (λ slots. (net : NetOf) × IsBlifText (gen_text bits) net × (slots ≡ 5 + length net.inputs + usual_limit))) }
+    ensures full { IfErr result (IsFilledBy (λ slots. (net : NetOf) × IsBlifText (gen_text bits) net × (slots ≡ 5 + length net.inputs + USUAL_LIMIT))) }
 {
     let Ok((manager, mut sessions)) = opened(alloc, 2 * bits, USUAL_LIMIT) else {
         return Err(PartStop::Memory);

@@ -7,7 +7,7 @@ ghost use Rattle.function_laws.specs.declared.making.Making.TheVariants as makes
 ghost use Rattle.function_laws.specs.Makings.{named, taken};
 ghost use Rattle.dd_session.specs.Sessions.{Called, Denies, HasRoom, told_as};
 ghost use Rattle.net_jobs.specs.Sections.{counts_of};
-ghost use Rattle.net_jobs.specs.Saying.{CanTakeAll, Gives, name_at};
+ghost use Rattle.net_jobs.specs.Saying.{CanTakeAll, GivesName, name_at};
 
 use crate::registers::{Assigned, at, with_names};
 use dd_session::{H, Manager, Overflow, Placed, Refusal, Session};
@@ -29,7 +29,7 @@ fn vector_compose<R: Wait>(
     requires own { session.old.manager ≡ manager.now }
     requires room { HasRoom session.old }
     requires can { CanTakeAll (counts_of session.old.manager) session.old names.now (taken (makes.Bdd (bdds.VectorCompose a pairs.now))) }
-    ensures { MatchResult result (Gives session.old session.new (calls.Makes (named (name_at names.now) (makes.Bdd (bdds.VectorCompose a pairs.now))))) (Denies session.old session.new (calls.Makes (named (name_at names.now) (makes.Bdd (bdds.VectorCompose a pairs.now))))) }
+    ensures { MatchResult result (GivesName session.old session.new (calls.Makes (named (name_at names.now) (makes.Bdd (bdds.VectorCompose a pairs.now))))) (Denies session.old session.new (calls.Makes (named (name_at names.now) (makes.Bdd (bdds.VectorCompose a pairs.now))))) }
 {
     match with_names(alloc, names, pairs) {
         Ok(named) => session.vector_compose(rt, manager, at(names, a), &named),
@@ -49,7 +49,7 @@ pub fn make_bdd<R: Wait>(
     requires own { session.old.manager ≡ manager.now }
     requires room { HasRoom session.old }
     requires can { CanTakeAll (counts_of session.old.manager) session.old names.now (taken (makes.Bdd making.now)) }
-    ensures { MatchResult result (Gives session.old session.new (calls.Makes (named (name_at names.now) (makes.Bdd making.now)))) (Denies session.old session.new (calls.Makes (named (name_at names.now) (makes.Bdd making.now)))) }
+    ensures { MatchResult result (GivesName session.old session.new (calls.Makes (named (name_at names.now) (makes.Bdd making.now)))) (Denies session.old session.new (calls.Makes (named (name_at names.now) (makes.Bdd making.now)))) }
 {
     match making {
         BddMaking::One => session.one(rt, manager),
@@ -90,6 +90,8 @@ pub fn make_bdd<R: Wait>(
         BddMaking::Support(a) => session.support(rt, manager, at(names, *a)),
         BddMaking::AtLeast(a, value) => session.at_least(rt, manager, at(names, *a), *value),
         BddMaking::Pattern(a) => session.pattern(rt, manager, at(names, *a)),
+        // No command makes the function of a cover.
+        BddMaking::CoverOf(_) => unreachable!(),
     }
 }
 
@@ -104,7 +106,7 @@ pub fn make_add<R: Wait>(
     requires own { session.old.manager ≡ manager.now }
     requires room { HasRoom session.old }
     requires can { CanTakeAll (counts_of session.old.manager) session.old names.now (taken (makes.Add making.now)) }
-    ensures { MatchResult result (Gives session.old session.new (calls.Makes (named (name_at names.now) (makes.Add making.now)))) (Denies session.old session.new (calls.Makes (named (name_at names.now) (makes.Add making.now)))) }
+    ensures { MatchResult result (GivesName session.old session.new (calls.Makes (named (name_at names.now) (makes.Add making.now)))) (Denies session.old session.new (calls.Makes (named (name_at names.now) (makes.Add making.now)))) }
 {
     match making {
         AddMaking::Constant(value) => session.constant(rt, manager, *value),
@@ -154,7 +156,7 @@ pub fn make_zdd<R: Wait>(
     requires own { session.old.manager ≡ manager.now }
     requires room { HasRoom session.old }
     requires can { CanTakeAll (counts_of session.old.manager) session.old names.now (taken (makes.Zdd making.now)) }
-    ensures { MatchResult result (Gives session.old session.new (calls.Makes (named (name_at names.now) (makes.Zdd making.now)))) (Denies session.old session.new (calls.Makes (named (name_at names.now) (makes.Zdd making.now)))) }
+    ensures { MatchResult result (GivesName session.old session.new (calls.Makes (named (name_at names.now) (makes.Zdd making.now)))) (Denies session.old session.new (calls.Makes (named (name_at names.now) (makes.Zdd making.now)))) }
 {
     match making {
         ZddMaking::Empty => session.empty(rt, manager),
@@ -168,5 +170,7 @@ pub fn make_zdd<R: Wait>(
         ZddMaking::Subset1(a, e) => session.subset1(rt, manager, at(names, *a), *e),
         ZddMaking::Subset0(a, e) => session.subset0(rt, manager, at(names, *a), *e),
         ZddMaking::Change(a, e) => session.change(rt, manager, at(names, *a), *e),
+        // No command makes a cover.
+        ZddMaking::Isop(_, _) => unreachable!(),
     }
 }

@@ -2,6 +2,7 @@
 
 ghost use Rattle.std.specs.Prelude.{◌≡◌, ◌≤◌, IfOk, length};
 ghost use Rattle.std.specs.List.{flat_map};
+ghost use Rattle.edge_bits.specs.declared.limits.TheConstants.{MOST_SESSIONS};
 ghost use Rattle.net_jobs.specs.Plays.{AllCan, AreNumbered, PlaysIn};
 
 use crate::gate::Gate;
@@ -37,7 +38,7 @@ pub fn play<R: Threads + Wait + Sync, G: Gate>(
 ) -> Result<Vec<u8>, Memory>
     requires can { AllCan manager.now job.now.sections sessions.old }
     requires numbers { AreNumbered 0 sessions.old }
-    requires few { length sessions.old ≤ 64 }
+    requires few { length sessions.old ≤ MOST_SESSIONS }
     ensures { IfOk result (λ text. PlaysIn manager.now job.now.sections sessions.old sessions.new text.items) }
 {
     let sections = job.sections.as_slice();

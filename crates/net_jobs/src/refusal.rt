@@ -13,7 +13,7 @@ use std::alloc::{AllocError, Global};
 
 /// Why there is no history, no report and no summary to tell.
 #[derive(Debug, Clone, Copy, PartialEq, Eq)]
-pub enum Refusal {
+pub enum RunRefusal {
     Usage,
     Memory,
     Read,
@@ -23,19 +23,19 @@ pub enum Refusal {
     Full(Full),
 }
 
-impl Refusal {
+impl RunRefusal {
     /// The status with which a refused run ends.
     pub fn status(self) -> Status
         ensures { result ≡ status_of self }
     {
         match self {
-            Refusal::Usage => Status::Usage,
-            Refusal::Memory => Status::Memory,
-            Refusal::Read => Status::ReadFault,
-            Refusal::TooLong => Status::TooLong,
-            Refusal::Job(_) => Status::Job,
-            Refusal::Blif(_) => Status::Blif,
-            Refusal::Full(_) => Status::Full,
+            RunRefusal::Usage => Status::Usage,
+            RunRefusal::Memory => Status::Memory,
+            RunRefusal::Read => Status::ReadFault,
+            RunRefusal::TooLong => Status::TooLong,
+            RunRefusal::Job(_) => Status::Job,
+            RunRefusal::Blif(_) => Status::Blif,
+            RunRefusal::Full(_) => Status::Full,
         }
     }
 
@@ -44,13 +44,13 @@ impl Refusal {
         ensures { IfOk result (λ line. string_bytes line ≡ refusal_line self) }
     {
         match self {
-            Refusal::Usage => String::from_str(alloc, "fault: usage\n"),
-            Refusal::Memory => String::from_str(alloc, "fault: memory\n"),
-            Refusal::Read => String::from_str(alloc, "fault: read\n"),
-            Refusal::TooLong => String::from_str(alloc, "fault: too long\n"),
-            Refusal::Job(fault) => job_line(alloc, fault.line, kind_name(fault.what)),
-            Refusal::Blif(fault) => blif_line(alloc, fault.line, blif_name(fault.what)),
-            Refusal::Full(full) => full_line(alloc, full.in_use, full.limit),
+            RunRefusal::Usage => String::from_str(alloc, "fault: usage\n"),
+            RunRefusal::Memory => String::from_str(alloc, "fault: memory\n"),
+            RunRefusal::Read => String::from_str(alloc, "fault: read\n"),
+            RunRefusal::TooLong => String::from_str(alloc, "fault: too long\n"),
+            RunRefusal::Job(fault) => job_line(alloc, fault.line, kind_name(fault.what)),
+            RunRefusal::Blif(fault) => blif_line(alloc, fault.line, blif_name(fault.what)),
+            RunRefusal::Full(full) => full_line(alloc, full.in_use, full.limit),
         }
     }
 }

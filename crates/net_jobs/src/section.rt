@@ -1,11 +1,12 @@
 //! The part of one session of a play: its commands, one after another, the drops at its end, and the lines of both.
 
 ghost use Rattle.std.specs.Prelude.{◌≡◌, ◌<◌, ◌≤◌, ◌+◌, ◌^◌, ◌++◌, [], ◌∷◌, length, map, not, slice_get, All, Some, codes, IfOk, IfSome, OnOk, List as ListOf};
+ghost use Rattle.edge_bits.specs.declared.limits.TheConstants.{MOST_ROWS};
 ghost use Rattle.job_commands.specs.declared.acts.Act.TheVariants as acts;
 ghost use Rattle.job_text.specs.Histories.{HistoryLine, line_text, stops};
 ghost use Rattle.dd_session.specs.Sessions.{HasRoom, Seen};
 ghost use Rattle.net_jobs.specs.Sections.{CanPlay, PlaysSection, counts_of, written_as};
-ghost use Rattle.net_jobs.specs.Saying.{AreWithin, CanCall, DropsOne, DropsTheRest, IsAnswered, IsKept, SaysOne, SaysThrough, Stands, assigned_after, call_of, target_at};
+ghost use Rattle.net_jobs.specs.Saying.{AreWithin, CanCall, DropsOne, DropsTheRest, IsAnswered, IsKept, SaysOne, SaysThrough, HasSaid, assigned_after, call_of, target_at};
 
 use crate::answering::Answered;
 use crate::gate::Gate;
@@ -108,7 +109,7 @@ fn say_all<R: Wait, G: Gate>(
     requires can { CanPlay manager.now commands.now session.old }
     requires number { number ≡ session.old.number }
     requires start { (script.old.names.items ≡ []) × (script.old.lines.items ≡ []) }
-    ensures said { OnOk result ((said : ListOf HistoryLine) × Stands session.old session.new commands.now script.new.names.items script.new.lines.items said × SaysThrough commands.now said × (length said ≤ length commands.now)) }
+    ensures said { OnOk result ((said : ListOf HistoryLine) × HasSaid session.old session.new commands.now script.new.names.items script.new.lines.items said × SaysThrough commands.now said × (length said ≤ length commands.now)) }
     ensures names { OnOk result (length script.new.names.items ≤ length commands.now) }
     ensures kept { IsKept session.old session.new }
 {
@@ -181,10 +182,10 @@ fn drop_all<R: Wait>(
     requires own { session.old.manager ≡ manager.now }
     requires number { number ≡ session.old.number }
     requires assigned { AreWithin commands.now script.old.names.items }
-    requires few { length script.old.names.items < 2 ^ 25 }
-    requires rows { length session.old.rows < 2 ^ 25 }
-    requires entries { length session.old.entries ≤ 2 ^ 47 + 2 ^ 25 }
-    ensures said { OnOk result ((start : Seen) (said : ListOf HistoryLine) → Stands start session.old commands.now script.old.names.items script.old.lines.items said → DropsTheRest start session.new commands.now script.new said) }
+    requires few { length script.old.names.items < MOST_ROWS }
+    requires rows { length session.old.rows < MOST_ROWS }
+    requires entries { length session.old.entries ≤ 2 ^ 47 + MOST_ROWS }
+    ensures said { OnOk result ((start : Seen) (said : ListOf HistoryLine) → HasSaid start session.old commands.now script.old.names.items script.old.lines.items said → DropsTheRest start session.new commands.now script.new said) }
     ensures kept { IsKept session.old session.new }
 {
     for a in 0..script.names.len() {

@@ -4,7 +4,7 @@ ghost use Rattle.std.specs.Prelude.{◌≡◌, ◌≢◌, ◌<◌, ◌^◌, ◌+
 ghost use Rattle.std.specs.Io.KnownBytes.{Appends};
 ghost use Rattle.command_words.specs.declared.order.Order.TheVariants.{Gen};
 ghost use Rattle.command_words.specs.Orders.{IsInRange};
-ghost use Rattle.byte_streams.specs.Causes.{Rose, AppendsFront};
+ghost use Rattle.byte_streams.specs.Causes.{FaultsRose, AppendsFront};
 ghost use Rattle.net_jobs.specs.Ends.{Due, IsComplete, IsCompleteForBuilds, IsCompleteForMade, PlaysAlone, asked_of, runs};
 ghost use Rattle.net_jobs.specs.Refusals.{refusal_line, status_of};
 ghost use Rattle.net_jobs.specs.declared.status.Status.{Status};
@@ -12,7 +12,7 @@ ghost use Rattle.net_jobs.specs.declared.status.Status.TheVariants.{Memory as Wa
 
 use crate::finding::{build_source, made_summary, play_source};
 use crate::gate::Gate;
-use crate::refusal::Refusal;
+use crate::refusal::RunRefusal;
 use crate::status::Status;
 use byte_streams::{Sink, Source, write_to_end};
 use command_words::{Order, read_words};
@@ -64,11 +64,11 @@ fn find<R: Threads + Wait + Sync + RandomSource, S: Source, G: Gate>(
     words: &[String],
     source: &mut S,
     gate: &G,
-) -> Result<Vec<u8>, Refusal>
+) -> Result<Vec<u8>, RunRefusal>
     ensures text { IfOk result (λ text. Due (asked_of (map string_bytes words.now)) (S.left source.old) (S.left source.new)
-        (Rose (S.faults source.old) (S.faults source.new)) Status.Ok text.items) }
+        (FaultsRose (S.faults source.old) (S.faults source.new)) Status.Ok text.items) }
     ensures refusal { IfErr result (λ refusal. Due (asked_of (map string_bytes words.now)) (S.left source.old) (S.left source.new)
-        (Rose (S.faults source.old) (S.faults source.new)) (status_of refusal) (refusal_line refusal)) }
+        (FaultsRose (S.faults source.old) (S.faults source.new)) (status_of refusal) (refusal_line refusal)) }
     ensures untouched { asked_of (map string_bytes words.now) ≡ None → source.new ≡ source.old }
     ensures generated { (workers bits : ℕ) → asked_of (map string_bytes words.now) ≡ Some (Gen workers bits) → source.new ≡ source.old }
 {
@@ -79,8 +79,8 @@ fn find<R: Threads + Wait + Sync + RandomSource, S: Source, G: Gate>(
         }
         Ok(Some(Order::Gen { bits, .. })) => made_summary(rt, alloc, bits, gate),
         Ok(Some(Order::Load { .. })) => unreachable!(),
-        Ok(None) => Err(Refusal::Usage),
-        Err(Memory) => Err(Refusal::Memory),
+        Ok(None) => Err(RunRefusal::Usage),
+        Err(Memory) => Err(RunRefusal::Memory),
     }
 }
 
@@ -88,7 +88,7 @@ fn find<R: Threads + Wait + Sync + RandomSource, S: Source, G: Gate>(
 fn tell<K: Sink>(sink: &mut K, text: &[u8], status: Status) -> Status
     requires { status ≢ WriteFault }
     ensures told { result ≢ WriteFault → (result ≡ status) × Appends (K.written sink.old) (K.written sink.new) text.now }
-    ensures cut_off { result ≡ WriteFault → Rose (K.faults sink.old) (K.faults sink.new) × AppendsFront (K.written sink.old) (K.written sink.new) text.now }
+    ensures cut_off { result ≡ WriteFault → FaultsRose (K.faults sink.old) (K.faults sink.new) × AppendsFront (K.written sink.old) (K.written sink.new) text.now }
 {
     match write_to_end(sink, text) {
         Ok(()) => status,
@@ -99,7 +99,7 @@ fn tell<K: Sink>(sink: &mut K, text: &[u8], status: Status) -> Status
 /// Writes the one line of a run for which memory is wanting, as of one that cannot have its words.
 pub fn refuse_memory<K: Sink>(sink: &mut K) -> Status
     ensures told { result ≢ WriteFault → (result ≡ WantOfMemory) × Appends (K.written sink.old) (K.written sink.new) (codes "fault: memory\n") }
-    ensures cut_off { result ≡ WriteFault → Rose (K.faults sink.old) (K.faults sink.new) × AppendsFront (K.written sink.old) (K.written sink.new) (codes "fault: memory\n") }
+    ensures cut_off { result ≡ WriteFault → FaultsRose (K.faults sink.old) (K.faults sink.new) × AppendsFront (K.written sink.old) (K.written sink.new) (codes "fault: memory\n") }
 {
     tell(sink, b"fault: memory\n", Status::Memory)
 }
@@ -120,13 +120,13 @@ pub fn run<R: Threads + Wait + Sync + RandomSource, S: Source, K: Sink, G: Gate>
 ) -> Status
     // The status has its cause, and its whole text was written.
     ensures told { result ≢ WriteFault → (text : List ℕ)
-        × Due (asked_of (map string_bytes words.now)) (S.left source.old) (S.left source.new) (Rose (S.faults source.old) (S.faults source.new)) result text
+        × Due (asked_of (map string_bytes words.now)) (S.left source.old) (S.left source.new) (FaultsRose (S.faults source.old) (S.faults source.new)) result text
         × Appends (K.written sink.old) (K.written sink.new) text }
 
     // The sink failed, and a front of what there was to tell was written.
-    ensures cut_off { result ≡ WriteFault → Rose (K.faults sink.old) (K.faults sink.new)
+    ensures cut_off { result ≡ WriteFault → FaultsRose (K.faults sink.old) (K.faults sink.new)
         × ((status : Status) × (text : List ℕ)
-        × Due (asked_of (map string_bytes words.now)) (S.left source.old) (S.left source.new) (Rose (S.faults source.old) (S.faults source.new)) status text
+        × Due (asked_of (map string_bytes words.now)) (S.left source.old) (S.left source.new) (FaultsRose (S.faults source.old) (S.faults source.new)) status text
         × AppendsFront (K.written sink.old) (K.written sink.new) text) }
 
     // Where the words ask for nothing, nothing is read.

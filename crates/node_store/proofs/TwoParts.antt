@@ -10,7 +10,7 @@ use Rattle.edge_bits.specs.Assignments.{bit}
 use Rattle.edge_bits.specs.Reading.{element_of}
 use Rattle.function_laws.specs.Families.{base, IsWithout}
 use Rattle.function_laws.proofs.ValueLemmas.{everywhere}
-use Rattle.function_laws.specs.Kinds.{ValueOf, Lacks, absent_part, Keeps}
+use Rattle.function_laws.specs.Kinds.{ValueOf, Lacks, absent_part, KeepsAbsent}
 use Rattle.node_store.specs.Views.{View, levels, IsVariable, Denotes, Is, values_at, IsBelow, Grown, Splits, CanMake, node_values, IsInner, IsLeaf, IsLeafOf, logic_one, logic_zero, number, no_member, only_base, Permanent, PartsAt, IsTop, AreTwo}
 use Rattle.node_store.specs.ViewLaws.{Denotes-empty, Is-from, IsBelow-inner, Splits-absent, Splits-grown, level-grown, top-grown, values_at-is}
 use Rattle.node_store.specs.Two.{place_at, IsOrderFor, TwoAnswers, TwoSplits, two_depth, TwoDue, Overflows}
@@ -23,7 +23,7 @@ use Rattle.node_store.specs.declared.binary.Branch.{Branch}
 use Rattle.node_store.specs.TwoLaws.{place_at-grown, TwoDue-stays, Two-is, Two-hi_below, Two-lo_below, TwoDue-hi, TwoDue-lo}
 
 -- the node of both answers
-pub Two-can_make : (k : Kind) (op : ValueOf k → ValueOf k → ValueOf k) → Keeps k op → {w : View} {t hi lo : Task} {x : ℕ} {a b : Edge}
+pub Two-can_make : (k : Kind) (op : ValueOf k → ValueOf k → ValueOf k) → KeepsAbsent k op → {w : View} {t hi lo : Task} {x : ℕ} {a b : Edge}
     → TwoSplits k w t x hi lo → TwoAnswers k op w hi a → TwoAnswers k op w lo b → CanMake k w x a b
 Two-can_make k op keeps {w} {t} {hi} {lo} {x} {a} {b} s da db = record {
   in_range = s.in_range;
@@ -133,7 +133,7 @@ PartsAt-grown k {v} {w} {e} {hi} {lo} {f} {x} g p =
     record { splits = Splits-grown k g p.splits; hi_top = omega arith; lo_top = omega arith }
 
 -- the two parts of a task at its top variable, in the view where both are known
-pub Two-branches : (k : Kind) (op : ValueOf k → ValueOf k → ValueOf k) → Keeps k op → (f g : Edge) (w : View) (t : Task) (b : Branch)
+pub Two-branches : (k : Kind) (op : ValueOf k → ValueOf k → ValueOf k) → KeepsAbsent k op → (f g : Edge) (w : View) (t : Task) (b : Branch)
     → TwoDue k op f g w t → IsOrderFor op t.f t.g b.task.f b.task.g → b.flip ≡ false → IsTop k w b.task.f b.task.g b.var
     → PartsAt k w b.task.f (values_at k w b.task.f) b.var b.hi.f b.lo.f → PartsAt k w b.task.g (values_at k w b.task.g) b.var b.hi.g b.lo.g
     → Branches (TwoDue k op f g) (TwoAnswers k op) (λ x t. Overflows k (place_at k op x t.f t.g)) (TwoSplits k) (two_depth k) w t b
@@ -155,7 +155,7 @@ Two-branches k op keeps f g w t b due is flip top pf pg =
     }
 
 -- the parts of a call's task whose operands were arranged
-pub Two-split : (k : Kind) (op : ValueOf k → ValueOf k → ValueOf k) → Keeps k op → (f g : Edge) (v w : View) (t u : Task) (h : Halves)
+pub Two-split : (k : Kind) (op : ValueOf k → ValueOf k → ValueOf k) → KeepsAbsent k op → (f g : Edge) (v w : View) (t u : Task) (h : Halves)
     → TwoDue k op f g v t → IsOrderFor op t.f t.g u.f u.g → Grown v w → HalvesOfTwo k w u.f u.g h
     → Branches (TwoDue k op f g) (TwoAnswers k op) (λ x t. Overflows k (place_at k op x t.f t.g)) (TwoSplits k) (two_depth k) w t (record { task = u; flip = false; var = h.top.var; hi = h.hi; lo = h.lo })
 Two-split k op keeps f g v w t u h due is m p =

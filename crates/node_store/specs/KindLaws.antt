@@ -10,7 +10,7 @@ use Rattle.function_laws.specs.Numbers.{is_value}
 use Rattle.function_laws.specs.Families.{empty, joined, IsWithout}
 use Rattle.function_laws.proofs.ValueLemmas.{everywhere, cofactor-choice_true, cofactor-choice_false, cofactor-free, IsFree-choice_other, IsFree-place, choice-same, place_two}
 use Rattle.function_laws.proofs.FamilyLemmas.{subset1-joined, subset0-joined, place_joined}
-use Rattle.function_laws.specs.Kinds.{Denoted, ValueOf, function_of, values_of, joined_at, Lacks, part_at, absent_part, Fits, Keeps, place, flipped}
+use Rattle.function_laws.specs.Kinds.{Denoted, ValueOf, function_of, values_of, joined_at, Lacks, part_at, absent_part, Fits, KeepsAbsent, place, flipped}
 
 pub values_of-function : (k : Kind) (f : ℕ → ValueOf k) → values_of k (Some (function_of k f)) ≡ f
 values_of-function Bdd f = refl
@@ -29,7 +29,7 @@ joined-place Bdd op v f g f' g' = place_two op f g f' g' v
 joined-place Add op v f g f' g' = place_two op f g f' g' v
 joined-place Zdd op v f g f' g' = place_joined op f g f' g' (element_of v)
 
-pub Lacks-place : (k : Kind) (op : ValueOf k → ValueOf k → ValueOf k) → Keeps k op → (v : ℕ) (f g : ℕ → ValueOf k)
+pub Lacks-place : (k : Kind) (op : ValueOf k → ValueOf k → ValueOf k) → KeepsAbsent k op → (v : ℕ) (f g : ℕ → ValueOf k)
     → Lacks k f v → Lacks k g v → Lacks k (place op f g) v
 Lacks-place Bdd op keeps v f g p q = IsFree-place op f g v p q
 Lacks-place Add op keeps v f g p q = IsFree-place op f g v p q

@@ -7,7 +7,7 @@ use Rattle.edge_bits.specs.Assignments.{set_bit}
 use Rattle.edge_bits.proofs.AssignmentLemmas.{bit-set_same}
 use Rattle.function_laws.specs.Numbers.{is_value}
 use Rattle.function_laws.specs.Values.{IsFree, choice}
-use Rattle.function_laws.specs.Kinds.{Denoted, ValueOf, function_of, joined_at, Lacks, Keeps}
+use Rattle.function_laws.specs.Kinds.{Denoted, ValueOf, function_of, joined_at, Lacks, KeepsAbsent}
 use Rattle.node_store.specs.KindLaws.{joined-place}
 use Rattle.node_store.specs.Views.{View, values_at, Denotes, IsBelow, Grown, AreTwo}
 use Rattle.node_store.specs.ViewLaws.{Permanent-grown, Denotes-grown, Denotes-lasts, Is-grown, values_at-grown, Splits-grown, top-grown, levels-grown, IsVariable-grown, IsBelow-place}
@@ -62,13 +62,13 @@ pub Two-is : (k : Kind) (op : ValueOf k → ValueOf k → ValueOf k) {w : View} 
     → place_at k op w t.f t.g ≡ joined_at k x (place_at k op w hi.f hi.g) (place_at k op w lo.f lo.g)
 Two-is k op {w} {t} {hi} {lo} {x} s = rw (s.f.is, s.g.is) (joined-place k op x (values_at k w hi.f) (values_at k w lo.f) (values_at k w hi.g) (values_at k w lo.g))
 
-pub Two-hi_below : (k : Kind) (op : ValueOf k → ValueOf k → ValueOf k) → Keeps k op → {w : View} {t hi lo : Task} {x : ℕ} → TwoSplits k w t x hi lo → IsBelow k w x (place_at k op w hi.f hi.g)
+pub Two-hi_below : (k : Kind) (op : ValueOf k → ValueOf k → ValueOf k) → KeepsAbsent k op → {w : View} {t hi lo : Task} {x : ℕ} → TwoSplits k w t x hi lo → IsBelow k w x (place_at k op w hi.f hi.g)
 Two-hi_below k op keeps {w} {t} {hi} {lo} {x} s = IsBelow-place k op keeps w x (values_at k w hi.f) (values_at k w hi.g) s.f.hi_below s.g.hi_below
 
-pub Two-lo_below : (k : Kind) (op : ValueOf k → ValueOf k → ValueOf k) → Keeps k op → {w : View} {t hi lo : Task} {x : ℕ} → TwoSplits k w t x hi lo → IsBelow k w x (place_at k op w lo.f lo.g)
+pub Two-lo_below : (k : Kind) (op : ValueOf k → ValueOf k → ValueOf k) → KeepsAbsent k op → {w : View} {t hi lo : Task} {x : ℕ} → TwoSplits k w t x hi lo → IsBelow k w x (place_at k op w lo.f lo.g)
 Two-lo_below k op keeps {w} {t} {hi} {lo} {x} s = IsBelow-place k op keeps w x (values_at k w lo.f) (values_at k w lo.g) s.f.lo_below s.g.lo_below
 
-pub TwoDue-hi : (k : Kind) (op : ValueOf k → ValueOf k → ValueOf k) → Keeps k op → (f g : Edge) (w : View) (t hi lo : Task) (x : ℕ) → TwoDue k op f g w t → TwoSplits k w t x hi lo → TwoDue k op f g w hi
+pub TwoDue-hi : (k : Kind) (op : ValueOf k → ValueOf k → ValueOf k) → KeepsAbsent k op → (f g : Edge) (w : View) (t hi lo : Task) (x : ℕ) → TwoDue k op f g w t → TwoSplits k w t x hi lo → TwoDue k op f g w hi
 TwoDue-hi k op keeps f g w t hi lo x d s = record {
   permanent = d.permanent;
   roots = d.roots;
@@ -76,7 +76,7 @@ TwoDue-hi k op keeps f g w t hi lo x d s = record {
   part = IsPart-half k w x (place_at k op w f g) (place_at k op w t.f t.g) (place_at k op w hi.f hi.g) (place_at k op w lo.f lo.g) true s.in_range (Two-is k op s) (Two-hi_below k op keeps s) (Two-lo_below k op keeps s) d.part;
 }
 
-pub TwoDue-lo : (k : Kind) (op : ValueOf k → ValueOf k → ValueOf k) → Keeps k op → (f g : Edge) (w : View) (t hi lo : Task) (x : ℕ) → TwoDue k op f g w t → TwoSplits k w t x hi lo → TwoDue k op f g w lo
+pub TwoDue-lo : (k : Kind) (op : ValueOf k → ValueOf k → ValueOf k) → KeepsAbsent k op → (f g : Edge) (w : View) (t hi lo : Task) (x : ℕ) → TwoDue k op f g w t → TwoSplits k w t x hi lo → TwoDue k op f g w lo
 TwoDue-lo k op keeps f g w t hi lo x d s = record {
   permanent = d.permanent;
   roots = d.roots;
@@ -94,10 +94,10 @@ Overflows-joined Bdd v f h l is p q b o = o
 Overflows-joined Zdd v f h l is p q b o = o
 Overflows-joined Add v f h l is p q b o = (set_bit o.0 v b, subst (λ g. is_value (g (set_bit o.0 v b)) ≡ false) (sym is) (out_of_choice v h l p q b o.0 o.1))
 
-pub Two-overflow_hi : (k : Kind) (op : ValueOf k → ValueOf k → ValueOf k) → Keeps k op → (w : View) (t : Task) (x : ℕ) (a b : Task) → TwoSplits k w t x a b → Overflows k (place_at k op w a.f a.g) → Overflows k (place_at k op w t.f t.g)
+pub Two-overflow_hi : (k : Kind) (op : ValueOf k → ValueOf k → ValueOf k) → KeepsAbsent k op → (w : View) (t : Task) (x : ℕ) (a b : Task) → TwoSplits k w t x a b → Overflows k (place_at k op w a.f a.g) → Overflows k (place_at k op w t.f t.g)
 Two-overflow_hi k op keeps w t x a b s o = Overflows-joined k x (place_at k op w t.f t.g) (place_at k op w a.f a.g) (place_at k op w b.f b.g) (Two-is k op s)
     (Two-hi_below k op keeps s x s.in_range (omega arith)) (Two-lo_below k op keeps s x s.in_range (omega arith)) true o
 
-pub Two-overflow_lo : (k : Kind) (op : ValueOf k → ValueOf k → ValueOf k) → Keeps k op → (w : View) (t : Task) (x : ℕ) (a b : Task) → TwoSplits k w t x a b → Overflows k (place_at k op w b.f b.g) → Overflows k (place_at k op w t.f t.g)
+pub Two-overflow_lo : (k : Kind) (op : ValueOf k → ValueOf k → ValueOf k) → KeepsAbsent k op → (w : View) (t : Task) (x : ℕ) (a b : Task) → TwoSplits k w t x a b → Overflows k (place_at k op w b.f b.g) → Overflows k (place_at k op w t.f t.g)
 Two-overflow_lo k op keeps w t x a b s o = Overflows-joined k x (place_at k op w t.f t.g) (place_at k op w a.f a.g) (place_at k op w b.f b.g) (Two-is k op s)
     (Two-hi_below k op keeps s x s.in_range (omega arith)) (Two-lo_below k op keeps s x s.in_range (omega arith)) false o

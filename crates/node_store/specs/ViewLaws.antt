@@ -7,7 +7,7 @@ use Rattle.edge_bits.specs.declared.edges.Kind.TheVariants.{Bdd, Add, Zdd}
 use Rattle.function_laws.specs.Values.{constant, negation}
 use Rattle.function_laws.specs.Families.{empty, base}
 use Rattle.function_laws.proofs.ValueLemmas.{everywhere}
-use Rattle.function_laws.specs.Kinds.{Denoted, BddFunction, AddFunction, ZddFamily, ValueOf, function_of, values_of, absent_part, Keeps, place, flipped}
+use Rattle.function_laws.specs.Kinds.{Denoted, BddFunction, AddFunction, ZddFamily, ValueOf, function_of, values_of, absent_part, KeepsAbsent, place, flipped}
 use Rattle.node_store.specs.KindLaws.{values_of-function, Apart, Lacks-joined, Lacks-place, Lacks-absent, joined-absent, Fits-joined, flipped-function, flipped-some}
 use Rattle.node_store.specs.Views.{View, levels, IsVariable, IsBeyond, function_at, values_at, Denotes, Is, IsBelow, Grown, Kept, Splits, CanMake, IsInner, node_values, Permanent, IsProjection}
 use Rattle.node_store.specs.Edges.{flip_if}
@@ -130,7 +130,7 @@ IsBelow-inner k {a} {e} {f} {v} {hi} {lo} u i lt x xn le =
     rw i.splits.is (Lacks-joined k x v (values_at k a hi) (values_at k a lo) (Apart-variables k a x v xn i.in_range ne)
     (i.splits.hi_below x xn (omega arith)) (i.splits.lo_below x xn (omega arith)))
 
-pub IsBelow-place : (k : Kind) (op : ValueOf k → ValueOf k → ValueOf k) → Keeps k op → (a : View) (v : ℕ) (f g : ℕ → ValueOf k)
+pub IsBelow-place : (k : Kind) (op : ValueOf k → ValueOf k → ValueOf k) → KeepsAbsent k op → (a : View) (v : ℕ) (f g : ℕ → ValueOf k)
     → IsBelow k a v f → IsBelow k a v g → IsBelow k a v (place op f g)
 IsBelow-place k op keeps a v f g p q u un le = Lacks-place k op keeps u f g (p u un le) (q u un le)
 

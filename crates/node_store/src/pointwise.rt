@@ -19,7 +19,7 @@ pub trait Pointwise<G: Grow> {
     ghost use Rattle.edge_bits.specs.declared.edges.Edge.{Edge};
     ghost use Rattle.computed_cache.specs.declared.Key.{Key};
     ghost use Rattle.edge_bits.specs.declared.edges.Kind.{Kind};
-    ghost use Rattle.function_laws.specs.Kinds.{ValueOf, Keeps, function_of};
+    ghost use Rattle.function_laws.specs.Kinds.{ValueOf, KeepsAbsent, function_of};
     ghost use Rattle.node_store.specs.Views.{View, AreTwo, Denotes, Grown, IsLeaf, Rose, Permanent, values_at};
     ghost use Rattle.node_store.specs.Memo.{MemoHolds, PlaceHolds};
     ghost use Rattle.node_store.specs.Two.{place_at, IsOrderFor, Overflows};
@@ -63,7 +63,7 @@ pub trait Pointwise<G: Grow> {
         ensures memo { (w : View) (key : Key) (e : Edge) → key.op ≡ result → PlaceHolds kind op w key e → MemoHolds w key e }
         ensures hit { (w : View) (key : Key) (e : Edge) → key.op ≡ result → MemoHolds w key e → PlaceHolds kind op w key e };
 
-    ghost keeps: { Keeps kind op };
+    ghost keeps: { KeepsAbsent kind op };
 }
 
 /// Such an operation on these two operands.

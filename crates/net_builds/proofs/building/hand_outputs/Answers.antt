@@ -1,4 +1,5 @@
-use Rattle.std.proofs.Common.{◌+◌, ◌≤◌, ◌^◌, List, length, subst, sym, All}
+use Rattle.std.proofs.Common.{◌+◌, ◌≤◌, List, length, subst, sym, All}
+use Rattle.edge_bits.specs.declared.limits.TheConstants.{MOST_ROWS}
 use Rattle.function_laws.specs.declared.history.Name.{Name}
 use Rattle.net_builds.specs.Standings.{IsLive}
 use Rattle.net_builds.proofs.Built.{all_held, room_to_hand}
@@ -7,7 +8,7 @@ use Rattle.net_builds.proofs.building.hand_outputs.Goals as goal
 pub hand_over-requires-clause-room : goal.hand_over-requires-clause-room
 hand_over-requires-clause-room g c =
     let mid = g.H.Host.standing c.build_outputs.new.session in
-    subst (λ (names : List Name). mid.rows + length names ≤ 2 ^ 25) (sym c.deref.ensures.value)
+    subst (λ (names : List Name). mid.rows + length names ≤ MOST_ROWS) (sym c.deref.ensures.value)
     (room_to_hand c.args.net.now (g.H.Host.standing c.args.session.now) mid c.in_ok-names.names.items c.requires.bounded c.in_ok-names.ensures.built)
 
 pub hand_over-requires-clause-held : goal.hand_over-requires-clause-held

@@ -1,4 +1,5 @@
 use Rattle.std.proofs.Common.{◌≤◌, ◌∙◌, ◌++◌, List, ap, length, subst, sym}
+use Rattle.edge_bits.specs.declared.limits.TheConstants.{MOST_SESSIONS}
 use Rattle.dd_session.specs.Managing.{AreAll, IsClosed, Seen, opened}
 use Rattle.net_jobs.specs.Plays.{AllCan, AreNumbered, PlaysIn}
 use Rattle.net_jobs.proofs.Opening.{IsFor, are_all, are_numbered, can_play, few_sessions, is_played, written_back}
@@ -20,7 +21,7 @@ pub play-requires-clause-few : goal.play-requires-clause-few
 play-requires-clause-few g c κs within =
     let ok = c.in-Ok.ensures.ok in
     let is : IsFor c.args.job.now c.in-Ok.opened.0 = record { vars = ok.0; elements = ok.1; limit = c.in-Ok.ensures.limit; sessions = ok.2 ∙ c.len.ensures } in
-    subst (λ (l : List Seen). length l ≤ 64) (sym (c.deref_mut.ensures.value ∙ ok.3)) (few_sessions c.args.job.now c.in-Ok.opened.0 c.requires.job is)
+    subst (λ (l : List Seen). length l ≤ MOST_SESSIONS) (sym (c.deref_mut.ensures.value ∙ ok.3)) (few_sessions c.args.job.now c.in-Ok.opened.0 c.requires.job is)
 
 pub close-closed-requires : goal.close-closed-requires
 close-closed-requires g c =

@@ -36,5 +36,5 @@ returns-clause-ok c =
     let n = c.args.self.now.counts in
     let rs = c.args.self.now.registers in
     let each = c.in_ok-operands.ensures.ok in
-    subst (λ (act : Act). Says n rs (split_words c.args.words.now) act) (sym (c.in_ok-act.ensures ∙ ap (act_of c.in-Some.line.operation) each.3))
-    (says_from n rs (split_words c.args.words.now) c.in-Some.line.operation (slots_of c.in-Some.line.slots) each.0 (sym c.command_line.ensures ∙ ap (option_map line_of) c.in-Some.is) each.1 each.2)
+    subst (λ (act : Act). Says n rs (split_words c.args.words.now) act) (sym (c.in_ok-act.ensures ∙ ap (act_of c.in-Some.line.opcode) each.3))
+    (says_from n rs (split_words c.args.words.now) c.in-Some.line.opcode (slots_of c.in-Some.line.slots) each.0 (sym c.command_line.ensures ∙ ap (option_map line_of) c.in-Some.is) each.1 each.2)

@@ -29,4 +29,4 @@ returns-clause-caused g c =
     let old = c.args.session.now in
     let new = c.not.new.self in
     let call = calls.Makes (makings.Bdd (bdds.Not c.args.f)) in
-    named_caused old new call c.not.result (denied old new call c.not.result c.not.ensures.told) c.named.result c.named.ensures
+    named_caused old new call c.not.result (denied old new call c.not.result c.not.ensures.told) c.named.result c.named.ensures (λ limit in_use need tells. tells.0)

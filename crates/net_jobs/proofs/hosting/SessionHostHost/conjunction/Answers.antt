@@ -24,4 +24,4 @@ returns-clause-made g c =
     (λ name place called a b first second. made old new call name place called refl (λ cell. refl) (conjunction a b) (outcome-conjunction old called.board c.args.f c.args.g a b first.stands second.stands))
 
 pub returns-clause-caused : goal.returns-clause-caused
-returns-clause-caused g c = named_caused c.args.session.now c.and.new.self (calls.Makes (makings.Bdd (bdds.And c.args.f c.args.g))) c.and.result c.and.ensures.told c.named.result c.named.ensures
+returns-clause-caused g c = named_caused c.args.session.now c.and.new.self (calls.Makes (makings.Bdd (bdds.And c.args.f c.args.g))) c.and.result c.and.ensures.told c.named.result c.named.ensures (λ limit in_use need tells. tells.0)

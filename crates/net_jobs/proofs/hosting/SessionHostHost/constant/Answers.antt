@@ -23,7 +23,7 @@ pub returns-then-value-clause-caused : goal.returns-then-value-clause-caused
 returns-then-value-clause-caused g c =
     let old = c.args.session.now in
     let new = c.one.new.self in
-    named_caused old new (calls.Makes (makings.Bdd bdds.One)) c.one.result (denied old new (calls.Makes (makings.Bdd bdds.One)) c.one.result c.one.ensures.told) c.named.result c.named.ensures
+    named_caused old new (calls.Makes (makings.Bdd bdds.One)) c.one.result (denied old new (calls.Makes (makings.Bdd bdds.One)) c.one.result c.one.ensures.told) c.named.result c.named.ensures (λ limit in_use need tells. tells.0)
 
 pub returns-else-value-clause-own : goal.returns-else-value-clause-own
 returns-else-value-clause-own g c =
@@ -42,4 +42,4 @@ pub returns-else-value-clause-caused : goal.returns-else-value-clause-caused
 returns-else-value-clause-caused g c =
     let old = c.args.session.now in
     let new = c.zero.new.self in
-    named_caused old new (calls.Makes (makings.Bdd bdds.Zero)) c.zero.result (denied old new (calls.Makes (makings.Bdd bdds.Zero)) c.zero.result c.zero.ensures.told) c.named-else-value.result c.named-else-value.ensures
+    named_caused old new (calls.Makes (makings.Bdd bdds.Zero)) c.zero.result (denied old new (calls.Makes (makings.Bdd bdds.Zero)) c.zero.result c.zero.ensures.told) c.named-else-value.result c.named-else-value.ensures (λ limit in_use need tells. tells.0)

@@ -26,4 +26,4 @@ returns-clause-caused g c =
     let old = c.args.session.now in
     let new = c.var.new.self in
     let call = calls.Makes (makings.Bdd (bdds.Var c.args.variable)) in
-    named_caused old new call c.var.result (denied old new call c.var.result c.var.ensures.told) c.named.result c.named.ensures
+    named_caused old new call c.var.result (denied old new call c.var.result c.var.ensures.told) c.named.result c.named.ensures (λ limit in_use need tells. tells.0)
