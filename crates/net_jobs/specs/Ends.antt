@@ -9,10 +9,11 @@ use Rattle.blif_net.specs.declared.faults.FaultKind.TheVariants as blif_kinds
 use Rattle.blif_net.specs.declared.net.Net.{Net}
 use Rattle.blif_net.specs.Faults.{fault_of}
 use Rattle.blif_net.specs.Networks.{IsBlifText}
+use Rattle.edge_bits.specs.declared.limits.TheConstants.{USUAL_LIMIT}
 use Rattle.command_words.specs.declared.order.Options.{Options}
 use Rattle.command_words.specs.declared.order.Order.{Order}
 use Rattle.command_words.specs.declared.order.Order.TheVariants.{Play, Build, Load, Gen}
-use Rattle.command_words.specs.Orders.{is_play, order_of, usual_limit}
+use Rattle.command_words.specs.Orders.{is_play, order_of}
 use Rattle.job_text.specs.declared.job.Job.{Job}
 use Rattle.job_text.specs.declared.faults.JobFault.{JobFault}
 use Rattle.job_text.specs.declared.faults.FaultKind.{FaultKind}
@@ -111,7 +112,7 @@ IsFilled (Some (Build workers limit options)) left rest text =
     (bytes : List ℕ) × (net : Net) × IsWhole left rest bytes × IsBlifText bytes net × (text ≡ full_line (5 + length net.inputs + limit) (5 + length net.inputs + limit))
 IsFilled (Some (Load patterns)) left rest text = ⊥
 IsFilled (Some (Gen workers bits)) left rest text =
-    (rest ≡ left) × (net : Net) × IsBlifText (gen_text bits) net × (text ≡ full_line (5 + length net.inputs + usual_limit) (5 + length net.inputs + usual_limit))
+    (rest ≡ left) × (net : Net) × IsBlifText (gen_text bits) net × (text ≡ full_line (5 + length net.inputs + USUAL_LIMIT) (5 + length net.inputs + USUAL_LIMIT))
 
 -- a fault of the text of a network that was to be built
 abbrev pub IsFaulty : Option Order → Option (List ℕ) → Option (List ℕ) → List ℕ → Type 0

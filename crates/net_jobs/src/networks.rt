@@ -4,7 +4,6 @@ ghost use Rattle.std.specs.Prelude.{◌≡◌, ◌⊎◌, ◌+◌, ◌*◌, ◌�
 ghost use Rattle.blif_net.specs.Bounds.{IsBounded};
 ghost use Rattle.blif_net.specs.declared.net.Net.{Net as NetOf};
 ghost use Rattle.blif_net.specs.Networks.{IsBlifText};
-ghost use Rattle.command_words.specs.Orders.{usual_limit};
 ghost use Rattle.net_builds.specs.Builds.{Builds, Reports, SumsUp};
 ghost use Rattle.net_reports.specs.GenTexts.{gen_text};
 ghost use Rattle.net_reports.specs.Reports.{IsReport, IsSummary, net_subject};
@@ -17,16 +16,13 @@ use crate::hosting::SessionHost;
 use blif_net::{BlifError, Net, networks_are_bounded, read};
 use command_words::Options;
 use dd_session::{Config, Full, Manager, OpenFault, Session};
-use edge_bits::Memory;
+use edge_bits::{Memory, USUAL_LIMIT};
 use net_builds::{Stop, build_report, build_summary, reports_are_true, summaries_are_true};
 use net_reports::gen_text;
 use std::alloc::Global;
 use std::hash::RandomState;
 use std::random::RandomSource;
 use std::sync::Wait;
-
-/// How many slots there are beyond the permanent ones, where nothing is said.
-const USUAL_LIMIT: u32 = 262_144;
 
 /// Why a part has nothing to tell: want of memory, or a call of a session was refused for a full node table.
 pub type PartStop = Stop<Full>;
@@ -163,7 +159,7 @@ pub fn summary_of<R: Wait + RandomSource, G: Gate>(
 ) -> Result<Vec<u8>, PartStop>
     requires { bits ≤ 256 }
     ensures summary { IfOk result (λ text. (net : NetOf) × IsBlifText (gen_text bits) net × IsSummary (net_subject net (rising net) []) text.items) }
-    ensures full { IfErr result (IsFilledBy (λ slots. (net : NetOf) × IsBlifText (gen_text bits) net × (slots ≡ 5 + length net.inputs + usual_limit))) }
+    ensures full { IfErr result (IsFilledBy (λ slots. (net : NetOf) × IsBlifText (gen_text bits) net × (slots ≡ 5 + length net.inputs + USUAL_LIMIT))) }
 {
     let Ok((manager, mut sessions)) = opened(alloc, 2 * bits, USUAL_LIMIT) else {
         return Err(PartStop::Memory);
