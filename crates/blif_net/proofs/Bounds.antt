@@ -6,13 +6,17 @@ use Rattle.std.proofs.lemmas.Bool.Decides.{nat_tests}
 use Rattle.std.proofs.lemmas.Option.{slice_get_within, slice_get-get_or}
 use Rattle.std.proofs.lemmas.List.{length-map}
 use Rattle.std.proofs.lemmas.List.Sorted.{length_permutation}
+use Rattle.std.specs.Bool.{then_some}
+use Rattle.std.specs.Option.{option_or}
+use Rattle.edge_bits.specs.declared.limits.TheConstants.{MOST_VARIABLES, MOST_OUTPUTS, MOST_SIGNALS}
+use Rattle.job_words.specs.Text.{is_among}
 use Rattle.blif_net.specs.declared.faults.BlifFault.{BlifFault}
 use Rattle.blif_net.specs.declared.faults.FaultKind.TheVariants as kinds
 use Rattle.blif_net.specs.declared.net.Net.{Net}
 use Rattle.blif_net.specs.declared.net.Output.{Output}
 use Rattle.blif_net.specs.Text.{Word, Line, joined_lines}
-use Rattle.blif_net.specs.Circuits.{Circuit, Cover, Statement, nothing, model, inputs, outputs, names, ends, passed_over, left_out, unknown, row, Context, after_statement, at_start, circuit_of, close, cover_at, covers_in, defined_in, is_among, last_of}
-use Rattle.blif_net.specs.Faults.{cyclic_cover, fault_if, fault_of, faulty_line, first_of, inputs_fault, last_number, most_inputs, most_outputs, most_signals, names_fault, no_outputs, open_fault, or_else, signals_in, some_again, undefined_line}
+use Rattle.blif_net.specs.Circuits.{Circuit, Cover, Statement, nothing, model, inputs, outputs, names, ends, passed_over, left_out, unknown, row, Context, after_statement, at_start, circuit_of, close, cover_at, covers_in, defined_in, last_of}
+use Rattle.blif_net.specs.Faults.{cyclic_cover, fault_of, faulty_line, inputs_fault, last_number, names_fault, no_outputs, open_fault, signals_in, some_again, undefined_line}
 use Rattle.blif_net.specs.Networks.{IsBlifText, IsNetOf}
 use Rattle.blif_net.specs.Bounds.{IsBounded}
 use Rattle.blif_net.proofs.Distinct.{closed_same, row_same}
@@ -22,28 +26,28 @@ use Rattle.blif_net.proofs.Ordered.{ordered_net}
 
 -- what lines declared is no more than a text may
 pub record IsWithin (c : Context) : Type 0 where
-  pub inputs : length c.inputs ≤ most_inputs
-  pub signals : length c.inputs + length (defined_in (covers_in c)) ≤ most_signals
-  pub outputs : length c.outputs ≤ most_outputs
+  pub inputs : length c.inputs ≤ MOST_VARIABLES
+  pub signals : length c.inputs + length (defined_in (covers_in c)) ≤ MOST_SIGNALS
+  pub outputs : length c.outputs ≤ MOST_OUTPUTS
 
-at_most : (most n : ℕ) → fault_if (nat_lt most n) kinds.TooMany ≡ None → n ≤ most
+at_most : (most n : ℕ) → then_some (nat_lt most n) kinds.TooMany ≡ None → n ≤ most
 at_most most n h = ltb-false most n (not_so (nat_lt most n) kinds.TooMany h)
 
 -- where no signal and no output comes in
 closed_within : (c : Context) → IsWithin c → IsWithin (close c)
 closed_within c h = record {
   inputs = h.inputs;
-  signals = subst (λ (t : List Word). length c.inputs + length t ≤ most_signals) (sym (closed_same c)) h.signals;
+  signals = subst (λ (t : List Word). length c.inputs + length t ≤ MOST_SIGNALS) (sym (closed_same c)) h.signals;
   outputs = h.outputs;
 }
 
 inputs_within : (c : Context) (line : ℕ) (words : List Word) → inputs_fault c words ≡ None → IsWithin c → IsWithin (after_statement c line (inputs words))
 inputs_within c line words h w =
-    let behind_first = none_of (fault_if (some_again (signals_in c) words) kinds.Twice)
-    (or_else (fault_if (nat_lt most_inputs (length c.inputs + length words)) kinds.TooMany) (fault_if (nat_lt most_signals (length (signals_in c) + length words)) kinds.TooMany)) h in
-    let both = none_of (fault_if (nat_lt most_inputs (length c.inputs + length words)) kinds.TooMany) (fault_if (nat_lt most_signals (length (signals_in c) + length words)) kinds.TooMany) behind_first.1 in
-    let few = at_most most_inputs (length c.inputs + length words) both.0 in
-    let all_few = at_most most_signals (length (signals_in c) + length words) both.1 in
+    let behind_first = none_of (then_some (some_again (signals_in c) words) kinds.Twice)
+    (option_or (then_some (nat_lt MOST_VARIABLES (length c.inputs + length words)) kinds.TooMany) (then_some (nat_lt MOST_SIGNALS (length (signals_in c) + length words)) kinds.TooMany)) h in
+    let both = none_of (then_some (nat_lt MOST_VARIABLES (length c.inputs + length words)) kinds.TooMany) (then_some (nat_lt MOST_SIGNALS (length (signals_in c) + length words)) kinds.TooMany) behind_first.1 in
+    let few = at_most MOST_VARIABLES (length c.inputs + length words) both.0 in
+    let all_few = at_most MOST_SIGNALS (length (signals_in c) + length words) both.1 in
     let count = length-append c.inputs words in
     let before = length-append c.inputs (defined_in (covers_in c)) in
     let same : length (defined_in (covers_in (close c))) ≡ length (defined_in (covers_in c)) = ap length (closed_same c) in
@@ -56,8 +60,8 @@ inputs_within c line words h w =
 names_within : (c : Context) (line : ℕ) (words : List Word) → names_fault c words ≡ None → IsWithin c → IsWithin (after_statement c line (names words))
 names_within c line [] h w = cc
 names_within c line (word ∷ words) h w =
-    let both = none_of (fault_if (is_among (signals_in c) (last_of (word ∷ words))) kinds.Twice) (fault_if (nat_lt most_signals (length (signals_in c) + 1)) kinds.TooMany) h in
-    let few = at_most most_signals (length (signals_in c) + 1) both.1 in
+    let both = none_of (then_some (is_among (signals_in c) (last_of (word ∷ words))) kinds.Twice) (then_some (nat_lt MOST_SIGNALS (length (signals_in c) + 1)) kinds.TooMany) h in
+    let few = at_most MOST_SIGNALS (length (signals_in c) + 1) both.1 in
     let before = length-append c.inputs (defined_in (covers_in c)) in
     let count : length (defined_in (covers_in c ++ cover_at line (word ∷ words) ∷ [])) ≡ length (defined_in (covers_in c)) + 1 =
     length-map (covers_in c ++ cover_at line (word ∷ words) ∷ []) (λ (cover : Cover). cover.name) ∙ length-append (covers_in c) (cover_at line (word ∷ words) ∷ [])
@@ -68,13 +72,13 @@ outputs_within : (c : Context) (line : ℕ) (words : List Word) → open_fault c
 outputs_within c line words h w = record {
   inputs = w.inputs;
   signals = (closed_within c w).signals;
-  outputs = omega (arith, at_most most_outputs (length c.outputs + length words) h, length-append c.outputs words);
+  outputs = omega (arith, at_most MOST_OUTPUTS (length c.outputs + length words) h, length-append c.outputs words);
 }
 
 row_within : (c : Context) (line : ℕ) (words : List Word) → IsWithin c → IsWithin (after_statement c line (row words))
 row_within c line words w = record {
   inputs = w.inputs;
-  signals = subst (λ (t : List Word). length c.inputs + length t ≤ most_signals) (sym (row_same c.closed c.current words)) w.signals;
+  signals = subst (λ (t : List Word). length c.inputs + length t ≤ MOST_SIGNALS) (sym (row_same c.closed c.current words)) w.signals;
   outputs = w.outputs;
 }
 
@@ -107,7 +111,7 @@ some_output lines h = by_cases (length (circuit_of lines).outputs == 0) refl
         let some : Some fault ≡ None = sym (ap (λ b. cond b (Some fault) None) e) ∙ h in
         cc
 
-net_within : (circuit : Circuit) (net : Net) → IsNetOf circuit net → length circuit.inputs ≤ most_inputs → length circuit.inputs + length (defined_in circuit.covers) ≤ most_signals → length circuit.outputs ≤ most_outputs → 1 ≤ length circuit.outputs
+net_within : (circuit : Circuit) (net : Net) → IsNetOf circuit net → length circuit.inputs ≤ MOST_VARIABLES → length circuit.inputs + length (defined_in circuit.covers) ≤ MOST_SIGNALS → length circuit.outputs ≤ MOST_OUTPUTS → 1 ≤ length circuit.outputs
     → IsBounded net
 net_within circuit net h few_inputs few_signals few_outputs some =
     let ins : length net.inputs ≡ length circuit.inputs = ap length h.inputs in
@@ -133,8 +137,8 @@ pub bounded : (text : List ℕ) (net : Net) → IsBlifText text net → IsBounde
 unfolding fault_of
 bounded text net h =
     let lines = joined_lines text in
-    let at_lines = none_first (faulty_line at_start lines) (first_of (undefined_line lines) (first_of (cyclic_cover (circuit_of lines)) (no_outputs lines))) h.faultless in
-    let at_names = none_first (undefined_line lines) (first_of (cyclic_cover (circuit_of lines)) (no_outputs lines)) at_lines.1 in
+    let at_lines = none_first (faulty_line at_start lines) (option_or (undefined_line lines) (option_or (cyclic_cover (circuit_of lines)) (no_outputs lines))) h.faultless in
+    let at_names = none_first (undefined_line lines) (option_or (cyclic_cover (circuit_of lines)) (no_outputs lines)) at_lines.1 in
     let at_covers = none_first (cyclic_cover (circuit_of lines)) (no_outputs lines) at_names.1 in
     let within = kept_behind IsWithin open_within at_start lines at_lines.0 at_start_within in
     net_within (circuit_of lines) net h.net_of within.inputs within.signals within.outputs (some_output lines at_covers.1)

@@ -5,6 +5,7 @@ use Rattle.std.specs.List.{list_all}
 use Rattle.std.proofs.lemmas.Bool.{false≢true}
 use Rattle.std.proofs.lemmas.Bool.Decides.{nat_tests}
 use Rattle.std.proofs.lemmas.List.{length-map, map-append}
+use Rattle.std.specs.Bool.{then_some}
 use Rattle.blif_net.specs.declared.covers.CoverDraft.{CoverDraft}
 use Rattle.blif_net.specs.declared.covers.ReadRow.{ReadRow}
 use Rattle.blif_net.specs.declared.net.Cube.{Cube}
@@ -99,7 +100,7 @@ row_taken old ws n row read rows' on' many e is fits f g =
     λ names cover h.
     let here : row_of (length cover.ins) ws ≡ Some row = ap (λ t. row_of t ws) (as_many_numbers names cover.ins old.ins h.ins ∙ sym many) ∙ e in
     let fit = row_fits cover.rows row old read.output h.rows h.on is.1 fits in (
-      ap (row_fault cover) here ∙ ap (λ b. cond b (Some kinds.Mixed) None) fit.0,
+      ap (row_fault cover) here ∙ ap (λ b. then_some b kinds.Mixed) fit.0,
       record {
         line = h.line;
         name = h.name;
@@ -114,4 +115,4 @@ pub row_mixed : (old : CoverDraft) (ws : List Word) (n : ℕ) (row : Row) (read 
 row_mixed old ws n row read many e is fits =
     λ names cover h.
     ap (row_fault cover) (ap (λ t. row_of t ws) (as_many_numbers names cover.ins old.ins h.ins ∙ sym many) ∙ e)
-    ∙ ap (λ b. cond b (Some kinds.Mixed) None) (row_unfit cover.rows row old read.output h.rows h.on is.1 fits)
+    ∙ ap (λ b. then_some b kinds.Mixed) (row_unfit cover.rows row old read.output h.rows h.on is.1 fits)

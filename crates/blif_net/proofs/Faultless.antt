@@ -2,23 +2,25 @@
 use Rattle.std.proofs.Common.{◌≡◌, ℕ, Bool, true, false, not, cond, List, [], ◌∷◌, Option, Some, None, refl, ap, sym, ◌∙◌}
 use Rattle.std.specs.Prelude.{option_map}
 use Rattle.std.specs.List.{list_all}
+use Rattle.std.specs.Option.{option_or}
+use Rattle.std.specs.Bool.{then_some}
 use Rattle.blif_net.specs.declared.faults.BlifFault.{BlifFault}
 use Rattle.blif_net.specs.declared.faults.FaultKind.{FaultKind}
 use Rattle.blif_net.specs.declared.faults.FaultKind.TheVariants as kinds
 use Rattle.blif_net.specs.Text.{Line, is_allowed}
 use Rattle.blif_net.specs.Circuits.{Statement, nothing, model, inputs, outputs, names, ends, passed_over, left_out, unknown, row, Context, said, after_line, after_statement, behind}
-use Rattle.blif_net.specs.Faults.{or_else, fault_if, open_fault, end_fault, line_fault, faulty_line, first_of, fault_on}
+use Rattle.blif_net.specs.Faults.{open_fault, end_fault, line_fault, faulty_line, fault_on}
 
 -- of no fault
-pub none_of : (a b : Option FaultKind) → or_else a b ≡ None → (a ≡ None) × (b ≡ None)
+pub none_of : (a b : Option FaultKind) → option_or a b ≡ None → (a ≡ None) × (b ≡ None)
 none_of None b h = (refl, h)
 none_of (Some fault) b h = cc
 
-pub not_so : (b : Bool) (kind : FaultKind) → fault_if b kind ≡ None → b ≡ false
+pub not_so : (b : Bool) (kind : FaultKind) → then_some b kind ≡ None → b ≡ false
 not_so false kind h = refl
 not_so true kind h = cc
 
-pub none_first : (a b : Option BlifFault) → first_of a b ≡ None → (a ≡ None) × (b ≡ None)
+pub none_first : (a b : Option BlifFault) → option_or a b ≡ None → (a ≡ None) × (b ≡ None)
 none_first None b h = (refl, h)
 none_first (Some fault) b h = cc
 

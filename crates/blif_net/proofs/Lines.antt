@@ -7,6 +7,10 @@ use Rattle.std.specs.Str.{bytes_eq}
 use Rattle.std.proofs.lemmas.Bool.Decides.{nat_tests}
 use Rattle.std.proofs.lemmas.List.{map-append, length-map}
 use Rattle.std.proofs.lemmas.List.Folds.{list_any-append}
+use Rattle.std.specs.Bool.{then_some}
+use Rattle.std.specs.Option.{option_or}
+use Rattle.edge_bits.specs.declared.limits.TheConstants.{MOST_VARIABLES, MOST_OUTPUTS, MOST_SIGNALS}
+use Rattle.job_words.specs.Text.{is_among}
 use Rattle.blif_net.specs.declared.covers.CoverDraft.{CoverDraft}
 use Rattle.blif_net.specs.declared.draft.Draft.{Draft}
 use Rattle.blif_net.specs.declared.net.Cube.{Cube}
@@ -15,8 +19,8 @@ use Rattle.blif_net.specs.declared.faults.FaultKind.TheVariants as kinds
 use Rattle.blif_net.specs.declared.faults.Stop.{Stop}
 use Rattle.blif_net.specs.declared.faults.Stop.TheVariants as stops
 use Rattle.blif_net.specs.Text.{Word}
-use Rattle.blif_net.specs.Circuits.{Context, Cover, inputs, outputs, names, row, cover_at, covers_in, defined_in, front_of, is_among, last_of, with_row_in}
-use Rattle.blif_net.specs.Faults.{fault_if, inputs_fault, most_inputs, most_outputs, most_signals, names_fault, or_else, rows_fault, signals_in, some_again}
+use Rattle.blif_net.specs.Circuits.{Context, Cover, inputs, outputs, names, row, cover_at, covers_in, defined_in, front_of, last_of, with_row_in}
+use Rattle.blif_net.specs.Faults.{inputs_fault, names_fault, rows_fault, signals_in, some_again}
 use Rattle.blif_net.specs.Networks.{AreNumbers}
 use Rattle.blif_net.specs.Names.{DefineStop, IsNumberOf, Name, given_role, is_called, name_at, role_called, with_name, with_names, words_in}
 use Rattle.blif_net.specs.Covers.{IsCoverOf, TakesRow}
@@ -141,12 +145,12 @@ numbers_append : (words ws vs : List Word) (ns ms : List ℕ) → AreNumbers wor
 numbers_append words ws vs ns ms h k =
     map-append (slice_get words) ns ms ∙ ap (λ t. t ++ map (slice_get words) ms) h ∙ ap (λ t. map Some ws ++ t) k ∙ sym (map-append Some ws vs)
 
-pub outputs_taken : (old : Draft) (ws : List Word) (l many : ℕ) (names' : List Name) (numbers outputs' : Vec ℕ) → many ≡ length ws → nat_lt most_outputs (length old.outputs.items + many) ≡ false → names' ≡ with_names old.names ws l
+pub outputs_taken : (old : Draft) (ws : List Word) (l many : ℕ) (names' : List Name) (numbers outputs' : Vec ℕ) → many ≡ length ws → nat_lt MOST_OUTPUTS (length old.outputs.items + many) ≡ false → names' ≡ with_names old.names ws l
     → AreNumbers (words_in names') ws numbers.items → outputs'.items ≡ old.outputs.items ++ numbers.items
     → Takes old l (outputs ws) (record { names = names'; inputs = old.inputs; outputs = outputs'; closed = old.closed; current = old.current; modelled = old.modelled; ended = old.ended })
 outputs_taken old ws l many names' numbers outputs' len few e n f = record {
   faultless = λ c h.
-      ap (λ b. fault_if b kinds.TooMany) (ap (λ k. nat_lt most_outputs (k + length ws)) (as_many_numbers (words_in old.names) c.outputs old.outputs.items h.outputs) ∙ ap (λ k. nat_lt most_outputs (length old.outputs.items + k)) (sym len) ∙ few);
+      ap (λ b. then_some b kinds.TooMany) (ap (λ k. nat_lt MOST_OUTPUTS (k + length ws)) (as_many_numbers (words_in old.names) c.outputs old.outputs.items h.outputs) ∙ ap (λ k. nat_lt MOST_OUTPUTS (length old.outputs.items + k)) (sym len) ∙ few);
   after = λ c h.
       let k = subst (λ (t : List Name). IsDraftOf c (with_names_of old t)) (sym e) (names_added c old ws l h) in
       record {
@@ -220,13 +224,13 @@ all_many c new ws h none =
 not_again : (c : Context) (old new : Draft) (ws : List Word) (l : ℕ) → AddsInputs old ws [] l new → IsDraftOf c old → some_again (signals_in c) ws ≡ false
 not_again c old new ws l a h = ap (some_again (signals_in c)) (sym (append-nil ws)) ∙ a.so_far c h
 
-pub inputs_taken : (old new : Draft) (ws : List Word) (l : ℕ) → AddsInputs old ws [] l new → old.current ≡ None → length new.inputs ≤ most_inputs → nat_lt most_signals (length new.inputs + length new.closed) ≡ false → Takes old l (inputs ws) new
+pub inputs_taken : (old new : Draft) (ws : List Word) (l : ℕ) → AddsInputs old ws [] l new → old.current ≡ None → length new.inputs ≤ MOST_VARIABLES → nat_lt MOST_SIGNALS (length new.inputs + length new.closed) ≡ false → Takes old l (inputs ws) new
 inputs_taken old new ws l a none few less = record {
   faultless = λ c h.
       let k = a.after c h in
-      ap (λ b. or_else (fault_if b kinds.Twice) (or_else (fault_if (nat_lt most_inputs (length c.inputs + length ws)) kinds.TooMany) (fault_if (nat_lt most_signals (length (signals_in c) + length ws)) kinds.TooMany))) (not_again c old new ws l a h)
-      ∙ ap (λ b. or_else (fault_if b kinds.TooMany) (fault_if (nat_lt most_signals (length (signals_in c) + length ws)) kinds.TooMany)) (ap (nat_lt most_inputs) (inputs_many c new ws k) ∙ at_most most_inputs (length new.inputs) few)
-      ∙ ap (λ b. fault_if b kinds.TooMany) (ap (nat_lt most_signals) (all_many c new ws k (a.current ∙ none)) ∙ less);
+      ap (λ b. option_or (then_some b kinds.Twice) (option_or (then_some (nat_lt MOST_VARIABLES (length c.inputs + length ws)) kinds.TooMany) (then_some (nat_lt MOST_SIGNALS (length (signals_in c) + length ws)) kinds.TooMany))) (not_again c old new ws l a h)
+      ∙ ap (λ b. option_or (then_some b kinds.TooMany) (then_some (nat_lt MOST_SIGNALS (length (signals_in c) + length ws)) kinds.TooMany)) (ap (nat_lt MOST_VARIABLES) (inputs_many c new ws k) ∙ at_most MOST_VARIABLES (length new.inputs) few)
+      ∙ ap (λ b. then_some b kinds.TooMany) (ap (nat_lt MOST_SIGNALS) (all_many c new ws k (a.current ∙ none)) ∙ less);
   after = a.after;
   uses = a.uses;
 }
@@ -234,17 +238,17 @@ inputs_taken old new ws l a none few less = record {
     at_most : (most n : ℕ) → n ≤ most → nat_lt most n ≡ false
     at_most most n h = grind (arith, nat_tests)
 
-pub inputs_too_many : (old new : Draft) (ws : List Word) (l : ℕ) → AddsInputs old ws [] l new → old.current ≡ None → nat_lt most_signals (length new.inputs + length new.closed) ≡ true
+pub inputs_too_many : (old new : Draft) (ws : List Word) (l : ℕ) → AddsInputs old ws [] l new → old.current ≡ None → nat_lt MOST_SIGNALS (length new.inputs + length new.closed) ≡ true
     → (c : Context) → IsDraftOf c old → inputs_fault c ws ≡ Some kinds.TooMany
 inputs_too_many old new ws l a none more =
     λ c h.
     let k = a.after c h in
-    ap (λ b. or_else (fault_if b kinds.Twice) (or_else (fault_if (nat_lt most_inputs (length c.inputs + length ws)) kinds.TooMany) (fault_if (nat_lt most_signals (length (signals_in c) + length ws)) kinds.TooMany))) (not_again c old new ws l a h)
-    ∙ either (nat_lt most_inputs (length c.inputs + length ws)) (nat_lt most_signals (length (signals_in c) + length ws)) (ap (nat_lt most_signals) (all_many c new ws k (a.current ∙ none)) ∙ more)
+    ap (λ b. option_or (then_some b kinds.Twice) (option_or (then_some (nat_lt MOST_VARIABLES (length c.inputs + length ws)) kinds.TooMany) (then_some (nat_lt MOST_SIGNALS (length (signals_in c) + length ws)) kinds.TooMany))) (not_again c old new ws l a h)
+    ∙ either (nat_lt MOST_VARIABLES (length c.inputs + length ws)) (nat_lt MOST_SIGNALS (length (signals_in c) + length ws)) (ap (nat_lt MOST_SIGNALS) (all_many c new ws k (a.current ∙ none)) ∙ more)
   where
-    either : (a b : Bool) → b ≡ true → or_else (fault_if a kinds.TooMany) (fault_if b kinds.TooMany) ≡ Some kinds.TooMany
+    either : (a b : Bool) → b ≡ true → option_or (then_some a kinds.TooMany) (then_some b kinds.TooMany) ≡ Some kinds.TooMany
     either true b e = refl
-    either false b e = ap (λ t. fault_if t kinds.TooMany) e
+    either false b e = ap (λ t. then_some t kinds.TooMany) e
 
 -- Covers
 front_is : (front : List Word) (last : Word) → (front_of (front ++ last ∷ []) ≡ front) × (last_of (front ++ last ∷ []) ≡ last)
@@ -259,15 +263,15 @@ front_is front last = (ap (λ n. take n (front ++ last ∷ [])) (omega (arith, l
     lasts (w ∷ []) = refl
     lasts (w ∷ v ∷ ws) = lasts (v ∷ ws)
 
-some_names : (c : Context) (front : List Word) (last : Word) → names_fault c (front ++ last ∷ []) ≡ or_else (fault_if (is_among (signals_in c) last) kinds.Twice) (fault_if (nat_lt most_signals (length (signals_in c) + 1)) kinds.TooMany)
+some_names : (c : Context) (front : List Word) (last : Word) → names_fault c (front ++ last ∷ []) ≡ option_or (then_some (is_among (signals_in c) last) kinds.Twice) (then_some (nat_lt MOST_SIGNALS (length (signals_in c) + 1)) kinds.TooMany)
 some_names c [] last = refl
 some_names c (w ∷ front) last =
-    ap (λ t. or_else (fault_if (is_among (signals_in c) t) kinds.Twice) (fault_if (nat_lt most_signals (length (signals_in c) + 1)) kinds.TooMany)) ((front_is (w ∷ front) last).1)
+    ap (λ t. option_or (then_some (is_among (signals_in c) t) kinds.Twice) (then_some (nat_lt MOST_SIGNALS (length (signals_in c) + 1)) kinds.TooMany)) ((front_is (w ∷ front) last).1)
 
-one_less : (n : ℕ) → nat_lt (most_signals - 1) n ≡ nat_lt most_signals (n + 1)
-one_less n = by_cases (nat_lt (most_signals - 1) n) (nat_lt most_signals (n + 1)) refl refl
+one_less : (n : ℕ) → nat_lt (MOST_SIGNALS - 1) n ≡ nat_lt MOST_SIGNALS (n + 1)
+one_less n = by_cases (nat_lt (MOST_SIGNALS - 1) n) (nat_lt MOST_SIGNALS (n + 1)) refl refl
   where
-    by_cases : (a b : Bool) → nat_lt (most_signals - 1) n ≡ a → nat_lt most_signals (n + 1) ≡ b → nat_lt (most_signals - 1) n ≡ nat_lt most_signals (n + 1)
+    by_cases : (a b : Bool) → nat_lt (MOST_SIGNALS - 1) n ≡ a → nat_lt MOST_SIGNALS (n + 1) ≡ b → nat_lt (MOST_SIGNALS - 1) n ≡ nat_lt MOST_SIGNALS (n + 1)
     by_cases true true e f = e ∙ sym f
     by_cases false false e f = e ∙ sym f
     by_cases true false e f = absurd (grind (arith, nat_tests))
@@ -282,23 +286,23 @@ names_stopped old front w l names1 stops.Memory e s = λ c h. tt
 names_stopped old front w l names1 (stops.Fault kind) e s =
     λ c h.
     some_names c front w
-    ∙ ap (λ b. or_else (fault_if b kinds.Twice) (fault_if (nat_lt most_signals (length (signals_in c) + 1)) kinds.TooMany)) (old_signal c (with_names_of old names1) w (named_draft c old front l names1 e h) s.1)
+    ∙ ap (λ b. option_or (then_some b kinds.Twice) (then_some (nat_lt MOST_SIGNALS (length (signals_in c) + 1)) kinds.TooMany)) (old_signal c (with_names_of old names1) w (named_draft c old front l names1 e h) s.1)
     ∙ ap Some (sym s.0)
 
 new_name : (c : Context) (old : Draft) (front : List Word) (w : Word) (l : ℕ) (names1 : List Name) (b : Bool) → old.current ≡ None → names1 ≡ with_names old.names front l → role_called names1 w ≡ roles.Unknown
-    → nat_lt (most_signals - 1) (length old.inputs + length old.closed) ≡ b → IsDraftOf c old → names_fault c (front ++ w ∷ []) ≡ fault_if b kinds.TooMany
+    → nat_lt (MOST_SIGNALS - 1) (length old.inputs + length old.closed) ≡ b → IsDraftOf c old → names_fault c (front ++ w ∷ []) ≡ then_some b kinds.TooMany
 new_name c old front w l names1 b none e new more h =
     some_names c front w
-    ∙ ap (λ t. or_else (fault_if t kinds.Twice) (fault_if (nat_lt most_signals (length (signals_in c) + 1)) kinds.TooMany)) (new_signal c (with_names_of old names1) w (named_draft c old front l names1 e h) new)
-    ∙ ap (λ t. fault_if t kinds.TooMany) (ap (λ n. nat_lt most_signals (n + 1)) (signals_many c old h none) ∙ sym (one_less (length old.inputs + length old.closed)) ∙ more)
+    ∙ ap (λ t. option_or (then_some t kinds.Twice) (then_some (nat_lt MOST_SIGNALS (length (signals_in c) + 1)) kinds.TooMany)) (new_signal c (with_names_of old names1) w (named_draft c old front l names1 e h) new)
+    ∙ ap (λ t. then_some t kinds.TooMany) (ap (λ n. nat_lt MOST_SIGNALS (n + 1)) (signals_many c old h none) ∙ sym (one_less (length old.inputs + length old.closed)) ∙ more)
 
 pub names_too_many : (old : Draft) (front : List Word) (w : Word) (l : ℕ) (names1 : List Name) → old.current ≡ None → names1 ≡ with_names old.names front l → role_called names1 w ≡ roles.Unknown
-    → nat_lt (most_signals - 1) (length old.inputs + length old.closed) ≡ true → (c : Context) → IsDraftOf c old → names_fault c (front ++ w ∷ []) ≡ Some kinds.TooMany
+    → nat_lt (MOST_SIGNALS - 1) (length old.inputs + length old.closed) ≡ true → (c : Context) → IsDraftOf c old → names_fault c (front ++ w ∷ []) ≡ Some kinds.TooMany
 names_too_many old front w l names1 none e new more = λ c h. new_name c old front w l names1 true none e new more h
 
 pub names_taken : (old : Draft) (front : List Word) (w : Word) (l i number : ℕ) (names1 names2 : List Name) (ns ins : List ℕ) (rows : List Cube) → old.current ≡ None → i ≡ length old.closed → names1 ≡ with_names old.names front l
     → AreNumbers (words_in names1) front ns → names2 ≡ map (given_role w (roles.Cover i)) (with_name names1 w l) → IsNumberOf names2 w number → role_called names1 w ≡ roles.Unknown
-    → nat_lt (most_signals - 1) (length old.inputs + length old.closed) ≡ false → ins ≡ ns → rows ≡ []
+    → nat_lt (MOST_SIGNALS - 1) (length old.inputs + length old.closed) ≡ false → ins ≡ ns → rows ≡ []
     → Takes old l (names (front ++ w ∷ []))
     (record { names = names2; inputs = old.inputs; outputs = old.outputs; closed = old.closed; current = Some (record { line = l; name = number; ins = ins; rows = rows; on = true }); modelled = old.modelled; ended = old.ended })
 names_taken old front w l i number names1 names2 ns ins rows none many e n f is new less same empty =

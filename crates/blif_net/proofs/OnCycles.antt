@@ -8,9 +8,10 @@ use Rattle.std.proofs.lemmas.Bool.Decides.{nat_tests}
 use Rattle.std.proofs.lemmas.List.Folds.{list_all-append, list_any-append}
 use Rattle.std.proofs.lemmas.Option.{slice_get_within}
 use Rattle.std.proofs.lemmas.Slice.Eq.{bytes_eq-Decides}
+use Rattle.job_words.specs.Text.{is_among}
 use Rattle.blif_net.specs.declared.faults.FaultKind.TheVariants as kinds
 use Rattle.blif_net.specs.Text.{Line, Word}
-use Rattle.blif_net.specs.Circuits.{Circuit, Context, Cover, Statement, nothing, model, inputs, outputs, names, ends, passed_over, left_out, unknown, row, after_line, after_statement, at_start, behind, circuit_of, close, cover_at, covers_in, defined_in, is_among, said, settles, with_row, with_row_in}
+use Rattle.blif_net.specs.Circuits.{Circuit, Context, Cover, Statement, nothing, model, inputs, outputs, names, ends, passed_over, left_out, unknown, row, after_line, after_statement, at_start, behind, circuit_of, close, cover_at, covers_in, defined_in, said, settles, with_row, with_row_in}
 use Rattle.blif_net.specs.Faults.{fault_on, is_settled, is_signal, undefined_line, uses}
 use Rattle.blif_net.specs.Cycles.{CyclesAreFound, IsCyclic, Leads, LiesOnCycle, ReadsCover}
 use Rattle.blif_net.proofs.Cycles.{by_name, none_here, some_word}

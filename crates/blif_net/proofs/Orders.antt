@@ -9,8 +9,9 @@ use Rattle.std.proofs.lemmas.List.Folds.{list_any-append}
 use Rattle.std.proofs.lemmas.List.Sorted.{IsPermutation-map, list_any-IsPermutation}
 use Rattle.std.proofs.lemmas.Map.Keys.{IsDistinct-IsPermutation}
 use Rattle.std.proofs.lemmas.Slice.Eq.{bytes_eq-Decides}
+use Rattle.job_words.specs.Text.{is_among}
 use Rattle.blif_net.specs.Text.{Word}
-use Rattle.blif_net.specs.Circuits.{Cover, Circuit, defined_in, is_among}
+use Rattle.blif_net.specs.Circuits.{Cover, Circuit, defined_in}
 use Rattle.blif_net.proofs.Distinct.{Alone, Once as Apart}
 use Rattle.blif_order.specs.Orders.{Once, is_in}
 use Rattle.blif_net.proofs.Networks.{blank, picked}

@@ -1,6 +1,7 @@
 -- A text is read line by line.
 use Rattle.std.proofs.Common.{◌≡◌, ℕ, List, [], ◌∷◌, ◌++◌, Some, None, refl, ap, sym, ◌∙◌, subst, append_assoc, append-nil}
 use Rattle.std.specs.Prelude.{option_map}
+use Rattle.std.specs.Option.{option_or}
 use Rattle.blif_net.specs.declared.draft.Draft.{Draft}
 use Rattle.blif_net.specs.declared.faults.BlifError.{BlifError}
 use Rattle.blif_net.specs.declared.faults.BlifError.TheVariants as errors
@@ -10,7 +11,7 @@ use Rattle.blif_net.specs.declared.faults.Stop.TheVariants as stops
 use Rattle.blif_net.specs.declared.net.Net.{Net}
 use Rattle.blif_net.specs.Text.{Line, joined_from, joined_lines, line_at, lines_of}
 use Rattle.blif_net.specs.Circuits.{Context, after_line, at_start, behind, circuit_of, said}
-use Rattle.blif_net.specs.Faults.{HasFault, fault_in, fault_of, fault_on, faulty_line, first_of, last_number, line_fault, undefined_line, cyclic_cover, no_outputs}
+use Rattle.blif_net.specs.Faults.{HasFault, fault_in, fault_of, fault_on, faulty_line, last_number, line_fault, undefined_line, cyclic_cover, no_outputs}
 use Rattle.blif_net.specs.Networks.{IsBlifText, IsNetOf}
 use Rattle.blif_net.specs.Drafts.{HasFaultIn, IsDraftOf, IsNetFrom, IsReadFrom, StopsLine, TakesLine, Use, names_said, stopped_at, uses_by, uses_in, with_uses}
 use Rattle.blif_net.proofs.Faultless.{none_first}
@@ -30,15 +31,15 @@ unfolding behind faulty_line
 first_faulty c [] line more h = refl
 first_faulty c (x ∷ lines) line more h =
     let both = none_first (option_map (fault_on x) (line_fault c x)) (faulty_line (after_line c x) lines) h in
-    ap (λ t. first_of t (faulty_line (after_line c x) (lines ++ line ∷ more))) both.0 ∙ first_faulty (after_line c x) lines line more both.1
+    ap (λ t. option_or t (faulty_line (after_line c x) (lines ++ line ∷ more))) both.0 ∙ first_faulty (after_line c x) lines line more both.1
 
 none_there : (c : Context) (line : Line) → line_fault c line ≡ None → faulty_line c (line ∷ []) ≡ None
 unfolding faulty_line
-none_there c line h = ap (λ t. first_of (option_map (fault_on line) t) None) h
+none_there c line h = ap (λ t. option_or (option_map (fault_on line) t) None) h
 
 some_there : (c : Context) (line : Line) (more : List Line) (kind : FaultKind) → line_fault c line ≡ Some kind → faulty_line c (line ∷ more) ≡ Some (fault_on line kind)
 unfolding faulty_line
-some_there c line more kind h = ap (λ t. first_of (option_map (fault_on line) t) (faulty_line (after_line c line) more)) h
+some_there c line more kind h = ap (λ t. option_or (option_map (fault_on line) t) (faulty_line (after_line c line) more)) h
 
 last_is : (lines : List Line) (line : Line) → last_number (lines ++ line ∷ []) ≡ line.number
 last_is [] line = refl
@@ -83,7 +84,7 @@ line_fails text rest rest' bytes number number' last old kind r e s =
     let more = joined_from number' (lines_of rest') in
     let all : joined_lines text ≡ r.lines ++ line ∷ more = r.so_far ∙ ap (λ l. r.lines ++ l) e in
     ap fault_in all
-    ∙ ap (λ t. first_of t (first_of (undefined_line (r.lines ++ line ∷ more)) (first_of (cyclic_cover (circuit_of (r.lines ++ line ∷ more))) (no_outputs (r.lines ++ line ∷ more)))))
+    ∙ ap (λ t. option_or t (option_or (undefined_line (r.lines ++ line ∷ more)) (option_or (cyclic_cover (circuit_of (r.lines ++ line ∷ more))) (no_outputs (r.lines ++ line ∷ more)))))
     (first_faulty at_start r.lines line more (r.read).faultless ∙ some_there (behind at_start r.lines) line more kind (s (behind at_start r.lines) (r.read).draft_of))
 
 pub line_stops : (text rest rest' bytes : List ℕ) (number number' last : ℕ) (old : Draft) (stop : Stop) → IsReadOf text rest number last old → joined_from number (lines_of rest) ≡ line_at number bytes ∷ joined_from number' (lines_of rest')

@@ -3,13 +3,17 @@ use Rattle.std.proofs.Common.{◌≡◌, ℕ, ◌+◌, not, Bool, true, false, c
 use Rattle.std.specs.Prelude.{Result, OnOk, IfErr}
 use Rattle.std.specs.List.{list_all}
 use Rattle.std.proofs.lemmas.Result.{IfErr-weaker, on_ok_weaker}
+use Rattle.std.specs.Bool.{then_some}
+use Rattle.std.specs.Option.{option_or}
+use Rattle.edge_bits.specs.declared.limits.TheConstants.{MOST_VARIABLES, MOST_SIGNALS}
+use Rattle.job_words.specs.Text.{is_among}
 use Rattle.blif_net.specs.declared.draft.Draft.{Draft}
 use Rattle.blif_net.specs.declared.faults.FaultKind.{FaultKind}
 use Rattle.blif_net.specs.declared.faults.FaultKind.TheVariants as kinds
 use Rattle.blif_net.specs.declared.faults.Stop.{Stop}
 use Rattle.blif_net.specs.Text.{Line, is_allowed}
-use Rattle.blif_net.specs.Circuits.{Context, Statement, nothing, model, inputs, outputs, names, ends, passed_over, left_out, unknown, row, after_statement, close, is_among, last_of, said}
-use Rattle.blif_net.specs.Faults.{end_fault, fault_if, line_fault, most_inputs, most_signals, open_fault, or_else, signals_in, some_again}
+use Rattle.blif_net.specs.Circuits.{Context, Statement, nothing, model, inputs, outputs, names, ends, passed_over, left_out, unknown, row, after_statement, close, last_of, said}
+use Rattle.blif_net.specs.Faults.{end_fault, line_fault, open_fault, signals_in, some_again}
 use Rattle.blif_net.specs.Covers.{StopIs}
 use Rattle.blif_net.specs.Drafts.{Closes, IsDraftOf, Stops, StopsLine, Takes, TakesLine, TakesStatement, added, names_said, uses_in, with_uses}
 use Rattle.blif_net.proofs.Distinct.{closed_same}
@@ -27,11 +31,11 @@ same_fault : (c : Context) (statement : Statement) → is_directive statement �
 same_fault c nothing d = cc
 same_fault c model d = refl
 same_fault c (inputs words) d =
-    ap (λ s. or_else (fault_if (some_again s words) kinds.Twice) (or_else (fault_if (nat_lt most_inputs (length c.inputs + length words)) kinds.TooMany) (fault_if (nat_lt most_signals (length s + length words)) kinds.TooMany))) (same_signals c)
+    ap (λ s. option_or (then_some (some_again s words) kinds.Twice) (option_or (then_some (nat_lt MOST_VARIABLES (length c.inputs + length words)) kinds.TooMany) (then_some (nat_lt MOST_SIGNALS (length s + length words)) kinds.TooMany))) (same_signals c)
 same_fault c (outputs words) d = refl
 same_fault c (names []) d = refl
 same_fault c (names (word ∷ words)) d =
-    ap (λ s. or_else (fault_if (is_among s (last_of (word ∷ words))) kinds.Twice) (fault_if (nat_lt most_signals (length s + 1)) kinds.TooMany)) (same_signals c)
+    ap (λ s. option_or (then_some (is_among s (last_of (word ∷ words))) kinds.Twice) (then_some (nat_lt MOST_SIGNALS (length s + 1)) kinds.TooMany)) (same_signals c)
 same_fault c (ends []) d = refl
 same_fault c (ends (word ∷ words)) d = refl
 same_fault c passed_over d = refl

@@ -3,7 +3,7 @@ use Rattle.std.proofs.Common.{◌≡◌, ℕ, zero, suc, ◌==◌, ◌<◌, ◌|
 use Rattle.std.specs.Prelude.{find, slice_get}
 use Rattle.std.specs.Global.{Vec}
 use Rattle.std.specs.List.{All}
-use Rattle.std.specs.Option.{option_map}
+use Rattle.std.specs.Option.{option_map, option_or}
 use Rattle.std.proofs.lemmas.Bool.Decides.{nat_tests}
 use Rattle.std.proofs.lemmas.Option.{slice_get_within, slice_get-get_or}
 use Rattle.blif_net.specs.declared.covers.CoverDraft.{CoverDraft}
@@ -13,7 +13,7 @@ use Rattle.blif_net.specs.declared.faults.FaultKind.TheVariants as kinds
 use Rattle.blif_net.specs.declared.net.Net.{Net}
 use Rattle.blif_net.specs.Text.{Line, Word}
 use Rattle.blif_net.specs.Circuits.{Circuit, Cover, at_start, behind, circuit_of, defined_in}
-use Rattle.blif_net.specs.Faults.{cycle_at, cyclic_cover, fault_in, faulty_line, first_of, is_settled, last_number, no_outputs, undefined_line}
+use Rattle.blif_net.specs.Faults.{cycle_at, cyclic_cover, fault_in, faulty_line, is_settled, last_number, no_outputs, undefined_line}
 use Rattle.blif_net.specs.Names.{Name, is_unknown, words_in}
 use Rattle.blif_net.specs.Drafts.{AllKnown, AreRoles, Closes, IsCircuitOf, IsClosedFrom, IsNetFrom, IsReadFrom}
 use Rattle.blif_net.specs.Building.{IsBuilt}
@@ -43,10 +43,10 @@ alone_in : (lines : List Line) → faulty_line at_start lines ≡ None → Alone
 alone_in lines e = alone_behind at_start lines e alone_at_start
 
 -- each kind comes where no earlier one does
-behind_lines : (lines : List Line) (one two three : Option BlifFault) → faulty_line at_start lines ≡ None → undefined_line lines ≡ one → cyclic_cover (circuit_of lines) ≡ two → no_outputs lines ≡ three → fault_in lines ≡ first_of one (first_of two three)
+behind_lines : (lines : List Line) (one two three : Option BlifFault) → faulty_line at_start lines ≡ None → undefined_line lines ≡ one → cyclic_cover (circuit_of lines) ≡ two → no_outputs lines ≡ three → fault_in lines ≡ option_or one (option_or two three)
 behind_lines lines one two three e f g h =
-    ap (λ t. first_of t (first_of (undefined_line lines) (first_of (cyclic_cover (circuit_of lines)) (no_outputs lines)))) e
-    ∙ ap (λ t. first_of t (first_of (cyclic_cover (circuit_of lines)) (no_outputs lines))) f ∙ ap (λ t. first_of one (first_of t (no_outputs lines))) g ∙ ap (λ t. first_of one (first_of two t)) h
+    ap (λ t. option_or t (option_or (undefined_line lines) (option_or (cyclic_cover (circuit_of lines)) (no_outputs lines)))) e
+    ∙ ap (λ t. option_or t (option_or (cyclic_cover (circuit_of lines)) (no_outputs lines))) f ∙ ap (λ t. option_or one (option_or t (no_outputs lines))) g ∙ ap (λ t. option_or one (option_or two t)) h
 
 pub undefined_fault : (lines : List Line) (draft : Draft) (n : ℕ) → IsClosedFrom lines draft → option_map (λ (name : Name). name.line) (find (λ (name : Name). is_unknown name.role) draft.names) ≡ Some n
     → fault_in lines ≡ Some (record { line = n; what = kinds.Undefined })

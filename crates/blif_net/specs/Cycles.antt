@@ -1,7 +1,8 @@
 -- What lies on a cycle or depends on one, by who reads whom; and that these are the covers which are told.
 use Rattle.std.specs.Prelude.{◌≡◌, ℕ, true, false, List, [], ◌∷◌, ◌⊎◌, None, Some, slice_get}
+use Rattle.job_words.specs.Text.{is_among}
 use Rattle.blif_net.specs.Text.{Line}
-use Rattle.blif_net.specs.Circuits.{Cover, at_start, circuit_of, is_among}
+use Rattle.blif_net.specs.Circuits.{Cover, at_start, circuit_of}
 use Rattle.blif_net.specs.Faults.{faulty_line, is_settled, undefined_line}
 
 abbrev pub IsOneOf : List Cover → Cover → Type 0

@@ -2,6 +2,7 @@
 use Rattle.std.specs.Prelude.{◌≡◌, ℕ, true, false, List, [], ◌∷◌, ◌++◌, ◌<◌, All, Option, Some, None, find, length, map, slice_get, if◌then◌else◌}
 use Rattle.std.specs.List.{list_any}
 use Rattle.std.specs.Str.{bytes_eq}
+use Rattle.job_words.specs.Text.{is_among}
 use Rattle.blif_net.specs.declared.covers.CoverDraft.{CoverDraft}
 use Rattle.blif_net.specs.declared.draft.Draft.{Draft}
 use Rattle.blif_net.specs.declared.faults.BlifError.{BlifError}
@@ -13,7 +14,7 @@ use Rattle.blif_net.specs.declared.faults.FaultKind.TheVariants as kinds
 use Rattle.blif_net.specs.declared.faults.Stop.{Stop}
 use Rattle.blif_net.specs.declared.faults.Stop.TheVariants as stops
 use Rattle.blif_net.specs.Text.{Word, Line}
-use Rattle.blif_net.specs.Circuits.{Context, Cover, Statement, model, inputs, outputs, names, ends, Circuit, after_line, at_start, behind, circuit_of, after_statement, close, cover_at, covers_in, defined_in, is_among, said}
+use Rattle.blif_net.specs.Circuits.{Context, Cover, Statement, model, inputs, outputs, names, ends, Circuit, after_line, at_start, behind, circuit_of, after_statement, close, cover_at, covers_in, defined_in, said}
 use Rattle.blif_net.specs.Faults.{fault_in, faulty_line, line_fault, open_fault, signals_in, some_again}
 use Rattle.blif_net.specs.Networks.{AreNumbers, IsNetOf}
 use Rattle.blif_net.specs.Names.{Name, is_unknown, role_or_none, words_in}

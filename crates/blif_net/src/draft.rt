@@ -4,7 +4,7 @@ ghost use Rattle.std.specs.Prelude.{◌≡◌, ◌+◌, [], length, map, nat_lt,
 ghost use Rattle.blif_net.specs.Circuits.{at_start, inputs, model, names, nothing, outputs, ends, row};
 ghost use Rattle.blif_net.specs.Covers.{StopIs};
 ghost use Rattle.blif_net.specs.Drafts.{AddsInput, AddsInputs, Closes, InputStop, InputsStop, IsDraftOf, Stops, StopsLine, Takes, TakesLine, TakesStatement, uses_in};
-ghost use Rattle.blif_net.specs.Faults.{end_fault, most_outputs};
+ghost use Rattle.blif_net.specs.Faults.{end_fault};
 ghost use Rattle.blif_net.specs.Statements.{statement_in};
 ghost use Rattle.blif_net.specs.Text.{line_at};
 
@@ -12,17 +12,11 @@ use crate::covers::CoverDraft;
 use crate::faults::{FaultKind, Stop};
 use crate::names::{Names, Role};
 use crate::statements::{Statement, statement_of};
-use crate::text::{is_clean, words};
-use edge_bits::List;
+use crate::text::words;
+use edge_bits::{List, MOST_OUTPUTS, MOST_SIGNALS, MOST_VARIABLES};
+use job_words::{ByteClass, all_in};
 use std::alloc::{AllocError, Global};
 use std::hash::RandomState;
-
-/// The most inputs, signals and outputs.
-const MOST_INPUTS: usize = 1_024;
-
-const MOST_SIGNALS: usize = 1_048_576;
-
-const MOST_OUTPUTS: usize = 1_048_576;
 
 /// What the lines so far declare, with numbers of names: inputs, outputs, the covers that are closed, and the one that is open.
 #[derive(Drop)]
@@ -118,10 +112,10 @@ impl Draft {
 
     /// Whether there would be too many outputs with so many more.
     fn has_more_outputs(&self, more: usize) -> bool
-        ensures { result ≡ nat_lt most_outputs (length self.now.outputs.items + more) }
+        ensures { result ≡ nat_lt MOST_OUTPUTS (length self.now.outputs.items + more) }
     {
         let outputs = self.outputs.len();
-        outputs > MOST_OUTPUTS || more > MOST_OUTPUTS - outputs
+        outputs > MOST_OUTPUTS as usize || more > MOST_OUTPUTS as usize - outputs
     }
 
     /// `.model`
@@ -143,10 +137,10 @@ impl Draft {
         ensures stop { IfErr result (Stops self.old (inputs (map (λ word. word.now) words.now))) }
     {
         self.add_inputs(alloc, words, line)?;
-        if self.inputs.len() > MOST_INPUTS {
+        if self.inputs.len() > MOST_VARIABLES as usize {
             return Err(Stop::Fault(FaultKind::TooMany));
         }
-        if self.has_more_signals(MOST_SIGNALS) {
+        if self.has_more_signals(MOST_SIGNALS as usize) {
             return Err(Stop::Fault(FaultKind::TooMany));
         }
         Ok(())
@@ -177,7 +171,7 @@ impl Draft {
         let cover = number_of(self.closed.len())?;
         let ins = self.names.numbers_of(alloc, ins, line)?;
         let name = self.names.define(alloc, name, line, Role::Cover(cover))?;
-        if self.has_more_signals(MOST_SIGNALS - 1) {
+        if self.has_more_signals(MOST_SIGNALS as usize - 1) {
             return Err(Stop::Fault(FaultKind::TooMany));
         }
         self.current = Some(CoverDraft {
@@ -255,7 +249,7 @@ impl Draft {
         ensures ok { OnOk result (TakesLine self.old (line_at line bytes.now) self.new) }
         ensures stop { IfErr result (StopsLine self.old (line_at line bytes.now)) }
     {
-        if !is_clean(bytes) {
+        if !all_in(bytes, ByteClass::Extended) {
             return Err(Stop::Fault(FaultKind::Word));
         }
         let words = words(alloc, bytes)?;

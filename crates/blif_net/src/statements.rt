@@ -3,7 +3,8 @@
 ghost use Rattle.std.specs.Prelude.{◌≡◌, ◌<◌, ◌==◌, All, length, map, slice_index};
 ghost use Rattle.std.specs.List.{list_any};
 ghost use Rattle.std.specs.Str.{bytes_eq};
-ghost use Rattle.blif_net.specs.Circuits.{directive, is_among, left_words, passed_words, statement_of};
+ghost use Rattle.job_words.specs.Text.{is_among};
+ghost use Rattle.blif_net.specs.Circuits.{directive, left_words, passed_words, statement_of};
 ghost use Rattle.blif_net.specs.Statements.{statement_in};
 
 /// What a line says: its kind, with the words that it depends on.

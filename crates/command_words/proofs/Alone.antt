@@ -4,11 +4,12 @@ use Rattle.std.specs.Str.{bytes_eq}
 use Rattle.clap.specs.Walk.{Row, Text, first_of}
 use Rattle.clap.specs.Simple.{subcommand_of}
 use Rattle.clap.specs.Faults.{fault_of}
+use Rattle.edge_bits.specs.declared.limits.TheConstants.{MOST_BITS}
 use Rattle.command_words.specs.declared.order.Order.{Order}
 use Rattle.command_words.specs.declared.order.Order.TheVariants.{Play, Build, Load, Gen}
 use Rattle.command_words.specs.Table.{table}
 use Rattle.command_words.specs.Values.{number_in}
-use Rattle.command_words.specs.Orders.{build_in, gen_in, is_play, limit_in, load_in, most_bits, order_in, order_of, patterns_in, table_order, workers_in}
+use Rattle.command_words.specs.Orders.{build_in, gen_in, is_play, limit_in, load_in, order_in, order_of, patterns_in, table_order, workers_in}
 use Rattle.command_words.proofs.Ranges.{anything, chained, chosen, mapped}
 
 -- every command but `play`
@@ -34,7 +35,7 @@ of_gen : (rows : List Row) → IfSome (gen_in rows) HasOptions
 of_gen rows =
     chained Any HasOptions _ (workers_in rows) (anything (workers_in rows)) (λ workers _.
     chained Any HasOptions _ (first_of (codes "count") rows) (anything (first_of (codes "count") rows)) (λ word _.
-    mapped Any HasOptions (Gen workers) (number_in 1 most_bits word) (anything (number_in 1 most_bits word)) (λ bits _. tt)))
+    mapped Any HasOptions (Gen workers) (number_in 1 MOST_BITS word) (anything (number_in 1 MOST_BITS word)) (λ bits _. tt)))
 
 of_met : (met : Text × List Row) → IfSome (order_in met) HasOptions
 of_met met =

@@ -12,10 +12,13 @@ use Rattle.job_words.specs.Text.{Word, is_number}
 use Rattle.clap.specs.Walk.{Row, Text, all_of, first_of}
 use Rattle.clap.specs.Simple.{subcommand_of}
 use Rattle.clap.specs.Faults.{fault_of}
+use Rattle.edge_bits.specs.declared.limits.TheConstants.{MOST_BITS, MOST_LIMIT, USUAL_LIMIT}
+use Rattle.command_words.specs.declared.reading.TheConstants.{MOST_WORKERS}
+use Rattle.command_words.specs.declared.values.TheConstants.{LONGEST_PATTERN}
 use Rattle.command_words.specs.declared.order.Order.TheVariants.{Load, Gen}
 use Rattle.command_words.specs.Table.{table}
-use Rattle.command_words.specs.Values.{is_pattern, longest_pattern, number_in, number_or, pattern_of, patterns_of}
-use Rattle.command_words.specs.Orders.{ArePatterns, IsInRange, build_in, gen_in, limit_in, load_in, most_bits, most_limit, most_workers, order_in, patterns_in, table_order, workers_in}
+use Rattle.command_words.specs.Values.{is_pattern, number_in, number_or, pattern_of, patterns_of}
+use Rattle.command_words.specs.Orders.{ArePatterns, IsInRange, build_in, gen_in, limit_in, load_in, order_in, patterns_in, table_order, workers_in}
 
 -- what holds of each value that a choice, a map or a chain may give
 pub chosen : {A : Type 0} (P : A → Type 0) (b : Bool) (x y : Option A) → (b ≡ true → IfSome x P) → (b ≡ false → IfSome y P) → IfSome (if b then x else y) P
@@ -53,13 +56,13 @@ number_or-range usual least most (Some word) low high = number_in-range least mo
 length_tests : (n most : ℕ) (b : Bool) → (not (n == 0) && nat_le n most && b) ≡ true → IsBetween 1 most n
 length_tests n most b h = (grind (arith, nat_tests), grind (arith, nat_tests))
 
-pattern-range : (word : Word) → is_pattern word ≡ true → IsBetween 1 longest_pattern (length (pattern_of word))
+pattern-range : (word : Word) → is_pattern word ≡ true → IsBetween 1 LONGEST_PATTERN (length (pattern_of word))
 pattern-range word h =
-    rw (length-map word (λ b. b == 49)) (length_tests (length word) longest_pattern (list_all (λ b. b == 48 || b == 49) word) h)
+    rw (length-map word (λ b. b == 49)) (length_tests (length word) LONGEST_PATTERN (list_all (λ b. b == 48 || b == 49) word) h)
 
 patterns-range : (words : List Word) → list_all is_pattern words ≡ true → ArePatterns (map pattern_of words)
 patterns-range words h =
-    All-map (λ bits. IsBetween 1 longest_pattern (length bits)) pattern_of words
+    All-map (λ bits. IsBetween 1 LONGEST_PATTERN (length bits)) pattern_of words
     (λ i d within. pattern-range (get_or words i d) (AllPass-from_list_all is_pattern words h i d within))
 
 patterns_of-range : (words : List Word) → IfSome (patterns_of words) ArePatterns
@@ -68,16 +71,16 @@ patterns_of-range words = chosen ArePatterns (list_all is_pattern words) (Some (
 patterns_in-range : (rows : List Row) → IfSome (patterns_in rows) ArePatterns
 patterns_in-range rows = patterns_of-range (unwrap_or (all_of (codes "bits") rows) [])
 
-workers-range : (rows : List Row) → IfSome (workers_in rows) (IsBetween 1 most_workers)
-workers-range rows = number_or-range 1 1 most_workers (first_of (codes "workers") rows) (omega arith) (omega arith)
+workers-range : (rows : List Row) → IfSome (workers_in rows) (IsBetween 1 MOST_WORKERS)
+workers-range rows = number_or-range 1 1 MOST_WORKERS (first_of (codes "workers") rows) (omega arith) (omega arith)
 
-limit-range : (rows : List Row) → IfSome (limit_in rows) (IsBetween 0 most_limit)
-limit-range rows = number_or-range 262144 0 most_limit (first_of (codes "limit") rows) (omega arith) (omega arith)
+limit-range : (rows : List Row) → IfSome (limit_in rows) (IsBetween 0 MOST_LIMIT)
+limit-range rows = number_or-range USUAL_LIMIT 0 MOST_LIMIT (first_of (codes "limit") rows) (omega arith) (omega arith)
 
 build-range : (rows : List Row) → IfSome (build_in rows) IsInRange
 build-range rows =
-    chained (IsBetween 1 most_workers) IsInRange _ (workers_in rows) (workers-range rows) (λ workers few.
-    chained (IsBetween 0 most_limit) IsInRange _ (limit_in rows) (limit-range rows) (λ limit small.
+    chained (IsBetween 1 MOST_WORKERS) IsInRange _ (workers_in rows) (workers-range rows) (λ workers few.
+    chained (IsBetween 0 MOST_LIMIT) IsInRange _ (limit_in rows) (limit-range rows) (λ limit small.
     mapped ArePatterns IsInRange _ (patterns_in rows) (patterns_in-range rows) (λ patterns are. (few.0, few.1, small.1, are))))
 
 load-range : (rows : List Row) → IfSome (load_in rows) IsInRange
@@ -85,9 +88,9 @@ load-range rows = mapped ArePatterns IsInRange Load (patterns_in rows) (patterns
 
 gen-range : (rows : List Row) → IfSome (gen_in rows) IsInRange
 gen-range rows =
-    chained (IsBetween 1 most_workers) IsInRange _ (workers_in rows) (workers-range rows) (λ workers few.
+    chained (IsBetween 1 MOST_WORKERS) IsInRange _ (workers_in rows) (workers-range rows) (λ workers few.
     chained (λ _. Unit {0}) IsInRange _ (first_of (codes "count") rows) (anything (first_of (codes "count") rows)) (λ word _.
-    mapped (IsBetween 1 most_bits) IsInRange (Gen workers) (number_in 1 most_bits word) (number_in-range 1 most_bits word) (λ bits several. (few.0, few.1, several.0, several.1))))
+    mapped (IsBetween 1 MOST_BITS) IsInRange (Gen workers) (number_in 1 MOST_BITS word) (number_in-range 1 MOST_BITS word) (λ bits several. (few.0, few.1, several.0, several.1))))
 
 met-range : (met : Text × List Row) → IfSome (order_in met) IsInRange
 met-range met =

@@ -5,31 +5,21 @@ use Rattle.std.specs.Str.{bytes_eq}
 use Rattle.clap.specs.Walk.{Row, Text, all_of, first_of}
 use Rattle.clap.specs.Simple.{subcommand_of}
 use Rattle.clap.specs.Faults.{fault_of}
+use Rattle.edge_bits.specs.declared.limits.TheConstants.{MOST_BITS, MOST_LIMIT, USUAL_LIMIT}
+use Rattle.command_words.specs.declared.reading.TheConstants.{MOST_WORKERS}
+use Rattle.command_words.specs.declared.values.TheConstants.{LONGEST_PATTERN}
 use Rattle.command_words.specs.declared.order.Order.{Order}
 use Rattle.command_words.specs.declared.order.Order.TheVariants.{Play, Build, Load, Gen}
 use Rattle.command_words.specs.Table.{table}
-use Rattle.command_words.specs.Values.{longest_pattern, number_in, number_or, patterns_of}
-
--- the greatest numbers, and the limit where none is given
-abbrev pub most_workers : ℕ
-most_workers = 16
-
-abbrev pub most_limit : ℕ
-most_limit = 8000000
-
-abbrev pub usual_limit : ℕ
-usual_limit = 262144
-
-abbrev pub most_bits : ℕ
-most_bits = 256
+use Rattle.command_words.specs.Values.{number_in, number_or, patterns_of}
 
 -- `--workers`
 abbrev pub workers_in : List Row → Option ℕ
-workers_in rows = number_or 1 1 most_workers (first_of (codes "workers") rows)
+workers_in rows = number_or 1 1 MOST_WORKERS (first_of (codes "workers") rows)
 
 -- `--limit`
 abbrev pub limit_in : List Row → Option ℕ
-limit_in rows = number_or usual_limit 0 most_limit (first_of (codes "limit") rows)
+limit_in rows = number_or USUAL_LIMIT 0 MOST_LIMIT (first_of (codes "limit") rows)
 
 -- a flag was given
 abbrev pub is_true : Option Text → Bool
@@ -56,7 +46,7 @@ load_in rows = option_map Load (patterns_in rows)
 
 -- behind `gen`
 abbrev pub gen_in : List Row → Option Order
-gen_in rows = option_and_then (λ workers. option_and_then (λ word. option_map (Gen workers) (number_in 1 most_bits word)) (first_of (codes "count") rows)) (workers_in rows)
+gen_in rows = option_and_then (λ workers. option_and_then (λ word. option_map (Gen workers) (number_in 1 MOST_BITS word)) (first_of (codes "count") rows)) (workers_in rows)
 
 -- of a command of the table with what was found behind it
 abbrev pub order_in : Text × List Row → Option Order
@@ -78,13 +68,13 @@ is_play _ = false
 unfoldable pub order_of : List Text → Option Order
 order_of words = if is_play words then Some Play else table_order words
 
--- each pattern has 1 to 16,384 bits
+-- each pattern has a bit, and not more than it may
 abbrev pub ArePatterns : List (List Bool) → Type 0
-ArePatterns patterns = All (λ bits. (1 ≤ length bits) × (length bits ≤ longest_pattern)) patterns
+ArePatterns patterns = All (λ bits. (1 ≤ length bits) × (length bits ≤ LONGEST_PATTERN)) patterns
 
 -- the numbers and bits of an order are in range
 abbrev pub IsInRange : Order → Type 0
 IsInRange Play = Unit {0}
-IsInRange (Build workers limit options) = (1 ≤ workers) × (workers ≤ most_workers) × (limit ≤ most_limit) × ArePatterns options.patterns
+IsInRange (Build workers limit options) = (1 ≤ workers) × (workers ≤ MOST_WORKERS) × (limit ≤ MOST_LIMIT) × ArePatterns options.patterns
 IsInRange (Load patterns) = ArePatterns patterns
-IsInRange (Gen workers bits) = (1 ≤ workers) × (workers ≤ most_workers) × (1 ≤ bits) × (bits ≤ most_bits)
+IsInRange (Gen workers bits) = (1 ≤ workers) × (workers ≤ MOST_WORKERS) × (1 ≤ bits) × (bits ≤ MOST_BITS)

@@ -2,6 +2,7 @@
 use Rattle.std.specs.Prelude.{ℕ, ◌==◌, nat_le, Bool, not, ◌&&◌, ◌||◌, List, Option, Some, None, length, map, if◌then◌else◌}
 use Rattle.std.specs.List.{list_all}
 use Rattle.std.specs.Str.Parse.{digits_value}
+use Rattle.command_words.specs.declared.values.TheConstants.{LONGEST_PATTERN}
 use Rattle.job_words.specs.Text.{Word, is_number}
 
 -- a number in range, written without a sign or a leading zero
@@ -14,13 +15,9 @@ abbrev pub number_or : ℕ → ℕ → ℕ → Option Word → Option ℕ
 number_or usual least most None = Some usual
 number_or usual least most (Some word) = number_in least most word
 
--- the most bits of a pattern
-abbrev pub longest_pattern : ℕ
-longest_pattern = 16384
-
--- 1 to 16,384 characters 0 and 1
+-- characters 0 and 1, at least one and not more than a pattern may have
 abbrev pub is_pattern : Word → Bool
-is_pattern word = not (length word == 0) && nat_le (length word) longest_pattern && list_all (λ b. b == 48 || b == 49) word
+is_pattern word = not (length word == 0) && nat_le (length word) LONGEST_PATTERN && list_all (λ b. b == 48 || b == 49) word
 
 -- the bits that the characters are
 abbrev pub pattern_of : Word → List Bool

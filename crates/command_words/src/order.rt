@@ -22,7 +22,7 @@ pub enum Order {
     Build {
         /// 1 to 16; 1 unless given.
         workers: u32,
-        /// How many nodes beyond the permanent ones there may be, at most 8,000,000; 262,144 unless given.
+        /// How many nodes beyond the permanent ones there may be, at most `MOST_LIMIT`; `USUAL_LIMIT` unless given.
         limit: u32,
         options: Options,
     },
@@ -35,7 +35,7 @@ pub enum Order {
     Gen {
         /// 1 to 16; 1 unless given.
         workers: u32,
-        /// K, 1 to 256.
+        /// K, 1 to `MOST_BITS`.
         bits: u32,
     },
 }

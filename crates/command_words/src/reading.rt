@@ -14,18 +14,11 @@ use crate::table::commands;
 use crate::values::{number_in, patterns_of};
 use clap::error::ErrorKind;
 use clap::{ArgMatches, Error};
-use edge_bits::{List, Memory};
+use edge_bits::{List, MOST_BITS, MOST_LIMIT, Memory, USUAL_LIMIT};
 use std::alloc::Global;
 
+/// The most workers that may be asked for.
 const MOST_WORKERS: u32 = 16;
-
-const MOST_LIMIT: u32 = 8_000_000;
-
-/// The limit unless `--limit` is given.
-const USUAL_LIMIT: u32 = 262_144;
-
-/// The most bits of a network that is made.
-const MOST_BITS: u32 = 256;
 
 fn is_play(words: &[String]) -> bool
     ensures { result ≡ is_play (map string_bytes words.now) }

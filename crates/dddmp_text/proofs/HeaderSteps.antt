@@ -4,10 +4,12 @@ use Rattle.std.specs.List.{list_all, list_any}
 use Rattle.std.specs.List.Sorted.{IsStrictlyIncreasing}
 use Rattle.std.specs.Fmt.{decimal, signed_decimal}
 use Rattle.std.proofs.lemmas.Bool.Decides.{nat_tests}
+use Rattle.std.specs.Bool.{then_some}
+use Rattle.std.specs.Option.{option_or}
 use Rattle.job_words.specs.Text.{integer_value}
 use Rattle.dddmp_text.specs.declared.faults.FaultKind.TheVariants as kinds
 use Rattle.dddmp_text.specs.Fields.{is_small, is_small_integer}
-use Rattle.dddmp_text.specs.Faults.{fault_if, is_bad_root, or_else}
+use Rattle.dddmp_text.specs.Faults.{is_bad_root}
 use Rattle.dddmp_text.proofs.Decimals.{both_true, decimal-integer, decimal-number, decimal-value, decimal-word, is_word, signed-integer, signed-value, signed-word}
 use Rattle.dddmp_text.proofs.NodeSteps.{lt_test}
 use Rattle.diagram_dumps.proofs.Walks.{AreLines}
@@ -87,7 +89,7 @@ few (id ∷ rest) vars rises below =
     omega (arith, low, high)
 
 pub no_header_fault : (a b c : Bool) → a ≡ false → b ≡ false → c ≡ false
-    → or_else (fault_if a kinds.Count) (or_else (fault_if b kinds.Variable) (fault_if c kinds.Root)) ≡ None
+    → option_or (then_some a kinds.Count) (option_or (then_some b kinds.Variable) (then_some c kinds.Root)) ≡ None
 no_header_fault false false false ha hb hc = refl
 no_header_fault false false true ha hb hc = cc
 no_header_fault false true c ha hb hc = cc

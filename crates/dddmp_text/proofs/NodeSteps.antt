@@ -10,6 +10,8 @@ use Rattle.std.proofs.lemmas.Bool.Decides.{nat_tests}
 use Rattle.std.proofs.lemmas.Slice.Eq.{bytes_eq-Decides}
 use Rattle.std.proofs.lemmas.List.{append-nil}
 use Rattle.std.proofs.Math.Seq.{get_or-append_seam}
+use Rattle.std.specs.Bool.{then_some}
+use Rattle.std.specs.Option.{option_or}
 use Rattle.job_words.specs.Text.{integer_value}
 use Rattle.edge_bits.specs.declared.edges.Line.{Line}
 use Rattle.diagram_dumps.specs.declared.dump.Dump.{Dump}
@@ -19,7 +21,7 @@ use Rattle.dddmp_text.specs.declared.faults.FaultKind.TheVariants as kinds
 use Rattle.dddmp_text.specs.Fields.{Fields, is_node, number, numbers}
 use Rattle.dddmp_text.specs.Ranks.{internal_of, variable_of}
 use Rattle.diagram_dumps.specs.Dumps.{place_among}
-use Rattle.dddmp_text.specs.Faults.{Context, after_words, ended, fault_if, fields_fault, listing, node_of, or_else, words_fault}
+use Rattle.dddmp_text.specs.Faults.{Context, after_words, ended, fields_fault, listing, node_of, words_fault}
 use Rattle.diagram_dumps.specs.WellMade.{IsWritable}
 use Rattle.dddmp_text.proofs.Decimals.{both_true, decimal-digits, decimal-number, decimal-value, decimal-word, not_none, signed-integer, signed-value, signed-word}
 use Rattle.dddmp_text.proofs.Lookups.{place_among-is}
@@ -51,7 +53,7 @@ not_end n small = by_test (bytes_eq (decimal n) (codes ".end")) refl
         cc
 
 no_node_fault : (a b c : Bool) → a ≡ true → b ≡ true → c ≡ true
-    → or_else (fault_if (not a) kinds.Node) (or_else (fault_if (not b) kinds.Order) (fault_if (not c) kinds.Variable)) ≡ None
+    → option_or (then_some (not a) kinds.Node) (option_or (then_some (not b) kinds.Order) (then_some (not c) kinds.Variable)) ≡ None
 no_node_fault true true true ha hb hc = refl
 no_node_fault true true false ha hb hc = cc
 no_node_fault true false c ha hb hc = cc
@@ -118,7 +120,7 @@ node_left dump given done index line small is =
 node_fine : (dump : Dump) (given : List Given) (done : List Line) (index : ℕ) (line : Line) → index < 2 ^ 64 → index ≡ length done + 2
     → fields_fault given index (Some (read_of dump index line)) ≡ None → words_fault (listing given true done) (words_of (node_line dump index line)) ≡ None
 node_fine dump given done index line small place fine =
-    ap (λ (b : Bool). if b then fault_if (not (length done + 2 == number given fields.Nnodes + 1)) kinds.Count else fields_fault given (length done + 2) (Some (read_of dump index line))) (not_end index small)
+    ap (λ (b : Bool). if b then then_some (not (length done + 2 == number given fields.Nnodes + 1)) kinds.Count else fields_fault given (length done + 2) (Some (read_of dump index line))) (not_end index small)
     ∙ ap (λ i. fields_fault given i (Some (read_of dump index line))) (sym place) ∙ fine
 
 node_words : (dump : Dump) (index : ℕ) (line : Line) → Small dump index line → IsEarlier line index → line.var < 2 ^ 31 → is_line (node_line dump index line) ≡ true
@@ -137,7 +139,7 @@ line_at : (done : List Line) (line : Line) (rest : List Line) → slice_get (don
 line_at [] line rest = refl
 line_at (first ∷ done) line rest = line_at done line rest
 
-no_count_fault : (b : Bool) → b ≡ true → fault_if (not b) kinds.Count ≡ None
+no_count_fault : (b : Bool) → b ≡ true → then_some (not b) kinds.Count ≡ None
 no_count_fault true h = refl
 no_count_fault false h = cc
 

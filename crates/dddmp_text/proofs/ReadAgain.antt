@@ -6,6 +6,7 @@ use Rattle.std.proofs.lemmas.Bool.{eq-eqb}
 use Rattle.std.proofs.lemmas.Bool.Decides.{nat_tests}
 use Rattle.std.proofs.lemmas.List.{length-map}
 use Rattle.std.proofs.lemmas.List.Sums.{list_all-from_AllPass}
+use Rattle.std.specs.Bool.{then_some}
 use Rattle.job_words.specs.Text.{integer_value, is_number, lines_of}
 use Rattle.edge_bits.specs.declared.edges.Line.{Line}
 use Rattle.edge_bits.specs.declared.limits.TheConstants.{MOST_VARIABLES}
@@ -14,7 +15,7 @@ use Rattle.dddmp_text.specs.declared.fields.Field.TheVariants as fields
 use Rattle.dddmp_text.specs.declared.fields.Given.{Given}
 use Rattle.dddmp_text.specs.declared.faults.FaultKind.TheVariants as kinds
 use Rattle.dddmp_text.specs.Fields.{number, numbers, whole_numbers}
-use Rattle.dddmp_text.specs.Faults.{at_start, behind, dump_in, dump_of, ended, fault_if, fault_of, faulty_line, heading, is_bad_root, is_other_count, listing, words_fault}
+use Rattle.dddmp_text.specs.Faults.{at_start, behind, dump_in, dump_of, ended, fault_of, faulty_line, heading, is_bad_root, is_other_count, listing, words_fault}
 use Rattle.diagram_dumps.specs.WellMade.{IsWritable}
 use Rattle.dddmp_text.specs.Written.{written}
 use Rattle.dddmp_text.specs.Readings.{IsReadAgain, IsSmall}
@@ -73,7 +74,7 @@ tells dump small = record {
   nodes = ap nat_abs (decimal-integer (length dump.nodes + 1) small.nodes);
 }
 
-field_fine : (b : Bool) → b ≡ true → fault_if (not b) kinds.Header ≡ None
+field_fine : (b : Bool) → b ≡ true → then_some (not b) kinds.Header ≡ None
 field_fine true h = refl
 field_fine false h = cc
 

@@ -6,8 +6,8 @@ use Rattle.std.proofs.lemmas.List.Elements.{All-append, All-cons, All-nil}
 use Rattle.std.proofs.lemmas.Bool.Decides.{nat_tests}
 use Rattle.std.proofs.lemmas.List.Splits.{length-slice_split, slice_split_at, slice_split_none}
 use Rattle.std.proofs.lemmas.List.Sums.{AllPass-from_list_all}
-use Rattle.job_words.specs.Text.{is_separator, lines_of, without_empty_end}
-use Rattle.dddmp_text.specs.Fields.{words_in}
+use Rattle.job_words.specs.Classes.{words_between}
+use Rattle.job_words.specs.Text.{is_separator, lines_of, without_empty_end, split_words}
 use Rattle.dddmp_text.specs.Written.{item}
 use Rattle.dddmp_text.proofs.Decimals.{is_word}
 
@@ -40,15 +40,15 @@ has_bytes word = not (length word == 0)
 kept : (word : List ℕ) (rest : List (List ℕ)) → has_bytes word ≡ true → filter has_bytes (word ∷ rest) ≡ word ∷ filter has_bytes rest
 kept word rest h = ap (λ (b : Bool). if b then word ∷ filter has_bytes rest else filter has_bytes rest) h
 
-pub words_in-joined : (word : List ℕ) (words : List (List ℕ)) → is_word word ≡ true → list_all is_word words ≡ true → words_in (joined_words word words) ≡ word ∷ words
-unfolding words_in
-words_in-joined word [] h all =
+pub split_words-joined : (word : List ℕ) (words : List (List ℕ)) → is_word word ≡ true → list_all is_word words ≡ true → split_words (joined_words word words) ≡ word ∷ words
+unfolding split_words words_between
+split_words-joined word [] h all =
     ap (λ line. filter has_bytes (slice_split is_separator line)) (append-nil word)
     ∙ ap (filter has_bytes) (slice_split_none is_separator word (no_separators word h)) ∙ kept word [] (and_first _ _ h)
-words_in-joined word (next ∷ words) h all =
+split_words-joined word (next ∷ words) h all =
     ap (filter has_bytes) (slice_split_at is_separator word 32 (joined_words next words) (no_separators word h) refl)
     ∙ kept word (slice_split is_separator (joined_words next words)) (and_first _ _ h)
-    ∙ ap (λ rest. word ∷ rest) (words_in-joined next words (and_first _ _ all) (and_second _ _ all))
+    ∙ ap (λ rest. word ∷ rest) (split_words-joined next words (and_first _ _ all) (and_second _ _ all))
 
 more_lines : (line : List ℕ) (parts : List (List ℕ)) → 0 < length parts → without_empty_end (line ∷ parts) ≡ line ∷ without_empty_end parts
 more_lines line [] h = absurd (omega arith)

@@ -1,10 +1,11 @@
 -- What is wrong with a text: its first faulty line, and on it the first fault.
 use Rattle.std.specs.Prelude.{◌≡◌, ℕ, ◌+◌, ◌==◌, nat_lt, Bool, true, false, not, ◌&&◌, ◌||◌, List, [], ◌∷◌, ◌++◌, ℤ, Option, Some, None, length, codes, nat_abs, if◌then◌else◌}
 use Rattle.std.specs.List.{list_all, list_any}
-use Rattle.std.specs.Option.{option_map}
+use Rattle.std.specs.Option.{option_map, option_or}
 use Rattle.std.specs.Str.{bytes_eq}
 use Rattle.std.specs.Str.Parse.{digits_value}
-use Rattle.job_words.specs.Text.{Word, lines_of, integer_value}
+use Rattle.std.specs.Bool.{then_some}
+use Rattle.job_words.specs.Text.{Word, lines_of, integer_value, split_words, is_among}
 use Rattle.dddmp_text.specs.declared.fields.Field.{Field}
 use Rattle.dddmp_text.specs.declared.fields.Field.TheVariants as fields
 use Rattle.dddmp_text.specs.declared.fields.Given.{Given}
@@ -14,15 +15,8 @@ use Rattle.edge_bits.specs.declared.limits.TheConstants.{MOST_VARIABLES}
 use Rattle.dddmp_text.specs.declared.faults.DddmpFault.{DddmpFault}
 use Rattle.dddmp_text.specs.declared.faults.FaultKind.{FaultKind}
 use Rattle.dddmp_text.specs.declared.faults.FaultKind.TheVariants as kinds
-use Rattle.dddmp_text.specs.Fields.{words_in, passed_words, is_among, field_of, all_fields, has_form, numbers_of, is_given, numbers, whole_numbers, number, is_terminal, Fields, fields_of, is_node}
+use Rattle.dddmp_text.specs.Fields.{passed_words, field_of, all_fields, has_form, numbers_of, is_given, numbers, whole_numbers, number, is_terminal, Fields, fields_of, is_node}
 use Rattle.dddmp_text.specs.Ranks.{variable_of}
-
-abbrev pub or_else : Option FaultKind → Option FaultKind → Option FaultKind
-or_else None later = later
-or_else (Some fault) later = Some fault
-
-abbrev pub fault_if : Bool → FaultKind → Option FaultKind
-fault_if holds fault = if holds then Some fault else None
 
 -- What the lines so far leave to the next one.
 pub data Context : Type 0 where
@@ -47,20 +41,20 @@ is_bad_root nodes root = nat_abs root == 0 || nat_lt nodes (nat_abs root)
 -- of `.nodes` behind these fields
 abbrev pub nodes_fault : List Given → Option FaultKind
 nodes_fault given =
-    or_else (fault_if (not (list_all (is_given given) all_fields)) kinds.Missing)
-    (or_else (fault_if (is_other_count given fields.Ids fields.Nsuppvars || is_other_count given fields.Permids fields.Nsuppvars || is_other_count given fields.Rootids fields.Nroots) kinds.Count)
-    (or_else (fault_if (nat_lt MOST_VARIABLES (number given fields.Nvars) || not (list_all (λ id. nat_lt id (number given fields.Nvars)) (numbers given fields.Ids))) kinds.Variable)
-    (fault_if (list_any (is_bad_root (number given fields.Nnodes)) (whole_numbers given fields.Rootids)) kinds.Root)))
+    option_or (then_some (not (list_all (is_given given) all_fields)) kinds.Missing)
+    (option_or (then_some (is_other_count given fields.Ids fields.Nsuppvars || is_other_count given fields.Permids fields.Nsuppvars || is_other_count given fields.Rootids fields.Nroots) kinds.Count)
+    (option_or (then_some (nat_lt MOST_VARIABLES (number given fields.Nvars) || not (list_all (λ id. nat_lt id (number given fields.Nvars)) (numbers given fields.Ids))) kinds.Variable)
+    (then_some (list_any (is_bad_root (number given fields.Nnodes)) (whole_numbers given fields.Rootids)) kinds.Root)))
 
 -- of a field's line
 abbrev pub field_fault : List Given → Option Field → List Word → Option FaultKind
 field_fault given None words = Some kinds.Header
-field_fault given (Some field) words = fault_if (is_given given field || not (has_form field words)) kinds.Header
+field_fault given (Some field) words = then_some (is_given given field || not (has_form field words)) kinds.Header
 
 -- of a line before `.nodes`, or of `.nodes` itself
 abbrev pub header_fault : List Given → Word → List Word → Option FaultKind
 header_fault given word words =
-    if bytes_eq word (codes ".nodes") then or_else (fault_if (not (length words == 0)) kinds.Header) (nodes_fault given) else
+    if bytes_eq word (codes ".nodes") then option_or (then_some (not (length words == 0)) kinds.Header) (nodes_fault given) else
     if is_among passed_words word then None else field_fault given (field_of word) words
 
 -- the index of the next node line
@@ -71,15 +65,15 @@ next_index started nodes = if started then length nodes + 2 else 1
 abbrev pub fields_fault : List Given → ℕ → Option Fields → Option FaultKind
 fields_fault given index None = Some kinds.Node
 fields_fault given index (Some read) =
-    or_else (fault_if (not (is_node index read)) kinds.Node)
-    (or_else (fault_if (not (nat_lt (digits_value 10 read.hi) index && nat_lt (nat_abs (integer_value read.lo)) index)) kinds.Order)
-    (fault_if (not (nat_lt (digits_value 10 read.internal) (number given fields.Nsuppvars))) kinds.Variable))
+    option_or (then_some (not (is_node index read)) kinds.Node)
+    (option_or (then_some (not (nat_lt (digits_value 10 read.hi) index && nat_lt (nat_abs (integer_value read.lo)) index)) kinds.Order)
+    (then_some (not (nat_lt (digits_value 10 read.internal) (number given fields.Nsuppvars))) kinds.Variable))
 
 -- of a line behind `.nodes`
 abbrev pub node_fault : List Given → Bool → List Line → Word → List Word → Option FaultKind
 node_fault given started nodes word words =
-    if bytes_eq word (codes ".end") then fault_if (not (next_index started nodes == number given fields.Nnodes + 1)) kinds.Count else
-    if started then fields_fault given (next_index started nodes) (fields_of (word ∷ words)) else fault_if (not (is_terminal (word ∷ words))) kinds.Node
+    if bytes_eq word (codes ".end") then then_some (not (next_index started nodes == number given fields.Nnodes + 1)) kinds.Count else
+    if started then fields_fault given (next_index started nodes) (fields_of (word ∷ words)) else then_some (not (is_terminal (word ∷ words))) kinds.Node
 
 -- of a line of these words
 abbrev pub words_fault : Context → List Word → Option FaultKind
@@ -118,7 +112,7 @@ after_words (listing given started nodes) (word ∷ words) =
 after_words (ended given nodes) words = ended given nodes
 
 abbrev pub after_line : Context → List ℕ → Context
-after_line c line = after_words c (words_in line)
+after_line c line = after_words c (split_words line)
 
 unfoldable pub behind : Context → List (List ℕ) → Context
 behind c [] = c
@@ -133,15 +127,11 @@ end_fault (heading given) = Some kinds.Missing
 end_fault (listing given started nodes) = Some kinds.End
 end_fault (ended given nodes) = None
 
-abbrev pub first_of : Option DddmpFault → Option DddmpFault → Option DddmpFault
-first_of None later = later
-first_of (Some fault) later = Some fault
-
 -- the first fault of lines that are numbered from `number` on, and of the text's end
 unfoldable pub faulty_line : ℕ → Context → List (List ℕ) → Option DddmpFault
 faulty_line number c [] = option_map (fault_at number) (end_fault c)
 faulty_line number c (line ∷ lines) =
-    first_of (option_map (fault_at number) (words_fault c (words_in line))) (faulty_line (number + 1) (after_line c line) lines)
+    option_or (option_map (fault_at number) (words_fault c (split_words line))) (faulty_line (number + 1) (after_line c line) lines)
 
 -- the fault of a text, if it has one
 unfoldable pub fault_of : List ℕ → Option DddmpFault

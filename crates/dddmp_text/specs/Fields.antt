@@ -1,25 +1,18 @@
 -- The lines of a stored diagram: header fields and node lines.
-use Rattle.std.specs.Prelude.{ℕ, ◌^◌, ◌==◌, nat_lt, nat_le, Bool, false, not, ◌&&◌, ◌||◌, List, [], ◌∷◌, ℤ, pos, Option, Some, None, length, map, filter, find, codes, nat_abs}
-use Rattle.std.specs.List.{slice_split, list_any, list_all}
+use Rattle.std.specs.Prelude.{ℕ, ◌^◌, ◌==◌, nat_lt, nat_le, Bool, false, not, ◌&&◌, ◌||◌, List, [], ◌∷◌, ℤ, pos, Option, Some, None, map, find, codes, nat_abs}
+use Rattle.std.specs.List.{list_any, list_all}
 use Rattle.std.specs.Option.{option_map, unwrap_or}
 use Rattle.std.specs.Str.{bytes_eq}
 use Rattle.std.specs.Str.Parse.{digits_value}
-use Rattle.job_words.specs.Text.{Word, is_separator, is_number, is_integer, integer_value}
+use Rattle.job_words.specs.Text.{Word, is_number, is_integer, integer_value}
 use Rattle.dddmp_text.specs.declared.fields.Field.{Field}
 use Rattle.dddmp_text.specs.declared.fields.Field.TheVariants.{Ver, Mode, Varinfo, Nnodes, Nvars, Nsuppvars, Ids, Permids, Nroots, Rootids}
 use Rattle.dddmp_text.specs.declared.fields.Given.{Given}
-
--- what stands between blanks, tabs and carriage returns
-unfoldable pub words_in : List ℕ → List Word
-words_in line = filter (λ word. not (length word == 0)) (slice_split is_separator line)
 
 -- the words that are passed over before `.nodes`, with all that stands behind them on their lines
 abbrev pub passed_words : List Word
 passed_words =
     codes ".dd" ∷ codes ".suppvarnames" ∷ codes ".orderedvarnames" ∷ codes ".varnames" ∷ codes ".auxids" ∷ codes ".rootnames" ∷ []
-
-abbrev pub is_among : List Word → Word → Bool
-is_among words word = list_any (bytes_eq word) words
 
 -- the ten words that are due
 abbrev pub word_of : Field → Word

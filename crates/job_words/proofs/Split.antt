@@ -1,11 +1,14 @@
 -- Where a text is cut.
-use Rattle.std.proofs.Common.{◌≡◌, ℕ, zero, suc, ◌+◌, ◌&&◌, ◌<◌, ◌≤◌, ◌==◌, Bool, true, false, not, cond, ltb, filter, append-nil, List, [], ◌∷◌, ◌++◌, length, Some, None, unwrap_or, take, drop, refl, ap, sym, ◌∙◌, arith}
-use Rattle.std.specs.List.{list_all, position, position_or_len, before_first, after_first, slice_split}
+use Rattle.std.proofs.Common.{◌≡◌, ℕ, zero, suc, ◌+◌, ◌&&◌, ◌<◌, ◌≤◌, ◌==◌, Bool, true, false, not, cond, ltb, filter, List, [], ◌∷◌, ◌++◌, length, Some, None, unwrap_or, take, drop, refl, ap, sym, ◌∙◌, arith}
+use Rattle.std.specs.List.{list_all, position, position_or_len, slice_split}
 use Rattle.std.proofs.lemmas.Bool.Decides.{nat_tests}
 use Rattle.std.proofs.lemmas.List.Splits.{slice_split_first, slice_split_none, length-slice_split}
 use Rattle.std.proofs.lemmas.List.Sums.{fails_before_first}
 use Rattle.std.proofs.lemmas.List.{take_all}
-use Rattle.job_words.specs.Text.{Word, is_separator, lines_of, some_word, split_words, without_empty_end}
+use Rattle.job_words.specs.declared.cutting.ByteClass.{ByteClass}
+use Rattle.job_words.specs.declared.cutting.ByteClass.TheVariants.{BlankOrReturn}
+use Rattle.job_words.specs.Classes.{has_bytes, is_in, some_word, words_between}
+use Rattle.job_words.specs.Text.{Word, lines_of, split_words, without_empty_end}
 
 least : (k n : ℕ) → k ≤ n → unwrap_or (cond (ltb k n) (Some k) None) n ≡ k
 least k n h = grind (arith, nat_tests)
@@ -22,47 +25,46 @@ one_line : (text : List ℕ) → 0 < length text → without_empty_end (text ∷
 one_line [] h = absurd (omega arith)
 one_line (x ∷ xs) h = refl
 
-pub cut_at : (text : List ℕ) (end : ℕ) → end ≡ position_or_len (λ b. b == 10) text → end < length text → lines_of text ≡ take end text ∷ lines_of (drop (end + 1) text)
-unfolding lines_of
-cut_at text end e h =
-    let p : ℕ → Bool = λ b. b == 10 in
-    let short : position_or_len p text < length text = omega (arith, e) in
-    let some : 0 < length (slice_split p (after_first p text)) = omega (arith, length-slice_split p (after_first p text)) in
-    ap without_empty_end (slice_split_first p text 0 short) ∙ more_lines (before_first p text) (slice_split p (after_first p text)) some
-    ∙ ap (λ k. take k text ∷ without_empty_end (slice_split p (drop (k + 1) text))) (sym e)
+-- what stands before the first that passes, and the parts of what stands behind it
+pub parts_at : (p : ℕ → Bool) (xs : List ℕ) (end : ℕ) → end ≡ position_or_len p xs → end < length xs → slice_split p xs ≡ take end xs ∷ slice_split p (drop (end + 1) xs)
+parts_at p xs end e h =
+    let short : position_or_len p xs < length xs = omega (arith, e) in
+    slice_split_first p xs 0 short ∙ ap (λ k. take k xs ∷ slice_split p (drop (k + 1) xs)) (sym e)
 
-pub cut_none : (text rest : List ℕ) → length text ≤ position_or_len (λ b. b == 10) text → 0 < length text → rest ≡ [] → lines_of text ≡ text ∷ lines_of rest
+-- where none passes there is one part
+pub one_part : (p : ℕ → Bool) (xs : List ℕ) → length xs ≤ position_or_len p xs → slice_split p xs ≡ xs ∷ []
+one_part p xs h = slice_split_none p xs (λ k d short. fails_before_first p xs k d (omega arith))
+
+-- the first line of a text, and one that is the last
+pub first_line : (text line rest : List ℕ) → slice_split (λ b. b == 10) text ≡ line ∷ slice_split (λ b. b == 10) rest → lines_of text ≡ line ∷ lines_of rest
 unfolding lines_of
-cut_none text rest h some e =
-    let p : ℕ → Bool = λ b. b == 10 in
-    ap without_empty_end (slice_split_none p text (λ k d short. fails_before_first p text k d (omega arith))) ∙ one_line text some
-    ∙ ap (λ r. text ∷ without_empty_end (slice_split p r)) (sym e)
+first_line text line rest e =
+    let some : 0 < length (slice_split (λ b. b == 10) rest) = omega (arith, length-slice_split (λ b. b == 10) rest) in
+    ap without_empty_end e ∙ more_lines line (slice_split (λ b. b == 10) rest) some
+
+pub last_line : (text rest : List ℕ) → slice_split (λ b. b == 10) text ≡ text ∷ [] → 0 < length text → rest ≡ [] → lines_of text ≡ text ∷ lines_of rest
+unfolding lines_of
+last_line text rest e some none = ap without_empty_end e ∙ one_line text some ∙ ap (λ r. text ∷ without_empty_end (slice_split (λ b. b == 10) r)) (sym none)
 
 -- words, piece by piece
-abbrev has_bytes : Word → Bool
-has_bytes word = not (length word == 0)
+onto : (b : Bool) (piece : Word) (words : List Word) → cond b (piece ∷ words) words ≡ cond b (piece ∷ []) [] ++ words
+onto true piece words = refl
+onto false piece words = refl
 
-pub words_at : (line : List ℕ) (end : ℕ) → end ≡ position_or_len is_separator line → end < length line → split_words line ≡ some_word (take end line) ++ split_words (drop (end + 1) line)
-unfolding split_words
-words_at line end e h =
-    let short : position_or_len is_separator line < length line = omega (arith, e) in
-    ap (filter has_bytes) (slice_split_first is_separator line 0 short)
-    ∙ onto (has_bytes (before_first is_separator line)) (before_first is_separator line) (filter has_bytes (slice_split is_separator (after_first is_separator line)))
-    ∙ ap (λ k. some_word (take k line) ++ filter has_bytes (slice_split is_separator (drop (k + 1) line))) (sym e)
-  where
-    onto : (b : Bool) (piece : Word) (words : List Word) → cond b (piece ∷ words) words ≡ cond b (piece ∷ []) [] ++ words
-    onto true piece words = refl
-    onto false piece words = refl
+pub words_at : (class : ByteClass) (line piece rest : List ℕ) → slice_split (is_in class) line ≡ piece ∷ slice_split (is_in class) rest
+    → words_between class line ≡ some_word piece ++ words_between class rest
+unfolding words_between
+words_at class line piece rest e = ap (filter has_bytes) e ∙ onto (has_bytes piece) piece (words_between class rest)
 
-pub words_none : (line rest : List ℕ) → length line ≤ position_or_len is_separator line → rest ≡ [] → split_words line ≡ some_word line ++ split_words rest
-unfolding split_words
-words_none line rest h e =
-    ap (filter has_bytes) (slice_split_none is_separator line (λ k d short. fails_before_first is_separator line k d (omega arith))) ∙ sym (append-nil (some_word line))
-    ∙ ap (λ r. some_word line ++ filter has_bytes (slice_split is_separator r)) (sym e)
+pub words_none : (class : ByteClass) (line rest : List ℕ) → slice_split (is_in class) line ≡ line ∷ [] → rest ≡ []
+    → words_between class line ≡ some_word line ++ words_between class rest
+unfolding words_between
+words_none class line rest e none =
+    ap (filter has_bytes) e ∙ onto (has_bytes line) line [] ∙ ap (λ r. some_word line ++ words_between class r) (sym none)
 
 pub no_words : (line : List ℕ) → line ≡ [] → split_words line ≡ []
-unfolding split_words
-no_words line e = ap (λ t. filter has_bytes (slice_split is_separator t)) e
+unfolding split_words words_between
+no_words line e = ap (words_between BlankOrReturn) e
 
 not_zero : (n : ℕ) → (suc n == 0) ≡ true → ⊥
 not_zero n h = let e : suc n ≡ 0 = grind (arith, nat_tests) in omega (arith, e)

@@ -1,19 +1,21 @@
 -- A text as lines, and a line as words.
-use Rattle.std.specs.Prelude.{◌≡◌, ℕ, ◌==◌, nat_le, Bool, true, false, ◌&&◌, ◌||◌, not, List, [], ◌∷◌, map, filter, drop, length, slice_index, ℤ, pos, neg_ℤ, Option, Some, None, codes, if◌then◌else◌}
-use Rattle.std.specs.List.{slice_split, before_first, list_all}
+use Rattle.std.specs.Prelude.{◌≡◌, ℕ, ◌==◌, nat_le, Bool, true, false, ◌&&◌, ◌||◌, not, List, [], ◌∷◌, map, drop, length, slice_index, ℤ, pos, neg_ℤ, Option, Some, None, codes, if◌then◌else◌}
+use Rattle.std.specs.List.{slice_split, before_first, list_all, list_any}
 use Rattle.std.specs.Char.{is_ascii_digit}
 use Rattle.std.specs.Str.{bytes_eq}
 use Rattle.std.specs.Str.Parse.{digits_value}
+use Rattle.job_words.specs.declared.cutting.ByteClass.TheVariants.{Ascii, BlankOrReturn}
+use Rattle.job_words.specs.Classes.{is_in, words_between}
 
 abbrev pub Word : Type 0
 Word = List ℕ
 
 -- a byte that may stand in a line
 abbrev pub is_allowed : ℕ → Bool
-is_allowed b = b == 9 || b == 13 || (nat_le 32 b && nat_le b 126)
+is_allowed b = is_in Ascii b
 
 abbrev pub is_separator : ℕ → Bool
-is_separator b = b == 32 || b == 9 || b == 13
+is_separator b = is_in BlankOrReturn b
 
 -- no byte of the word separates words
 abbrev pub is_whole : Word → Bool
@@ -31,11 +33,11 @@ lines_of text = without_empty_end (slice_split (λ b. b == 10) text)
 
 -- what stands between blanks, tabs and carriage returns
 unfoldable pub split_words : List ℕ → List Word
-split_words bytes = filter (λ word. not (length word == 0)) (slice_split is_separator bytes)
+split_words bytes = words_between BlankOrReturn bytes
 
--- the bytes as a word, where there are any
-abbrev pub some_word : List ℕ → List Word
-some_word bytes = if not (length bytes == 0) then bytes ∷ [] else []
+-- the word is one of these
+abbrev pub is_among : List Word → Word → Bool
+is_among words word = list_any (bytes_eq word) words
 
 -- the words of a line, up to a `#`
 unfoldable pub words_of : List ℕ → List Word

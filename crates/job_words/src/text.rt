@@ -1,28 +1,15 @@
 //! Lines and words.
 
-ghost use Rattle.std.specs.Prelude.{◌≡◌, ◌∷◌, [], ◌++◌, ◌<◌, ◌≤◌, ◌^◌, ◌-◌, min, length, IfOk, MatchOption, ◌&&◌, ◌||◌, int_le, int_lt, IfSome, IfNone, Some, None, true, false, position, ◌==◌};
-ghost use Rattle.std.specs.List.{list_all, before_first, position_or_len};
+ghost use Rattle.std.specs.Prelude.{◌≡◌, ◌∷◌, [], ◌<◌, ◌≤◌, ◌^◌, ◌-◌, min, length, IfOk, MatchOption, ◌&&◌, ◌||◌, int_le, int_lt, IfSome, IfNone, Some, None, true, false, ◌==◌};
+ghost use Rattle.std.specs.List.{list_all};
 ghost use Rattle.std.specs.Str.Parse.{digits_value};
-ghost use Rattle.job_words.specs.Text.{is_bit, is_bits, bits_in, bit_word, is_whole, lines_of, split_words, some_word, line_words, is_allowed, is_separator, is_number, is_negative, magnitude, is_integer, integer_value, IsInteger, is_name, is_letter, is_name_byte};
+ghost use Rattle.job_words.specs.Text.{is_bit, is_bits, bits_in, bit_word, is_whole, lines_of, split_words, line_words, is_number, is_negative, magnitude, is_integer, integer_value, IsInteger, is_name, is_letter, is_name_byte};
 ghost use Rattle.edge_bits.specs.Permanent.{least_value, value_end};
 ghost use Rattle.std.specs.Char.{is_ascii_digit};
 
+use crate::cutting::{ByteClass, all_in, before_byte, cut, cut_piece};
 use edge_bits::{LEAST_VALUE, List, VALUE_END};
 use std::alloc::{AllocError, Global};
-
-fn position_of(bytes: &[u8], byte: u8) -> Option<usize>
-    ensures { result ≡ position (λ b. b == byte) bytes.now }
-{
-    bytes.iter().position(|b| *b == byte)
-}
-
-/// Where the byte first stands, or the length.
-fn place_of(bytes: &[u8], byte: u8) -> usize
-    ensures place { result ≡ position_or_len (λ b. b == byte) bytes.now }
-    ensures within { result ≤ length bytes.now }
-{
-    position_of(bytes, byte).unwrap_or(bytes.len())
-}
 
 /// The first line, and what stands behind its line feed.
 pub fn cut_line(text: &[u8]) -> (&[u8], &[u8])
@@ -30,37 +17,10 @@ pub fn cut_line(text: &[u8]) -> (&[u8], &[u8])
     ensures lines { lines_of text.now ≡ result.0.now ∷ lines_of result.1.now }
     ensures shorter { length result.1.now < length text.now }
 {
-    let end = place_of(text, b'\n');
-    if end < text.len() {
-        (&text[..end], &text[end + 1..])
-    } else {
-        (text, &text[text.len()..])
+    match cut(text, ByteClass::One(b'\n')) {
+        Some(parts) => parts,
+        None => (text, &text[text.len()..]),
     }
-}
-
-fn allowed(b: u8) -> bool
-    ensures { result ≡ is_allowed b }
-{
-    b == b'\t' || b == b'\r' || (32 <= b && b <= 126)
-}
-
-fn separates(b: u8) -> bool
-    ensures { result ≡ is_separator b }
-{
-    b == b' ' || b == b'\t' || b == b'\r'
-}
-
-fn is_clean(line: &[u8]) -> bool
-    ensures { result ≡ list_all is_allowed line.now }
-{
-    line.iter().all(|b| allowed(*b))
-}
-
-/// What stands before the first such byte, or all.
-pub fn before_byte(bytes: &[u8], byte: u8) -> &[u8]
-    ensures { result.now ≡ before_first (λ b. b == byte) bytes.now }
-{
-    &bytes[..place_of(bytes, byte)]
 }
 
 fn letter(b: u8) -> bool
@@ -89,43 +49,15 @@ pub fn is_name(word: &[u8]) -> bool
     !word.is_empty() && letter(word[0]) && all_name_bytes(word) && word.len() <= 32
 }
 
-/// Where the first separator stands, or the length.
-fn place_of_blank(line: &[u8]) -> usize
-    ensures place { result ≡ position_or_len is_separator line.now }
-    ensures within { result ≤ length line.now }
-{
-    position_of_blank(line).unwrap_or(line.len())
-}
-
-fn position_of_blank(line: &[u8]) -> Option<usize>
-    ensures { result ≡ position is_separator line.now }
-{
-    line.iter().position(|b| separates(*b))
-}
-
-/// What stands before the first separator, and what stands behind it.
-fn cut_piece(line: &[u8]) -> (&[u8], &[u8])
-    requires { 0 < length line.now }
-    ensures words { split_words line.now ≡ some_word result.0.now ++ split_words result.1.now }
-    ensures whole { is_whole result.0.now ≡ true }
-    ensures shorter { length result.1.now < length line.now }
-{
-    let end = place_of_blank(line);
-    if end < line.len() {
-        (&line[..end], &line[end + 1..])
-    } else {
-        (line, &line[line.len()..])
-    }
-}
-
 /// The first word of a line, and what stands behind it.
+#[tactic(auto, unfolding(crate::specs::Text::split_words))]
 pub fn first_word(line: &[u8]) -> Option<(&[u8], &[u8])>
     ensures words { MatchOption result (split_words line.now ≡ []) (λ p. split_words line.now ≡ p.0.now ∷ split_words p.1.now) }
     ensures whole { IfSome result (λ p. is_whole p.0.now ≡ true) }
 {
     let mut rest = line;
     while !rest.is_empty() {
-        let (word, after) = cut_piece(rest);
+        let (word, after) = cut_piece(rest, ByteClass::BlankOrReturn);
         if !word.is_empty() {
             return Some((word, after));
         }
@@ -139,7 +71,7 @@ pub fn first_word(line: &[u8]) -> Option<(&[u8], &[u8])>
 pub fn words(line: &[u8]) -> Option<&[u8]>
     ensures { MatchOption result (line_words line.now ≡ None) (λ part. line_words line.now ≡ Some (split_words part.now)) }
 {
-    if is_clean(line) {
+    if all_in(line, ByteClass::Ascii) {
         Some(before_byte(line, b'#'))
     } else {
         None

@@ -7,6 +7,7 @@ use Rattle.std.proofs.lemmas.List.Splits.{join_with_byte-slice_split}
 use Rattle.edge_bits.specs.declared.limits.TheConstants.{LONGEST_TEXT, MOST_ROWS}
 use Rattle.job_text.specs.declared.job.Command.{Command}
 use Rattle.job_text.specs.declared.job.Job.{Job}
+use Rattle.job_words.specs.Classes.{words_between}
 use Rattle.job_words.specs.Text.{Word, lines_of, split_words, without_empty_end, words_of}
 use Rattle.job_text.specs.Grammar.{IsJobText, said_lines, section_lines}
 
@@ -39,7 +40,7 @@ few_lines text =
     let n = ap (length {A = ℕ}) (join_with_byte-slice_split 10 text) in omega (arith, r, e, n)
 
 no_words : words_of [] ≡ []
-unfolding words_of split_words
+unfolding words_of split_words words_between
 no_words = refl
 
 length-said_lines : (lines : List (List ℕ)) → length (said_lines lines) ≤ some_bytes lines

@@ -8,4 +8,4 @@ returns-then-has_more_signals-clause-stop c =
 
 pub returns-clause-ok : goal.returns-clause-ok
 returns-clause-ok c =
-    inputs_taken c.args.self.now c.add_inputs.new.self (map (λ word. word.now) c.args.words.now) c.args.line c.in_ok-add_inputs.ensures.ok c.requires (omega (arith, c.if-len-gt-MOST_INPUTS.false, c.len.ensures)) (sym c.has_more_signals.ensures ∙ c.if-has_more_signals.false)
+    inputs_taken c.args.self.now c.add_inputs.new.self (map (λ word. word.now) c.args.words.now) c.args.line c.in_ok-add_inputs.ensures.ok c.requires (omega (arith, c.if-len.false, c.len.ensures)) (sym c.has_more_signals.ensures ∙ c.if-has_more_signals.false)
