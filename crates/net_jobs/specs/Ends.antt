@@ -10,7 +10,6 @@ use Rattle.blif_net.specs.declared.faults.FaultKind.TheVariants as blif_kinds
 use Rattle.blif_net.specs.declared.net.Net.{Net}
 use Rattle.blif_net.specs.Faults.{fault_of}
 use Rattle.blif_net.specs.Networks.{IsBlifText}
-use Rattle.edge_bits.specs.declared.limits.TheConstants.{USUAL_LIMIT}
 use Rattle.command_words.specs.declared.order.Options.{Options}
 use Rattle.command_words.specs.declared.order.Order.{Order}
 use Rattle.command_words.specs.declared.order.Order.TheVariants.{Play, Build, Load, Gen}
