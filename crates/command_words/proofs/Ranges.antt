@@ -12,9 +12,8 @@ use Rattle.job_words.specs.Text.{Word, is_number}
 use Rattle.clap.specs.Walk.{Row, Text, all_of, first_of}
 use Rattle.clap.specs.Simple.{subcommand_of}
 use Rattle.clap.specs.Faults.{fault_of}
-use Rattle.edge_bits.specs.declared.limits.TheConstants.{MOST_BITS, MOST_LIMIT, USUAL_LIMIT}
+use Rattle.edge_bits.specs.declared.limits.TheConstants.{LONGEST_PATTERN, MOST_BITS, MOST_LIMIT, USUAL_LIMIT}
 use Rattle.command_words.specs.declared.reading.TheConstants.{MOST_WORKERS}
-use Rattle.command_words.specs.declared.values.TheConstants.{LONGEST_PATTERN}
 use Rattle.command_words.specs.declared.order.Order.TheVariants.{Load, Gen}
 use Rattle.command_words.specs.Table.{table}
 use Rattle.command_words.specs.Values.{is_pattern, number_in, number_or, pattern_of, patterns_of}

@@ -5,9 +5,8 @@ use Rattle.std.specs.Str.{bytes_eq}
 use Rattle.clap.specs.Walk.{Row, Text, all_of, first_of}
 use Rattle.clap.specs.Simple.{subcommand_of}
 use Rattle.clap.specs.Faults.{fault_of}
-use Rattle.edge_bits.specs.declared.limits.TheConstants.{MOST_BITS, MOST_LIMIT, USUAL_LIMIT}
+use Rattle.edge_bits.specs.declared.limits.TheConstants.{LONGEST_PATTERN, MOST_BITS, MOST_LIMIT, USUAL_LIMIT}
 use Rattle.command_words.specs.declared.reading.TheConstants.{MOST_WORKERS}
-use Rattle.command_words.specs.declared.values.TheConstants.{LONGEST_PATTERN}
 use Rattle.command_words.specs.declared.order.Order.{Order}
 use Rattle.command_words.specs.declared.order.Order.TheVariants.{Play, Build, Load, Gen}
 use Rattle.command_words.specs.Table.{table}

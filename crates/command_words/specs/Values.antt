@@ -2,7 +2,7 @@
 use Rattle.std.specs.Prelude.{ℕ, ◌==◌, nat_le, Bool, not, ◌&&◌, ◌||◌, List, Option, Some, None, length, map, if◌then◌else◌}
 use Rattle.std.specs.List.{list_all}
 use Rattle.std.specs.Str.Parse.{digits_value}
-use Rattle.command_words.specs.declared.values.TheConstants.{LONGEST_PATTERN}
+use Rattle.edge_bits.specs.declared.limits.TheConstants.{LONGEST_PATTERN}
 use Rattle.job_words.specs.Text.{Word, is_number}
 
 -- a number in range, written without a sign or a leading zero

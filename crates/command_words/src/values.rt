@@ -4,12 +4,9 @@ ghost use Rattle.std.specs.Prelude.{◌≡◌, ◌<◌, ◌==◌, ◌||◌, IfOk
 ghost use Rattle.std.specs.List.{list_all};
 ghost use Rattle.command_words.specs.Values.{is_pattern, number_in, pattern_of, patterns_of};
 
-use edge_bits::{List, Memory};
+use edge_bits::{LONGEST_PATTERN, List, Memory};
 use job_words::{is_number, number_value};
 use std::alloc::Global;
-
-/// The most bits of a pattern.
-const LONGEST_PATTERN: usize = 16_384;
 
 /// The number that a word is, where it is in range.
 pub fn number_in(least: u32, most: u32, word: &str) -> Option<u32>
@@ -38,7 +35,7 @@ fn is_pattern(word: &str) -> bool
     ensures { result ≡ is_pattern word.now }
 {
     let bytes = word.as_bytes();
-    !bytes.is_empty() && bytes.len() <= LONGEST_PATTERN && all_bits(bytes)
+    !bytes.is_empty() && bytes.len() <= LONGEST_PATTERN as usize && all_bits(bytes)
 }
 
 fn are_patterns(words: &[&str]) -> bool

@@ -3,6 +3,7 @@ use Rattle.std.proofs.Common.{◌≡◌, ℕ, cond, length, sym, ap, ◌∙◌, 
 use Rattle.std.specs.Prelude.{slice_index}
 use Rattle.std.proofs.lemmas.Bool.{lt-ltb}
 use Rattle.edge_bits.specs.declared.edges.Kind.TheVariants.{Bdd}
+use Rattle.edge_bits.specs.Permanent.{first_element}
 use Rattle.edge_bits.specs.Reading.{element_of}
 use Rattle.function_laws.specs.SiftedOrders.{place_of}
 use Rattle.node_store.specs.Contents.{IsOrder}
@@ -19,7 +20,7 @@ module _ (p : Plain) (st : IsStore p) where
 
   -- the level of a variable is its place
   pub place_is_level : (v : ℕ) → IsVariable Bdd (plain_view p) v → place_of v p.variables_at ≡ level_in p v
-  place_is_level v h = ap (λ b. cond b (place_of v p.variables_at) (place_of (element_of v) p.elements_at)) (sym (lt-ltb v 16384 h.0)) ∙ level_same p st Bdd v h
+  place_is_level v h = ap (λ b. cond b (place_of v p.variables_at) (place_of (element_of v) p.elements_at)) (sym (lt-ltb v first_element h.0)) ∙ level_same p st Bdd v h
 
   pub variable_at : (level v : ℕ) → IsVariable Bdd (plain_view p) v → level_in p v ≡ level → slice_index p.variables_at level ≡ v
   variable_at level v h at =

@@ -45,6 +45,9 @@ pub const USUAL_LIMIT: u32 = 262_144;
 /// The bytes of the longest text that is read.
 pub const LONGEST_TEXT: u32 = 67_108_864;
 
+/// The most bits of a pattern that a network is played on.
+pub const LONGEST_PATTERN: u32 = 16_384;
+
 // The bounds by which they are used: a node's number tells variables from elements and fits 15 bits, a slot fits 23, a row's count fits
 // 32, and what a job, a network or a text is made of is counted in 32 bits.
 const _: () = prove!(MOST_VARIABLES <= FIRST_ELEMENT);

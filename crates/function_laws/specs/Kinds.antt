@@ -1,4 +1,4 @@
--- What the three kinds of diagram have in common. A node's variable number is a variable, or 16384 and an element.
+-- What the three kinds of diagram have in common. A node's variable number is a variable, or the first element's number and an element.
 use Rattle.std.specs.Prelude.{◌≡◌, ℕ, Bool, true, false, ℤ, pos, Option, Some, None}
 use Rattle.edge_bits.specs.declared.edges.Kind.{Kind}
 use Rattle.edge_bits.specs.declared.edges.Kind.TheVariants.{Bdd, Add, Zdd}
