@@ -6,8 +6,8 @@ use Rattle.std.proofs.lemmas.List.{map-append}
 use Rattle.blif_net.specs.declared.draft.Draft.{Draft}
 use Rattle.blif_net.specs.declared.names.Role.{Role}
 use Rattle.blif_net.specs.declared.names.Role.TheVariants as roles
-use Rattle.blif_net.specs.declared.faults.Stop.{Stop}
-use Rattle.blif_net.specs.declared.faults.Stop.TheVariants as stops
+use Rattle.blif_net.specs.declared.faults.BlifStop.{BlifStop}
+use Rattle.blif_net.specs.declared.faults.BlifStop.TheVariants as stops
 use Rattle.blif_net.specs.Text.{Word}
 use Rattle.blif_net.specs.Circuits.{covers_in, defined_in}
 use Rattle.blif_net.specs.Networks.{AreNumbers}
@@ -72,6 +72,6 @@ input_added old w l i number names' inputs' many e is new f =
       current = refl;
     }
 
-pub input_stopped : (old : Draft) (w : Word) (stop : Stop) → DefineStop old.names w stop → InputStop old w stop
+pub input_stopped : (old : Draft) (w : Word) (stop : BlifStop) → DefineStop old.names w stop → InputStop old w stop
 input_stopped old w stops.Memory h = tt
 input_stopped old w (stops.Fault kind) h = (h.0, λ c is. old_signal c old w is h.1)

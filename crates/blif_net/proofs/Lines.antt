@@ -16,8 +16,8 @@ use Rattle.blif_net.specs.declared.draft.Draft.{Draft}
 use Rattle.blif_net.specs.declared.net.Cube.{Cube}
 use Rattle.blif_net.specs.declared.names.Role.TheVariants as roles
 use Rattle.blif_net.specs.declared.faults.FaultKind.TheVariants as kinds
-use Rattle.blif_net.specs.declared.faults.Stop.{Stop}
-use Rattle.blif_net.specs.declared.faults.Stop.TheVariants as stops
+use Rattle.blif_net.specs.declared.faults.BlifStop.{BlifStop}
+use Rattle.blif_net.specs.declared.faults.BlifStop.TheVariants as stops
 use Rattle.blif_net.specs.Text.{Word}
 use Rattle.blif_net.specs.Circuits.{Context, Cover, inputs, outputs, names, row, cover_at, covers_in, defined_in, front_of, last_of, with_row_in}
 use Rattle.blif_net.specs.Faults.{inputs_fault, names_fault, rows_fault, signals_in, some_again}
@@ -196,7 +196,7 @@ inputs_step old now new front back w l a b = record {
   current = b.current ∙ a.current;
 }
 
-pub inputs_stopped : (old now : Draft) (front back : List Word) (w : Word) (l : ℕ) (stop : Stop) → AddsInputs old front (w ∷ back) l now → InputStop now w stop → InputsStop old (front ++ w ∷ back) stop
+pub inputs_stopped : (old now : Draft) (front back : List Word) (w : Word) (l : ℕ) (stop : BlifStop) → AddsInputs old front (w ∷ back) l now → InputStop now w stop → InputsStop old (front ++ w ∷ back) stop
 inputs_stopped old now front back w l stops.Memory a s = tt
 inputs_stopped old now front back w l (stops.Fault kind) a s = (
   s.0,
@@ -281,7 +281,7 @@ one_less n = by_cases (nat_lt (MOST_SIGNALS - 1) n) (nat_lt MOST_SIGNALS (n + 1)
 named_draft : (c : Context) (old : Draft) (front : List Word) (l : ℕ) (names1 : List Name) → names1 ≡ with_names old.names front l → IsDraftOf c old → IsDraftOf c (with_names_of old names1)
 named_draft c old front l names1 e h = subst (λ (t : List Name). IsDraftOf c (with_names_of old t)) (sym e) (names_added c old front l h)
 
-pub names_stopped : (old : Draft) (front : List Word) (w : Word) (l : ℕ) (names1 : List Name) (stop : Stop) → names1 ≡ with_names old.names front l → DefineStop names1 w stop → Stops old (names (front ++ w ∷ [])) stop
+pub names_stopped : (old : Draft) (front : List Word) (w : Word) (l : ℕ) (names1 : List Name) (stop : BlifStop) → names1 ≡ with_names old.names front l → DefineStop names1 w stop → Stops old (names (front ++ w ∷ [])) stop
 names_stopped old front w l names1 stops.Memory e s = λ c h. tt
 names_stopped old front w l names1 (stops.Fault kind) e s =
     λ c h.

@@ -6,8 +6,8 @@ use Rattle.blif_net.specs.declared.draft.Draft.{Draft}
 use Rattle.blif_net.specs.declared.faults.BlifError.{BlifError}
 use Rattle.blif_net.specs.declared.faults.BlifError.TheVariants as errors
 use Rattle.blif_net.specs.declared.faults.FaultKind.{FaultKind}
-use Rattle.blif_net.specs.declared.faults.Stop.{Stop}
-use Rattle.blif_net.specs.declared.faults.Stop.TheVariants as stops
+use Rattle.blif_net.specs.declared.faults.BlifStop.{BlifStop}
+use Rattle.blif_net.specs.declared.faults.BlifStop.TheVariants as stops
 use Rattle.blif_net.specs.declared.net.Net.{Net}
 use Rattle.blif_net.specs.Text.{Line, joined_from, joined_lines, line_at, lines_of}
 use Rattle.blif_net.specs.Circuits.{Context, after_line, at_start, behind, circuit_of, said}
@@ -87,7 +87,7 @@ line_fails text rest rest' bytes number number' last old kind r e s =
     ∙ ap (λ t. option_or t (option_or (undefined_line (r.lines ++ line ∷ more)) (option_or (cyclic_cover (circuit_of (r.lines ++ line ∷ more))) (no_outputs (r.lines ++ line ∷ more)))))
     (first_faulty at_start r.lines line more (r.read).faultless ∙ some_there (behind at_start r.lines) line more kind (s (behind at_start r.lines) (r.read).draft_of))
 
-pub line_stops : (text rest rest' bytes : List ℕ) (number number' last : ℕ) (old : Draft) (stop : Stop) → IsReadOf text rest number last old → joined_from number (lines_of rest) ≡ line_at number bytes ∷ joined_from number' (lines_of rest')
+pub line_stops : (text rest rest' bytes : List ℕ) (number number' last : ℕ) (old : Draft) (stop : BlifStop) → IsReadOf text rest number last old → joined_from number (lines_of rest) ≡ line_at number bytes ∷ joined_from number' (lines_of rest')
     → StopsLine old (line_at number bytes) stop → HasFault text (stopped_at number stop)
 line_stops text rest rest' bytes number number' last old stops.Memory r e s = tt
 line_stops text rest rest' bytes number number' last old (stops.Fault kind) r e s = line_fails text rest rest' bytes number number' last old kind r e s

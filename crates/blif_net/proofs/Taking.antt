@@ -10,7 +10,7 @@ use Rattle.job_words.specs.Text.{is_among}
 use Rattle.blif_net.specs.declared.draft.Draft.{Draft}
 use Rattle.blif_net.specs.declared.faults.FaultKind.{FaultKind}
 use Rattle.blif_net.specs.declared.faults.FaultKind.TheVariants as kinds
-use Rattle.blif_net.specs.declared.faults.Stop.{Stop}
+use Rattle.blif_net.specs.declared.faults.BlifStop.{BlifStop}
 use Rattle.blif_net.specs.Text.{Line, is_allowed}
 use Rattle.blif_net.specs.Circuits.{Context, Statement, nothing, model, inputs, outputs, names, ends, passed_over, left_out, unknown, row, after_statement, close, last_of, said}
 use Rattle.blif_net.specs.Faults.{end_fault, line_fault, open_fault, signals_in, some_again}
@@ -62,7 +62,7 @@ closing old mid new line statement d a b = record {
   uses = b.uses ∙ ap (λ t. with_uses line t (names_said statement)) a.uses;
 }
 
-pub closing_stops : (old mid : Draft) (statement : Statement) (stop : Stop) → is_directive statement ≡ true → Closes old mid → Stops mid statement stop → Stops old statement stop
+pub closing_stops : (old mid : Draft) (statement : Statement) (stop : BlifStop) → is_directive statement ≡ true → Closes old mid → Stops mid statement stop → Stops old statement stop
 closing_stops old mid statement stop d a b = λ c h. subst (λ (t : Option FaultKind). StopIs t stop) (same_fault c statement d) (b (close c) (a.after c h))
 
 -- a line that is passed over does no more
@@ -85,7 +85,7 @@ unclean_line old line e = λ c h. unclean c line e
 pub open_line : (old new : Draft) (line : Line) → list_all is_allowed line.bytes ≡ true → old.ended ≡ false → TakesStatement old line.number (said line) new → TakesLine old line new
 open_line old new line e f t = record { faultless = λ c h. clean c line false e (sym h.ended ∙ f) ∙ t.faultless c h; after = t.after; uses = t.uses }
 
-pub open_stops : (old : Draft) (line : Line) (stop : Stop) → list_all is_allowed line.bytes ≡ true → old.ended ≡ false → Stops old (said line) stop → StopsLine old line stop
+pub open_stops : (old : Draft) (line : Line) (stop : BlifStop) → list_all is_allowed line.bytes ≡ true → old.ended ≡ false → Stops old (said line) stop → StopsLine old line stop
 open_stops old line stop e f s = λ c h. subst (λ (t : Option FaultKind). StopIs t stop) (sym (clean c line false e (sym h.ended ∙ f))) (s c h)
 
 pub ended_line : (old : Draft) (line : Line) → list_all is_allowed line.bytes ≡ true → old.ended ≡ true → said line ≡ nothing → TakesLine old line old
@@ -95,13 +95,13 @@ ended_line old line e f s = record {
   uses = ap (λ t. with_uses line.number (uses_in old) (names_said t)) (sym s);
 }
 
-pub ended_stops : (old : Draft) (line : Line) (stop : Stop) → list_all is_allowed line.bytes ≡ true → old.ended ≡ true → StopIs (end_fault (said line)) stop → StopsLine old line stop
+pub ended_stops : (old : Draft) (line : Line) (stop : BlifStop) → list_all is_allowed line.bytes ≡ true → old.ended ≡ true → StopIs (end_fault (said line)) stop → StopsLine old line stop
 ended_stops old line stop e f s = λ c h. subst (λ (t : Option FaultKind). StopIs t stop) (sym (clean c line true e (sym h.ended ∙ f))) s
 
 -- the answers of a call that takes the line, where the cover was closed before it
-pub taken : (r : Result (Unit {0}) Stop) (old mid new : Draft) (line : ℕ) (statement said : Statement) → statement ≡ said → is_directive said ≡ true → Closes old mid → OnOk r (Takes mid line said new) → OnOk r (TakesStatement old line statement new)
+pub taken : (r : Result (Unit {0}) BlifStop) (old mid new : Draft) (line : ℕ) (statement said : Statement) → statement ≡ said → is_directive said ≡ true → Closes old mid → OnOk r (Takes mid line said new) → OnOk r (TakesStatement old line statement new)
 taken r old mid new line statement said e d a h = on_ok_weaker r (λ t. subst (λ (s : Statement). TakesStatement old line s new) (sym e) (closing old mid new line said d a t)) h
 
-pub stopped : (r : Result (Unit {0}) Stop) (old mid : Draft) (statement said : Statement) → statement ≡ said → is_directive said ≡ true → Closes old mid → IfErr r (Stops mid said) → IfErr r (Stops old statement)
+pub stopped : (r : Result (Unit {0}) BlifStop) (old mid : Draft) (statement said : Statement) → statement ≡ said → is_directive said ≡ true → Closes old mid → IfErr r (Stops mid said) → IfErr r (Stops old statement)
 stopped r old mid statement said e d a h =
     IfErr-weaker r (Stops mid said) (Stops old statement) (λ stop s. subst (λ (t : Statement). Stops old t stop) (sym e) (closing_stops old mid said stop d a s)) h

@@ -5,15 +5,15 @@ use Rattle.blif_net.specs.declared.covers.CoverDraft.{CoverDraft}
 use Rattle.blif_net.specs.declared.covers.ReadRow.{ReadRow}
 use Rattle.blif_net.specs.declared.faults.FaultKind.{FaultKind}
 use Rattle.blif_net.specs.declared.faults.FaultKind.TheVariants as kinds
-use Rattle.blif_net.specs.declared.faults.Stop.{Stop}
-use Rattle.blif_net.specs.declared.faults.Stop.TheVariants as stops
+use Rattle.blif_net.specs.declared.faults.BlifStop.{BlifStop}
+use Rattle.blif_net.specs.declared.faults.BlifStop.TheVariants as stops
 use Rattle.blif_net.specs.Text.{Word}
 use Rattle.blif_net.specs.Circuits.{Cover, Row, is_bit, is_literal, row_of, row_with, with_row}
 use Rattle.blif_net.specs.Faults.{row_fault}
 use Rattle.blif_net.specs.Networks.{AreNumbers, is_on, literals_of}
 
 -- the stop is want of memory, or this fault
-abbrev pub StopIs : Option FaultKind → Stop → Type 0
+abbrev pub StopIs : Option FaultKind → BlifStop → Type 0
 StopIs fault stops.Memory = Unit {0}
 StopIs fault (stops.Fault kind) = fault ≡ Some kind
 
@@ -30,15 +30,15 @@ abbrev pub IsRead : ℕ → List Word → ReadRow → Type 0
 IsRead ins words read = (row : Row) × (row_of ins words ≡ Some row) × IsRowOf row read
 
 -- why words were not read as a row
-abbrev pub CubeStop : Word → Stop → Type 0
+abbrev pub CubeStop : Word → BlifStop → Type 0
 CubeStop literals stops.Memory = Unit {0}
 CubeStop literals (stops.Fault kind) = (kind ≡ kinds.Row) × (list_all is_literal literals ≡ false)
 
-abbrev pub WordsStop : Word → Word → Stop → Type 0
+abbrev pub WordsStop : Word → Word → BlifStop → Type 0
 WordsStop literals output stops.Memory = Unit {0}
 WordsStop literals output (stops.Fault kind) = (kind ≡ kinds.Row) × ((list_all is_literal literals && is_bit output) ≡ false)
 
-abbrev pub RowStop : ℕ → List Word → Stop → Type 0
+abbrev pub RowStop : ℕ → List Word → BlifStop → Type 0
 RowStop ins words stops.Memory = Unit {0}
 RowStop ins words (stops.Fault kind) = (kind ≡ kinds.Row) × (row_of ins words ≡ None)
 
@@ -60,5 +60,5 @@ TakesRow old row new = (words : List Word) (cover : Cover) → IsCoverOf words c
     → (row_fault cover (row_of (length cover.ins) row) ≡ None) × IsCoverOf words (with_row cover row) new
 
 -- or didn't, and why
-abbrev pub StopsRow : CoverDraft → List Word → Stop → Type 0
+abbrev pub StopsRow : CoverDraft → List Word → BlifStop → Type 0
 StopsRow old row stop = (words : List Word) (cover : Cover) → IsCoverOf words cover old → StopIs (row_fault cover (row_of (length cover.ins) row)) stop

@@ -11,8 +11,8 @@ use Rattle.blif_net.specs.declared.net.Net.{Net}
 use Rattle.blif_net.specs.declared.names.Role.{Role}
 use Rattle.blif_net.specs.declared.names.Role.TheVariants as roles
 use Rattle.blif_net.specs.declared.faults.FaultKind.TheVariants as kinds
-use Rattle.blif_net.specs.declared.faults.Stop.{Stop}
-use Rattle.blif_net.specs.declared.faults.Stop.TheVariants as stops
+use Rattle.blif_net.specs.declared.faults.BlifStop.{BlifStop}
+use Rattle.blif_net.specs.declared.faults.BlifStop.TheVariants as stops
 use Rattle.blif_net.specs.Text.{Word, Line}
 use Rattle.blif_net.specs.Circuits.{Context, Cover, Statement, model, inputs, outputs, names, ends, Circuit, after_line, at_start, behind, circuit_of, after_statement, close, cover_at, covers_in, defined_in, said}
 use Rattle.blif_net.specs.Faults.{fault_in, faulty_line, line_fault, open_fault, signals_in, some_again}
@@ -85,7 +85,7 @@ pub record AddsInput (old : Draft) (word : Word) (line : ℕ) (new : Draft) : Ty
   pub current : new.current ≡ old.current
 
 -- or not, since it is a signal
-abbrev pub InputStop : Draft → Word → Stop → Type 0
+abbrev pub InputStop : Draft → Word → BlifStop → Type 0
 InputStop draft word stops.Memory = Unit {0}
 InputStop draft word (stops.Fault kind) = (kind ≡ kinds.Twice) × ((c : Context) → IsDraftOf c draft → is_among (signals_in c) word ≡ true)
 
@@ -97,7 +97,7 @@ pub record AddsInputs (old : Draft) (front back : List Word) (line : ℕ) (new :
   pub current : new.current ≡ old.current
 
 -- or not, since one of them is a signal or stands twice
-abbrev pub InputsStop : Draft → List Word → Stop → Type 0
+abbrev pub InputsStop : Draft → List Word → BlifStop → Type 0
 InputsStop draft words stops.Memory = Unit {0}
 InputsStop draft words (stops.Fault kind) = (kind ≡ kinds.Twice) × ((c : Context) → IsDraftOf c draft → some_again (signals_in c) words ≡ true)
 
@@ -123,7 +123,7 @@ pub record Takes (old : Draft) (line : ℕ) (statement : Statement) (new : Draft
   pub uses : uses_in new ≡ with_uses line (uses_in old) (names_said statement)
 
 -- or not, and why
-abbrev pub Stops : Draft → Statement → Stop → Type 0
+abbrev pub Stops : Draft → Statement → BlifStop → Type 0
 Stops draft statement stop = (c : Context) → IsDraftOf c draft → StopIs (open_fault c statement) stop
 
 -- The draft took a line that says this, where `.end` didn't come.
@@ -139,7 +139,7 @@ pub record TakesLine (old : Draft) (line : Line) (new : Draft) : Type 0 where
   pub uses : uses_in new ≡ with_uses line.number (uses_in old) (names_said (said line))
 
 -- or not, and why
-abbrev pub StopsLine : Draft → Line → Stop → Type 0
+abbrev pub StopsLine : Draft → Line → BlifStop → Type 0
 StopsLine draft line stop = (c : Context) → IsDraftOf c draft → StopIs (line_fault c line) stop
 
 -- the uses of lines, after these
@@ -194,6 +194,6 @@ HasFaultIn lines errors.Memory = Unit {0}
 HasFaultIn lines (errors.Fault fault) = fault_in lines ≡ Some fault
 
 -- why a text is not that of a network of which a line was not taken
-abbrev pub stopped_at : ℕ → Stop → BlifError
+abbrev pub stopped_at : ℕ → BlifStop → BlifError
 stopped_at line stops.Memory = errors.Memory
 stopped_at line (stops.Fault kind) = errors.Fault (record { line = line; what = kind })

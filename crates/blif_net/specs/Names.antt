@@ -7,8 +7,8 @@ use Rattle.blif_net.specs.declared.names.Known.{Known}
 use Rattle.blif_net.specs.declared.names.Role.{Role}
 use Rattle.blif_net.specs.declared.names.Role.TheVariants.{Unknown}
 use Rattle.blif_net.specs.declared.faults.FaultKind.TheVariants as kinds
-use Rattle.blif_net.specs.declared.faults.Stop.{Stop}
-use Rattle.blif_net.specs.declared.faults.Stop.TheVariants as stops
+use Rattle.blif_net.specs.declared.faults.BlifStop.{BlifStop}
+use Rattle.blif_net.specs.declared.faults.BlifStop.TheVariants as stops
 use Rattle.blif_net.specs.Text.{Word}
 
 -- A name: its word, the number of the line where it first stands, and what it is.
@@ -70,6 +70,6 @@ abbrev pub given_role : Word → Role → Name → Name
 given_role word role name = if is_called word name then record name { role = role } else name
 
 -- why a word was not taken as a new signal
-abbrev pub DefineStop : List Name → Word → Stop → Type 0
+abbrev pub DefineStop : List Name → Word → BlifStop → Type 0
 DefineStop names word stops.Memory = Unit {0}
 DefineStop names word (stops.Fault kind) = (kind ≡ kinds.Twice) × (is_unknown (role_called names word) ≡ false)

@@ -7,7 +7,7 @@ ghost use Rattle.blif_net.specs.Circuits.{is_bit, is_literal};
 ghost use Rattle.blif_net.specs.Networks.{literal_of};
 ghost use Rattle.blif_net.specs.Covers.{CubeStop, IsRead, IsReadRow, RowStop, StopsRow, TakesRow, WordsStop, takes_output};
 
-use crate::faults::{FaultKind, Stop};
+use crate::faults::{BlifStop, FaultKind};
 use crate::net::{Cube, Literal};
 use edge_bits::List;
 use std::alloc::Global;
@@ -54,14 +54,14 @@ fn bit(word: &[u8]) -> Option<bool>
 }
 
 /// What a word of 0, 1 and - asks of the inputs.
-fn cube(alloc: Global, word: &[u8]) -> Result<Cube, Stop>
+fn cube(alloc: Global, word: &[u8]) -> Result<Cube, BlifStop>
     ensures ok { IfOk result (λ cube. (list_all is_literal word.now ≡ true) × (cube.literals ≡ map literal_of word.now)) }
     ensures stop { IfErr result (CubeStop word.now) }
 {
     let mut literals = Vec::with_capacity(alloc, word.len())?;
     for b in word {
         let Some(literal) = literal(*b) else {
-            return Err(Stop::Fault(FaultKind::Row));
+            return Err(BlifStop::Fault(FaultKind::Row));
         };
         literals.push(literal)?;
     }
@@ -71,36 +71,36 @@ fn cube(alloc: Global, word: &[u8]) -> Result<Cube, Stop>
 }
 
 /// The row of a word of 0, 1 and - and an output.
-fn row_of_words(alloc: Global, literals: &[u8], output: &[u8]) -> Result<ReadRow, Stop>
+fn row_of_words(alloc: Global, literals: &[u8], output: &[u8]) -> Result<ReadRow, BlifStop>
     ensures ok { IfOk result (IsReadRow literals.now output.now) }
     ensures stop { IfErr result (WordsStop literals.now output.now) }
 {
     let Some(output) = bit(output) else {
-        return Err(Stop::Fault(FaultKind::Row));
+        return Err(BlifStop::Fault(FaultKind::Row));
     };
     let cube = cube(alloc, literals)?;
     Ok(ReadRow { cube, output })
 }
 
 /// The row of these words in a cover with so many inputs.
-fn read_row(alloc: Global, ins: usize, words: &[&[u8]]) -> Result<ReadRow, Stop>
+fn read_row(alloc: Global, ins: usize, words: &[&[u8]]) -> Result<ReadRow, BlifStop>
     ensures ok { IfOk result (IsRead ins (map (λ word. word.now) words.now)) }
     ensures stop { IfErr result (RowStop ins (map (λ word. word.now) words.now)) }
 {
     match words {
         [output] => {
             if ins != 0 {
-                return Err(Stop::Fault(FaultKind::Row));
+                return Err(BlifStop::Fault(FaultKind::Row));
             }
             row_of_words(alloc, b"".as_slice(), output)
         }
         [literals, output] => {
             if ins == 0 || literals.len() != ins {
-                return Err(Stop::Fault(FaultKind::Row));
+                return Err(BlifStop::Fault(FaultKind::Row));
             }
             row_of_words(alloc, literals, output)
         }
-        _ => Err(Stop::Fault(FaultKind::Row)),
+        _ => Err(BlifStop::Fault(FaultKind::Row)),
     }
 }
 
@@ -113,13 +113,13 @@ impl CoverDraft {
     }
 
     /// Adds the row of these words.
-    pub fn add_row(&mut self, alloc: Global, words: &[&[u8]]) -> Result<(), Stop>
+    pub fn add_row(&mut self, alloc: Global, words: &[&[u8]]) -> Result<(), BlifStop>
         ensures ok { OnOk result (TakesRow self.old (map (λ word. word.now) words.now) self.new) }
         ensures stop { IfErr result (StopsRow self.old (map (λ word. word.now) words.now)) }
     {
         let ReadRow { cube, output } = read_row(alloc, self.ins.len(), words)?;
         if !self.takes_output(output) {
-            return Err(Stop::Fault(FaultKind::Mixed));
+            return Err(BlifStop::Fault(FaultKind::Mixed));
         }
         self.rows.push(cube)?;
         self.on = output;

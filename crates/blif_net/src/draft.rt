@@ -9,7 +9,7 @@ ghost use Rattle.blif_net.specs.Statements.{statement_in};
 ghost use Rattle.blif_net.specs.Text.{line_at};
 
 use crate::covers::CoverDraft;
-use crate::faults::{FaultKind, Stop};
+use crate::faults::{BlifStop, FaultKind};
 use crate::names::{Names, Role};
 use crate::statements::{Statement, statement_of};
 use crate::text::words;
@@ -42,14 +42,14 @@ pub fn number_of(n: usize) -> Result<u32, AllocError>
 }
 
 /// A line behind `.end`.
-fn after_end(statement: Statement) -> Result<(), Stop>
+fn after_end(statement: Statement) -> Result<(), BlifStop>
     ensures ok { OnOk result (statement_in statement.entry ≡ nothing) }
     ensures stop { IfErr result (StopIs (end_fault (statement_in statement.entry))) }
 {
     match statement {
         Statement::Nothing => Ok(()),
-        Statement::Model => Err(Stop::Fault(FaultKind::LeftOut)),
-        _ => Err(Stop::Fault(FaultKind::Word)),
+        Statement::Model => Err(BlifStop::Fault(FaultKind::LeftOut)),
+        _ => Err(BlifStop::Fault(FaultKind::Word)),
     }
 }
 
@@ -71,7 +71,7 @@ impl Draft {
     }
 
     /// Adds an input.
-    fn add_input(&mut self, alloc: Global, word: &[u8], line: u64) -> Result<(), Stop>
+    fn add_input(&mut self, alloc: Global, word: &[u8], line: u64) -> Result<(), BlifStop>
         ensures ok { OnOk result (AddsInput self.old word.now line self.new) }
         ensures stop { IfErr result (InputStop self.old word.now) }
     {
@@ -82,7 +82,7 @@ impl Draft {
     }
 
     /// Adds inputs.
-    fn add_inputs(&mut self, alloc: Global, words: &[&[u8]], line: u64) -> Result<(), Stop>
+    fn add_inputs(&mut self, alloc: Global, words: &[&[u8]], line: u64) -> Result<(), BlifStop>
         ensures ok { OnOk result (AddsInputs self.old (map (λ word. word.now) words.now) [] line self.new) }
         ensures stop { IfErr result (InputsStop self.old (map (λ word. word.now) words.now)) }
     {
@@ -119,40 +119,40 @@ impl Draft {
     }
 
     /// `.model`
-    fn model_line(&mut self) -> Result<(), Stop>
+    fn model_line(&mut self) -> Result<(), BlifStop>
         ensures ok { OnOk result ((line : ℕ) → Takes self.old line model self.new) }
         ensures stop { IfErr result (Stops self.old model) }
     {
         if self.modelled {
-            return Err(Stop::Fault(FaultKind::LeftOut));
+            return Err(BlifStop::Fault(FaultKind::LeftOut));
         }
         self.modelled = true;
         Ok(())
     }
 
     /// `.inputs` and these names.
-    fn inputs_line(&mut self, alloc: Global, words: &[&[u8]], line: u64) -> Result<(), Stop>
+    fn inputs_line(&mut self, alloc: Global, words: &[&[u8]], line: u64) -> Result<(), BlifStop>
         requires { self.old.current ≡ None }
         ensures ok { OnOk result (Takes self.old line (inputs (map (λ word. word.now) words.now)) self.new) }
         ensures stop { IfErr result (Stops self.old (inputs (map (λ word. word.now) words.now))) }
     {
         self.add_inputs(alloc, words, line)?;
         if self.inputs.len() > MOST_VARIABLES as usize {
-            return Err(Stop::Fault(FaultKind::TooMany));
+            return Err(BlifStop::Fault(FaultKind::TooMany));
         }
         if self.has_more_signals(MOST_SIGNALS as usize) {
-            return Err(Stop::Fault(FaultKind::TooMany));
+            return Err(BlifStop::Fault(FaultKind::TooMany));
         }
         Ok(())
     }
 
     /// `.outputs` and these names.
-    fn outputs_line(&mut self, alloc: Global, words: &[&[u8]], line: u64) -> Result<(), Stop>
+    fn outputs_line(&mut self, alloc: Global, words: &[&[u8]], line: u64) -> Result<(), BlifStop>
         ensures ok { OnOk result (Takes self.old line (outputs (map (λ word. word.now) words.now)) self.new) }
         ensures stop { IfErr result (Stops self.old (outputs (map (λ word. word.now) words.now))) }
     {
         if self.has_more_outputs(words.len()) {
-            return Err(Stop::Fault(FaultKind::TooMany));
+            return Err(BlifStop::Fault(FaultKind::TooMany));
         }
         let numbers = self.names.numbers_of(alloc, words, line)?;
         self.outputs.extend_from_slice(&numbers)?;
@@ -160,19 +160,19 @@ impl Draft {
     }
 
     /// `.names`, the names of a cover's inputs, and its own.
-    fn names_line(&mut self, alloc: Global, words: &[&[u8]], line: u64) -> Result<(), Stop>
+    fn names_line(&mut self, alloc: Global, words: &[&[u8]], line: u64) -> Result<(), BlifStop>
         requires { self.old.current ≡ None }
         ensures ok { OnOk result (Takes self.old line (names (map (λ word. word.now) words.now)) self.new) }
         ensures stop { IfErr result (Stops self.old (names (map (λ word. word.now) words.now))) }
     {
         let Some((name, ins)) = words.split_last() else {
-            return Err(Stop::Fault(FaultKind::Word));
+            return Err(BlifStop::Fault(FaultKind::Word));
         };
         let cover = number_of(self.closed.len())?;
         let ins = self.names.numbers_of(alloc, ins, line)?;
         let name = self.names.define(alloc, name, line, Role::Cover(cover))?;
         if self.has_more_signals(MOST_SIGNALS as usize - 1) {
-            return Err(Stop::Fault(FaultKind::TooMany));
+            return Err(BlifStop::Fault(FaultKind::TooMany));
         }
         self.current = Some(CoverDraft {
             line,
@@ -185,30 +185,35 @@ impl Draft {
     }
 
     /// `.end` and further words.
-    fn end_line(&mut self, words: &[&[u8]]) -> Result<(), Stop>
+    fn end_line(&mut self, words: &[&[u8]]) -> Result<(), BlifStop>
         ensures ok { OnOk result ((line : ℕ) → Takes self.old line (ends (map (λ word. word.now) words.now)) self.new) }
         ensures stop { IfErr result (Stops self.old (ends (map (λ word. word.now) words.now))) }
     {
         if !words.is_empty() {
-            return Err(Stop::Fault(FaultKind::Word));
+            return Err(BlifStop::Fault(FaultKind::Word));
         }
         self.ended = true;
         Ok(())
     }
 
     /// A row of these words.
-    fn row_line(&mut self, alloc: Global, words: &[&[u8]]) -> Result<(), Stop>
+    fn row_line(&mut self, alloc: Global, words: &[&[u8]]) -> Result<(), BlifStop>
         ensures ok { OnOk result ((line : ℕ) → TakesStatement self.old line (row (map (λ word. word.now) words.now)) self.new) }
         ensures stop { IfErr result (Stops self.old (row (map (λ word. word.now) words.now))) }
     {
         match &mut self.current {
             Some(cover) => cover.add_row(alloc, words),
-            None => Err(Stop::Fault(FaultKind::Word)),
+            None => Err(BlifStop::Fault(FaultKind::Word)),
         }
     }
 
     /// A line that says this, where `.end` did not come. Each closes the open cover whose first word begins with `.`.
-    fn take_statement(&mut self, alloc: Global, statement: Statement, line: u64) -> Result<(), Stop>
+    fn take_statement(
+        &mut self,
+        alloc: Global,
+        statement: Statement,
+        line: u64,
+    ) -> Result<(), BlifStop>
         ensures ok { OnOk result (TakesStatement self.old line (statement_in statement.entry) self.new) }
         ensures stop { IfErr result (Stops self.old (statement_in statement.entry)) }
     {
@@ -239,18 +244,18 @@ impl Draft {
                 self.close()?;
                 Ok(())
             }
-            Statement::LeftOut => Err(Stop::Fault(FaultKind::LeftOut)),
-            Statement::Unknown => Err(Stop::Fault(FaultKind::Word)),
+            Statement::LeftOut => Err(BlifStop::Fault(FaultKind::LeftOut)),
+            Statement::Unknown => Err(BlifStop::Fault(FaultKind::Word)),
         }
     }
 
     /// Takes a joined line of this number.
-    pub fn take(&mut self, alloc: Global, bytes: &[u8], line: u64) -> Result<(), Stop>
+    pub fn take(&mut self, alloc: Global, bytes: &[u8], line: u64) -> Result<(), BlifStop>
         ensures ok { OnOk result (TakesLine self.old (line_at line bytes.now) self.new) }
         ensures stop { IfErr result (StopsLine self.old (line_at line bytes.now)) }
     {
         if !all_in(bytes, ByteClass::Extended) {
-            return Err(Stop::Fault(FaultKind::Word));
+            return Err(BlifStop::Fault(FaultKind::Word));
         }
         let words = words(alloc, bytes)?;
         let statement = statement_of(&words);

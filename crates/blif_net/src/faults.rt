@@ -59,28 +59,28 @@ pub enum BlifError {
 
 /// Why a line was not taken.
 #[derive(Debug, Clone, Copy, PartialEq, Eq)]
-pub enum Stop {
+pub enum BlifStop {
     Memory,
     Fault(FaultKind),
 }
 
-impl From<AllocError> for Stop {
-    ghost use Rattle.blif_net.specs.declared.faults.Stop.TheVariants.{Memory};
+impl From<AllocError> for BlifStop {
+    ghost use Rattle.blif_net.specs.declared.faults.BlifStop.TheVariants.{Memory};
 
     ghost from_gives = { λ _ e. e ≡ Memory };
 
-    fn from(_: AllocError) -> Stop {
-        Stop::Memory
+    fn from(_: AllocError) -> BlifStop {
+        BlifStop::Memory
     }
 }
 
-impl<T: Drop> From<AllocFailed<T>> for Stop {
-    ghost use Rattle.blif_net.specs.declared.faults.Stop.TheVariants.{Memory};
+impl<T: Drop> From<AllocFailed<T>> for BlifStop {
+    ghost use Rattle.blif_net.specs.declared.faults.BlifStop.TheVariants.{Memory};
 
     ghost from_gives = { λ _ e. e ≡ Memory };
 
-    fn from(_: AllocFailed<T>) -> Stop {
-        Stop::Memory
+    fn from(_: AllocFailed<T>) -> BlifStop {
+        BlifStop::Memory
     }
 }
 

@@ -6,7 +6,7 @@ ghost use Rattle.std.specs.Option.{option_map};
 ghost use Rattle.blif_net.specs.Names.{DefineStop, IsNumberOf, given_role, is_called, is_unknown, name_at, role_called, with_name, with_names, words_in};
 ghost use Rattle.blif_net.specs.Networks.{AreNumbers};
 
-use crate::faults::{FaultKind, Stop};
+use crate::faults::{BlifStop, FaultKind};
 use indexmap::IndexSet;
 use std::alloc::{AllocError, Global};
 use std::hash::RandomState;
@@ -130,7 +130,13 @@ impl Names {
     }
 
     /// Makes a signal of the name of a word that stands on a line, unless it is one.
-    pub fn define(&mut self, alloc: Global, word: &[u8], line: u64, role: Role) -> Result<u32, Stop>
+    pub fn define(
+        &mut self,
+        alloc: Global,
+        word: &[u8],
+        line: u64,
+        role: Role,
+    ) -> Result<u32, BlifStop>
         ensures names { OnOk result (self.new ≡ map (given_role word.now role) (with_name self.old word.now line)) }
         ensures number { IfOk result (IsNumberOf self.new word.now) }
         ensures new { OnOk result (role_called self.old word.now ≡ Role.Unknown) }
@@ -146,7 +152,7 @@ impl Names {
                 self.give_role(word, number, role);
                 Ok(number)
             }
-            _ => Err(Stop::Fault(FaultKind::Twice)),
+            _ => Err(BlifStop::Fault(FaultKind::Twice)),
         }
     }
 

@@ -12,7 +12,7 @@ ghost use Rattle.blif_net.specs.Text.{Line};
 
 use crate::building::net_of;
 use crate::draft::Draft;
-use crate::faults::{BlifError, BlifFault, FaultKind, Stop};
+use crate::faults::{BlifError, BlifFault, BlifStop, FaultKind};
 use crate::net::Net;
 use crate::reads::arranged;
 use crate::text::next_line;
@@ -27,12 +27,12 @@ fn fault_at(line: u64, what: FaultKind) -> BlifError
 }
 
 /// Why a text was not read of which the line of this number was not taken.
-fn stopped_at(line: u64, stop: Stop) -> BlifError
+fn stopped_at(line: u64, stop: BlifStop) -> BlifError
     ensures { result ≡ stopped_at line stop }
 {
     match stop {
-        Stop::Memory => BlifError::Memory,
-        Stop::Fault(what) => fault_at(line, what),
+        BlifStop::Memory => BlifError::Memory,
+        BlifStop::Fault(what) => fault_at(line, what),
     }
 }
 

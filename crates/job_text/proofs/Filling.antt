@@ -6,8 +6,8 @@ use Rattle.job_commands.specs.declared.slots.Line.{Line}
 use Rattle.job_commands.specs.declared.commands.Place.{Place}
 use Rattle.job_text.specs.declared.faults.FaultKind.{FaultKind}
 use Rattle.job_text.specs.declared.faults.FaultKind.TheVariants as kinds
-use Rattle.job_text.specs.declared.faults.Stop.{Stop}
-use Rattle.job_text.specs.declared.faults.Stop.TheVariants as stops
+use Rattle.job_text.specs.declared.faults.JobStop.{JobStop}
+use Rattle.job_text.specs.declared.faults.JobStop.TheVariants as stops
 use Rattle.job_text.specs.declared.job.Counts.{Counts}
 use Rattle.job_text.specs.declared.job.Register.{Register}
 use Rattle.job_text.specs.declared.operands.Operand.{Operand}
@@ -78,10 +78,10 @@ pub ill_formed : (n : Counts) (rs : List Register) (slots : List (Place × Word)
 ill_formed n rs slots h = ap (λ b. cond b (first_fault n rs nothing_left slots) (Some kinds.Word)) h
 
 -- what stops a word at its place stops it beside whatever stands to its left
-pub word_stop : (n : Counts) (rs : List Register) (left : Left) (slot : Place × Word) (stop : Stop) → SlotStop n rs slot stop → (fault : FaultKind) → stop ≡ stops.Fault fault → word_fault n rs left slot ≡ Some fault
+pub word_stop : (n : Counts) (rs : List Register) (left : Left) (slot : Place × Word) (stop : JobStop) → SlotStop n rs slot stop → (fault : FaultKind) → stop ≡ stops.Fault fault → word_fault n rs left slot ≡ Some fault
 word_stop n rs left slot stop h fault e = ap (λ t. or_else t (beside_fault n rs left slot)) (subst (λ s. SlotStop n rs slot s) e h)
 
-abbrev fault_of : Stop → Option FaultKind
+abbrev fault_of : JobStop → Option FaultKind
 fault_of stops.Memory = None
 fault_of (stops.Fault fault) = Some fault
 
@@ -90,12 +90,12 @@ pub misfit_stop : (n : Counts) (rs : List Register) (others : Operands) (slot : 
     → (fault : FaultKind) → stops.Fault wrong ≡ stops.Fault fault → word_fault n rs (left_by others) slot ≡ Some fault
 misfit_stop n rs others slot o wrong own h fault e = word_fault_is n rs others slot o own ∙ h ∙ ap fault_of e
 
-pub slots_stop : (n : Counts) (rs : List Register) (slots front : List (Place × Word)) (slot : Place × Word) (rest : List (Place × Word)) (os : List Operand) (stop : Stop) → slots ≡ front ++ slot ∷ rest
+pub slots_stop : (n : Counts) (rs : List Register) (slots front : List (Place × Word)) (slot : Place × Word) (rest : List (Place × Word)) (os : List Operand) (stop : JobStop) → slots ≡ front ++ slot ∷ rest
     → AreOperands n rs front os → AllFit n rs no_operands os → ((fault : FaultKind) → stop ≡ stops.Fault fault → word_fault n rs (left_by (with_operands rs no_operands os)) slot ≡ Some fault) → SlotsStop n rs slots stop
 slots_stop n rs slots front slot rest os stops.Memory at h new e = tt
 slots_stop n rs slots front slot rest os (stops.Fault fault) at h new e = first_at n rs slots front slot rest os fault at h new (e fault refl)
 
-pub command_stop : (n : Counts) (rs : List Register) (words : List Word) (slots : List (Place × Word)) (stop : Stop) → command_fault n rs words ≡ fault_in n rs (Some slots) → list_all has_form slots ≡ true
+pub command_stop : (n : Counts) (rs : List Register) (words : List Word) (slots : List (Place × Word)) (stop : JobStop) → command_fault n rs words ≡ fault_in n rs (Some slots) → list_all has_form slots ≡ true
     → SlotsStop n rs slots stop → CommandStop n rs words stop
 command_stop n rs words slots stops.Memory e h stop = tt
 command_stop n rs words slots (stops.Fault fault) e h stop = e ∙ ap (λ b. cond b (first_fault n rs nothing_left slots) (Some kinds.Word)) h ∙ stop

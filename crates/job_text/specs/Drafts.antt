@@ -14,8 +14,8 @@ use Rattle.job_text.specs.declared.draft.Section.{Section}
 use Rattle.job_text.specs.declared.faults.FaultKind.TheVariants as kinds
 use Rattle.job_text.specs.declared.faults.JobError.{JobError}
 use Rattle.job_text.specs.declared.faults.JobError.TheVariants as errors
-use Rattle.job_text.specs.declared.faults.Stop.{Stop}
-use Rattle.job_text.specs.declared.faults.Stop.TheVariants as stops
+use Rattle.job_text.specs.declared.faults.JobStop.{JobStop}
+use Rattle.job_text.specs.declared.faults.JobStop.TheVariants as stops
 use Rattle.job_words.specs.Text.{Word, IsNumber}
 use Rattle.job_text.specs.Places.{StandsFor, place_of}
 use Rattle.job_text.specs.Grammar.{Says, registers_after}
@@ -88,22 +88,22 @@ abbrev pub left_by : Operands → Left
 left_by others = record { variables = others.variables; kind = others.kind }
 
 -- why a word was not taken at its place
-abbrev pub SlotStop : Counts → List Register → Place × Word → Stop → Type 0
+abbrev pub SlotStop : Counts → List Register → Place × Word → JobStop → Type 0
 SlotStop n registers slot stops.Memory = Unit {0}
 SlotStop n registers slot (stops.Fault fault) = slot_fault n registers slot ≡ Some fault
 
 -- why words of due form were not taken at their places
-abbrev pub SlotsStop : Counts → List Register → List (Place × Word) → Stop → Type 0
+abbrev pub SlotsStop : Counts → List Register → List (Place × Word) → JobStop → Type 0
 SlotsStop n registers slots stops.Memory = Unit {0}
 SlotsStop n registers slots (stops.Fault fault) = first_fault n registers nothing_left slots ≡ Some fault
 
 -- why these words were not taken as a command
-abbrev pub CommandStop : Counts → List Register → List Word → Stop → Type 0
+abbrev pub CommandStop : Counts → List Register → List Word → JobStop → Type 0
 CommandStop n registers words stops.Memory = Unit {0}
 CommandStop n registers words (stops.Fault fault) = command_fault n registers words ≡ Some fault
 
 -- why a line of these words was not taken
-abbrev pub LineStop : Draft → List Word → Stop → Type 0
+abbrev pub LineStop : Draft → List Word → JobStop → Type 0
 LineStop draft words stops.Memory = Unit {0}
 LineStop draft words (stops.Fault fault) = words_fault (context_in draft) words ≡ Some fault
 

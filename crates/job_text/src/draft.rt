@@ -6,7 +6,7 @@ ghost use Rattle.job_words.specs.Text.{split_words};
 ghost use Rattle.job_text.specs.Grammar.{Says, registers_after, without, is_drop};
 ghost use Rattle.job_text.specs.Drafts.{CommandStop, new_section, with_act};
 
-use crate::faults::Stop;
+use crate::faults::JobStop;
 use crate::job::{Command, Counts};
 use crate::line_words::Words;
 use crate::registers::Registers;
@@ -58,7 +58,7 @@ impl Section {
     }
 
     /// Takes one more command.
-    pub fn add_command(&mut self, alloc: Global, words: &[u8]) -> Result<(), Stop>
+    pub fn add_command(&mut self, alloc: Global, words: &[u8]) -> Result<(), JobStop>
         requires some { 0 < length (split_words words.now) }
         requires vars { self.old.scope.counts.vars ≤ MOST_VARIABLES }
         requires elements { self.old.scope.counts.elements ≤ MOST_ELEMENTS }

@@ -39,37 +39,37 @@ pub enum JobError {
 
 /// Why a line was not taken.
 #[derive(Debug, Clone, Copy, PartialEq, Eq)]
-pub enum Stop {
+pub enum JobStop {
     Memory,
     Fault(FaultKind),
 }
 
-impl From<FaultKind> for Stop {
-    ghost use Rattle.job_text.specs.declared.faults.Stop.TheVariants.{Fault};
+impl From<FaultKind> for JobStop {
+    ghost use Rattle.job_text.specs.declared.faults.JobStop.TheVariants.{Fault};
 
     ghost from_gives = { λ kind stop. stop ≡ Fault kind };
 
-    fn from(kind: FaultKind) -> Stop {
-        Stop::Fault(kind)
+    fn from(kind: FaultKind) -> JobStop {
+        JobStop::Fault(kind)
     }
 }
 
-impl From<AllocError> for Stop {
-    ghost use Rattle.job_text.specs.declared.faults.Stop.TheVariants.{Memory};
+impl From<AllocError> for JobStop {
+    ghost use Rattle.job_text.specs.declared.faults.JobStop.TheVariants.{Memory};
 
     ghost from_gives = { λ _ e. e ≡ Memory };
 
-    fn from(_: AllocError) -> Stop {
-        Stop::Memory
+    fn from(_: AllocError) -> JobStop {
+        JobStop::Memory
     }
 }
 
-impl<T: Drop> From<AllocFailed<T>> for Stop {
-    ghost use Rattle.job_text.specs.declared.faults.Stop.TheVariants.{Memory};
+impl<T: Drop> From<AllocFailed<T>> for JobStop {
+    ghost use Rattle.job_text.specs.declared.faults.JobStop.TheVariants.{Memory};
 
     ghost from_gives = { λ _ e. e ≡ Memory };
 
-    fn from(_: AllocFailed<T>) -> Stop {
-        Stop::Memory
+    fn from(_: AllocFailed<T>) -> JobStop {
+        JobStop::Memory
     }
 }

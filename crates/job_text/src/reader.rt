@@ -14,7 +14,7 @@ ghost use Rattle.job_text.specs.declared.draft.Section.{Section as SectionOf};
 ghost use Rattle.job_text.specs.declared.job.Command.{Command as CommandOf};
 
 use crate::draft::{Draft, Section};
-use crate::faults::{FaultKind, JobError, JobFault, Stop};
+use crate::faults::{FaultKind, JobError, JobFault, JobStop};
 use crate::job::{Command, Counts, Job};
 use edge_bits::{
     FIRST_PROJECTION, List, MOST_ELEMENTS, MOST_SESSIONS, MOST_SLOTS, MOST_VARIABLES, USUAL_LIMIT,
@@ -79,7 +79,7 @@ fn session_line(words: &[u8]) -> bool
 }
 
 /// What the lines give with one more of these words.
-fn with_line(alloc: Global, draft: Draft, words: &[u8]) -> Result<Draft, Stop>
+fn with_line(alloc: Global, draft: Draft, words: &[u8]) -> Result<Draft, JobStop>
     requires { IsSmall draft }
     ensures ok { IfOk result (λ next. Adds draft (split_words words.now) next) }
     ensures stop { IfErr result (λ stop. LineStop draft (split_words words.now) stop) }
@@ -113,7 +113,7 @@ fn sized_line(
     elements: Option<u32>,
     limit: Option<u32>,
     words: &[u8],
-) -> Result<Draft, Stop>
+) -> Result<Draft, JobStop>
     requires some { 0 < length (split_words words.now) }
     requires vars { vars ≤ MOST_VARIABLES }
     ensures ok { IfOk result (λ next. Adds (Draft.Sized vars elements limit) (split_words words.now) next) }
@@ -132,7 +132,7 @@ fn sized_line(
         });
     }
     if limit.is_some() {
-        return Err(Stop::Fault(FaultKind::Word));
+        return Err(JobStop::Fault(FaultKind::Word));
     }
     if elements.is_none() && begins(words, b"elements".as_slice()) {
         return elements_line(vars, words);
@@ -156,7 +156,7 @@ fn begins(words: &[u8], due: &[u8]) -> bool
 }
 
 /// A line that begins with `elements`, behind `vars`.
-fn elements_line(vars: u32, words: &[u8]) -> Result<Draft, Stop>
+fn elements_line(vars: u32, words: &[u8]) -> Result<Draft, JobStop>
     requires first { bytes_eq (target_of (split_words words.now)) (codes "elements") ≡ true }
     ensures ok { IfOk result (λ next. Adds (Draft.Sized vars None None) (split_words words.now) next) }
     ensures stop { IfErr result (λ stop. LineStop (Draft.Sized vars None None) (split_words words.now) stop) }
@@ -175,7 +175,7 @@ fn begun_line(
     done: List<List<Command>>,
     section: Section,
     words: &[u8],
-) -> Result<Draft, Stop>
+) -> Result<Draft, JobStop>
     requires some { 0 < length (split_words words.now) }
     requires vars { section.scope.counts.vars ≤ MOST_VARIABLES }
     requires elements { section.scope.counts.elements ≤ MOST_ELEMENTS }
@@ -201,13 +201,13 @@ fn next_section(
     limit: u32,
     done: List<List<Command>>,
     section: Section,
-) -> Result<Draft, Stop>
+) -> Result<Draft, JobStop>
     requires { length done < MOST_SESSIONS }
     ensures ok { IfOk result (λ next. Adds (Draft.Begun limit done section) (codes "session" ∷ []) next) }
     ensures stop { IfErr result (λ stop. LineStop (Draft.Begun limit done section) (codes "session" ∷ []) stop) }
 {
     if done.len() + 1 >= MOST_SESSIONS as usize {
-        return Err(Stop::Fault(FaultKind::Limit));
+        return Err(JobStop::Fault(FaultKind::Limit));
     }
     let Section { scope, commands } = section;
     let mut done = done;
@@ -239,8 +239,8 @@ pub fn parse(alloc: Global, text: &[u8]) -> Result<Job, JobError>
         };
         draft = match with_line(alloc, draft, words) {
             Ok(draft) => draft,
-            Err(Stop::Memory) => return Err(JobError::Memory),
-            Err(Stop::Fault(what)) => return Err(JobError::Fault(JobFault { line, what })),
+            Err(JobStop::Memory) => return Err(JobError::Memory),
+            Err(JobStop::Fault(what)) => return Err(JobError::Fault(JobFault { line, what })),
         };
         rest = after;
     }

@@ -8,7 +8,7 @@ ghost use Rattle.job_text.specs.Grammar.{is_drop, kind_called, kind_given, regis
 ghost use Rattle.job_text.specs.Faults.{name_fault};
 ghost use Rattle.job_text.specs.declared.faults.FaultKind.TheVariants as kinds;
 
-use crate::faults::Stop;
+use crate::faults::JobStop;
 use crate::job::Register;
 use edge_bits::{Kind, List};
 use job_commands::{as_assignment, kind_made};
@@ -117,10 +117,10 @@ impl Registers {
     }
 
     /// The registers with one more, of a name that none has. There are fewer than 2^32: for more there is no memory.
-    fn with_made(self, alloc: Global, name: &[u8], kind: Kind) -> Result<Registers, Stop>
+    fn with_made(self, alloc: Global, name: &[u8], kind: Kind) -> Result<Registers, JobStop>
         requires { list_any (is_called name.now) self ≡ false }
         ensures ok { IfOk result (λ after. after ≡ self ++ register_made name.now kind ∷ []) }
-        ensures stop { IfErr result (λ stop. stop ≡ Stop.Memory) }
+        ensures stop { IfErr result (λ stop. stop ≡ JobStop.Memory) }
     {
         let Registers {
             mut items,
@@ -128,7 +128,7 @@ impl Registers {
         } = self;
         let place = items.len();
         if place >= MOST_REGISTERS {
-            return Err(Stop::Memory);
+            return Err(JobStop::Memory);
         }
         places.insert(Vec::from_slice(alloc, name)?, place)?;
         items.push(made(alloc, name, kind)?)?;
@@ -148,10 +148,10 @@ impl Registers {
     }
 
     /// The registers after a command of these words, whose target no register has as its name.
-    pub fn after(self, alloc: Global, words: &[u8]) -> Result<Registers, Stop>
+    pub fn after(self, alloc: Global, words: &[u8]) -> Result<Registers, JobStop>
         requires { is_assignment (split_words words.now) ≡ true → list_any (is_called (target_of (split_words words.now))) self ≡ false }
         ensures ok { IfOk result (λ after. after ≡ registers_after self (split_words words.now)) }
-        ensures stop { IfErr result (λ stop. stop ≡ Stop.Memory) }
+        ensures stop { IfErr result (λ stop. stop ≡ JobStop.Memory) }
     {
         if let Some((target, command, operands)) = as_assignment(words) {
             let kind = self.kind_given(command, operands);
@@ -245,9 +245,9 @@ fn behind_first(words: &[u8]) -> &[u8]
 }
 
 /// What an assignment to this name adds.
-fn made(alloc: Global, name: &[u8], kind: Kind) -> Result<Register, Stop>
+fn made(alloc: Global, name: &[u8], kind: Kind) -> Result<Register, JobStop>
     ensures ok { IfOk result (λ register. register ≡ register_made name.now kind) }
-    ensures stop { IfErr result (λ stop. stop ≡ Stop.Memory) }
+    ensures stop { IfErr result (λ stop. stop ≡ JobStop.Memory) }
 {
     let name = List::from_vec(Vec::from_slice(alloc, name)?);
     Ok(Register {

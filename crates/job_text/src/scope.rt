@@ -16,7 +16,7 @@ ghost use Rattle.job_commands.specs.Slots.{slot_of, slots_of};
 ghost use Rattle.job_commands.specs.declared.commands.Place.TheVariants as places;
 ghost use Rattle.job_text.specs.declared.operands.Operand.{Operand as OperandOf};
 
-use crate::faults::{FaultKind, Stop};
+use crate::faults::{FaultKind, JobStop};
 use crate::job::Counts;
 use crate::operands::{Operand, add_operand, names};
 use crate::registers::{Found, Registers, kind_at, same_kind};
@@ -54,48 +54,48 @@ fn unless(well: bool, fault: FaultKind) -> Option<FaultKind>
 }
 
 /// The number that a word is, where it is below another.
-fn number_below(bound: u32, word: &[u8]) -> Result<u32, Stop>
+fn number_below(bound: u32, word: &[u8]) -> Result<u32, JobStop>
     requires number { is_number word.now ≡ true }
     requires few { bound < 4000000000 }
     ensures ok { IfOk result (λ number. IsNumber word.now number × (number < bound)) }
-    ensures stop { IfErr result (λ stop. (stop ≡ Stop.Fault kinds.Range) × (below_fault bound word.now ≡ Some kinds.Range)) }
+    ensures stop { IfErr result (λ stop. (stop ≡ JobStop.Fault kinds.Range) × (below_fault bound word.now ≡ Some kinds.Range)) }
 {
     let number = number_value(word);
     if number < bound {
         Ok(number)
     } else {
-        Err(Stop::Fault(FaultKind::Range))
+        Err(JobStop::Fault(FaultKind::Range))
     }
 }
 
 impl Scope {
     /// A target.
-    fn target(&self, word: &[u8]) -> Result<Operand, Stop>
+    fn target(&self, word: &[u8]) -> Result<Operand, JobStop>
         requires { is_name word.now ≡ true }
         ensures ok { IfOk result (λ operand. IsOperand self.now.counts self.now.registers (places.Fresh, word.now) operand) }
         ensures stop { IfErr result (λ stop. SlotStop self.now.counts self.now.registers (places.Fresh, word.now) stop) }
     {
         if self.registers.is_assigned(word) {
-            return Err(Stop::Fault(FaultKind::Again));
+            return Err(JobStop::Fault(FaultKind::Again));
         }
         Ok(Operand::Target)
     }
 
     /// The register of this name.
-    fn find(&self, word: &[u8]) -> Result<Found, Stop>
+    fn find(&self, word: &[u8]) -> Result<Found, JobStop>
         requires name { is_name word.now ≡ true }
         ensures found { IfOk result (λ found. Refers self.now.registers word.now found.number found.kind) }
         ensures called { IfOk result (λ found. (name_fault (register_called self.now.registers word.now) ≡ None) × (kind_called self.now.registers word.now ≡ found.kind)) }
-        ensures stop { IfErr result (λ stop. (stop ≡ Stop.Fault kinds.Name) × (name_fault (register_called self.now.registers word.now) ≡ Some kinds.Name)) }
+        ensures stop { IfErr result (λ stop. (stop ≡ JobStop.Fault kinds.Name) × (name_fault (register_called self.now.registers word.now) ≡ Some kinds.Name)) }
     {
         match self.registers.find(word) {
             Some(found) => Ok(found),
-            None => Err(Stop::Fault(FaultKind::Name)),
+            None => Err(JobStop::Fault(FaultKind::Name)),
         }
     }
 
     /// A register of this kind.
-    fn register(&self, kind: Kind, word: &[u8]) -> Result<Operand, Stop>
+    fn register(&self, kind: Kind, word: &[u8]) -> Result<Operand, JobStop>
         requires name { is_name word.now ≡ true }
         ensures ok { IfOk result (λ operand. IsOperand self.now.counts self.now.registers (places.Held kind, word.now) operand) }
         ensures stop { IfErr result (λ stop. SlotStop self.now.counts self.now.registers (places.Held kind, word.now) stop) }
@@ -104,12 +104,12 @@ impl Scope {
         if same_kind(kind, found.kind) {
             Ok(Operand::Register(kind, found.number))
         } else {
-            Err(Stop::Fault(FaultKind::Kind))
+            Err(JobStop::Fault(FaultKind::Kind))
         }
     }
 
     /// A register of any kind.
-    fn any(&self, word: &[u8]) -> Result<u32, Stop>
+    fn any(&self, word: &[u8]) -> Result<u32, JobStop>
         requires name { is_name word.now ≡ true }
         ensures ok { IfOk result (λ a. IsOperand self.now.counts self.now.registers (places.Any, word.now) (Operand.Any a)) }
         ensures ok_alike { IfOk result (λ a. IsOperand self.now.counts self.now.registers (places.Alike, word.now) (Operand.Alike a)) }
@@ -120,7 +120,7 @@ impl Scope {
     }
 
     /// The number of a variable.
-    fn variable(&self, word: &[u8]) -> Result<u32, Stop>
+    fn variable(&self, word: &[u8]) -> Result<u32, JobStop>
         requires number { is_number word.now ≡ true }
         requires few { self.now.counts.vars ≤ MOST_VARIABLES }
         ensures ok { IfOk result (λ v. IsOperand self.now.counts self.now.registers (places.Variable, word.now) (Operand.Variable v)) }
@@ -132,7 +132,7 @@ impl Scope {
     }
 
     /// The number of an element.
-    fn element(&self, word: &[u8]) -> Result<Operand, Stop>
+    fn element(&self, word: &[u8]) -> Result<Operand, JobStop>
         requires number { is_number word.now ≡ true }
         requires few { self.now.counts.elements ≤ MOST_ELEMENTS }
         ensures ok { IfOk result (λ operand. IsOperand self.now.counts self.now.registers (places.Element, word.now) operand) }
@@ -142,7 +142,7 @@ impl Scope {
     }
 
     /// The number of a cell.
-    fn cell(&self, word: &[u8]) -> Result<Operand, Stop>
+    fn cell(&self, word: &[u8]) -> Result<Operand, JobStop>
         requires { is_number word.now ≡ true }
         ensures ok { IfOk result (λ operand. IsOperand self.now.counts self.now.registers (places.Cell, word.now) operand) }
         ensures stop { IfErr result (λ stop. SlotStop self.now.counts self.now.registers (places.Cell, word.now) stop) }
@@ -151,19 +151,19 @@ impl Scope {
     }
 
     /// A whole number.
-    fn value(&self, word: &[u8]) -> Result<Operand, Stop>
+    fn value(&self, word: &[u8]) -> Result<Operand, JobStop>
         requires number { is_integer word.now ≡ true }
         ensures ok { IfOk result (λ operand. IsOperand self.now.counts self.now.registers (places.Value, word.now) operand) }
         ensures stop { IfErr result (λ stop. SlotStop self.now.counts self.now.registers (places.Value, word.now) stop) }
     {
         match integer_value(word) {
             Some(w) => Ok(Operand::Value(w)),
-            None => Err(Stop::Fault(FaultKind::Range)),
+            None => Err(JobStop::Fault(FaultKind::Range)),
         }
     }
 
     /// Bits.
-    fn bits(&self, alloc: Global, word: &[u8]) -> Result<Operand, Stop>
+    fn bits(&self, alloc: Global, word: &[u8]) -> Result<Operand, JobStop>
         requires { is_bits word.now ≡ true }
         ensures ok { IfOk result (λ operand. IsOperand self.now.counts self.now.registers (places.Bits, word.now) operand) }
         ensures stop { IfErr result (λ stop. SlotStop self.now.counts self.now.registers (places.Bits, word.now) stop) }
@@ -172,7 +172,7 @@ impl Scope {
     }
 
     /// What a word of due form stands for.
-    fn operand(&self, alloc: Global, slot: &Slot<'_>) -> Result<Operand, Stop>
+    fn operand(&self, alloc: Global, slot: &Slot<'_>) -> Result<Operand, JobStop>
         requires form { has_form (slot_of slot.now) ≡ true }
         requires vars { self.now.counts.vars ≤ MOST_VARIABLES }
         requires elements { self.now.counts.elements ≤ MOST_ELEMENTS }
@@ -213,22 +213,22 @@ impl Scope {
     }
 
     /// Takes what a word of due form stands for, where it fits those to its left.
-    fn take(&self, alloc: Global, operands: &mut Operands, slot: &Slot<'_>) -> Result<(), Stop>
+    fn take(&self, alloc: Global, operands: &mut Operands, slot: &Slot<'_>) -> Result<(), JobStop>
         requires form { has_form (slot_of slot.now) ≡ true }
         requires vars { self.now.counts.vars ≤ MOST_VARIABLES }
         requires elements { self.now.counts.elements ≤ MOST_ELEMENTS }
         ensures ok { OnOk result ((own : OperandOf) × IsOperand self.now.counts self.now.registers (slot_of slot.now) own × (misfit self.now.counts self.now.registers operands.old own ≡ None) × (operands.new ≡ with_operand self.now.registers operands.old own)) }
-        ensures stop { IfErr result (λ stop. (fault : FaultOf) → stop ≡ Stop.Fault fault → word_fault self.now.counts self.now.registers (left_by operands.old) (slot_of slot.now) ≡ Some fault) }
+        ensures stop { IfErr result (λ stop. (fault : FaultOf) → stop ≡ JobStop.Fault fault → word_fault self.now.counts self.now.registers (left_by operands.old) (slot_of slot.now) ≡ Some fault) }
     {
         let operand = self.operand(alloc, slot)?;
         if let Some(fault) = self.misfit(operands, &operand) {
-            return Err(Stop::Fault(fault));
+            return Err(JobStop::Fault(fault));
         }
         Ok(add_operand(operands, self.registers.as_slice(), operand)?)
     }
 
     /// What words of due form stand for.
-    fn operands(&self, alloc: Global, slots: Slots<'_>) -> Result<Operands, Stop>
+    fn operands(&self, alloc: Global, slots: Slots<'_>) -> Result<Operands, JobStop>
         requires forms { list_all has_form (slots_of slots) ≡ true }
         requires vars { self.now.counts.vars ≤ MOST_VARIABLES }
         requires elements { self.now.counts.elements ≤ MOST_ELEMENTS }
@@ -245,7 +245,7 @@ impl Scope {
     }
 
     /// A line of a section that is no `session`.
-    pub fn command(&self, alloc: Global, words: &[u8]) -> Result<Act, Stop>
+    pub fn command(&self, alloc: Global, words: &[u8]) -> Result<Act, JobStop>
         requires some { 0 < length (split_words words.now) }
         requires vars { self.now.counts.vars ≤ MOST_VARIABLES }
         requires elements { self.now.counts.elements ≤ MOST_ELEMENTS }
@@ -253,10 +253,10 @@ impl Scope {
         ensures stop { IfErr result (λ stop. CommandStop self.now.counts self.now.registers (split_words words.now) stop) }
     {
         let Some(line) = command_line(words) else {
-            return Err(Stop::Fault(FaultKind::Word));
+            return Err(JobStop::Fault(FaultKind::Word));
         };
         if !all_have_form(line.slots) {
-            return Err(Stop::Fault(FaultKind::Word));
+            return Err(JobStop::Fault(FaultKind::Word));
         }
         let operands = self.operands(alloc, line.slots)?;
         Ok(operands.act(alloc, line.opcode)?)

@@ -14,8 +14,8 @@ use Rattle.function_laws.specs.Handovers.{is_numbered, posts_to}
 use Rattle.function_laws.specs.Lists.{list_of}
 use Rattle.function_laws.specs.SessionEntries.{entry}
 use Rattle.function_laws.specs.Sizes.{Orders}
-use Rattle.net_builds.specs.declared.host.Stop.{Stop}
-use Rattle.net_builds.specs.declared.host.Stop.TheVariants as stops
+use Rattle.net_builds.specs.declared.host.HostRefusal.{HostRefusal}
+use Rattle.net_builds.specs.declared.host.HostRefusal.TheVariants as stops
 
 -- the order of the variables that a session noted, and the place in the history at which it did
 pub record Note : Type 0 where
@@ -109,7 +109,7 @@ pub record Asks (old new : Standing) : Type 0 where
   pub rows : new.rows ≤ old.rows
 
 -- a refusal has a call of the session behind it, or is want of memory
-abbrev pub IsCaused : {F : Type 0} → (F → Type 0) → Stop F → Type 0
+abbrev pub IsCaused : {F : Type 0} → (F → Type 0) → HostRefusal F → Type 0
 IsCaused refused stops.Memory = Unit {0}
 IsCaused refused (stops.Full full) = refused full
 

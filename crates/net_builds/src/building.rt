@@ -7,7 +7,7 @@ ghost use Rattle.net_builds.specs.Outputs.{HandsOutputs};
 ghost use Rattle.net_builds.specs.Standings.{IsCaused};
 
 use crate::handing::{Handover, hand_over};
-use crate::host::{Host, Stop};
+use crate::host::{Host, HostRefusal};
 use crate::signals::build_outputs;
 use crate::telling::{tell_report, tell_summary};
 use blif_net::Net;
@@ -34,7 +34,7 @@ fn hand_outputs<R: Wait, H: Host>(
     host: &H,
     session: &mut H::Session,
     net: &Net,
-) -> Result<Vec<Name>, Stop<H::Full>>
+) -> Result<Vec<Name>, HostRefusal<H::Full>>
     requires own { H.has host.now session.old }
     requires bounded { IsBounded net.now }
     requires vars { (H.standing session.old).vars ≡ length net.now.inputs }
@@ -47,7 +47,7 @@ fn hand_outputs<R: Wait, H: Host>(
     let handovers = hand_over(rt, alloc, host, session, &names)?;
     match fetched(alloc, &handovers) {
         Ok(names) => Ok(names),
-        Err(Memory) => Err(Stop::Memory),
+        Err(Memory) => Err(HostRefusal::Memory),
     }
 }
 
@@ -62,7 +62,7 @@ pub fn build_report<R: Wait, H: Host>(
     session: &mut H::Session,
     net: &Net,
     patterns: &[List<bool>],
-) -> Result<Vec<u8>, Stop<H::Full>>
+) -> Result<Vec<u8>, HostRefusal<H::Full>>
     requires own { H.has host.now session.old }
     requires bounded { IsBounded net.now }
     requires vars { (H.standing session.old).vars ≡ length net.now.inputs }
@@ -84,7 +84,7 @@ pub fn build_summary<R: Wait, H: Host>(
     host: &H,
     session: &mut H::Session,
     net: &Net,
-) -> Result<Vec<u8>, Stop<H::Full>>
+) -> Result<Vec<u8>, HostRefusal<H::Full>>
     requires own { H.has host.now session.old }
     requires bounded { IsBounded net.now }
     requires vars { (H.standing session.old).vars ≡ length net.now.inputs }

@@ -5,7 +5,7 @@ ghost use Rattle.edge_bits.specs.declared.limits.TheConstants.{MOST_ROWS};
 ghost use Rattle.net_builds.specs.Handings.{AreInTurn, HandsOver};
 ghost use Rattle.net_builds.specs.Standings.{HasRoom, IsCaused, IsLive};
 
-use crate::host::{Host, Stop};
+use crate::host::{Host, HostRefusal};
 use function_laws::Name;
 use std::alloc::Global;
 use std::sync::Wait;
@@ -48,7 +48,7 @@ fn hand_one<R: Wait, H: Host>(
     host: &H,
     session: &mut H::Session,
     name: Name,
-) -> Result<Handover, Stop<H::Full>>
+) -> Result<Handover, HostRefusal<H::Full>>
     requires own { H.has host.now session.old }
     requires room { HasRoom (H.standing session.old) }
     requires held { IsLive (H.standing session.old) name }
@@ -77,7 +77,7 @@ pub fn hand_over<R: Wait, H: Host>(
     host: &H,
     session: &mut H::Session,
     names: &[Name],
-) -> Result<Vec<Handover>, Stop<H::Full>>
+) -> Result<Vec<Handover>, HostRefusal<H::Full>>
     requires own { H.has host.now session.old }
     requires room { (H.standing session.old).rows + length names.now ≤ MOST_ROWS }
     requires held { All (IsLive (H.standing session.old)) names.now }
@@ -86,13 +86,13 @@ pub fn hand_over<R: Wait, H: Host>(
     ensures caused { IfErr result (IsCaused (H.refused session.new)) }
 {
     let Ok(mut handovers) = Vec::with_capacity(alloc, names.len()) else {
-        return Err(Stop::Memory);
+        return Err(HostRefusal::Memory);
     };
     for name in names {
         let next = hand_one(rt, host, session, *name)?;
         wait_unless(rt, is_behind(&handovers, &next));
         let Ok(()) = handovers.push(next) else {
-            return Err(Stop::Memory);
+            return Err(HostRefusal::Memory);
         };
     }
     Ok(handovers)

@@ -6,7 +6,7 @@ use function_laws::Name;
 
 /// Why a session was refused: want of memory, or no slot was free for a node.
 #[derive(Debug, Clone, Copy, PartialEq, Eq, Drop)]
-pub enum Stop<F> {
+pub enum HostRefusal<F> {
     Memory,
     Full(F),
 }
@@ -53,7 +53,11 @@ pub trait Host {
     fn pass(&self, output: u32);
 
     /// A constant, under a new name.
-    fn constant(&self, session: &mut Self::Session, value: bool) -> Result<Name, Stop<Self::Full>>
+    fn constant(
+        &self,
+        session: &mut Self::Session,
+        value: bool,
+    ) -> Result<Name, HostRefusal<Self::Full>>
         requires own { has self.now session.old }
         requires room { HasRoom (standing session.old) }
         ensures own { has self.now session.new }
@@ -65,7 +69,7 @@ pub trait Host {
         &self,
         session: &mut Self::Session,
         variable: u32,
-    ) -> Result<Name, Stop<Self::Full>>
+    ) -> Result<Name, HostRefusal<Self::Full>>
         requires own { has self.now session.old }
         requires room { HasRoom (standing session.old) }
         requires variable { variable < (standing session.old).vars }
@@ -74,7 +78,11 @@ pub trait Host {
         ensures caused { IfErr result (IsCaused (refused session.new)) };
 
     /// The complement of a function, under a new name.
-    fn complement(&self, session: &mut Self::Session, f: Name) -> Result<Name, Stop<Self::Full>>
+    fn complement(
+        &self,
+        session: &mut Self::Session,
+        f: Name,
+    ) -> Result<Name, HostRefusal<Self::Full>>
         requires own { has self.now session.old }
         requires room { HasRoom (standing session.old) }
         requires held { IsHeld (standing session.old) f }
@@ -88,7 +96,7 @@ pub trait Host {
         session: &mut Self::Session,
         f: Name,
         g: Name,
-    ) -> Result<Name, Stop<Self::Full>>
+    ) -> Result<Name, HostRefusal<Self::Full>>
         requires own { has self.now session.old }
         requires room { HasRoom (standing session.old) }
         requires first { IsHeld (standing session.old) f }
@@ -103,7 +111,7 @@ pub trait Host {
         session: &mut Self::Session,
         f: Name,
         g: Name,
-    ) -> Result<Name, Stop<Self::Full>>
+    ) -> Result<Name, HostRefusal<Self::Full>>
         requires own { has self.now session.old }
         requires room { HasRoom (standing session.old) }
         requires first { IsHeld (standing session.old) f }
@@ -143,7 +151,7 @@ pub trait Host {
         &self,
         session: &mut Self::Session,
         other: Name,
-    ) -> Result<Placed<Fetched>, Stop<Self::Full>>
+    ) -> Result<Placed<Fetched>, HostRefusal<Self::Full>>
         requires own { has self.now session.old }
         requires room { HasRoom (standing session.old) }
         requires held { IsLive (standing session.old) other }

@@ -9,7 +9,7 @@ ghost use Rattle.net_builds.specs.Products.{Replaces, match_any, match_at, with_
 ghost use Rattle.net_builds.specs.Signals.{HaveRows, HaveValues};
 ghost use Rattle.net_builds.specs.Standings.{Holds, IsCaused, IsHeld, Makes};
 
-use crate::host::{Host, Stop};
+use crate::host::{Host, HostRefusal};
 use blif_net::{Cover, Cube, Literal};
 use function_laws::Name;
 
@@ -38,7 +38,7 @@ fn with_complement<H: Host>(
     session: &mut H::Session,
     row: Name,
     product: Name,
-) -> Result<Name, Stop<H::Full>>
+) -> Result<Name, HostRefusal<H::Full>>
     requires own { H.has host.now session.old }
     requires room { (H.standing session.old).rows + 3 ≤ MOST_ROWS }
     requires row { IsHeld (H.standing session.old) row }
@@ -60,7 +60,7 @@ fn with_factor<H: Host>(
     literal: Literal,
     row: Name,
     product: Name,
-) -> Result<Name, Stop<H::Full>>
+) -> Result<Name, HostRefusal<H::Full>>
     requires own { H.has host.now session.old }
     requires room { (H.standing session.old).rows + 3 ≤ MOST_ROWS }
     requires row { IsHeld (H.standing session.old) row }
@@ -84,7 +84,7 @@ fn with_literal<H: Host>(
     literal: Literal,
     row: Name,
     product: Name,
-) -> Result<Name, Stop<H::Full>>
+) -> Result<Name, HostRefusal<H::Full>>
     requires own { H.has host.now session.old }
     requires room { (H.standing session.old).rows + 3 ≤ MOST_ROWS }
     requires row { IsHeld (H.standing session.old) row }
@@ -108,7 +108,7 @@ fn product<H: Host>(
     literals: &[Literal],
     ins: &[u32],
     rows: &[Option<Name>],
-) -> Result<Name, Stop<H::Full>>
+) -> Result<Name, HostRefusal<H::Full>>
     requires own { H.has host.now session.old }
     requires room { (H.standing session.old).rows + 4 ≤ MOST_ROWS }
     requires rows { HaveRows (H.standing session.old) rows.now ins.now }
@@ -135,7 +135,7 @@ fn with_product<H: Host>(
     ins: &[u32],
     rows: &[Option<Name>],
     sum: Name,
-) -> Result<Name, Stop<H::Full>>
+) -> Result<Name, HostRefusal<H::Full>>
     requires own { H.has host.now session.old }
     requires room { (H.standing session.old).rows + 4 ≤ MOST_ROWS }
     requires rows { HaveRows (H.standing session.old) rows.now ins.now }
@@ -158,7 +158,7 @@ fn sum<H: Host>(
     cubes: &[Cube],
     ins: &[u32],
     rows: &[Option<Name>],
-) -> Result<Name, Stop<H::Full>>
+) -> Result<Name, HostRefusal<H::Full>>
     requires own { H.has host.now session.old }
     requires room { (H.standing session.old).rows + 5 ≤ MOST_ROWS }
     requires rows { HaveRows (H.standing session.old) rows.now ins.now }
@@ -180,7 +180,7 @@ pub fn cover<H: Host>(
     session: &mut H::Session,
     gate: &Cover,
     rows: &[Option<Name>],
-) -> Result<Name, Stop<H::Full>>
+) -> Result<Name, HostRefusal<H::Full>>
     requires own { H.has host.now session.old }
     requires room { (H.standing session.old).rows + 5 ≤ MOST_ROWS }
     requires rows { HaveRows (H.standing session.old) rows.now gate.now.ins }

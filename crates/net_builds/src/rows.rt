@@ -5,7 +5,7 @@ ghost use Rattle.blif_net.specs.Bounds.{signal_count};
 ghost use Rattle.net_builds.specs.Building.{BuildsTo, IsBuilt, IsPlan, row_at};
 ghost use Rattle.net_builds.specs.Standings.{IsCaused};
 
-use crate::host::{Host, Stop};
+use crate::host::{Host, HostRefusal};
 use crate::products::cover;
 use blif_net::Net;
 use function_laws::Name;
@@ -18,7 +18,7 @@ fn make_input<H: Host>(
     last: &[u32],
     rows: &mut [Option<Name>],
     signal: u32,
-) -> Result<(), Stop<H::Full>>
+) -> Result<(), HostRefusal<H::Full>>
     requires own { H.has host.now session.old }
     requires plan { IsPlan net.now last.now }
     requires built { IsBuilt net.now last.now signal (H.standing session.old) rows.old }
@@ -42,7 +42,7 @@ pub fn make_inputs<H: Host>(
     net: &Net,
     last: &[u32],
     rows: &mut [Option<Name>],
-) -> Result<(), Stop<H::Full>>
+) -> Result<(), HostRefusal<H::Full>>
     requires own { H.has host.now session.old }
     requires plan { IsPlan net.now last.now }
     requires built { IsBuilt net.now last.now 0 (H.standing session.old) rows.old }
@@ -112,7 +112,7 @@ fn make_gate<H: Host>(
     last: &[u32],
     rows: &mut [Option<Name>],
     signal: usize,
-) -> Result<(), Stop<H::Full>>
+) -> Result<(), HostRefusal<H::Full>>
     requires own { H.has host.now session.old }
     requires plan { IsPlan net.now last.now }
     requires built { IsBuilt net.now last.now signal (H.standing session.old) rows.old }
@@ -140,7 +140,7 @@ fn make_up_to<H: Host>(
     rows: &mut [Option<Name>],
     first: usize,
     signal: u32,
-) -> Result<usize, Stop<H::Full>>
+) -> Result<usize, HostRefusal<H::Full>>
     requires own { H.has host.now session.old }
     requires plan { IsPlan net.now last.now }
     requires built { IsBuilt net.now last.now first (H.standing session.old) rows.old }
@@ -167,7 +167,7 @@ pub fn make_outputs<H: Host>(
     last: &[u32],
     rows: &mut [Option<Name>],
     own: &[u32],
-) -> Result<usize, Stop<H::Full>>
+) -> Result<usize, HostRefusal<H::Full>>
     requires own { H.has host.now session.old }
     requires plan { IsPlan net.now last.now }
     requires built { IsBuilt net.now last.now (length net.now.inputs) (H.standing session.old) rows.old }

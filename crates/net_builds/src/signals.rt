@@ -7,7 +7,7 @@ ghost use Rattle.net_builds.specs.Signals.{BuildsOutputs};
 ghost use Rattle.net_builds.specs.Standings.{IsCaused};
 ghost use Rattle.net_builds.specs.Uses.{AreLastUses};
 
-use crate::host::{Host, Stop};
+use crate::host::{Host, HostRefusal};
 use crate::rows::{make_inputs, make_outputs, note_names};
 use crate::uses::last_uses;
 use blif_net::Net;
@@ -78,7 +78,7 @@ fn build_all<H: Host>(
     last: &[u32],
     rows: &mut [Option<Name>],
     names: &mut [Name],
-) -> Result<(), Stop<H::Full>>
+) -> Result<(), HostRefusal<H::Full>>
     requires own { H.has host.now session.old }
     requires bounded { IsBounded net.now }
     requires vars { (H.standing session.old).vars ≡ length net.now.inputs }
@@ -97,14 +97,14 @@ fn build_all<H: Host>(
     Ok(())
 }
 
-/// The names of the outputs' functions, in the outputs' order. Only gates that some output needs are built, each when the first
-/// output asks for it, and a signal's row is let go behind the last gate that reads it.
+/// The names of the outputs' functions, in the outputs' order. Only gates that some output needs are built, in the gates' order up to
+/// each output's own signal, and a signal's row is let go behind the last gate that reads it.
 pub fn build_outputs<H: Host>(
     alloc: Global,
     host: &H,
     session: &mut H::Session,
     net: &Net,
-) -> Result<Vec<Name>, Stop<H::Full>>
+) -> Result<Vec<Name>, HostRefusal<H::Full>>
     requires own { H.has host.now session.old }
     requires bounded { IsBounded net.now }
     requires vars { (H.standing session.old).vars ≡ length net.now.inputs }
@@ -114,7 +114,7 @@ pub fn build_outputs<H: Host>(
     ensures caused { IfErr result (IsCaused (H.refused session.new)) }
 {
     let Ok(begun) = begin(alloc, net) else {
-        return Err(Stop::Memory);
+        return Err(HostRefusal::Memory);
     };
     let Ledger {
         own,

@@ -7,7 +7,7 @@ ghost use Rattle.net_builds.specs.Handings.{IsTold};
 ghost use Rattle.net_builds.specs.Standings.{Asks, HasRoom, IsCaused, IsLive};
 ghost use Rattle.net_builds.specs.Tellings.{evaluation_in, values_in};
 
-use crate::host::{Host, Stop};
+use crate::host::{Host, HostRefusal};
 use blif_net::Net;
 use edge_bits::{List, Memory};
 use function_laws::Name;
@@ -119,7 +119,7 @@ pub fn tell_report<H: Host>(
     net: &Net,
     names: &[Name],
     patterns: &[List<bool>],
-) -> Result<Vec<u8>, Stop<H::Full>>
+) -> Result<Vec<u8>, HostRefusal<H::Full>>
     requires own { H.has host.now session.old }
     requires room { HasRoom (H.standing session.old) }
     requires vars { (H.standing session.old).vars ≡ length net.now.inputs }
@@ -131,7 +131,7 @@ pub fn tell_report<H: Host>(
 {
     match text_of_report(alloc, host, session, net, names, patterns) {
         Ok(text) => Ok(text),
-        Err(Memory) => Err(Stop::Memory),
+        Err(Memory) => Err(HostRefusal::Memory),
     }
 }
 
@@ -163,7 +163,7 @@ pub fn tell_summary<H: Host>(
     session: &mut H::Session,
     net: &Net,
     names: &[Name],
-) -> Result<Vec<u8>, Stop<H::Full>>
+) -> Result<Vec<u8>, HostRefusal<H::Full>>
     requires own { H.has host.now session.old }
     requires room { HasRoom (H.standing session.old) }
     requires vars { (H.standing session.old).vars ≡ length net.now.inputs }
@@ -175,6 +175,6 @@ pub fn tell_summary<H: Host>(
 {
     match text_of_summary(alloc, host, session, net, names) {
         Ok(text) => Ok(text),
-        Err(Memory) => Err(Stop::Memory),
+        Err(Memory) => Err(HostRefusal::Memory),
     }
 }

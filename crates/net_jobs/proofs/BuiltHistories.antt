@@ -21,8 +21,8 @@ use Rattle.seat_guard.specs.Notes.{IsNotedIn}
 use Rattle.dd_session.specs.declared.answers.Full.{Full}
 use Rattle.dd_session.specs.Managing.{AreAll, IsHistoryOf, Managed, Seen, newcomer, sizes_for}
 use Rattle.net_builds.specs.declared.handing.Handover.{Handover}
-use Rattle.net_builds.specs.declared.host.Stop.{Stop}
-use Rattle.net_builds.specs.declared.host.Stop.TheVariants as stops
+use Rattle.net_builds.specs.declared.host.HostRefusal.{HostRefusal}
+use Rattle.net_builds.specs.declared.host.HostRefusal.TheVariants as stops
 use Rattle.net_builds.specs.Builds.{AllGain, Builds, Reports, ReportsAreTrue, SummariesAreTrue, SumsUp}
 use Rattle.net_builds.specs.Builds as builds
 use Rattle.net_builds.specs.Standings.{IsCaused, Note, Standing}
@@ -109,7 +109,7 @@ module _ (m : Managed) (Tells : List (ℕ → Bool) → List ℕ → List ℕ �
   none_before = All-cons (λ (t : Standing). t.entries ≡ []) (standing_of (newcomer m 0)) [] refl (All-nil (λ (t : Standing). t.entries ≡ []))
 
 -- a call of one of the sessions was refused so
-pub refused_in : (sessions : List Seen) (s : Seen) → Contains sessions s → (stop : Stop Full) → IsCaused (IsRefusedBy s) stop → IsRefusedIn sessions stop
+pub refused_in : (sessions : List Seen) (s : Seen) → Contains sessions s → (stop : HostRefusal Full) → IsCaused (IsRefusedBy s) stop → IsRefusedIn sessions stop
 refused_in sessions s has stops.Memory caused = tt
 refused_in sessions s has (stops.Full full) caused = (s, has, caused)
 
@@ -118,7 +118,7 @@ first_there [] s one = absurd (let n = one in omega (arith, n))
 first_there (a ∷ rest) s one = (0, omega arith, refl)
 
 -- and so, where the first session of one was stopped
-pub refused_at_first : {X : Type 0} (bits : ℕ) (net : Net) → IsBlifText (gen_text bits) net → length net.inputs ≡ 2 * bits → (sessions : List Seen) (s : Seen) → length sessions ≡ 1 → (result : Result X (Stop Full))
+pub refused_at_first : {X : Type 0} (bits : ℕ) (net : Net) → IsBlifText (gen_text bits) net → length net.inputs ≡ 2 * bits → (sessions : List Seen) (s : Seen) → length sessions ≡ 1 → (result : Result X (HostRefusal Full))
     → IfErr result (IsCaused (IsRefusedBy s))
     → IfErr result (λ stop. (stop ≡ stops.Memory) ⊎ ((made : Net) × IsBlifText (gen_text bits) made × (length made.inputs ≡ 2 * bits) × IsRefusedIn (slice_set sessions 0 s) stop))
 refused_at_first bits net text inputs sessions s one (Ok x) caused = tt

@@ -34,7 +34,7 @@ use Rattle.dd_session.specs.Listings.{IsListed}
 use Rattle.dd_session.specs.Managing.{stands_for}
 use Rattle.dd_session.specs.Sessions.{Called, Denies, IsAsBefore, IsLive as IsRow, IsLiveAs, Managed, Seen, kind_of}
 use Rattle.dd_session.proofs.SessionLaws.{dropped_stays, evaluated_as, made_as, posted_stays, table_of, valued_stays}
-use Rattle.net_builds.specs.declared.host.Stop.{Stop}
+use Rattle.net_builds.specs.declared.host.HostRefusal.{HostRefusal}
 use Rattle.net_builds.specs.Standings.{Asks, Fetches, IsCaused, IsHeld, IsLive, IsQuiet, LetsGo, Lists, Makes, Posts, Works, values_of}
 use Rattle.net_jobs.specs.Hosts.{IsRefusedBy, named_by, standing_of}
 use Rattle.net_jobs.proofs.CallLaws.{given}
@@ -91,7 +91,7 @@ module _ (old new : Seen) (call : Call) where
   abbrev Tells : Result (Placed Name) Refusal → Type 0
   Tells told = MatchResult told (λ placed. Called old new call (replies.Made placed.value) placed.place) (Denies old new call)
 
-  module _ (told : Result (Placed Name) Refusal) (tells : Tells told) (result : Result Name (Stop Full)) (is : result ≡ named_by told) where
+  module _ (told : Result (Placed Name) Refusal) (tells : Tells told) (result : Result Name (HostRefusal Full)) (is : result ≡ named_by told) where
     -- what each name has that the call may have made
     pub named_ok : (P : Name → Type 0) → ((name : Name) (place : ℕ) → Called old new call (replies.Made name) place → P name) → IfOk result P
     named_ok P holds = subst (λ r. IfOk r P) (sym is) (by told tells)

@@ -10,8 +10,8 @@ use Rattle.function_laws.specs.declared.history.Call.{Call}
 use Rattle.function_laws.specs.declared.history.Name.{Name}
 use Rattle.function_laws.specs.declared.history.Reply.TheVariants as replies
 use Rattle.function_laws.specs.SessionEntries.{entry}
-use Rattle.net_builds.specs.declared.host.Stop.{Stop}
-use Rattle.net_builds.specs.declared.host.Stop.TheVariants as stops
+use Rattle.net_builds.specs.declared.host.HostRefusal.{HostRefusal}
+use Rattle.net_builds.specs.declared.host.HostRefusal.TheVariants as stops
 use Rattle.net_builds.specs.Standings.{Standing}
 
 -- what is seen of a session that builds functions: of its notes the place and the order of the variables
@@ -34,11 +34,11 @@ pub record IsRefusedBy (s : Seen) (full : Full) : Type 0 where
   pub limit : full.limit ≡ s.manager.limit
 
 -- the refusal of a call, as one that builds functions is stopped by it
-abbrev pub stopped_by : Refusal → Stop Full
+abbrev pub stopped_by : Refusal → HostRefusal Full
 stopped_by refusals.Memory = stops.Memory
 stopped_by (refusals.Full full) = stops.Full full
 
 -- the name that a call made, without its place
-abbrev pub named_by : Result (Placed Name) Refusal → Result Name (Stop Full)
+abbrev pub named_by : Result (Placed Name) Refusal → Result Name (HostRefusal Full)
 named_by (Ok placed) = Ok placed.value
 named_by (Err refusal) = Err (stopped_by refusal)

@@ -2,8 +2,8 @@
 use Rattle.std.specs.Prelude.{◌≡◌, ℕ, ◌+◌, List, [], ◌∷◌, Contains}
 use Rattle.dd_session.specs.declared.answers.Full.{Full}
 use Rattle.dd_session.specs.Managing.{Managed, Seen, newcomer}
-use Rattle.net_builds.specs.declared.host.Stop.{Stop}
-use Rattle.net_builds.specs.declared.host.Stop.TheVariants as stops
+use Rattle.net_builds.specs.declared.host.HostRefusal.{HostRefusal}
+use Rattle.net_builds.specs.declared.host.HostRefusal.TheVariants as stops
 use Rattle.net_jobs.specs.Hosts.{IsRefusedBy}
 
 -- a session of the manager that has no live row
@@ -18,11 +18,11 @@ pub record IsOpenedFor (inputs limit : ℕ) (m : Managed) (sessions : List Seen)
   pub sessions_are : sessions ≡ newcomer m 0 ∷ []
 
 -- where it was not want of memory, a call of one of the sessions was refused so
-abbrev pub IsRefusedIn : List Seen → Stop Full → Type 0
+abbrev pub IsRefusedIn : List Seen → HostRefusal Full → Type 0
 IsRefusedIn sessions stops.Memory = Unit {0}
 IsRefusedIn sessions (stops.Full full) = (s : Seen) × Contains sessions s × IsRefusedBy s full
 
 -- where it was not want of memory, all of so many slots were in use
-abbrev pub IsFilledBy : (ℕ → Type 0) → Stop Full → Type 0
+abbrev pub IsFilledBy : (ℕ → Type 0) → HostRefusal Full → Type 0
 IsFilledBy AreAll stops.Memory = Unit {0}
 IsFilledBy AreAll (stops.Full full) = (slots : ℕ) × AreAll slots × (full.in_use ≡ slots) × (full.limit ≡ slots)

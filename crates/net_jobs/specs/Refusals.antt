@@ -5,8 +5,8 @@ use Rattle.net_jobs.specs.declared.refusal.RunRefusal.TheVariants as refusal
 use Rattle.net_jobs.specs.declared.status.Status.{Status}
 use Rattle.net_jobs.specs.declared.status.Status.TheVariants as status
 use Rattle.dd_session.specs.declared.answers.Full.{Full}
-use Rattle.net_builds.specs.declared.host.Stop.{Stop}
-use Rattle.net_builds.specs.declared.host.Stop.TheVariants as stops
+use Rattle.net_builds.specs.declared.host.HostRefusal.{HostRefusal}
+use Rattle.net_builds.specs.declared.host.HostRefusal.TheVariants as stops
 use Rattle.net_jobs.specs.Ends.{blif_line, fault_line, full_line}
 
 abbrev pub status_of : RunRefusal → Status
@@ -28,6 +28,6 @@ refusal_line (refusal.Blif fault) = blif_line fault
 refusal_line (refusal.Full full) = full_line full.in_use full.limit
 
 -- what a part's stop is told as
-abbrev pub part_refusal : Stop Full → RunRefusal
+abbrev pub part_refusal : HostRefusal Full → RunRefusal
 part_refusal stops.Memory = refusal.Memory
 part_refusal (stops.Full full) = refusal.Full full

@@ -11,7 +11,7 @@ use dd_session::{Full, Manager, Refusal, Session};
 use diagram_dumps::Listing;
 use edge_bits::Memory;
 use function_laws::Name;
-use net_builds::{Fetched, Host, Placed, Stop};
+use net_builds::{Fetched, Host, HostRefusal, Placed};
 use std::sync::Wait;
 
 /// A manager whose sessions build functions. The gate is passed before each output, with the number of the worker.
@@ -36,13 +36,13 @@ fn ready<R: Wait>(rt: &R, session: &Session)
 }
 
 /// The name that a call made, without its place.
-fn named(told: Result<dd_session::Placed<Name>, Refusal>) -> Result<Name, Stop<Full>>
+fn named(told: Result<dd_session::Placed<Name>, Refusal>) -> Result<Name, HostRefusal<Full>>
     ensures { result ≡ named_by told }
 {
     match told {
         Ok(placed) => Ok(placed.value),
-        Err(Refusal::Memory) => Err(Stop::Memory),
-        Err(Refusal::Full(full)) => Err(Stop::Full(full)),
+        Err(Refusal::Memory) => Err(HostRefusal::Memory),
+        Err(Refusal::Full(full)) => Err(HostRefusal::Full(full)),
     }
 }
 
@@ -98,7 +98,7 @@ impl<'a, R: Wait, G: Gate> Host for SessionHost<'a, R, G> {
         self.gate.pass(self.worker, output);
     }
 
-    fn constant(&self, session: &mut Session, value: bool) -> Result<Name, Stop<Full>> {
+    fn constant(&self, session: &mut Session, value: bool) -> Result<Name, HostRefusal<Full>> {
         ready(self.rt, session);
         if value {
             named(session.one(self.rt, self.manager))
@@ -107,22 +107,32 @@ impl<'a, R: Wait, G: Gate> Host for SessionHost<'a, R, G> {
         }
     }
 
-    fn projection(&self, session: &mut Session, variable: u32) -> Result<Name, Stop<Full>> {
+    fn projection(&self, session: &mut Session, variable: u32) -> Result<Name, HostRefusal<Full>> {
         ready(self.rt, session);
         named(session.var(self.rt, self.manager, variable))
     }
 
-    fn complement(&self, session: &mut Session, f: Name) -> Result<Name, Stop<Full>> {
+    fn complement(&self, session: &mut Session, f: Name) -> Result<Name, HostRefusal<Full>> {
         ready(self.rt, session);
         named(session.not(self.rt, self.manager, f))
     }
 
-    fn conjunction(&self, session: &mut Session, f: Name, g: Name) -> Result<Name, Stop<Full>> {
+    fn conjunction(
+        &self,
+        session: &mut Session,
+        f: Name,
+        g: Name,
+    ) -> Result<Name, HostRefusal<Full>> {
         ready(self.rt, session);
         named(session.and(self.rt, self.manager, f, g))
     }
 
-    fn disjunction(&self, session: &mut Session, f: Name, g: Name) -> Result<Name, Stop<Full>> {
+    fn disjunction(
+        &self,
+        session: &mut Session,
+        f: Name,
+        g: Name,
+    ) -> Result<Name, HostRefusal<Full>> {
         ready(self.rt, session);
         named(session.or(self.rt, self.manager, f, g))
     }
@@ -149,10 +159,14 @@ impl<'a, R: Wait, G: Gate> Host for SessionHost<'a, R, G> {
         }
     }
 
-    fn fetch(&self, session: &mut Session, other: Name) -> Result<Placed<Fetched>, Stop<Full>> {
+    fn fetch(
+        &self,
+        session: &mut Session,
+        other: Name,
+    ) -> Result<Placed<Fetched>, HostRefusal<Full>> {
         match session.reserve(1) {
             Ok(()) => Ok(fetch_row(self.rt, self.manager, session, other)),
-            Err(Memory) => Err(Stop::Memory),
+            Err(Memory) => Err(HostRefusal::Memory),
         }
     }
 

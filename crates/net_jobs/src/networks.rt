@@ -18,7 +18,7 @@ use blif_net::{BlifError, Net, networks_are_bounded, read};
 use command_words::Options;
 use dd_session::{Config, Full, Manager, OpenFault, Session};
 use edge_bits::{Memory, USUAL_LIMIT};
-use net_builds::{Stop, build_report, build_summary, reports_are_true, summaries_are_true};
+use net_builds::{HostRefusal, build_report, build_summary, reports_are_true, summaries_are_true};
 use net_reports::gen_text;
 use std::alloc::Global;
 use std::hash::RandomState;
@@ -26,7 +26,7 @@ use std::random::RandomSource;
 use std::sync::Wait;
 
 /// Why a part has nothing to tell: want of memory, or a call of a session was refused for a full node table.
-pub type PartStop = Stop<Full>;
+pub type PartStop = HostRefusal<Full>;
 
 /// Builds a network by the one session of a manager, which has no live row: the report of its outputs, with their values at each
 /// pattern. The gate is passed as worker 0 before each output.
@@ -92,7 +92,7 @@ pub fn generate<R: Wait + RandomSource, G: Gate>(
     requires vars { manager.now.vars ≡ 2 * bits }
     ensures own { All (λ s. s.manager ≡ manager.now) sessions.new }
     ensures built { IfOk result (λ text. (net : NetOf) × IsBlifText (gen_text bits) net × (length net.inputs ≡ 2 * bits) × Builds (SumsUp net) net (map standing_of sessions.old) (map standing_of sessions.new) text.items) }
-    ensures full { IfErr result (λ stop. (stop ≡ Stop.Memory) ⊎ ((net : NetOf) × IsBlifText (gen_text bits) net × (length net.inputs ≡ 2 * bits) × IsRefusedIn sessions.new stop)) }
+    ensures full { IfErr result (λ stop. (stop ≡ HostRefusal.Memory) ⊎ ((net : NetOf) × IsBlifText (gen_text bits) net × (length net.inputs ≡ 2 * bits) × IsRefusedIn sessions.new stop)) }
 {
     let Ok(net) = made(rt, alloc, bits) else {
         return Err(PartStop::Memory);
