@@ -1,16 +1,13 @@
 -- What is told of functions of n variables depends on their values below 2 ^ n alone.
-use Rattle.std.proofs.Common.{◌≡◌, ℕ, zero, suc, ◌+◌, ◌<◌, ◌≤◌, ◌^◌, Bool, cond, not, List, [], ◌∷◌, length, map, take, Some, refl, ap, sym, ◌∙◌, subst, arith, inl, inr, pow_mono}
-use Rattle.std.specs.Prelude.{slice_get}
+use Rattle.std.proofs.Common.{◌≡◌, ℕ, zero, suc, ◌+◌, ◌<◌, ◌≤◌, ◌^◌, Bool, List, [], ◌∷◌, length, map, take, refl, ap, sym, ◌∙◌, subst, arith, inl, inr, pow_mono}
 use Rattle.std.specs.List.{range_with_len}
 use Rattle.std.proofs.lemmas.List.{length-take}
 use Rattle.std.proofs.lemmas.List.FromFn.{length-range_with_len}
-use Rattle.std.proofs.lemmas.Option.{slice_get_within}
 use Rattle.function_laws.proofs.BitLists.{assignment_of-below}
 use Rattle.function_laws.proofs.DistinctLemmas.{In}
-use Rattle.net_reports.specs.Classes.{Agree, AreClasses, Function, IsClass}
+use Rattle.net_reports.specs.Classes.{Function}
 use Rattle.net_reports.specs.Evaluations.{assignment, evaluation_at, values_at}
 use Rattle.net_reports.specs.Reports.{IsReport, IsSummary, Subject, count_firsts, node_count, report_text, summary_text}
-use Rattle.net_reports.specs.declared.classes.Class.{Class}
 use Rattle.net_reports.specs.declared.patterns.Evaluation.{Evaluation}
 use Rattle.diagram_dumps.specs.Agreement.{AreSame}
 use Rattle.diagram_dumps.proofs.Sameness.{size_same}
