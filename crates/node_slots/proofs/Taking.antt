@@ -1,5 +1,5 @@
 -- The free slots, where one is taken.
-use Rattle.std.proofs.Common.{◌≡◌, ◌≢◌, Bool, ℕ, ◌+◌, ◌<◌, ◌≤◌, inl, inr, cond, ◌^◌, List, [], ◌∷◌, ◌++◌, length, get_or, set, Some, None, refl, ap, sym, ◌∙◌, subst, arith}
+use Rattle.std.proofs.Common.{◌≡◌, ◌≢◌, Bool, ℕ, ◌+◌, ◌<◌, ◌≤◌, inl, inr, false, cond, ◌^◌, List, [], ◌∷◌, ◌++◌, length, get_or, set, Some, None, refl, ap, sym, ◌∙◌, subst, arith}
 use Rattle.std.specs.List.{count_by}
 use Rattle.std.proofs.lemmas.Bool.{cases_eq, cases_lt}
 use Rattle.std.proofs.lemmas.List.{length-set, length_push, get_or_append_left, get_or_push, get_or-set_same, get_or-set_other}
@@ -7,6 +7,7 @@ use Rattle.std.proofs.lemmas.List.Sums.{sum_by-set, count_by-le-length}
 use Rattle.edge_bits.specs.declared.words.Word.{Word}
 use Rattle.edge_bits.specs.Words.{pack_of, unpack_of}
 use Rattle.edge_bits.specs.Reading.{slots_of}
+use Rattle.held_slots.specs.Arcs.{Arcs, IsChange, IsOf}
 use Rattle.level_table.specs.Slotted.{Slotted}
 use Rattle.node_store.specs.Contents.{is_node_of as is_node_in, is_used}
 use Rattle.node_slots.specs.Stores.{is_word, permanent_word}
@@ -96,9 +97,17 @@ free_opening words taken within permanent free = record {
 }
 
 -- a table with the words of the permanent slots alone
+-- a slot's word changes, where the arcs are those of the words
+pub arc_change : (arcs : Arcs) (words : List ℕ) (slot was : ℕ) → slot < length words → get_or words slot 0 ≡ was → length words < 2 ^ 23 → IsOf arcs words → IsChange arcs words slot was
+arc_change arcs words slot was within is few are = record { within = within; word = is; few = few; known = are }
+
+unknown_are : (arcs : Arcs) (words : List ℕ) → arcs.known ≡ false → IsOf arcs words
+unknown_are arcs words unknown = λ known. cc
+
 pub table_opening : (table : Slotted) (n capacity : ℕ) → n ≤ length table.words → length table.words < 2 ^ 23 → length table.words ≤ capacity → table.taken ≡ n
-    → ((s : ℕ) → s < n → slots_of table.words s ≡ Some (permanent_word s)) → ((s : ℕ) → n ≤ s → get_or table.words s 0 ≡ 0) → ArePacked table.words → (counts : List ℕ) → AreCounted table.words counts → IsNodeTable table [] capacity n counts
-table_opening table n capacity within few room taken permanent free packed counts nodes = record {
+    → ((s : ℕ) → s < n → slots_of table.words s ≡ Some (permanent_word s)) → ((s : ℕ) → n ≤ s → get_or table.words s 0 ≡ 0) → ArePacked table.words → (counts : List ℕ) → AreCounted table.words counts
+    → (arcs : Arcs) → arcs.slots ≡ length table.words → arcs.known ≡ false → IsNodeTable table [] capacity n counts arcs
+table_opening table n capacity within few room taken permanent free packed counts nodes arcs fit unknown = record {
   packed = packed;
   free = subst (λ k. AreFree table.words k []) (sym taken) (free_opening table.words n within permanent free);
   few = few;
@@ -106,6 +115,8 @@ table_opening table n capacity within few room taken permanent free packed count
   counted = sym (count_prefix is_word table.words n within (λ t lt. ap is_used (permanent t lt)) (λ t le. ap is_word (free t le)));
   as_many = (let none : length {A = ℕ} [] ≡ 0 = refl in omega arith);
   nodes = nodes;
+  arcs_fit = fit;
+  arcs_are = unknown_are arcs table.words unknown;
 }
 
 -- a word is erased

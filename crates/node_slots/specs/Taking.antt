@@ -3,6 +3,7 @@ use Rattle.std.specs.Prelude.{◌≡◌, ◌≢◌, ℕ, ◌+◌, ◌<◌, ◌�
 use Rattle.std.specs.List.{count_by}
 use Rattle.edge_bits.specs.declared.words.Word.{Word}
 use Rattle.edge_bits.specs.Words.{pack_of, unpack_of}
+use Rattle.held_slots.specs.Arcs.{Arcs, IsOf}
 use Rattle.level_table.specs.Slotted.{Slotted}
 use Rattle.node_store.specs.Contents.{is_node_of as is_node_in}
 use Rattle.node_slots.specs.Stores.{is_word}
@@ -36,7 +37,7 @@ pub record AreCounted (words counts : List ℕ) : Type 0 where
   pub each : (v : ℕ) → slice_index counts v ≡ nodes_of words v
 
 -- the words with the stack of the freed slots, which has room for as many as there are slots, the number of slots in use, and those of the nodes of each variable
-pub record IsNodeTable (table : Slotted) (freed : List ℕ) (capacity in_use : ℕ) (counts : List ℕ) : Type 0 where
+pub record IsNodeTable (table : Slotted) (freed : List ℕ) (capacity in_use : ℕ) (counts : List ℕ) (arcs : Arcs) : Type 0 where
   pub packed : ArePacked table.words
   pub free : AreFree table.words table.taken freed
   pub few : length table.words < 2 ^ 23
@@ -44,6 +45,8 @@ pub record IsNodeTable (table : Slotted) (freed : List ℕ) (capacity in_use : �
   pub counted : in_use ≡ count_by is_word table.words
   pub as_many : length freed + in_use ≡ table.taken
   pub nodes : AreCounted table.words counts
+  pub arcs_fit : arcs.slots ≡ length table.words
+  pub arcs_are : IsOf arcs table.words
 
 -- the word came to stand in a slot without one
 abbrev pub IsPut : List ℕ → List ℕ → ℕ → ℕ → Type 0

@@ -276,6 +276,10 @@ impl Whole for HeldStore {
         self.notes.is_pinned(slot)
     }
 
+    fn is_named(&mut self, slot: u32) -> bool {
+        self.nodes.is_named(slot)
+    }
+
     ghost others_none = { Alone-none };
 
     ghost others_both = { Alone-both };

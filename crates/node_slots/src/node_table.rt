@@ -1,11 +1,12 @@
 //! The words of all slots, by which a node is found, and the slots that are free.
 
-ghost use Rattle.std.specs.Prelude.{◌≡◌, ℕ, ◌+◌, ◌-◌, ◌<◌, ◌≤◌, ◌^◌, IfOk, IfSome, IfNone, count_by, length, slice_index, slice_set, vec_capacity, Some, None, true};
+ghost use Rattle.std.specs.Prelude.{◌≡◌, ℕ, ◌+◌, ◌-◌, ◌<◌, ◌≤◌, ◌^◌, IfOk, IfSome, IfNone, count_by, length, slice_index, slice_set, vec_capacity, Some, None, true, false};
 ghost use Rattle.edge_bits.specs.Permanent.{first_projection, zero_slot};
 ghost use Rattle.edge_bits.specs.Reading.{slots_of};
 ghost use Rattle.edge_bits.specs.Words.{IsInRange, pack_of, unpack_of};
 ghost use Rattle.node_store.specs.Contents.{is_leaf, is_node_of as is_node_in};
 ghost use Rattle.node_slots.specs.Placing.{IsPlaced, HasNoPlace};
+ghost use Rattle.held_slots.specs.Arcs.{IsNamedIn};
 ghost use Rattle.node_slots.specs.Stores.{is_word, permanent_word};
 ghost use Rattle.node_slots.specs.Taking.{ArePacked, AreCounted, AreFree, HasNoZero, IsPut, nodes_of};
 
@@ -14,6 +15,7 @@ use edge_bits::{
     Edge, FIRST_PROJECTION, MOST_SLOTS, MOST_VARIABLES, Memory, Node, TRUE_SLOT, Word, ZERO_SLOT,
     unpack,
 };
+use held_slots::ArcCounts;
 use level_table::SlotTable;
 use std::alloc::Global;
 use std::marker::Model;
@@ -29,6 +31,7 @@ pub struct NodeTable {
     freed: Vec<u32>,
     in_use: usize,
     nodes: NodeCounts,
+    arcs: ArcCounts,
 }
 
 impl Model for NodeTable {
@@ -39,7 +42,7 @@ impl Model for NodeTable {
 
     ghost view = { λ t. t.table.words };
 
-    ghost invariant = { λ t. IsNodeTable t.table t.freed.items (vec_capacity t.freed) t.in_use t.nodes };
+    ghost invariant = { λ t. IsNodeTable t.table t.freed.items (vec_capacity t.freed) t.in_use t.nodes t.arcs };
 }
 
 /// The bits of a word that is used again.
@@ -159,11 +162,13 @@ impl NodeTable {
         let freed = Vec::with_capacity(alloc, limit as usize)?;
         let mut nodes = NodeCounts::new(alloc, VARIABLE_NUMBERS)?;
         append_permanent(&mut table, &mut nodes, vars);
+        let arcs = ArcCounts::new(alloc, limit)?;
         Ok(NodeTable {
             table,
             freed,
             in_use: FIRST_PROJECTION as usize + vars as usize,
             nodes,
+            arcs,
         })
     }
 
@@ -212,6 +217,7 @@ impl NodeTable {
         let slot = put(&mut self.table, &mut self.freed, bits)?;
         self.in_use += 1;
         self.nodes.add(&word);
+        self.arcs.change(0, bits);
         Some(slot)
     }
 
@@ -220,10 +226,12 @@ impl NodeTable {
         requires { slots_of self.old slot ≡ None → ⊥ }
         ensures { self.new ≡ slice_set self.old slot 0 }
     {
-        let Some(word) = unpack(self.table.word(slot)) else {
+        let was = self.table.word(slot);
+        let Some(word) = unpack(was) else {
             unreachable!()
         };
         self.nodes.remove(&word);
+        self.arcs.change(was, 0);
         self.table.erase(slot);
         self.freed.push_reserved(slot);
         self.in_use -= 1;
@@ -236,12 +244,35 @@ impl NodeTable {
         ensures reads { slots_of self.new slot ≡ Some word }
         ensures rewritten { self.new ≡ slice_set self.old slot (pack_of word) }
     {
-        let Some(old) = unpack(self.table.word(slot)) else {
+        let was = self.table.word(slot);
+        let Some(old) = unpack(was) else {
             unreachable!()
         };
+        let bits = pack(&word);
         self.nodes.remove(&old);
-        overwrite(&mut self.table, slot, pack(&word));
+        self.arcs.change(was, bits);
+        overwrite(&mut self.table, slot, bits);
         self.nodes.add(&word);
+    }
+
+    /// Whether a node names a slot. The arcs to the slots are counted here, where they are not counted yet, and kept from then on.
+    pub fn is_named(&mut self, slot: u32) -> bool
+        requires { slot < length self.old }
+        ensures same { self.new ≡ self.old }
+        ensures yes { result ≡ true → IsNamedIn self.old slot }
+        ensures no { result ≡ false → IsNamedIn self.old slot → ⊥ }
+    {
+        if !self.arcs.is_known() {
+            self.arcs.count(self.table.words());
+        }
+        self.arcs.is_named(slot)
+    }
+
+    /// Counts no arcs any more, until somebody asks again.
+    pub fn forget_arcs(&mut self)
+        ensures { self.new ≡ self.old }
+    {
+        self.arcs.forget();
     }
 
     /// The number of nodes of a variable, and of element e by 16,384 + e.

@@ -484,7 +484,7 @@ impl HeldStore {
             element_levels,
             variables_at,
             elements_at,
-            nodes,
+            mut nodes,
             counts,
             notes,
             sweeping,
@@ -493,6 +493,7 @@ impl HeldStore {
             scratch,
             half: _,
         } = self;
+        nodes.forget_arcs();
         PlainStore {
             alloc,
             variable_levels,

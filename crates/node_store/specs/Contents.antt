@@ -114,6 +114,10 @@ IsHalf w upper lower = w.half ≡ Some (record { upper = upper; lower = lower })
 abbrev pub IsUsed : Content → ℕ → Type 0
 IsUsed w s = (word : Word) × (w.word s ≡ Some word)
 
+-- a node in use names the slot
+abbrev pub IsNamed : Content → ℕ → Type 0
+IsNamed w s = (t : ℕ) × (node : Node) × (w.word t ≡ Some (Inner node)) × ((node.hi ≡ s) ⊎ (node.lo.index ≡ s))
+
 -- the node of a variable's projection
 abbrev pub projection_node : ℕ → Node
 projection_node v = record { var = v; hi = true_slot; lo = truth_edge false }

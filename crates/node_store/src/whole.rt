@@ -13,7 +13,7 @@ pub trait Whole {
     ghost use Rattle.edge_bits.specs.declared.words.Word.{Word};
     ghost use Rattle.function_laws.specs.Sizes.{in_order};
     ghost use Rattle.node_store.specs.Views.{Is};
-    ghost use Rattle.node_store.specs.Contents.{Content, IsUsed, var_at as number_at, is_node_of, is_leaf, used_slots, nodes_of, opened_of, view_of};
+    ghost use Rattle.node_store.specs.Contents.{Content, IsUsed, IsNamed, var_at as number_at, is_node_of, is_leaf, used_slots, nodes_of, opened_of, view_of};
     ghost use Rattle.node_store.specs.Changes.{After, with_mark, with_pin, rewritten, without, exchanged, CanRewrite, CanAdd, HasRoomFor, Added, CanFree, CanExchange, IsLeastFrom};
 
     /// What its holder knows of it.
@@ -140,6 +140,13 @@ pub trait Whole {
         requires { slot < (view self.old).limit }
         ensures after { After others (view self.old) (view self.new) }
         ensures pinned { result ≡ (view self.old).pinned slot };
+
+    /// Whether a node in use names a slot. It should take constant time, but for the first call since the store came into its holder's hands.
+    fn is_named(&mut self, slot: u32) -> bool
+        requires { slot < (view self.old).limit }
+        ensures after { After others (view self.old) (view self.new) }
+        ensures named { result ≡ true → IsNamed (view self.old) slot }
+        ensures unnamed { result ≡ false → IsNamed (view self.old) slot → ⊥ };
 
     /// How many levels the order has, of the variables.
     fn levels(&mut self) -> u32

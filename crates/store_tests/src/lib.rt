@@ -9,6 +9,8 @@ mod layout;
 #[cfg(test)]
 mod rows;
 #[cfg(test)]
+mod slot_sets;
+#[cfg(test)]
 mod stores;
 #[cfg(test)]
 mod unique_tables;

@@ -2,13 +2,14 @@
 
 ghost use Rattle.std.specs.Prelude.{◌≡◌, IfSome};
 ghost use Rattle.edge_bits.specs.declared.edges.Kind.TheVariants.{Bdd};
+ghost use Rattle.node_slots.specs.Held.{held_view};
 ghost use Rattle.node_slots.specs.Stores.{plain_view};
 ghost use Rattle.node_store.specs.Three.{AreThree};
 
 use crate::walks::{find_by_walk, is_named, is_used};
 use edge_bits::{Edge, FIRST_ELEMENT, FIRST_PROJECTION, Node, VALUE_END};
 use ite_core::and;
-use node_slots::{Grow, Opened, PlainStore, Stop, Whole};
+use node_slots::{Grow, HeldStore, Opened, PlainStore, Stop, Whole};
 use node_store::tell_permanent;
 use std::process::Abort;
 use std::test::Fail;
@@ -163,7 +164,7 @@ fn free(store: &mut PlainStore, slot: u32) -> bool {
 }
 
 /// The slots of the product of two variables, and of that of all three.
-#[derive(Clone, Copy, Drop)]
+#[derive(Clone, Copy, PartialEq, Eq, Drop)]
 struct Slots {
     two: u32,
     three: u32,
@@ -275,6 +276,44 @@ fn a_pinned_slot_is_not_freed(rt: HostRuntime) -> Result<(), Fail> {
     refuse_to_free(&rt, &mut store, slots);
     let mut store = unpin(store, slots.three);
     free_unpinned(&rt, &mut store, slots.three);
+    Ok(())
+}
+
+/// Whether a node names a slot, as the store's holder is told.
+fn is_told_named(held: &mut HeldStore, slot: u32) -> bool
+    ensures { (held_view held.new).half ≡ (held_view held.old).half }
+{
+    slot < held.limit() && held.is_named(slot)
+}
+
+/// Hands the store over to a holder, who is told that a node names the product of two variables, and gives it back.
+fn see_named(rt: &impl Abort, store: PlainStore, slots: Slots) -> PlainStore {
+    let mut held = store.hold();
+    assert!(rt; is_told_named(&mut held, slots.two));
+    assert!(rt; is_told_named(&mut held, FIRST_PROJECTION + 2));
+    assert!(rt; !is_told_named(&mut held, slots.three));
+    held.release()
+}
+
+/// The same, where no node names it any more.
+fn see_unnamed(rt: &impl Abort, store: PlainStore, slots: Slots) -> PlainStore {
+    let mut held = store.hold();
+    assert!(rt; !is_told_named(&mut held, slots.two));
+    assert!(rt; is_told_named(&mut held, FIRST_PROJECTION + 2));
+    assert!(rt; !is_told_named(&mut held, slots.three));
+    held.release()
+}
+
+#[test]
+fn a_holder_is_told_what_nodes_name(rt: HostRuntime) -> Result<(), Fail> {
+    let mut store = PlainStore::new(rt.alloc(), 3, 0, 10)?;
+    let slots = filled(&rt, &mut store);
+    let mut store = see_named(&rt, store, slots);
+    assert!(rt; free(&mut store, slots.three));
+    let mut store = see_unnamed(&rt, store, slots);
+    let again = filled(&rt, &mut store);
+    assert!(rt; again == slots);
+    let _ = see_named(&rt, store, again);
     Ok(())
 }
 

@@ -7,4 +7,4 @@ use Rattle.node_slots.proofs.held_store.HeldStore.release.Goals as goal
 pub invariant_of-result : goal.invariant_of-result
 invariant_of-result c =
     let q = the_view c.self.inside in
-    given_back q.plain q.half q.chain (subst (λ (x : Held). (held_view x).half ≡ None) (sym c.self.view_is) c.requires) c.self.invariant
+    rw c.forget_arcs.ensures (given_back q.plain q.half q.chain (subst (λ (x : Held). (held_view x).half ≡ None) (sym c.self.view_is) c.requires) c.self.invariant)

@@ -1,4 +1,4 @@
-use Rattle.std.proofs.Common.{◌≡◌, ◌+◌, ℕ, length, ap, ◌∙◌, arith}
+use Rattle.std.proofs.Common.{◌≡◌, ◌+◌, ℕ, length, ap, sym, ◌∙◌, arith}
 use Rattle.std.proofs.lemmas.Grind.{common_steps}
 use Rattle.std.specs.Prelude.{vec_capacity}
 use Rattle.std.proofs.lemmas.List.{length-replicate}
@@ -13,7 +13,7 @@ invariant_of-result c =
     let long : length c.append_permanent.new.table.words ≡ c.args.limit = e.length ∙ ap length c.in_ok-table.ensures.words ∙ length-replicate c.args.limit zero in
     rw v.items
     (table_opening c.append_permanent.new.table (5 + c.args.vars) (vec_capacity c.in_ok-freed.freed)
-    (omega (arith, long, c.requires.least)) (omega (arith, long, c.requires.most)) (omega (arith, long, v.capacity)) e.taken e.permanent e.free e.packed _ e.nodes)
+    (omega (arith, long, c.requires.least)) (omega (arith, long, c.requires.most)) (omega (arith, long, v.capacity)) e.taken e.permanent e.free e.packed _ e.nodes c.in_ok-arcs.arcs (c.in_ok-arcs.ensures.slots ∙ sym long) c.in_ok-arcs.ensures.unknown)
 
 pub append_permanent-requires-clause-few : goal.append_permanent-requires-clause-few
 append_permanent-requires-clause-few c = grind (arith, common_steps)

@@ -1,0 +1,2 @@
+pub mod SlotSets
+pub mod Arcs
