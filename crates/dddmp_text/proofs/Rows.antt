@@ -104,7 +104,7 @@ two_roots : fault_of (codes ".ver DDDMP-2.0\n.mode A\n.varinfo 0\n.nnodes 3\n.nv
 unfolding fault_of faulty_line lines_of split_words words_between is_number behind dump_of
 two_roots = refl
 
-too_many_variables : fault_of (codes ".ver DDDMP-2.0\n.mode A\n.varinfo 0\n.nnodes 3\n.nvars 1025\n.nsuppvars 2\n.ids 0 1\n.permids 0 1\n.nroots 1\n.rootids -3\n.nodes\n1 T 1 0 0\n2 1 1 1 -1\n3 0 0 2 -2\n.end\n") ≡ Some (record { line = 11; what = kinds.Variable })
+too_many_variables : fault_of (codes ".ver DDDMP-2.0\n.mode A\n.varinfo 0\n.nnodes 3\n.nvars 16385\n.nsuppvars 2\n.ids 0 1\n.permids 0 1\n.nroots 1\n.rootids -3\n.nodes\n1 T 1 0 0\n2 1 1 1 -1\n3 0 0 2 -2\n.end\n") ≡ Some (record { line = 11; what = kinds.Variable })
 unfolding fault_of faulty_line lines_of split_words words_between is_number behind dump_of
 too_many_variables = refl
 
