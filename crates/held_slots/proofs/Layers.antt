@@ -205,3 +205,20 @@ pub none_summed : (lower upper : List ℕ) (n m : ℕ) → lower ≡ zeros n →
 none_summed lower upper n m low up w =
     let no : is_in upper w ≡ false = ap (λ b. b == 1) (ap (λ x. bit_at x (w % 64)) (zeros_are upper m up (w / 64)) ∙ bit_at-zero (w % 64)) in
     no ∙ ap (λ x. not (x == 0)) (sym (zeros_are lower n low w))
+
+pub no_bits : (bits : List ℕ) (n p : ℕ) → bits ≡ zeros n → is_in bits p ≡ false
+no_bits bits n p are = ap (λ b. b == 1) (ap (λ x. bit_at x (p % 64)) (zeros_are bits n are (p / 64)) ∙ bit_at-zero (p % 64))
+
+-- members stay below the limit
+pub below_set : (limit : ℕ) (bits bits' : List ℕ) (place : ℕ) → ((s : ℕ) → is_in bits s ≡ true → s < limit) → place < limit → ((p : ℕ) → p ≢ place → is_in bits' p ≡ is_in bits p) → (s : ℕ) → is_in bits' s ≡ true → s < limit
+below_set limit bits bits' place below lt others s inside = elim (cases_eq s place) [
+  | inl e ↦ omega (arith, e, lt)
+  | inr ne ↦ below s (sym (others s ne) ∙ inside)
+]
+
+-- nothing is behind the last member that is taken out
+pub kept_clear : (old before after : ℕ → Bool) (slot : ℕ) → ((s : ℕ) → before s ≡ true → old s ≡ true) → after slot ≡ false → ((s : ℕ) → s ≢ slot → after s ≡ before s) → (s : ℕ) → after s ≡ true → old s ≡ true
+kept_clear old before after slot kept here others s inside = elim (cases_eq s slot) [
+  | inl e ↦ (let never : false ≡ true = sym here ∙ ap after (sym e) ∙ inside in cc)
+  | inr ne ↦ kept s (sym (others s ne) ∙ inside)
+]

@@ -1,2 +1,4 @@
 pub mod SlotSets
 pub mod Arcs
+pub mod Notes
+pub mod Linked

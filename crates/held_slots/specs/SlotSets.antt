@@ -1,5 +1,5 @@
 -- Sets of numbers as bits, in layers.
-use Rattle.std.specs.Prelude.{◌≡◌, ℕ, ◌*◌, ◌/◌, ◌%◌, ◌<◌, ◌≤◌, ◌^◌, ◌==◌, Bool, true, false, not, List, length, slice_index, Option, Some, None}
+use Rattle.std.specs.Prelude.{◌≡◌, ◌≢◌, ℕ, ◌*◌, ◌/◌, ◌%◌, ◌<◌, ◌≤◌, ◌^◌, ◌==◌, ◌||◌, Bool, true, false, not, List, length, slice_index, Option, Some, None}
 use Rattle.std.specs.Int.{bit_at}
 
 -- the bit of a number, among words of 64
@@ -39,6 +39,29 @@ pub record AreLayers (limit : ℕ) (slots words blocks : List ℕ) : Type 0 wher
   pub room : limit ≤ 64 * length slots
   pub room_above : length slots ≤ 64 * length words
   pub room_on_top : length words ≤ 64 * length blocks
+  pub below : (s : ℕ) → is_in slots s ≡ true → s < limit
   pub few : length slots ≤ 2 ^ 18
   pub few_above : length words ≤ 2 ^ 18
   pub few_on_top : length blocks ≤ 2 ^ 18
+
+-- the slots with a node of one variable; or of no variable, and none
+pub record Gathered : Type 0 where
+  pub variable : Option ℕ
+  pub slots : Members
+
+-- whether both are a variable, and the same
+abbrev pub is_same : Option ℕ → Option ℕ → Bool
+is_same (Some v) (Some u) = v == u
+is_same (Some v) None = false
+is_same None u = false
+
+-- whether the slots of a variable are gathered, in one of two sets
+abbrev pub is_gathered : Gathered → Gathered → ℕ → Bool
+is_gathered older newer v = is_same older.variable (Some v) || is_same newer.variable (Some v)
+
+-- a slot is one of them from now on, as it has a node of this variable, or none
+pub record IsPut (slot : ℕ) (now : Option ℕ) (old new : Gathered) : Type 0 where
+  pub here : has new.slots slot ≡ is_same old.variable now
+  pub others : (s : ℕ) → s ≢ slot → has new.slots s ≡ has old.slots s
+  pub variable : new.variable ≡ old.variable
+  pub limit : new.slots.limit ≡ old.slots.limit

@@ -3,6 +3,7 @@
 ghost use Rattle.std.specs.Prelude.{◌≡◌, ℕ, ◌+◌, ◌<◌, ◌≤◌, ◌^◌, ◌==◌, if◌then◌else◌, IfOk, List as ListOf, length, max, slice_index, slice_set, vec_capacity, true, false};
 ghost use Rattle.held_slots.specs.Arcs.{AreFirst, IsChange, IsNamedIn, IsOf, arcs_in, arcs_to};
 
+use crate::note::lengthen;
 use edge_bits::{Memory, Word, unpack};
 use std::alloc::Global;
 use std::marker::Model;
@@ -25,19 +26,6 @@ impl Model for ArcCounts {
     ghost view = { λ a. record { slots = a.slots; known = a.known; counts = a.counts.items } };
 
     ghost invariant = { λ a. AreRoomy a.counts.items a.slots (vec_capacity a.counts) };
-}
-
-/// Adds zeros until there is a count for the slot.
-fn lengthen(counts: &mut Vec<u32>, slot: usize)
-    requires { slot < vec_capacity counts.old }
-    ensures reaches { slot < length counts.new.items }
-    ensures within { length counts.new.items ≤ max (length counts.old.items) (slot + 1) }
-    ensures same { (s : ℕ) → slice_index counts.new.items s ≡ slice_index counts.old.items s }
-    ensures room { vec_capacity counts.new ≡ vec_capacity counts.old }
-{
-    for _ in counts.len()..slot + 1 {
-        counts.push_reserved(0);
-    }
 }
 
 /// One arc more leads to a slot. One that is beyond the slots is passed over.

@@ -82,9 +82,23 @@ impl SlotSet {
         let _ = unset(&mut self.blocks, slot / 64 / 64);
     }
 
+    /// Takes all slots out, in time with their number.
+    pub fn clear(&mut self)
+        ensures none { (s : ℕ) → has self.new s ≡ false }
+        ensures limit { self.new.limit ≡ self.old.limit }
+    {
+        let mut from = 0;
+        while let Some(slot) = self.next(from) {
+            self.remove(slot);
+            from = slot + 1;
+        }
+    }
+
     /// The least member from this slot on, or none.
     pub fn next(&self, from: u32) -> Option<u32>
-        ensures { IsNext (has self.now) from result }
+        ensures next { IsNext (has self.now) from result }
+        ensures below { (s : ℕ) → has self.now s ≡ true → s < self.now.limit }
+        ensures few { self.now.limit ≤ 2 ^ 24 }
     {
         let from = from as usize;
         let slot = match next_in_word(&self.slots, from) {

@@ -5,6 +5,3 @@ pub mod Entries
 pub mod Removal
 pub mod LeafKeys
 pub mod Slots
-pub mod Padding
-pub mod Leading
-pub mod Lasting

@@ -2,5 +2,3 @@ pub mod Chains
 pub mod Tables
 pub mod Leaves
 pub mod Slotted
-pub mod Notes
-pub mod Linked

@@ -1,13 +1,11 @@
-//! The unique tables: of one variable the pairs of children of its nodes, and the slot of each; of the leaves their values; of a whole store the words of all slots, and what it notes of each slot.
+//! The unique tables: of one variable the pairs of children of its nodes, and the slot of each; of the leaves their values; of a whole store the words of all slots.
 #![tactic(auto)]
 
 mod chains;
 mod leaves;
-mod notes;
 mod slot_table;
 mod table;
 
 pub use leaves::{LeafEntry, LeafTable};
-pub use notes::{Cursor, SlotNotes};
 pub use slot_table::SlotTable;
 pub use table::{Entry, LevelTable};

@@ -1,7 +1,7 @@
 -- A store in its holder's hands, after a node was found or stored: what its words say of the node, in the middle of a swap too.
-use Rattle.std.proofs.Common.{◌≡◌, ℕ, ◌+◌, ◌^◌, ◌<◌, ◌≤◌, inl, inr, Bool, true, List, length, set, Option, Some, None, refl, ap, sym, ◌∙◌, subst, arith}
+use Rattle.std.proofs.Common.{◌≡◌, ℕ, ◌+◌, ◌^◌, ◌<◌, ◌≤◌, ◌⊎◌, inl, inr, Bool, true, List, length, set, Option, Some, None, refl, ap, sym, ◌∙◌, subst, arith}
 use Rattle.std.proofs.lemmas.Bool.{cases_lt}
-use Rattle.std.proofs.lemmas.List.{length-set, get_or_past, get_or-set_other}
+use Rattle.std.proofs.lemmas.List.{length-set, get_or_past, get_or-set_other, get_or-set_same}
 use Rattle.edge_bits.specs.declared.edges.Edge.{Edge}
 use Rattle.edge_bits.specs.declared.edges.Kind.{Kind}
 use Rattle.edge_bits.specs.declared.edges.Kind.TheVariants.{Bdd, Add, Zdd}
@@ -30,6 +30,10 @@ use Rattle.node_slots.proofs.Canonical.{edge_is, same_complement}
 use Rattle.node_slots.proofs.Counting.{count_prefix, used_if}
 use Rattle.node_slots.proofs.Flips.{bit-ones}
 use Rattle.node_slots.proofs.HeldLaws.{after_none, slots_put}
+use Rattle.held_slots.specs.Linked.{IsChangedAt, IsLinkedTo, variable_of}
+use Rattle.held_slots.specs.Notes.{Notes}
+use Rattle.node_slots.proofs.HeldMarks.{with_notes}
+use Rattle.node_slots.proofs.HeldWalking.{noted_held, noted_view}
 use Rattle.node_slots.proofs.HeldRewriting.{edge_small, unlinked, variable_small, with_words, words_become}
 use Rattle.node_slots.proofs.Looking.{count_words}
 use Rattle.node_slots.proofs.Making.{Normal, child_is, node_with, normal, unturned}
@@ -245,3 +249,21 @@ pub added_fits : (q h : Held) → q ≡ h → IsHeld q → (k : Kind) (v : ℕ) 
 added_fits q h same held k v hi lo can e is =
     let can_q = subst (λ x. CanAdd k (held_view x) v hi lo) (sym same) can in
     (variable_small q held k v can_q.can_make.in_range, edge_small q held k hi can_q.can_make.hi_is, rw is (edge_small q held k lo can_q.can_make.lo_is))
+
+-- what a slot that a word was placed in has now, and had
+pub placed_at : (old new : List ℕ) (word : Word) (s : ℕ) → IsPlaced old new word s → IsChangedAt (slots_of old) (slots_of new) s × ((slots_of old s ≡ None) ⊎ (variable_of (slots_of old s) ≡ variable_of (Some word))) × (variable_of (slots_of new s) ≡ variable_of (Some word))
+placed_at old new word s place = elim place.way [
+  | inl there ↦ (λ t ne. ap (λ xs. slots_of xs t) there.same, inr (ap variable_of there.here), ap (λ xs. variable_of (slots_of xs s)) there.same ∙ ap variable_of there.here)
+  | inr put ↦ (
+    λ t ne. ap (λ xs. slots_of xs t) put.is ∙ ap unpack_of (get_or-set_other old s t put.bits 0 ne),
+    inl put.free,
+    ap (λ xs. variable_of (slots_of xs s)) put.is ∙ ap (λ x. variable_of (unpack_of x)) (get_or-set_same old s put.bits 0 place.within) ∙ ap variable_of put.reads,
+  )
+]
+
+-- the links of the notes were kept beside the words
+pub noted_answer : (k : Kind) (h q : Held) (v : ℕ) (hi lo e : Edge) → Answered k h q v hi lo e → (n : Notes) → n.marks ≡ q.plain.marks → n.pins ≡ q.plain.pins → IsLinkedTo (slots q.plain) n.chain → Answered k h (with_notes q n) v hi lo e
+noted_answer k h q v hi lo e a n marks pins linked = record {
+  held = noted_held q a.held n marks pins (slots q.plain) refl linked;
+  added = subst (λ x. Added Alone k (held_view h) x v hi lo e) (noted_view q a.held n marks pins) a.added;
+}

@@ -1,9 +1,7 @@
 -- A held store after a slot was freed.
-use Rattle.std.proofs.Common.{◌≡◌, ◌≢◌, ℕ, ◌+◌, ◌<◌, inl, inr, List, length, get_or, set, Some, None, refl, ap, sym, ◌∙◌, subst, arith}
+use Rattle.std.proofs.Common.{false, ◌≡◌, ◌≢◌, ℕ, ◌+◌, ◌<◌, inl, inr, List, length, get_or, set, None, refl, ap, sym, ◌∙◌, subst, arith}
 use Rattle.std.specs.Prelude.{◌%◌, ◌^◌}
-use Rattle.std.proofs.lemmas.Bool.{cases_eq}
 use Rattle.std.proofs.lemmas.List.{length-set, get_or-set_same, get_or-set_other}
-use Rattle.edge_bits.specs.declared.words.Word.{Word}
 use Rattle.edge_bits.specs.Words.{unpack_of}
 use Rattle.function_laws.proofs.ValueLemmas.{everywhere}
 use Rattle.handle_count.specs.CountWords.{count_of, generation_of}
@@ -12,15 +10,15 @@ use Rattle.node_store.specs.Changes.{After, CanFree, put_at, without}
 use Rattle.node_store.proofs.Freeing.{freed_sound}
 use Rattle.node_slots.specs.Stores.{slots, count_at, generation_at, HasPermanent}
 use Rattle.node_slots.specs.Held.{Alone, Held, IsHeld, held_view}
-use Rattle.level_table.proofs.Lasting.{linked_on}
 use Rattle.node_slots.proofs.Holding.{at_set}
+use Rattle.node_slots.proofs.HeldRewriting.{Becomes}
 use Rattle.node_slots.proofs.HeldLaws.{after_same, read_put, settle, slots_put}
 
 module _ (q : Held) (is : IsHeld q) (slot : ℕ) (can : CanFree (held_view q) slot) (ws cs : List ℕ) (word : ℕ)
     (written : ws ≡ set q.plain.words slot 0) (recounted : cs ≡ set q.plain.counts slot word)
     (count : count_of word ≡ count_at q.plain slot) (generation : generation_of word ≡ (generation_at q.plain slot + 1) % 2 ^ 32) where
   abbrev new : Held
-  new = record q { plain = record q.plain { words = ws; counts = cs } }
+  new = record { plain = record q.plain { words = ws; counts = cs }; half = q.half; chain = record q.chain { linked = false } }
 
   within : slot < length q.plain.words
   within = is.sound.within slot can.used
@@ -28,18 +26,11 @@ module _ (q : Held) (is : IsHeld q) (slot : ℕ) (can : CanFree (held_view q) sl
   counted : slot < length q.plain.counts
   counted = let c = is.counted in let w = within in omega (arith, c, w)
 
-  other_slot : (s : ℕ) → s ≢ slot → slots new.plain s ≡ slots q.plain s
+  pub other_slot : (s : ℕ) → s ≢ slot → slots new.plain s ≡ slots q.plain s
   other_slot s ne = ap (λ xs. unpack_of (get_or xs s 0)) written ∙ ap unpack_of (get_or-set_other q.plain.words slot s 0 0 ne)
 
-  slot_gone : slots new.plain slot ≡ None
+  pub slot_gone : slots new.plain slot ≡ None
   slot_gone = ap (λ xs. unpack_of (get_or xs slot 0)) written ∙ ap unpack_of (get_or-set_same q.plain.words slot 0 0 within)
-
-  -- each word that is left was there
-  left : (s : ℕ) (x : Word) → slots new.plain s ≡ Some x → slots q.plain s ≡ Some x
-  left s x h = elim (cases_eq s slot) [
-    | inl e ↦ (let never : None ≡ Some x = sym slot_gone ∙ ap (slots new.plain) (sym e) ∙ h in cc)
-    | inr ne ↦ sym (other_slot s ne) ∙ h
-  ]
 
   permanent_apart : (s : ℕ) → IsPermanent (held_view q) s → s ≢ slot
   permanent_apart s p e = can.spare (subst (IsPermanent (held_view q)) e p)
@@ -65,7 +56,7 @@ module _ (q : Held) (is : IsHeld q) (slot : ℕ) (can : CanFree (held_view q) sl
         other_slot (5 + v) (permanent_apart (5 + v) (inr (v, (let a = is.variables_stand.as_many in omega (arith, a, lt)), word))) ∙ word);
   }
 
-  pub freed_held : IsHeld new
+  freed_held : IsHeld new
   freed_held =
       let long = ap length written ∙ length-set q.plain.words slot 0 in
       let many = ap length recounted ∙ length-set q.plain.counts slot word in
@@ -82,8 +73,11 @@ module _ (q : Held) (is : IsHeld q) (slot : ℕ) (can : CanFree (held_view q) sl
         pins_fit = is.pins_fit ∙ sym long;
         nothing_due = is.nothing_due;
         forgotten = is.forgotten;
-        linked = linked_on (slots q.plain) (slots new.plain) left q.chain is.linked;
+        linked = λ on. cc;
       }
 
-  pub freed_after : After Alone (without (held_view q) slot) (held_view new)
+  freed_after : After Alone (without (held_view q) slot) (held_view new)
   freed_after = after_same (without (held_view q) slot) (held_view new) freed_view (freed_sound (held_view q) is.sound slot can)
+
+  pub freed : Becomes (without (held_view q) slot) new
+  freed = record { held = freed_held; after = freed_after }

@@ -1,16 +1,12 @@
 -- A held store after a slot was marked or pinned, or a sweep began or ended.
-use Rattle.std.proofs.Common.{◌≡◌, ℕ, ◌<◌, inl, inr, Bool, true, false, List, length, get_or, set, replicate, Some, None, refl, ap, sym, ◌∙◌, subst, arith}
+use Rattle.std.proofs.Common.{◌≡◌, ℕ, zero, ◌<◌, inl, inr, Bool, true, false, List, length, set, replicate, Some, None, refl, ap, sym, ◌∙◌, subst, arith}
 use Rattle.std.proofs.lemmas.Bool.{cases_lt}
 use Rattle.std.specs.Prelude.{◌==◌}
 use Rattle.std.proofs.lemmas.List.{length-set, length-replicate, get_or_past}
 use Rattle.node_store.specs.Contents.{IsUsed}
 use Rattle.node_store.specs.Changes.{After, with_mark, with_pin}
 use Rattle.node_store.proofs.Marking.{held_sound}
-use Rattle.level_table.specs.Linked.{IsLinkedTo}
-use Rattle.level_table.specs.Notes.{Notes, flag}
-use Rattle.edge_bits.specs.Reading.{slots_of}
-use Rattle.edge_bits.specs.Words.{unpack_of}
-use Rattle.function_laws.proofs.ValueLemmas.{everywhere}
+use Rattle.held_slots.specs.Notes.{Notes, flag}
 use Rattle.node_slots.specs.Stores.{slots, count_at, generation_at, is_set}
 use Rattle.node_slots.specs.Held.{Alone, Held, IsHeld, held_view}
 use Rattle.node_slots.proofs.HeldLaws.{after_seen}
@@ -81,32 +77,18 @@ module _ (q p : Held) (same : q ≡ p) (is : IsHeld q) where
         (after_seen (with_pin (held_view q) slot on) (held_view (with_notes q n))
         (ap (λ x. held_view (with_notes q x)) e ∙ ap (λ m. record (held_view q) { pinned = m }) (flags_put q.plain.pins slot on (let f = is.pins_fit in omega (arith, within, f)) (set q.plain.pins slot (flag on)) refl)) (pinned_held within off e).sound)
 
-  -- a sweep began: no slot is marked, the pins stay, and the slots are linked
-  module _ (n : Notes) (none : n.marks ≡ replicate (length q.plain.marks) 0) (pins : n.pins ≡ q.plain.pins) (ws : List ℕ)
-      (words : (s : ℕ) → get_or ws s 0 ≡ get_or q.plain.words s 0) (linked : IsLinkedTo (slots_of ws) n.chain) where
-    pub begun_held : IsHeld (record q { plain = record q.plain { marks = n.marks; pins = n.pins; sweeping = true }; chain = n.chain })
-    begun_held =
-        let f = flagged_held q is n.marks n.pins true (ap length none ∙ length-replicate (length q.plain.marks) 0) (ap length pins) (λ s free. ap (λ xs. is_set xs s) pins ∙ is.sound.unpinned s free) in
-        record {
-          sound = f.sound;
-          variables_stand = f.variables_stand;
-          elements_stand = f.elements_stand;
-          permanent = record { constants = is.permanent.constants; projections = is.permanent.projections };
-          few_variables = f.few_variables;
-          few_elements = f.few_elements;
-          room = f.room;
-          counted = f.counted;
-          marks_fit = f.marks_fit;
-          pins_fit = f.pins_fit;
-          nothing_due = f.nothing_due;
-          forgotten = f.forgotten;
-          linked = subst (λ w. IsLinkedTo w n.chain) (everywhere (slots_of ws) (slots q.plain) (λ s. ap unpack_of (words s))) linked;
-        }
+  -- a sweep began: no slot is marked
+  module _ (n : Notes) (e : n ≡ record { marks = replicate (length q.plain.marks) 0; pins = q.plain.pins; chain = q.chain }) where
+    abbrev begun : Notes → Held
+    begun x = record q { plain = record q.plain { marks = x.marks; pins = x.pins; sweeping = true }; chain = x.chain }
 
-    pub begun_after : After Alone (record (held_view p) { sweeping = true; marked = λ s. false }) (held_view (record q { plain = record q.plain { marks = n.marks; pins = n.pins; sweeping = true }; chain = n.chain }))
-    begun_after = subst (λ (x : Held). After Alone (record (held_view x) { sweeping = true; marked = λ s. false }) (held_view (record q { plain = record q.plain { marks = n.marks; pins = n.pins; sweeping = true }; chain = n.chain }))) same
-        (after_seen (record (held_view q) { sweeping = true; marked = λ s. false }) (held_view (record q { plain = record q.plain { marks = n.marks; pins = n.pins; sweeping = true }; chain = n.chain }))
-        (ap (λ m. record (held_view q) { sweeping = true; marked = m; pinned = is_set n.pins }) (no_flags n.marks (length q.plain.marks) none) ∙ ap (λ xs. record (held_view q) { sweeping = true; marked = λ _. false; pinned = is_set xs }) pins) begun_held.sound)
+    pub begun_held : IsHeld (begun n)
+    begun_held = subst (λ x. IsHeld (begun x)) (sym e) (flagged_held q is (replicate (length q.plain.marks) zero) q.plain.pins true (length-replicate (length q.plain.marks) zero) refl is.sound.unpinned)
+
+    pub begun_after : After Alone (record (held_view p) { sweeping = true; marked = λ s. false }) (held_view (begun n))
+    begun_after = subst (λ (x : Held). After Alone (record (held_view x) { sweeping = true; marked = λ s. false }) (held_view (begun n))) same
+        (after_seen (record (held_view q) { sweeping = true; marked = λ s. false }) (held_view (begun n))
+        (ap (λ x. held_view (begun x)) e ∙ ap (λ m. record (held_view q) { sweeping = true; marked = m }) (no_flags (replicate (length q.plain.marks) zero) (length q.plain.marks) refl)) begun_held.sound)
 
   pub ended_held : IsHeld (record q { plain = record q.plain { sweeping = false } })
   ended_held = flagged_held q is q.plain.marks q.plain.pins false refl refl is.sound.unpinned

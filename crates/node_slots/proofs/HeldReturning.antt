@@ -3,7 +3,7 @@ use Rattle.std.proofs.Common.{false, ◌≡◌, ℕ, List, Option, Some, None, r
 use Rattle.computed_cache.specs.Entries.{kept_at}
 use Rattle.node_store.specs.Contents.{IsSound}
 use Rattle.node_slots.specs.declared.held_store.HalfSwap.{HalfSwap}
-use Rattle.level_table.specs.Notes.{Chain, Notes}
+use Rattle.held_slots.specs.Notes.{Chain, Notes}
 use Rattle.node_slots.specs.Stores.{Plain, IsStore, content_of, refused_function}
 use Rattle.node_slots.specs.Wholes.{content_view}
 use Rattle.node_slots.specs.Held.{IsHeld, pair_in}

@@ -1,5 +1,5 @@
 -- The next slot of a variable in a held store.
-use Rattle.std.proofs.Common.{◌≡◌, ℕ, ◌<◌, ◌≤◌, true, List, get_or, Option, Some, None, refl, ap, sym, ◌∙◌, subst}
+use Rattle.std.proofs.Common.{◌≡◌, ℕ, ◌<◌, ◌≤◌, true, List, length, get_or, Option, Some, None, refl, ap, sym, ◌∙◌, subst}
 use Rattle.std.specs.Prelude.{IfNone, IfSome}
 use Rattle.std.proofs.lemmas.Bool.{eqb-true, eq-eqb}
 use Rattle.edge_bits.specs.declared.words.Word.{Word}
@@ -7,15 +7,15 @@ use Rattle.edge_bits.specs.declared.words.Word.TheVariants.{Inner, Leaf}
 use Rattle.edge_bits.specs.Reading.{slots_of}
 use Rattle.edge_bits.specs.Words.{unpack_of}
 use Rattle.function_laws.proofs.ValueLemmas.{everywhere}
-use Rattle.node_store.specs.Contents.{is_node_of}
+use Rattle.node_store.specs.Contents.{Content, IsSound, is_node_of}
 use Rattle.node_store.specs.Changes.{After, IsLeastFrom}
-use Rattle.level_table.specs.Linked.{HasNode, IsLinkedTo}
-use Rattle.level_table.specs.Notes.{Chain, Notes}
-use Rattle.level_table.specs.declared.notes.Cursor.{Cursor}
+use Rattle.held_slots.specs.Linked.{HasNode, IsLinkedTo}
+use Rattle.held_slots.specs.Notes.{Notes}
 use Rattle.node_slots.specs.Stores.{slots}
 use Rattle.node_slots.specs.Held.{Alone, Held, IsHeld, held_view}
 use Rattle.node_slots.proofs.HeldLaws.{after_seen}
 use Rattle.node_slots.proofs.HeldMarks.{with_notes}
+use Rattle.node_slots.proofs.HeldRewriting.{Becomes}
 
 -- a node of the variable, as a holder and as the notes tell it
 has_node : (word : ℕ → Option Word) (v s : ℕ) → is_node_of v (word s) ≡ true → HasNode word v s
@@ -44,28 +44,39 @@ least_node word w same v from found some least none = subst (λ x. IsLeastFrom (
 pub words_read : (q : Held) (ws : List ℕ) → ((s : ℕ) → get_or ws s 0 ≡ get_or q.plain.words s 0) → slots_of ws ≡ slots q.plain
 words_read q ws words = everywhere (slots_of ws) (slots q.plain) (λ s. ap unpack_of (words s))
 
--- the links move on, and nothing else
-pub walked_held : (q : Held) → IsHeld q → (chain : Chain) (word : ℕ → Option Word) → word ≡ slots q.plain → IsLinkedTo word chain → IsHeld (record q { chain = chain })
-walked_held q is chain word same linked = record {
-  sound = is.sound;
-  variables_stand = is.variables_stand;
-  elements_stand = is.elements_stand;
-  permanent = record { constants = is.permanent.constants; projections = is.permanent.projections };
-  few_variables = is.few_variables;
-  few_elements = is.few_elements;
-  room = is.room;
-  counted = is.counted;
-  marks_fit = is.marks_fit;
-  pins_fit = is.pins_fit;
-  nothing_due = is.nothing_due;
-  forgotten = is.forgotten;
-  linked = subst (λ w. IsLinkedTo w chain) same linked;
-}
+-- the links change, and nothing else
+module _ (q : Held) (is : IsHeld q) (n : Notes) (marks : n.marks ≡ q.plain.marks) (pins : n.pins ≡ q.plain.pins) where
+  pub noted_view : held_view q ≡ held_view (with_notes q n)
+  noted_view = ap (λ xs. held_view (record q { plain = record q.plain { marks = xs } })) (sym marks) ∙ ap (λ xs. held_view (record q { plain = record q.plain { marks = n.marks; pins = xs } })) (sym pins)
 
-module _ (q h : Held) (same : q ≡ h) (is : IsHeld q) (n : Notes) (cursor : Cursor) (e : n ≡ record { marks = q.plain.marks; pins = q.plain.pins; chain = record q.chain { cursor = cursor } })
+  pub noted_held : (word : ℕ → Option Word) → word ≡ slots q.plain → IsLinkedTo word n.chain → IsHeld (with_notes q n)
+  noted_held word same linked = record {
+    sound = subst IsSound noted_view is.sound;
+    variables_stand = is.variables_stand;
+    elements_stand = is.elements_stand;
+    permanent = record { constants = is.permanent.constants; projections = is.permanent.projections };
+    few_variables = is.few_variables;
+    few_elements = is.few_elements;
+    room = is.room;
+    counted = is.counted;
+    marks_fit = ap length marks ∙ is.marks_fit;
+    pins_fit = ap length pins ∙ is.pins_fit;
+    nothing_due = is.nothing_due;
+    forgotten = is.forgotten;
+    linked = subst (λ w. IsLinkedTo w n.chain) same linked;
+  }
+
+module _ (q h : Held) (same : q ≡ h) (is : IsHeld q) (n : Notes) (marks : n.marks ≡ q.plain.marks) (pins : n.pins ≡ q.plain.pins)
     (word : ℕ → Option Word) (words : word ≡ slots q.plain) (linked : IsLinkedTo word n.chain) where
   pub next_held : IsHeld (with_notes q n)
-  next_held = subst (λ x. IsLinkedTo word x.chain → IsHeld (with_notes q x)) (sym e) (walked_held q is (record q.chain { cursor = cursor }) word words) linked
+  next_held = noted_held q is n marks pins word words linked
 
   pub next_after : After Alone (held_view h) (held_view (with_notes q n))
-  next_after = subst (λ x. After Alone (held_view x) (held_view (with_notes q n))) same (after_seen (held_view q) (held_view (with_notes q n)) (ap (λ x. held_view (with_notes q x)) e) next_held.sound)
+  next_after = subst (λ x. After Alone (held_view x) (held_view (with_notes q n))) same (after_seen (held_view q) (held_view (with_notes q n)) (sym (noted_view q is n marks pins)) next_held.sound)
+
+-- the links of the notes were kept beside the words
+pub noted : (w : Content) (q : Held) → Becomes w q → (n : Notes) → n.marks ≡ q.plain.marks → n.pins ≡ q.plain.pins → IsLinkedTo (slots q.plain) n.chain → Becomes w (with_notes q n)
+noted w q b n marks pins linked = record {
+  held = noted_held q b.held n marks pins (slots q.plain) refl linked;
+  after = subst (After Alone w) (noted_view q b.held n marks pins) b.after;
+}

@@ -8,7 +8,7 @@ use Rattle.function_laws.proofs.ValueLemmas.{everywhere}
 use Rattle.handle_count.specs.CountWords.{count_of}
 use Rattle.node_store.specs.Changes.{put_at}
 use Rattle.node_store.proofs.Rewriting.{put_at-same, put_at-other}
-use Rattle.level_table.specs.Notes.{flag}
+use Rattle.held_slots.specs.Notes.{flag}
 use Rattle.node_slots.specs.Stores.{Plain, slots, count_at, is_set, AreHolds}
 
 -- a list of zeros is zero everywhere

@@ -4,8 +4,8 @@ use Rattle.std.specs.Prelude.{◌≡◌, ℕ, ◌+◌, ◌≤◌, length, Option
 use Rattle.edge_bits.specs.declared.limits.TheConstants.{MOST_ELEMENTS, MOST_VARIABLES}
 use Rattle.computed_cache.specs.Entries.{kept_at}
 use Rattle.node_store.specs.Contents.{Content, Pair, IsSound}
-use Rattle.level_table.specs.Linked.{IsLinkedTo}
-use Rattle.level_table.specs.Notes.{Chain}
+use Rattle.held_slots.specs.Linked.{IsLinkedTo}
+use Rattle.held_slots.specs.Notes.{Chain}
 use Rattle.node_slots.specs.Stores.{Plain, slots, AreInverse, HasPermanent}
 use Rattle.node_slots.specs.Wholes.{content_view}
 use Rattle.node_slots.specs.declared.held_store.HalfSwap.{HalfSwap}

@@ -10,7 +10,7 @@ use crate::plain_store::{only_child, opened};
 use computed_cache::Memo;
 use edge_bits::{Edge, FIRST_ELEMENT, MOST_LEVELS, Node, Word, unpack};
 use handle_count::next_generation;
-use level_table::SlotNotes;
+use held_slots::SlotNotes;
 use node_store::binary::flip_if;
 use node_store::{Opened, Order, Stack, Whole};
 use std::alloc::Global;
@@ -79,7 +79,8 @@ impl HeldStore {
     ghost use Rattle.node_store.specs.Contents.{level_of, var_at as number_at};
     ghost use Rattle.node_store.specs.Views.{IsVariable};
     ghost use Rattle.node_slots.specs.Held.{held_view, pair_in};
-    ghost use Rattle.node_slots.specs.Stores.{level_in, plain_view};
+    ghost use Rattle.node_slots.specs.Stores.{level_in, plain_view, slots};
+    ghost use Rattle.held_slots.specs.Linked.{variable_of};
 
     /// The level of a variable or an element in its order.
     fn level_of(&self, var: u32) -> u32
@@ -104,6 +105,16 @@ impl HeldStore {
         match order {
             Order::Variables => self.variables_at[level as usize],
             Order::Elements => FIRST_ELEMENT + self.elements_at[level as usize],
+        }
+    }
+
+    /// The variable of the node in a slot, if it has one.
+    fn variable_in(&self, slot: u32) -> Option<u32>
+        ensures { result ≡ variable_of (slots self.now.plain slot) }
+    {
+        match unpack(self.nodes.word(slot)) {
+            Some(Word::Inner(node)) => Some(node.var as u32),
+            _ => None,
         }
     }
 
@@ -154,7 +165,8 @@ impl Whole for HeldStore {
 
     fn next_of(&mut self, order: Order, level: u32, from: u32) -> Option<u32> {
         let var = self.number_at(order, level);
-        self.notes.next(self.nodes.words(), var, from)
+        self.notes
+            .next(self.nodes.words(), var, from, self.sweeping)
     }
 
     fn next_leaf(&mut self, from: u32) -> Option<u32> {
@@ -193,14 +205,17 @@ impl Whole for HeldStore {
         let Some(Word::Inner(old)) = unpack(self.nodes.word(slot)) else {
             unreachable!()
         };
-        let half = self.half_with(old.var as u32, var);
+        let was = old.var as u32;
+        let half = self.half_with(was, var);
         let node = Node {
             var: var as u16,
             hi: hi.index(),
             lo,
         };
+        self.notes.prepare(self.nodes.words(), was);
+        self.notes.prepare(self.nodes.words(), var);
         self.nodes.rewrite(slot, Word::Inner(node));
-        self.notes.unlink();
+        self.notes.moved(slot, was, var);
         self.half = Some(half);
     }
 
@@ -215,9 +230,10 @@ impl Whole for HeldStore {
             hi: hi.index(),
             lo: flip_if(lo, hi.complement()),
         };
+        self.notes.prepare(self.nodes.words(), var);
         match self.nodes.place(Word::Inner(node)) {
             Some(slot) => {
-                self.notes.unlink();
+                self.notes.added(slot, var);
                 Edge::new(slot, hi.complement())
             }
             None => unreachable!(),
@@ -225,7 +241,7 @@ impl Whole for HeldStore {
     }
 
     fn sweep_in(&mut self) {
-        self.notes.link(self.nodes.words());
+        self.notes.unmark_all();
         self.sweeping = true;
     }
 
@@ -234,7 +250,9 @@ impl Whole for HeldStore {
     }
 
     fn free(&mut self, slot: u32) {
+        let was = self.variable_in(slot);
         self.nodes.free(slot);
+        self.notes.freed(slot, was);
         let word = self.counts.word(slot);
         self.counts.write(slot, next_generation(word));
     }

@@ -18,7 +18,7 @@ use edge_bits::{
     MOST_VARIABLES, Memory, Node, Word, unpack,
 };
 use handle_count::{lower, next_generation, raise};
-use level_table::SlotNotes;
+use held_slots::SlotNotes;
 use node_store::binary::flip_if;
 use node_store::{Grow, Key, Opened, Stack, Stop};
 use std::alloc::Global;

@@ -39,7 +39,7 @@ pub trait Whole {
         ensures after { After others (view self.old) (view self.new) }
         ensures nodes { result ≡ nodes_of (view self.old) (number_at (view self.old) order level) };
 
-    /// The least slot from this one on with a node of a level, or none. A loop that asks from 0 on, and then from behind each answer, should take time in proportion to the level's nodes while a sweep is on.
+    /// The least slot from this one on with a node of a level, or none. A loop that asks from 0 on, and then from behind each answer, should take time in proportion to the level's nodes while a sweep is on, and while a swap changes them.
     fn next_of(&mut self, order: Order, level: u32, from: u32) -> Option<u32>
         requires { level < length (in_order (view self.old).orders order) }
         ensures after { After others (view self.old) (view self.new) }

@@ -1,5 +1,6 @@
-use Rattle.std.proofs.Common.{◌/◌, arith}
-use Rattle.held_slots.proofs.Layers.{summary_set}
+use Rattle.std.proofs.Common.{◌/◌, ◌<◌, subst, sym, arith}
+use Rattle.held_slots.specs.SlotSets.{Members}
+use Rattle.held_slots.proofs.Layers.{below_set, summary_set}
 use Rattle.held_slots.proofs.slot_set.SlotSet.insert.Goals as goal
 
 pub invariant_of-self : goal.invariant_of-self
@@ -14,6 +15,7 @@ invariant_of-self c =
       room = omega (arith, slots.length, was.room);
       room_above = omega (arith, slots.length, words.length, was.room_above);
       room_on_top = omega (arith, words.length, blocks.length, was.room_on_top);
+      below = below_set c.self.inside.limit c.self.inside.slots.items c.set.new.bits.items c.args.slot was.below (subst (λ (m : Members). c.args.slot < m.limit) (sym c.self.view_is) c.requires) slots.others;
       few = omega (arith, slots.length, was.few);
       few_above = omega (arith, words.length, was.few_above);
       few_on_top = omega (arith, blocks.length, was.few_on_top);

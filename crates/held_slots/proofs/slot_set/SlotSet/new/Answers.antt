@@ -1,6 +1,6 @@
-use Rattle.std.proofs.Common.{ℕ, ◌/◌, ◌+◌, ◌∙◌, ap, length, arith}
+use Rattle.std.proofs.Common.{◌≡◌, ℕ, false, true, sym, ◌/◌, ◌+◌, ◌∙◌, ap, length, arith}
 use Rattle.std.proofs.lemmas.List.{length-replicate}
-use Rattle.held_slots.proofs.Layers.{none_summed}
+use Rattle.held_slots.proofs.Layers.{no_bits, none_summed}
 use Rattle.held_slots.proofs.slot_set.SlotSet.new.Goals as goal
 
 pub invariant_of-result : goal.invariant_of-result
@@ -20,6 +20,7 @@ invariant_of-result c =
       room = omega (arith, long);
       room_above = omega (arith, long, long_above);
       room_on_top = omega (arith, long_above, long_on_top);
+      below = λ s inside. (let e : false ≡ true = sym (no_bits c.in_ok-vec.field-0.items n s slots) ∙ inside in cc);
       few = omega (arith, long, few);
       few_above = omega (arith, long_above, few);
       few_on_top = omega (arith, long_on_top, few);

@@ -1,5 +1,6 @@
-use Rattle.std.proofs.Common.{◌/◌, ◌∙◌, sym, arith}
-use Rattle.held_slots.proofs.Layers.{summary_kept, summary_unset}
+use Rattle.std.proofs.Common.{◌/◌, ◌<◌, subst, ◌∙◌, sym, arith}
+use Rattle.held_slots.specs.SlotSets.{Members}
+use Rattle.held_slots.proofs.Layers.{below_set, summary_kept, summary_unset}
 use Rattle.held_slots.proofs.slot_set.SlotSet.remove.Goals as goal
 
 pub invariant_of-self : goal.invariant_of-self
@@ -13,6 +14,7 @@ invariant_of-self c =
       room = omega (arith, slots.length, was.room);
       room_above = omega (arith, slots.length, was.room_above);
       room_on_top = was.room_on_top;
+      below = below_set c.self.inside.limit c.self.inside.slots.items c.unset.new.bits.items c.args.slot was.below (subst (λ (m : Members). c.args.slot < m.limit) (sym c.self.view_is) c.requires) slots.others;
       few = omega (arith, slots.length, was.few);
       few_above = was.few_above;
       few_on_top = was.few_on_top;
@@ -30,6 +32,7 @@ invariant_of-self-then-unset-2 c =
       room = omega (arith, slots.length, was.room);
       room_above = omega (arith, slots.length, words.length, was.room_above);
       room_on_top = omega (arith, words.length, was.room_on_top);
+      below = below_set c.self.inside.limit c.self.inside.slots.items c.unset.new.bits.items c.args.slot was.below (subst (λ (m : Members). c.args.slot < m.limit) (sym c.self.view_is) c.requires) slots.others;
       few = omega (arith, slots.length, was.few);
       few_above = omega (arith, words.length, was.few_above);
       few_on_top = was.few_on_top;
@@ -47,6 +50,7 @@ invariant_of-self-2 c =
       room = omega (arith, slots.length, was.room);
       room_above = omega (arith, slots.length, words.length, was.room_above);
       room_on_top = omega (arith, words.length, blocks.length, was.room_on_top);
+      below = below_set c.self.inside.limit c.self.inside.slots.items c.unset.new.bits.items c.args.slot was.below (subst (λ (m : Members). c.args.slot < m.limit) (sym c.self.view_is) c.requires) slots.others;
       few = omega (arith, slots.length, was.few);
       few_above = omega (arith, words.length, was.few_above);
       few_on_top = omega (arith, blocks.length, was.few_on_top);

@@ -12,13 +12,13 @@ pub invariant_of-self : goal.invariant_of-self
 invariant_of-self c =
     let q = the_view c.self.inside in
     let n = c.next.new.self in
-    next_held q c.args.self.now c.self.view_is c.self.invariant n n.chain.cursor c.next.ensures.rest (slots_of c.words.result.now) (words_read q c.words.result.now c.words.ensures.words) c.next.ensures.linked
+    next_held q c.args.self.now c.self.view_is c.self.invariant n c.next.ensures.marks c.next.ensures.pins (slots_of c.words.result.now) (words_read q c.words.result.now c.words.ensures.words) c.next.ensures.linked
 
 pub returns-clause-after : goal.returns-clause-after
 returns-clause-after c =
     let q = the_view c.self.inside in
     let n = c.next.new.self in
-    next_after q c.args.self.now c.self.view_is c.self.invariant n n.chain.cursor c.next.ensures.rest (slots_of c.words.result.now) (words_read q c.words.result.now c.words.ensures.words) c.next.ensures.linked
+    next_after q c.args.self.now c.self.view_is c.self.invariant n c.next.ensures.marks c.next.ensures.pins (slots_of c.words.result.now) (words_read q c.words.result.now c.words.ensures.words) c.next.ensures.linked
 
 pub returns-clause-next : goal.returns-clause-next
 returns-clause-next c =

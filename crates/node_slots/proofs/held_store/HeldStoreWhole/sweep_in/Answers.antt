@@ -3,11 +3,7 @@ use Rattle.node_slots.proofs.HeldMarks.{begun_after, begun_held}
 use Rattle.node_slots.proofs.held_store.HeldStoreWhole.sweep_in.Goals as goal
 
 pub invariant_of-self : goal.invariant_of-self
-invariant_of-self c =
-    let e = c.link.ensures in
-    begun_held (the_view c.self.inside) c.args.self.now c.self.view_is c.self.invariant c.link.new.self e.marks e.pins c.words.result.now c.words.ensures.words e.linked
+invariant_of-self c = begun_held (the_view c.self.inside) c.args.self.now c.self.view_is c.self.invariant c.unmark_all.new.self c.unmark_all.ensures
 
 pub returns : goal.returns
-returns c =
-    let e = c.link.ensures in
-    begun_after (the_view c.self.inside) c.args.self.now c.self.view_is c.self.invariant c.link.new.self e.marks e.pins c.words.result.now c.words.ensures.words e.linked
+returns c = begun_after (the_view c.self.inside) c.args.self.now c.self.view_is c.self.invariant c.unmark_all.new.self c.unmark_all.ensures

@@ -1,8 +1,0 @@
-use Rattle.std.proofs.Common.{rules}
-use Rattle.level_table.proofs.notes.with_mark.Goals as goal
-
-pub returns-then-on-clause-pin : goal.returns-then-on-clause-pin
-returns-then-on-clause-pin c = search (rules, c.requires)
-
-pub returns-else-on-clause-pin : goal.returns-else-on-clause-pin
-returns-else-on-clause-pin c = search (rules, c.requires)
