@@ -44,14 +44,14 @@ node_not_constant : (w : Content) → IsSound w → (s : ℕ) (node : Node) → 
 unfolding leaf_is
 node_not_constant w sound s node word lt = never_bool (ap leaf_is (sym (sound.constants s lt) ∙ word))
 
-projection_test : (hi lo : Edge) → hi.index ≡ 0 → lo.index ≡ 0 → lo.complement ≡ true → is_projection_of hi lo ≡ true
+pub projection_test : (hi lo : Edge) → hi.index ≡ 0 → lo.index ≡ 0 → lo.complement ≡ true → is_projection_of hi lo ≡ true
 projection_test hi lo h i c = rw (eq-eqb hi.index 0 h, eq-eqb lo.index 0 i, c) refl
 
 and_both : (a b : Bool) → (a && b) ≡ true → (a ≡ true) × (b ≡ true)
 and_both true b h = (refl, h)
 and_both false b h = cc
 
-projection_back : (hi lo : Edge) → is_projection_of hi lo ≡ true → (hi.index ≡ 0) × (lo.index ≡ 0) × (lo.complement ≡ true)
+pub projection_back : (hi lo : Edge) → is_projection_of hi lo ≡ true → (hi.index ≡ 0) × (lo.index ≡ 0) × (lo.complement ≡ true)
 projection_back hi lo h =
     let a = and_both (hi.index == 0) ((lo.index == 0) && lo.complement) h in
     let b = and_both (lo.index == 0) lo.complement a.1 in (eqb-true hi.index 0 a.0, eqb-true lo.index 0 b.0, b.1)
@@ -60,7 +60,7 @@ edge_of : (e : Edge) → e ≡ record { index = e.index; complement = e.compleme
 edge_of e = refl
 
 -- a node with a projection's children is a variable's projection
-projection_is : (w : Content) (sound : IsSound w) (s : ℕ) (node : Node) → w.word s ≡ Some (Inner node) → node.hi ≡ 0 → node.lo.index ≡ 0 → node.lo.complement ≡ true → IsPermanent w s
+pub projection_is : (w : Content) (sound : IsSound w) (s : ℕ) (node : Node) → w.word s ≡ Some (Inner node) → node.hi ≡ 0 → node.lo.index ≡ 0 → node.lo.complement ≡ true → IsPermanent w s
 projection_is w sound s node word h i c =
     let d = sound.denotes s (Inner node, word) in
     let n = sound.nodes s node d.0 word d.1 in

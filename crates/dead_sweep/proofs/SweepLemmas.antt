@@ -35,7 +35,7 @@ unfolding functions_of
 functions_same f g [] h = refl
 functions_same f g (s ∷ ss) h = ap (λ o. value_list o ++ functions_of f ss) (h s) ∙ ap (λ xs. value_list (g s) ++ xs) (functions_same f g ss h)
 
-functions_same_on : (test : ℕ → Bool) (f g : ℕ → Option Denoted) (ss : List ℕ) → ((s : ℕ) → test s ≡ true → f s ≡ g s) → functions_of f (filter test ss) ≡ functions_of g (filter test ss)
+pub functions_same_on : (test : ℕ → Bool) (f g : ℕ → Option Denoted) (ss : List ℕ) → ((s : ℕ) → test s ≡ true → f s ≡ g s) → functions_of f (filter test ss) ≡ functions_of g (filter test ss)
 unfolding functions_of
 functions_same_on test f g [] h = refl
 functions_same_on test f g (s ∷ ss) h = at (test s) refl (functions_same_on test f g ss h)
@@ -54,7 +54,7 @@ filter_le p q (x ∷ xs) more = at (p x) (q x) refl (more x) (filter_le p q xs m
     at false true e h le = omega arith
     at false false e h le = le
 
-used_is_true : (o : Option Word) → is_used o ≡ true → (word : Word) × (o ≡ Some word)
+pub used_is_true : (o : Option Word) → is_used o ≡ true → (word : Word) × (o ≡ Some word)
 used_is_true None h = cc
 used_is_true (Some word) h = (word, refl)
 

@@ -68,7 +68,7 @@ module _ {X : Type 0} (same : X → X → Bool) (back : (x y : X) → same x y �
   pub as_long : (xs ys : List X) → Apart same xs → Apart same ys → Matched same xs ys → Matched same ys xs → length xs ≡ length ys
   as_long xs ys a b m n = let p = no_longer xs ys a m in let q = no_longer ys xs b n in omega (arith, p, q)
 
-list_any-In : {X : Type 0} (p : X → Bool) (xs : List X) → list_any p xs ≡ true → (x : X) × In x xs × (p x ≡ true)
+pub list_any-In : {X : Type 0} (p : X → Bool) (xs : List X) → list_any p xs ≡ true → (x : X) × In x xs × (p x ≡ true)
 list_any-In p [] h = cc
 list_any-In p (x ∷ xs) h = elim (or_cases (p x) (list_any p xs) h) [
   | inl here ↦ (x, inl refl, here)

@@ -6,7 +6,7 @@ use Rattle.std.proofs.lemmas.Bool.{ltb-true}
 use Rattle.std.proofs.lemmas.List.Edits.{swap_is, length-insert, length-remove}
 use Rattle.function_laws.specs.SiftedOrders.{Met, moved, first_least}
 
-swap-cons : (z : ℕ) (l : List ℕ) (i j : ℕ) → i < length l → j < length l → swap (z ∷ l) (suc i) (suc j) ≡ z ∷ swap l i j
+pub swap-cons : (z : ℕ) (l : List ℕ) (i j : ℕ) → i < length l → j < length l → swap (z ∷ l) (suc i) (suc j) ≡ z ∷ swap l i j
 swap-cons z l i j hi hj = ap (λ x. z ∷ x) (swap_is l i j z hi hj)
 
 down_one : (r : List ℕ) (q v : ℕ) → q < length r → swap (insert r q v) q (suc q) ≡ insert r (suc q) v

@@ -71,7 +71,7 @@ filter-In test s (t ∷ ts) i = at (test t) refl i (λ j. filter-In test s ts j)
     at true e (inr j) rest = rest j
     at false e j rest = rest j
 
-order_of-opposite : (o : Orders) (f : Denoted) → order_of o (opposite f) ≡ order_of o f
+pub order_of-opposite : (o : Orders) (f : Denoted) → order_of o (opposite f) ≡ order_of o f
 order_of-opposite o (BddFunction f) = refl
 order_of-opposite o (AddFunction f) = refl
 order_of-opposite o (ZddFamily f) = refl
@@ -107,7 +107,7 @@ module _ (w : Content) (sound : IsSound w) (settled : w.half ≡ None) where
   projected v Add high low h l = cc
   projected v Zdd high low h l = cc
 
-  projection_denotes : (s v : ℕ) → w.word s ≡ Some (Inner (projection_node v)) → w.function s ≡ Some (BddFunction (projection v))
+  pub projection_denotes : (s v : ℕ) → w.word s ≡ Some (Inner (projection_node v)) → w.function s ≡ Some (BddFunction (projection v))
   projection_denotes s v word =
       let d = sound.denotes s (Inner (projection_node v), word) in
       let n = sound.nodes s (projection_node v) d.0 word d.1 in

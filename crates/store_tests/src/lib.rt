@@ -7,11 +7,17 @@ mod bounds;
 #[cfg(test)]
 mod layout;
 #[cfg(test)]
+mod pairs;
+#[cfg(test)]
 mod rows;
+#[cfg(test)]
+mod sifts;
 #[cfg(test)]
 mod slot_sets;
 #[cfg(test)]
 mod stores;
+#[cfg(test)]
+mod swaps;
 #[cfg(test)]
 mod unique_tables;
 #[cfg(test)]

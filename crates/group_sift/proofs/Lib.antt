@@ -1,0 +1,17 @@
+pub mod Rooms
+pub mod Leading
+pub mod Splitting
+pub mod Naming
+pub mod Passing
+pub mod Loosing
+pub mod Settling
+pub mod Moving
+pub mod Scanning
+pub mod Turning
+pub mod Pinning
+pub mod Places
+pub mod Listing
+pub mod Sorting
+pub mod Blocking
+pub mod Nevers
+pub mod Finishing
