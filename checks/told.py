@@ -1,41 +1,50 @@
 #!/usr/bin/env python3
-"""In how many files one command is told: at most ten for one that works place by place.
+"""In how many files each command is told that works place by place: at most twelve beside its operator's.
 
-Counted are the sources, specs and proofs below crates/ that name it in a line which is no comment and no import. The crates of tests
-and of rows are left out.
+Counted are the sources, specs and proofs below crates/ that name what makes it, or a call by its name, in a line which is no comment and no
+import. Left out are the crates of tests and of rows, those of the operators and of their numbers, rows that are computed, and what the
+calls are for networks, which are no commands.
 """
 
 import pathlib
 import re
 import sys
 
-MOST = 10
-WORD = re.compile(r"(?<![A-Za-z_])(threshold|Threshold|THRESHOLD)(?![A-Za-z_])")
+MOST = 12
+COMMANDS = {"Or": "or", "Xor": "xor", "Min": "min", "Max": "max", "Threshold": "threshold", "Plus": "plus", "Minus": "minus", "Times": "times", "Union": "union", "Meet": "meet", "Diff": "diff"}
 TESTS = {"hit_tests", "store_tests", "seat_tests", "session_tests", "truth_lists", "row_tests", "run_tests", "reader_rows"}
+OPERATORS = {"node_store", "ite_core", "add_ops", "zdd_ops", "quantify_ops"}
+OTHERS = re.compile(r"proofs/Rows|net_jobs/.*([Hh]osting|HostLaws)")
 IMPORT = re.compile(r"(pub )?(ghost )?use ")
 
 
-def tells(path):
-    """Whether a line of the file names the command."""
+def lines_of(path):
+    """The lines that are no comment and no import."""
     within = False
     for line in path.read_text().splitlines():
         text = line.strip()
         begins = IMPORT.match(text)
         if begins or within:
             within = path.suffix == ".rt" and not text.endswith(";")
-        elif not text.startswith(("//", "--")) and WORD.search(text):
-            return True
-    return False
+        elif not text.startswith(("//", "--")):
+            yield text
 
 
 def main():
     crates = pathlib.Path(__file__).resolve().parent.parent / "crates"
-    files = [path for kind in ("src", "specs", "proofs") for path in crates.glob(f"*/{kind}/**/*") if path.suffix in (".rt", ".antt")]
-    telling = sorted(path.relative_to(crates) for path in files if path.parts[len(crates.parts)] not in TESTS and tells(path))
-    print(f"one command is told in {len(telling)} files")
-    if len(telling) > MOST:
-        print("\n".join(map(str, telling)))
-        sys.exit(1)
+    paths = [path for kind in ("src", "specs", "proofs") for path in crates.glob(f"*/{kind}/**/*") if path.suffix in (".rt", ".antt")]
+    names = [path.relative_to(crates) for path in paths]
+    names = [name for name in names if name.parts[0] not in TESTS | OPERATORS and not OTHERS.search(str(name))]
+    texts = {name: "\n".join(lines_of(crates / name)) for name in names}
+    most = 0
+    for case, call in COMMANDS.items():
+        word = re.compile(rf"Making::{case}\b|\b(bdds|adds|exacts|zdds)\.{case}\b|^{case}\(R, R\)|\b(ite_core|add_ops|zdd_ops)::{call}\(|\bsession\.{call}\(|\bfn {call}<", re.M)
+        telling = sorted(path for path, text in texts.items() if word.search(text))
+        most = max(most, len(telling))
+        if len(telling) > MOST:
+            print(f"{call} is told in {len(telling)} files:", *map(str, telling), sep="\n")
+    print(f"a command is told in at most {most} files beside its operator's")
+    sys.exit(most > MOST)
 
 
 main()

@@ -1,5 +1,5 @@
 -- What a call is for its caller.
-use Rattle.std.proofs.Common.{◌≡◌, ◌⊎◌, inl, inr, ℕ, suc, ◌+◌, ◌≤◌, ◌^◌, Bool, true, false, cond, List, [], ◌∷◌, length, max, Contains, Option, Some, Result, Ok, Err, IfOk, MatchResult, OnOk, refl, ap, sym, subst, ◌∙◌, arith, true≢false}
+use Rattle.std.proofs.Common.{◌≡◌, ◌⊎◌, inl, inr, ℕ, suc, ◌+◌, ◌≤◌, ◌^◌, Bool, true, false, cond, List, [], ◌∷◌, length, max, Contains, Option, Some, Result, Ok, Err, MatchResult, OnOk, refl, ap, sym, subst, ◌∙◌, arith, true≢false}
 use Rattle.edge_bits.specs.declared.limits.TheConstants.{CELLS}
 use Rattle.atomic_table.specs.Seated.{TableId}
 use Rattle.std.specs.Result.{is_err}
@@ -15,14 +15,14 @@ use Rattle.function_laws.specs.declared.history.Reply.{Reply}
 use Rattle.function_laws.specs.declared.history.Reply.TheVariants as replies
 use Rattle.function_laws.specs.declared.history.Name.{Name}
 use Rattle.function_laws.specs.Kinds.{Denoted, ValueOf}
-use Rattle.function_laws.specs.Outcomes.{Outcome, makes}
+use Rattle.function_laws.specs.Outcomes.{Outcome}
 use Rattle.function_laws.specs.Steps.{outcome, TellsFull}
 use Rattle.function_laws.specs.Tables.{Table, same_name}
 use Rattle.handle_count.specs.RowMaps.{RowMap}
 use Rattle.node_store.specs.declared.grow.Stop.{Stop}
 use Rattle.node_store.specs.Listed.{listed, listed_at}
-use Rattle.node_store.specs.Views.{View, Denotes, Grown, Is}
-use Rattle.node_store.specs.ViewLaws.{Is-from, values_at-is}
+use Rattle.node_store.specs.Views.{View, Denotes, Grown}
+use Rattle.node_store.specs.ViewLaws.{values_at-is}
 use Rattle.seat_guard.specs.declared.seat.Guard.{Guard}
 use Rattle.seat_guard.specs.declared.seat.Pass.{Pass}
 use Rattle.seat_guard.specs.declared.seat.Rest.{Rest}
@@ -50,7 +50,13 @@ use Rattle.dd_session.specs.declared.book.Book.{Book}
 use Rattle.dd_session.specs.Sessions.{Called, Denies, IsAsBefore, Managed, Seen, fulls_in}
 use Rattle.node_slots.specs.Stores.{IsStore}
 use Rattle.dd_session.specs.Works.{HasRows, IsOfWork, StoresWork}
-use Rattle.dd_session.specs.Turns.{Gives, HasValue, IsCausedBy, IsRefused, IsSeatOf, IsSmall, MayBeFull, Notes, Stands, Tied, Told, Took, Tried, managed_by, names_by, seen_by, seen_of}
+use Rattle.dd_session.specs.MadeRows.{Refuses, TellsRow, adding_by}
+use Rattle.add_ops.specs.declared.arithmetic.Overflow.{Overflow}
+use Rattle.std.specs.Prelude.{IsErrOf, IsTrue}
+use Rattle.node_store.specs.declared.grow.Stop.TheVariants as stop
+use Rattle.dd_session.specs.Turns.{Gives, IsAdded, IsCausedBy, IsRefused, IsSeatOf, IsSmall, Notes, Stands, Tied, Told, Took, Tried, managed_by, names_by, seen_by, seen_of}
+use Rattle.node_slots.specs.Wholes.{content_view}
+use Rattle.dd_session.proofs.Sweepings.{swept_beside}
 use Rattle.dd_session.proofs.Tying.{tied_room, tied_same}
 
 -- from what a taking of the turn tells
@@ -145,6 +151,8 @@ called old held new x table table' spare spare' call reply place same took told 
           number_is = refl;
           adds_are = adds_are y.change old.adds ∙ ap (λ n. old.adds + n) drew.counted;
           few = (let a = rows_few y.change old.rows in let b = drew.counted in omega (arith, a, b));
+          change = y.change;
+          rows_are = refl;
           noted_are = refl;
         }))
 
@@ -164,13 +172,32 @@ denied old held new x table table' spare spare' call full same took told =
     let slots : held.slots ≡ old.slots = ap (λ (d : Draws). d.slots) took.is in
     (called old held new x table table' spare spare' call (replies.Full full.in_use full.need) full.place same took told.0, told.1 ∙ slots, subst (λ (n : ℕ). TellsFull n call full.in_use full.need) slots told.2)
 
--- what an operation is for its caller, by what it replies where it was not refused
-pub called_with : {X : Type 0} (reply : X → Reply) (old held new : Draws) (x : Shared) (table table' : TableId) (spare spare' : ℕ) (call : Call) → table' ≡ table → Took old held x → (r : Result (Placed X) Refusal)
-    → MatchResult r (λ placed. Unit {0}) (λ refusal. spare ≤ spare') → MatchResult r (λ placed. Told held new call (reply placed.value) placed.place) (IsRefused held new call)
-    → MatchResult r (λ placed. Called (seen_by table old spare) (seen_by table' new spare') call (reply placed.value) placed.place) (Denies (seen_by table old spare) (seen_by table' new spare') call)
-called_with reply old held new x table table' spare spare' call same took (Ok placed) more told = called old held new x table table' spare spare' call (reply placed.value) placed.place same took told
-called_with reply old held new x table table' spare spare' call same took (Err refusals.Memory) more told = as_before old held new x table table' spare spare' told.0 same more took told.1
-called_with reply old held new x table table' spare spare' call same took (Err (refusals.Full full)) more told = denied old held new x table table' spare spare' call full same took told
+-- what makes a row for its caller
+module _ (old held new : Draws) (x : Shared) (table table' : TableId) (spare spare' : ℕ) (call : Call) (same : table' ≡ table) (took : Took old held x) where
+  told_row : (chose : Bool) (place : ℕ) (r : Result Name Overflow) → MatchResult r (λ name. IsAdded held new call (adding_by chose) name place) (λ over. Told held new call replies.Overflow place) → TellsRow chose (seen_by table old spare) (seen_by table' new spare') call r place
+  told_row false place (Ok name) told = called old held new x table table' spare spare' call (replies.Made name) place same took told
+  told_row false place (Err over) told = called old held new x table table' spare spare' call replies.Overflow place same took told
+  told_row true place (Ok name) told = (told.0, called old held new x table table' spare spare' call (replies.Chose name told.0) place same took told.1)
+  told_row true place (Err over) told = called old held new x table table' spare spare' call replies.Overflow place same took told
+
+  -- what needs no node is never refused for a full table
+  refused : {X : Type 0} (made : Result X Stop) (nodes : Bool) → (IsTrue (is_err made) → IsTrue nodes) → spare ≤ spare' → (refusal : Refusal) → IsCausedBy {X = X} {Y = X} made (Err refusal) → IsRefused held new call refusal
+      → Refuses nodes (seen_by table old spare) (seen_by table' new spare') call refusal
+  refused made true sure more refusals.Memory cause told = as_before old held new x table table' spare spare' told.0 same more took told.1
+  refused made true sure more (refusals.Full full) cause told = denied old held new x table table' spare spare' call full same took told
+  refused made false sure more refusals.Memory cause told = (refl, as_before old held new x table table' spare spare' told.0 same more took told.1)
+  refused made false sure more (refusals.Full full) cause told = absurd (true≢false (sym (sure (ap is_err cause))))
+
+  pub told_made : {X : Type 0} (made : Result X Stop) (nodes : Bool) → (IsTrue (is_err made) → IsTrue nodes) → (chose : Bool) (r : Result (Placed (Result Name Overflow)) Refusal) → MatchResult r (λ placed. Unit {0}) (λ refusal. spare ≤ spare') → IsCausedBy made r
+      → MatchResult r (λ placed. MatchResult placed.value (λ name. IsAdded held new call (adding_by chose) name placed.place) (λ over. Told held new call replies.Overflow placed.place)) (IsRefused held new call)
+      → MatchResult r (λ placed. TellsRow chose (seen_by table old spare) (seen_by table' new spare') call placed.value placed.place) (Refuses nodes (seen_by table old spare) (seen_by table' new spare') call)
+  told_made made nodes sure chose (Ok placed) more cause told = told_row chose placed.place placed.value told
+  told_made made nodes sure chose (Err refusals.Memory) more cause told = refused made nodes sure more refusals.Memory cause told
+  told_made made nodes sure chose (Err (refusals.Full full)) more cause told = refused made nodes sure more (refusals.Full full) cause told
+
+-- a full table where nodes may be needed
+pub full_needs : {X : Type 0} {nodes : Bool} (made : Result X Stop) → IsErrOf made stop.Full → (IsTrue (is_err made) → IsTrue nodes) → IsTrue nodes
+full_needs made is sure = sure (ap is_err is)
 
 -- an operation that was tried and settled
 module _ {X : Type 0} (old held new : Draws) (x y : Shared) (table table' : TableId) (spare spare' : ℕ) (made : Result X Stop) (took : Took old held x) where
@@ -189,9 +216,25 @@ module _ {X : Type 0} (old held new : Draws) (x y : Shared) (table table' : Tabl
     pub stores_work : {Y : Type 0} (r : Result Y Refusal) → IsCausedBy made r → StoresWork Work (seen_by table old spare) (seen_by table' new spare') r
     stores_work (Ok placed) cause = stored_work
     stores_work (Err refusals.Memory) cause = λ f c. inr (stored_work f c)
-    stores_work (Err (refusals.Full full)) cause = let due = tried.ran.due_is cause in (
+    stores_work (Err (refusals.Full full)) cause = let due = tried.ran.due_is cause in let sweep = tried.swept cause in (
       stored_work,
-      (due.0, notes.2 ∙ notes.3.due_is ∙ due.1, of_work tried.from due.0 tried.lasts tried.orders_are due.2),
+      record {
+        function = due.0;
+        is = notes.2 ∙ notes.3.due_is ∙ due.1;
+        swept = sweep.3;
+        sweep = record {
+          before = content_view sweep.0.store;
+          after = content_view tried.from.store;
+          seen = view_of sweep.0;
+          has = has_rows table old spare sweep.0 (stands_of old held x sweep.0 took sweep.1 sweep.2);
+          same = refl;
+          is_swept = swept_beside _ _ _ sweep.4;
+        };
+        view = view_of tried.from;
+        has = has_rows table old spare tried.from (stands_of old held x tried.from took tried.lasts tried.orders_are);
+        same = refl;
+        work = due.2;
+      },
     )
 
 -- the last try's store serves, and so does the one that it left
@@ -212,19 +255,6 @@ listed-made k w w' e f grown is = sym (listed-on k w w' f grown) ∙ ap (listed 
     listed-on kinds.Add w w' f grown = ap (λ n. Add (list_of (2 ^ n) f)) grown.vars
     listed-on kinds.Zdd w w' f grown = ap (λ n. Zdd (list_of (2 ^ n) f)) grown.elements
 
-pub answers_make : (k : Kind) (d e : Draws) (x y : Shared) (call : Call) (Answers : View → View → Edge → Type 0) (Work : View → Denoted → Type 0) (made : Result Edge Stop) (took : Took d e x) → d.holds ≡ false → (tried : Tried Answers Work x y made)
-    → HasValue k (Answers (view_of tried.from)) d (view_of tried.from) call
-    → (r : Result Edge Stop) → IfOk r (Answers (view_of tried.from) (view_of y)) → IfOk r (λ edge. Is k (view_of y) edge × Gives e call (makes (listed_at k (view_of y) edge)))
-answers_make k d e x y call Answers Work made took idle tried value (Err s) is = tt
-answers_make k d e x y call Answers Work made took idle tried value (Ok edge) is =
-    let denotes = value.denotes (view_of y) edge is in (
-      Is-from k denotes,
-      gives_held d e x call (makes (listed_at k (view_of y) edge)) took idle (subst (λ (f : Function). Gives d call (makes f)) (listed-made k (view_of tried.from) (view_of y) edge value.value tried.ran.grown denotes) value.gives),
-    )
-
-pub may_full : (k : Kind) (d e : Draws) (x : Shared) (v : View) (call : Call) (Answers : View → Edge → Type 0) → Took d e x → d.holds ≡ false → HasValue k Answers d v call → MayBeFull e call
-may_full k d e x v call Answers took idle value t agrees = (makes (listed k v value.value), gives_held d e x call (makes (listed k v value.value)) took idle value.gives t agrees, refl)
-
 -- rows of which the room changed, and a seat that has the turn
 pub keeps_taken : (d e : Draws) (x : Shared) (rows rows' : RowMap) (calls fulls : ℕ) → Took d e x → Tied d rows → calls ≡ length d.entries → fulls ≡ fulls_in d.entries → rows'.live ≡ rows.live → rows'.adds ≡ rows.adds
     → Tied e rows' × (calls ≡ length e.entries) × (fulls ≡ fulls_in e.entries)
@@ -235,14 +265,20 @@ keeps_taken d e x rows rows' calls fulls took tied many full live adds =
       full ∙ sym (ap (λ (z : Draws). fulls_in z.entries) took.is),
     )
 
-pub counted_ok : (x y : Shared) (Answers : View → View → Edge → Type 0) (Work : View → Denoted → Type 0) (made : Result Edge Stop) (n : ℕ) → Tried Answers Work x y made → ((k : ℕ) → count x k ≤ n) → (r : Result Edge Stop) → IfOk r (λ edge. count y edge.index ≤ n)
-counted_ok x y Answers Work made n tried few (Ok edge) = counted_few x y Answers Work made n tried few edge.index
-counted_ok x y Answers Work made n tried few (Err s) = tt
-
 -- there was room, or room was made
 pub room_made : {X : Type 0} (r : Result X Memory) (rows rows' : RowMap) (spare : ℕ) → OnOk r (rows' ≡ record rows { spare = spare }) → is_err r ≡ false → (rows'.live ≡ rows.live) × (rows'.adds ≡ rows.adds) × (rows'.spare ≡ spare)
 room_made (Ok u) rows rows' spare is ok = (ap (λ (z : RowMap). z.live) is, ap (λ (z : RowMap). z.adds) is, ap (λ (z : RowMap). z.spare) is)
 room_made (Err m) rows rows' spare is ok = absurd (true≢false ok)
+
+-- what a call that makes a row leaves of the room
+pub spare_made : (r : Result (Placed (Result Name Overflow)) Refusal) (old reserved new : ℕ) → reserved ≡ max old 1 → MatchResult r (λ placed. MatchResult placed.value (λ name. new + 1 ≡ reserved) (λ over. new ≡ reserved)) (λ refusal. new ≡ reserved)
+    → MatchResult r (λ placed. MatchResult placed.value (λ name. new + 1 ≡ max old 1) (λ over. new ≡ max old 1)) (λ refusal. old ≤ new)
+spare_made (Ok placed) old reserved new is spare = by placed.value spare
+  where
+    by : (v : Result Name Overflow) → MatchResult v (λ name. new + 1 ≡ reserved) (λ over. new ≡ reserved) → MatchResult v (λ name. new + 1 ≡ max old 1) (λ over. new ≡ max old 1)
+    by (Ok name) spare = spare ∙ is
+    by (Err over) spare = spare ∙ is
+spare_made (Err refusal) old reserved new is spare = omega (arith, is, spare)
 
 -- a refusal leaves as much room as there was
 pub spare_kept : {X : Type 0} (P : X → Type 0) (r : Result X Refusal) (old reserved new : ℕ) → reserved ≡ max old 1 → MatchResult r P (λ refusal. new ≡ reserved) → MatchResult r (λ placed. Unit {0}) (λ refusal. old ≤ new)

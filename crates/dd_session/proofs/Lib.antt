@@ -7,14 +7,13 @@ pub mod Tries
 pub mod Calls
 pub mod Outcomes
 pub mod OperationLaws
-pub mod ExactLaws
 pub mod NumberLaws
 pub mod FamilyLaws
 pub mod Letting
 pub mod Ending
 pub mod Turning
 pub mod SessionLaws
-pub mod RestrictLaws
 pub mod WalkingLemmas
 pub mod ListingLaws
 mod Sweepings
+pub mod Makings

@@ -1,5 +1,5 @@
 -- The tries of an operation.
-use Rattle.std.proofs.Common.{◌≡◌, ◌⊎◌, inl, inr, ℕ, ◌<◌, ℤ, Bool, Contains, Result, Ok, Err, IfOk, refl, ap, ap₂, sym, subst, ◌∙◌}
+use Rattle.std.proofs.Common.{◌≡◌, ◌⊎◌, inl, inr, ℕ, ◌<◌, ℤ, Bool, Contains, List, Result, Ok, Err, IfOk, refl, ap, ap₂, sym, subst, ◌∙◌}
 use Rattle.std.specs.Prelude.{IsErrOf}
 use Rattle.add_ops.specs.declared.arithmetic.Overflow.{Overflow}
 use Rattle.add_ops.specs.Exact.{exact_halts}
@@ -9,6 +9,7 @@ use Rattle.edge_bits.specs.declared.edges.Kind.{Kind}
 use Rattle.edge_bits.specs.declared.edges.Kind.TheVariants as kinds
 use Rattle.function_laws.specs.declared.history.Function.{Function}
 use Rattle.function_laws.specs.Kinds.{Denoted}
+use Rattle.function_laws.specs.declared.making.Making.{Making}
 use Rattle.node_store.specs.declared.grow.Stop.{Stop}
 use Rattle.node_store.specs.declared.grow.Stop.TheVariants as stop
 use Rattle.node_store.specs.declared.operator.Halt.TheVariants as halt
@@ -19,6 +20,11 @@ use Rattle.node_store.specs.Work.{Adds, IsWork}
 use Rattle.node_store.specs.WorkLaws.{IsPart-back}
 use Rattle.node_store.proofs.Running.{told, told_full}
 use Rattle.node_slots.specs.Stores.{IsStore}
+use Rattle.dead_sweep.specs.declared.sweeping.Swept.{Swept}
+use Rattle.dead_sweep.specs.Swept.{IsSwept}
+use Rattle.node_slots.specs.Held.{Alone}
+use Rattle.node_slots.specs.Wholes.{content_view}
+use Rattle.operator_calls.specs.Making.{answer, exceeds, told_by, work}
 use Rattle.shared_store.specs.declared.shared.Shared.{Shared}
 use Rattle.shared_store.specs.Lasting.{Lasts}
 use Rattle.shared_store.specs.Sharing.{functions, orders, view_of, whole_in}
@@ -72,8 +78,9 @@ module _ {X : Type 0} (Answers : View → View → X → Type 0) (Work : View �
   Part x f = (v : Shared) × Lasts x v × (orders v ≡ orders x) × IsListedWork (view_of v) (Work (view_of v)) f
 
   -- the first try is the last
-  pub tried_once : (x y : Shared) (made : Result X Stop) → Ran Answers Work x y made → Tried Answers Work x y made
-  tried_once x y made ran = record {
+  pub tried_once : (x y : Shared) (made : Result X Stop) → (IsErrOf made stop.Full → ⊥) → Ran Answers Work x y made → Tried Answers Work x y made
+  tried_once x y made free ran = record {
+    swept = λ full. absurd (free full);
     from = x;
     lasts = lasts-refl x;
     orders_are = refl;
@@ -82,8 +89,9 @@ module _ {X : Type 0} (Answers : View → View → X → Type 0) (Work : View �
   }
 
   -- after what stores nothing
-  pub tried_after : (x y z : Shared) (made : Result X Stop) → Lasts x y → orders y ≡ orders x → StoresOnly (λ _. ⊥) x y → Ran Answers Work y z made → Tried Answers Work x z made
-  tried_after x y z made lasts same none ran = record {
+  pub tried_after : (x y z : Shared) (made : Result X Stop) (swept : Swept) → IsSwept Alone (content_view x.store) (content_view y.store) swept → Lasts x y → orders y ≡ orders x → StoresOnly (λ _. ⊥) x y → Ran Answers Work y z made → Tried Answers Work x z made
+  tried_after x y z made swept is lasts same none ran = record {
+    swept = λ full. (x, lasts-refl x, refl, swept, is);
     from = y;
     lasts = lasts;
     orders_are = same;
@@ -94,6 +102,7 @@ module _ {X : Type 0} (Answers : View → View → X → Type 0) (Work : View �
   -- after another try
   pub tried_then : (x y z : Shared) (first made : Result X Stop) → Ran Answers Work x y first → Tried Answers Work y z made → Tried Answers Work x z made
   tried_then x y z first made ran tried = let lasts = lasts-grown x y ran.grown ran.cells in record {
+    swept = λ full. let s = tried.swept full in (s.0, lasts-then x y s.0 lasts s.1, s.2 ∙ ran.orders_are, s.3, s.4);
     from = tried.from;
     lasts = lasts-then x y tried.from lasts tried.lasts;
     orders_are = tried.orders_are ∙ ran.orders_are;
@@ -120,6 +129,17 @@ ran_exact value Work x y made of of' cells calls =
     by (Ok (Ok e)) denotes over = denotes
     by (Ok (Err o)) denotes over = over refl
     by (Err s) denotes over = tt
+
+-- a making of edges
+pub ran_told : (making : Making Edge (List ℕ) (List (ℕ × Edge))) (k : Kind) (x y : Shared) (made : Result (Result Edge Overflow) Stop) → IsStore x.store → IsStore y.store → y.cells.items ≡ x.cells.items
+    → CallsTo k (answer making (view_of x) (view_of y)) (exceeds making (view_of x)) (work making (view_of x)) (view_of x) (view_of y) (exact_halts made) → Ran (told_by making) (work making) x y made
+ran_told making k x y made of of' cells calls =
+    ran_of (told_by making) (work making) x y made of of' cells calls.grown calls.work (by made calls.answer calls.overflow) (λ is. calls.due (exactly_full made is))
+  where
+    by : (r : Result (Result Edge Overflow) Stop) → IfOk (exact_halts r) (answer making (view_of x) (view_of y)) → (IsErrOf (exact_halts r) halt.Overflow → exceeds making (view_of x)) → IfOk r (told_by making (view_of x) (view_of y))
+    by (Ok (Ok e)) answers over = answers
+    by (Ok (Err o)) answers over = over refl
+    by (Err s) answers over = tt
 
 -- what never says that a value is out of range
 pub never_over : (Answer : Edge → Type 0) (Over : Type 0) (Work : Denoted → Type 0) (Short Room : Type 0) (v w : View) (r : Result Edge Stop) → Serves Answer Over Work Short Room v w (halts r) → Serves Answer ⊥ Work Short Room v w (halts r)

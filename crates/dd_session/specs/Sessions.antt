@@ -16,10 +16,11 @@ use Rattle.function_laws.specs.declared.history.Entry.{Entry}
 use Rattle.function_laws.specs.SessionEntries.{entry}
 use Rattle.function_laws.specs.Tables.{Table, same_name}
 use Rattle.function_laws.specs.Steps.{IsAllowed, TellsFull, after}
+use Rattle.seat_guard.specs.declared.view.Change.{Change}
 use Rattle.seat_guard.specs.declared.view.Held.{Held}
 use Rattle.seat_guard.specs.declared.view.Noted.{Noted}
 use Rattle.seat_guard.specs.declared.view.Row.{Row}
-use Rattle.seat_guard.specs.Views.{sizes_for, stands_for}
+use Rattle.seat_guard.specs.Views.{rows_after, sizes_for, stands_for}
 pub use Rattle.shared_store.specs.Sharing.{kind_of}
 use Rattle.dd_session.specs.declared.answers.Placed.{Placed}
 use Rattle.dd_session.specs.declared.answers.Refusal.{Refusal}
@@ -77,6 +78,9 @@ pub record Called (old new : Seen) (call : Call) (reply : Reply) (place : ℕ) :
   -- it gave the names that the reply has, and has at most so many rows more
   pub adds_are : new.adds ≡ old.adds + names_in reply
   pub few : length new.rows ≤ length old.rows + names_in reply
+  -- but for a row that it gave or took, each row stays as it is, its edge included
+  pub change : Change
+  pub rows_are : new.rows ≡ rows_after change old.rows
   pub noted_are : new.noted ≡ old.noted
 
 -- want of memory leaves all as it was; what is stored may be more, and so may the room for rows

@@ -40,6 +40,10 @@ use Rattle.seat_guard.specs.Turn.{one_if, row_count}
 use Rattle.seat_guard.specs.declared.view.Change.{Change}
 use Rattle.seat_guard.specs.declared.view.Change.TheVariants.{Adds}
 use Rattle.seat_guard.specs.Views.{Agrees, MayTell, holding, letting_go, stands_for, told_of}
+use Rattle.dead_sweep.specs.declared.sweeping.Swept.{Swept}
+use Rattle.dead_sweep.specs.Swept.{IsSwept}
+use Rattle.node_slots.specs.Held.{Alone}
+use Rattle.node_slots.specs.Wholes.{content_view}
 use Rattle.shared_store.specs.declared.shared.Cell.{Cell}
 use Rattle.shared_store.specs.declared.shared.Shared.{Shared}
 use Rattle.shared_store.specs.Lasting.{Lasts}
@@ -258,6 +262,10 @@ pub record Ran {X : Type 0} (Answers : View → View → X → Type 0) (Work : V
   pub stored : StoresOnly (IsListedWork (view_of x) (Work (view_of x))) x y
   pub due_is : IsErrOf made stop.Full → (f : Function) × (due y ≡ Some f) × IsListedWork (view_of x) (Work (view_of x)) f
 
+-- what a sweep left of a store in which all that lasts of the first one lasts
+abbrev pub IsSweptFrom : Shared → Shared → Type 0
+IsSweptFrom x y = (b : Shared) × Lasts x b × (orders b ≡ orders x) × (swept : Swept) × IsSwept Alone (content_view b.store) (content_view y.store) swept
+
 -- the last try of an operation, and what all tries stored
 pub record Tried {X : Type 0} (Answers : View → View → X → Type 0) (Work : View → Denoted → Type 0) (x y : Shared) (made : Result X Stop) : Type 0 where
   pub from : Shared
@@ -265,6 +273,8 @@ pub record Tried {X : Type 0} (Answers : View → View → X → Type 0) (Work :
   pub orders_are : orders from ≡ orders x
   pub ran : Ran Answers Work from y made
   pub stored : StoresOnly (λ (f : Function). (v : Shared) × Lasts x v × (orders v ≡ orders x) × IsListedWork (view_of v) (Work (view_of v)) f) x y
+  -- where no slot was free, it began with what a sweep left
+  pub swept : IsErrOf made stop.Full → IsSweptFrom x from
 
 -- the board
 

@@ -1,5 +1,5 @@
 -- What a call stored, as a part of its operation's work.
-use Rattle.std.specs.Prelude.{◌≡◌, ◌⊎◌, Contains, Some, Result, Ok, Err}
+use Rattle.std.specs.Prelude.{◌≡◌, ◌⊎◌, Contains, Option, Some, Result, Ok, Err}
 use Rattle.function_laws.specs.declared.history.Function.{Function}
 use Rattle.function_laws.specs.Kinds.{Denoted}
 use Rattle.function_laws.specs.SessionEntries.{Each}
@@ -25,19 +25,6 @@ pub record HasRows (w : View) (s : Seen) : Type 0 where
 abbrev pub IsOfWork : Seen → (View → Denoted → Type 0) → Function → Type 0
 IsOfWork s Work f = (w : View) × HasRows w s × IsListedWork w (Work w) f
 
--- Each function that the call's turn stored is a part of this work, and so is what was due where it was refused. At want of memory there may have been no turn.
-abbrev pub StoresWork : {X : Type 0} → (View → Denoted → Type 0) → Seen → Seen → Result X Refusal → Type 0
-StoresWork Work old new (Ok placed) = (f : Function) → Contains new.stored f → IsOfWork old Work f
-StoresWork Work old new (Err refusals.Memory) = (f : Function) → Contains new.stored f → Contains old.stored f ⊎ IsOfWork old Work f
-StoresWork Work old new (Err (refusals.Full full)) = ((f : Function) → Contains new.stored f → IsOfWork old Work f) × ((f : Function) × (new.due ≡ Some f) × IsOfWork old Work f)
-
--- a call that makes nothing stores nothing
-abbrev pub no_work : View → Denoted → Type 0
-no_work w f = ⊥
-
-abbrev pub StoresNothing : Seen → Type 0
-StoresNothing s = (f : Function) → Contains s.stored f → ⊥
-
 -- What a sweep told: out of a store with the session's rows it freed what nothing reaches, and these are its numbers. Others may have changed counts meanwhile.
 pub record IsSweepOf (s : Seen) (swept : Swept) : Type 0 where
   pub before : Content
@@ -47,3 +34,27 @@ pub record IsSweepOf (s : Seen) (swept : Swept) : Type 0 where
   pub has : HasRows seen s
   pub same : seen.content ≡ before.function
   pub is_swept : IsSwept ZeroStays before after swept
+
+-- A function was due that is a part of this work in a store with the session's rows, whose slots denote what a sweep of this call left.
+pub record IsDueAfterSweep (s : Seen) (Work : View → Denoted → Type 0) (due : Option Function) : Type 0 where
+  pub function : Function
+  pub is : due ≡ Some function
+  pub swept : Swept
+  pub sweep : IsSweepOf s swept
+  pub view : View
+  pub has : HasRows view s
+  pub same : view.content ≡ sweep.after.function
+  pub work : IsListedWork view (Work view) function
+
+-- Each function that the call's turn stored is a part of this work. Where it was refused, a sweep came before the last try, and a part of the work was due after it. At want of memory there may have been no turn.
+abbrev pub StoresWork : {X : Type 0} → (View → Denoted → Type 0) → Seen → Seen → Result X Refusal → Type 0
+StoresWork Work old new (Ok placed) = (f : Function) → Contains new.stored f → IsOfWork old Work f
+StoresWork Work old new (Err refusals.Memory) = (f : Function) → Contains new.stored f → Contains old.stored f ⊎ IsOfWork old Work f
+StoresWork Work old new (Err (refusals.Full full)) = ((f : Function) → Contains new.stored f → IsOfWork old Work f) × IsDueAfterSweep old Work new.due
+
+-- a call that makes nothing stores nothing
+abbrev pub no_work : View → Denoted → Type 0
+no_work w f = ⊥
+
+abbrev pub StoresNothing : Seen → Type 0
+StoresNothing s = (f : Function) → Contains s.stored f → ⊥

@@ -2,10 +2,10 @@
 
 ghost use Rattle.std.specs.Prelude.{◌≡◌, length, ◌<◌, ◌↔◌, true, IfOk};
 ghost use Rattle.edge_bits.specs.declared.edges.Kind.TheVariants as kinds;
-ghost use Rattle.function_laws.specs.Values.{assignment_of, projection};
+ghost use Rattle.function_laws.specs.Values.{assignment_of};
 ghost use Rattle.node_store.specs.Listed.{number_of};
 ghost use Rattle.node_store.specs.Memo.{Implies};
-ghost use Rattle.node_store.specs.Views.{AreTwo, Denotes, Is, IsVariable, Kept, bdd_at, levels, values_at};
+ghost use Rattle.node_store.specs.Views.{AreTwo, Is, Kept, bdd_at, levels, values_at};
 ghost use Rattle.shared_store.specs.Sharing.{view_of};
 ghost use Rattle.dd_session.specs.Turns.{IsAsked};
 
@@ -13,18 +13,6 @@ use crate::walking::value_at;
 use edge_bits::{Edge, Kind, Memory};
 use node_slots::Grow;
 use shared_store::Shared;
-
-/// The edge of a variable's projection.
-pub fn projection_in(shared: &mut Shared, v: u32) -> Edge
-    requires { IsVariable kinds.Bdd (view_of shared.old) v }
-    ensures denotes { Denotes kinds.Bdd (view_of shared.new) result (projection v) }
-    ensures asked { IsAsked shared.old shared.new }
-{
-    shared.store.tell_sound();
-    let edge = shared.store.projection(v);
-    shared.store.tell_sound();
-    edge
-}
 
 /// Whether a function is true wherever another is, told by a store that may keep answers.
 pub fn implies(shared: &mut Shared, f: Edge, g: Edge) -> Result<bool, Memory>

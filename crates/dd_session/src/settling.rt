@@ -1,6 +1,6 @@
 //! What a call leaves that adds a row, or that was refused.
 
-ghost use Rattle.std.specs.Prelude.{◌≡◌, ◌+◌, ◌<◌, ◌≤◌, ◌^◌, [], IfOk, IsErrOf, IsTrue, MatchResult, Some};
+ghost use Rattle.std.specs.Prelude.{◌≡◌, ◌+◌, ◌<◌, ◌≤◌, ◌^◌, ℕ, [], Err, IfOk, IsErrOf, IsTrue, MatchResult, Ok, Some};
 ghost use Rattle.edge_bits.specs.declared.limits.TheConstants.{MOST_COUNT};
 ghost use Rattle.function_laws.specs.declared.history.Function.{Function};
 ghost use Rattle.function_laws.specs.declared.history.Reply.TheVariants as replies;
@@ -19,6 +19,7 @@ use crate::request::{Adding, Answer, Request};
 use edge_bits::{Edge, Kind};
 use function_laws::Name;
 use node_slots::Stop;
+use operator_calls::Overflow;
 use seat_guard::seat::{Guard, Pass};
 use shared_store::{Cell, Shared, put_back};
 
@@ -108,7 +109,7 @@ pub fn exceed(
     finish(guard, pass, book, shared, request, Answer::Overflow)
 }
 
-/// What an operation that made an edge, or was refused, leaves.
+/// What an operation leaves that made an edge, found a value out of range, or was refused.
 pub fn settle(
     guard: &Guard<Shared>,
     pass: &mut Pass<Shared>,
@@ -117,27 +118,39 @@ pub fn settle(
     request: Request<'_>,
     adding: Adding,
     kind: Kind,
-    made: Result<Edge, Stop>,
-) -> Result<Placed<Name>, Refusal>
+    made: Result<Result<Edge, Overflow>, Stop>,
+) -> Result<Placed<Result<Name, Overflow>>, Refusal>
     requires hold { IsHolding guard.now pass.old }
     requires serves { Serving shared (known pass.old) }
     requires keeps { Keeps (known pass.old) book.old }
     requires place { HasPlace (known pass.old) }
     requires spare { 1 ≤ book.old.rows.spare }
-    requires few { IfOk made (λ edge. count shared edge.index ≤ MOST_COUNT) }
-    requires ok { IfOk made (λ edge. Is kind (view_of shared) edge × AddsRow (known pass.old) (view_of shared) (call_of request) adding (record { kind = kind; edge = edge })) }
+    requires few { (k : ℕ) → count shared k ≤ MOST_COUNT }
+    requires ok { IfOk made (λ told. MatchResult told (λ edge. Is kind (view_of shared) edge × AddsRow (known pass.old) (view_of shared) (call_of request) adding (record { kind = kind; edge = edge })) (λ _. Gives (known pass.old) (call_of request) overflows)) }
     requires full { IsErrOf made Stop.Full → IsTrue (may_be_full (call_of request)) × MayBeFull (known pass.old) (call_of request) × ((f : Function) × (due shared ≡ Some f)) }
     ensures own { IsPassOf guard.now pass.new × (in_hand pass.new ≡ []) }
     ensures keeps { Keeps (known pass.new) book.new }
-    ensures told { MatchResult result (λ placed. IsAdded (known pass.old) (known pass.new) (call_of request.entry) adding placed.value placed.place) (IsRefused (known pass.old) (known pass.new) (call_of request.entry)) }
+    ensures told { MatchResult result (λ placed. MatchResult placed.value (λ name. IsAdded (known pass.old) (known pass.new) (call_of request.entry) adding name placed.place) (λ over. Told (known pass.old) (known pass.new) (call_of request.entry) replies.Overflow placed.place)) (IsRefused (known pass.old) (known pass.new) (call_of request.entry)) }
+    ensures over { IfOk result (λ placed. MatchResult placed.value (λ name. Unit {0}) (λ over. made ≡ Ok (Err over))) }
     ensures notes { Notes (known pass.old) (known pass.new) shared }
-    ensures spare { MatchResult result (λ placed. book.new.rows.spare + 1 ≡ book.old.rows.spare) (λ refusal. book.new.rows.spare ≡ book.old.rows.spare) }
+    ensures spare { MatchResult result (λ placed. MatchResult placed.value (λ name. book.new.rows.spare + 1 ≡ book.old.rows.spare) (λ over. book.new.rows.spare ≡ book.old.rows.spare)) (λ refusal. book.new.rows.spare ≡ book.old.rows.spare) }
     ensures cause { IsCausedBy made result }
 {
     match made {
-        Ok(edge) => {
+        Ok(Ok(edge)) => {
             let cell = Cell { kind, edge };
-            Ok(add_row(guard, pass, book, shared, request, adding, cell))
+            let added = add_row(guard, pass, book, shared, request, adding, cell);
+            Ok(Placed {
+                place: added.place,
+                value: Ok(added.value),
+            })
+        }
+        Ok(Err(over)) => {
+            let place = exceed(guard, pass, book, shared, request);
+            Ok(Placed {
+                place,
+                value: Err(over),
+            })
         }
         Err(Stop::Full) => Err(Refusal::Full(be_full(guard, pass, book, shared, request))),
         Err(Stop::Memory) => {

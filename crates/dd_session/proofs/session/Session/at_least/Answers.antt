@@ -1,19 +1,24 @@
-use Rattle.std.proofs.Common.{int_le, subst, rules, ℤ, SFits, w64}
+use Rattle.std.proofs.Common.{rules, subst, ℤ, SFits, w64}
 use Rattle.std.proofs.lemmas.Int.{to_z-of_z}
-use mir.Val.{of_z, to_z}
-use Rattle.edge_bits.specs.declared.edges.Edge.{Edge}
-use Rattle.edge_bits.specs.declared.edges.Kind.TheVariants as kinds
-use Rattle.add_ops.specs.Conversions.{value_of_one}
-use Rattle.dd_session.specs.Works.{StoresWork}
-use Rattle.dd_session.proofs.NumberLaws.{told_at_least}
+use Rattle.function_laws.specs.declared.making.Making.TheVariants as makings
+use Rattle.function_laws.specs.declared.making.BddMaking.TheVariants as bdds
+use Rattle.dd_session.specs.MadeRows.{MakesRow}
 use Rattle.dd_session.proofs.session.Session.at_least.Goals as goal
 
-pub operate-requires-clause-told : goal.operate-requires-clause-told
-operate-requires-clause-told g c = λ d seat x of stands.
-    told_at_least d c.args.f c.edge.result (c.edge.ensures.edge kinds.Add c.requires.first d seat) x of stands (to_z w64 (of_z w64 c.args.value))
+pub make_row-requires-clause-may : goal.make_row-requires-clause-may
+make_row-requires-clause-may g c = record { own = c.requires.own; room = c.requires.room; can = (c.requires.first, (tt, tt)) }
+
+pub returns-clause-told : goal.returns-clause-told
+returns-clause-told g c =
+    let fit : SFits w64 c.args.value = search rules in
+    (subst (λ (z : ℤ). MakesRow c.args.self.now c.make_row.new.self (makings.Bdd (bdds.AtLeast c.args.f z)) c.make_row.result) (to_z-of_z w64 c.args.value fit) c.make_row.ensures).told
 
 pub returns-clause-stored : goal.returns-clause-stored
 returns-clause-stored g c =
     let fit : SFits w64 c.args.value = search rules in
-    subst (λ (y : Edge × ℤ). StoresWork (value_of_one kinds.Add kinds.Bdd (λ z. int_le y.1 z) y.0) c.args.self.now c.operate.new.self c.operate.result)
-    (λ i. (c.edge.ensures.own i, to_z-of_z w64 c.args.value fit i)) c.operate.ensures.stored
+    (subst (λ (z : ℤ). MakesRow c.args.self.now c.make_row.new.self (makings.Bdd (bdds.AtLeast c.args.f z)) c.make_row.result) (to_z-of_z w64 c.args.value fit) c.make_row.ensures).stored
+
+pub returns-clause-spare : goal.returns-clause-spare
+returns-clause-spare g c =
+    let fit : SFits w64 c.args.value = search rules in
+    (subst (λ (z : ℤ). MakesRow c.args.self.now c.make_row.new.self (makings.Bdd (bdds.AtLeast c.args.f z)) c.make_row.result) (to_z-of_z w64 c.args.value fit) c.make_row.ensures).spare

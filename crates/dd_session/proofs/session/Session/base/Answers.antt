@@ -1,6 +1,13 @@
-use Rattle.std.proofs.Common.{true}
-use Rattle.dd_session.proofs.FamilyLaws.{told_terminal}
 use Rattle.dd_session.proofs.session.Session.base.Goals as goal
 
-pub add_known-requires-clause-told : goal.add_known-requires-clause-told
-add_known-requires-clause-told g c = λ d seat x sound stands. told_terminal d true x sound stands c.base_family.result c.base_family.ensures
+pub make_row-requires-clause-may : goal.make_row-requires-clause-may
+make_row-requires-clause-may g c = record { own = c.requires.own; room = c.requires.room; can = tt }
+
+pub returns-clause-told : goal.returns-clause-told
+returns-clause-told g c = c.make_row.ensures.told
+
+pub returns-clause-stored : goal.returns-clause-stored
+returns-clause-stored g c = c.make_row.ensures.stored
+
+pub returns-clause-spare : goal.returns-clause-spare
+returns-clause-spare g c = c.make_row.ensures.spare

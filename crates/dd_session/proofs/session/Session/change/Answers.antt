@@ -1,11 +1,13 @@
-use Rattle.std.proofs.Common.{subst, ◌<◌}
-use Rattle.edge_bits.specs.declared.edges.Kind.TheVariants as kinds
-use Rattle.dd_session.proofs.FamilyLaws.{told_change}
-use Rattle.dd_session.specs.Sessions.{Seen}
 use Rattle.dd_session.proofs.session.Session.change.Goals as goal
 
-pub operate-requires-clause-told : goal.operate-requires-clause-told
-operate-requires-clause-told g c = λ d seat. told_change d c.args.p c.edge.result (c.edge.ensures.edge kinds.Zdd c.requires.first d seat) c.args.e (subst (λ (s : Seen). c.args.e < s.manager.elements) seat.is c.requires.element)
+pub make_row-requires-clause-may : goal.make_row-requires-clause-may
+make_row-requires-clause-may g c = record { own = c.requires.own; room = c.requires.room; can = (c.requires.first, (c.requires.element, tt)) }
+
+pub returns-clause-told : goal.returns-clause-told
+returns-clause-told g c = c.make_row.ensures.told
 
 pub returns-clause-stored : goal.returns-clause-stored
-returns-clause-stored g c = rw (← c.edge.ensures.own) c.operate.ensures.stored
+returns-clause-stored g c = c.make_row.ensures.stored
+
+pub returns-clause-spare : goal.returns-clause-spare
+returns-clause-spare g c = c.make_row.ensures.spare

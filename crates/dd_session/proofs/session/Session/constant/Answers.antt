@@ -1,17 +1,25 @@
 use Rattle.std.proofs.Common.{rules, subst, sym, ℤ, SFits, w64}
 use Rattle.std.proofs.lemmas.Int.{to_z-of_z}
-use mir.Val.{of_z, to_z}
 use Rattle.edge_bits.specs.Words.{IsLeafValue}
-use Rattle.add_ops.specs.Leaves.{value_of_constant}
-use Rattle.dd_session.specs.Works.{StoresWork}
-use Rattle.dd_session.proofs.NumberLaws.{told_constant}
+use Rattle.function_laws.specs.declared.making.Making.TheVariants as makings
+use Rattle.function_laws.specs.declared.making.AddMaking.TheVariants as adds
+use Rattle.dd_session.specs.MadeRows.{MakesRow}
 use Rattle.dd_session.proofs.session.Session.constant.Goals as goal
 
-pub operate-requires-clause-told : goal.operate-requires-clause-told
-operate-requires-clause-told g c = λ d seat. let fit : SFits w64 c.args.value = search rules in
-    told_constant d (to_z w64 (of_z w64 c.args.value)) (subst IsLeafValue (sym (to_z-of_z w64 c.args.value fit)) c.requires.value)
+pub make_row-requires-clause-may : goal.make_row-requires-clause-may
+make_row-requires-clause-may g c = let fit : SFits w64 c.args.value = search rules in record { own = c.requires.own; room = c.requires.room; can = (subst IsLeafValue (sym (to_z-of_z w64 c.args.value fit)) c.requires.value, tt) }
+
+pub returns-clause-told : goal.returns-clause-told
+returns-clause-told g c =
+    let fit : SFits w64 c.args.value = search rules in
+    (subst (λ (z : ℤ). MakesRow c.args.self.now c.make_row.new.self (makings.Add (adds.Constant z)) c.make_row.result) (to_z-of_z w64 c.args.value fit) c.make_row.ensures).told
 
 pub returns-clause-stored : goal.returns-clause-stored
 returns-clause-stored g c =
     let fit : SFits w64 c.args.value = search rules in
-    subst (λ (x : ℤ). StoresWork (λ w. value_of_constant x) c.args.self.now c.operate.new.self c.operate.result) (to_z-of_z w64 c.args.value fit) c.operate.ensures.stored
+    (subst (λ (z : ℤ). MakesRow c.args.self.now c.make_row.new.self (makings.Add (adds.Constant z)) c.make_row.result) (to_z-of_z w64 c.args.value fit) c.make_row.ensures).stored
+
+pub returns-clause-spare : goal.returns-clause-spare
+returns-clause-spare g c =
+    let fit : SFits w64 c.args.value = search rules in
+    (subst (λ (z : ℤ). MakesRow c.args.self.now c.make_row.new.self (makings.Add (adds.Constant z)) c.make_row.result) (to_z-of_z w64 c.args.value fit) c.make_row.ensures).spare

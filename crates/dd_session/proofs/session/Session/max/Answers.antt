@@ -1,10 +1,13 @@
-use Rattle.std.proofs.Common.{cond, int_le, refl}
-use Rattle.edge_bits.specs.declared.edges.Kind.TheVariants as kinds
-use Rattle.dd_session.proofs.NumberLaws.{told_placed}
 use Rattle.dd_session.proofs.session.Session.max.Goals as goal
 
-pub operate-requires-clause-told : goal.operate-requires-clause-told
-operate-requires-clause-told g c = λ d seat x of stands. told_placed d c.args.f c.args.g c.edge.result c.edge-2.result (c.edge.ensures.edge kinds.Add c.requires.first d seat) (c.edge-2.ensures.edge kinds.Add c.requires.second d seat) x of stands (λ y z. cond (int_le z y) y z) _ (λ t. refl)
+pub make_row-requires-clause-may : goal.make_row-requires-clause-may
+make_row-requires-clause-may g c = record { own = c.requires.own; room = c.requires.room; can = (c.requires.first, (c.requires.second, tt)) }
+
+pub returns-clause-told : goal.returns-clause-told
+returns-clause-told g c = c.make_row.ensures.told
 
 pub returns-clause-stored : goal.returns-clause-stored
-returns-clause-stored g c = rw (← c.edge.ensures.own, ← c.edge-2.ensures.own) c.operate.ensures.stored
+returns-clause-stored g c = c.make_row.ensures.stored
+
+pub returns-clause-spare : goal.returns-clause-spare
+returns-clause-spare g c = c.make_row.ensures.spare

@@ -1,6 +1,13 @@
-use Rattle.edge_bits.specs.declared.edges.Kind.TheVariants as kinds
-use Rattle.dd_session.proofs.Outcomes.{told_not}
 use Rattle.dd_session.proofs.session.Session.not.Goals as goal
 
-pub add_known-requires-clause-told : goal.add_known-requires-clause-told
-add_known-requires-clause-told g c = λ d seat x sound stands. told_not d c.args.f c.edge.result c.flip-edge.result c.flip-edge.ensures (c.edge.ensures.edge kinds.Bdd c.requires.first d seat) x stands
+pub make_row-requires-clause-may : goal.make_row-requires-clause-may
+make_row-requires-clause-may g c = record { own = c.requires.own; room = c.requires.room; can = (c.requires.first, tt) }
+
+pub returns-clause-told : goal.returns-clause-told
+returns-clause-told g c = c.make_row.ensures.told
+
+pub returns-clause-stored : goal.returns-clause-stored
+returns-clause-stored g c = c.make_row.ensures.stored
+
+pub returns-clause-spare : goal.returns-clause-spare
+returns-clause-spare g c = c.make_row.ensures.spare

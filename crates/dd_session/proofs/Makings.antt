@@ -1,0 +1,259 @@
+-- What comes of every making of rows: one lemma a kind of answer, and a line a making.
+use Rattle.std.proofs.Common.{◌≡◌, ℕ, ◌^◌, ◌<◌, Bool, true, false, cond, ℤ, pos, ◌+ℤ◌, ◌-ℤ◌, ◌*ℤ◌, int_le, length, List, Option, Some, None, Result, Ok, Err, IfOk, MatchResult, inl, arith, ap, refl, sym, subst, ◌∙◌}
+use Rattle.std.proofs.lemmas.Bool.{false≢true}
+use Rattle.std.specs.Prelude.{IsTrue, is_err}
+use Rattle.std.proofs.lemmas.List.Folds.{list_all_at}
+use Rattle.std.proofs.lemmas.List.Sums.{list_all-from_AllPass}
+use Rattle.add_ops.specs.declared.arithmetic.Overflow.{Overflow}
+use Rattle.edge_bits.specs.declared.edges.Edge.{Edge}
+use Rattle.edge_bits.specs.declared.edges.Kind.{Kind}
+use Rattle.edge_bits.specs.declared.edges.Kind.TheVariants as kinds
+use Rattle.function_laws.specs.declared.history.Name.{Name}
+use Rattle.function_laws.specs.declared.history.Call.{Call}
+use Rattle.function_laws.specs.declared.history.Call.TheVariants as calls
+use Rattle.function_laws.specs.declared.history.Function.{Function}
+use Rattle.function_laws.specs.declared.history.Function.TheVariants.{Add}
+use Rattle.function_laws.specs.declared.history.Reply.TheVariants as replies
+use Rattle.function_laws.specs.declared.making.Making.{Making}
+use Rattle.function_laws.specs.declared.making.Making.TheVariants as makings
+use Rattle.function_laws.specs.declared.making.BddMaking.TheVariants as bdds
+use Rattle.function_laws.specs.declared.making.AddMaking.TheVariants as adds
+use Rattle.function_laws.specs.declared.making.ExactMaking.TheVariants as exacts
+use Rattle.function_laws.specs.declared.making.ZddMaking.TheVariants as zdds
+use Rattle.function_laws.specs.Families.{base, empty}
+use Rattle.function_laws.specs.Kinds.{Denoted, Fits, ValueOf}
+use Rattle.function_laws.specs.Lists.{all_below, list_of, truth}
+use Rattle.function_laws.specs.Makings.{kind_made, needs_nodes as needs_nodes_in, taken}
+use Rattle.function_laws.specs.Numbers.{exactly, is_value}
+use Rattle.function_laws.specs.Outcomes.{Outcome, in_range, makes, overflows, restricts}
+use Rattle.function_laws.specs.Restricting.{Restricts}
+use Rattle.function_laws.specs.Steps.{IsNew, Replies, needs_no_node}
+use Rattle.function_laws.specs.Tables.{Table}
+use Rattle.function_laws.specs.Values.{IsOf, constant, negation, projection}
+use Rattle.function_laws.proofs.BoundedRestriction.{Restricts-list_of}
+use Rattle.function_laws.proofs.ListLemmas.{false-all_below, get_or-list_of, length-list_of, list_of-same, true-all_below}
+use Rattle.function_laws.proofs.WidthLemmas.{same-from_lists}
+use Rattle.node_store.specs.declared.grow.Stop.{Stop}
+use Rattle.node_store.specs.Listed.{listed, listed_at}
+use Rattle.node_store.specs.Two.{Overflows}
+use Rattle.node_store.specs.Views.{View, Denotes, Grown, Is, bdd_at}
+use Rattle.node_store.specs.ViewLaws.{Is-from}
+use Rattle.ite_core.proofs.OutcomeLaws.{outcome-not, outcome-one, outcome-zero, outcome-var}
+use Rattle.operator_calls.specs.Making.{answer, exceeds, may_exceed, takes, told_by}
+use Rattle.operator_calls.proofs.MakingLaws.{exceeds-may}
+use Rattle.operator_calls.specs.Taking.{CanTakeAll}
+use Rattle.quantify_ops.specs.Restricted.{Restricted}
+use Rattle.quantify_ops.proofs.OutcomeLaws.{outcome-restrict}
+use Rattle.zdd_ops.proofs.OutcomeLaws.{outcome-base, outcome-empty}
+use Rattle.seat_guard.specs.declared.view.Draws.{Draws}
+use Rattle.shared_store.specs.declared.shared.Shared.{Shared}
+use Rattle.shared_store.specs.Sharing.{view_of}
+use Rattle.dd_session.specs.declared.answers.Placed.{Placed}
+use Rattle.dd_session.specs.declared.answers.Refusal.{Refusal}
+use Rattle.dd_session.specs.declared.answers.Refusal.TheVariants as refusals
+use Rattle.dd_session.specs.declared.request.Adding.{Adding}
+use Rattle.dd_session.specs.declared.request.Adding.TheVariants.{Made, Chosen, Taken}
+use Rattle.dd_session.specs.MadeRows.{HasTaken, MakesOrExceeds, Refuses, adding_by, by_edges, chooses}
+use Rattle.dd_session.specs.Sessions.{IsNamed, Seen, edge_in}
+use Rattle.dd_session.specs.Turns.{AddsRow, Gives, HasExact, HasValue, IsEdgeOf, IsSeatOf, IsSmall, MayBeFull, Stands, Took, Tried}
+use Rattle.dd_session.proofs.Calls.{gives_held, listed-made}
+use Rattle.dd_session.proofs.FamilyLaws as families
+use Rattle.dd_session.proofs.Naming.{own_edge}
+use Rattle.dd_session.proofs.NumberLaws as numbers
+use Rattle.dd_session.proofs.OperationLaws as operations
+use Rattle.dd_session.proofs.Outcomes.{elements, has_value, live, vars}
+
+-- the session has what it takes
+abbrev pub Has : Draws → Making Name (List ℕ) (List (ℕ × Name)) → Type 0
+Has d making = CanTakeAll (λ k a. IsNamed k d.rows a) d.vars d.elements (taken making)
+
+-- the outcome is of this function: the one that is made, or one that may be chosen
+abbrev Allows : Adding → Outcome → Function → Type 0
+Allows Made o g = o ≡ makes g
+Allows Chosen o g = (t : Table) (s : ℕ) (name : Name) → IsNew t s name → Replies t s o (replies.Chose name g)
+Allows (Taken posted) o g = ⊥
+
+-- What comes of a call, and that an operation's answers are of it: an edge, or that a value is out of range.
+pub record HasOutcome (d : Draws) (v : View) (call : Call) (k : Kind) (adding : Adding) (Answer : View → Edge → Type 0) (Over : Type 0) : Type 0 where
+  pub outcome : Outcome
+  pub gives : Gives d call outcome
+  pub may : needs_no_node outcome ≡ false
+  pub ok : (w : View) → Grown v w → (e : Edge) → Answer w e → Is k w e × Allows adding outcome (listed_at k w e)
+  pub over : Over → outcome ≡ overflows
+
+-- a value that the call makes
+from_value : (k : Kind) (d : Draws) (v : View) (call : Call) (f : ℕ → ValueOf k) → HasValue k (λ u e. Denotes k u e f) d v call → HasOutcome d v call k Made (λ u e. Denotes k u e f) ⊥
+from_value k d v call f has = record {
+  outcome = makes (listed k v has.value);
+  gives = has.gives;
+  may = refl;
+  ok = λ w grown e denotes. let is = has.denotes w e denotes in (Is-from k is, ap makes (listed-made k v w e has.value grown is));
+  over = λ never. absurd never;
+}
+
+-- values in range, and one out of range
+needs_nodes : (o : Option (List ℤ)) → needs_no_node (in_range o) ≡ false
+needs_nodes None = refl
+needs_nodes (Some f) = refl
+
+all_in_range : (n : ℕ) (f : ℕ → ℤ) → Fits kinds.Add f → in_range (exactly (list_of (2 ^ n) f)) ≡ makes (Add (list_of (2 ^ n) f))
+all_in_range n f fits =
+    ap (λ b. in_range (cond b (Some (list_of (2 ^ n) f)) None)) (list_all-from_AllPass is_value (list_of (2 ^ n) f) (λ k d below.
+    ap is_value (get_or-list_of (2 ^ n) k f d (subst (λ m. k < m) (length-list_of (2 ^ n) f) below)) ∙ fits k))
+
+-- a value out of range at some assignment is one at an assignment of the first n variables
+out_of_range : (n : ℕ) (f : ℕ → ℤ) → IsOf n f → (x : ℕ) → is_value (f x) ≡ false → in_range (exactly (list_of (2 ^ n) f)) ≡ overflows
+out_of_range n f of_f x out = by_test (all_below (2 ^ n) (λ k. is_value (f k))) refl
+  where
+    by_test : (b : Bool) → all_below (2 ^ n) (λ k. is_value (f k)) ≡ b → in_range (exactly (list_of (2 ^ n) f)) ≡ overflows
+    by_test true all =
+        let same : list_of (2 ^ n) (λ k. is_value (f k)) ≡ list_of (2 ^ n) (constant true) =
+        list_of-same (2 ^ n) (λ k. is_value (f k)) (constant true) (λ k below. true-all_below (2 ^ n) k (λ k. is_value (f k)) all below) in
+        let everywhere : (λ k. is_value (f k)) ≡ constant true = same-from_lists n (λ k. is_value (f k)) (constant true) (λ v from k b. ap is_value (of_f v from k b)) (λ v from k b. refl) same in
+        absurd (false≢true (sym out ∙ ap (λ g. g x) everywhere))
+    by_test false fails =
+        let found = false-all_below (2 ^ n) (λ k. is_value (f k)) fails in
+        ap (λ b. in_range (cond b (Some (list_of (2 ^ n) f)) None))
+        (list_all_at is_value (list_of (2 ^ n) f) found.0 (pos 0) (subst (λ m. found.0 < m) (sym (length-list_of (2 ^ n) f)) found.1.0)
+        (ap is_value (get_or-list_of (2 ^ n) found.0 f (pos 0) found.1.0) ∙ found.1.1))
+
+-- a value that the call makes where it is in range
+from_exact : (d : Draws) (v : View) (call : Call) (f : ℕ → ℤ) → HasExact d v call f → HasOutcome d v call kinds.Add Made (λ u e. Denotes kinds.Add u e f) (Overflows kinds.Add f)
+from_exact d v call f has = record {
+  outcome = in_range (exactly (list_of (2 ^ v.vars) f));
+  gives = has.gives;
+  may = needs_nodes (exactly (list_of (2 ^ v.vars) f));
+  ok = λ w grown e is. (Is-from kinds.Add is, all_in_range v.vars f is.fits ∙ ap makes (listed-made kinds.Add v w e f grown is));
+  over = λ over. out_of_range v.vars f has.is_of over.0 over.1;
+}
+
+module _ (d : Draws) (v : View) (of : IsSmall v) (stands : Stands v d) where
+  abbrev edge : Name → Edge
+  edge a = edge_in d.rows a
+
+  abbrev own : (k : Kind) (a : Name) → IsNamed k d.rows a → IsEdgeOf k d a (edge a)
+  own k a named = own_edge d a k named
+
+  -- one of several functions
+  restricted : (a b : Name) → IsNamed kinds.Bdd d.rows a → IsNamed kinds.Bdd d.rows b
+      → HasOutcome d v (calls.Makes (makings.Bdd (bdds.Restrict a b))) kinds.Bdd Chosen (λ u e. Restricted v u (edge a) (edge b) e) ⊥
+  restricted a b first second = record {
+    outcome = restricts (list_of (2 ^ v.vars) (bdd_at v (edge a))) (list_of (2 ^ v.vars) (bdd_at v (edge b)));
+    gives = λ t agrees. outcome-restrict v t.sizes t.cells (t.live d.session) a b (edge a) (edge b) (live d t a (listed_at kinds.Bdd v (edge a)) agrees (own kinds.Bdd a first v stands).1) (live d t b (listed_at kinds.Bdd v (edge b)) agrees (own kinds.Bdd b second v stands).1);
+    may = refl;
+    ok = λ w grown e is.
+        let list : list_of (2 ^ w.vars) (bdd_at w e) ≡ list_of (2 ^ v.vars) (bdd_at w e) = ap (λ n. list_of (2 ^ n) (bdd_at w e)) grown.vars in (
+          is.answer,
+          λ t s name new. (
+            new,
+            ap length list ∙ length-list_of (2 ^ v.vars) (bdd_at w e) ∙ sym (length-list_of (2 ^ v.vars) (bdd_at v (edge a))),
+            subst (λ g. Restricts (length (list_of (2 ^ v.vars) (bdd_at v (edge a)))) (truth (list_of (2 ^ v.vars) (bdd_at v (edge a)))) (truth (list_of (2 ^ v.vars) (bdd_at v (edge b)))) (truth g)) (sym list)
+                (Restricts-list_of v.vars (bdd_at v (edge a)) (bdd_at v (edge b)) (bdd_at w e) is.restricts),
+          ),
+        );
+    over = λ never. absurd never;
+  }
+
+  -- what a making takes, and what comes of it
+  abbrev Tells : Making Name (List ℕ) (List (ℕ × Name)) → Type 0
+  Tells making = takes (by_edges d.rows making) v × HasOutcome d v (calls.Makes making) (kind_made making) (adding_by (chooses making)) (answer (by_edges d.rows making) v) (exceeds (by_edges d.rows making) v)
+
+  value : (k : Kind) (T : Type 0) (call : Call) (f : ℕ → ValueOf k) → T × HasValue k (λ u e. Denotes k u e f) d v call → T × HasOutcome d v call k Made (λ u e. Denotes k u e f) ⊥
+  value k T call f told = (told.0, from_value k d v call f told.1)
+
+  exact : (T : Type 0) (call : Call) (f : ℕ → ℤ) → T × HasExact d v call f → T × HasOutcome d v call kinds.Add Made (λ u e. Denotes kinds.Add u e f) (Overflows kinds.Add f)
+  exact T call f told = (told.0, from_exact d v call f told.1)
+
+  pub told : (making : Making Name (List ℕ) (List (ℕ × Name))) → Has d making → Tells making
+  told (makings.Bdd bdds.One) can = (tt, from_value kinds.Bdd d v _ (constant true) (has_value kinds.Bdd d v _ (constant true) (λ t agrees. outcome-one v t.sizes t.cells (t.live d.session) (vars d t v agrees stands))))
+  told (makings.Bdd bdds.Zero) can = (tt, from_value kinds.Bdd d v _ (constant false) (has_value kinds.Bdd d v _ (constant false) (λ t agrees. outcome-zero v t.sizes t.cells (t.live d.session) (vars d t v agrees stands))))
+  told (makings.Bdd (bdds.Var m)) can = let var = operations.variable_in d v of stands m can.0 in (var, from_value kinds.Bdd d v _ (projection m) (has_value kinds.Bdd d v _ (projection m) (λ t agrees. outcome-var v t.sizes t.cells (t.live d.session) (vars d t v agrees stands) m var.1)))
+  told (makings.Bdd (bdds.Not a)) can = let s = own kinds.Bdd a can.0 v stands in (s.0, from_value kinds.Bdd d v _ (negation (bdd_at v (edge a))) (has_value kinds.Bdd d v _ (negation (bdd_at v (edge a))) (λ t agrees. outcome-not v t.sizes t.cells (t.live d.session) a (edge a) (live d t a (listed_at kinds.Bdd v (edge a)) agrees s.1))))
+  told (makings.Bdd (bdds.And a b)) can = value kinds.Bdd _ _ _ (operations.told_and d a b (edge a) (edge b) (own kinds.Bdd a can.0) (own kinds.Bdd b can.1.0) v of stands)
+  told (makings.Bdd (bdds.Or a b)) can = value kinds.Bdd _ _ _ (operations.told_or d a b (edge a) (edge b) (own kinds.Bdd a can.0) (own kinds.Bdd b can.1.0) v of stands)
+  told (makings.Bdd (bdds.Xor a b)) can = value kinds.Bdd _ _ _ (operations.told_xor d a b (edge a) (edge b) (own kinds.Bdd a can.0) (own kinds.Bdd b can.1.0) v of stands)
+  told (makings.Bdd (bdds.Ite a b c)) can = value kinds.Bdd _ _ _ (operations.told_ite d a b c (edge a) (edge b) (edge c) (own kinds.Bdd a can.0) (own kinds.Bdd b can.1.0) (own kinds.Bdd c can.1.1.0) v of stands)
+  told (makings.Bdd (bdds.Cofactor a m bit)) can = value kinds.Bdd _ _ _ (operations.told_cofactor d a (edge a) (own kinds.Bdd a can.0) v of stands m bit can.1.0)
+  told (makings.Bdd (bdds.Exists a vs)) can = value kinds.Bdd _ _ _ (operations.told_exists d a (edge a) (own kinds.Bdd a can.0) v of stands vs can.1.0)
+  told (makings.Bdd (bdds.Forall a vs)) can = value kinds.Bdd _ _ _ (operations.told_forall d a (edge a) (own kinds.Bdd a can.0) v of stands vs can.1.0)
+  told (makings.Bdd (bdds.AndExists a b vs)) can = value kinds.Bdd _ _ _ (operations.told_and_exists d a b (edge a) (edge b) (own kinds.Bdd a can.0) (own kinds.Bdd b can.1.0) v of stands vs can.1.1.0)
+  told (makings.Bdd (bdds.Compose a m b)) can = value kinds.Bdd _ _ _ (operations.told_compose d a b (edge a) (edge b) (own kinds.Bdd a can.0) (own kinds.Bdd b can.1.1.0) v of stands m can.1.0)
+  told (makings.Bdd (bdds.VectorCompose a ps)) can = value kinds.Bdd _ _ _ (operations.told_vector_compose d v of stands a (edge a) (own kinds.Bdd a can.0) ps can.1.0.0 can.1.0.1 can.1.0.2)
+  told (makings.Bdd (bdds.Restrict a b)) can = (record { first = (own kinds.Bdd a can.0 v stands).0; second = (own kinds.Bdd b can.1.0 v stands).0 }, restricted a b can.0 can.1.0)
+  told (makings.Bdd (bdds.Support a)) can = value kinds.Bdd _ _ _ (operations.told_support d a (edge a) (own kinds.Bdd a can.0) v of stands)
+  told (makings.Bdd (bdds.AtLeast a z)) can = value kinds.Bdd _ _ _ (numbers.told_at_least d a (edge a) (own kinds.Add a can.0) v of stands z)
+  told (makings.Bdd (bdds.Pattern a)) can = value kinds.Bdd _ _ _ (numbers.told_pattern d a (edge a) (own kinds.Add a can.0) v of stands)
+  told (makings.Bdd (bdds.CoverOf a)) can = absurd can.0
+  told (makings.Add (adds.Constant z)) can = value kinds.Add _ _ _ (numbers.told_constant d z can.0 v of stands)
+  told (makings.Add (adds.FromBdd a)) can = value kinds.Add _ _ _ (numbers.told_from_bdd d a (edge a) (own kinds.Bdd a can.0) v of stands)
+  told (makings.Add (adds.Min a b)) can = value kinds.Add _ _ _ (numbers.told_placed d a b (edge a) (edge b) (own kinds.Add a can.0) (own kinds.Add b can.1.0) v of stands (λ y z. cond (int_le y z) y z) _ (λ t. refl))
+  told (makings.Add (adds.Max a b)) can = value kinds.Add _ _ _ (numbers.told_placed d a b (edge a) (edge b) (own kinds.Add a can.0) (own kinds.Add b can.1.0) v of stands (λ y z. cond (int_le z y) y z) _ (λ t. refl))
+  told (makings.Add (adds.Threshold a b)) can = value kinds.Add _ _ _ (numbers.told_placed d a b (edge a) (edge b) (own kinds.Add a can.0) (own kinds.Add b can.1.0) v of stands (λ y z. cond (int_le z y) y (pos 0)) _ (λ t. refl))
+  told (makings.Add (adds.AddIte a b c)) can = value kinds.Add _ _ _ (numbers.told_add_ite d a b c (edge a) (edge b) (edge c) (own kinds.Bdd a can.0) (own kinds.Add b can.1.0) (own kinds.Add c can.1.1.0) v of stands)
+  told (makings.Exact (exacts.Plus a b)) can = exact _ _ _ (numbers.told_exact d a b (edge a) (edge b) (own kinds.Add a can.0) (own kinds.Add b can.1.0) v of stands (λ y z. y +ℤ z) _ (λ t. refl))
+  told (makings.Exact (exacts.Minus a b)) can = exact _ _ _ (numbers.told_exact d a b (edge a) (edge b) (own kinds.Add a can.0) (own kinds.Add b can.1.0) v of stands (λ y z. y -ℤ z) _ (λ t. refl))
+  told (makings.Exact (exacts.Times a b)) can = exact _ _ _ (numbers.told_exact d a b (edge a) (edge b) (own kinds.Add a can.0) (own kinds.Add b can.1.0) v of stands (λ y z. y *ℤ z) _ (λ t. refl))
+  told (makings.Exact (exacts.SumOver a m)) can = exact _ _ _ (numbers.told_sum_over d a (edge a) (own kinds.Add a can.0) v of stands m can.1.0)
+  told (makings.Zdd zdds.Empty) can = (tt, from_value kinds.Zdd d v _ empty (has_value kinds.Zdd d v _ empty (λ t agrees. outcome-empty v t.sizes t.cells (t.live d.session) (elements d t v agrees stands))))
+  told (makings.Zdd zdds.Base) can = (tt, from_value kinds.Zdd d v _ base (has_value kinds.Zdd d v _ base (λ t agrees. outcome-base v t.sizes t.cells (t.live d.session) (elements d t v agrees stands))))
+  told (makings.Zdd (zdds.Single m)) can = value kinds.Zdd _ _ _ (families.told_single d m can.0 v of stands)
+  told (makings.Zdd (zdds.Union a b)) can = value kinds.Zdd _ _ _ (families.told_union d a b (edge a) (edge b) (own kinds.Zdd a can.0) (own kinds.Zdd b can.1.0) v of stands)
+  told (makings.Zdd (zdds.Meet a b)) can = value kinds.Zdd _ _ _ (families.told_meet d a b (edge a) (edge b) (own kinds.Zdd a can.0) (own kinds.Zdd b can.1.0) v of stands)
+  told (makings.Zdd (zdds.Diff a b)) can = value kinds.Zdd _ _ _ (families.told_diff d a b (edge a) (edge b) (own kinds.Zdd a can.0) (own kinds.Zdd b can.1.0) v of stands)
+  told (makings.Zdd (zdds.Subset1 a m)) can = value kinds.Zdd _ _ _ (families.told_subset1 d a (edge a) (own kinds.Zdd a can.0) m can.1.0 v of stands)
+  told (makings.Zdd (zdds.Subset0 a m)) can = value kinds.Zdd _ _ _ (families.told_subset0 d a (edge a) (own kinds.Zdd a can.0) m can.1.0 v of stands)
+  told (makings.Zdd (zdds.Change a m)) can = value kinds.Zdd _ _ _ (families.told_change d a (edge a) (own kinds.Zdd a can.0) m can.1.0 v of stands)
+  told (makings.Zdd (zdds.Product a b)) can = value kinds.Zdd _ _ _ (families.told_product d a b (edge a) (edge b) (own kinds.Zdd a can.0) (own kinds.Zdd b can.1.0) v of stands)
+  told (makings.Zdd (zdds.Quotient a b)) can = value kinds.Zdd _ _ _ (families.told_quotient d a b (edge a) (edge b) (own kinds.Zdd a can.0) (own kinds.Zdd b can.1.0) v of stands)
+  told (makings.Zdd (zdds.Isop a b)) can = absurd can.0
+
+-- what a try of a making leaves, by what comes of it
+module _ (d e : Draws) (x y : Shared) (call : Call) (k : Kind) (adding : Adding) (making : Making Edge (List ℕ) (List (ℕ × Edge))) (Work : View → Denoted → Type 0) (made : Result (Result Edge Overflow) Stop) (took : Took d e x) (idle : d.holds ≡ false)
+    (tried : Tried (told_by making) Work x y made) (has : HasOutcome d (view_of tried.from) call k adding (answer making (view_of tried.from)) (exceeds making (view_of tried.from))) where
+  outcome_gives : Gives e call has.outcome
+  outcome_gives = gives_held d e x call has.outcome took idle has.gives
+
+  pub outcome_may_full : MayBeFull e call
+  outcome_may_full t agrees = (has.outcome, outcome_gives t agrees, has.may)
+
+  adds_row : (a : Adding) (g : Function) (edge : Edge) → listed_at k (view_of y) edge ≡ g → Allows a has.outcome g → AddsRow e (view_of y) call a (record { kind = k; edge = edge })
+  adds_row Made g edge is allows = subst (Gives e call) (allows ∙ ap makes (sym is)) outcome_gives
+  adds_row Chosen g edge is allows = subst (λ h. Rattle.dd_session.specs.Turns.Chooses e call h) (sym is) (record { outcome = has.outcome; gives = outcome_gives; may = λ t agrees name new. allows t e.session name new })
+  adds_row (Taken posted) g edge is allows = absurd allows
+
+  pub outcome_makes : (r : Result (Result Edge Overflow) Stop) → IfOk r (told_by making (view_of tried.from) (view_of y))
+      → IfOk r (λ told. MatchResult told (λ edge. Is k (view_of y) edge × AddsRow e (view_of y) call adding (record { kind = k; edge = edge })) (λ _. Gives e call overflows))
+  outcome_makes (Err s) is = tt
+  outcome_makes (Ok (Err over)) is = subst (Gives e call) (has.over is) outcome_gives
+  outcome_makes (Ok (Ok edge)) is = let ok = has.ok (view_of y) tried.ran.grown edge is in (ok.0, adds_row adding (listed_at k (view_of y) edge) edge refl ok.1)
+
+-- want of memory before anything was done
+pub nothing_made : (old new : Seen) (making : Making Name (List ℕ) (List (ℕ × Name))) → new ≡ old → MakesOrExceeds old new making (Err refusals.Memory)
+nothing_made old new making same = subst (λ (s : Seen). MakesOrExceeds old s making (Err refusals.Memory)) (sym same) (record {
+  told = refuses (needs_nodes_in making);
+  in_range = tt;
+  stored = λ f there. inl there;
+  spare = omega arith;
+})
+  where
+    refuses : (b : Bool) → Refuses b old old (calls.Makes making) refusals.Memory
+    refuses true = (refl, omega arith)
+    refuses false = (refl, (refl, omega arith))
+
+-- only what may be out of range is told so
+pub told_over : (edges : Making Edge (List ℕ) (List (ℕ × Edge))) (may : Bool) → may_exceed edges ≡ may → (v w : View) (made : Result (Result Edge Overflow) Stop) (r : Result (Placed (Result Name Overflow)) Refusal) → IfOk made (told_by edges v w)
+    → IfOk r (λ placed. MatchResult placed.value (λ name. Unit {0}) (λ over. made ≡ Ok (Err over))) → IfOk r (λ placed. IsTrue (is_err placed.value) → may ≡ true)
+told_over edges may same v w made (Ok placed) answer over = by placed.value over
+  where
+    by : (value : Result Name Overflow) → MatchResult value (λ name. Unit {0}) (λ over. made ≡ Ok (Err over)) → IsTrue (is_err value) → may ≡ true
+    by (Ok name) told is = absurd (false≢true is)
+    by (Err over) told is = sym same ∙ exceeds-may edges v (subst (λ r. IfOk r (told_by edges v w)) told answer)
+told_over edges may same v w made (Err refusal) answer over = tt
+
+-- the same of a session's rows, by what makes it of their edges
+module _ (s : Seen) (d : Draws) (seat : IsSeatOf s d) (making : Making Name (List ℕ) (List (ℕ × Name))) (edges : Making Edge (List ℕ) (List (ℕ × Edge))) (same : edges ≡ by_edges s.rows making) (has : HasTaken s making) where
+  abbrev Comes : View → Making Edge (List ℕ) (List (ℕ × Edge)) → Type 0
+  Comes w by = takes by w × HasOutcome d w (calls.Makes making) (kind_made making) (adding_by (chooses making)) (answer by w) (exceeds by w)
+
+  pub told_by_edges : (w : View) → IsSmall w → Stands w d → Comes w edges
+  told_by_edges w small stands = subst (Comes w) (sym (same ∙ ap (λ (z : Seen). by_edges z.rows making) seat.is)) (told d w small stands making (subst (λ (z : Seen). HasTaken z making) seat.is has))

@@ -1,6 +1,0 @@
-use Rattle.std.proofs.Common.{refl}
-use Rattle.dd_session.proofs.Tries.{asked}
-use Rattle.dd_session.proofs.nodeless.projection_in.Goals as goal
-
-pub returns-clause-asked : goal.returns-clause-asked
-returns-clause-asked c = asked c.args.shared.now _ c.tell_sound.ensures.store c.tell_sound-2.ensures.store c.projection-edge.ensures.kept refl

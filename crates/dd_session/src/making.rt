@@ -1,0 +1,197 @@
+//! What makes a function of a session's rows: by their edges, in one turn, with a sweep and another try where no slot was free.
+
+ghost use Rattle.std.specs.Prelude.{◌≡◌, false, is_err, map, All, IfOk, IsErrOf, IsTrue};
+ghost use Rattle.edge_bits.specs.declared.edges.Kind.{Kind as KindOf};
+ghost use Rattle.edge_bits.specs.declared.edges.Kind.TheVariants as kinds;
+ghost use Rattle.function_laws.specs.Makings.{kind_made as kind_of_made, needs_nodes};
+ghost use Rattle.node_slots.specs.Stores.{IsStore};
+ghost use Rattle.operator_calls.specs.Making.{may_exceed, takes, told_by, work};
+ghost use Rattle.operator_calls.specs.Taking.{of_lent, with_given};
+ghost use Rattle.shared_store.specs.Lasting.{Lasts};
+ghost use Rattle.shared_store.specs.Sharing.{orders, view_of};
+ghost use Rattle.dd_session.specs.MadeRows.{MakesRow, MakesOrExceeds, MayMake, adding_by, chooses};
+ghost use Rattle.dd_session.specs.Sessions.{IsLiveAs, edge_in};
+ghost use Rattle.dd_session.specs.Turns.{Ran, Tried};
+
+use crate::answers::{Placed, Refusal};
+use crate::manager::Manager;
+use crate::request::{Adding, Request};
+use crate::session::Session;
+use crate::settling::settle;
+use crate::starting::start;
+use edge_bits::{Edge, Kind, Memory};
+use function_laws::{BddMaking, Making};
+use handle_count::H;
+use node_slots::Stop;
+use operator_calls::{Overflow, Renaming, renamed, renamed_pairs, run};
+use shared_store::Shared;
+use std::alloc::Global;
+use std::sync::Wait;
+
+/// One try.
+fn try_once(
+    shared: &mut Shared,
+    making: &Making<Edge, &[u32], &[(u32, Edge)]>,
+) -> Result<Result<Edge, Overflow>, Stop>
+    requires { IsStore shared.old.store → takes (of_lent making.now) (view_of shared.old) }
+    ensures ran { Ran (told_by (of_lent making.now)) (work (of_lent making.now)) shared.old shared.new result }
+    ensures sure { IsTrue (is_err result) → IsTrue (needs_nodes (of_lent making.now)) }
+{
+    shared.store.tell_sound();
+    let made = run(&mut shared.store, making);
+    shared.store.tell_sound();
+    made
+}
+
+/// A sweep, and a try.
+fn sweep_and_try(
+    shared: Shared,
+    making: &Making<Edge, &[u32], &[(u32, Edge)]>,
+) -> (Shared, Result<Result<Edge, Overflow>, Stop>)
+    requires { (y : Shared) → Lasts shared y → orders y ≡ orders shared → IsStore y.store → takes (of_lent making.now) (view_of y) }
+    ensures tried { Tried (told_by (of_lent making.now)) (work (of_lent making.now)) shared result.0 result.1 }
+    ensures sure { IsTrue (is_err result.1) → IsTrue (needs_nodes (of_lent making.now)) }
+{
+    let (mut shared, _swept) = shared.sweep();
+    let made = try_once(&mut shared, making);
+    (shared, made)
+}
+
+/// Whether no slot was free.
+fn is_full(made: &Result<Result<Edge, Overflow>, Stop>) -> bool
+    ensures { IsErrOf made.now Stop.Full → IsTrue result }
+{
+    matches!(made, Err(Stop::Full))
+}
+
+/// A try, and where no slot was free a sweep and another try.
+fn try_all(
+    mut shared: Shared,
+    making: &Making<Edge, &[u32], &[(u32, Edge)]>,
+) -> (Shared, Result<Result<Edge, Overflow>, Stop>)
+    requires { (y : Shared) → Lasts shared y → orders y ≡ orders shared → IsStore y.store → takes (of_lent making.now) (view_of y) }
+    ensures tried { Tried (told_by (of_lent making.now)) (work (of_lent making.now)) shared result.0 result.1 }
+    ensures sure { IsTrue (is_err result.1) → IsTrue (needs_nodes (of_lent making.now)) }
+{
+    let made = try_once(&mut shared, making);
+    if is_full(&made) {
+        return sweep_and_try(shared, making);
+    }
+    (shared, made)
+}
+
+/// The kind of what is made.
+fn kind_made(making: &Making<H, &[u32], &[(u32, H)]>) -> Kind
+    ensures { result ≡ kind_of_made (of_lent making.now) }
+{
+    match making {
+        Making::Bdd(_) => Kind::Bdd,
+        Making::Add(_) => Kind::Add,
+        Making::Exact(_) => Kind::Add,
+        Making::Zdd(_) => Kind::Zdd,
+    }
+}
+
+/// How the row of what is made comes to be.
+fn adding_of(making: &Making<H, &[u32], &[(u32, H)]>) -> Adding
+    ensures { result ≡ adding_by (chooses (of_lent making.now)) }
+{
+    match making {
+        Making::Bdd(BddMaking::Restrict(_, _)) => Adding::Chosen,
+        _ => Adding::Made,
+    }
+}
+
+/// The edges of a session's rows.
+#[derive(Drop)]
+struct Edges<'a> {
+    session: &'a Session,
+}
+
+impl<'b> Renaming<H, Edge, &'b [u32], &'b [(u32, H)]> for Edges<'_> {
+    ghost is = { λ e k h. IsLiveAs k e.session.now h };
+
+    ghost vars = { λ e. e.session.now.manager.vars };
+
+    ghost elements = { λ e. e.session.now.manager.elements };
+
+    ghost gives = { λ e h. edge_in e.session.now.rows h };
+
+    ghost listed = { λ vars. vars.now };
+
+    ghost paired = { λ pairs. pairs.now };
+
+    fn give(&self, one: &H) -> Edge
+        requires { (k : KindOf) × IsLiveAs k self.now.session.now one.now }
+        ensures { result ≡ edge_in self.now.session.now.rows one.now }
+    {
+        self.session.edge(*one)
+    }
+
+    fn give_pairs(&self, alloc: Global, pairs: &&'b [(u32, H)]) -> Result<Vec<(u32, Edge)>, Memory>
+        requires { All (λ pair. IsLiveAs kinds.Bdd self.now.session.now pair.1) pairs.now.now }
+        ensures { IfOk result (λ given. given.items ≡ map (with_given (edge_in self.now.session.now.rows)) pairs.now.now) }
+    {
+        self.session.edges(alloc, pairs)
+    }
+
+    fn lend<'a>(&self, list: &'a &'b [u32]) -> &'a [u32]
+        ensures { result.now ≡ list.now.now }
+    {
+        list
+    }
+}
+
+impl Session {
+    /// Makes a function of rows, as a new row; or tells that a value of it is out of range, where that may be.
+    pub fn make<R: Wait>(
+        &mut self,
+        rt: &R,
+        manager: &Manager,
+        making: Making<H, &[u32], &[(u32, H)]>,
+    ) -> Result<Placed<Result<H, Overflow>>, Refusal>
+        requires { MayMake self.old manager.now (of_lent making) }
+        ensures { MakesOrExceeds self.old self.new (of_lent making.entry) result }
+    {
+        let rows = Edges { session: self };
+        let Ok(pairs) = renamed_pairs(&rows, manager.allocator(), &making) else {
+            return Err(Refusal::Memory);
+        };
+        let edges = renamed(&rows, &making, &pairs);
+        let Ok(shared) = start(rt, &manager.guard, &mut self.pass, &mut self.book) else {
+            return Err(Refusal::Memory);
+        };
+        let (shared, made) = try_all(shared, &edges);
+        let kind = kind_made(&making);
+        let adding = adding_of(&making);
+        settle(
+            &manager.guard,
+            &mut self.pass,
+            &mut self.book,
+            shared,
+            Request::Makes(making),
+            adding,
+            kind,
+            made,
+        )
+    }
+
+    /// The same, where no value may be out of range.
+    pub(crate) fn make_row<R: Wait>(
+        &mut self,
+        rt: &R,
+        manager: &Manager,
+        making: Making<H, &[u32], &[(u32, H)]>,
+    ) -> Result<Placed<H>, Refusal>
+        requires may { MayMake self.old manager.now (of_lent making) }
+        requires sure { may_exceed (of_lent making) ≡ false }
+        ensures { MakesRow self.old self.new (of_lent making.entry) result }
+    {
+        let made = self.make(rt, manager, making)?;
+        let place = made.place;
+        match made.value {
+            Ok(value) => Ok(Placed { place, value }),
+            Err(_) => unreachable!(),
+        }
+    }
+}
