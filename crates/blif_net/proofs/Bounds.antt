@@ -15,8 +15,9 @@ use Rattle.blif_net.specs.declared.faults.FaultKind.TheVariants as kinds
 use Rattle.blif_net.specs.declared.net.Net.{Net}
 use Rattle.blif_net.specs.declared.net.Output.{Output}
 use Rattle.blif_net.specs.Text.{Word, Line, joined_lines}
-use Rattle.blif_net.specs.Circuits.{Circuit, Cover, Statement, nothing, model, inputs, outputs, names, ends, passed_over, left_out, unknown, row, Context, after_statement, at_start, circuit_of, close, cover_at, covers_in, defined_in, last_of}
-use Rattle.blif_net.specs.Faults.{cyclic_cover, fault_of, faulty_line, inputs_fault, last_number, names_fault, no_outputs, open_fault, signals_in, some_again, undefined_line}
+use Rattle.blif_models.specs.Circuits.{Circuit, Cover, defined_in, some_again}
+use Rattle.blif_net.specs.Circuits.{Statement, nothing, model, inputs, outputs, names, ends, passed_over, left_out, unknown, row, Context, after_statement, at_start, circuit_of, close, cover_at, covers_in, last_of}
+use Rattle.blif_net.specs.Faults.{cyclic_cover, fault_of, faulty_line, inputs_fault, last_number, names_fault, no_outputs, open_fault, signals_in, undefined_line}
 use Rattle.blif_net.specs.Networks.{IsBlifText, IsNetOf}
 use Rattle.blif_net.specs.Bounds.{IsBounded}
 use Rattle.blif_net.proofs.Distinct.{closed_same, row_same}

@@ -7,8 +7,7 @@ use Rattle.std.proofs.lemmas.Bool.{false≢true}
 use Rattle.std.proofs.lemmas.Slice.Eq.{bytes_eq-Decides}
 use Rattle.job_words.specs.Text.{is_among}
 use Rattle.blif_net.specs.Text.{Word}
-use Rattle.blif_net.specs.Circuits.{Cover, Circuit, defined_in, settles}
-use Rattle.blif_net.specs.Faults.{is_settled}
+use Rattle.blif_models.specs.Circuits.{Circuit, Cover, defined_in, is_settled, settles}
 use Rattle.blif_net.proofs.Distinct.{Alone}
 use Rattle.blif_net.proofs.Networks.{all_words}
 use Rattle.blif_net.proofs.OneNet.{found_once, not_input}

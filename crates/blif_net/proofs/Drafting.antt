@@ -9,7 +9,8 @@ use Rattle.blif_net.specs.declared.names.Role.TheVariants as roles
 use Rattle.blif_net.specs.declared.faults.BlifStop.{BlifStop}
 use Rattle.blif_net.specs.declared.faults.BlifStop.TheVariants as stops
 use Rattle.blif_net.specs.Text.{Word}
-use Rattle.blif_net.specs.Circuits.{covers_in, defined_in}
+use Rattle.blif_models.specs.Circuits.{defined_in}
+use Rattle.blif_net.specs.Circuits.{covers_in}
 use Rattle.blif_net.specs.Networks.{AreNumbers}
 use Rattle.blif_net.specs.Names.{DefineStop, IsNumberOf, Name, given_role, is_called, name_at, role_called, with_name, words_in}
 use Rattle.blif_net.specs.Drafts.{AddsInput, AreCovers, AreRoles, IsCurrent, InputStop, Use, use_at, with_use}

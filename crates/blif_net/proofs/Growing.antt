@@ -7,7 +7,7 @@ use Rattle.std.proofs.lemmas.Slice.Eq.{bytes_eq-Decides}
 use Rattle.blif_net.specs.declared.covers.CoverDraft.{CoverDraft}
 use Rattle.blif_net.specs.declared.names.Role.TheVariants.{Unknown}
 use Rattle.blif_net.specs.Text.{Word}
-use Rattle.blif_net.specs.Circuits.{Cover}
+use Rattle.blif_models.specs.Circuits.{Cover}
 use Rattle.blif_net.specs.Networks.{AreNumbers}
 use Rattle.blif_net.specs.Names.{IsNumberOf, Name, is_called, name_at, with_name, with_names, words_in}
 use Rattle.blif_net.specs.Covers.{IsCoverOf}

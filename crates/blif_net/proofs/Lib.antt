@@ -1,4 +1,5 @@
 mod Rows
+mod ModelRows
 pub mod Values
 pub mod Arranging
 pub mod Completeness

@@ -11,7 +11,7 @@ use Rattle.std.proofs.lemmas.Option.{slice_get-get_or}
 use Rattle.job_words.specs.Text.{is_among}
 use Rattle.blif_net.specs.declared.net.Cover.{Cover as Gate}
 use Rattle.blif_net.specs.Text.{Word}
-use Rattle.blif_net.specs.Circuits.{Cover, Circuit, defined_in}
+use Rattle.blif_models.specs.Circuits.{Circuit, Cover, defined_in}
 use Rattle.blif_net.specs.Networks.{AreGates, AreNumbers, IsGateOf}
 use Rattle.blif_net.proofs.Distinct.{Once as Apart}
 use Rattle.blif_net.proofs.OneNet.{get_front, place_once}

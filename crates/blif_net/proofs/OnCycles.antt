@@ -11,8 +11,9 @@ use Rattle.std.proofs.lemmas.Slice.Eq.{bytes_eq-Decides}
 use Rattle.job_words.specs.Text.{is_among}
 use Rattle.blif_net.specs.declared.faults.FaultKind.TheVariants as kinds
 use Rattle.blif_net.specs.Text.{Line, Word}
-use Rattle.blif_net.specs.Circuits.{Circuit, Context, Cover, Statement, nothing, model, inputs, outputs, names, ends, passed_over, left_out, unknown, row, after_line, after_statement, at_start, behind, circuit_of, close, cover_at, covers_in, defined_in, said, settles, with_row, with_row_in}
-use Rattle.blif_net.specs.Faults.{fault_on, is_settled, is_signal, undefined_line, uses}
+use Rattle.blif_models.specs.Circuits.{Circuit, Cover, defined_in, is_settled, is_signal, settles}
+use Rattle.blif_net.specs.Circuits.{Context, Statement, nothing, model, inputs, outputs, names, ends, passed_over, left_out, unknown, row, after_line, after_statement, at_start, behind, circuit_of, close, cover_at, covers_in, said, with_row, with_row_in}
+use Rattle.blif_net.specs.Faults.{fault_on, undefined_line, uses}
 use Rattle.blif_net.specs.Cycles.{CyclesAreFound, IsCyclic, Leads, LiesOnCycle, ReadsCover}
 use Rattle.blif_net.proofs.Cycles.{by_name, none_here, some_word}
 use Rattle.blif_net.proofs.Distinct.{Alone, alone_at_start, alone_behind}

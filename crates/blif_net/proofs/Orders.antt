@@ -11,7 +11,7 @@ use Rattle.std.proofs.lemmas.Map.Keys.{IsDistinct-IsPermutation}
 use Rattle.std.proofs.lemmas.Slice.Eq.{bytes_eq-Decides}
 use Rattle.job_words.specs.Text.{is_among}
 use Rattle.blif_net.specs.Text.{Word}
-use Rattle.blif_net.specs.Circuits.{Cover, Circuit, defined_in}
+use Rattle.blif_models.specs.Circuits.{Circuit, Cover, defined_in}
 use Rattle.blif_net.proofs.Distinct.{Alone, Once as Apart}
 use Rattle.blif_order.specs.Orders.{Once, is_in}
 use Rattle.blif_net.proofs.Networks.{blank, picked}

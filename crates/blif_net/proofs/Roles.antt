@@ -13,7 +13,8 @@ use Rattle.blif_net.specs.declared.draft.Draft.{Draft}
 use Rattle.blif_net.specs.declared.names.Role.{Role}
 use Rattle.blif_net.specs.declared.names.Role.TheVariants as roles
 use Rattle.blif_net.specs.Text.{Word}
-use Rattle.blif_net.specs.Circuits.{Context, Cover, covers_in, defined_in}
+use Rattle.blif_models.specs.Circuits.{Cover, defined_in}
+use Rattle.blif_net.specs.Circuits.{Context, covers_in}
 use Rattle.blif_net.specs.Faults.{signals_in}
 use Rattle.blif_net.specs.Networks.{AreNumbers}
 use Rattle.blif_net.specs.Names.{Name, given_role, is_called, is_unknown, name_at, role_called, role_or_none, with_name, words_in}

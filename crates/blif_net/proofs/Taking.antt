@@ -12,8 +12,9 @@ use Rattle.blif_net.specs.declared.faults.FaultKind.{FaultKind}
 use Rattle.blif_net.specs.declared.faults.FaultKind.TheVariants as kinds
 use Rattle.blif_net.specs.declared.faults.BlifStop.{BlifStop}
 use Rattle.blif_net.specs.Text.{Line, is_allowed}
+use Rattle.blif_models.specs.Circuits.{some_again}
 use Rattle.blif_net.specs.Circuits.{Context, Statement, nothing, model, inputs, outputs, names, ends, passed_over, left_out, unknown, row, after_statement, close, last_of, said}
-use Rattle.blif_net.specs.Faults.{end_fault, line_fault, open_fault, signals_in, some_again}
+use Rattle.blif_net.specs.Faults.{end_fault, line_fault, open_fault, signals_in}
 use Rattle.blif_net.specs.Covers.{StopIs}
 use Rattle.blif_net.specs.Drafts.{Closes, IsDraftOf, Stops, StopsLine, Takes, TakesLine, TakesStatement, added, names_said, uses_in, with_uses}
 use Rattle.blif_net.proofs.Distinct.{closed_same}

@@ -15,7 +15,8 @@ use Rattle.blif_net.specs.declared.faults.FaultKind.TheVariants as kinds
 use Rattle.blif_net.specs.declared.names.Role.{Role}
 use Rattle.blif_net.specs.declared.names.Role.TheVariants as roles
 use Rattle.blif_net.specs.Text.{Line, Word}
-use Rattle.blif_net.specs.Circuits.{Context, Cover, Statement, nothing, model, inputs, outputs, names, ends, passed_over, left_out, unknown, row, after_line, after_statement, at_start, behind, circuit_of, close, cover_at, covers_in, defined_in, front_of, last_of, said}
+use Rattle.blif_models.specs.Circuits.{Cover, defined_in}
+use Rattle.blif_net.specs.Circuits.{Context, Statement, nothing, model, inputs, outputs, names, ends, passed_over, left_out, unknown, row, after_line, after_statement, at_start, behind, circuit_of, close, cover_at, covers_in, front_of, last_of, said}
 use Rattle.blif_net.specs.Faults.{signals_in, undefined_line, uses}
 use Rattle.blif_net.specs.Names.{Name, is_unknown}
 use Rattle.blif_net.specs.Drafts.{AreRoles, IsCircuitOf, IsRoleOf, Use, names_said, use_at, uses_by, uses_in, with_use, with_uses}

@@ -12,8 +12,9 @@ use Rattle.blif_net.specs.declared.faults.BlifFault.{BlifFault}
 use Rattle.blif_net.specs.declared.faults.FaultKind.TheVariants as kinds
 use Rattle.blif_net.specs.declared.net.Net.{Net}
 use Rattle.blif_net.specs.Text.{Line, Word}
-use Rattle.blif_net.specs.Circuits.{Circuit, Cover, at_start, behind, circuit_of, defined_in}
-use Rattle.blif_net.specs.Faults.{cycle_at, cyclic_cover, fault_in, faulty_line, is_settled, last_number, no_outputs, undefined_line}
+use Rattle.blif_models.specs.Circuits.{Circuit, Cover, defined_in, is_settled}
+use Rattle.blif_net.specs.Circuits.{at_start, behind, circuit_of}
+use Rattle.blif_net.specs.Faults.{cycle_at, cyclic_cover, fault_in, faulty_line, last_number, no_outputs, undefined_line}
 use Rattle.blif_net.specs.Names.{Name, is_unknown, words_in}
 use Rattle.blif_net.specs.Drafts.{AllKnown, AreRoles, Closes, IsCircuitOf, IsClosedFrom, IsNetFrom, IsReadFrom}
 use Rattle.blif_net.specs.Building.{IsBuilt}

@@ -8,7 +8,8 @@ use Rattle.blif_net.specs.declared.faults.FaultKind.TheVariants as kinds
 use Rattle.blif_net.specs.declared.faults.BlifStop.{BlifStop}
 use Rattle.blif_net.specs.declared.faults.BlifStop.TheVariants as stops
 use Rattle.blif_net.specs.Text.{Word}
-use Rattle.blif_net.specs.Circuits.{Cover, Row, is_bit, is_literal, row_of, row_with, with_row}
+use Rattle.blif_models.specs.Circuits.{Cover, Row}
+use Rattle.blif_net.specs.Circuits.{is_bit, is_literal, row_of, row_with, with_row}
 use Rattle.blif_net.specs.Faults.{row_fault}
 use Rattle.blif_net.specs.Networks.{AreNumbers, is_on, literals_of}
 

@@ -2,8 +2,9 @@
 use Rattle.std.specs.Prelude.{◌≡◌, ℕ, true, false, List, [], ◌∷◌, ◌⊎◌, None, Some, slice_get}
 use Rattle.job_words.specs.Text.{is_among}
 use Rattle.blif_net.specs.Text.{Line}
-use Rattle.blif_net.specs.Circuits.{Cover, at_start, circuit_of}
-use Rattle.blif_net.specs.Faults.{faulty_line, is_settled, undefined_line}
+use Rattle.blif_models.specs.Circuits.{Cover, is_settled}
+use Rattle.blif_net.specs.Circuits.{at_start, circuit_of}
+use Rattle.blif_net.specs.Faults.{faulty_line, undefined_line}
 
 abbrev pub IsOneOf : List Cover → Cover → Type 0
 IsOneOf covers cover = (i : ℕ) × (slice_get covers i ≡ Some cover)

@@ -14,8 +14,9 @@ use Rattle.blif_net.specs.declared.faults.FaultKind.TheVariants as kinds
 use Rattle.blif_net.specs.declared.faults.BlifStop.{BlifStop}
 use Rattle.blif_net.specs.declared.faults.BlifStop.TheVariants as stops
 use Rattle.blif_net.specs.Text.{Word, Line}
-use Rattle.blif_net.specs.Circuits.{Context, Cover, Statement, model, inputs, outputs, names, ends, Circuit, after_line, at_start, behind, circuit_of, after_statement, close, cover_at, covers_in, defined_in, said}
-use Rattle.blif_net.specs.Faults.{fault_in, faulty_line, line_fault, open_fault, signals_in, some_again}
+use Rattle.blif_models.specs.Circuits.{Circuit, Cover, defined_in, some_again}
+use Rattle.blif_net.specs.Circuits.{Context, Statement, model, inputs, outputs, names, ends, after_line, at_start, behind, circuit_of, after_statement, close, cover_at, covers_in, said}
+use Rattle.blif_net.specs.Faults.{fault_in, faulty_line, line_fault, open_fault, signals_in}
 use Rattle.blif_net.specs.Networks.{AreNumbers, IsNetOf}
 use Rattle.blif_net.specs.Names.{Name, is_unknown, role_or_none, words_in}
 use Rattle.blif_net.specs.Covers.{IsCoverOf, StopIs}

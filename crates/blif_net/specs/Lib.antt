@@ -12,3 +12,4 @@ pub mod Drafts
 pub mod Building
 pub mod Joined
 pub mod Bridges
+pub mod ModelTexts

@@ -3,7 +3,7 @@
 ghost use Rattle.std.specs.Prelude.{◌≡◌, ◌+◌, ◌<◌, All, Some, get_or, length, map, slice_get, slice_index, IfOk, ℕ};
 ghost use Rattle.blif_order.specs.Orders.{Once};
 ghost use Rattle.blif_net.specs.Building.{AreSignals, IsBuilt, gate_of, no_cover, signal_in};
-ghost use Rattle.blif_net.specs.Circuits.{Circuit};
+ghost use Rattle.blif_models.specs.Circuits.{Circuit};
 ghost use Rattle.blif_net.specs.Drafts.{IsCircuitOf};
 ghost use Rattle.blif_net.specs.Names.{words_in};
 

@@ -3,7 +3,7 @@
 ghost use Rattle.std.specs.Prelude.{◌≡◌, ◌<◌, ◌-◌, ◌^◌, All, length, map, IfOk};
 ghost use Rattle.blif_net.specs.Drafts.{AllKnown, InRange, IsCircuitOf, reads_in};
 ghost use Rattle.blif_net.specs.Bridges.{IsArranged};
-ghost use Rattle.blif_net.specs.Circuits.{Circuit};
+ghost use Rattle.blif_models.specs.Circuits.{Circuit};
 
 use crate::covers::CoverDraft;
 use crate::draft::Draft;

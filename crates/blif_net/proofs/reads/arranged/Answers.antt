@@ -4,7 +4,7 @@ use Rattle.std.proofs.lemmas.List.{length-map}
 use Rattle.std.proofs.lemmas.Result.{IfOk-weaker}
 use Rattle.blif_net.specs.declared.covers.CoverDraft.{CoverDraft}
 use Rattle.blif_net.specs.Bridges.{IsArranged}
-use Rattle.blif_net.specs.Circuits.{Circuit}
+use Rattle.blif_models.specs.Circuits.{Circuit}
 use Rattle.blif_net.specs.Drafts.{InRange, IsCircuitOf, reads_in}
 use Rattle.blif_net.proofs.CoverReads.{covers_in_range, reads_are, reads_small}
 use Rattle.blif_net.proofs.reads.arranged.Goals as goal

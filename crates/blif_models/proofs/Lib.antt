@@ -1,0 +1,10 @@
+pub mod PlainModels
+pub mod CappedSums
+pub mod Searches
+pub mod Counts
+pub mod Tables
+pub mod LayoutSteps
+pub mod GoingOn
+pub mod Expansions
+pub mod Orderings
+pub mod NumberedGraphs

@@ -1,0 +1,11 @@
+pub mod Circuits
+pub mod Models
+pub mod ModelFaults
+pub mod Plain
+pub mod Graphs
+pub mod ModelGraphs
+pub mod Layouts
+pub mod Unfinished
+pub mod Numberings
+pub mod Orderings
+pub mod NumberedGraphs

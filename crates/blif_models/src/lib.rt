@@ -1,0 +1,54 @@
+//! Models of the Berkeley Logic Interchange Format: what stands in them, the circuit into which the main one is expanded, and what
+//! may be wrong with several of them.
+#![tactic(auto)]
+
+ghost use Rattle.blif_models.specs.ModelGraphs.{CountsAreTotals};
+ghost use Rattle.blif_models.specs.NumberedGraphs.{NumberedAreGraphs};
+ghost use Rattle.blif_models.specs.Numberings.{LayoutsAreExpansions};
+ghost use Rattle.blif_models.specs.Orderings.{PlacesAreRanks, TotalsAreCounts};
+ghost use Rattle.blif_models.specs.Plain.{PlainIsWhole};
+
+mod cycles;
+mod graph;
+mod layout;
+mod limits;
+mod numbered;
+mod reached;
+mod totals;
+
+pub use cycles::{Holding, first_turning};
+pub use graph::{Own, holds_of, own_in};
+pub use layout::{Whole, lay_out};
+pub use limits::{Adding, line_passing};
+pub use numbered::{
+    Entry, Laid, NumberedCover, NumberedInstance, NumberedJoin, NumberedLatch, NumberedModel, Spot,
+};
+pub use reached::reached_from;
+pub use totals::totals_of;
+
+/// A model without instances is its own whole: no signal of it gets another name.
+pub fn plain_models_are_whole()
+    ensures { PlainIsWhole }
+{}
+
+/// What is counted through levels of models, without laying them out, is what each model has in all: signals, latches and copies.
+pub fn counts_are_totals()
+    ensures { CountsAreTotals }
+{}
+
+/// What is laid out of numbered models is, name by name, what the models expand into.
+pub fn layouts_are_expansions()
+    ensures { LayoutsAreExpansions }
+{}
+
+/// In an order in which each model stands behind those that it holds, its place is a rank, and what it has in all is what is counted
+/// through as many levels.
+pub fn orders_count()
+    ensures ranks { PlacesAreRanks }
+    ensures counts { TotalsAreCounts }
+{}
+
+/// What numbered models hold and have is what the models by name hold and have, and the places of an order of them are ranks.
+pub fn numbered_models_are_graphs()
+    ensures { NumberedAreGraphs }
+{}
