@@ -397,29 +397,6 @@ pub fn telling(word: &[u8]) -> Option<Known>
     find_command(&TELLING, word)
 }
 
-impl Opcode {
-    /// The kind of what it makes.
-    fn kind(self) -> Kind
-        ensures { result ≡ kind_of self }
-    {
-        match self {
-            Opcode::Makes(Making::Add(_) | Making::Exact(_)) => Kind::Add,
-            Opcode::Makes(Making::Zdd(_)) => Kind::Zdd,
-            _ => Kind::Bdd,
-        }
-    }
-}
-
-/// The kind of what a command makes, by its word; that of a BDD, where the word makes nothing or hands on what there is.
-pub fn kind_made(word: &[u8]) -> Kind
-    ensures { result ≡ kind_made word.now }
-{
-    match assigning(word) {
-        Some(known) => known.opcode.kind(),
-        None => Kind::Bdd,
-    }
-}
-
 impl Operands {
     /// The register of this place among them.
     fn register(&self, place: usize) -> u32

@@ -7,6 +7,6 @@ mod operands;
 mod slots;
 
 pub use acts::Act;
-pub use commands::{Opcode, Place, kind_made};
+pub use commands::{Opcode, Place};
 pub use operands::Operands;
 pub use slots::{Line, Slot, Slots, all_have_form, as_assignment, command_line};

@@ -12,10 +12,11 @@ use Rattle.job_text.specs.declared.job.Register.{Register}
 use Rattle.job_text.specs.declared.operands.Operand.{Operand}
 use Rattle.job_text.specs.declared.operands.Operand.TheVariants as operands
 use Rattle.job_words.specs.Text.{Word, is_assignment}
+use Rattle.function_laws.specs.declared.making.Making.{Making}
 use Rattle.function_laws.specs.Makings.{kind_made as kind_of_making}
 use Rattle.job_commands.specs.Commands.{act_of}
 use Rattle.job_commands.specs.Commands.{no_operands}
-use Rattle.job_text.specs.Places.{AllStandFor, Refers, StandsFor, is_called, kind_at, with_operands}
+use Rattle.job_text.specs.Places.{AllStandFor, IsFresh, Refers, StandsFor, is_called, kind_at, with_operands}
 use Rattle.job_text.specs.Grammar.{Forms, Says, assigns, is_drop, kind_called, kind_given, register_made, registers_after, target_of, tells, without}
 use Rattle.job_commands.specs.Commands.{Form, assigning, kind_made, telling}
 use Rattle.job_text.proofs.Meanings.{any_none, no_assignment}
@@ -85,13 +86,6 @@ one_register_less n rs words (x ∷ []) a e h = (x, h.0.0, h.0.1, ap (registers_
 one_register_less n rs words (x ∷ y ∷ rest) a e h = absurd h.1
 
 -- no register has the name that an assignment says
-pub assigns_fresh : (n : Counts) (rs : List Register) (words : List Word) (act : Act) → Says n rs words act → is_assignment words ≡ true → list_any (is_called (target_of words)) rs ≡ false
-assigns_fresh n rs words act says e = by says.forms
-  where
-    by : Forms n rs words says.own says.operands → list_any (is_called (target_of words)) rs ≡ false
-    by (assigns r command rest same fresh is) = ap (λ t. list_any (is_called (target_of t)) rs) same ∙ any_none rs r fresh.1
-    by (tells command rest same is) = absurd (false≢true (sym (ap is_assignment same ∙ no_assignment n rs command rest says.operands is.stand) ∙ e))
-
 -- What the words of a command leave of the registers, by what it does
 module _ (n : Counts) (rs : List Register) where
   -- the word of a command that assigns tells the kind of what it makes
@@ -220,23 +214,30 @@ module _ (n : Counts) (rs : List Register) where
   each_tells_drop : EachRow (λ own. (given : Operands) → TellsDrop own.word (act_of own.opcode given)) telling
   each_tells_drop = ((λ g. refl), ((λ g. refl), ((λ g. refl), ((λ g. refl), ((λ g. refl), ((λ g. refl), tt))))))
 
+  -- the first word, which no register has as its name
+  abbrev pub IsTarget : List Word → Word → Type 0
+  IsTarget words r = (target_of words ≡ r) × (list_any (is_called r) rs ≡ false)
+
   abbrev pub Leaves : List Word → Act → Type 0
-  Leaves words (acts.Makes making) = (r : Word) × (registers_after rs words ≡ rs ++ register_made r (kind_of_making making) ∷ [])
-  Leaves words (acts.Copy a) = (r : Word) × (registers_after rs words ≡ rs ++ register_made r (kind_at rs a) ∷ [])
-  Leaves words (acts.Fetch k a) = (r : Word) × (registers_after rs words ≡ rs ++ register_made r (kind_at rs a) ∷ [])
+  Leaves words (acts.Makes making) = (r : Word) × (registers_after rs words ≡ rs ++ register_made r (kind_of_making making) ∷ []) × IsTarget words r
+  Leaves words (acts.Copy a) = (r : Word) × (registers_after rs words ≡ rs ++ register_made r (kind_at rs a) ∷ []) × IsTarget words r
+  Leaves words (acts.Fetch k a) = (r : Word) × (registers_after rs words ≡ rs ++ register_made r (kind_at rs a) ∷ []) × IsTarget words r
   Leaves words (acts.Drop a) = (x : Word) × (kind : Kind) × Refers rs x a kind × (registers_after rs words ≡ map (without x) rs)
   Leaves words _ = registers_after rs words ≡ rs
 
   with_more : (words : List Word) (r command : Word) (rest : List Word) (k : Kind) → words ≡ r ∷ codes "=" ∷ command ∷ rest → kind_given rs command rest ≡ k → registers_after rs words ≡ rs ++ register_made r k ∷ []
   with_more words r command rest k e kind = one_register_more rs words r command rest e ∙ ap (λ j. rs ++ register_made r j ∷ []) kind
 
-  assigned : (words : List Word) (act : Act) (r command : Word) (rest : List Word) (os : List Operand) → words ≡ r ∷ codes "=" ∷ command ∷ rest → TellsKind command act → Takes n rs act os → AllStandFor n rs rest os → Leaves words act
-  assigned words (acts.Makes making) r command rest os e kind takes stand = (r, with_more words r command rest (kind_of_making making) e (kind rest))
-  assigned words (acts.Copy a) r command rest os e kind takes stand =
-      (r, with_more words r command rest (kind_at rs a) e (ap (λ c. kind_given rs c rest) kind ∙ kind_of_copy n rs rest a (subst (AllStandFor n rs rest) takes stand)))
-  assigned words (acts.Fetch k a) r command rest os e kind takes stand =
-      (r, with_more words r command rest (kind_at rs a) e (ap (λ c. kind_given rs c rest) kind ∙ kind_of_fetch n rs rest k a (subst (AllStandFor n rs rest) takes stand)))
-  assigned words act r command rest os e kind takes stand = absurd kind
+  is_target : (words : List Word) (r command : Word) (rest : List Word) → words ≡ r ∷ codes "=" ∷ command ∷ rest → IsFresh rs r → IsTarget words r
+  is_target words r command rest e fresh = (ap target_of e, any_none rs r fresh.1)
+
+  assigned : (words : List Word) (act : Act) (r command : Word) (rest : List Word) (os : List Operand) → words ≡ r ∷ codes "=" ∷ command ∷ rest → IsFresh rs r → TellsKind command act → Takes n rs act os → AllStandFor n rs rest os → Leaves words act
+  assigned words (acts.Makes making) r command rest os e fresh kind takes stand = (r, with_more words r command rest (kind_of_making making) e (kind rest), is_target words r command rest e fresh)
+  assigned words (acts.Copy a) r command rest os e fresh kind takes stand =
+      (r, with_more words r command rest (kind_at rs a) e (ap (λ c. kind_given rs c rest) kind ∙ kind_of_copy n rs rest a (subst (AllStandFor n rs rest) takes stand)), is_target words r command rest e fresh)
+  assigned words (acts.Fetch k a) r command rest os e fresh kind takes stand =
+      (r, with_more words r command rest (kind_at rs a) e (ap (λ c. kind_given rs c rest) kind ∙ kind_of_fetch n rs rest k a (subst (AllStandFor n rs rest) takes stand)), is_target words r command rest e fresh)
+  assigned words act r command rest os e fresh kind takes stand = absurd kind
 
   told : (words : List Word) (act : Act) (command : Word) (rest : List Word) (os : List Operand) → words ≡ command ∷ rest → TellsDrop command act → Takes n rs act os → AllStandFor n rs rest os → Leaves words act
   told words (acts.Makes making) command rest os e drops takes stand = absurd drops
@@ -253,9 +254,18 @@ module _ (n : Counts) (rs : List Register) where
           let row = row_has (λ own. (given : Operands) → TellsKind own.word (act_of own.opcode given)) assigning command says.own is.found each_tells_kind in
           let kind = subst (λ (t : Act). TellsKind command t) (sym says.means)
           (subst (λ (w : Word). TellsKind w (act_of says.own.opcode (with_operands rs no_operands says.operands))) row.1 (row.0 (with_operands rs no_operands says.operands))) in
-          assigned words act r command rest says.operands e kind (takes n rs words act says) is.stand
+          assigned words act r command rest says.operands e fresh kind (takes n rs words act says) is.stand
       by (tells command rest e is) =
           let row = row_has (λ own. (given : Operands) → TellsDrop own.word (act_of own.opcode given)) telling command says.own is.found each_tells_drop in
           let drops = subst (λ (t : Act). TellsDrop command t) (sym says.means)
           (subst (λ (w : Word). TellsDrop w (act_of says.own.opcode (with_operands rs no_operands says.operands))) row.1 (row.0 (with_operands rs no_operands says.operands))) in
           told words act command rest says.operands e drops (takes n rs words act says) is.stand
+
+  -- a command that neither assigns nor drops leaves them as they are
+  pub stays : (words : List Word) (act : Act) → ((making : Making ℕ (List ℕ) (List (ℕ × ℕ))) → act ≡ acts.Makes making → ⊥) → ((a : ℕ) → act ≡ acts.Copy a → ⊥) → ((k a : ℕ) → act ≡ acts.Fetch k a → ⊥) → ((a : ℕ) → act ≡ acts.Drop a → ⊥)
+      → Leaves words act → registers_after rs words ≡ rs
+  stays words (acts.Makes making) made copied fetched dropped leave = absurd (made making refl)
+  stays words (acts.Copy a) made copied fetched dropped leave = absurd (copied a refl)
+  stays words (acts.Fetch k a) made copied fetched dropped leave = absurd (fetched k a refl)
+  stays words (acts.Drop a) made copied fetched dropped leave = absurd (dropped a refl)
+  stays words _ made copied fetched dropped leave = leave

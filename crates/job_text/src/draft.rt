@@ -67,7 +67,7 @@ impl Section {
     {
         let act = self.scope.command(alloc, words)?;
         let registers = mem::replace(&mut self.scope.registers, Registers::new(alloc));
-        self.scope.registers = registers.after(alloc, words)?;
+        self.scope.registers = registers.after(alloc, words, &act)?;
         let words = Words::copied(alloc, words)?;
         Ok(self.commands.push(Command { words, act })?)
     }

@@ -1,17 +1,21 @@
 //! The registers of a section.
 
-ghost use Rattle.std.specs.Prelude.{◌≡◌, ◌≢◌, All, ◌∷◌, ◌++◌, [], ◌<◌, ◌^◌, drop, length, map, position, codes, IfOk, IfErr, IfSome, MatchOption, true, false, None, Some};
+ghost use Rattle.std.specs.Prelude.{◌≡◌, ◌≢◌, All, ◌∷◌, ◌++◌, [], ◌<◌, ◌^◌, length, map, position, IfOk, IfErr, IfSome, MatchOption, true, false, None, Some};
 ghost use Rattle.std.specs.List.{list_any, position_or_len};
-ghost use Rattle.job_words.specs.Text.{is_name, is_assignment, split_words};
+ghost use Rattle.edge_bits.specs.declared.edges.Kind.{Kind as KindOf};
+ghost use Rattle.function_laws.specs.Makings.{kind_made as kind_of_making};
+ghost use Rattle.job_words.specs.Text.{Word, is_name, split_words};
 ghost use Rattle.job_text.specs.Places.{IsFresh, Refers, is_called, kind_at, same_kind};
-ghost use Rattle.job_text.specs.Grammar.{is_drop, kind_called, kind_given, register_called, register_made, registers_after, target_of, without};
+ghost use Rattle.job_text.specs.Grammar.{Says, kind_called, register_called, register_made, registers_after, target_of, without};
+ghost use Rattle.job_text.specs.declared.job.Counts.{Counts as CountsOf};
 ghost use Rattle.job_text.specs.Faults.{name_fault};
 ghost use Rattle.job_text.specs.declared.faults.FaultKind.TheVariants as kinds;
 
 use crate::faults::JobStop;
 use crate::job::Register;
 use edge_bits::{Kind, List};
-use job_commands::{as_assignment, kind_made};
+use function_laws::Making;
+use job_commands::Act;
 use job_words::first_word;
 use std::alloc::Global;
 use std::collections::BTreeMap;
@@ -96,26 +100,6 @@ impl Registers {
         find_at(self.as_slice(), self.place_of(word), word)
     }
 
-    /// The kind of the register of this name, dropped or not.
-    fn kind_called(&self, word: &[u8]) -> Kind
-        ensures { result ≡ kind_called self.now word.now }
-    {
-        kind_at_place(self.as_slice(), self.place_of(word))
-    }
-
-    /// The kind of what a command of this word makes with these words behind it.
-    fn kind_given(&self, command: &[u8], words: &[u8]) -> Kind
-        ensures { result ≡ kind_given self.now command.now (split_words words.now) }
-    {
-        if command == b"copy".as_slice() {
-            self.kind_called(first_of(words))
-        } else if command == b"fetch".as_slice() {
-            self.kind_called(first_of(behind_first(words)))
-        } else {
-            kind_made(command)
-        }
-    }
-
     /// The registers with one more, of a name that none has. There are fewer than 2^32: for more there is no memory.
     fn with_made(self, alloc: Global, name: &[u8], kind: Kind) -> Result<Registers, JobStop>
         requires { list_any (is_called name.now) self ≡ false }
@@ -135,11 +119,22 @@ impl Registers {
         Ok(Registers { items, places })
     }
 
-    /// The registers, where that of this name is dropped.
-    fn without(self, word: &[u8]) -> Registers
-        ensures { result ≡ map (without word.now) self }
+    /// The registers with one more, of the kind of another.
+    fn with_handed(self, alloc: Global, name: &[u8], other: u32) -> Result<Registers, JobStop>
+        requires { list_any (is_called name.now) self ≡ false }
+        ensures ok { IfOk result (λ after. after ≡ self ++ register_made name.now (kind_at self other) ∷ []) }
+        ensures stop { IfErr result (λ stop. stop ≡ JobStop.Memory) }
     {
-        let place = self.place_of(word);
+        let kind = kind_at(self.as_slice(), other);
+        self.with_made(alloc, name, kind)
+    }
+
+    /// The registers, where that of this number is dropped.
+    fn without(self, number: u32) -> Registers
+        requires { (word : Word) × (kind : KindOf) × Refers self word number kind }
+        ensures { (word : Word) (kind : KindOf) → Refers self word number kind → result ≡ map (without word) self }
+    {
+        let place = number as usize;
         let Registers { mut items, places } = self;
         if place < items.len() {
             items[place].live = false;
@@ -147,20 +142,30 @@ impl Registers {
         Registers { items, places }
     }
 
-    /// The registers after a command of these words, whose target no register has as its name.
-    pub fn after(self, alloc: Global, words: &[u8]) -> Result<Registers, JobStop>
-        requires { is_assignment (split_words words.now) ≡ true → list_any (is_called (target_of (split_words words.now))) self ≡ false }
+    /// The registers after a command of these words, which does this.
+    pub fn after(self, alloc: Global, words: &[u8], act: &Act) -> Result<Registers, JobStop>
+        requires { (counts : CountsOf) × Says counts self (split_words words.now) act.now }
         ensures ok { IfOk result (λ after. after ≡ registers_after self (split_words words.now)) }
         ensures stop { IfErr result (λ stop. stop ≡ JobStop.Memory) }
     {
-        if let Some((target, command, operands)) = as_assignment(words) {
-            let kind = self.kind_given(command, operands);
-            return self.with_made(alloc, target, kind);
+        match act {
+            Act::Makes(making) => self.with_made(alloc, first_of(words), kind_made(making)),
+            Act::Copy(a) => self.with_handed(alloc, first_of(words), *a),
+            Act::Fetch(_, a) => self.with_handed(alloc, first_of(words), *a),
+            Act::Drop(a) => Ok(self.without(*a)),
+            _ => Ok(self),
         }
-        match as_drop(words) {
-            Some(word) => Ok(self.without(word)),
-            None => Ok(self),
-        }
+    }
+}
+
+/// The kind of what is made.
+fn kind_made(making: &Making<u32, List<u32>, List<(u32, u32)>>) -> Kind
+    ensures { result ≡ kind_of_making making.now }
+{
+    match making {
+        Making::Bdd(_) => Kind::Bdd,
+        Making::Add(_) | Making::Exact(_) => Kind::Add,
+        Making::Zdd(_) => Kind::Zdd,
     }
 }
 
@@ -211,19 +216,6 @@ pub fn same_kind(one: Kind, other: Kind) -> bool
     }
 }
 
-/// The word behind `drop`.
-fn as_drop(words: &[u8]) -> Option<&[u8]>
-    ensures { MatchOption result (is_drop (split_words words.now) ≡ false) (λ x. (split_words words.now) ≡ codes "drop" ∷ x.now ∷ []) }
-{
-    let (first, rest) = first_word(words)?;
-    let (word, rest) = first_word(rest)?;
-    if first == b"drop".as_slice() && first_word(rest).is_none() {
-        Some(word)
-    } else {
-        None
-    }
-}
-
 /// The first word, or none of its bytes.
 fn first_of(words: &[u8]) -> &[u8]
     ensures { result.now ≡ target_of (split_words words.now) }
@@ -231,16 +223,6 @@ fn first_of(words: &[u8]) -> &[u8]
     match first_word(words) {
         Some((word, _)) => word,
         None => &[],
-    }
-}
-
-/// What stands behind the first word.
-fn behind_first(words: &[u8]) -> &[u8]
-    ensures { split_words result.now ≡ drop 1 (split_words words.now) }
-{
-    match first_word(words) {
-        Some((_, rest)) => rest,
-        None => words,
     }
 }
 
