@@ -1,13 +1,12 @@
-use Rattle.std.proofs.Common.{◌≡◌, ℕ, false, List, [], ◌∷◌, ◌++◌, refl, ap, ap₂, sym, subst, ◌∙◌, IfOk}
+use Rattle.std.proofs.Common.{◌≡◌, false, List, [], ◌∷◌, ◌++◌, refl, ap, ap₂, sym, subst, ◌∙◌, IfOk}
 use Rattle.std.specs.List.{list_any}
 use Rattle.edge_bits.specs.declared.edges.Kind.{Kind}
 use Rattle.job_commands.specs.declared.acts.Act.{Act}
-use Rattle.job_commands.specs.declared.acts.Act.TheVariants as acts
 use Rattle.job_words.specs.Text.{Word, split_words}
 use Rattle.job_text.specs.declared.job.Counts.{Counts}
 use Rattle.job_text.specs.declared.job.Register.{Register}
 use Rattle.job_text.specs.Grammar.{Says, register_made, registers_after, target_of}
-use Rattle.job_text.specs.Places.{Refers, is_called, kind_at}
+use Rattle.job_text.specs.Places.{is_called, kind_at}
 use Rattle.job_text.proofs.Effects.{IsTarget, Leaves, leaves, stays}
 use Rattle.job_text.proofs.registers.Registers.after.Goals as goal
 
