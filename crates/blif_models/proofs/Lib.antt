@@ -8,3 +8,5 @@ pub mod GoingOn
 pub mod Expansions
 pub mod Orderings
 pub mod NumberedGraphs
+pub mod Rankings
+pub mod Tours

@@ -134,13 +134,13 @@ meets_none met left = record {
   sound = λ holds from levels le s r. s;
 }
 
-all_front : (n : ℕ) (xs : List ℕ) (x : ℕ) → All (λ m. m < n) (xs ++ x ∷ []) → All (λ m. m < n) xs
+pub all_front : (n : ℕ) (xs : List ℕ) (x : ℕ) → All (λ m. m < n) (xs ++ x ∷ []) → All (λ m. m < n) xs
 all_front n xs x h = λ i d lt. subst (λ k. k < n) (get_or_append_left xs (x ∷ []) d i lt) (h i d (omega (arith, lt, length_push xs x)))
 
 pub last_within : (n : ℕ) (xs : List ℕ) (x : ℕ) → All (λ m. m < n) (xs ++ x ∷ []) → x < n
 last_within n xs x h = subst (λ m. m < n) (get_or_push xs x 0 (length xs) refl) (h (length xs) 0 (omega (arith, length_push xs x)))
 
-all_last : (n : ℕ) (xs : List ℕ) (x : ℕ) → All (λ m. m < n) (xs ++ x ∷ []) → All (λ m. m < n) (x ∷ [])
+pub all_last : (n : ℕ) (xs : List ℕ) (x : ℕ) → All (λ m. m < n) (xs ++ x ∷ []) → All (λ m. m < n) (x ∷ [])
 all_last n xs x h = All-cons (λ m. m < n) x [] (last_within n xs x h) (All-nil (λ m. m < n))
 
 -- and one more

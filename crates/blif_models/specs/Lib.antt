@@ -9,3 +9,4 @@ pub mod Unfinished
 pub mod Numberings
 pub mod Orderings
 pub mod NumberedGraphs
+pub mod Ranks

@@ -3,7 +3,9 @@
 ghost use Rattle.std.specs.Prelude.{◌≡◌, ◌<◌, All, IfOk, find, length};
 ghost use Rattle.std.specs.Option.{option_map};
 ghost use Rattle.blif_models.specs.Graphs.{AreWithin, turns_back};
+ghost use Rattle.blif_models.specs.Ranks.{AreRanks};
 
+use crate::ranks::ranks_of;
 use crate::reached::reached_from;
 use edge_bits::List;
 use std::alloc::{AllocError, Global};
@@ -17,17 +19,28 @@ pub struct Holding {
 }
 
 /// Whether the model of an instance is the one in which it stands, or holds that through any number of levels.
-fn turns_back(alloc: Global, holds: &[List<u32>], one: Holding) -> Result<bool, AllocError>
+fn turns_back(
+    alloc: Global,
+    holds: &[List<u32>],
+    ranks: &[u64],
+    one: Holding,
+) -> Result<bool, AllocError>
     requires by { one.by < length holds.now }
     requires model { one.model < length holds.now }
     requires within { AreWithin (length holds.now) holds.now }
+    requires many { length ranks.now ≡ length holds.now }
+    requires ranks { AreRanks holds.now ranks.now }
     ensures { IfOk result (λ turns. turns ≡ turns_back holds.now one) }
 {
+    if ranks[one.model as usize] < ranks[one.by as usize] {
+        return Ok(false);
+    }
     let met = reached_from(alloc, holds, one.model)?;
     Ok(met[one.by as usize])
 }
 
-/// The line of the first of these instances by which a model holds itself.
+/// The line of the first of these instances by which a model holds itself. What is ranked lower than its holder is passed, so that
+/// one search is enough where two models of one rank hold each other.
 pub fn first_turning(
     alloc: Global,
     holds: &[List<u32>],
@@ -38,8 +51,9 @@ pub fn first_turning(
     requires within { AreWithin (length holds.now) holds.now }
     ensures { IfOk result (λ line. line ≡ option_map (λ one. one.line) (find (turns_back holds.now) holdings.now)) }
 {
+    let ranks = ranks_of(alloc, holds)?;
     for one in holdings {
-        if turns_back(alloc, holds, *one)? {
+        if turns_back(alloc, holds, &ranks, *one)? {
             return Ok(Some(one.line));
         }
     }

@@ -13,8 +13,10 @@ mod graph;
 mod layout;
 mod limits;
 mod numbered;
+mod ranks;
 mod reached;
 mod totals;
+mod tour;
 
 pub use cycles::{Holding, first_turning};
 pub use graph::{Own, holds_of, own_in};
