@@ -10,3 +10,4 @@ pub mod Orderings
 pub mod NumberedGraphs
 pub mod Rankings
 pub mod Tours
+pub mod Arranged

@@ -16,16 +16,15 @@ use Rattle.blif_models.proofs.Searches.{all_front, all_last}
 
 -- what is reached has no higher rank
 
-pub reached_lower : (holds : List (List ℕ)) (ranks : List ℕ) → AreRanks holds ranks → (levels from m : ℕ) → is_reached holds levels from m ≡ true → rank_of ranks m ≤ rank_of ranks from
+pub reached_lower : (holds : List (List ℕ)) (rank : ℕ → ℕ) → ((m n : ℕ) → is_in (reads_of holds m) n ≡ true → rank n ≤ rank m) → (levels from m : ℕ) → is_reached holds levels from m ≡ true → rank m ≤ rank from
 unfolding is_reached
-reached_lower holds ranks r zero from m e = let same = same_number from m e in subst (λ n. rank_of ranks n ≤ rank_of ranks from) same (omega arith)
-reached_lower holds ranks r (suc levels) from m e =
-    ⊎_elim (λ here. let same = same_number from m here in subst (λ n. rank_of ranks n ≤ rank_of ranks from) same (omega arith))
-    (λ more. through (reads_of holds from) (λ c among. r from c among) (λ c g. reached_lower holds ranks r levels c m g) more)
+reached_lower holds rank r zero from m e = let same = same_number from m e in subst (λ n. rank n ≤ rank from) same (omega arith)
+reached_lower holds rank r (suc levels) from m e =
+    ⊎_elim (λ here. let same = same_number from m here in subst (λ n. rank n ≤ rank from) same (omega arith))
+    (λ more. through (reads_of holds from) (λ c among. r from c among) (λ c g. reached_lower holds rank r levels c m g) more)
     (or_cases (from == m) (list_any (λ next. is_reached holds levels next m) (reads_of holds from)) e)
   where
-    through : (cs : List ℕ) → ((c : ℕ) → is_in cs c ≡ true → rank_of ranks c ≤ rank_of ranks from) → ((c : ℕ) → is_reached holds levels c m ≡ true → rank_of ranks m ≤ rank_of ranks c)
-        → list_any (λ next. is_reached holds levels next m) cs ≡ true → rank_of ranks m ≤ rank_of ranks from
+    through : (cs : List ℕ) → ((c : ℕ) → is_in cs c ≡ true → rank c ≤ rank from) → ((c : ℕ) → is_reached holds levels c m ≡ true → rank m ≤ rank c) → list_any (λ next. is_reached holds levels next m) cs ≡ true → rank m ≤ rank from
     through [] each onward g = absurd (false≢true g)
     through (c ∷ cs) each onward g =
         ⊎_elim (λ here. omega (arith, onward c here, each c (ap (λ b. b || is_in cs c) (own c))))
@@ -33,12 +32,12 @@ reached_lower holds ranks r (suc levels) from m e =
         (or_cases (is_reached holds levels c m) (list_any (λ next. is_reached holds levels next m) cs) g)
 
 -- so a model that is ranked lower than its holder does not turn back
-pub lower_is_passed : (holds : List (List ℕ)) (ranks : List ℕ) (one : Holding) → AreRanks holds ranks → rank_of ranks one.model < rank_of ranks one.by → turns_back holds one ≡ false
-lower_is_passed holds ranks one r lt = by_cases (turns_back holds one) refl
+pub lower_is_passed : (holds : List (List ℕ)) (rank : ℕ → ℕ) (one : Holding) → ((m n : ℕ) → is_in (reads_of holds m) n ≡ true → rank n ≤ rank m) → rank one.model < rank one.by → turns_back holds one ≡ false
+lower_is_passed holds rank one r lt = by_cases (turns_back holds one) refl
   where
     by_cases : (b : Bool) → turns_back holds one ≡ b → b ≡ false
     by_cases false e = refl
-    by_cases true e = absurd (omega (arith, lt, reached_lower holds ranks r (length holds) one.model one.by e))
+    by_cases true e = absurd (omega (arith, lt, reached_lower holds rank r (length holds) one.model one.by e))
 
 -- one model is given a rank
 

@@ -32,12 +32,12 @@ reached_by holds (suc d) k from m e =
     let same : suc (d + k) ≡ suc d + k = omega arith in
     subst (λ n. is_reached holds n from m ≡ true) same (reached_more holds (d + k) from m (reached_by holds d k from m e))
 
-reached_up : (holds : List (List ℕ)) (k l from m : ℕ) → k ≤ l → is_reached holds k from m ≡ true → is_reached holds l from m ≡ true
+pub reached_up : (holds : List (List ℕ)) (k l from m : ℕ) → k ≤ l → is_reached holds k from m ≡ true → is_reached holds l from m ≡ true
 reached_up holds k l from m le e =
     let same : l - k + k ≡ l = omega (arith, le) in
     subst (λ n. is_reached holds n from m ≡ true) same (reached_by holds (l - k) k from m e)
 
-reached_next : (holds : List (List ℕ)) (k from m c : ℕ) → is_reached holds k from m ≡ true → is_in (reads_of holds m) c ≡ true → is_reached holds (suc k) from c ≡ true
+pub reached_next : (holds : List (List ℕ)) (k from m c : ℕ) → is_reached holds k from m ≡ true → is_in (reads_of holds m) c ≡ true → is_reached holds (suc k) from c ≡ true
 unfolding is_reached
 reached_next holds zero from m c e f =
     or_right (from == c) (list_any (λ next. next == c) (reads_of holds from)) (subst (λ n. is_in (reads_of holds n) c ≡ true) (sym (same_number from m e)) f)

@@ -10,3 +10,4 @@ pub mod Numberings
 pub mod Orderings
 pub mod NumberedGraphs
 pub mod Ranks
+pub mod Arrangements

@@ -8,6 +8,7 @@ ghost use Rattle.blif_models.specs.Numberings.{LayoutsAreExpansions};
 ghost use Rattle.blif_models.specs.Orderings.{PlacesAreRanks, TotalsAreCounts};
 ghost use Rattle.blif_models.specs.Plain.{PlainIsWhole};
 
+mod arranging;
 mod cycles;
 mod graph;
 mod layout;
@@ -18,6 +19,7 @@ mod reached;
 mod totals;
 mod tour;
 
+pub use arranging::{Arrangement, arrange_models, holdings_of};
 pub use cycles::{Holding, first_turning};
 pub use graph::{Own, holds_of, own_in};
 pub use layout::{Whole, lay_out};

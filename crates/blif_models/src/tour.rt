@@ -5,19 +5,9 @@ ghost use Rattle.blif_order.specs.Orders.{reads_of};
 ghost use Rattle.blif_models.specs.Graphs.{AreWithin, is_met};
 ghost use Rattle.blif_models.specs.Ranks.{IsTour, TurnIs, into_each, weight_left};
 
+use crate::arranging::number_of;
 use edge_bits::List;
 use std::alloc::{AllocError, Global};
-
-/// The number as one of 32 bits. For more there is no memory.
-fn number_of(n: usize) -> Result<u32, AllocError>
-    ensures { IfOk result (λ number. number ≡ n) }
-{
-    if n <= 4_294_967_295 {
-        Ok(n as u32)
-    } else {
-        Err(AllocError)
-    }
-}
 
 /// So many empty lists.
 fn no_lists(alloc: Global, count: usize) -> Result<Vec<List<u32>>, AllocError>
