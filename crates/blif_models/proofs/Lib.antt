@@ -11,3 +11,4 @@ pub mod NumberedGraphs
 pub mod Rankings
 pub mod Tours
 pub mod Arranged
+pub mod KeptModels

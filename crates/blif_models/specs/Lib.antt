@@ -11,3 +11,4 @@ pub mod Orderings
 pub mod NumberedGraphs
 pub mod Ranks
 pub mod Arrangements
+pub mod Kept

@@ -11,6 +11,7 @@ ghost use Rattle.blif_models.specs.Plain.{PlainIsWhole};
 mod arranging;
 mod cycles;
 mod graph;
+mod kept;
 mod layout;
 mod limits;
 mod numbered;
@@ -22,6 +23,7 @@ mod tour;
 pub use arranging::{Arrangement, arrange_models, holdings_of};
 pub use cycles::{Holding, first_turning};
 pub use graph::{Own, holds_of, own_in};
+pub use kept::keep_reached;
 pub use layout::{Whole, lay_out};
 pub use limits::{Adding, line_passing};
 pub use numbered::{
