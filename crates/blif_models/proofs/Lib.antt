@@ -12,3 +12,4 @@ pub mod Rankings
 pub mod Tours
 pub mod Arranged
 pub mod KeptModels
+pub mod Merging

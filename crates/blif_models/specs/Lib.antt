@@ -12,3 +12,4 @@ pub mod NumberedGraphs
 pub mod Ranks
 pub mod Arrangements
 pub mod Kept
+pub mod Additions

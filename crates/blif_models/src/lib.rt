@@ -8,6 +8,7 @@ ghost use Rattle.blif_models.specs.Numberings.{LayoutsAreExpansions};
 ghost use Rattle.blif_models.specs.Orderings.{PlacesAreRanks, TotalsAreCounts};
 ghost use Rattle.blif_models.specs.Plain.{PlainIsWhole};
 
+mod adding;
 mod arranging;
 mod cycles;
 mod graph;
@@ -20,6 +21,7 @@ mod reached;
 mod totals;
 mod tour;
 
+pub use adding::limit_line;
 pub use arranging::{Arrangement, arrange_models, holdings_of};
 pub use cycles::{Holding, first_turning};
 pub use graph::{Own, holds_of, own_in};
