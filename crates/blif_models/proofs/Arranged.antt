@@ -101,7 +101,7 @@ all_from : (p : ℕ → Bool) (xs : List ℕ) → ((x : ℕ) → is_in xs x ≡ 
 all_from p [] h = refl
 all_from p (x ∷ xs) h = ap (λ b. b && list_all p xs) (h x (ap (λ b. b || is_in xs x) (own x))) ∙ all_from p xs (λ y e. h y (or_right (x == y) (is_in xs y) e))
 
-reached_self : (holds : List (List ℕ)) (levels m : ℕ) → is_reached holds levels m m ≡ true
+pub reached_self : (holds : List (List ℕ)) (levels m : ℕ) → is_reached holds levels m m ≡ true
 unfolding is_reached
 reached_self holds zero m = own m
 reached_self holds (suc levels) m = ap (λ b. b || list_any (λ next. is_reached holds levels next m) (reads_of holds m)) (own m)

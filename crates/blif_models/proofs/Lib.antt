@@ -13,3 +13,4 @@ pub mod Tours
 pub mod Arranged
 pub mod KeptModels
 pub mod Merging
+pub mod Composing

@@ -1,5 +1,5 @@
 -- What the lines of a main model add to the whole.
-use Rattle.std.specs.Prelude.{ℕ, suc, ◌<◌, ◌≤◌, nat_lt, Bool, true, false, not, List, [], ◌∷◌, Option, Some, None}
+use Rattle.std.specs.Prelude.{ℕ, suc, ◌<◌, ◌≤◌, nat_lt, Bool, true, false, not, List, [], ◌∷◌, Option, Some, None, map}
 use Rattle.blif_models.specs.declared.limits.Adding.{Adding}
 use Rattle.blif_models.specs.declared.numbered.Entry.{Entry}
 use Rattle.blif_models.specs.declared.numbered.Entry.TheVariants as entries
@@ -30,3 +30,7 @@ abbrev pub goes_first : Option Adding → Option Adding → Bool
 goes_first None other = false
 goes_first (Some one) None = true
 goes_first (Some one) (Some other) = not (nat_lt other.line one.line)
+
+-- the lines of entries
+abbrev pub lines_of : List Entry → List Adding
+lines_of others = map (adding_by (λ m. 0) (λ m. 0)) others

@@ -13,3 +13,4 @@ pub mod Ranks
 pub mod Arrangements
 pub mod Kept
 pub mod Additions
+pub mod Expanding
