@@ -172,12 +172,11 @@ some_entry [] m place entry e = cc
 some_entry (one ∷ models) zero place entry e = omega arith
 some_entry (one ∷ models) (suc m) place entry e = omega (arith, some_entry models m place entry e)
 
-pub places_rank : (models : List NumberedModel) (order : List ℕ) (main : ℕ) → IsArranged models order → (rank : ℕ → ℕ) × IsRanked models rank × (rank main ≤ length models)
-places_rank models order main a = (
-  place_in order,
-  numbered_are_graphs.ranks models order a.ordered (λ m place instance e. a.each m (some_entry models m place (entries.Instance instance) e)),
-  omega (arith, place_within order main, order_length order (length models) a.once a.within),
-)
+pub places_ranked : (models : List NumberedModel) (order : List ℕ) → IsArranged models order → IsRanked models (place_in order)
+places_ranked models order a = numbered_are_graphs.ranks models order a.ordered (λ m place instance e. a.each m (some_entry models m place (entries.Instance instance) e))
+
+pub place_low : (models : List NumberedModel) (order : List ℕ) (m : ℕ) → IsArranged models order → place_in order m ≤ length models
+place_low models order m a = omega (arith, place_within order m, order_length order (length models) a.once a.within)
 
 pub all_lower : (most : ℕ) (counts : List ℕ) → 0 < most → list_all (λ n. nat_lt n most) counts ≡ true → (m : ℕ) → get_or counts m 0 < most
 all_lower most [] pos e m = pos

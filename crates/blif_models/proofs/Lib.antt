@@ -14,3 +14,4 @@ pub mod Arranged
 pub mod KeptModels
 pub mod Merging
 pub mod Composing
+pub mod Agreeing

@@ -47,7 +47,7 @@ none_held f [] h = refl
 none_held f (n ∷ ns) h = absurd (h n (ap (λ b. b || is_in ns n) (own n)))
 
 module _ (holds : List (List ℕ)) (noted order : List ℕ) (o : Ordered holds [] order) where
-  steady : (l m : ℕ) → is_in order m ≡ true → place_in order m ≤ l → total_within holds noted l m ≡ total_within holds noted (suc l) m
+  pub steady : (l m : ℕ) → is_in order m ≡ true → place_in order m ≤ l → total_within holds noted l m ≡ total_within holds noted (suc l) m
   unfolding total_within
   steady zero m e le = omega (arith, none_held (total_within holds noted zero) (reads_of holds m) (λ n f. let low : place_in order n < 0 = omega (arith, (inner holds order o m n e f).0, le) in omega (arith, low)))
   steady (suc l) m e le =

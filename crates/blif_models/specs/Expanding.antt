@@ -47,8 +47,8 @@ pub record IsWholeOf (models : List NumberedModel) (main : ℕ) (whole : Whole) 
   pub within : All (LaidIs (vec_len whole.spots)) whole.laid.items
   pub own_names : AreMore (main_table main (model_at models main).names) whole.spots.items
 
--- each comes only where none before it does
+-- each comes only where none before it does: a line by which the limits are passed, and a whole, where there is an order of all models
 abbrev pub OutcomeIs : List NumberedModel → ℕ → List Adding → Outcome → Type 0
 OutcomeIs models main inputs (outcomes.Turning line) = option_map (λ one. one.line) (turning_in models) ≡ Some line
-OutcomeIs models main inputs (outcomes.TooMany line) = (turning_in models ≡ None) × (limit_in models main inputs ≡ Some line)
-OutcomeIs models main inputs (outcomes.Expanded whole) = (turning_in models ≡ None) × (limit_in models main inputs ≡ None) × IsWholeOf models main whole
+OutcomeIs models main inputs (outcomes.TooMany line) = (order : List ℕ) × IsArranged models order × (limit_in models main inputs ≡ Some line)
+OutcomeIs models main inputs (outcomes.Expanded whole) = (limit_in models main inputs ≡ None) × IsWholeOf models main whole

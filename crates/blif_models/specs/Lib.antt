@@ -14,3 +14,4 @@ pub mod Arrangements
 pub mod Kept
 pub mod Additions
 pub mod Expanding
+pub mod Agreement

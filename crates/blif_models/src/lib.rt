@@ -2,6 +2,7 @@
 //! may be wrong with several of them.
 #![tactic(auto)]
 
+ghost use Rattle.blif_models.specs.Agreement.{ExpansionsAgree};
 ghost use Rattle.blif_models.specs.ModelGraphs.{CountsAreTotals};
 ghost use Rattle.blif_models.specs.NumberedGraphs.{NumberedAreGraphs};
 ghost use Rattle.blif_models.specs.Numberings.{LayoutsAreExpansions};
@@ -61,4 +62,10 @@ pub fn orders_count()
 /// What numbered models hold and have is what the models by name hold and have, and the places of an order of them are ranks.
 pub fn numbered_models_are_graphs()
     ensures { NumberedAreGraphs }
+{}
+
+/// The whole of a main model by numbers is, name by name, what the main model expands into; and the line by which the limits are
+/// passed is the same by numbers and by names.
+pub fn expansions_agree()
+    ensures { ExpansionsAgree }
 {}

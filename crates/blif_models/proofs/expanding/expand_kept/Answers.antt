@@ -9,7 +9,8 @@ use Rattle.blif_models.specs.Expanding.{AreCounts, limit_in, total_in}
 use Rattle.blif_models.specs.Layouts.{counted, laid_whole, model_at, no_model}
 use Rattle.blif_models.specs.ModelFaults.{by_line, passing_line}
 use Rattle.blif_models.specs.NumberedGraphs.{latches_of, signals_of}
-use Rattle.blif_models.proofs.Composing.{all_lower, any_default, entries_within, limits_alike, places_rank, rising_alike, totals_at}
+use Rattle.blif_models.specs.Orderings.{place_in}
+use Rattle.blif_models.proofs.Composing.{all_lower, any_default, entries_within, limits_alike, place_low, places_ranked, rising_alike, totals_at}
 use Rattle.blif_models.proofs.expanding.expand_kept.Goals as goal
 
 pub limit_line-requires-clause-entries : goal.limit_line-requires-clause-entries
@@ -34,14 +35,14 @@ returns-in-Some c =
     ∙ (λ j. passing_line MOST_SIGNALS MOST_VARIABLES 0 0 (by_line (inputs ++ map (adding_by (λ m. get_or (c.deref-2.ensures.value j) m 0) (λ m. get_or (c.deref-3.ensures.value j) m 0)) (there j))))
     ∙ limits_alike (length models) MOST_SIGNALS MOST_VARIABLES (omega arith) (omega arith) (λ m. get_or counts.signals.items m 0) (λ m. get_or counts.latches.items m 0) (total_in models signals_of) (total_in models latches_of)
     (totals_at models order signals_of counts.signals.items arranged told.of_signals) (totals_at models order latches_of counts.latches.items arranged told.of_latches) inputs (model_at models main).entries (entries_within models main c.requires.main c.requires.numbered) in
-    (arranged.straight, sym limit ∙ c.in-Some.is)
+    (order, arranged, sym limit ∙ c.in-Some.is)
 
 pub lay_out-requires-clause-ranked : goal.lay_out-requires-clause-ranked
 lay_out-requires-clause-ranked c =
     let models = c.args.models.now in
     let order = c.in-Ordered.order.items in
     let arranged : IsArranged models order = subst (ArrangementIs models) c.in-Ordered.is c.in_ok-line.ensures in
-    places_rank models order c.args.main arranged
+    (place_in order, places_ranked models order arranged, place_low models order c.args.main arranged)
 
 pub returns : goal.returns
 returns c =
@@ -59,7 +60,6 @@ returns c =
     ∙ limits_alike (length models) MOST_SIGNALS MOST_VARIABLES (omega arith) (omega arith) (λ m. get_or counts.signals.items m 0) (λ m. get_or counts.latches.items m 0) (total_in models signals_of) (total_in models latches_of)
     (totals_at models order signals_of counts.signals.items arranged told.of_signals) (totals_at models order latches_of counts.latches.items arranged told.of_latches) inputs (model_at models main).entries (entries_within models main c.requires.main c.requires.numbered) in
     let lower : list_all (λ n. nat_lt n 18446744073709551615) counts.copies.items ≡ true = ap (list_all (λ n. nat_lt n 18446744073709551615)) (sym c.deref-4.ensures.value) ∙ sym c.are_lower.ensures ∙ c.if-not-are_lower.false in (
-      arranged.straight,
       sym limit ∙ c.in_default.is,
       record {
         order = order;
