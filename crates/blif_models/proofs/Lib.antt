@@ -15,3 +15,4 @@ pub mod KeptModels
 pub mod Merging
 pub mod Composing
 pub mod Agreeing
+pub mod HoldingThemselves

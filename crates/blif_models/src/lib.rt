@@ -2,7 +2,7 @@
 //! may be wrong with several of them.
 #![tactic(auto)]
 
-ghost use Rattle.blif_models.specs.Agreement.{ExpansionsAgree};
+ghost use Rattle.blif_models.specs.Agreement.{ExpansionsAgree, ReachedAgrees};
 ghost use Rattle.blif_models.specs.ModelGraphs.{CountsAreTotals};
 ghost use Rattle.blif_models.specs.NumberedGraphs.{NumberedAreGraphs};
 ghost use Rattle.blif_models.specs.Numberings.{LayoutsAreExpansions};
@@ -68,4 +68,9 @@ pub fn numbered_models_are_graphs()
 /// passed is the same by numbers and by names.
 pub fn expansions_agree()
     ensures { ExpansionsAgree }
+{}
+
+/// What models hold through any number of levels, and by which instances they hold themselves, is the same by numbers and by names.
+pub fn reached_agrees()
+    ensures { ReachedAgrees }
 {}
