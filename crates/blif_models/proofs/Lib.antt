@@ -16,3 +16,4 @@ pub mod Merging
 pub mod Composing
 pub mod Agreeing
 pub mod HoldingThemselves
+pub mod TurningLines

@@ -2,7 +2,7 @@
 //! may be wrong with several of them.
 #![tactic(auto)]
 
-ghost use Rattle.blif_models.specs.Agreement.{ExpansionsAgree, ReachedAgrees};
+ghost use Rattle.blif_models.specs.Agreement.{ExpansionsAgree, OutcomesAgree, ReachedAgrees, TurningsAgree};
 ghost use Rattle.blif_models.specs.ModelGraphs.{CountsAreTotals};
 ghost use Rattle.blif_models.specs.NumberedGraphs.{NumberedAreGraphs};
 ghost use Rattle.blif_models.specs.Numberings.{LayoutsAreExpansions};
@@ -73,4 +73,14 @@ pub fn expansions_agree()
 /// What models hold through any number of levels, and by which instances they hold themselves, is the same by numbers and by names.
 pub fn reached_agrees()
     ensures { ReachedAgrees }
+{}
+
+/// The first line by which a model holds itself is the same by numbers and by names, where lines rise.
+pub fn turnings_agree()
+    ensures { TurningsAgree }
+{}
+
+/// What comes of a main model by numbers is what comes of it by names: each kind of fault at its first line, or what it expands into.
+pub fn outcomes_agree()
+    ensures { OutcomesAgree }
 {}
