@@ -148,7 +148,7 @@ rising_alike f g f' g' (entries.Latch one ∷ others) h = (from_alike f g f' g' 
 rising_alike f g f' g' (entries.Instance one ∷ others) h = (from_alike f g f' g' (suc one.line) others h.0, rising_alike f g f' g' others h.1)
 
 -- the main model keeps its entries
-kept_at : (among : ℕ → Bool) (k m : ℕ) (models : List NumberedModel) → among (k + m) ≡ true → model_at (kept_from among k models) m ≡ model_at models m
+pub kept_at : (among : ℕ → Bool) (k m : ℕ) (models : List NumberedModel) → among (k + m) ≡ true → model_at (kept_from among k models) m ≡ model_at models m
 kept_at among k m [] e = refl
 kept_at among k zero (one ∷ models) e = let same : k + 0 ≡ k = omega arith in ap (λ (b : Bool). if b then one else emptied one) (sym (ap among same) ∙ e)
 kept_at among k (suc m) (one ∷ models) e = let same : k + suc m ≡ suc k + m = omega arith in kept_at among (suc k) m models (sym (ap among same) ∙ e)

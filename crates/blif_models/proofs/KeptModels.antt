@@ -82,7 +82,7 @@ module _ (among : ℕ → Bool) (models now : List NumberedModel) (i : ℕ) (d :
 
 -- numbers stay those of names and models
 
-kept_names : (among : ℕ → Bool) (k m : ℕ) (models : List NumberedModel) → (model_at (kept_from among k models) m).names ≡ (model_at models m).names
+pub kept_names : (among : ℕ → Bool) (k m : ℕ) (models : List NumberedModel) → (model_at (kept_from among k models) m).names ≡ (model_at models m).names
 kept_names among k m [] = refl
 kept_names among k zero (one ∷ models) = by_cases (among k)
   where

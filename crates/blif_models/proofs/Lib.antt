@@ -17,3 +17,4 @@ pub mod Composing
 pub mod Agreeing
 pub mod HoldingThemselves
 pub mod TurningLines
+pub mod KeptReached

@@ -20,7 +20,7 @@ use Rattle.blif_models.specs.Numberings.{AreEntriesOf}
 use Rattle.blif_models.proofs.Orderings.{places_are_ranks}
 
 -- what a model of the list holds, also behind its end
-held_of : (numbered : List NumberedModel) (m : ℕ) → reads_of (all_held numbered) m ≡ held_by (model_at numbered m).entries
+pub held_of : (numbered : List NumberedModel) (m : ℕ) → reads_of (all_held numbered) m ≡ held_by (model_at numbered m).entries
 held_of [] m = refl
 held_of (one ∷ numbered) zero = refl
 held_of (one ∷ numbered) (suc m) = held_of numbered m

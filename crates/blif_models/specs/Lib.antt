@@ -15,3 +15,4 @@ pub mod Kept
 pub mod Additions
 pub mod Expanding
 pub mod Agreement
+pub mod KeptReached

@@ -3,6 +3,7 @@
 #![tactic(auto)]
 
 ghost use Rattle.blif_models.specs.Agreement.{ExpansionsAgree, OutcomesAgree, ReachedAgrees, TurningsAgree};
+ghost use Rattle.blif_models.specs.KeptReached.{KeptAgree};
 ghost use Rattle.blif_models.specs.ModelGraphs.{CountsAreTotals};
 ghost use Rattle.blif_models.specs.NumberedGraphs.{NumberedAreGraphs};
 ghost use Rattle.blif_models.specs.Numberings.{LayoutsAreExpansions};
@@ -83,4 +84,9 @@ pub fn turnings_agree()
 /// What comes of a main model by numbers is what comes of it by names: each kind of fault at its first line, or what it expands into.
 pub fn outcomes_agree()
     ensures { OutcomesAgree }
+{}
+
+/// Models of which only those that a main one reaches keep their entries have the same main one by name, which reaches the same ones.
+pub fn kept_agree()
+    ensures { KeptAgree }
 {}
