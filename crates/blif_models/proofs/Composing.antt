@@ -1,5 +1,5 @@
 -- What a main model adds in numbers that are capped, and what its layout asks for.
-use Rattle.std.proofs.Common.{◌≡◌, ℕ, zero, suc, ◌+◌, ◌-◌, ◌^◌, ◌==◌, ◌<◌, ◌≤◌, ◌||◌, Bool, true, false, List, [], ◌∷◌, ◌++◌, Some, length, map, get_or, nat_lt, refl, ap, sym, ◌∙◌, subst, arith, if◌then◌else◌}
+use Rattle.std.proofs.Common.{◌≡◌, ℕ, zero, suc, ◌+◌, ◌-◌, ◌^◌, ◌==◌, ◌<◌, ◌≤◌, ◌||◌, Bool, true, false, List, [], ◌∷◌, ◌++◌, Option, Some, length, map, get_or, nat_lt, refl, ap, sym, ◌∙◌, subst, arith, if◌then◌else◌}
 use Rattle.std.specs.Prelude.{All, slice_get}
 use Rattle.std.specs.List.{list_all}
 use Rattle.std.proofs.lemmas.Bool.{and_parts, or_right}
@@ -8,18 +8,20 @@ use Rattle.std.proofs.lemmas.List.Elements.{All-cons, All-head, All-nil, All-tai
 use Rattle.blif_order.specs.Orders.{is_in}
 use Rattle.blif_order.proofs.Ends.{order_length}
 use Rattle.blif_order.proofs.Walks.{own}
+use Rattle.edge_bits.specs.declared.limits.TheConstants.{MOST_SIGNALS, MOST_VARIABLES}
+use Rattle.blif_models.specs.declared.expanding.Counts.{Counts}
 use Rattle.blif_models.specs.declared.limits.Adding.{Adding}
 use Rattle.blif_models.specs.declared.numbered.Entry.{Entry}
 use Rattle.blif_models.specs.declared.numbered.Entry.TheVariants as entries
 use Rattle.blif_models.specs.declared.numbered.NumberedModel.{NumberedModel}
 use Rattle.blif_models.specs.Additions.{AreFrom, AreRising, HoldsWithin, adding_by}
 use Rattle.blif_models.specs.Arrangements.{IsArranged}
-use Rattle.blif_models.specs.Expanding.{CountsAre, total_in}
+use Rattle.blif_models.specs.Expanding.{AreCounts, CountsAre, limit_in, total_in}
 use Rattle.blif_models.specs.Graphs.{capped, is_reached}
 use Rattle.blif_models.specs.Kept.{emptied, kept_from, reached_models}
 use Rattle.blif_models.specs.Layouts.{AreNumbered, EntryIs, IsRanked, model_at, no_model}
 use Rattle.blif_models.specs.ModelFaults.{by_line, passing_line, put_by_line}
-use Rattle.blif_models.specs.NumberedGraphs.{all_held}
+use Rattle.blif_models.specs.NumberedGraphs.{all_held, latches_of, signals_of}
 use Rattle.blif_models.specs.Orderings.{place_in}
 use Rattle.blif_models.proofs.Arranged.{reached_self}
 use Rattle.blif_models.proofs.NumberedGraphs.{numbered_are_graphs}
@@ -188,3 +190,13 @@ pub any_default : (models : List NumberedModel) (m : ℕ) (d e : NumberedModel) 
 any_default [] m d e lt = absurd (omega (arith, lt))
 any_default (one ∷ models) zero d e lt = refl
 any_default (one ∷ models) (suc m) d e lt = any_default models m d e (omega (arith, lt))
+
+-- the line that is told of capped numbers is that of a main model
+pub limit_told : (models : List NumberedModel) (order : List ℕ) (main : ℕ) (inputs : List Adding) (counts : Counts) (signals latches : List ℕ) (others : List Entry) (line : Option ℕ) → IsArranged models order → AreCounts models order counts → main < length models → AreNumbered models
+    → signals ≡ counts.signals.items → latches ≡ counts.latches.items → others ≡ (model_at models main).entries
+    → line ≡ passing_line MOST_SIGNALS MOST_VARIABLES 0 0 (by_line (inputs ++ map (adding_by (λ m. get_or signals m 0) (λ m. get_or latches m 0)) others)) → line ≡ limit_in models main inputs
+limit_told models order main inputs counts signals latches others line a told lt numbered s l o e =
+    e
+    ∙ (λ j. passing_line MOST_SIGNALS MOST_VARIABLES 0 0 (by_line (inputs ++ map (adding_by (λ m. get_or (s j) m 0) (λ m. get_or (l j) m 0)) (o j))))
+    ∙ limits_alike (length models) MOST_SIGNALS MOST_VARIABLES (omega arith) (omega arith) (λ m. get_or counts.signals.items m 0) (λ m. get_or counts.latches.items m 0) (total_in models signals_of) (total_in models latches_of)
+    (totals_at models order signals_of counts.signals.items a told.of_signals) (totals_at models order latches_of counts.latches.items a told.of_latches) inputs (model_at models main).entries (entries_within models main lt numbered)

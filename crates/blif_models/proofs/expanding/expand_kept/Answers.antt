@@ -1,16 +1,13 @@
-use Rattle.std.proofs.Common.{◌≡◌, ◌∙◌, ◌++◌, List, arith, get_or, length, map, nat_lt, subst, sym, ap, true, ℕ}
+use Rattle.std.proofs.Common.{◌≡◌, ◌∙◌, List, arith, get_or, length, nat_lt, subst, sym, ap, true, ℕ}
 use Rattle.std.specs.List.{list_all}
-use Rattle.edge_bits.specs.declared.limits.TheConstants.{MOST_SIGNALS, MOST_VARIABLES}
 use Rattle.blif_models.specs.declared.numbered.Entry.{Entry}
 use Rattle.blif_models.specs.declared.numbered.NumberedModel.{NumberedModel}
-use Rattle.blif_models.specs.Additions.{AreRising, adding_by, lines_of}
+use Rattle.blif_models.specs.Additions.{AreRising, lines_of}
 use Rattle.blif_models.specs.Arrangements.{ArrangementIs, IsArranged}
-use Rattle.blif_models.specs.Expanding.{AreCounts, limit_in, total_in}
+use Rattle.blif_models.specs.Expanding.{AreCounts}
 use Rattle.blif_models.specs.Layouts.{counted, laid_whole, model_at, no_model}
-use Rattle.blif_models.specs.ModelFaults.{by_line, passing_line}
-use Rattle.blif_models.specs.NumberedGraphs.{latches_of, signals_of}
 use Rattle.blif_models.specs.Orderings.{place_in}
-use Rattle.blif_models.proofs.Composing.{all_lower, any_default, entries_within, limits_alike, place_low, places_ranked, rising_alike, totals_at}
+use Rattle.blif_models.proofs.Composing.{all_lower, any_default, limit_told, place_low, places_ranked, rising_alike}
 use Rattle.blif_models.proofs.expanding.expand_kept.Goals as goal
 
 pub limit_line-requires-clause-entries : goal.limit_line-requires-clause-entries
@@ -30,11 +27,7 @@ returns-in-Some c =
     let arranged : IsArranged models order = subst (ArrangementIs models) c.in-Ordered.is c.in_ok-line.ensures in
     let told : AreCounts models order counts = subst (λ (ms : List ℕ). AreCounts models ms counts) c.deref.ensures.value c.in_ok-counts.ensures in
     let there : c.as_slice-entries.result.now ≡ (model_at models main).entries = c.as_slice-entries.ensures ∙ ap (λ (one : NumberedModel). one.entries) (any_default models main c.index-models-main.result no_model c.requires.main) in
-    let limit : c.in_ok-line-2.field-0 ≡ limit_in models main inputs =
-    c.in_ok-line-2.ensures
-    ∙ (λ j. passing_line MOST_SIGNALS MOST_VARIABLES 0 0 (by_line (inputs ++ map (adding_by (λ m. get_or (c.deref-2.ensures.value j) m 0) (λ m. get_or (c.deref-3.ensures.value j) m 0)) (there j))))
-    ∙ limits_alike (length models) MOST_SIGNALS MOST_VARIABLES (omega arith) (omega arith) (λ m. get_or counts.signals.items m 0) (λ m. get_or counts.latches.items m 0) (total_in models signals_of) (total_in models latches_of)
-    (totals_at models order signals_of counts.signals.items arranged told.of_signals) (totals_at models order latches_of counts.latches.items arranged told.of_latches) inputs (model_at models main).entries (entries_within models main c.requires.main c.requires.numbered) in
+    let limit = limit_told models order main inputs counts c.deref-2.result.now c.deref-3.result.now c.as_slice-entries.result.now c.in_ok-line-2.field-0 arranged told c.requires.main c.requires.numbered c.deref-2.ensures.value c.deref-3.ensures.value there c.in_ok-line-2.ensures in
     (order, arranged, sym limit ∙ c.in-Some.is)
 
 pub lay_out-requires-clause-ranked : goal.lay_out-requires-clause-ranked
@@ -54,11 +47,7 @@ returns c =
     let arranged : IsArranged models order = subst (ArrangementIs models) c.in-Ordered.is c.in_ok-line.ensures in
     let told : AreCounts models order counts = subst (λ (ms : List ℕ). AreCounts models ms counts) c.deref.ensures.value c.in_ok-counts.ensures in
     let there : c.as_slice-entries.result.now ≡ (model_at models main).entries = c.as_slice-entries.ensures ∙ ap (λ (one : NumberedModel). one.entries) (any_default models main c.index-models-main.result no_model c.requires.main) in
-    let limit : c.in_ok-line-2.field-0 ≡ limit_in models main inputs =
-    c.in_ok-line-2.ensures
-    ∙ (λ j. passing_line MOST_SIGNALS MOST_VARIABLES 0 0 (by_line (inputs ++ map (adding_by (λ m. get_or (c.deref-2.ensures.value j) m 0) (λ m. get_or (c.deref-3.ensures.value j) m 0)) (there j))))
-    ∙ limits_alike (length models) MOST_SIGNALS MOST_VARIABLES (omega arith) (omega arith) (λ m. get_or counts.signals.items m 0) (λ m. get_or counts.latches.items m 0) (total_in models signals_of) (total_in models latches_of)
-    (totals_at models order signals_of counts.signals.items arranged told.of_signals) (totals_at models order latches_of counts.latches.items arranged told.of_latches) inputs (model_at models main).entries (entries_within models main c.requires.main c.requires.numbered) in
+    let limit = limit_told models order main inputs counts c.deref-2.result.now c.deref-3.result.now c.as_slice-entries.result.now c.in_ok-line-2.field-0 arranged told c.requires.main c.requires.numbered c.deref-2.ensures.value c.deref-3.ensures.value there c.in_ok-line-2.ensures in
     let lower : list_all (λ n. nat_lt n 18446744073709551615) counts.copies.items ≡ true = ap (list_all (λ n. nat_lt n 18446744073709551615)) (sym c.deref-4.ensures.value) ∙ sym c.are_lower.ensures ∙ c.if-not-are_lower.false in (
       sym limit ∙ c.in_default.is,
       record {
