@@ -20,31 +20,31 @@ use Rattle.function_laws.specs.declared.making.BddMaking.TheVariants as bdds
 use Rattle.function_laws.specs.declared.making.AddMaking.TheVariants as adds
 use Rattle.function_laws.specs.declared.making.ExactMaking.TheVariants as exacts
 use Rattle.function_laws.specs.declared.making.ZddMaking.TheVariants as zdds
-use Rattle.function_laws.specs.Families.{base, empty}
+use Rattle.function_laws.specs.Families.{base, diff, empty, meet, product, quotient, union}
 use Rattle.function_laws.specs.Kinds.{Denoted, Fits, ValueOf}
 use Rattle.function_laws.specs.Lists.{all_below, list_of, truth}
 use Rattle.function_laws.specs.Makings.{kind_made, needs_nodes as needs_nodes_in, taken}
 use Rattle.function_laws.specs.Numbers.{exactly, is_value}
 use Rattle.function_laws.specs.Outcomes.{Outcome, in_range, makes, overflows, restricts}
 use Rattle.function_laws.specs.Restricting.{Restricts}
-use Rattle.function_laws.specs.Steps.{IsNew, Replies, needs_no_node}
+use Rattle.function_laws.specs.Steps.{IsNew, Replies, needs_no_node, outcome as outcome_in}
 use Rattle.function_laws.specs.Tables.{Table}
-use Rattle.function_laws.specs.Values.{IsOf, constant, negation, projection}
+use Rattle.function_laws.specs.Values.{IsOf, conjunction, constant, disjunction, exclusive, negation, projection}
 use Rattle.function_laws.proofs.BoundedRestriction.{Restricts-list_of}
 use Rattle.function_laws.proofs.ListLemmas.{false-all_below, get_or-list_of, length-list_of, list_of-same, true-all_below}
 use Rattle.function_laws.proofs.WidthLemmas.{same-from_lists}
 use Rattle.node_store.specs.declared.grow.Stop.{Stop}
 use Rattle.node_store.specs.Listed.{listed, listed_at}
 use Rattle.node_store.specs.Two.{Overflows}
-use Rattle.node_store.specs.Views.{View, Denotes, Grown, Is, bdd_at}
+use Rattle.node_store.specs.Views.{View, AreTwo, Denotes, Grown, Is, bdd_at, family_at}
 use Rattle.node_store.specs.ViewLaws.{Is-from}
-use Rattle.ite_core.proofs.OutcomeLaws.{outcome-not, outcome-one, outcome-zero, outcome-var}
+use Rattle.ite_core.proofs.OutcomeLaws.{outcome-and, outcome-not, outcome-one, outcome-or, outcome-var, outcome-xor, outcome-zero}
 use Rattle.operator_calls.specs.Making.{answer, exceeds, may_exceed, takes, told_by}
 use Rattle.operator_calls.proofs.MakingLaws.{exceeds-may}
 use Rattle.operator_calls.specs.Taking.{CanTakeAll}
 use Rattle.quantify_ops.specs.Restricted.{Restricted}
 use Rattle.quantify_ops.proofs.OutcomeLaws.{outcome-restrict}
-use Rattle.zdd_ops.proofs.OutcomeLaws.{outcome-base, outcome-empty}
+use Rattle.zdd_ops.proofs.OutcomeLaws.{outcome-base, outcome-diff, outcome-empty, outcome-meet, outcome-product, outcome-quotient, outcome-union}
 use Rattle.seat_guard.specs.declared.view.Draws.{Draws}
 use Rattle.shared_store.specs.declared.shared.Shared.{Shared}
 use Rattle.shared_store.specs.Sharing.{view_of}
@@ -161,6 +161,17 @@ module _ (d : Draws) (v : View) (of : IsSmall v) (stands : Stands v d) where
   value : (k : Kind) (T : Type 0) (call : Call) (f : ℕ → ValueOf k) → T × HasValue k (λ u e. Denotes k u e f) d v call → T × HasOutcome d v call k Made (λ u e. Denotes k u e f) ⊥
   value k T call f told = (told.0, from_value k d v call f told.1)
 
+  -- an operation on two rows of a kind, by what comes of it
+  two : (k : Kind) (a b : Name) → IsNamed k d.rows a → IsNamed k d.rows b → (call : Call) (f : ℕ → ValueOf k)
+      → ((t : Table) → t.live d.session a ≡ Some (listed_at k v (edge a)) → t.live d.session b ≡ Some (listed_at k v (edge b)) → outcome_in t d.session call ≡ Some (makes (listed k v f)))
+      → AreTwo k v (edge a) (edge b) × HasOutcome d v call k Made (λ u e. Denotes k u e f) ⊥
+  two k a b first second call f comes =
+      let s = own k a first v stands in
+      let r = own k b second v stands in (
+        record { first = s.0; second = r.0 },
+        from_value k d v call f (has_value k d v call f (λ t agrees. comes t (live d t a (listed_at k v (edge a)) agrees s.1) (live d t b (listed_at k v (edge b)) agrees r.1))),
+      )
+
   exact : (T : Type 0) (call : Call) (f : ℕ → ℤ) → T × HasExact d v call f → T × HasOutcome d v call kinds.Add Made (λ u e. Denotes kinds.Add u e f) (Overflows kinds.Add f)
   exact T call f told = (told.0, from_exact d v call f told.1)
 
@@ -169,9 +180,9 @@ module _ (d : Draws) (v : View) (of : IsSmall v) (stands : Stands v d) where
   told (makings.Bdd bdds.Zero) can = (tt, from_value kinds.Bdd d v _ (constant false) (has_value kinds.Bdd d v _ (constant false) (λ t agrees. outcome-zero v t.sizes t.cells (t.live d.session) (vars d t v agrees stands))))
   told (makings.Bdd (bdds.Var m)) can = let var = operations.variable_in d v of stands m can.0 in (var, from_value kinds.Bdd d v _ (projection m) (has_value kinds.Bdd d v _ (projection m) (λ t agrees. outcome-var v t.sizes t.cells (t.live d.session) (vars d t v agrees stands) m var.1)))
   told (makings.Bdd (bdds.Not a)) can = let s = own kinds.Bdd a can.0 v stands in (s.0, from_value kinds.Bdd d v _ (negation (bdd_at v (edge a))) (has_value kinds.Bdd d v _ (negation (bdd_at v (edge a))) (λ t agrees. outcome-not v t.sizes t.cells (t.live d.session) a (edge a) (live d t a (listed_at kinds.Bdd v (edge a)) agrees s.1))))
-  told (makings.Bdd (bdds.And a b)) can = value kinds.Bdd _ _ _ (operations.told_and d a b (edge a) (edge b) (own kinds.Bdd a can.0) (own kinds.Bdd b can.1.0) v of stands)
-  told (makings.Bdd (bdds.Or a b)) can = value kinds.Bdd _ _ _ (operations.told_or d a b (edge a) (edge b) (own kinds.Bdd a can.0) (own kinds.Bdd b can.1.0) v of stands)
-  told (makings.Bdd (bdds.Xor a b)) can = value kinds.Bdd _ _ _ (operations.told_xor d a b (edge a) (edge b) (own kinds.Bdd a can.0) (own kinds.Bdd b can.1.0) v of stands)
+  told (makings.Bdd (bdds.And a b)) can = two kinds.Bdd a b can.0 can.1.0 _ (conjunction (bdd_at v (edge a)) (bdd_at v (edge b))) (λ t. outcome-and v t.sizes t.cells (t.live d.session) a b (edge a) (edge b))
+  told (makings.Bdd (bdds.Or a b)) can = two kinds.Bdd a b can.0 can.1.0 _ (disjunction (bdd_at v (edge a)) (bdd_at v (edge b))) (λ t. outcome-or v t.sizes t.cells (t.live d.session) a b (edge a) (edge b))
+  told (makings.Bdd (bdds.Xor a b)) can = two kinds.Bdd a b can.0 can.1.0 _ (exclusive (bdd_at v (edge a)) (bdd_at v (edge b))) (λ t. outcome-xor v t.sizes t.cells (t.live d.session) a b (edge a) (edge b))
   told (makings.Bdd (bdds.Ite a b c)) can = value kinds.Bdd _ _ _ (operations.told_ite d a b c (edge a) (edge b) (edge c) (own kinds.Bdd a can.0) (own kinds.Bdd b can.1.0) (own kinds.Bdd c can.1.1.0) v of stands)
   told (makings.Bdd (bdds.Cofactor a m bit)) can = value kinds.Bdd _ _ _ (operations.told_cofactor d a (edge a) (own kinds.Bdd a can.0) v of stands m bit can.1.0)
   told (makings.Bdd (bdds.Exists a vs)) can = value kinds.Bdd _ _ _ (operations.told_exists d a (edge a) (own kinds.Bdd a can.0) v of stands vs can.1.0)
@@ -197,14 +208,14 @@ module _ (d : Draws) (v : View) (of : IsSmall v) (stands : Stands v d) where
   told (makings.Zdd zdds.Empty) can = (tt, from_value kinds.Zdd d v _ empty (has_value kinds.Zdd d v _ empty (λ t agrees. outcome-empty v t.sizes t.cells (t.live d.session) (elements d t v agrees stands))))
   told (makings.Zdd zdds.Base) can = (tt, from_value kinds.Zdd d v _ base (has_value kinds.Zdd d v _ base (λ t agrees. outcome-base v t.sizes t.cells (t.live d.session) (elements d t v agrees stands))))
   told (makings.Zdd (zdds.Single m)) can = value kinds.Zdd _ _ _ (families.told_single d m can.0 v of stands)
-  told (makings.Zdd (zdds.Union a b)) can = value kinds.Zdd _ _ _ (families.told_union d a b (edge a) (edge b) (own kinds.Zdd a can.0) (own kinds.Zdd b can.1.0) v of stands)
-  told (makings.Zdd (zdds.Meet a b)) can = value kinds.Zdd _ _ _ (families.told_meet d a b (edge a) (edge b) (own kinds.Zdd a can.0) (own kinds.Zdd b can.1.0) v of stands)
-  told (makings.Zdd (zdds.Diff a b)) can = value kinds.Zdd _ _ _ (families.told_diff d a b (edge a) (edge b) (own kinds.Zdd a can.0) (own kinds.Zdd b can.1.0) v of stands)
+  told (makings.Zdd (zdds.Union a b)) can = two kinds.Zdd a b can.0 can.1.0 _ (union (family_at v (edge a)) (family_at v (edge b))) (λ t. outcome-union v t.sizes t.cells (t.live d.session) a b (edge a) (edge b))
+  told (makings.Zdd (zdds.Meet a b)) can = two kinds.Zdd a b can.0 can.1.0 _ (meet (family_at v (edge a)) (family_at v (edge b))) (λ t. outcome-meet v t.sizes t.cells (t.live d.session) a b (edge a) (edge b))
+  told (makings.Zdd (zdds.Diff a b)) can = two kinds.Zdd a b can.0 can.1.0 _ (diff (family_at v (edge a)) (family_at v (edge b))) (λ t. outcome-diff v t.sizes t.cells (t.live d.session) a b (edge a) (edge b))
   told (makings.Zdd (zdds.Subset1 a m)) can = value kinds.Zdd _ _ _ (families.told_subset1 d a (edge a) (own kinds.Zdd a can.0) m can.1.0 v of stands)
   told (makings.Zdd (zdds.Subset0 a m)) can = value kinds.Zdd _ _ _ (families.told_subset0 d a (edge a) (own kinds.Zdd a can.0) m can.1.0 v of stands)
   told (makings.Zdd (zdds.Change a m)) can = value kinds.Zdd _ _ _ (families.told_change d a (edge a) (own kinds.Zdd a can.0) m can.1.0 v of stands)
-  told (makings.Zdd (zdds.Product a b)) can = value kinds.Zdd _ _ _ (families.told_product d a b (edge a) (edge b) (own kinds.Zdd a can.0) (own kinds.Zdd b can.1.0) v of stands)
-  told (makings.Zdd (zdds.Quotient a b)) can = value kinds.Zdd _ _ _ (families.told_quotient d a b (edge a) (edge b) (own kinds.Zdd a can.0) (own kinds.Zdd b can.1.0) v of stands)
+  told (makings.Zdd (zdds.Product a b)) can = two kinds.Zdd a b can.0 can.1.0 _ (product (2 ^ v.elements) (family_at v (edge a)) (family_at v (edge b))) (λ t. outcome-product v t.sizes t.cells (t.live d.session) a b (edge a) (edge b))
+  told (makings.Zdd (zdds.Quotient a b)) can = two kinds.Zdd a b can.0 can.1.0 _ (quotient (2 ^ v.elements) (family_at v (edge a)) (family_at v (edge b))) (λ t. outcome-quotient v t.sizes t.cells (t.live d.session) a b (edge a) (edge b))
   told (makings.Zdd (zdds.Isop a b)) can = absurd can.0
 
 -- what a try of a making leaves, by what comes of it

@@ -20,7 +20,7 @@ use Rattle.function_laws.specs.Outcomes.{as_bdd, tells}
 use Rattle.function_laws.proofs.BridgeLemmas.{leq_of-list_of}
 use Rattle.node_store.specs.Memo.{Implies}
 use Rattle.function_laws.specs.Tables.{Table}
-use Rattle.function_laws.specs.Values.{conjunction, disjunction, exclusive, exists_all, forall_all, support}
+use Rattle.function_laws.specs.Values.{exists_all, forall_all, support}
 use Rattle.node_store.specs.Listed.{listed_at}
 use Rattle.node_store.specs.Three.{AreThree, ite_at}
 use Rattle.node_store.specs.Views.{View, AreTwo, Denotes, Is, IsVariable, bdd_at}
@@ -29,7 +29,7 @@ use Rattle.seat_guard.specs.Views.{Agrees}
 use Rattle.shared_store.specs.declared.shared.Shared.{Shared}
 use Rattle.shared_store.specs.Sharing.{view_of}
 use Rattle.ite_core.specs.Cofactors.{cofactor_at}
-use Rattle.ite_core.proofs.OutcomeLaws.{outcome-and, outcome-cofactor, outcome-ite, outcome-leq, outcome-or, outcome-xor}
+use Rattle.ite_core.proofs.OutcomeLaws.{outcome-cofactor, outcome-ite, outcome-leq}
 use Rattle.quantify_ops.specs.Composed.{composed_at}
 use Rattle.quantify_ops.specs.Quantified.{both_at}
 use Rattle.quantify_ops.proofs.OutcomeLaws.{outcome-and_exists, outcome-compose, outcome-exists, outcome-forall, outcome-support, outcome-vector_compose}
@@ -82,20 +82,11 @@ module _ (d : Draws) where
     two : AreTwo kinds.Bdd w e i
     two = record { first = (first x stands).0; second = (second x stands).0 }
 
-    pub told_and : AreTwo kinds.Bdd w e i × HasValue kinds.Bdd (λ v edge. Denotes kinds.Bdd v edge (conjunction (bdd_at w e) (bdd_at w i))) d w (calls.Makes (makings.Bdd (bdds.And a b)))
-    told_and = (two, has_value kinds.Bdd d w (calls.Makes (makings.Bdd (bdds.And a b))) (conjunction (bdd_at w e) (bdd_at w i)) (λ t agrees. outcome-and w t.sizes t.cells (t.live d.session) a b e i (live d t a (listed_at kinds.Bdd w e) agrees (first x stands).1) (live d t b (listed_at kinds.Bdd w i) agrees (second x stands).1)))
-
     abbrev own_first : (t : Table) → Agrees d t → t.live d.session a ≡ Some (listed_at kinds.Bdd w e)
     own_first t agrees = live d t a (listed_at kinds.Bdd w e) agrees (first x stands).1
 
     abbrev own_second : (t : Table) → Agrees d t → t.live d.session b ≡ Some (listed_at kinds.Bdd w i)
     own_second t agrees = live d t b (listed_at kinds.Bdd w i) agrees (second x stands).1
-
-    pub told_or : AreTwo kinds.Bdd w e i × HasValue kinds.Bdd (λ v edge. Denotes kinds.Bdd v edge (disjunction (bdd_at w e) (bdd_at w i))) d w (calls.Makes (makings.Bdd (bdds.Or a b)))
-    told_or = (two, has_value kinds.Bdd d w (calls.Makes (makings.Bdd (bdds.Or a b))) (disjunction (bdd_at w e) (bdd_at w i)) (λ t agrees. outcome-or w t.sizes t.cells (t.live d.session) a b e i (own_first t agrees) (own_second t agrees)))
-
-    pub told_xor : AreTwo kinds.Bdd w e i × HasValue kinds.Bdd (λ v edge. Denotes kinds.Bdd v edge (exclusive (bdd_at w e) (bdd_at w i))) d w (calls.Makes (makings.Bdd (bdds.Xor a b)))
-    told_xor = (two, has_value kinds.Bdd d w (calls.Makes (makings.Bdd (bdds.Xor a b))) (exclusive (bdd_at w e) (bdd_at w i)) (λ t agrees. outcome-xor w t.sizes t.cells (t.live d.session) a b e i (own_first t agrees) (own_second t agrees)))
 
     pub told_and_exists : (vs : List ℕ) → All (λ v. v < d.vars) vs
         → (AreTwo kinds.Bdd w e i × All (IsVariable kinds.Bdd w) vs) × HasValue kinds.Bdd (λ u edge. Denotes kinds.Bdd u edge (exists_all (both_at w e i) vs)) d w (calls.Makes (makings.Bdd (bdds.AndExists a b vs)))

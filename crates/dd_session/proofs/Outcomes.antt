@@ -1,7 +1,6 @@
 -- What comes of the operations, by the edges of their rows.
-use Rattle.std.proofs.Common.{◌≡◌, ℕ, Bool, true, false, not, Option, Some, IsTrue, ◌↔◌, refl, ap, sym, subst, ◌∙◌, ◌<◌, arith, List, length}
+use Rattle.std.proofs.Common.{◌≡◌, ℕ, Bool, false, Option, Some, IsTrue, ◌↔◌, ap, sym, subst, ◌∙◌, List, length}
 use Rattle.atomic_table.specs.Seated.{TableId}
-use Rattle.edge_bits.specs.Permanent.{true_slot, truth_edge}
 use Rattle.edge_bits.specs.declared.edges.Edge.{Edge}
 use Rattle.edge_bits.specs.declared.edges.Kind.{Kind}
 use Rattle.edge_bits.specs.declared.edges.Kind.TheVariants as kinds
@@ -9,30 +8,21 @@ use Rattle.function_laws.specs.declared.history.Name.{Name}
 use Rattle.function_laws.specs.declared.history.Function.{Function}
 use Rattle.function_laws.specs.declared.history.Call.{Call}
 use Rattle.function_laws.specs.declared.history.Call.TheVariants as calls
-use Rattle.function_laws.specs.declared.making.Making.TheVariants as makings
-use Rattle.function_laws.specs.declared.making.BddMaking.TheVariants as bdds
 use Rattle.function_laws.specs.Outcomes.{compares, makes, shows, with_one}
-use Rattle.function_laws.specs.Steps.{outcome}
 use Rattle.function_laws.specs.Tables.{Sizes, Table}
-use Rattle.function_laws.specs.Kinds.{BddFunction, ValueOf, flipped}
-use Rattle.function_laws.specs.Values.{assignment_of, constant, negation, projection}
-use Rattle.node_store.specs.Contents.{IsSound}
+use Rattle.function_laws.specs.Kinds.{ValueOf}
+use Rattle.function_laws.specs.Values.{assignment_of}
 use Rattle.node_store.specs.Listed.{listed, listed_at, number_of}
-use Rattle.node_store.specs.Views.{View, Denotes, Is, bdd_at, levels, values_at}
-use Rattle.node_store.specs.ViewLaws.{Denotes-flip, Is-from, values_at-is}
+use Rattle.node_store.specs.Views.{View, Denotes, Is, levels, values_at}
 use Rattle.node_store.proofs.ListedLaws.{same-listed}
 use Rattle.node_store.proofs.Outcomes.{outcome-eval, outcome-same}
-use Rattle.node_slots.specs.Wholes.{content_view}
 use Rattle.seat_guard.specs.declared.view.Draws.{Draws}
 use Rattle.seat_guard.specs.Views.{Agrees, stands_for}
 use Rattle.shared_store.specs.declared.shared.Shared.{Shared}
-use Rattle.shared_store.specs.Sharing.{view_of, orders}
-use Rattle.ite_core.proofs.OutcomeLaws.{outcome-not, outcome-one, outcome-zero, outcome-var}
-use Rattle.shared_store.specs.Lasting.{Lasts}
-use Rattle.dd_session.specs.Requests.{truth_call}
+use Rattle.shared_store.specs.Sharing.{view_of}
 use Rattle.dd_session.specs.Turns.{Gives, HasValue, IsEdgeOf, Stands, Took, managed_by}
 use Rattle.dd_session.specs.Walking.{bits_of}
-use Rattle.dd_session.proofs.Calls.{gives_held, stands_of, stands_taken}
+use Rattle.dd_session.proofs.Calls.{gives_held, stands_taken}
 
 module _ (d : Draws) where
   -- what a row's name stands for, in a table that agrees
@@ -67,45 +57,6 @@ module _ (old held : Draws) (x : Shared) (took : Took old held x) (idle : old.ho
   -- what the name stands for as the turn was taken
   pub stands_held_as : (k : Kind) (a : Name) (e : Edge) → IsEdgeOf k old a e → stands_for held.rows a ≡ Some (listed_at k (view_of x) e)
   stands_held_as k a e edge = ap (λ (z : Draws). stands_for z.rows a) took.is ∙ (edge (view_of x) (stands_taken old held x took)).1
-
--- the complement of a row
-pub told_not : (d : Draws) (a : Name) (e e' : Edge) → e' ≡ record e { complement = not e.complement } → IsEdgeOf kinds.Bdd d a e → (x : Shared) → Stands (view_of x) d
-    → Is kinds.Bdd (view_of x) e' × Gives d (calls.Makes (makings.Bdd (bdds.Not a))) (makes (listed_at kinds.Bdd (view_of x) e'))
-told_not d a e e' is edge x stands =
-    let s = edge (view_of x) stands in
-    let w = view_of x in
-    let denotes : Denotes kinds.Bdd w e' (negation (bdd_at w e)) = subst (λ (i : Edge). Denotes kinds.Bdd w i (negation (bdd_at w e))) (sym is) (Denotes-flip s.0) in (
-      Is-from kinds.Bdd denotes,
-      λ t agrees. outcome-not w t.sizes t.cells (t.live d.session) a e (live d t a (listed_at kinds.Bdd w e) agrees s.1) ∙ ap (λ (f : ℕ → Bool). Some (makes (listed kinds.Bdd w f))) (sym (values_at-is kinds.Bdd denotes)),
-    )
-
--- the constants
-truth_denotes : (w : View) (b : Bool) → w.content true_slot ≡ Some (BddFunction (constant true)) → Denotes kinds.Bdd w (truth_edge b) (constant b)
-truth_denotes w true is = record { is = is; beyond = λ v from k c. refl; fits = tt }
-truth_denotes w false is = record { is = ap (flipped true) is; beyond = λ v from k c. refl; fits = tt }
-
-pub told_truth : (d : Draws) (b : Bool) (x : Shared) → IsSound (content_view x.store) → Stands (view_of x) d → (e : Edge) → e ≡ truth_edge b
-    → Is kinds.Bdd (view_of x) e × Gives d (truth_call b) (makes (listed_at kinds.Bdd (view_of x) e))
-told_truth d b x sound stands e is = subst (λ (i : Edge). Is kinds.Bdd (view_of x) i × Gives d (truth_call b) (makes (listed_at kinds.Bdd (view_of x) i))) (sym is) (
-  Is-from kinds.Bdd denotes,
-  λ t agrees. by b t (vars d t (view_of x) agrees stands) ∙ ap (λ (f : ℕ → Bool). Some (makes (listed kinds.Bdd (view_of x) f))) (sym (values_at-is kinds.Bdd denotes)),
-)
-  where
-    denotes : Denotes kinds.Bdd (view_of x) (truth_edge b) (constant b)
-    denotes = truth_denotes (view_of x) b sound.logic_one
-
-    by : (b : Bool) (t : Table) → t.sizes.variables ≡ (view_of x).vars → outcome t d.session (truth_call b) ≡ Some (makes (listed kinds.Bdd (view_of x) (constant b)))
-    by true t vars = outcome-one (view_of x) t.sizes t.cells (t.live d.session) vars
-    by false t vars = outcome-zero (view_of x) t.sizes t.cells (t.live d.session) vars
-
--- a projection
-pub gives_var : (old held : Draws) (x y : Shared) → Took old held x → old.holds ≡ false → Lasts x y → orders y ≡ orders x → (v : ℕ) (e : Edge) → v < old.vars → Denotes kinds.Bdd (view_of y) e (projection v)
-    → Gives held (calls.Makes (makings.Bdd (bdds.Var v))) (makes (listed_at kinds.Bdd (view_of y) e))
-gives_var old held x y took idle lasts same v e lt denotes =
-    let stands = stands_of old held x y took lasts same in
-    let within : v < (view_of y).vars = (let n = ap (λ (p : ℕ × ℕ × ℕ). p.0) stands.counts_are in omega (arith, n, lt)) in
-    gives_held old held x (calls.Makes (makings.Bdd (bdds.Var v))) (makes (listed_at kinds.Bdd (view_of y) e)) took idle
-    (λ t agrees. outcome-var (view_of y) t.sizes t.cells (t.live old.session) (vars old t (view_of y) agrees stands) v within ∙ ap (λ (f : ℕ → Bool). Some (makes (listed kinds.Bdd (view_of y) f))) (sym (values_at-is kinds.Bdd denotes)))
 
 -- the value at some bits
 pub elements : (d : Draws) (t : Table) (w : View) → Agrees d t → Stands w d → t.sizes.elements ≡ w.elements

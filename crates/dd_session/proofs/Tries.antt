@@ -1,24 +1,21 @@
 -- The tries of an operation.
-use Rattle.std.proofs.Common.{◌≡◌, ◌⊎◌, inl, inr, ℕ, ◌<◌, ℤ, Bool, Contains, List, Result, Ok, Err, IfOk, refl, ap, ap₂, sym, subst, ◌∙◌}
+use Rattle.std.proofs.Common.{◌≡◌, ◌⊎◌, inl, inr, ℕ, ◌<◌, Bool, Contains, List, Result, Ok, Err, IfOk, refl, ap, ap₂, sym, subst, ◌∙◌}
 use Rattle.std.specs.Prelude.{IsErrOf}
 use Rattle.add_ops.specs.declared.arithmetic.Overflow.{Overflow}
 use Rattle.add_ops.specs.Exact.{exact_halts}
 use Rattle.add_ops.proofs.ExactLaws.{exactly_full}
 use Rattle.edge_bits.specs.declared.edges.Edge.{Edge}
 use Rattle.edge_bits.specs.declared.edges.Kind.{Kind}
-use Rattle.edge_bits.specs.declared.edges.Kind.TheVariants as kinds
 use Rattle.function_laws.specs.declared.history.Function.{Function}
 use Rattle.function_laws.specs.Kinds.{Denoted}
 use Rattle.function_laws.specs.declared.making.Making.{Making}
 use Rattle.node_store.specs.declared.grow.Stop.{Stop}
 use Rattle.node_store.specs.declared.grow.Stop.TheVariants as stop
 use Rattle.node_store.specs.declared.operator.Halt.TheVariants as halt
-use Rattle.node_store.specs.Operations.{Calls, CallsTo, Serves, halts}
-use Rattle.node_store.specs.Two.{Overflows}
-use Rattle.node_store.specs.Views.{View, Denotes, Grown, Kept}
+use Rattle.node_store.specs.Operations.{CallsTo}
+use Rattle.node_store.specs.Views.{View, Grown, Kept}
 use Rattle.node_store.specs.Work.{Adds, IsWork}
 use Rattle.node_store.specs.WorkLaws.{IsPart-back}
-use Rattle.node_store.proofs.Running.{told, told_full}
 use Rattle.node_slots.specs.Stores.{IsStore}
 use Rattle.dead_sweep.specs.declared.sweeping.Swept.{Swept}
 use Rattle.dead_sweep.specs.Swept.{IsSwept}
@@ -33,7 +30,7 @@ use Rattle.shared_store.proofs.Lasting.{lasts-grown}
 use Rattle.shared_store.proofs.Ordered.{orders-grown}
 use Rattle.shared_store.proofs.Stored.{due-listed, stores-grown}
 use Rattle.shared_store.proofs.Storing.{stores-then}
-use Rattle.dd_session.specs.Turns.{IsAsked, IsExact, Ran, Tried, exact_answers}
+use Rattle.dd_session.specs.Turns.{IsAsked, Ran, Tried}
 
 pub lasts-refl : (x : Shared) → Lasts x x
 lasts-refl x = record { held = λ h some kept. kept; cells = refl; counts_are = refl; counted = refl }
@@ -112,24 +109,6 @@ module _ {X : Type 0} (Answers : View → View → X → Type 0) (Work : View �
         (stores-weaker (Part y) (Part x) y z (λ f is. (is.0, lasts-then x y is.0 lasts is.1, is.2 ∙ ran.orders_are, is.3)) tried.stored);
   }
 
--- an operation whose values are never out of range
-pub ran : (Answers : View → View → Edge → Type 0) (Work : View → Denoted → Type 0) (k : Kind) (x y : Shared) (made : Result Edge Stop) → IsStore x.store → IsStore y.store → y.cells.items ≡ x.cells.items
-    → CallsTo k (Answers (view_of x) (view_of y)) ⊥ (Work (view_of x)) (view_of x) (view_of y) (halts made) → Ran Answers Work x y made
-ran Answers Work k x y made of of' cells calls =
-    ran_of Answers Work x y made of of' cells calls.grown calls.work (told (Answers (view_of x) (view_of y)) made calls.answer) (λ is. calls.due (told_full made is))
-
--- and one whose values may be
-pub ran_exact : (value : View → ℕ → ℤ) (Work : View → Denoted → Type 0) (x y : Shared) (made : Result (Result Edge Overflow) Stop) → IsStore x.store → IsStore y.store → y.cells.items ≡ x.cells.items
-    → Calls kinds.Add (value (view_of x)) (Work (view_of x)) (view_of x) (view_of y) (exact_halts made) → Ran (exact_answers value) Work x y made
-ran_exact value Work x y made of of' cells calls =
-    ran_of (exact_answers value) Work x y made of of' cells calls.grown calls.work (by made calls.answer calls.overflow) (λ is. calls.due (exactly_full made is))
-  where
-    by : (r : Result (Result Edge Overflow) Stop) → IfOk (exact_halts r) (λ e. Denotes kinds.Add (view_of y) e (value (view_of x))) → (IsErrOf (exact_halts r) halt.Overflow → Overflows kinds.Add (value (view_of x)))
-        → IfOk r (IsExact (value (view_of x)) (view_of y))
-    by (Ok (Ok e)) denotes over = denotes
-    by (Ok (Err o)) denotes over = over refl
-    by (Err s) denotes over = tt
-
 -- a making of edges
 pub ran_told : (making : Making Edge (List ℕ) (List (ℕ × Edge))) (k : Kind) (x y : Shared) (made : Result (Result Edge Overflow) Stop) → IsStore x.store → IsStore y.store → y.cells.items ≡ x.cells.items
     → CallsTo k (answer making (view_of x) (view_of y)) (exceeds making (view_of x)) (work making (view_of x)) (view_of x) (view_of y) (exact_halts made) → Ran (told_by making) (work making) x y made
@@ -140,15 +119,6 @@ ran_told making k x y made of of' cells calls =
     by (Ok (Ok e)) answers over = answers
     by (Ok (Err o)) answers over = over refl
     by (Err s) answers over = tt
-
--- what never says that a value is out of range
-pub never_over : (Answer : Edge → Type 0) (Over : Type 0) (Work : Denoted → Type 0) (Short Room : Type 0) (v w : View) (r : Result Edge Stop) → Serves Answer Over Work Short Room v w (halts r) → Serves Answer ⊥ Work Short Room v w (halts r)
-never_over Answer Over Work Short Room v w r s = record { grown = s.grown; room = s.room; answer = s.answer; overflow = none r; work = s.work; memory = s.memory; full = s.full; due = s.due }
-  where
-    none : (r : Result Edge Stop) → IsErrOf (halts r) halt.Overflow → ⊥
-    none (Ok e) is = cc
-    none (Err stop.Memory) is = cc
-    none (Err stop.Full) is = cc
 
 -- what is made of no work is nothing
 made_of_none : (x y : Shared) → StoresOnly (IsListedWork (view_of x) (λ _. ⊥)) x y → StoresOnly (λ _. ⊥) x y

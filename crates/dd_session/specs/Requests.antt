@@ -1,14 +1,8 @@
 -- What a call and its answer tell.
-use Rattle.std.specs.Prelude.{ℕ, Bool, true, false}
-use Rattle.edge_bits.specs.Permanent.{base_edge, empty_edge}
-use Rattle.edge_bits.specs.declared.edges.Edge.{Edge}
-use Rattle.function_laws.specs.Families.{base, empty}
+use Rattle.std.specs.Prelude.{ℕ}
 use Rattle.function_laws.specs.declared.history.Name.{Name}
 use Rattle.function_laws.specs.declared.history.Call.{Call}
 use Rattle.function_laws.specs.declared.history.Call.TheVariants as calls
-use Rattle.function_laws.specs.declared.making.Making.TheVariants as makings
-use Rattle.function_laws.specs.declared.making.BddMaking.TheVariants as bdds
-use Rattle.function_laws.specs.declared.making.ZddMaking.TheVariants as zdds
 use Rattle.function_laws.specs.Makings.{mapped}
 use Rattle.function_laws.specs.declared.history.Reply.{Reply}
 use Rattle.function_laws.specs.declared.history.Reply.TheVariants as replies
@@ -36,24 +30,6 @@ call_of (requests.Eval a bits) = calls.Eval a bits.now
 call_of (requests.Post i a) = calls.Post i a
 call_of (requests.Fetch i a) = calls.Fetch i a
 call_of requests.Sweep = calls.Sweep
-
--- the call that makes a constant
-abbrev pub truth_call : Bool → Call
-truth_call true = calls.Makes (makings.Bdd bdds.One)
-truth_call false = calls.Makes (makings.Bdd bdds.Zero)
-
--- the call that makes a family of no operand, the one with a member or the one without
-abbrev pub terminal_call : Bool → Call
-terminal_call true = calls.Makes (makings.Zdd zdds.Base)
-terminal_call false = calls.Makes (makings.Zdd zdds.Empty)
-
-abbrev pub terminal_edge : Bool → Edge
-terminal_edge true = base_edge
-terminal_edge false = empty_edge
-
-abbrev pub terminal_family : Bool → ℕ → Bool
-terminal_family true = base
-terminal_family false = empty
 
 -- what a new row is replied; a function that was chosen is told in whole
 abbrev pub added_as : View → Adding → Name → Cell → Reply

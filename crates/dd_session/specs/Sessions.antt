@@ -1,5 +1,5 @@
 -- What callers see of a session, and what a call says.
-use Rattle.std.specs.Prelude.{◌≡◌, ℕ, ◌+◌, ◌≤◌, ◌<◌, ◌^◌, List, [], ◌∷◌, ◌++◌, All, length, Option, Some, None, Result, Ok, Err, MatchResult, false, if◌then◌else◌}
+use Rattle.std.specs.Prelude.{◌≡◌, ℕ, ◌+◌, ◌≤◌, ◌<◌, ◌^◌, List, [], ◌∷◌, ◌++◌, All, length, Option, Some, None, Result, Ok, Err, false, if◌then◌else◌}
 use Rattle.edge_bits.specs.declared.limits.TheConstants.{MOST_ROWS}
 use Rattle.add_ops.specs.declared.arithmetic.Overflow.{Overflow}
 use Rattle.atomic_table.specs.Seated.{TableId}
@@ -8,8 +8,6 @@ use Rattle.edge_bits.specs.declared.edges.Kind.{Kind}
 use Rattle.function_laws.specs.declared.history.Name.{Name}
 use Rattle.function_laws.specs.declared.history.Function.{Function}
 use Rattle.function_laws.specs.declared.history.Call.{Call}
-use Rattle.function_laws.specs.declared.history.Call.TheVariants as calls
-use Rattle.function_laws.specs.declared.making.Making.{Making}
 use Rattle.function_laws.specs.declared.history.Reply.{Reply}
 use Rattle.function_laws.specs.declared.history.Reply.TheVariants as replies
 use Rattle.function_laws.specs.declared.history.Entry.{Entry}
@@ -22,7 +20,6 @@ use Rattle.seat_guard.specs.declared.view.Noted.{Noted}
 use Rattle.seat_guard.specs.declared.view.Row.{Row}
 use Rattle.seat_guard.specs.Views.{rows_after, sizes_for, stands_for}
 pub use Rattle.shared_store.specs.Sharing.{kind_of}
-use Rattle.dd_session.specs.declared.answers.Placed.{Placed}
 use Rattle.dd_session.specs.declared.answers.Refusal.{Refusal}
 use Rattle.dd_session.specs.declared.answers.Refusal.TheVariants as refusals
 
@@ -96,14 +93,6 @@ Denies old new call (refusals.Full full) = Called old new call (replies.Full ful
 abbrev pub told_as : Result Name Overflow → Reply
 told_as (Ok name) = replies.Made name
 told_as (Err _) = replies.Overflow
-
--- a function was made of others, in a new row, or the call was refused
-abbrev pub IsMade : Seen → Seen → Making Name (List ℕ) (List (ℕ × Name)) → Result (Placed Name) Refusal → Type 0
-IsMade old new making result = MatchResult result (λ placed. Called old new (calls.Makes making) (replies.Made placed.value) placed.place) (Denies old new (calls.Makes making))
-
--- the same where values may be out of range
-abbrev pub IsMadeInRange : Seen → Seen → Making Name (List ℕ) (List (ℕ × Name)) → Result (Placed (Result Name Overflow)) Refusal → Type 0
-IsMadeInRange old new making result = MatchResult result (λ placed. Called old new (calls.Makes making) (told_as placed.value) placed.place) (Denies old new (calls.Makes making))
 
 -- the session may make one more call
 abbrev pub HasRoom : Seen → Type 0

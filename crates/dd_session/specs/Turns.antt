@@ -1,11 +1,9 @@
 -- What the functions over a seat and its rows say.
 use Rattle.std.specs.Prelude.{◌≡◌, Bool, ◌==◌, ℕ, ◌+◌, ◌≤◌, ◌<◌, ◌^◌, List, [], ◌∷◌, All, length, option_map, Option, Some, None, true, false, ℤ, Result, Ok, Err, IfOk, IsErrOf, max}
 use Rattle.edge_bits.specs.declared.limits.TheConstants.{CELLS, MOST_COUNT, MOST_ELEMENTS, MOST_ROWS, MOST_VARIABLES}
-use Rattle.add_ops.specs.declared.arithmetic.Overflow.{Overflow}
 use Rattle.atomic_table.specs.Seated.{TableId}
 use Rattle.edge_bits.specs.declared.edges.Edge.{Edge}
 use Rattle.edge_bits.specs.declared.edges.Kind.{Kind}
-use Rattle.edge_bits.specs.declared.edges.Kind.TheVariants as kinds
 use Rattle.function_laws.specs.declared.history.Name.{Name}
 use Rattle.function_laws.specs.declared.history.Function.{Function}
 use Rattle.function_laws.specs.declared.history.Call.{Call}
@@ -25,7 +23,6 @@ use Rattle.handle_count.specs.RowMaps.{RowMap, find_row}
 use Rattle.node_store.specs.declared.grow.Stop.{Stop}
 use Rattle.node_store.specs.declared.grow.Stop.TheVariants as stop
 use Rattle.node_store.specs.Listed.{listed, listed_at}
-use Rattle.node_store.specs.Two.{Overflows}
 use Rattle.node_store.specs.Views.{View, Denotes, Grown, Is}
 use Rattle.node_slots.specs.Stores.{IsStore}
 use Rattle.seat_guard.specs.declared.seat.Guard.{Guard}
@@ -232,14 +229,6 @@ pub record HasValue (k : Kind) (Answers : View → Edge → Type 0) (d : Draws) 
   pub value : ℕ → ValueOf k
   pub gives : Gives d call (makes (listed k v value))
   pub denotes : (w : View) (e : Edge) → Answers w e → Denotes k w e value
-
--- what an operation on numbers answers that makes this function, where each of its values is in range
-abbrev pub IsExact : (ℕ → ℤ) → View → Result Edge Overflow → Type 0
-IsExact f w (Ok edge) = Denotes kinds.Add w edge f
-IsExact f w (Err _) = Overflows kinds.Add f
-
-abbrev pub exact_answers : (View → ℕ → ℤ) → View → View → Result Edge Overflow → Type 0
-exact_answers value v w told = IsExact (value v) w told
 
 -- The call makes this function of the variables, or is told that a value of it is out of range.
 pub record HasExact (d : Draws) (v : View) (call : Call) (f : ℕ → ℤ) : Type 0 where

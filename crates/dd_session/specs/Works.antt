@@ -53,8 +53,5 @@ StoresWork Work old new (Err refusals.Memory) = (f : Function) → Contains new.
 StoresWork Work old new (Err (refusals.Full full)) = ((f : Function) → Contains new.stored f → IsOfWork old Work f) × IsDueAfterSweep old Work new.due
 
 -- a call that makes nothing stores nothing
-abbrev pub no_work : View → Denoted → Type 0
-no_work w f = ⊥
-
 abbrev pub StoresNothing : Seen → Type 0
 StoresNothing s = (f : Function) → Contains s.stored f → ⊥

@@ -1,24 +1,8 @@
 //! The calls of a session that make a row of BDDs.
 
-ghost use Rattle.std.specs.Prelude.{All, MatchResult, map, max, true, ◌&&◌, ◌+◌, ◌<◌, ◌||◌, ◌≡◌, ◌≤◌};
-ghost use Rattle.edge_bits.specs.declared.edges.Kind.TheVariants as kinds;
-ghost use Rattle.function_laws.specs.declared.history.Function.{Function};
-ghost use Rattle.function_laws.specs.declared.history.Call.TheVariants as calls;
 ghost use Rattle.function_laws.specs.declared.making.Making.TheVariants as makings;
 ghost use Rattle.function_laws.specs.declared.making.BddMaking.TheVariants as bdds;
-ghost use Rattle.function_laws.specs.declared.history.Reply.TheVariants as replies;
-ghost use Rattle.function_laws.specs.Makings.{are_distinct};
-ghost use Rattle.function_laws.specs.Values.{conjunction, differs, disjunction};
-ghost use Rattle.ite_core.specs.Cofactors.{value_of_cofactor};
-ghost use Rattle.node_store.specs.Three.{value_of_three};
-ghost use Rattle.node_store.specs.Two.{value_of_two};
-ghost use Rattle.quantify_ops.specs.Composed.{value_of_compose};
-ghost use Rattle.quantify_ops.specs.Restricted.{work_of_restrict};
-ghost use Rattle.quantify_ops.specs.Substituted.{value_of_vector_compose};
-ghost use Rattle.quantify_ops.specs.Works.{value_of_support, work_of_and_exists, work_of_exists, work_of_forall};
-ghost use Rattle.dd_session.specs.Sessions.{Called, Denies, HasRoom, IsLiveAs, IsMade, edge_in, with_edge};
-ghost use Rattle.dd_session.specs.Works.{StoresWork, no_work};
-ghost use Rattle.edge_bits.specs.declared.edges.Kind.TheVariants.{Bdd};
+ghost use Rattle.dd_session.specs.MadeRows.{MakesRow, MayMake};
 
 use crate::answers::{Placed, Refusal};
 use crate::manager::Manager;
@@ -30,34 +14,24 @@ use std::sync::Wait;
 impl Session {
     /// Logic one, as a new row.
     pub fn one<R: Wait>(&mut self, rt: &R, manager: &Manager) -> Result<Placed<H>, Refusal>
-        requires own { self.old.manager ≡ manager.now }
-        requires room { HasRoom self.old }
-        ensures told { MatchResult result (λ placed. Called self.old self.new (calls.Makes (makings.Bdd bdds.One)) (replies.Made placed.value) placed.place) (λ refusal. (refusal ≡ Refusal.Memory) × Denies self.old self.new (calls.Makes (makings.Bdd bdds.One)) refusal) }
-        ensures stored { StoresWork no_work self.old self.new result }
-        ensures spare { MatchResult result (λ placed. self.new.spare + 1 ≡ max self.old.spare 1) (λ refusal. self.old.spare ≤ self.new.spare) }
+        requires { MayMake self.old manager.now (makings.Bdd bdds.One) }
+        ensures { MakesRow self.old self.new (makings.Bdd bdds.One) result }
     {
         self.make_row(rt, manager, Making::Bdd(BddMaking::One))
     }
 
     /// Logic zero, as a new row.
     pub fn zero<R: Wait>(&mut self, rt: &R, manager: &Manager) -> Result<Placed<H>, Refusal>
-        requires own { self.old.manager ≡ manager.now }
-        requires room { HasRoom self.old }
-        ensures told { MatchResult result (λ placed. Called self.old self.new (calls.Makes (makings.Bdd bdds.Zero)) (replies.Made placed.value) placed.place) (λ refusal. (refusal ≡ Refusal.Memory) × Denies self.old self.new (calls.Makes (makings.Bdd bdds.Zero)) refusal) }
-        ensures stored { StoresWork no_work self.old self.new result }
-        ensures spare { MatchResult result (λ placed. self.new.spare + 1 ≡ max self.old.spare 1) (λ refusal. self.old.spare ≤ self.new.spare) }
+        requires { MayMake self.old manager.now (makings.Bdd bdds.Zero) }
+        ensures { MakesRow self.old self.new (makings.Bdd bdds.Zero) result }
     {
         self.make_row(rt, manager, Making::Bdd(BddMaking::Zero))
     }
 
     /// The projection of a variable, as a new row.
     pub fn var<R: Wait>(&mut self, rt: &R, manager: &Manager, v: u32) -> Result<Placed<H>, Refusal>
-        requires own { self.old.manager ≡ manager.now }
-        requires room { HasRoom self.old }
-        requires variable { v < manager.now.vars }
-        ensures told { MatchResult result (λ placed. Called self.old self.new (calls.Makes (makings.Bdd (bdds.Var v))) (replies.Made placed.value) placed.place) (λ refusal. (refusal ≡ Refusal.Memory) × Denies self.old self.new (calls.Makes (makings.Bdd (bdds.Var v))) refusal) }
-        ensures stored { StoresWork no_work self.old self.new result }
-        ensures spare { MatchResult result (λ placed. self.new.spare + 1 ≡ max self.old.spare 1) (λ refusal. self.old.spare ≤ self.new.spare) }
+        requires { MayMake self.old manager.now (makings.Bdd (bdds.Var v)) }
+        ensures { MakesRow self.old self.new (makings.Bdd (bdds.Var v)) result }
     {
         self.make_row(rt, manager, Making::Bdd(BddMaking::Var(v)))
     }
@@ -70,13 +44,8 @@ impl Session {
         f: H,
         g: H,
     ) -> Result<Placed<H>, Refusal>
-        requires own { self.old.manager ≡ manager.now }
-        requires room { HasRoom self.old }
-        requires first { IsLiveAs kinds.Bdd self.old f }
-        requires second { IsLiveAs kinds.Bdd self.old g }
-        ensures told { IsMade self.old self.new (makings.Bdd (bdds.And f g)) result }
-        ensures stored { StoresWork (value_of_two kinds.Bdd (λ a b. a && b) (edge_in self.old.rows f) (edge_in self.old.rows g)) self.old self.new result }
-        ensures spare { MatchResult result (λ placed. self.new.spare + 1 ≡ max self.old.spare 1) (λ refusal. self.old.spare ≤ self.new.spare) }
+        requires { MayMake self.old manager.now (makings.Bdd (bdds.And f g)) }
+        ensures { MakesRow self.old self.new (makings.Bdd (bdds.And f g)) result }
     {
         self.make_row(rt, manager, Making::Bdd(BddMaking::And(f, g)))
     }
@@ -89,13 +58,8 @@ impl Session {
         f: H,
         g: H,
     ) -> Result<Placed<H>, Refusal>
-        requires own { self.old.manager ≡ manager.now }
-        requires room { HasRoom self.old }
-        requires first { IsLiveAs kinds.Bdd self.old f }
-        requires second { IsLiveAs kinds.Bdd self.old g }
-        ensures told { IsMade self.old self.new (makings.Bdd (bdds.Or f g)) result }
-        ensures stored { StoresWork (value_of_two kinds.Bdd (λ a b. a || b) (edge_in self.old.rows f) (edge_in self.old.rows g)) self.old self.new result }
-        ensures spare { MatchResult result (λ placed. self.new.spare + 1 ≡ max self.old.spare 1) (λ refusal. self.old.spare ≤ self.new.spare) }
+        requires { MayMake self.old manager.now (makings.Bdd (bdds.Or f g)) }
+        ensures { MakesRow self.old self.new (makings.Bdd (bdds.Or f g)) result }
     {
         self.make_row(rt, manager, Making::Bdd(BddMaking::Or(f, g)))
     }
@@ -108,13 +72,8 @@ impl Session {
         f: H,
         g: H,
     ) -> Result<Placed<H>, Refusal>
-        requires own { self.old.manager ≡ manager.now }
-        requires room { HasRoom self.old }
-        requires first { IsLiveAs kinds.Bdd self.old f }
-        requires second { IsLiveAs kinds.Bdd self.old g }
-        ensures told { IsMade self.old self.new (makings.Bdd (bdds.Xor f g)) result }
-        ensures stored { StoresWork (value_of_two kinds.Bdd differs (edge_in self.old.rows f) (edge_in self.old.rows g)) self.old self.new result }
-        ensures spare { MatchResult result (λ placed. self.new.spare + 1 ≡ max self.old.spare 1) (λ refusal. self.old.spare ≤ self.new.spare) }
+        requires { MayMake self.old manager.now (makings.Bdd (bdds.Xor f g)) }
+        ensures { MakesRow self.old self.new (makings.Bdd (bdds.Xor f g)) result }
     {
         self.make_row(rt, manager, Making::Bdd(BddMaking::Xor(f, g)))
     }
@@ -128,14 +87,8 @@ impl Session {
         g: H,
         h: H,
     ) -> Result<Placed<H>, Refusal>
-        requires own { self.old.manager ≡ manager.now }
-        requires room { HasRoom self.old }
-        requires first { IsLiveAs kinds.Bdd self.old f }
-        requires second { IsLiveAs kinds.Bdd self.old g }
-        requires third { IsLiveAs kinds.Bdd self.old h }
-        ensures told { IsMade self.old self.new (makings.Bdd (bdds.Ite f g h)) result }
-        ensures stored { StoresWork (value_of_three kinds.Bdd (edge_in self.old.rows f) (edge_in self.old.rows g) (edge_in self.old.rows h)) self.old self.new result }
-        ensures spare { MatchResult result (λ placed. self.new.spare + 1 ≡ max self.old.spare 1) (λ refusal. self.old.spare ≤ self.new.spare) }
+        requires { MayMake self.old manager.now (makings.Bdd (bdds.Ite f g h)) }
+        ensures { MakesRow self.old self.new (makings.Bdd (bdds.Ite f g h)) result }
     {
         self.make_row(rt, manager, Making::Bdd(BddMaking::Ite(f, g, h)))
     }
@@ -149,13 +102,8 @@ impl Session {
         v: u32,
         bit: bool,
     ) -> Result<Placed<H>, Refusal>
-        requires own { self.old.manager ≡ manager.now }
-        requires room { HasRoom self.old }
-        requires first { IsLiveAs kinds.Bdd self.old f }
-        requires variable { v < self.old.manager.vars }
-        ensures told { IsMade self.old self.new (makings.Bdd (bdds.Cofactor f v bit)) result }
-        ensures stored { StoresWork (value_of_cofactor (edge_in self.old.rows f) v bit) self.old self.new result }
-        ensures spare { MatchResult result (λ placed. self.new.spare + 1 ≡ max self.old.spare 1) (λ refusal. self.old.spare ≤ self.new.spare) }
+        requires { MayMake self.old manager.now (makings.Bdd (bdds.Cofactor f v bit)) }
+        ensures { MakesRow self.old self.new (makings.Bdd (bdds.Cofactor f v bit)) result }
     {
         self.make_row(rt, manager, Making::Bdd(BddMaking::Cofactor(f, v, bit)))
     }
@@ -168,13 +116,8 @@ impl Session {
         f: H,
         vars: &[u32],
     ) -> Result<Placed<H>, Refusal>
-        requires own { self.old.manager ≡ manager.now }
-        requires room { HasRoom self.old }
-        requires first { IsLiveAs kinds.Bdd self.old f }
-        requires variables { All (λ v. v < self.old.manager.vars) vars.now }
-        ensures told { IsMade self.old self.new (makings.Bdd (bdds.Exists f vars.now)) result }
-        ensures stored { StoresWork (work_of_exists (edge_in self.old.rows f) vars.now) self.old self.new result }
-        ensures spare { MatchResult result (λ placed. self.new.spare + 1 ≡ max self.old.spare 1) (λ refusal. self.old.spare ≤ self.new.spare) }
+        requires { MayMake self.old manager.now (makings.Bdd (bdds.Exists f vars.now)) }
+        ensures { MakesRow self.old self.new (makings.Bdd (bdds.Exists f vars.now)) result }
     {
         self.make_row(rt, manager, Making::Bdd(BddMaking::Exists(f, vars)))
     }
@@ -187,13 +130,8 @@ impl Session {
         f: H,
         vars: &[u32],
     ) -> Result<Placed<H>, Refusal>
-        requires own { self.old.manager ≡ manager.now }
-        requires room { HasRoom self.old }
-        requires first { IsLiveAs kinds.Bdd self.old f }
-        requires variables { All (λ v. v < self.old.manager.vars) vars.now }
-        ensures told { IsMade self.old self.new (makings.Bdd (bdds.Forall f vars.now)) result }
-        ensures stored { StoresWork (work_of_forall (edge_in self.old.rows f) vars.now) self.old self.new result }
-        ensures spare { MatchResult result (λ placed. self.new.spare + 1 ≡ max self.old.spare 1) (λ refusal. self.old.spare ≤ self.new.spare) }
+        requires { MayMake self.old manager.now (makings.Bdd (bdds.Forall f vars.now)) }
+        ensures { MakesRow self.old self.new (makings.Bdd (bdds.Forall f vars.now)) result }
     {
         self.make_row(rt, manager, Making::Bdd(BddMaking::Forall(f, vars)))
     }
@@ -207,14 +145,8 @@ impl Session {
         g: H,
         vars: &[u32],
     ) -> Result<Placed<H>, Refusal>
-        requires own { self.old.manager ≡ manager.now }
-        requires room { HasRoom self.old }
-        requires first { IsLiveAs kinds.Bdd self.old f }
-        requires second { IsLiveAs kinds.Bdd self.old g }
-        requires variables { All (λ v. v < self.old.manager.vars) vars.now }
-        ensures told { IsMade self.old self.new (makings.Bdd (bdds.AndExists f g vars.now)) result }
-        ensures stored { StoresWork (work_of_and_exists (edge_in self.old.rows f) (edge_in self.old.rows g) vars.now) self.old self.new result }
-        ensures spare { MatchResult result (λ placed. self.new.spare + 1 ≡ max self.old.spare 1) (λ refusal. self.old.spare ≤ self.new.spare) }
+        requires { MayMake self.old manager.now (makings.Bdd (bdds.AndExists f g vars.now)) }
+        ensures { MakesRow self.old self.new (makings.Bdd (bdds.AndExists f g vars.now)) result }
     {
         self.make_row(rt, manager, Making::Bdd(BddMaking::AndExists(f, g, vars)))
     }
@@ -228,14 +160,8 @@ impl Session {
         v: u32,
         g: H,
     ) -> Result<Placed<H>, Refusal>
-        requires own { self.old.manager ≡ manager.now }
-        requires room { HasRoom self.old }
-        requires first { IsLiveAs kinds.Bdd self.old f }
-        requires second { IsLiveAs kinds.Bdd self.old g }
-        requires variable { v < self.old.manager.vars }
-        ensures told { IsMade self.old self.new (makings.Bdd (bdds.Compose f v g)) result }
-        ensures stored { StoresWork (value_of_compose (edge_in self.old.rows f) v (edge_in self.old.rows g)) self.old self.new result }
-        ensures spare { MatchResult result (λ placed. self.new.spare + 1 ≡ max self.old.spare 1) (λ refusal. self.old.spare ≤ self.new.spare) }
+        requires { MayMake self.old manager.now (makings.Bdd (bdds.Compose f v g)) }
+        ensures { MakesRow self.old self.new (makings.Bdd (bdds.Compose f v g)) result }
     {
         self.make_row(rt, manager, Making::Bdd(BddMaking::Compose(f, v, g)))
     }
@@ -247,24 +173,16 @@ impl Session {
         manager: &Manager,
         f: H,
     ) -> Result<Placed<H>, Refusal>
-        requires own { self.old.manager ≡ manager.now }
-        requires room { HasRoom self.old }
-        requires first { IsLiveAs kinds.Bdd self.old f }
-        ensures told { IsMade self.old self.new (makings.Bdd (bdds.Support f)) result }
-        ensures stored { StoresWork (value_of_support (edge_in self.old.rows f)) self.old self.new result }
-        ensures spare { MatchResult result (λ placed. self.new.spare + 1 ≡ max self.old.spare 1) (λ refusal. self.old.spare ≤ self.new.spare) }
+        requires { MayMake self.old manager.now (makings.Bdd (bdds.Support f)) }
+        ensures { MakesRow self.old self.new (makings.Bdd (bdds.Support f)) result }
     {
         self.make_row(rt, manager, Making::Bdd(BddMaking::Support(f)))
     }
 
     /// The complement of a row, as a new row.
     pub fn not<R: Wait>(&mut self, rt: &R, manager: &Manager, f: H) -> Result<Placed<H>, Refusal>
-        requires own { self.old.manager ≡ manager.now }
-        requires room { HasRoom self.old }
-        requires first { IsLiveAs kinds.Bdd self.old f }
-        ensures told { MatchResult result (λ placed. Called self.old self.new (calls.Makes (makings.Bdd (bdds.Not f))) (replies.Made placed.value) placed.place) (λ refusal. (refusal ≡ Refusal.Memory) × Denies self.old self.new (calls.Makes (makings.Bdd (bdds.Not f))) refusal) }
-        ensures stored { StoresWork no_work self.old self.new result }
-        ensures spare { MatchResult result (λ placed. self.new.spare + 1 ≡ max self.old.spare 1) (λ refusal. self.old.spare ≤ self.new.spare) }
+        requires { MayMake self.old manager.now (makings.Bdd (bdds.Not f)) }
+        ensures { MakesRow self.old self.new (makings.Bdd (bdds.Not f)) result }
     {
         self.make_row(rt, manager, Making::Bdd(BddMaking::Not(f)))
     }
@@ -277,15 +195,8 @@ impl Session {
         f: H,
         pairs: &[(u32, H)],
     ) -> Result<Placed<H>, Refusal>
-        requires own { self.old.manager ≡ manager.now }
-        requires room { HasRoom self.old }
-        requires first { IsLiveAs kinds.Bdd self.old f }
-        requires variables { All (λ pair. pair.0 < self.old.manager.vars) pairs.now }
-        requires others { All (λ pair. IsLiveAs kinds.Bdd self.old pair.1) pairs.now }
-        requires distinct { are_distinct (map (λ pair. pair.0) pairs.now) ≡ true }
-        ensures told { IsMade self.old self.new (makings.Bdd (bdds.VectorCompose f pairs.now)) result }
-        ensures stored { StoresWork (value_of_vector_compose (edge_in self.old.rows f) (map (with_edge self.old.rows) pairs.now)) self.old self.new result }
-        ensures spare { MatchResult result (λ placed. self.new.spare + 1 ≡ max self.old.spare 1) (λ refusal. self.old.spare ≤ self.new.spare) }
+        requires { MayMake self.old manager.now (makings.Bdd (bdds.VectorCompose f pairs.now)) }
+        ensures { MakesRow self.old self.new (makings.Bdd (bdds.VectorCompose f pairs.now)) result }
     {
         self.make_row(rt, manager, Making::Bdd(BddMaking::VectorCompose(f, pairs)))
     }
@@ -299,13 +210,8 @@ impl Session {
         f: H,
         g: H,
     ) -> Result<Placed<H>, Refusal>
-        requires own { self.old.manager ≡ manager.now }
-        requires room { HasRoom self.old }
-        requires first { IsLiveAs kinds.Bdd self.old f }
-        requires second { IsLiveAs kinds.Bdd self.old g }
-        ensures told { MatchResult result (λ placed. (chosen : Function) × Called self.old self.new (calls.Makes (makings.Bdd (bdds.Restrict f g))) (replies.Chose placed.value chosen) placed.place) (Denies self.old self.new (calls.Makes (makings.Bdd (bdds.Restrict f g)))) }
-        ensures stored { StoresWork (work_of_restrict (edge_in self.old.rows f) (edge_in self.old.rows g)) self.old self.new result }
-        ensures spare { MatchResult result (λ placed. self.new.spare + 1 ≡ max self.old.spare 1) (λ refusal. self.old.spare ≤ self.new.spare) }
+        requires { MayMake self.old manager.now (makings.Bdd (bdds.Restrict f g)) }
+        ensures { MakesRow self.old self.new (makings.Bdd (bdds.Restrict f g)) result }
     {
         self.make_row(rt, manager, Making::Bdd(BddMaking::Restrict(f, g)))
     }

@@ -1,21 +1,8 @@
 //! The calls of a session that make a row of families.
 
-ghost use Rattle.std.specs.Prelude.{MatchResult, max, not, ◌&&◌, ◌+◌, ◌<◌, ◌^◌, ◌||◌, ◌≡◌, ◌≤◌};
-ghost use Rattle.edge_bits.specs.Permanent.{first_element};
-ghost use Rattle.edge_bits.specs.declared.edges.Kind.TheVariants as kinds;
-ghost use Rattle.function_laws.specs.declared.history.Call.TheVariants as calls;
 ghost use Rattle.function_laws.specs.declared.making.Making.TheVariants as makings;
 ghost use Rattle.function_laws.specs.declared.making.ZddMaking.TheVariants as zdds;
-ghost use Rattle.function_laws.specs.declared.history.Reply.TheVariants as replies;
-ghost use Rattle.function_laws.specs.Families.{change, change as change_of, diff, meet, product, quotient, single, subset0, subset0 as subset0_of, subset1, subset1 as subset1_of, union};
-ghost use Rattle.node_store.specs.Two.{value_of_two};
-ghost use Rattle.zdd_ops.specs.Elements.{value_of_single};
-ghost use Rattle.zdd_ops.specs.Products.{product_work};
-ghost use Rattle.zdd_ops.specs.Quotients.{quotient_work};
-ghost use Rattle.zdd_ops.specs.Subsets.{subset_work};
-ghost use Rattle.dd_session.specs.Sessions.{Called, Denies, HasRoom, IsLiveAs, IsMade, edge_in};
-ghost use Rattle.dd_session.specs.Works.{StoresWork, no_work};
-ghost use Rattle.edge_bits.specs.declared.edges.Kind.TheVariants.{Zdd};
+ghost use Rattle.dd_session.specs.MadeRows.{MakesRow, MayMake};
 
 use crate::answers::{Placed, Refusal};
 use crate::manager::Manager;
@@ -27,22 +14,16 @@ use std::sync::Wait;
 impl Session {
     /// The family without members, as a new row.
     pub fn empty<R: Wait>(&mut self, rt: &R, manager: &Manager) -> Result<Placed<H>, Refusal>
-        requires own { self.old.manager ≡ manager.now }
-        requires room { HasRoom self.old }
-        ensures told { MatchResult result (λ placed. Called self.old self.new (calls.Makes (makings.Zdd zdds.Empty)) (replies.Made placed.value) placed.place) (λ refusal. (refusal ≡ Refusal.Memory) × Denies self.old self.new (calls.Makes (makings.Zdd zdds.Empty)) refusal) }
-        ensures stored { StoresWork no_work self.old self.new result }
-        ensures spare { MatchResult result (λ placed. self.new.spare + 1 ≡ max self.old.spare 1) (λ refusal. self.old.spare ≤ self.new.spare) }
+        requires { MayMake self.old manager.now (makings.Zdd zdds.Empty) }
+        ensures { MakesRow self.old self.new (makings.Zdd zdds.Empty) result }
     {
         self.make_row(rt, manager, Making::Zdd(ZddMaking::Empty))
     }
 
     /// The family of the combination of no element, as a new row.
     pub fn base<R: Wait>(&mut self, rt: &R, manager: &Manager) -> Result<Placed<H>, Refusal>
-        requires own { self.old.manager ≡ manager.now }
-        requires room { HasRoom self.old }
-        ensures told { MatchResult result (λ placed. Called self.old self.new (calls.Makes (makings.Zdd zdds.Base)) (replies.Made placed.value) placed.place) (λ refusal. (refusal ≡ Refusal.Memory) × Denies self.old self.new (calls.Makes (makings.Zdd zdds.Base)) refusal) }
-        ensures stored { StoresWork no_work self.old self.new result }
-        ensures spare { MatchResult result (λ placed. self.new.spare + 1 ≡ max self.old.spare 1) (λ refusal. self.old.spare ≤ self.new.spare) }
+        requires { MayMake self.old manager.now (makings.Zdd zdds.Base) }
+        ensures { MakesRow self.old self.new (makings.Zdd zdds.Base) result }
     {
         self.make_row(rt, manager, Making::Zdd(ZddMaking::Base))
     }
@@ -54,12 +35,8 @@ impl Session {
         manager: &Manager,
         e: u32,
     ) -> Result<Placed<H>, Refusal>
-        requires own { self.old.manager ≡ manager.now }
-        requires room { HasRoom self.old }
-        requires element { e < self.old.manager.elements }
-        ensures told { IsMade self.old self.new (makings.Zdd (zdds.Single e)) result }
-        ensures stored { StoresWork (λ w. value_of_single e) self.old self.new result }
-        ensures spare { MatchResult result (λ placed. self.new.spare + 1 ≡ max self.old.spare 1) (λ refusal. self.old.spare ≤ self.new.spare) }
+        requires { MayMake self.old manager.now (makings.Zdd (zdds.Single e)) }
+        ensures { MakesRow self.old self.new (makings.Zdd (zdds.Single e)) result }
     {
         self.make_row(rt, manager, Making::Zdd(ZddMaking::Single(e)))
     }
@@ -72,13 +49,8 @@ impl Session {
         p: H,
         q: H,
     ) -> Result<Placed<H>, Refusal>
-        requires own { self.old.manager ≡ manager.now }
-        requires room { HasRoom self.old }
-        requires first { IsLiveAs kinds.Zdd self.old p }
-        requires second { IsLiveAs kinds.Zdd self.old q }
-        ensures told { IsMade self.old self.new (makings.Zdd (zdds.Union p q)) result }
-        ensures stored { StoresWork (value_of_two kinds.Zdd (λ a b. a || b) (edge_in self.old.rows p) (edge_in self.old.rows q)) self.old self.new result }
-        ensures spare { MatchResult result (λ placed. self.new.spare + 1 ≡ max self.old.spare 1) (λ refusal. self.old.spare ≤ self.new.spare) }
+        requires { MayMake self.old manager.now (makings.Zdd (zdds.Union p q)) }
+        ensures { MakesRow self.old self.new (makings.Zdd (zdds.Union p q)) result }
     {
         self.make_row(rt, manager, Making::Zdd(ZddMaking::Union(p, q)))
     }
@@ -91,13 +63,8 @@ impl Session {
         p: H,
         q: H,
     ) -> Result<Placed<H>, Refusal>
-        requires own { self.old.manager ≡ manager.now }
-        requires room { HasRoom self.old }
-        requires first { IsLiveAs kinds.Zdd self.old p }
-        requires second { IsLiveAs kinds.Zdd self.old q }
-        ensures told { IsMade self.old self.new (makings.Zdd (zdds.Meet p q)) result }
-        ensures stored { StoresWork (value_of_two kinds.Zdd (λ a b. a && b) (edge_in self.old.rows p) (edge_in self.old.rows q)) self.old self.new result }
-        ensures spare { MatchResult result (λ placed. self.new.spare + 1 ≡ max self.old.spare 1) (λ refusal. self.old.spare ≤ self.new.spare) }
+        requires { MayMake self.old manager.now (makings.Zdd (zdds.Meet p q)) }
+        ensures { MakesRow self.old self.new (makings.Zdd (zdds.Meet p q)) result }
     {
         self.make_row(rt, manager, Making::Zdd(ZddMaking::Meet(p, q)))
     }
@@ -110,13 +77,8 @@ impl Session {
         p: H,
         q: H,
     ) -> Result<Placed<H>, Refusal>
-        requires own { self.old.manager ≡ manager.now }
-        requires room { HasRoom self.old }
-        requires first { IsLiveAs kinds.Zdd self.old p }
-        requires second { IsLiveAs kinds.Zdd self.old q }
-        ensures told { IsMade self.old self.new (makings.Zdd (zdds.Diff p q)) result }
-        ensures stored { StoresWork (value_of_two kinds.Zdd (λ a b. a && not b) (edge_in self.old.rows p) (edge_in self.old.rows q)) self.old self.new result }
-        ensures spare { MatchResult result (λ placed. self.new.spare + 1 ≡ max self.old.spare 1) (λ refusal. self.old.spare ≤ self.new.spare) }
+        requires { MayMake self.old manager.now (makings.Zdd (zdds.Diff p q)) }
+        ensures { MakesRow self.old self.new (makings.Zdd (zdds.Diff p q)) result }
     {
         self.make_row(rt, manager, Making::Zdd(ZddMaking::Diff(p, q)))
     }
@@ -129,13 +91,8 @@ impl Session {
         p: H,
         e: u32,
     ) -> Result<Placed<H>, Refusal>
-        requires own { self.old.manager ≡ manager.now }
-        requires room { HasRoom self.old }
-        requires first { IsLiveAs kinds.Zdd self.old p }
-        requires element { e < self.old.manager.elements }
-        ensures told { IsMade self.old self.new (makings.Zdd (zdds.Subset1 p e)) result }
-        ensures stored { StoresWork (subset_work subset1_of (first_element + e) (edge_in self.old.rows p)) self.old self.new result }
-        ensures spare { MatchResult result (λ placed. self.new.spare + 1 ≡ max self.old.spare 1) (λ refusal. self.old.spare ≤ self.new.spare) }
+        requires { MayMake self.old manager.now (makings.Zdd (zdds.Subset1 p e)) }
+        ensures { MakesRow self.old self.new (makings.Zdd (zdds.Subset1 p e)) result }
     {
         self.make_row(rt, manager, Making::Zdd(ZddMaking::Subset1(p, e)))
     }
@@ -148,13 +105,8 @@ impl Session {
         p: H,
         e: u32,
     ) -> Result<Placed<H>, Refusal>
-        requires own { self.old.manager ≡ manager.now }
-        requires room { HasRoom self.old }
-        requires first { IsLiveAs kinds.Zdd self.old p }
-        requires element { e < self.old.manager.elements }
-        ensures told { IsMade self.old self.new (makings.Zdd (zdds.Subset0 p e)) result }
-        ensures stored { StoresWork (subset_work subset0_of (first_element + e) (edge_in self.old.rows p)) self.old self.new result }
-        ensures spare { MatchResult result (λ placed. self.new.spare + 1 ≡ max self.old.spare 1) (λ refusal. self.old.spare ≤ self.new.spare) }
+        requires { MayMake self.old manager.now (makings.Zdd (zdds.Subset0 p e)) }
+        ensures { MakesRow self.old self.new (makings.Zdd (zdds.Subset0 p e)) result }
     {
         self.make_row(rt, manager, Making::Zdd(ZddMaking::Subset0(p, e)))
     }
@@ -167,13 +119,8 @@ impl Session {
         p: H,
         e: u32,
     ) -> Result<Placed<H>, Refusal>
-        requires own { self.old.manager ≡ manager.now }
-        requires room { HasRoom self.old }
-        requires first { IsLiveAs kinds.Zdd self.old p }
-        requires element { e < self.old.manager.elements }
-        ensures told { IsMade self.old self.new (makings.Zdd (zdds.Change p e)) result }
-        ensures stored { StoresWork (subset_work change_of (first_element + e) (edge_in self.old.rows p)) self.old self.new result }
-        ensures spare { MatchResult result (λ placed. self.new.spare + 1 ≡ max self.old.spare 1) (λ refusal. self.old.spare ≤ self.new.spare) }
+        requires { MayMake self.old manager.now (makings.Zdd (zdds.Change p e)) }
+        ensures { MakesRow self.old self.new (makings.Zdd (zdds.Change p e)) result }
     {
         self.make_row(rt, manager, Making::Zdd(ZddMaking::Change(p, e)))
     }
@@ -186,13 +133,8 @@ impl Session {
         p: H,
         q: H,
     ) -> Result<Placed<H>, Refusal>
-        requires own { self.old.manager ≡ manager.now }
-        requires room { HasRoom self.old }
-        requires first { IsLiveAs kinds.Zdd self.old p }
-        requires second { IsLiveAs kinds.Zdd self.old q }
-        ensures told { IsMade self.old self.new (makings.Zdd (zdds.Product p q)) result }
-        ensures stored { StoresWork (product_work (edge_in self.old.rows p) (edge_in self.old.rows q)) self.old self.new result }
-        ensures spare { MatchResult result (λ placed. self.new.spare + 1 ≡ max self.old.spare 1) (λ refusal. self.old.spare ≤ self.new.spare) }
+        requires { MayMake self.old manager.now (makings.Zdd (zdds.Product p q)) }
+        ensures { MakesRow self.old self.new (makings.Zdd (zdds.Product p q)) result }
     {
         self.make_row(rt, manager, Making::Zdd(ZddMaking::Product(p, q)))
     }
@@ -205,13 +147,8 @@ impl Session {
         p: H,
         q: H,
     ) -> Result<Placed<H>, Refusal>
-        requires own { self.old.manager ≡ manager.now }
-        requires room { HasRoom self.old }
-        requires first { IsLiveAs kinds.Zdd self.old p }
-        requires second { IsLiveAs kinds.Zdd self.old q }
-        ensures told { IsMade self.old self.new (makings.Zdd (zdds.Quotient p q)) result }
-        ensures stored { StoresWork (quotient_work (edge_in self.old.rows p) (edge_in self.old.rows q)) self.old self.new result }
-        ensures spare { MatchResult result (λ placed. self.new.spare + 1 ≡ max self.old.spare 1) (λ refusal. self.old.spare ≤ self.new.spare) }
+        requires { MayMake self.old manager.now (makings.Zdd (zdds.Quotient p q)) }
+        ensures { MakesRow self.old self.new (makings.Zdd (zdds.Quotient p q)) result }
     {
         self.make_row(rt, manager, Making::Zdd(ZddMaking::Quotient(p, q)))
     }

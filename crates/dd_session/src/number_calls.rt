@@ -1,22 +1,10 @@
 //! The calls of a session that make a row of functions of numbers.
 
-ghost use Rattle.std.specs.Prelude.{if◌then◌else◌, MatchResult, int_le, max, not, pos, ◌*ℤ◌, ◌+ℤ◌, ◌+◌, ◌-ℤ◌, ◌<◌, ◌≡◌, ◌≤◌};
-ghost use Rattle.edge_bits.specs.Words.{IsLeafValue};
-ghost use Rattle.edge_bits.specs.declared.edges.Kind.TheVariants as kinds;
 ghost use Rattle.function_laws.specs.declared.making.Making.TheVariants as makings;
 ghost use Rattle.function_laws.specs.declared.making.BddMaking.TheVariants as bdds;
 ghost use Rattle.function_laws.specs.declared.making.AddMaking.TheVariants as adds;
 ghost use Rattle.function_laws.specs.declared.making.ExactMaking.TheVariants as exacts;
-ghost use Rattle.function_laws.specs.Numbers.{at_least, greater, is_zero, lesser, minus, pattern, plus, sum_over, threshold, times};
-ghost use Rattle.node_store.specs.Three.{value_of_three};
-ghost use Rattle.node_store.specs.Two.{value_of_two};
-ghost use Rattle.add_ops.specs.Conversions.{value_of_one};
-ghost use Rattle.add_ops.specs.Leaves.{value_of_constant};
-ghost use Rattle.add_ops.specs.Sums.{value_of_sum};
-ghost use Rattle.dd_session.specs.Sessions.{HasRoom, IsLiveAs, IsMade, IsMadeInRange, edge_in};
-ghost use Rattle.dd_session.specs.Works.{StoresWork};
-ghost use Rattle.edge_bits.specs.declared.edges.Kind.TheVariants.{Add, Bdd};
-ghost use Rattle.function_laws.specs.Values.{constant};
+ghost use Rattle.dd_session.specs.MadeRows.{MakesOrExceeds, MakesRow, MayMake};
 
 use crate::answers::{Placed, Refusal};
 use crate::manager::Manager;
@@ -34,12 +22,8 @@ impl Session {
         manager: &Manager,
         value: i64,
     ) -> Result<Placed<H>, Refusal>
-        requires own { self.old.manager ≡ manager.now }
-        requires room { HasRoom self.old }
-        requires value { IsLeafValue value }
-        ensures told { IsMade self.old self.new (makings.Add (adds.Constant value)) result }
-        ensures stored { StoresWork (λ w. value_of_constant value) self.old self.new result }
-        ensures spare { MatchResult result (λ placed. self.new.spare + 1 ≡ max self.old.spare 1) (λ refusal. self.old.spare ≤ self.new.spare) }
+        requires { MayMake self.old manager.now (makings.Add (adds.Constant value)) }
+        ensures { MakesRow self.old self.new (makings.Add (adds.Constant value)) result }
     {
         self.make_row(rt, manager, Making::Add(AddMaking::Constant(value)))
     }
@@ -51,12 +35,8 @@ impl Session {
         manager: &Manager,
         f: H,
     ) -> Result<Placed<H>, Refusal>
-        requires own { self.old.manager ≡ manager.now }
-        requires room { HasRoom self.old }
-        requires first { IsLiveAs kinds.Bdd self.old f }
-        ensures told { IsMade self.old self.new (makings.Add (adds.FromBdd f)) result }
-        ensures stored { StoresWork (value_of_one kinds.Bdd kinds.Add (λ b. if b then pos 1 else pos 0) (edge_in self.old.rows f)) self.old self.new result }
-        ensures spare { MatchResult result (λ placed. self.new.spare + 1 ≡ max self.old.spare 1) (λ refusal. self.old.spare ≤ self.new.spare) }
+        requires { MayMake self.old manager.now (makings.Add (adds.FromBdd f)) }
+        ensures { MakesRow self.old self.new (makings.Add (adds.FromBdd f)) result }
     {
         self.make_row(rt, manager, Making::Add(AddMaking::FromBdd(f)))
     }
@@ -69,13 +49,8 @@ impl Session {
         f: H,
         g: H,
     ) -> Result<Placed<H>, Refusal>
-        requires own { self.old.manager ≡ manager.now }
-        requires room { HasRoom self.old }
-        requires first { IsLiveAs kinds.Add self.old f }
-        requires second { IsLiveAs kinds.Add self.old g }
-        ensures told { IsMade self.old self.new (makings.Add (adds.Min f g)) result }
-        ensures stored { StoresWork (value_of_two kinds.Add (λ a b. if int_le a b then a else b) (edge_in self.old.rows f) (edge_in self.old.rows g)) self.old self.new result }
-        ensures spare { MatchResult result (λ placed. self.new.spare + 1 ≡ max self.old.spare 1) (λ refusal. self.old.spare ≤ self.new.spare) }
+        requires { MayMake self.old manager.now (makings.Add (adds.Min f g)) }
+        ensures { MakesRow self.old self.new (makings.Add (adds.Min f g)) result }
     {
         self.make_row(rt, manager, Making::Add(AddMaking::Min(f, g)))
     }
@@ -88,13 +63,8 @@ impl Session {
         f: H,
         g: H,
     ) -> Result<Placed<H>, Refusal>
-        requires own { self.old.manager ≡ manager.now }
-        requires room { HasRoom self.old }
-        requires first { IsLiveAs kinds.Add self.old f }
-        requires second { IsLiveAs kinds.Add self.old g }
-        ensures told { IsMade self.old self.new (makings.Add (adds.Max f g)) result }
-        ensures stored { StoresWork (value_of_two kinds.Add (λ a b. if int_le b a then a else b) (edge_in self.old.rows f) (edge_in self.old.rows g)) self.old self.new result }
-        ensures spare { MatchResult result (λ placed. self.new.spare + 1 ≡ max self.old.spare 1) (λ refusal. self.old.spare ≤ self.new.spare) }
+        requires { MayMake self.old manager.now (makings.Add (adds.Max f g)) }
+        ensures { MakesRow self.old self.new (makings.Add (adds.Max f g)) result }
     {
         self.make_row(rt, manager, Making::Add(AddMaking::Max(f, g)))
     }
@@ -107,13 +77,8 @@ impl Session {
         f: H,
         g: H,
     ) -> Result<Placed<H>, Refusal>
-        requires own { self.old.manager ≡ manager.now }
-        requires room { HasRoom self.old }
-        requires first { IsLiveAs kinds.Add self.old f }
-        requires second { IsLiveAs kinds.Add self.old g }
-        ensures told { IsMade self.old self.new (makings.Add (adds.Threshold f g)) result }
-        ensures stored { StoresWork (value_of_two kinds.Add (λ a b. if int_le b a then a else pos 0) (edge_in self.old.rows f) (edge_in self.old.rows g)) self.old self.new result }
-        ensures spare { MatchResult result (λ placed. self.new.spare + 1 ≡ max self.old.spare 1) (λ refusal. self.old.spare ≤ self.new.spare) }
+        requires { MayMake self.old manager.now (makings.Add (adds.Threshold f g)) }
+        ensures { MakesRow self.old self.new (makings.Add (adds.Threshold f g)) result }
     {
         self.make_row(rt, manager, Making::Add(AddMaking::Threshold(f, g)))
     }
@@ -127,14 +92,8 @@ impl Session {
         g: H,
         h: H,
     ) -> Result<Placed<H>, Refusal>
-        requires own { self.old.manager ≡ manager.now }
-        requires room { HasRoom self.old }
-        requires first { IsLiveAs kinds.Bdd self.old f }
-        requires second { IsLiveAs kinds.Add self.old g }
-        requires third { IsLiveAs kinds.Add self.old h }
-        ensures told { IsMade self.old self.new (makings.Add (adds.AddIte f g h)) result }
-        ensures stored { StoresWork (value_of_three kinds.Add (edge_in self.old.rows f) (edge_in self.old.rows g) (edge_in self.old.rows h)) self.old self.new result }
-        ensures spare { MatchResult result (λ placed. self.new.spare + 1 ≡ max self.old.spare 1) (λ refusal. self.old.spare ≤ self.new.spare) }
+        requires { MayMake self.old manager.now (makings.Add (adds.AddIte f g h)) }
+        ensures { MakesRow self.old self.new (makings.Add (adds.AddIte f g h)) result }
     {
         self.make_row(rt, manager, Making::Add(AddMaking::AddIte(f, g, h)))
     }
@@ -147,12 +106,8 @@ impl Session {
         f: H,
         value: i64,
     ) -> Result<Placed<H>, Refusal>
-        requires own { self.old.manager ≡ manager.now }
-        requires room { HasRoom self.old }
-        requires first { IsLiveAs kinds.Add self.old f }
-        ensures told { IsMade self.old self.new (makings.Bdd (bdds.AtLeast f value)) result }
-        ensures stored { StoresWork (value_of_one kinds.Add kinds.Bdd (λ z. int_le value z) (edge_in self.old.rows f)) self.old self.new result }
-        ensures spare { MatchResult result (λ placed. self.new.spare + 1 ≡ max self.old.spare 1) (λ refusal. self.old.spare ≤ self.new.spare) }
+        requires { MayMake self.old manager.now (makings.Bdd (bdds.AtLeast f value)) }
+        ensures { MakesRow self.old self.new (makings.Bdd (bdds.AtLeast f value)) result }
     {
         self.make_row(rt, manager, Making::Bdd(BddMaking::AtLeast(f, value)))
     }
@@ -164,12 +119,8 @@ impl Session {
         manager: &Manager,
         f: H,
     ) -> Result<Placed<H>, Refusal>
-        requires own { self.old.manager ≡ manager.now }
-        requires room { HasRoom self.old }
-        requires first { IsLiveAs kinds.Add self.old f }
-        ensures told { IsMade self.old self.new (makings.Bdd (bdds.Pattern f)) result }
-        ensures stored { StoresWork (value_of_one kinds.Add kinds.Bdd (λ z. not (is_zero z)) (edge_in self.old.rows f)) self.old self.new result }
-        ensures spare { MatchResult result (λ placed. self.new.spare + 1 ≡ max self.old.spare 1) (λ refusal. self.old.spare ≤ self.new.spare) }
+        requires { MayMake self.old manager.now (makings.Bdd (bdds.Pattern f)) }
+        ensures { MakesRow self.old self.new (makings.Bdd (bdds.Pattern f)) result }
     {
         self.make_row(rt, manager, Making::Bdd(BddMaking::Pattern(f)))
     }
@@ -182,13 +133,8 @@ impl Session {
         f: H,
         g: H,
     ) -> Result<Placed<Result<H, Overflow>>, Refusal>
-        requires own { self.old.manager ≡ manager.now }
-        requires room { HasRoom self.old }
-        requires first { IsLiveAs kinds.Add self.old f }
-        requires second { IsLiveAs kinds.Add self.old g }
-        ensures told { IsMadeInRange self.old self.new (makings.Exact (exacts.Plus f g)) result }
-        ensures stored { StoresWork (value_of_two kinds.Add (λ a b. a +ℤ b) (edge_in self.old.rows f) (edge_in self.old.rows g)) self.old self.new result }
-        ensures spare { MatchResult result (λ placed. MatchResult placed.value (λ name. self.new.spare + 1 ≡ max self.old.spare 1) (λ _. self.new.spare ≡ max self.old.spare 1)) (λ refusal. self.old.spare ≤ self.new.spare) }
+        requires { MayMake self.old manager.now (makings.Exact (exacts.Plus f g)) }
+        ensures { MakesOrExceeds self.old self.new (makings.Exact (exacts.Plus f g)) result }
     {
         self.make(rt, manager, Making::Exact(ExactMaking::Plus(f, g)))
     }
@@ -201,13 +147,8 @@ impl Session {
         f: H,
         g: H,
     ) -> Result<Placed<Result<H, Overflow>>, Refusal>
-        requires own { self.old.manager ≡ manager.now }
-        requires room { HasRoom self.old }
-        requires first { IsLiveAs kinds.Add self.old f }
-        requires second { IsLiveAs kinds.Add self.old g }
-        ensures told { IsMadeInRange self.old self.new (makings.Exact (exacts.Minus f g)) result }
-        ensures stored { StoresWork (value_of_two kinds.Add (λ a b. a -ℤ b) (edge_in self.old.rows f) (edge_in self.old.rows g)) self.old self.new result }
-        ensures spare { MatchResult result (λ placed. MatchResult placed.value (λ name. self.new.spare + 1 ≡ max self.old.spare 1) (λ _. self.new.spare ≡ max self.old.spare 1)) (λ refusal. self.old.spare ≤ self.new.spare) }
+        requires { MayMake self.old manager.now (makings.Exact (exacts.Minus f g)) }
+        ensures { MakesOrExceeds self.old self.new (makings.Exact (exacts.Minus f g)) result }
     {
         self.make(rt, manager, Making::Exact(ExactMaking::Minus(f, g)))
     }
@@ -220,13 +161,8 @@ impl Session {
         f: H,
         g: H,
     ) -> Result<Placed<Result<H, Overflow>>, Refusal>
-        requires own { self.old.manager ≡ manager.now }
-        requires room { HasRoom self.old }
-        requires first { IsLiveAs kinds.Add self.old f }
-        requires second { IsLiveAs kinds.Add self.old g }
-        ensures told { IsMadeInRange self.old self.new (makings.Exact (exacts.Times f g)) result }
-        ensures stored { StoresWork (value_of_two kinds.Add (λ a b. a *ℤ b) (edge_in self.old.rows f) (edge_in self.old.rows g)) self.old self.new result }
-        ensures spare { MatchResult result (λ placed. MatchResult placed.value (λ name. self.new.spare + 1 ≡ max self.old.spare 1) (λ _. self.new.spare ≡ max self.old.spare 1)) (λ refusal. self.old.spare ≤ self.new.spare) }
+        requires { MayMake self.old manager.now (makings.Exact (exacts.Times f g)) }
+        ensures { MakesOrExceeds self.old self.new (makings.Exact (exacts.Times f g)) result }
     {
         self.make(rt, manager, Making::Exact(ExactMaking::Times(f, g)))
     }
@@ -239,13 +175,8 @@ impl Session {
         f: H,
         v: u32,
     ) -> Result<Placed<Result<H, Overflow>>, Refusal>
-        requires own { self.old.manager ≡ manager.now }
-        requires room { HasRoom self.old }
-        requires first { IsLiveAs kinds.Add self.old f }
-        requires variable { v < self.old.manager.vars }
-        ensures told { IsMadeInRange self.old self.new (makings.Exact (exacts.SumOver f v)) result }
-        ensures stored { StoresWork (value_of_sum (edge_in self.old.rows f) v) self.old self.new result }
-        ensures spare { MatchResult result (λ placed. MatchResult placed.value (λ name. self.new.spare + 1 ≡ max self.old.spare 1) (λ _. self.new.spare ≡ max self.old.spare 1)) (λ refusal. self.old.spare ≤ self.new.spare) }
+        requires { MayMake self.old manager.now (makings.Exact (exacts.SumOver f v)) }
+        ensures { MakesOrExceeds self.old self.new (makings.Exact (exacts.SumOver f v)) result }
     {
         self.make(rt, manager, Making::Exact(ExactMaking::SumOver(f, v)))
     }

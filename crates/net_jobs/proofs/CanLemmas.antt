@@ -1,7 +1,11 @@
 -- What a command says lets it be called.
-use Rattle.std.proofs.Common.{◌≡◌, ℕ, ◌<◌, Bool, List, [], ◌∷◌, ◌++◌, length, map, sym, ap, ◌∙◌, subst}
+use Rattle.std.proofs.Common.{◌≡◌, ℕ, ◌<◌, Bool, true, ℤ, List, [], ◌∷◌, ◌++◌, length, map, int_le, int_lt, arith, sym, ap, ◌∙◌, subst}
 use Rattle.std.specs.List.{All, flat_map}
+use Rattle.std.proofs.lemmas.Bool.{and_parts}
+use Rattle.std.proofs.lemmas.Int.{ints}
 use Rattle.std.proofs.lemmas.List.Elements.{All-cons, All-nil}
+use Rattle.edge_bits.specs.Permanent.{least_value, value_end}
+use Rattle.edge_bits.specs.Words.{IsLeafValue}
 use Rattle.edge_bits.specs.declared.edges.Kind.{Kind}
 use Rattle.edge_bits.specs.declared.edges.Kind.TheVariants as kinds
 use Rattle.job_commands.specs.declared.acts.Act.{Act}
@@ -11,6 +15,7 @@ use Rattle.job_text.specs.declared.job.Register.{Register}
 use Rattle.job_text.specs.declared.operands.Operand.TheVariants as operands
 use Rattle.job_words.specs.Text.{Word}
 use Rattle.job_text.specs.declared.operands.Operand.{Operand}
+use Rattle.function_laws.specs.Numbers.{is_value}
 use Rattle.function_laws.specs.Makings.{Taken, bit, element, function, literals, number, pairs, taken, value, variable, variables}
 use Rattle.job_text.specs.Places.{Refers, StandsFor, bits_for, kind_at, kind_of}
 use Rattle.job_text.specs.Grammar.{Says}
@@ -19,7 +24,8 @@ use Rattle.job_text.proofs.Naming.{pair_operands}
 use Rattle.job_text.proofs.Rows.{AreOfCommand, Takes, operands_for, takes}
 use Rattle.dd_session.specs.Sessions.{Seen}
 use Rattle.net_jobs.specs.declared.registers.Assigned.{Assigned}
-use Rattle.net_jobs.specs.Saying.{CanCall, CanTake, CanTakeAll, Covers, IsHeldAs}
+use Rattle.operator_calls.specs.Taking.{CanTake, CanTakeAll}
+use Rattle.net_jobs.specs.Saying.{CanCall, Covers, IsHeldAs}
 
 -- a register that a word stands for is live and of its kind
 held : (n : Counts) (registers : List Register) (s : Seen) (names : List Assigned) (k : Kind) (a : ℕ) → Covers registers s names → (word : Word) × StandsFor n registers word (operands.Register k a) → IsHeldAs k s names a
@@ -30,12 +36,24 @@ variables_stand : (n : Counts) (registers : List Register) (vs : List ℕ) → E
 variables_stand n registers [] each = All-nil (λ v. v < n.vars)
 variables_stand n registers (v ∷ vs) each = All-cons (λ v. v < n.vars) v vs each.0.1.1 (variables_stand n registers vs each.1)
 
--- and so are those of pairs, whose registers are live
-pairs_stand : (n : Counts) (registers : List Register) (s : Seen) (names : List Assigned) (ps : List (ℕ × ℕ)) → Covers registers s names → EachStands n registers (flat_map pair_operands ps)
-    → All (λ pair. (pair.0 < n.vars) × IsHeldAs kinds.Bdd s names pair.1) ps
-pairs_stand n registers s names [] covers each = All-nil (λ pair. (pair.0 < n.vars) × IsHeldAs kinds.Bdd s names pair.1)
-pairs_stand n registers s names (pair ∷ ps) covers each =
-    All-cons (λ pair. (pair.0 < n.vars) × IsHeldAs kinds.Bdd s names pair.1) pair ps (each.0.1.1, held n registers s names kinds.Bdd pair.1 covers each.1.0) (pairs_stand n registers s names ps covers each.1.1)
+-- and so are those of pairs
+pair_variables_stand : (n : Counts) (registers : List Register) (ps : List (ℕ × ℕ)) → EachStands n registers (flat_map pair_operands ps) → All (λ pair. pair.0 < n.vars) ps
+pair_variables_stand n registers [] each = All-nil (λ pair. pair.0 < n.vars)
+pair_variables_stand n registers (pair ∷ ps) each = All-cons (λ pair. pair.0 < n.vars) pair ps each.0.1.1 (pair_variables_stand n registers ps each.1.1)
+
+-- whose registers are live
+pair_registers_stand : (n : Counts) (registers : List Register) (s : Seen) (names : List Assigned) (ps : List (ℕ × ℕ)) → Covers registers s names → EachStands n registers (flat_map pair_operands ps)
+    → All (λ pair. IsHeldAs kinds.Bdd s names pair.1) ps
+pair_registers_stand n registers s names [] covers each = All-nil (λ pair. IsHeldAs kinds.Bdd s names pair.1)
+pair_registers_stand n registers s names (pair ∷ ps) covers each =
+    All-cons (λ pair. IsHeldAs kinds.Bdd s names pair.1) pair ps (held n registers s names kinds.Bdd pair.1 covers each.1.0) (pair_registers_stand n registers s names ps covers each.1.1)
+
+-- a value that is in range is one of a leaf
+leaf_value : (z : ℤ) → is_value z ≡ true → IsLeafValue z
+leaf_value z in_range =
+    let both = and_parts (int_le least_value z) (int_lt z value_end) in_range in
+    let low = both.0 in
+    let high = both.1 in (grind (arith, ints), grind (arith, ints))
 
 -- the kind of a register that a word names
 pub refers-kind : (registers : List Register) (word : Word) (a : ℕ) (k : Kind) → Refers registers word a k → kind_at registers a ≡ k
@@ -66,15 +84,15 @@ stand_back n registers [] ys each = each
 stand_back n registers (x ∷ xs) ys each = stand_back n registers xs ys each.1
 
 -- what an operation takes, where words stand for it
-can_take : (n : Counts) (registers : List Register) (s : Seen) (names : List Assigned) (one : Taken ℕ) → Covers registers s names → EachStands n registers (operands_for one) → AreOfCommand (one ∷ []) → CanTake n s names one
+can_take : (n : Counts) (registers : List Register) (s : Seen) (names : List Assigned) (one : Taken ℕ) → Covers registers s names → EachStands n registers (operands_for one) → AreOfCommand (one ∷ []) → CanTake (λ k a. IsHeldAs k s names a) n.vars n.elements one
 can_take n registers s names (function k a) covers each once = held n registers s names k a covers each.0
 can_take n registers s names (variable v) covers each once = each.0.1.1
 can_take n registers s names (element e) covers each once = each.0.1.1
-can_take n registers s names (value z) covers each once = each.0.1.1
+can_take n registers s names (value z) covers each once = leaf_value z each.0.1.1
 can_take n registers s names (number z) covers each once = tt
 can_take n registers s names (bit b) covers each once = tt
 can_take n registers s names (variables vs) covers each once = variables_stand n registers vs each
-can_take n registers s names (pairs ps) covers each once = (pairs_stand n registers s names ps covers each, once.0)
+can_take n registers s names (pairs ps) covers each once = (pair_variables_stand n registers ps each, pair_registers_stand n registers s names ps covers each, once.0)
 can_take n registers s names literals covers each once = absurd once
 
 once_first : (one : Taken ℕ) (more : List (Taken ℕ)) → AreOfCommand (one ∷ more) → AreOfCommand (one ∷ []) × AreOfCommand more
@@ -82,7 +100,7 @@ once_first (pairs ps) more once = ((once.0, tt), once.1)
 once_first literals more once = absurd once
 once_first one more once = (tt, once)
 
-can_take_all : (n : Counts) (registers : List Register) (s : Seen) (names : List Assigned) (all : List (Taken ℕ)) → Covers registers s names → EachStands n registers (flat_map operands_for all) → AreOfCommand all → CanTakeAll n s names all
+can_take_all : (n : Counts) (registers : List Register) (s : Seen) (names : List Assigned) (all : List (Taken ℕ)) → Covers registers s names → EachStands n registers (flat_map operands_for all) → AreOfCommand all → CanTakeAll (λ k a. IsHeldAs k s names a) n.vars n.elements all
 can_take_all n registers s names [] covers each once = tt
 can_take_all n registers s names (one ∷ more) covers each once =
     let apart = once_first one more once in (

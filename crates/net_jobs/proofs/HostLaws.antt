@@ -4,6 +4,7 @@ use Rattle.std.specs.Prelude.{Contains}
 use Rattle.std.proofs.lemmas.List.{map-append}
 use Rattle.std.proofs.lemmas.List.Elements.{All-cons, All-nil, Contains-append_right}
 use Rattle.diagram_dumps.specs.declared.listings.Listing.{Listing}
+use Rattle.edge_bits.specs.declared.limits.TheConstants.{MOST_ROWS}
 use Rattle.edge_bits.specs.declared.edges.Kind.{Kind}
 use Rattle.edge_bits.specs.declared.edges.Kind.TheVariants as kinds
 use Rattle.edge_bits.specs.declared.Memory.{Memory}
@@ -32,7 +33,7 @@ use Rattle.dd_session.specs.declared.answers.Refusal.{Refusal}
 use Rattle.dd_session.specs.declared.answers.Refusal.TheVariants as refusals
 use Rattle.dd_session.specs.Listings.{IsListed}
 use Rattle.dd_session.specs.Managing.{stands_for}
-use Rattle.dd_session.specs.Sessions.{Called, Denies, IsAsBefore, IsLive as IsRow, IsLiveAs, Managed, Seen, kind_of}
+use Rattle.dd_session.specs.Sessions.{Called, Denies, HasRoom, IsAsBefore, IsLive as IsRow, IsLiveAs, Managed, Seen, kind_of}
 use Rattle.dd_session.proofs.SessionLaws.{dropped_stays, evaluated_as, made_as, posted_stays, table_of, valued_stays}
 use Rattle.net_builds.specs.declared.host.HostRefusal.{HostRefusal}
 use Rattle.net_builds.specs.Standings.{Asks, Fetches, IsCaused, IsHeld, IsLive, IsQuiet, LetsGo, Lists, Makes, Posts, Works, values_of}
@@ -53,6 +54,10 @@ held_is_bdd s name held = (Bdd (list_of (2 ^ s.manager.vars) held.0), held.1.sta
 
 pub held_is_row : (s : Seen) (name : Name) → IsHeld (standing_of s) name → IsRow s name
 held_is_row s name held = (kinds.Bdd, held_is_bdd s name held)
+
+-- a session that has few rows and has made few calls may make one more
+pub has_room : (s : Seen) → length s.rows < MOST_ROWS → length s.entries < 2 ^ 47 → HasRoom s
+has_room s rows calls = (rows, omega (arith, calls))
 
 notes_kept : (old new : Seen) → new.noted ≡ old.noted → (standing_of new).notes ≡ (standing_of old).notes
 notes_kept old new is = λ i. (standing_of (record old { noted = is i })).notes

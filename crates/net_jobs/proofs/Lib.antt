@@ -1,3 +1,4 @@
+pub mod AnswerLaws
 pub mod BuiltHistories
 pub mod CallLaws
 pub mod CanLemmas
@@ -15,7 +16,6 @@ pub mod LoopLemmas
 pub mod Opening
 pub mod OrderLemmas
 pub mod OutcomeKinds
-pub mod PairLemmas
 pub mod SizeLemmas
 pub mod Sorting
 pub mod StandsLemmas

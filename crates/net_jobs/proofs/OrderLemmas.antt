@@ -16,7 +16,8 @@ use Rattle.job_text.specs.declared.job.Counts.{Counts}
 use Rattle.job_text.specs.Histories.{AreNamed, IsCallOf, NamedRegister, HistoryLine, IsNamedAs, SayInOrder, held_by, registers_of}
 use Rattle.dd_session.specs.Sessions.{Seen}
 use Rattle.net_jobs.specs.declared.registers.Assigned.{Assigned}
-use Rattle.net_jobs.specs.Saying.{CanCall, CanTakeAll, IsHeldAs, call_of, name_at, name_in, register_of}
+use Rattle.operator_calls.specs.Taking.{CanTakeAll}
+use Rattle.net_jobs.specs.Saying.{CanCall, IsHeldAs, call_of, name_at, name_in, register_of}
 use Rattle.net_jobs.proofs.ListLemmas.{some_at}
 
 -- what is named among some registers is named among more
@@ -82,11 +83,11 @@ module _ (n : Counts) (s : Seen) (commands : List Command) (names : List Assigne
       subst (IsNamedAs (registers_of said) a) (sym name)
       ((register_of commands at.0).word, ap (λ rs. slice_get rs a) registers ∙ slice_get-map (register_of commands) names a ∙ ap (option_map (register_of commands)) at.1)
 
-  are_named : (all : List (Taken ℕ)) → CanTakeAll n s names all → AreNamed (registers_of said) (name_at names) all
+  are_named : (all : List (Taken ℕ)) → CanTakeAll (λ k a. IsHeldAs k s names a) n.vars n.elements all → AreNamed (registers_of said) (name_at names) all
   are_named [] can = tt
   are_named (function k a ∷ all) can = (named k a can.0, are_named all can.1)
   are_named (pairs ps ∷ all) can =
-      (All-weaker (λ pair. (pair.0 < n.vars) × IsHeldAs kinds.Bdd s names pair.1) (λ pair. IsNamedAs (registers_of said) pair.1 (name_at names pair.1)) (λ pair held. named kinds.Bdd pair.1 held.1) ps can.0.0, are_named all can.1)
+      (All-weaker (λ pair. IsHeldAs kinds.Bdd s names pair.1) (λ pair. IsNamedAs (registers_of said) pair.1 (name_at names pair.1)) (λ pair held. named kinds.Bdd pair.1 held) ps can.0.1, are_named all can.1)
   are_named (variable v ∷ all) can = are_named all can.1
   are_named (element e ∷ all) can = are_named all can.1
   are_named (value z ∷ all) can = are_named all can.1

@@ -9,8 +9,6 @@ use Rattle.function_laws.specs.declared.history.Call.TheVariants as calls
 use Rattle.function_laws.specs.declared.history.Function.{Function}
 use Rattle.function_laws.specs.declared.history.Name.{Name}
 use Rattle.function_laws.specs.declared.history.Reply.{Reply as LawReply}
-use Rattle.function_laws.specs.Numbers.{is_value}
-use Rattle.function_laws.specs.Makings.{are_distinct}
 use Rattle.job_text.specs.declared.history_line.Reply.TheVariants as replies
 use Rattle.job_commands.specs.declared.acts.Act.{Act}
 use Rattle.job_commands.specs.declared.acts.Act.TheVariants.{Makes, Drop, Same, Leq, Eval, Copy, Fetch, Post, Sweep}
@@ -18,12 +16,13 @@ use Rattle.job_text.specs.declared.job.Command.{Command}
 use Rattle.job_text.specs.declared.job.Counts.{Counts}
 use Rattle.job_text.specs.declared.job.Register.{Register}
 use Rattle.job_words.specs.Text.{Word}
-use Rattle.function_laws.specs.Makings.{Taken, bit, element, function, literals, named, number, pairs, taken, value, variable, variables}
+use Rattle.function_laws.specs.declared.making.Making.{Making}
+use Rattle.function_laws.specs.Makings.{named, taken}
 use Rattle.job_text.specs.Places.{bits_for}
 use Rattle.job_text.specs.Grammar.{target_of}
 use Rattle.job_text.specs.Histories.{NamedRegister, HistoryLine, SayInOrder, drop_of, drops, given_by, left_of, line_text, registers_of, stops, told_of}
+use Rattle.operator_calls.specs.Taking.{CanTakeAll}
 use Rattle.dd_session.specs.Managing.{stands_for}
-use Rattle.dd_session.specs.declared.answers.Placed.{Placed}
 use Rattle.dd_session.specs.Sessions.{Called, IsLiveAs, Seen}
 use Rattle.net_jobs.specs.declared.answering.Answered.{Answered}
 use Rattle.net_jobs.specs.declared.registers.Assigned.{Assigned}
@@ -43,26 +42,13 @@ name_at names a = name_in (slice_get names a)
 abbrev pub IsHeldAs : Kind → Seen → List Assigned → ℕ → Type 0
 IsHeldAs k s names a = (a < length names) × IsLiveAs k s (name_at names a)
 
--- the conditions of what an operation takes, over so many variables and elements: a register is live and of its kind, a variable or an
--- element is one of these, a value is one of a leaf, and no variable is put twice; no call here asks for the literals of all variables
-abbrev pub CanTake : Counts → Seen → List Assigned → Taken ℕ → Type 0
-CanTake n s names (function k a) = IsHeldAs k s names a
-CanTake n s names (variable v) = v < n.vars
-CanTake n s names (element e) = e < n.elements
-CanTake n s names (value z) = is_value z ≡ true
-CanTake n s names (number z) = Unit {0}
-CanTake n s names (bit b) = Unit {0}
-CanTake n s names (variables vs) = All (λ v. v < n.vars) vs
-CanTake n s names (pairs ps) = All (λ pair. (pair.0 < n.vars) × IsHeldAs kinds.Bdd s names pair.1) ps × (are_distinct (map (λ pair. pair.0) ps) ≡ true)
-CanTake n s names literals = ⊥
-
-abbrev pub CanTakeAll : Counts → Seen → List Assigned → List (Taken ℕ) → Type 0
-CanTakeAll n s names [] = Unit {0}
-CanTakeAll n s names (one ∷ more) = CanTake n s names one × CanTakeAll n s names more
+-- the registers have what it takes that makes a function of them
+abbrev pub CanMake : Counts → Seen → List Assigned → Making ℕ (List ℕ) (List (ℕ × ℕ)) → Type 0
+CanMake n s names making = CanTakeAll (λ k a. IsHeldAs k s names a) n.vars n.elements (taken making)
 
 -- the conditions of a command's call: it has as many bits as the kind of its register asks for
 abbrev pub CanCall : Counts → Seen → List Assigned → Act → Type 0
-CanCall n s names (Makes making) = CanTakeAll n s names (taken making)
+CanCall n s names (Makes making) = CanMake n s names making
 CanCall n s names (Copy a) = (k : Kind) × IsHeldAs k s names a
 CanCall n s names (Fetch cell a) = (k : Kind) × IsHeldAs k s names a × (cell < CELLS)
 CanCall n s names (Post cell a) = (k : Kind) × IsHeldAs k s names a × (cell < CELLS)
@@ -71,10 +57,6 @@ CanCall n s names (Drop a) = (k : Kind) × IsHeldAs k s names a
 CanCall n s names (Same a b) = (k : Kind) × IsHeldAs k s names a × IsHeldAs k s names b
 CanCall n s names (Leq a b) = IsHeldAs kinds.Bdd s names a × IsHeldAs kinds.Bdd s names b
 CanCall n s names (Eval a bits) = (k : Kind) × IsHeldAs k s names a × (length bits ≡ bits_for n k)
-
--- a variable with a register, and with the name of that register
-abbrev pub with_name : List Assigned → ℕ × ℕ → ℕ × Name
-with_name names pair = (pair.0, name_at names pair.1)
 
 -- the call of a command, by the names of the registers
 abbrev pub call_of : List Assigned → Act → Call
@@ -97,10 +79,6 @@ makes_row (calls.Eval a bits) = false
 makes_row (calls.Post cell a) = false
 makes_row calls.Sweep = false
 makes_row _ = true
-
--- what a call made a row of, under a name that was told
-abbrev pub GivesName : Seen → Seen → Call → Placed Name → Type 0
-GivesName old new call placed = (reply : LawReply) × (told_of reply ≡ Some replies.Done) × (given_by reply ≡ Some placed.value) × Called old new call reply placed.place
 
 -- The call was made, and this was answered.
 pub record IsAnswered (old new : Seen) (call : Call) (answered : Answered) : Type 0 where

@@ -1,11 +1,14 @@
 //! What a command is answered.
 
-ghost use Rattle.std.specs.Prelude.{◌≡◌, true, false, IfOk, IsOk, MatchResult};
+ghost use Rattle.std.specs.Prelude.{◌≡◌, ℕ, Bool, List, true, false, IfOk, IsOk};
 ghost use Rattle.function_laws.specs.declared.history.Call.{Call};
+ghost use Rattle.function_laws.specs.declared.history.Call.TheVariants as calls;
 ghost use Rattle.function_laws.specs.declared.history.Reply.TheVariants as laws;
+ghost use Rattle.function_laws.specs.declared.making.Making.{Making};
+ghost use Rattle.dd_session.specs.MadeRows.{MakesOrExceeds, TellsRow};
 ghost use Rattle.dd_session.specs.Managing.{is_posted};
-ghost use Rattle.dd_session.specs.Sessions.{Called, Denies, Seen, told_as};
-ghost use Rattle.net_jobs.specs.Saying.{GivesName, IsAnswered, makes_row};
+ghost use Rattle.dd_session.specs.Sessions.{Called, Seen};
+ghost use Rattle.net_jobs.specs.Saying.{IsAnswered, makes_row};
 
 use dd_session::{Again, Fetched, Overflow, Placed, Refusal};
 use edge_bits::Memory;
@@ -20,16 +23,30 @@ pub struct Answered {
     pub made: Option<Name>,
 }
 
-/// What an operation that makes a row is answered.
-pub fn answer_of(made: Result<Placed<Name>, Refusal>) -> Result<Answered, Memory>
-    ensures { IfOk result (λ answered. (old new : Seen) (call : Call) → makes_row call ≡ true → MatchResult made (GivesName old new call) (Denies old new call) → IsAnswered old new call answered) }
+/// What is answered of a row, or of a value out of range.
+fn row_or_overflow(told: Placed<Result<Name, Overflow>>) -> Answered
+    ensures { (old new : Seen) (call : Call) (chosen : Bool) → makes_row call ≡ true → TellsRow chosen old new call told.value told.place → IsAnswered old new call result }
+{
+    match told.value {
+        Ok(name) => Answered {
+            place: told.place,
+            reply: Reply::Done,
+            made: Some(name),
+        },
+        Err(Overflow) => Answered {
+            place: told.place,
+            reply: Reply::Overflow,
+            made: None,
+        },
+    }
+}
+
+/// What a command that makes a row of others is answered.
+pub fn answer_of(made: Result<Placed<Result<Name, Overflow>>, Refusal>) -> Result<Answered, Memory>
+    ensures { IfOk result (λ answered. (old new : Seen) (making : Making Name (List ℕ) (List (ℕ × Name))) → MakesOrExceeds old new making made → IsAnswered old new (calls.Makes making) answered) }
 {
     match made {
-        Ok(placed) => Ok(Answered {
-            place: placed.place,
-            reply: Reply::Done,
-            made: Some(placed.value),
-        }),
+        Ok(placed) => Ok(row_or_overflow(placed)),
         Err(Refusal::Full(full)) => Ok(Answered {
             place: full.place,
             reply: Reply::Full,
@@ -37,30 +54,6 @@ pub fn answer_of(made: Result<Placed<Name>, Refusal>) -> Result<Answered, Memory
         }),
         Err(Refusal::Memory) => Err(Memory),
     }
-}
-
-/// The same, of an operation whose values may be out of range.
-pub fn exact_answer_of(
-    made: Result<Placed<Result<Name, Overflow>>, Refusal>,
-) -> Result<Answered, Memory>
-    ensures { IfOk result (λ answered. (old new : Seen) (call : Call) → makes_row call ≡ true → MatchResult made (λ placed. Called old new call (told_as placed.value) placed.place) (Denies old new call) → IsAnswered old new call answered) }
-{
-    let placed = match made {
-        Ok(placed) => placed,
-        Err(refusal) => return answer_of(Err(refusal)),
-    };
-    Ok(match placed.value {
-        Ok(name) => Answered {
-            place: placed.place,
-            reply: Reply::Done,
-            made: Some(name),
-        },
-        Err(Overflow) => Answered {
-            place: placed.place,
-            reply: Reply::Overflow,
-            made: None,
-        },
-    })
 }
 
 /// What a call that made a row is answered.

@@ -7,7 +7,6 @@ mod gate;
 mod halves;
 mod hosting;
 mod networks;
-mod operating;
 mod performing;
 mod playing;
 mod refusal;

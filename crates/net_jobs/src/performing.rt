@@ -2,24 +2,22 @@
 
 ghost use Rattle.std.specs.Prelude.{◌≡◌, ◌<◌, true, IfOk};
 ghost use Rattle.function_laws.specs.declared.history.Call.TheVariants as calls;
-ghost use Rattle.function_laws.specs.Makings.{named, taken};
+ghost use Rattle.function_laws.specs.Makings.{named};
 ghost use Rattle.dd_session.specs.Sessions.{HasRoom, IsLive};
 ghost use Rattle.net_jobs.specs.Sections.{counts_of};
-ghost use Rattle.net_jobs.specs.Saying.{CanCall, CanTakeAll, IsAnswered, IsKept, call_of, name_at};
+ghost use Rattle.net_jobs.specs.Saying.{CanCall, CanMake, IsAnswered, IsKept, call_of, name_at};
 
-use crate::answering::{
-    Answered, answer_of, done, exact_answer_of, fetched, made, valued, yes_or_no,
-};
-use crate::operating::{make_add, make_bdd, make_exactly, make_zdd};
-use crate::registers::{Assigned, at};
+use crate::answering::{Answered, answer_of, done, fetched, made, valued, yes_or_no};
+use crate::registers::{Assigned, Registers, at};
 use dd_session::{H, Manager, Session};
 use edge_bits::{List, Memory};
 use function_laws::Making;
 use job_commands::Act;
+use operator_calls::{renamed, renamed_pairs};
 use std::alloc::Global;
 use std::sync::Wait;
 
-/// Makes the call of a command that makes a row of others.
+/// Makes the call of a command that makes a row of others, by the names of its registers.
 fn make<R: Wait>(
     rt: &R,
     alloc: Global,
@@ -30,16 +28,14 @@ fn make<R: Wait>(
 ) -> Result<Answered, Memory>
     requires own { session.old.manager ≡ manager.now }
     requires room { HasRoom session.old }
-    requires can { CanTakeAll (counts_of session.old.manager) session.old names.now (taken making.now) }
+    requires can { CanMake (counts_of session.old.manager) session.old names.now making.now }
     ensures answered { IfOk result (IsAnswered session.old session.new (calls.Makes (named (name_at names.now) making.now))) }
     ensures kept { IsKept session.old session.new }
 {
-    match making {
-        Making::Bdd(making) => answer_of(make_bdd(rt, alloc, manager, session, names, making)),
-        Making::Add(making) => answer_of(make_add(rt, manager, session, names, making)),
-        Making::Exact(making) => exact_answer_of(make_exactly(rt, manager, session, names, making)),
-        Making::Zdd(making) => answer_of(make_zdd(rt, manager, session, names, making)),
-    }
+    let registers = Registers { names, session };
+    let pairs = renamed_pairs(&registers, alloc, making)?;
+    let named = renamed(&registers, making, &pairs);
+    answer_of(session.make(rt, manager, named))
 }
 
 /// Makes the call of a `copy`.

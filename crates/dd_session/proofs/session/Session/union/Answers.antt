@@ -1,13 +1,7 @@
 use Rattle.dd_session.proofs.session.Session.union.Goals as goal
 
 pub make_row-requires-clause-may : goal.make_row-requires-clause-may
-make_row-requires-clause-may g c = record { own = c.requires.own; room = c.requires.room; can = (c.requires.first, (c.requires.second, tt)) }
+make_row-requires-clause-may g c = c.requires
 
-pub returns-clause-told : goal.returns-clause-told
-returns-clause-told g c = c.make_row.ensures.told
-
-pub returns-clause-stored : goal.returns-clause-stored
-returns-clause-stored g c = c.make_row.ensures.stored
-
-pub returns-clause-spare : goal.returns-clause-spare
-returns-clause-spare g c = c.make_row.ensures.spare
+pub returns : goal.returns
+returns g c = c.make_row.ensures

@@ -3,11 +3,11 @@ use Rattle.function_laws.specs.declared.history.Call.TheVariants as calls
 use Rattle.function_laws.specs.declared.making.Making.TheVariants as makings
 use Rattle.function_laws.specs.declared.making.BddMaking.TheVariants as bdds
 use Rattle.function_laws.specs.Values.{negation}
-use Rattle.net_jobs.proofs.HostLaws.{denied, held_is_bdd, made, named_caused, named_ok, named_own, outcome-complement}
+use Rattle.net_jobs.proofs.HostLaws.{denied, has_room, held_is_bdd, made, named_caused, named_ok, named_own, outcome-complement}
 use Rattle.net_jobs.proofs.hosting.SessionHostHost.complement.Goals as goal
 
-pub not-requires-clause-first : goal.not-requires-clause-first
-not-requires-clause-first g c = held_is_bdd c.args.session.now c.args.f c.requires.held
+pub not-requires : goal.not-requires
+not-requires g c = let s = c.args.session.now in record { own = c.requires.own; room = has_room s c.requires.room c.ready.ensures; can = (held_is_bdd s c.args.f c.requires.held, tt) }
 
 pub returns-clause-own : goal.returns-clause-own
 returns-clause-own g c =

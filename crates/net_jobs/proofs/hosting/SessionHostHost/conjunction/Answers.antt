@@ -3,14 +3,12 @@ use Rattle.function_laws.specs.declared.history.Call.TheVariants as calls
 use Rattle.function_laws.specs.declared.making.Making.TheVariants as makings
 use Rattle.function_laws.specs.declared.making.BddMaking.TheVariants as bdds
 use Rattle.function_laws.specs.Values.{conjunction}
-use Rattle.net_jobs.proofs.HostLaws.{held_is_bdd, made, named_caused, named_ok, named_own, outcome-conjunction}
+use Rattle.net_jobs.proofs.HostLaws.{has_room, held_is_bdd, made, named_caused, named_ok, named_own, outcome-conjunction}
 use Rattle.net_jobs.proofs.hosting.SessionHostHost.conjunction.Goals as goal
 
-pub and-requires-clause-first : goal.and-requires-clause-first
-and-requires-clause-first g c = held_is_bdd c.args.session.now c.args.f c.requires.first
-
-pub and-requires-clause-second : goal.and-requires-clause-second
-and-requires-clause-second g c = held_is_bdd c.args.session.now c.args.g c.requires.second
+pub and-requires : goal.and-requires
+and-requires g c =
+    let s = c.args.session.now in record { own = c.requires.own; room = has_room s c.requires.room c.ready.ensures; can = (held_is_bdd s c.args.f c.requires.first, (held_is_bdd s c.args.g c.requires.second, tt)) }
 
 pub returns-clause-own : goal.returns-clause-own
 returns-clause-own g c = named_own c.args.session.now c.and.new.self (calls.Makes (makings.Bdd (bdds.And c.args.f c.args.g))) c.and.result c.and.ensures.told ∙ c.requires.own

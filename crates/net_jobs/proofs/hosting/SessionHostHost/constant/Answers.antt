@@ -3,8 +3,14 @@ use Rattle.function_laws.specs.declared.history.Call.TheVariants as calls
 use Rattle.function_laws.specs.declared.making.Making.TheVariants as makings
 use Rattle.function_laws.specs.declared.making.BddMaking.TheVariants as bdds
 use Rattle.function_laws.specs.Values.{constant as constantly}
-use Rattle.net_jobs.proofs.HostLaws.{denied, made, named_caused, named_ok, named_own, outcome-one, outcome-zero}
+use Rattle.net_jobs.proofs.HostLaws.{denied, has_room, made, named_caused, named_ok, named_own, outcome-one, outcome-zero}
 use Rattle.net_jobs.proofs.hosting.SessionHostHost.constant.Goals as goal
+
+pub one-requires : goal.one-requires
+one-requires g c = record { own = c.requires.own; room = has_room c.args.session.now c.requires.room c.ready.ensures; can = tt }
+
+pub zero-requires : goal.zero-requires
+zero-requires g c = record { own = c.requires.own; room = has_room c.args.session.now c.requires.room c.ready.ensures; can = tt }
 
 pub returns-then-value-clause-own : goal.returns-then-value-clause-own
 returns-then-value-clause-own g c =

@@ -3,14 +3,12 @@ use Rattle.function_laws.specs.declared.history.Call.TheVariants as calls
 use Rattle.function_laws.specs.declared.making.Making.TheVariants as makings
 use Rattle.function_laws.specs.declared.making.BddMaking.TheVariants as bdds
 use Rattle.function_laws.specs.Values.{disjunction}
-use Rattle.net_jobs.proofs.HostLaws.{held_is_bdd, made, named_caused, named_ok, named_own, outcome-disjunction}
+use Rattle.net_jobs.proofs.HostLaws.{has_room, held_is_bdd, made, named_caused, named_ok, named_own, outcome-disjunction}
 use Rattle.net_jobs.proofs.hosting.SessionHostHost.disjunction.Goals as goal
 
-pub or-requires-clause-first : goal.or-requires-clause-first
-or-requires-clause-first g c = held_is_bdd c.args.session.now c.args.f c.requires.first
-
-pub or-requires-clause-second : goal.or-requires-clause-second
-or-requires-clause-second g c = held_is_bdd c.args.session.now c.args.g c.requires.second
+pub or-requires : goal.or-requires
+or-requires g c =
+    let s = c.args.session.now in record { own = c.requires.own; room = has_room s c.requires.room c.ready.ensures; can = (held_is_bdd s c.args.f c.requires.first, (held_is_bdd s c.args.g c.requires.second, tt)) }
 
 pub returns-clause-own : goal.returns-clause-own
 returns-clause-own g c = named_own c.args.session.now c.or.new.self (calls.Makes (makings.Bdd (bdds.Or c.args.f c.args.g))) c.or.result c.or.ensures.told ∙ c.requires.own

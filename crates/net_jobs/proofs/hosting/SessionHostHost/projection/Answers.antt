@@ -3,8 +3,11 @@ use Rattle.function_laws.specs.declared.history.Call.TheVariants as calls
 use Rattle.function_laws.specs.declared.making.Making.TheVariants as makings
 use Rattle.function_laws.specs.declared.making.BddMaking.TheVariants as bdds
 use Rattle.function_laws.specs.Values.{projection}
-use Rattle.net_jobs.proofs.HostLaws.{denied, made, named_caused, named_ok, named_own, outcome-projection}
+use Rattle.net_jobs.proofs.HostLaws.{denied, has_room, made, named_caused, named_ok, named_own, outcome-projection}
 use Rattle.net_jobs.proofs.hosting.SessionHostHost.projection.Goals as goal
+
+pub var-requires : goal.var-requires
+var-requires g c = record { own = c.requires.own; room = has_room c.args.session.now c.requires.room c.ready.ensures; can = (c.requires.variable, tt) }
 
 pub returns-clause-own : goal.returns-clause-own
 returns-clause-own g c =
