@@ -1,5 +1,5 @@
 -- What a call is for its caller.
-use Rattle.std.proofs.Common.{◌≡◌, ◌⊎◌, inl, inr, ℕ, suc, ◌+◌, ◌≤◌, ◌^◌, Bool, true, false, cond, List, [], ◌∷◌, length, max, Contains, Option, Some, Result, Ok, Err, MatchResult, OnOk, refl, ap, sym, subst, ◌∙◌, arith, true≢false}
+use Rattle.std.proofs.Common.{◌≡◌, ◌⊎◌, inl, inr, ℕ, suc, ◌+◌, ◌≤◌, ◌^◌, Bool, true, false, cond, List, [], ◌∷◌, ◌++◌, length, max, Contains, Option, Some, Result, Ok, Err, MatchResult, OnOk, refl, ap, sym, subst, ◌∙◌, arith, true≢false}
 use Rattle.edge_bits.specs.declared.limits.TheConstants.{CELLS}
 use Rattle.atomic_table.specs.Seated.{TableId}
 use Rattle.std.specs.Result.{is_err}
@@ -17,6 +17,7 @@ use Rattle.function_laws.specs.declared.history.Name.{Name}
 use Rattle.function_laws.specs.Kinds.{Denoted, ValueOf}
 use Rattle.function_laws.specs.Outcomes.{Outcome}
 use Rattle.function_laws.specs.Steps.{outcome, TellsFull}
+use Rattle.function_laws.specs.Sizes.{Orders}
 use Rattle.function_laws.specs.Tables.{Table, same_name}
 use Rattle.handle_count.specs.RowMaps.{RowMap}
 use Rattle.node_store.specs.declared.grow.Stop.{Stop}
@@ -35,7 +36,7 @@ use Rattle.seat_guard.specs.declared.view.Row.{Row}
 use Rattle.seat_guard.specs.declared.view.Telling.{Telling}
 use Rattle.seat_guard.specs.Passes.{IsPassOf, known, resting}
 use Rattle.seat_guard.specs.Turn.{KeepsRows}
-use Rattle.seat_guard.specs.Views.{Agrees, adds_after, cell_in, holding, letting_go, rows_after, without}
+use Rattle.seat_guard.specs.Views.{Agrees, adds_after, cell_in, holding, letting_go, note_of, rows_after, without}
 use Rattle.shared_store.specs.declared.shared.Shared.{Shared}
 use Rattle.shared_store.specs.Lasting.{Lasts}
 use Rattle.shared_store.specs.Sharing.{Serving, board, count, counts, functions, keeps, orders, view_of}
@@ -47,14 +48,15 @@ use Rattle.dd_session.specs.declared.answers.Placed.{Placed}
 use Rattle.dd_session.specs.declared.answers.Refusal.{Refusal}
 use Rattle.dd_session.specs.declared.answers.Refusal.TheVariants as refusals
 use Rattle.dd_session.specs.declared.book.Book.{Book}
-use Rattle.dd_session.specs.Sessions.{Called, Denies, IsAsBefore, Managed, Seen, fulls_in}
+use Rattle.dd_session.specs.Sessions.{Called, Denies, IsAsBefore, Managed, Seen, fulls_in, note_at}
 use Rattle.node_slots.specs.Stores.{IsStore}
-use Rattle.dd_session.specs.Works.{HasRows, IsOfWork, StoresWork}
+use Rattle.node_slots.proofs.Settling.{level_same}
+use Rattle.dd_session.specs.Works.{HasRows, IsOfWork, IsOrderedBy, StoresAt, StoresWork}
 use Rattle.dd_session.specs.MadeRows.{Refuses, TellsRow, adding_by}
 use Rattle.add_ops.specs.declared.arithmetic.Overflow.{Overflow}
 use Rattle.std.specs.Prelude.{IsErrOf, IsTrue}
 use Rattle.node_store.specs.declared.grow.Stop.TheVariants as stop
-use Rattle.dd_session.specs.Turns.{Gives, IsAdded, IsCausedBy, IsRefused, IsSeatOf, IsSmall, Notes, Stands, Tied, Told, Took, Tried, managed_by, names_by, seen_by, seen_of}
+use Rattle.dd_session.specs.Turns.{Gives, IsAdded, IsCausedBy, IsRefused, IsSeatOf, IsSmall, IsWorkFrom, Notes, Stands, Tied, Told, Took, Tried, managed_by, names_by, seen_by, seen_of}
 use Rattle.node_slots.specs.Wholes.{content_view}
 use Rattle.dd_session.proofs.Sweepings.{swept_beside}
 use Rattle.dd_session.proofs.Tying.{tied_room, tied_same}
@@ -106,6 +108,15 @@ stands_taken d e x took = record {
 pub has_rows : (table : TableId) (d : Draws) (spare : ℕ) (x : Shared) → Stands (view_of x) d → HasRows (view_of x) (seen_by table d spare)
 has_rows table d spare x stands = record { vars = ap (λ (p : ℕ × ℕ × ℕ). p.0) stands.counts_are; elements = ap (λ (p : ℕ × ℕ × ℕ). p.1) stands.counts_are; rows = stands.rows_kept }
 
+-- its variables and elements stand as these orders have them
+ordered_as : (v : Shared) (o : Orders) → IsStore v.store → orders v ≡ o → IsOrderedBy (view_of v) o
+ordered_as v o of same = subst (IsOrderedBy (view_of v)) same (level_same v.store of)
+
+-- the orders at the place were noted
+placed_told : {call : Call} {reply : Reply} (old held new : Draws) (x : Shared) (place : ℕ) → Took old held x → Told held new call reply place → new.placed ≡ old.placed ++ note_at place (orders x) ∷ []
+placed_told old held new x place took told =
+    ap (λ (d : Draws). d.placed) told.4.left ∙ ap (λ (d : Draws). d.placed ++ note_of d place ∷ []) took.is
+
 adds_are : (c : Change) (n : ℕ) → adds_after c n ≡ n + names_by c
 adds_are (Adds row) n = omega arith
 adds_are (Takes name) n = omega arith
@@ -141,6 +152,8 @@ called old held new x table table' spare spare' call reply place same took told 
         subst (λ (z : Call × Reply). Called (seen_by table old spare) (seen_by table new spare') z.0 z.1 place) (λ i. (t.2 i, t.3 i))
         (subst (λ (d : Draws). Called (seen_by table old spare) (seen_by table d spare') y.call y.reply place) (sym drew.left) (record {
           board = cell_in cells;
+          orders = orders x;
+          placed_are = refl;
           step = λ u seen board_is. let says = drew.may.step u (record { sizes_are = seen.sizes_are; live = seen.live; fresh = seen.fresh; cells = λ _. (board_is, took.many) }) in (
             says.0,
             record { sizes_are = says.1.sizes_are; live = says.1.live; fresh = says.1.fresh },
@@ -159,9 +172,9 @@ called old held new x table table' spare spare' call reply place same took told 
 -- want of memory
 pub as_before : (old held new : Draws) (x : Shared) (table table' : TableId) (spare spare' : ℕ) (l : Leaving) → table' ≡ table → spare ≤ spare' → Took old held x → new ≡ letting_go held l → IsAsBefore (seen_by table old spare) (seen_by table' new spare')
 as_before old held new x table table' spare spare' l same more took left = (
-  subst (λ (i : TableId). seen_by i new spare' ≡ record (seen_by table old spare) { spare = spare'; stored = new.stored; due = new.due }) (sym same)
-      (subst (λ (d : Draws). seen_by table d spare' ≡ record (seen_by table old spare) { spare = spare'; stored = d.stored; due = d.due }) (sym left)
-      (subst (λ (d : Draws). seen_by table (letting_go d l) spare' ≡ record (seen_by table old spare) { spare = spare'; stored = l.stored; due = l.due }) (sym took.is) refl)),
+  subst (λ (i : TableId). seen_by i new spare' ≡ record (seen_by table old spare) { spare = spare'; found = new.functions; stored = new.stored; due = new.due }) (sym same)
+      (subst (λ (d : Draws). seen_by table d spare' ≡ record (seen_by table old spare) { spare = spare'; found = d.functions; stored = d.stored; due = d.due }) (sym left)
+      (subst (λ (d : Draws). seen_by table (letting_go d l) spare' ≡ record (seen_by table old spare) { spare = spare'; found = d.functions; stored = l.stored; due = l.due }) (sym took.is) refl)),
   more,
 )
 
@@ -202,22 +215,34 @@ full_needs made is sure = sure (ap is_err is)
 -- an operation that was tried and settled
 module _ {X : Type 0} (old held new : Draws) (x y : Shared) (table table' : TableId) (spare spare' : ℕ) (made : Result X Stop) (took : Took old held x) where
   module _ (Answers : View → View → X → Type 0) (Work : View → Denoted → Type 0) (tried : Tried Answers Work x y made) (notes : Notes held new y) where
-    of_work : (v : Shared) (f : Function) → Lasts x v → orders v ≡ orders x → IsListedWork (view_of v) (Work (view_of v)) f → IsOfWork (seen_by table old spare) Work f
-    of_work v f lasts ordered is = (view_of v, has_rows table old spare v (stands_of old held x v took lasts ordered), is)
+    of_work : (f : Function) → IsWorkFrom Work x f → IsOfWork (seen_by table old spare) (orders x) Work f
+    of_work f part = let v = part.0 in (view_of v, has_rows table old spare v (stands_of old held x v took part.1 part.2), ordered_as v (orders x) part.3 part.2, part.4)
 
-    stored_work : (f : Function) → Contains new.stored f → IsOfWork (seen_by table old spare) Work f
-    stored_work f c = stored-only (IsOfWork (seen_by table old spare) Work) x y held notes.0 (ap (λ (z : Draws). z.functions) took.is)
+    stored_work : (f : Function) → Contains new.stored f → IsOfWork (seen_by table old spare) (orders x) Work f
+    stored_work f c = stored-only (IsOfWork (seen_by table old spare) (orders x) Work) x y held notes.0 (ap (λ (z : Draws). z.functions) took.is)
         (λ g there. by g (tried.stored g there)) notes.3 f (subst (λ (fs : List Function). Contains fs f) notes.1 c)
       where
-        by : (g : Function) → Contains (functions x) g ⊎ ((v : Shared) × Lasts x v × (orders v ≡ orders x) × IsListedWork (view_of v) (Work (view_of v)) g) → Contains (functions x) g ⊎ IsOfWork (seen_by table old spare) Work g
+        by : (g : Function) → Contains (functions x) g ⊎ IsWorkFrom Work x g → Contains (functions x) g ⊎ IsOfWork (seen_by table old spare) (orders x) Work g
         by g (inl there) = inl there
-        by g (inr part) = inr (of_work part.0 g part.1 part.2 part.3)
+        by g (inr part) = inr (of_work g part)
 
-    pub stores_work : {Y : Type 0} (r : Result Y Refusal) → IsCausedBy made r → StoresWork Work (seen_by table old spare) (seen_by table' new spare') r
-    stores_work (Ok placed) cause = stored_work
-    stores_work (Err refusals.Memory) cause = λ f c. inr (stored_work f c)
-    stores_work (Err (refusals.Full full)) cause = let due = tried.ran.due_is cause in let sweep = tried.swept cause in (
-      stored_work,
+    stores_at : {call : Call} {reply : Reply} (place : ℕ) → Told held new call reply place → StoresAt Work (seen_by table old spare) (seen_by table' new spare') place
+    stores_at place told = record { orders = orders x; placed = placed_told old held new x place took told; stored = stored_work }
+
+    stored_row : (call : Call) (chose : Bool) (place : ℕ) (r : Result Name Overflow) → MatchResult r (λ name. IsAdded held new call (adding_by chose) name place) (λ over. Told held new call replies.Overflow place)
+        → StoresAt Work (seen_by table old spare) (seen_by table' new spare') place
+    stored_row call true place (Ok name) told = stores_at place told.1
+    stored_row call false place (Ok name) told = stores_at place told
+    stored_row call chose place (Err over) told = stores_at place told
+
+    pub stores_work : (call : Call) (chose : Bool) (r : Result (Placed (Result Name Overflow)) Refusal) → IsCausedBy made r
+        → MatchResult r (λ placed. MatchResult placed.value (λ name. IsAdded held new call (adding_by chose) name placed.place) (λ over. Told held new call replies.Overflow placed.place)) (IsRefused held new call)
+        → StoresWork Work (seen_by table old spare) (seen_by table' new spare') r
+    unfolding stores_at
+    stores_work call chose (Ok placed) cause told = stored_row call chose placed.place placed.value told
+    stores_work call chose (Err refusals.Memory) cause told = λ f c. inr (orders x, stored_work f c)
+    stores_work call chose (Err (refusals.Full full)) cause told = let due = tried.ran.due_is cause in let sweep = tried.swept cause in (
+      stores_at full.place told.0,
       record {
         function = due.0;
         is = notes.2 ∙ notes.3.due_is ∙ due.1;
@@ -232,6 +257,7 @@ module _ {X : Type 0} (old held new : Draws) (x y : Shared) (table table' : Tabl
         };
         view = view_of tried.from;
         has = has_rows table old spare tried.from (stands_of old held x tried.from took tried.lasts tried.orders_are);
+        ordered = ordered_as tried.from (orders x) tried.ran.store tried.orders_are;
         same = refl;
         work = due.2;
       },

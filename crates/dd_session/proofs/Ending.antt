@@ -52,7 +52,8 @@ history_of m d n k sessions vars elements given gone all first whole = (
     carried = subst (λ (z : Sizes). EachWith Carries (opening z) (opening_orders z) whole.log) (λ i. sizes_for (vars i) (elements i)) whole.carried;
     each = λ k s at. whole.each k (gone_as s) (ap (λ (l : List Gone). get_elem? l k) gone ∙ at_map gone_as sessions k s at);
     rows = λ k s at. ap (λ (z : Sizes). (table_after (opening z) whole.log).live s.number) (λ i. sizes_for (sym vars i) (sym elements i)) ∙ whole.rows k (gone_as s) (ap (λ (l : List Gone). get_elem? l k) gone ∙ at_map gone_as sessions k s at);
-    noted = λ k s at. subst (λ (z : Sizes). Each (IsNotedIn z whole.log) s.noted) (λ i. sizes_for (vars i) (elements i)) (whole.noted k (gone_as s) (ap (λ (l : List Gone). get_elem? l k) gone ∙ at_map gone_as sessions k s at));
+    placed = λ k s at. subst (λ (z : Sizes). Each (IsNotedIn z whole.log) s.placed) (λ i. sizes_for (vars i) (elements i)) (whole.noted k (gone_as s) (ap (λ (l : List Gone). get_elem? l k) gone ∙ at_map gone_as sessions k s at)).placed;
+    noted = λ k s at. subst (λ (z : Sizes). Each (IsNotedIn z whole.log) s.noted) (λ i. sizes_for (vars i) (elements i)) (whole.noted k (gone_as s) (ap (λ (l : List Gone). get_elem? l k) gone ∙ at_map gone_as sessions k s at)).noted;
     no_other = λ p other. dite (dec_lt p m.sessions)
         (λ below. let c = all.covered p below in absurd (other c.0 c.1 c.2 c.3))
         (λ above. whole.beyond p (omega (arith, above, given)));

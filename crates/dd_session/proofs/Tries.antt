@@ -30,7 +30,7 @@ use Rattle.shared_store.proofs.Lasting.{lasts-grown}
 use Rattle.shared_store.proofs.Ordered.{orders-grown}
 use Rattle.shared_store.proofs.Stored.{due-listed, stores-grown}
 use Rattle.shared_store.proofs.Storing.{stores-then}
-use Rattle.dd_session.specs.Turns.{IsAsked, Ran, Tried}
+use Rattle.dd_session.specs.Turns.{IsAsked, IsWorkFrom, Ran, Tried}
 
 pub lasts-refl : (x : Shared) → Lasts x x
 lasts-refl x = record { held = λ h some kept. kept; cells = refl; counts_are = refl; counted = refl }
@@ -71,9 +71,6 @@ module _ {X : Type 0} (Answers : View → View → X → Type 0) (Work : View �
     due_is = λ is. let d = due-listed y (Work (view_of x)) (due is) in (d.0, d.1, listed-back (view_of x) (view_of y) (Work (view_of x)) d.0 grown d.2);
   }
 
-  abbrev Part : Shared → Function → Type 0
-  Part x f = (v : Shared) × Lasts x v × (orders v ≡ orders x) × IsListedWork (view_of v) (Work (view_of v)) f
-
   -- the first try is the last
   pub tried_once : (x y : Shared) (made : Result X Stop) → (IsErrOf made stop.Full → ⊥) → Ran Answers Work x y made → Tried Answers Work x y made
   tried_once x y made free ran = record {
@@ -82,7 +79,7 @@ module _ {X : Type 0} (Answers : View → View → X → Type 0) (Work : View �
     lasts = lasts-refl x;
     orders_are = refl;
     ran = ran;
-    stored = stores-weaker (IsListedWork (view_of x) (Work (view_of x))) (Part x) x y (λ f is. (x, lasts-refl x, refl, is)) ran.stored;
+    stored = stores-weaker (IsListedWork (view_of x) (Work (view_of x))) (IsWorkFrom Work x) x y (λ f is. (x, lasts-refl x, refl, ran.store, is)) ran.stored;
   }
 
   -- after what stores nothing
@@ -93,7 +90,7 @@ module _ {X : Type 0} (Answers : View → View → X → Type 0) (Work : View �
     lasts = lasts;
     orders_are = same;
     ran = ran;
-    stored = stores-then (Part x) x y z (stores-weaker (λ _. ⊥) (Part x) x y (λ f is. absurd is) none) (stores-weaker (IsListedWork (view_of y) (Work (view_of y))) (Part x) y z (λ f is. (y, lasts, same, is)) ran.stored);
+    stored = stores-then (IsWorkFrom Work x) x y z (stores-weaker (λ _. ⊥) (IsWorkFrom Work x) x y (λ f is. absurd is) none) (stores-weaker (IsListedWork (view_of y) (Work (view_of y))) (IsWorkFrom Work x) y z (λ f is. (y, lasts, same, ran.store, is)) ran.stored);
   }
 
   -- after another try
@@ -104,9 +101,9 @@ module _ {X : Type 0} (Answers : View → View → X → Type 0) (Work : View �
     lasts = lasts-then x y tried.from lasts tried.lasts;
     orders_are = tried.orders_are ∙ ran.orders_are;
     ran = tried.ran;
-    stored = stores-then (Part x) x y z
-        (stores-weaker (IsListedWork (view_of x) (Work (view_of x))) (Part x) x y (λ f is. (x, lasts-refl x, refl, is)) ran.stored)
-        (stores-weaker (Part y) (Part x) y z (λ f is. (is.0, lasts-then x y is.0 lasts is.1, is.2 ∙ ran.orders_are, is.3)) tried.stored);
+    stored = stores-then (IsWorkFrom Work x) x y z
+        (stores-weaker (IsListedWork (view_of x) (Work (view_of x))) (IsWorkFrom Work x) x y (λ f is. (x, lasts-refl x, refl, ran.store, is)) ran.stored)
+        (stores-weaker (IsWorkFrom Work y) (IsWorkFrom Work x) y z (λ f is. (is.0, lasts-then x y is.0 lasts is.1, is.2 ∙ ran.orders_are, is.3, is.4)) tried.stored);
   }
 
 -- a making of edges

@@ -49,7 +49,7 @@ IsClosing d = (d.closing ≡ true) × (d.gone ≡ []) × (d.given ≡ d.sessions
 
 -- a session that has made no call
 abbrev pub newcomer : Managed → ℕ → Seen
-newcomer m number = record { manager = m; number = number; rows = []; adds = 0; spare = 0; entries = []; stored = []; due = None; noted = [] }
+newcomer m number = record { manager = m; number = number; rows = []; adds = 0; spare = 0; entries = []; found = []; stored = []; due = None; noted = []; placed = [] }
 
 -- the first n sessions, as they are opened
 abbrev pub newcomers : Managed → ℕ → List Seen
@@ -82,6 +82,8 @@ pub record IsHistoryOf (m : Managed) (sessions : List Seen) (n : ℕ) : Type 0 w
   pub rows : (k : ℕ) (s : Seen) → get_elem? sessions k ≡ some s → (table_after (opening (sizes_for m.vars m.elements)) log).live s.number ≡ stands_for s.rows
   -- the orders that a session noted at a place are those that the calls below that place leave
   pub noted : (k : ℕ) (s : Seen) → get_elem? sessions k ≡ some s → Each (IsNotedIn (sizes_for m.vars m.elements) log) s.noted
+  -- and so are the orders at the places of its calls
+  pub placed : (k : ℕ) (s : Seen) → get_elem? sessions k ≡ some s → Each (IsNotedIn (sizes_for m.vars m.elements) log) s.placed
   pub no_other : (p : ℕ) → ((k : ℕ) (s : Seen) → get_elem? sessions k ≡ some s → s.number ≡ p → ⊥) → entries_of p log ≡ []
 
 -- What a sweep left in use, of a store whose orders are those that the entries leave, and in which nothing holds a slot any more.
@@ -102,7 +104,7 @@ pub record IsClosed (m : Managed) (sessions : List Seen) (calls left : ℕ) : Ty
 
 -- what is left of a session as it comes back
 abbrev pub gone_as : Seen → Gone
-gone_as s = record { session = s.number; rows = s.rows; entries = s.entries; noted = s.noted }
+gone_as s = record { session = s.number; rows = s.rows; entries = s.entries; noted = s.noted; placed = s.placed }
 
 abbrev pub is_posted : Fetched → Bool
 is_posted = turns.is_posted

@@ -12,6 +12,7 @@ use Rattle.function_laws.specs.declared.history.Reply.{Reply}
 use Rattle.function_laws.specs.declared.history.Reply.TheVariants as replies
 use Rattle.function_laws.specs.declared.history.Entry.{Entry}
 use Rattle.function_laws.specs.SessionEntries.{entry}
+use Rattle.function_laws.specs.Sizes.{Orders}
 use Rattle.function_laws.specs.Tables.{Table, same_name}
 use Rattle.function_laws.specs.Steps.{IsAllowed, TellsFull, after}
 use Rattle.seat_guard.specs.declared.view.Change.{Change}
@@ -44,11 +45,15 @@ pub record Seen : Type 0 where
   pub spare : ℕ
   -- its calls, in its order
   pub entries : List Entry
-  -- the functions that its last turn stored, and the one that was due at the last Full before the end of that turn
+  -- what the nodes denoted that its last call found
+  pub found : List Function
+  -- the functions that its last call stored, and the one that was due at the last Full before the end of that call
   pub stored : List Function
   pub due : Option Function
   -- what it noted of the orders, the oldest first
   pub noted : List Noted
+  -- the orders at the places of its calls, the oldest first
+  pub placed : List Noted
 
 -- The table of functions has what the session sees, and has not been given further names by it.
 pub record SeenIn (s : Seen) (t : Table) : Type 0 where
@@ -64,9 +69,16 @@ names_in (replies.Fetched name posted) = 1
 names_in (replies.Numbered name n) = 1
 names_in _ = 0
 
+-- these orders at a place
+abbrev pub note_at : ℕ → Orders → Noted
+note_at place orders = record { place = place; variable_order = orders.variables; element_order = orders.elements }
+
 -- The call was made at the place and replied so: in whatever table the session is seen, with the board that there was at the place, this is a step, and the session is seen afterwards in the table that is left. It is the one entry more of the session, above its other ones.
 pub record Called (old new : Seen) (call : Call) (reply : Reply) (place : ℕ) : Type 0 where
   pub board : ℕ → Option Function
+  -- the orders at the place, which it noted
+  pub orders : Orders
+  pub placed_are : new.placed ≡ old.placed ++ note_at place orders ∷ []
   pub step : (t : Table) → SeenIn old t → t.cells ≡ board → IsAllowed t old.number call reply × SeenIn new (after t old.number call reply)
   pub entries_are : new.entries ≡ old.entries ++ entry place old.number call reply ∷ []
   pub later : All (λ (e : Entry). e.place < place) old.entries
@@ -80,9 +92,9 @@ pub record Called (old new : Seen) (call : Call) (reply : Reply) (place : ℕ) :
   pub rows_are : new.rows ≡ rows_after change old.rows
   pub noted_are : new.noted ≡ old.noted
 
--- want of memory leaves all as it was; what is stored may be more, and so may the room for rows
+-- want of memory leaves all as it was; what was found and stored may be another, and the room for rows more
 abbrev pub IsAsBefore : Seen → Seen → Type 0
-IsAsBefore old new = (new ≡ record old { spare = new.spare; stored = new.stored; due = new.due }) × (old.spare ≤ new.spare)
+IsAsBefore old new = (new ≡ record old { spare = new.spare; found = new.found; stored = new.stored; due = new.due }) × (old.spare ≤ new.spare)
 
 -- full is a call of the history that changes nothing, and tells how many slots were in use and how many were needed
 abbrev pub Denies : Seen → Seen → Call → Refusal → Type 0

@@ -68,9 +68,11 @@ seen_by table d spare = record {
   adds = d.adds;
   spare = spare;
   entries = d.entries;
+  found = d.functions;
   stored = d.stored;
   due = d.due;
   noted = d.noted;
+  placed = d.placed;
 }
 
 -- a seat that is seen as this session
@@ -255,13 +257,17 @@ pub record Ran {X : Type 0} (Answers : View → View → X → Type 0) (Work : V
 abbrev pub IsSweptFrom : Shared → Shared → Type 0
 IsSweptFrom x y = (b : Shared) × Lasts x b × (orders b ≡ orders x) × (swept : Swept) × IsSwept Alone (content_view b.store) (content_view y.store) swept
 
+-- a part of the work in some store in which all that lasts of this one lasts, and which has its orders
+abbrev pub IsWorkFrom : (View → Denoted → Type 0) → Shared → Function → Type 0
+IsWorkFrom Work x f = (v : Shared) × Lasts x v × (orders v ≡ orders x) × IsStore v.store × IsListedWork (view_of v) (Work (view_of v)) f
+
 -- the last try of an operation, and what all tries stored
 pub record Tried {X : Type 0} (Answers : View → View → X → Type 0) (Work : View → Denoted → Type 0) (x y : Shared) (made : Result X Stop) : Type 0 where
   pub from : Shared
   pub lasts : Lasts x from
   pub orders_are : orders from ≡ orders x
   pub ran : Ran Answers Work from y made
-  pub stored : StoresOnly (λ (f : Function). (v : Shared) × Lasts x v × (orders v ≡ orders x) × IsListedWork (view_of v) (Work (view_of v)) f) x y
+  pub stored : StoresOnly (IsWorkFrom Work x) x y
   -- where no slot was free, it began with what a sweep left
   pub swept : IsErrOf made stop.Full → IsSweptFrom x from
 

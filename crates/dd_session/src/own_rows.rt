@@ -7,7 +7,7 @@ ghost use Rattle.function_laws.specs.declared.history.Call.TheVariants as calls;
 ghost use Rattle.function_laws.specs.declared.history.Reply.TheVariants as replies;
 ghost use Rattle.dd_session.specs.Sessions.{Called, HasRoom, IsAsBefore, IsLive, IsLiveAs, fulls_in};
 ghost use Rattle.dd_session.specs.Listings.{IsListed};
-ghost use Rattle.dd_session.specs.Works.{IsSweepOf, StoresNothing};
+ghost use Rattle.dd_session.specs.Works.{IsSweepAsked, StoresNothing};
 ghost use Rattle.dd_session.specs.Managing.{is_posted};
 
 use crate::answers::{Fetched, Placed};
@@ -239,7 +239,7 @@ impl Session {
         requires own { self.old.manager ≡ manager.now }
         requires room { HasRoom self.old }
         ensures told { Called self.old self.new calls.Sweep replies.Done result.place }
-        ensures swept { IsSweepOf self.old result.value }
+        ensures swept { IsSweepAsked self.old self.new result.value }
         ensures stored { StoresNothing self.new }
         ensures spare { self.new.spare ≡ self.old.spare }
     {

@@ -25,7 +25,7 @@ use Rattle.seat_guard.specs.Views.{told_of, MayTell, stands_for, cell_in, sizes_
 use Rattle.function_laws.specs.SessionEntries.{Each, entries_of, entry}
 use Rattle.function_laws.specs.Sizes.{Orders}
 use Rattle.function_laws.specs.EntryOrders.{EachWith, opening_orders, orders_from}
-use Rattle.seat_guard.specs.Notes.{IsNotedIn}
+use Rattle.seat_guard.specs.Notes.{AreNotedIn}
 use Rattle.seat_guard.specs.Journal.{IsLeftRow, LiveFits, Fits, Journal}
 use Rattle.function_laws.specs.SiftEntries.{Carries, CarriesCall}
 use Rattle.seat_guard.specs.Sifted.{IsOfOther}
@@ -33,7 +33,7 @@ use Rattle.seat_guard.specs.Rule.{AllBack, Whole}
 use Rattle.function_laws.proofs.SessionEntryLemmas.{put_at, put_here, put_else, entries_same, entries_other}
 use Rattle.function_laws.proofs.ApartLemmas.{after_apart}
 use Rattle.seat_guard.proofs.RowCounts.{at_end, each_append, each_map, each_set, off, not_true}
-use Rattle.seat_guard.proofs.NoteLemmas.{notes-longer, noted-now}
+use Rattle.seat_guard.proofs.NoteLemmas.{notes-longer, with-note, with-place}
 use Rattle.seat_guard.proofs.NameSteps.{carries-left, given-after, stand-after}
 
 module _ (place turn : ℕ) (ds : List Draws) (start : Sizes) (log : List Entry) (table : Table) (r : Journal place turn ds start log table) where
@@ -198,13 +198,13 @@ module _ (place turn : ℕ) (ds : List Draws) (start : Sizes) (log : List Entry)
                     no_row = (aside p away).0 ∙ a.no_row;
                     no_name = (aside p away).1 ∙ a.no_name;
                   };
-                  back = λ i y there. let a = k.back i y there in let away : y.session ≢ d.session = λ is. some-ne-none id (sym me.seated ∙ (ap r.seat (sym is) ∙ a.1)) in (a.0, a.1, other y.session away ∙ a.2, (aside y.session away).0 ∙ a.3, notes-longer start log (e ∷ []) y.noted a.4);
+                  back = λ i y there. let a = k.back i y there in let away : y.session ≢ d.session = λ is. some-ne-none id (sym me.seated ∙ (ap r.seat (sym is) ∙ a.1)) in (a.0, a.1, other y.session away ∙ a.2, (aside y.session away).0 ∙ a.3, notes-longer start log (e ∷ []) y.noted y.placed a.4);
                   left = each_map (IsLeftRow table r.seat f.given) (IsLeftRow u r.seat f.given) (λ row a. let away : a.0 ≢ d.session = λ is. some-ne-none id (sym me.seated ∙ (ap r.seat (sym is) ∙ a.2)) in (a.0, a.1, a.2, ap (λ (k : Name → std.Option Function). k row.name) (aside a.0 away).0 ∙ a.3)) f.rows k.left;
                 },
               );
               holder = fits.holder;
               rowless = fits.rowless;
-              noted = notes-longer start log (e ∷ []) f.noted fits.noted;
+              noted = notes-longer start log (e ∷ []) f.noted f.placed fits.noted;
             }) (record {
               live = λ l. record {
                 seated = me.seated;
@@ -219,7 +219,7 @@ module _ (place turn : ℕ) (ds : List Draws) (start : Sizes) (log : List Entry)
               closing = λ c. absurd (true≢false (sym live ∙ ((r.each id d at).closing c).0));
               holder = λ h. live;
               rowless = λ l c. absurd (true≢false (sym live ∙ l));
-              noted = notes-longer start log (e ∷ []) d.noted (r.each id d at).noted;
+              noted = with-place start log d n refl now (r.each id d at).noted (e ∷ []);
             });
       }
 
@@ -251,7 +251,7 @@ module _ (place turn : ℕ) (ds : List Draws) (start : Sizes) (log : List Entry)
           closing = λ c. absurd (true≢false (sym live ∙ (f.closing c).0));
           holder = f.holder;
           rowless = f.rowless;
-          noted = each_append (IsNotedIn start log) d.noted (note_of d place ∷ []) f.noted (noted-now start log d place r.drawn now, tt);
+          noted = with-note start log d place r.drawn now f.noted;
         });
       }
 
@@ -319,7 +319,7 @@ module _ (place turn : ℕ) (ds : List Draws) (start : Sizes) (log : List Entry)
               closing = λ c. absurd (off c);
               holder = λ h. absurd (off h);
               rowless = λ l c. refl;
-              noted = tt;
+              noted = record { noted = tt; placed = tt };
             })) (at_end (set ds id (one_more d)) (session_of d) f j here);
       }
 
@@ -359,7 +359,7 @@ module _ (place turn : ℕ) (ds : List Draws) (start : Sizes) (log : List Entry)
                   later = λ p le. let a = k.later p le in record { no_seat = none_kept p a.no_seat; no_entry = a.no_entry; no_row = a.no_row; no_name = a.no_name };
                   back = λ i y lies. ⊎_elim
                       (λ (was : get_elem? d.gone i ≡ some y). let a = k.back i y was in (a.0, none_kept y.session a.1, a.2, a.3, a.4))
-                      (λ (new : gone_of e ≡ y). subst (λ (z : Gone). (z.session < d.given) × (seat z.session ≡ none) × (entries_of z.session log ≡ z.entries) × (table.live z.session ≡ stands_for z.rows) × Each (IsNotedIn start log) z.noted) new (given, put_here r.seat e.session none, them.mine, them.agrees.live, (r.each other e at_other).noted))
+                      (λ (new : gone_of e ≡ y). subst (λ (z : Gone). (z.session < d.given) × (seat z.session ≡ none) × (entries_of z.session log ≡ z.entries) × (table.live z.session ≡ stands_for z.rows) × AreNotedIn start log z.noted z.placed) new (given, put_here r.seat e.session none, them.mine, them.agrees.live, (r.each other e at_other).noted))
                       (at_snoc d.gone (gone_of e) y i lies);
                   left = each_append (IsLeftRow table seat d.given) d.rows e.rows
                       (each_map (IsLeftRow table r.seat d.given) (IsLeftRow table seat d.given) (λ row a. (a.0, a.1, none_kept a.0 a.2, a.3)) d.rows k.left)
@@ -371,7 +371,7 @@ module _ (place turn : ℕ) (ds : List Draws) (start : Sizes) (log : List Entry)
               noted = (r.each id d at).noted;
             })
             j f here off_other)
-            (record { live = λ l. absurd (off l); closing = λ c. absurd (off c); holder = λ h. absurd (off h); rowless = λ l c. refl; noted = tt });
+            (record { live = λ l. absurd (off l); closing = λ c. absurd (off c); holder = λ h. absurd (off h); rowless = λ l c. refl; noted = record { noted = tt; placed = tt } });
       }
 
   -- the turn word becomes another, where it was 0
@@ -406,7 +406,7 @@ module _ (place turn : ℕ) (ds : List Draws) (start : Sizes) (log : List Entry)
         each = λ i g there. (k.back i g there).2;
         rows = λ i g there. ap (λ (z : Sizes). (table_after (opening z) log).live g.session) start_is ∙ ap (λ (t : Table). t.live g.session) r.leaves ∙ (k.back i g there).3;
         beyond = λ p le. (k.later p le).no_entry;
-        noted = λ i g there. subst (λ (z : Sizes). Each (IsNotedIn z log) g.noted) k.start_is (k.back i g there).4;
+        noted = λ i g there. subst (λ (z : Sizes). AreNotedIn z log g.noted g.placed) k.start_is (k.back i g there).4;
       }
 
   -- once all have come back, the other seats have no row

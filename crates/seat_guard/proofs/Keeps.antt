@@ -31,7 +31,7 @@ use Rattle.function_laws.specs.EntryOrders.{opening_orders, orders_after, orders
 use Rattle.function_laws.proofs.OrderLemmas.{orders_from-append}
 use Rattle.seat_guard.specs.Sifted.{IsOfOther}
 use Rattle.seat_guard.specs.declared.view.Noted.{Noted}
-use Rattle.seat_guard.specs.Notes.{IsNotedIn}
+use Rattle.seat_guard.specs.Notes.{AreNotedIn}
 use Rattle.seat_guard.specs.Journal.{IsLeftRow, Fits, Journal}
 use Rattle.seat_guard.specs.Turn.{AreSized, IsKeptCell, IsSized, KeepsRows, Serves, Turn, row_count, cells_count}
 use Rattle.seat_guard.specs.Rule.{Rule, AllBack, ended, took, gave, drew, looked, closed}
@@ -394,9 +394,9 @@ module _ {S : Type 0} (keeps_it : S → Held → Type 0) (board : S → List (st
   none_counted k (std.Some held ∷ cells) none_there = absurd (let a : std.Some held.function ≡ std.None = none_there zero in cc)
 
   -- the table as it is made
-  pub starts : (x : S) (d : Draws) → orders x ≡ opening_orders (sizes_for d.vars d.elements) → counts x ≡ (d.vars, d.elements, d.slots) → ((k : ℕ) → count x k ≡ 0) → d.closing ≡ true → d.live ≡ false → d.holds ≡ false → d.rows ≡ [] → d.given ≡ 0 → d.sessions ≤ MOST_SESSIONS → d.gone ≡ [] → d.noted ≡ [] → length (board x) ≡ CELLS → cell_in (board x) ≡ (λ (i : ℕ). std.None) → Each (IsKeptCell keeps_it board counts count orders x) (board x)
+  pub starts : (x : S) (d : Draws) → orders x ≡ opening_orders (sizes_for d.vars d.elements) → counts x ≡ (d.vars, d.elements, d.slots) → ((k : ℕ) → count x k ≡ 0) → d.closing ≡ true → d.live ≡ false → d.holds ≡ false → d.rows ≡ [] → d.given ≡ 0 → d.sessions ≤ MOST_SESSIONS → d.gone ≡ [] → d.noted ≡ [] → d.placed ≡ [] → length (board x) ≡ CELLS → cell_in (board x) ≡ (λ (i : ℕ). std.None) → Each (IsKeptCell keeps_it board counts count orders x) (board x)
       → TheRule (record { words = 0 ∷ 0 ∷ []; homes = some (std.Some x) ∷ []; views = viewed d ∷ [] })
-  starts x d ordered sizes zeros is dead free rows given most gone notes len empty kept = record {
+  starts x d ordered sizes zeros is dead free rows given most gone notes calls len empty kept = record {
     wide = refl;
     long = refl;
     start = sizes_for d.vars d.elements;
@@ -445,6 +445,6 @@ module _ {S : Type 0} (keeps_it : S → Held → Type 0) (board : S → List (st
         );
         holder = λ h. absurd (true≢false (sym h ∙ free));
         rowless = λ _ _. rows;
-        noted = subst (λ (l : List Noted). Each (IsNotedIn (sizes_for d.vars d.elements) []) l) (sym notes) tt;
+        noted = subst (λ (z : List Noted × List Noted). AreNotedIn (sizes_for d.vars d.elements) [] z.0 z.1) (λ i. (sym notes i, sym calls i)) (record { noted = tt; placed = tt });
       })
       one (suc id) e at = absurd (some-ne-none e (sym at))

@@ -16,7 +16,7 @@ use Rattle.seat_guard.specs.declared.view.Row.{Row}
 use Rattle.seat_guard.specs.declared.view.Gone.{Gone}
 use Rattle.seat_guard.specs.declared.view.Draws.{Draws}
 use Rattle.seat_guard.specs.Sifted.{IsOfOther}
-use Rattle.seat_guard.specs.Notes.{IsNotedIn}
+use Rattle.seat_guard.specs.Notes.{AreNotedIn}
 use Rattle.seat_guard.specs.Views.{Agrees, sizes_for, stands_for}
 
 -- what the rule says of a live seat, and of the closing one
@@ -45,7 +45,7 @@ pub record ClosingFits (start : Sizes) (log : List Entry) (t : Table) (seat : �
   pub few : (d.given ≤ d.sessions) × (d.sessions ≤ MOST_SESSIONS)
   pub start_is : start ≡ sizes_for d.vars d.elements
   pub later : (p : ℕ) → d.given ≤ p → IsUnused log t seat p
-  pub back : (k : ℕ) (g : Gone) → get_elem? d.gone k ≡ some g → (g.session < d.given) × (seat g.session ≡ none) × (entries_of g.session log ≡ g.entries) × (t.live g.session ≡ stands_for g.rows) × Each (IsNotedIn start log) g.noted
+  pub back : (k : ℕ) (g : Gone) → get_elem? d.gone k ≡ some g → (g.session < d.given) × (seat g.session ≡ none) × (entries_of g.session log ≡ g.entries) × (t.live g.session ≡ stands_for g.rows) × AreNotedIn start log g.noted g.placed
   pub left : Each (IsLeftRow t seat d.given) d.rows
 
 pub record Fits (turn : ℕ) (start : Sizes) (log : List Entry) (t : Table) (seat : ℕ → Option ℕ) (id : ℕ) (d : Draws) : Type 0 where
@@ -53,9 +53,9 @@ pub record Fits (turn : ℕ) (start : Sizes) (log : List Entry) (t : Table) (sea
   pub closing : d.closing ≡ true → (d.live ≡ false) × (id ≡ 0) × ClosingFits start log t seat d
   pub holder : d.holds ≡ true → d.live ≡ true
   pub rowless : d.live ≡ false → d.closing ≡ false → d.rows ≡ []
-  pub noted : Each (IsNotedIn start log) d.noted
+  pub noted : AreNotedIn start log d.noted d.placed
 
--- The part of the journal: there is one legal history, whose length is the journal word, and each seat knows its session's entries of it. The orders that it noted at a place are those that the entries below that place leave. What a sift's entry carries is what the entries below it leave.
+-- The part of the journal: there is one legal history, whose length is the journal word, and each seat knows its session's entries of it. The orders that it noted at a place, and those at the places of its calls, are those that the entries below that place leave. What a sift's entry carries is what the entries below it leave.
 pub record Journal (place turn : ℕ) (ds : List Draws) (start : Sizes) (log : List Entry) (table : Table) : Type 0 where
   pub seat : ℕ → Option ℕ
   pub legal : IsLegal start log

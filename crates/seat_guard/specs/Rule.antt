@@ -20,12 +20,12 @@ use Rattle.seat_guard.specs.declared.view.Gone.{Gone}
 use Rattle.seat_guard.specs.declared.view.Draws.{Draws}
 use Rattle.seat_guard.specs.declared.view.View.{View}
 use Rattle.seat_guard.specs.Allots.{Allotted}
-use Rattle.seat_guard.specs.Notes.{IsNotedIn}
+use Rattle.seat_guard.specs.Notes.{AreNotedIn}
 use Rattle.seat_guard.specs.Views.{sizes_for, stands_for, told_of, holding, letting_go, noting}
 use Rattle.seat_guard.specs.Journal.{Journal}
 use Rattle.seat_guard.specs.Turn.{AreSized, IsKeptCell, KeepsRows, Serves, Turn, row_count, cells_count}
 
--- A legal history of n calls, in which each session that came back has the entries that it had, which leaves each its rows, and which has none of sessions that there never were. The orders that a session noted at a place are those that the entries below that place leave. What a sift's entry carries is what the entries below it leave.
+-- A legal history of n calls, in which each session that came back has the entries that it had, which leaves each its rows, and which has none of sessions that there never were. The orders that a session noted at a place, and those at the places of its calls, are those that the entries below that place leave. What a sift's entry carries is what the entries below it leave.
 pub record Whole (n : ℕ) (start : Sizes) (given : ℕ) (gone : List Gone) : Type 0 where
   pub log : List Entry
   pub legal : IsLegal start log
@@ -34,7 +34,7 @@ pub record Whole (n : ℕ) (start : Sizes) (given : ℕ) (gone : List Gone) : Ty
   pub each : (k : ℕ) (g : Gone) → get_elem? gone k ≡ some g → entries_of g.session log ≡ g.entries
   pub rows : (k : ℕ) (g : Gone) → get_elem? gone k ≡ some g → (table_after (opening start) log).live g.session ≡ stands_for g.rows
   pub beyond : (p : ℕ) → given ≤ p → entries_of p log ≡ []
-  pub noted : (k : ℕ) (g : Gone) → get_elem? gone k ≡ some g → Each (IsNotedIn start log) g.noted
+  pub noted : (k : ℕ) (g : Gone) → get_elem? gone k ≡ some g → AreNotedIn start log g.noted g.placed
 
 module _ {S : Type 0} (keeps : S → Held → Type 0) (board : S → List (std.Option Held)) (counts : S → ℕ × ℕ × ℕ) (count : S → ℕ → ℕ) (orders : S → Orders) where
   pub record Rule (s : State (std.Option S) View) : Type 0 where

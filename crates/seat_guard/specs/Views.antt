@@ -71,13 +71,18 @@ cells_after _ cells = cells
 abbrev pub orders_of : Draws → Orders
 orders_of d = record { variables = d.variable_order; elements = d.element_order }
 
--- what a seat knows after a call at the place n
+-- it notes the orders, which it knows as it has the turn, at the place n
+abbrev pub note_of : Draws → ℕ → Noted
+note_of d n = record { place = n; variable_order = d.variable_order; element_order = d.element_order }
+
+-- what a seat knows after a call at the place n, with the orders at that place
 abbrev pub told_of : Draws → ℕ → Telling → Draws
 told_of d n x = record d {
   rows = rows_after x.change d.rows;
   adds = adds_after x.change d.adds;
   cells = cells_after x.change d.cells;
   entries = d.entries ++ entry n d.session x.call x.reply ∷ [];
+  placed = d.placed ++ note_of d n ∷ [];
   variable_order = (orders_after (orders_of d) x.call x.reply).variables;
   element_order = (orders_after (orders_of d) x.call x.reply).elements;
 }
@@ -118,6 +123,7 @@ blank = record {
   due = None;
   entries = [];
   noted = [];
+  placed = [];
   closing = false;
   sessions = 0;
   given = 0;
@@ -144,7 +150,7 @@ holding d cells others orders functions = record d {
   functions = functions;
 }
 
--- it notes what it stored, and what was due at the last Full
+-- it notes what it stored, and what was due at the last Full, and still knows what the nodes denoted as it took the turn
 abbrev pub letting_go : Draws → Leaving → Draws
 letting_go d x = record d {
   holds = false;
@@ -152,15 +158,11 @@ letting_go d x = record d {
   others = [];
   variable_order = [];
   element_order = [];
-  functions = [];
   stored = x.stored;
   due = x.due;
 }
 
--- it notes the orders, which it knows as it has the turn, at the place n
-abbrev pub note_of : Draws → ℕ → Noted
-note_of d n = record { place = n; variable_order = d.variable_order; element_order = d.element_order }
-
+-- it notes the orders, as it does at each call
 abbrev pub noting : Draws → ℕ → Draws
 noting d n = record d { noted = d.noted ++ note_of d n ∷ [] }
 
@@ -169,7 +171,7 @@ abbrev pub AreTold : Draws → List Function → List Function → Type 0
 AreTold d stored functions = (f : Function) → Contains functions f → Contains d.functions f ⊎ Contains stored f
 
 abbrev pub gone_of : Draws → Gone
-gone_of d = record { session = d.session; rows = d.rows; entries = d.entries; noted = d.noted }
+gone_of d = record { session = d.session; rows = d.rows; entries = d.entries; noted = d.noted; placed = d.placed }
 
 abbrev pub with_gone : Draws → Draws → Draws
 with_gone d e = record d { rows = d.rows ++ e.rows; gone = d.gone ++ gone_of e ∷ [] }

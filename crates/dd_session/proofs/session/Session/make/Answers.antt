@@ -54,7 +54,8 @@ returns g c = record {
   stored = subst (λ (by : Making Edge (List ℕ) (List (ℕ × Edge))). StoresWork (work by) c.args.self.now (seen_of c.settle.new.pass c.settle.new.book) c.settle.result) c.renamed-edges.ensures.same
       (rw (← c.self.view_is)
       (stores_work (known c.self.inside.pass) (known c.start.new.pass) (known c.settle.new.pass) c.in-Ok-start.shared c.try_all-shared.result.0 _ c.settle.new.pass.seat.table_id c.self.inside.book.rows.spare c.settle.new.book.rows.spare c.try_all-shared.result.1 c.in-Ok-start.ensures.took
-      (told_by (of_lent c.renamed-edges.result)) (work (of_lent c.renamed-edges.result)) c.try_all-shared.ensures.tried c.settle.ensures.notes c.settle.result c.settle.ensures.cause));
+      (told_by (of_lent c.renamed-edges.result)) (work (of_lent c.renamed-edges.result)) c.try_all-shared.ensures.tried c.settle.ensures.notes (calls.Makes (of_lent c.args.making)) (chooses (of_lent c.args.making)) c.settle.result c.settle.ensures.cause
+      (rw (← c.adding_of-adding.ensures) c.settle.ensures.told)));
   spare = rw (← c.self.view_is) (spare_made c.settle.result c.self.inside.book.rows.spare c.start.new.book.rows.spare c.settle.new.book.rows.spare c.in-Ok-start.ensures.spare c.settle.ensures.spare);
 }
 

@@ -1,6 +1,7 @@
-use Rattle.std.proofs.Common.{refl, sym, ◌∙◌, rules, subst}
+use Rattle.std.proofs.Common.{refl, ap, sym, ◌∙◌, rules, subst}
 use Rattle.function_laws.specs.declared.history.Call.TheVariants as calls
 use Rattle.function_laws.specs.declared.history.Reply.TheVariants as replies
+use Rattle.seat_guard.specs.declared.view.Draws.{Draws}
 use Rattle.seat_guard.specs.Passes.{known}
 use Rattle.shared_store.proofs.Lasting.{serves-lasts}
 use Rattle.dd_session.specs.declared.request.Request.TheVariants as requests
@@ -35,10 +36,13 @@ returns-clause-stored g c = drew_nothing (known c.self.inside.pass) (known c.tak
 
 pub returns-clause-swept : goal.returns-clause-swept
 returns-clause-swept g c = record {
-  before = content_view c.take-shared.result.store;
-  after = content_view c.sweep-shared.result.0.store;
-  seen = view_of c.take-shared.result;
-  has = subst (HasRows (view_of c.take-shared.result)) c.self.view_is (has_rows _ (known c.self.inside.pass) _ c.take-shared.result (stands_taken (known c.self.inside.pass) (known c.take-shared.new.pass) c.take-shared.result (took_of c.take-shared.ensures.took c.take-shared.ensures.board)));
-  same = refl;
-  is_swept = swept_beside _ _ _ c.sweep-shared.ensures.swept;
+  sweep = record {
+    before = content_view c.take-shared.result.store;
+    after = content_view c.sweep-shared.result.0.store;
+    seen = view_of c.take-shared.result;
+    has = subst (HasRows (view_of c.take-shared.result)) c.self.view_is (has_rows _ (known c.self.inside.pass) _ c.take-shared.result (stands_taken (known c.self.inside.pass) (known c.take-shared.new.pass) c.take-shared.result (took_of c.take-shared.ensures.took c.take-shared.ensures.board)));
+    same = refl;
+    is_swept = swept_beside _ _ _ c.sweep-shared.ensures.swept;
+  };
+  found = sym (ap (λ (d : Draws). d.functions) c.finish-place.ensures.drew.left ∙ ap (λ (d : Draws). d.functions) c.take-shared.ensures.took.1);
 }
