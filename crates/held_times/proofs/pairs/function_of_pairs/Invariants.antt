@@ -4,7 +4,7 @@ use Rattle.node_store.specs.Views.{Grown, Is}
 use Rattle.held_times.proofs.pairs.function_of_pairs.Given as goal
 
 abbrev pub invariant-loop-i : goal.invariant-loop-i
-invariant-loop-i g l = record {
+invariant-loop-i l = record {
   grown : Grown (plain_view l.initial.store) (plain_view l.store);
   is : Is Bdd (plain_view l.store) l.sum;
 }
