@@ -9,7 +9,6 @@ use Rattle.function_laws.specs.declared.history.Call.TheVariants as calls
 use Rattle.function_laws.specs.declared.history.Function.{Function}
 use Rattle.function_laws.specs.declared.history.Name.{Name}
 use Rattle.function_laws.specs.declared.history.Reply.{Reply as LawReply}
-use Rattle.job_text.specs.declared.history_line.Reply.TheVariants as replies
 use Rattle.job_commands.specs.declared.acts.Act.{Act}
 use Rattle.job_commands.specs.declared.acts.Act.TheVariants.{Makes, Drop, Same, Leq, Eval, Copy, Fetch, Post, Sweep}
 use Rattle.job_text.specs.declared.job.Command.{Command}

@@ -1,9 +1,7 @@
 use Rattle.std.proofs.Common.{ℕ, List, sym, subst, ap, ◌∙◌}
 use Rattle.std.proofs.lemmas.Result.{IfOk-weaker}
 use Rattle.function_laws.specs.declared.history.Call.TheVariants as calls
-use Rattle.function_laws.specs.declared.history.Name.{Name}
 use Rattle.function_laws.specs.declared.making.Making.{Making}
-use Rattle.function_laws.specs.Makings.{named}
 use Rattle.operator_calls.specs.Taking.{of_lent, renamed_by, with_lists}
 use Rattle.operator_calls.proofs.MakingLaws.{can-renamed, with-lists}
 use Rattle.dd_session.specs.MadeRows.{HasTaken}
