@@ -1,5 +1,5 @@
 -- What is noted of a store's slots.
-use Rattle.std.specs.Prelude.{◌≡◌, ℕ, ◌/◌, ◌%◌, ◌≤◌, ◌<◌, ◌^◌, Bool, false, IfSome, if◌then◌else◌, List, length, map, slice_index}
+use Rattle.std.specs.Prelude.{◌≡◌, ℕ, ◌/◌, ◌%◌, ◌≤◌, ◌<◌, ◌^◌, Bool, false, IfSome, if◌then◌else◌, List, length, map, None, slice_index}
 use Rattle.level_table.specs.Slotted.{padded}
 use Rattle.held_slots.specs.SlotSets.{Gathered}
 use Rattle.held_slots.specs.declared.notes.Cursor.{Cursor}
@@ -44,8 +44,8 @@ notes_in notes slots firsts linked stale cursor older newer = record {
   chain = record { links = map link_in (padded slots notes); firsts = firsts; linked = linked; stale = stale; cursor = cursor; older = older; newer = newer };
 }
 
--- the notes that were written are some of the first, and there is room for those of all slots; where it says that none is marked, none is
-pub record IsNotes (notes firsts : List ℕ) (slots capacity : ℕ) (marked : Bool) (older newer : Gathered) : Type 0 where
+-- the notes that were written are some of the first, and there is room for those of all slots; where it says that none is marked, none is, and where it says that none are gathered, none are
+pub record IsNotes (notes firsts : List ℕ) (slots capacity : ℕ) (marked gathers : Bool) (older newer : Gathered) : Type 0 where
   pub within : length notes ≤ slots
   pub few : slots < 2 ^ 23
   pub room : slots ≤ capacity
@@ -55,3 +55,4 @@ pub record IsNotes (notes firsts : List ℕ) (slots capacity : ℕ) (marked : Bo
   pub few_newer : IfSome newer.variable (λ v. v < 2 ^ 15)
   pub older_fits : older.slots.limit ≡ slots
   pub newer_fits : newer.slots.limit ≡ slots
+  pub ungathered : gathers ≡ false → (older.variable ≡ None) × (newer.variable ≡ None)

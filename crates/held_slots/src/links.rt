@@ -15,6 +15,7 @@ use crate::slot_set::SlotSet;
 use edge_bits::{Word, unpack};
 
 /// The variable of the node that the bits are, if they are one.
+#[inline(always)]
 fn variable_of(bits: u64) -> Option<u32>
     ensures some { IfSome result (λ v. (node : NodeOf) × (unpack_of bits ≡ Some (words.Inner node)) × (node.var ≡ v)) }
     ensures few { IfSome result (λ v. v < 2 ^ 15) }
@@ -27,6 +28,7 @@ fn variable_of(bits: u64) -> Option<u32>
 }
 
 /// Whether a slot has a node of a variable.
+#[inline(always)]
 pub(crate) fn has_node(words: &[u64], slot: usize, var: u32) -> bool
     ensures yes { result ≡ true → HasNode (slots_of words.now) var slot }
     ensures no { result ≡ false → HasNode (slots_of words.now) var slot → ⊥ }
@@ -35,6 +37,7 @@ pub(crate) fn has_node(words: &[u64], slot: usize, var: u32) -> bool
 }
 
 /// The least slot from this one on with a node of a variable, if there is one, by a walk over all words from there on.
+#[inline(never)]
 pub(crate) fn walk(words: &[u64], var: u32, from: u32) -> Option<u32>
     requires { length words.now < 2 ^ 32 }
     ensures found { IfSome result (λ s. (from ≤ s) × HasNode (slots_of words.now) var s) }

@@ -54,6 +54,7 @@ pub(crate) fn with_link(note: u32, link: u32) -> u32
 }
 
 /// The note of a slot, which is 0 where none was written.
+#[inline(always)]
 pub(crate) fn note_of(notes: &[u32], slot: u32) -> u32
     ensures { result ≡ slice_index notes.now slot }
 {

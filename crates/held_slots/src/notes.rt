@@ -41,6 +41,8 @@ pub struct SlotNotes {
     // Whether links may lead through slots that were freed.
     stale: bool,
     cursor: Cursor,
+    // Whether slots of a variable may be gathered: where not, both sets are of none.
+    gathers: bool,
     older: VariableSlots,
     newer: VariableSlots,
 }
@@ -53,7 +55,7 @@ impl Model for SlotNotes {
 
     ghost view = { λ t. notes_in t.notes.items t.slots t.firsts.items t.linked t.stale t.cursor t.older t.newer };
 
-    ghost invariant = { λ t. IsNotes t.notes.items t.firsts.items t.slots (vec_capacity t.notes) t.marked t.older t.newer };
+    ghost invariant = { λ t. IsNotes t.notes.items t.firsts.items t.slots (vec_capacity t.notes) t.marked t.gathers t.older t.newer };
 }
 
 /// Takes the marks away.
@@ -94,6 +96,7 @@ impl SlotNotes {
                 from: 0,
                 link: 0,
             },
+            gathers: false,
             older,
             newer,
         })
@@ -146,6 +149,17 @@ impl SlotNotes {
         ensures { self.new ≡ record self.old { chain = record self.old.chain { linked = false } } }
     {
         self.linked = false;
+    }
+
+    /// Says so where links may lead through slots that were freed, so that they are made anew at the next walk.
+    pub fn unlink_stale(&mut self)
+        ensures marks { self.new.marks ≡ self.old.marks }
+        ensures pins { self.new.pins ≡ self.old.pins }
+        ensures linked { (word : ℕ → Option WordOf) → IsLinkedTo word self.old.chain → IsLinkedTo word self.new.chain }
+    {
+        if self.stale {
+            self.unlink();
+        }
     }
 
     /// Gathers the slots of a variable of which nodes are to be made or changed, where the slots are linked. Those of the variable that was gathered last stay gathered, and any other's are linked again. This takes time in proportion to the nodes of both variables, and none where it is gathered.
@@ -211,6 +225,7 @@ impl SlotNotes {
     }
 
     /// The least slot from this one on with a node of a variable, or none: in constant steps where its slots are gathered. Where they are linked, asking from 0 on and then from behind each answer takes time in proportion to the variable's nodes and those of its nodes that were freed since; else it is a walk over all words from there on. One that begins at slot 0 links the slots first where they are not linked, or, but during a sweep, where links lead through freed ones.
+    #[inline(always)]
     pub fn next(&mut self, words: &[u64], var: u32, from: u32, sweeping: bool) -> Option<u32>
         requires fits { length words.now ≤ length self.old.marks }
         requires few { length words.now < 2 ^ 32 }
@@ -233,6 +248,7 @@ impl SlotNotes {
     }
 
     /// Links the slots where they are not linked, or, but during a sweep, where links lead through freed ones.
+    #[inline(never)]
     fn refresh(&mut self, words: &[u64], sweeping: bool)
         requires fits { length words.now ≤ length self.old.marks }
         requires linked { IsLinkedTo (slots_of words.now) self.old.chain }
@@ -246,11 +262,12 @@ impl SlotNotes {
     }
 
     /// The least slot from this one on with a node of the variable, or none, where its slots are gathered.
+    #[inline(always)]
     fn next_gathered(&self, var: u32, from: u32) -> Option<Option<u32>>
         ensures some { IfSome result (λ next. (word : ℕ → Option WordOf) → IsLinkedTo word self.now.chain → IsNextNode word var from next) }
         ensures none { IfNone result (self.now.chain.linked ≡ true → is_gathered self.now.chain.older self.now.chain.newer var ≡ false) }
     {
-        if !self.linked {
+        if !self.linked || !self.gathers {
             None
         } else if self.newer.is_of(var) {
             Some(self.newer.next(from))
@@ -262,6 +279,7 @@ impl SlotNotes {
     }
 
     /// The same, where the variable is not gathered.
+    #[inline(always)]
     fn next_linked(&mut self, words: &[u64], var: u32, from: u32) -> Option<u32>
         requires few { length words.now < 2 ^ 32 }
         requires var { var < 2 ^ 15 }
@@ -297,6 +315,7 @@ impl SlotNotes {
         link_all(&mut self.notes, &mut self.firsts, words);
         self.older.clear();
         self.newer.clear();
+        self.gathers = false;
         self.linked = true;
         self.stale = false;
         self.cursor = Cursor {
@@ -346,6 +365,7 @@ impl SlotNotes {
     {
         let first = self.firsts[var as usize];
         self.newer.gather(&self.notes, words, var, first);
+        self.gathers = true;
     }
 
     /// Whether the slots of a variable are gathered.
@@ -377,6 +397,7 @@ impl SlotNotes {
     }
 
     /// The link from a slot on to a variable's next node, where it is known.
+    #[inline(always)]
     fn lead(&self, var: u32, from: u32) -> Option<u32>
         requires { var < 2 ^ 15 }
         ensures linked { IfSome result (λ link. self.now.chain.linked ≡ true) }
@@ -394,6 +415,7 @@ impl SlotNotes {
     }
 
     /// The first slot along the links from this one on with a node of the variable.
+    #[inline(always)]
     fn follow(&self, words: &[u64], var: u32, from: u32, link: u32) -> Option<u32>
         requires var { var < 2 ^ 15 }
         requires leads { (gathered : ℕ → Bool) × (are : AreLinked (slots_of words.now) gathered self.now.chain.links self.now.chain.firsts self.now.chain.stale self.now.chain.cursor) × (gathered var ≡ false) × Leads (slots_of words.now) are.chain (length self.now.chain.links) var from link }
@@ -414,6 +436,7 @@ impl SlotNotes {
     }
 
     /// The note of a slot.
+    #[inline(always)]
     fn note(&self, slot: u32) -> u32
         ensures mark { mark_in result ≡ slice_index self.now.marks slot }
         ensures pin { pin_in result ≡ slice_index self.now.pins slot }

@@ -95,6 +95,7 @@ impl SlotSet {
     }
 
     /// The least member from this slot on, or none.
+    #[inline(never)]
     pub fn next(&self, from: u32) -> Option<u32>
         ensures next { IsNext (has self.now) from result }
         ensures below { (s : ℕ) → has self.now s ≡ true → s < self.now.limit }

@@ -1,12 +1,14 @@
 -- A held store after a slot was marked or pinned, or a sweep began or ended.
-use Rattle.std.proofs.Common.{◌≡◌, ℕ, zero, ◌<◌, inl, inr, Bool, true, false, List, length, set, replicate, Some, None, refl, ap, sym, ◌∙◌, subst, arith}
+use Rattle.std.proofs.Common.{◌≡◌, ℕ, zero, ◌<◌, inl, inr, Bool, true, false, List, length, set, replicate, Option, Some, None, refl, ap, sym, ◌∙◌, subst, arith}
 use Rattle.std.proofs.lemmas.Bool.{cases_lt}
 use Rattle.std.specs.Prelude.{◌==◌}
 use Rattle.std.proofs.lemmas.List.{length-set, length-replicate, get_or_past}
 use Rattle.node_store.specs.Contents.{IsUsed}
 use Rattle.node_store.specs.Changes.{After, with_mark, with_pin}
 use Rattle.node_store.proofs.Marking.{held_sound}
-use Rattle.held_slots.specs.Notes.{Notes, flag}
+use Rattle.edge_bits.specs.declared.words.Word.{Word}
+use Rattle.held_slots.specs.Linked.{IsLinkedTo}
+use Rattle.held_slots.specs.Notes.{Chain, Notes, flag}
 use Rattle.node_slots.specs.Stores.{slots, count_at, generation_at, is_set}
 use Rattle.node_slots.specs.Held.{Alone, Held, IsHeld, held_view}
 use Rattle.node_slots.proofs.HeldLaws.{after_seen}
@@ -35,6 +37,24 @@ module _ (q : Held) (is : IsHeld q) where
     forgotten = is.forgotten;
     linked = is.linked;
   }
+
+-- other links that hold
+relinked : (h : Held) (chain : Chain) → IsHeld h → (IsLinkedTo (slots h.plain) h.chain → IsLinkedTo (slots h.plain) chain) → IsHeld (record h { chain = chain })
+relinked h chain is linked = record {
+  sound = is.sound;
+  variables_stand = is.variables_stand;
+  elements_stand = is.elements_stand;
+  permanent = is.permanent;
+  few_variables = is.few_variables;
+  few_elements = is.few_elements;
+  room = is.room;
+  counted = is.counted;
+  marks_fit = is.marks_fit;
+  pins_fit = is.pins_fit;
+  nothing_due = is.nothing_due;
+  forgotten = is.forgotten;
+  linked = linked is.linked;
+}
 
 -- a slot in use has a flag, and so has one that is pinned
 module _ (q : Held) (is : IsHeld q) (slot : ℕ) where
@@ -82,13 +102,24 @@ module _ (q p : Held) (same : q ≡ p) (is : IsHeld q) where
     abbrev begun : Notes → Held
     begun x = record q { plain = record q.plain { marks = x.marks; pins = x.pins; sweeping = true }; chain = x.chain }
 
-    pub begun_held : IsHeld (begun n)
+    begun_held : IsHeld (begun n)
     begun_held = subst (λ x. IsHeld (begun x)) (sym e) (flagged_held q is (replicate (length q.plain.marks) zero) q.plain.pins true (length-replicate (length q.plain.marks) zero) refl is.sound.unpinned)
 
-    pub begun_after : After Alone (record (held_view p) { sweeping = true; marked = λ s. false }) (held_view (begun n))
+    begun_after : After Alone (record (held_view p) { sweeping = true; marked = λ s. false }) (held_view (begun n))
     begun_after = subst (λ (x : Held). After Alone (record (held_view x) { sweeping = true; marked = λ s. false }) (held_view (begun n))) same
         (after_seen (record (held_view q) { sweeping = true; marked = λ s. false }) (held_view (begun n))
         (ap (λ x. held_view (begun x)) e ∙ ap (λ m. record (held_view q) { sweeping = true; marked = m }) (no_flags (replicate (length q.plain.marks) zero) (length q.plain.marks) refl)) begun_held.sound)
+
+    -- and links that don't hold any more are given up
+    module _ (m : Notes) (marks : m.marks ≡ n.marks) (pins : m.pins ≡ n.pins) (linked : (word : ℕ → Option Word) → IsLinkedTo word n.chain → IsLinkedTo word m.chain) where
+      flags : ◌≡◌ {A = List ℕ × List ℕ} (n.marks, n.pins) (m.marks, m.pins)
+      flags i = ((sym marks) i, (sym pins) i)
+
+      pub unlinked_held : IsHeld (begun m)
+      unlinked_held = subst (λ (x : List ℕ × List ℕ). IsHeld (record q { plain = record q.plain { marks = x.0; pins = x.1; sweeping = true }; chain = m.chain })) flags (relinked (begun n) m.chain begun_held (linked (slots q.plain)))
+
+      pub unlinked_after : After Alone (record (held_view p) { sweeping = true; marked = λ s. false }) (held_view (begun m))
+      unlinked_after = subst (λ (x : List ℕ × List ℕ). After Alone (record (held_view p) { sweeping = true; marked = λ s. false }) (held_view (record q { plain = record q.plain { marks = x.0; pins = x.1; sweeping = true }; chain = m.chain }))) flags begun_after
 
   pub ended_held : IsHeld (record q { plain = record q.plain { sweeping = false } })
   ended_held = flagged_held q is q.plain.marks q.plain.pins false refl refl is.sound.unpinned

@@ -97,6 +97,7 @@ impl HeldStore {
     }
 
     /// The variable at a level of an order.
+    #[inline(always)]
     fn number_at(&self, order: Order, level: u32) -> u32
         requires { level < length (in_order (held_view self.now).orders order) }
         ensures number { result ≡ number_at (held_view self.now) order level }
@@ -163,6 +164,7 @@ impl Whole for HeldStore {
         self.nodes.nodes_of(var)
     }
 
+    #[inline(always)]
     fn next_of(&mut self, order: Order, level: u32, from: u32) -> Option<u32> {
         let var = self.number_at(order, level);
         self.notes
@@ -242,6 +244,7 @@ impl Whole for HeldStore {
 
     fn sweep_in(&mut self) {
         self.notes.unmark_all();
+        self.notes.unlink_stale();
         self.sweeping = true;
     }
 

@@ -20,11 +20,11 @@ link_all-requires-clause-empty c =
     c.fill.ensures.items (λ y e. e) ∙ ap (λ n. replicate n none) all
 
 -- as many marks as slots
-all_marks : (c : goal.After-self-3-1) → length c.args.self.now.marks ≡ c.self.inside.slots
+all_marks : (c : goal.After-self-4-1) → length c.args.self.now.marks ≡ c.self.inside.slots
 all_marks c = ap (λ (n : Notes). length n.marks) (sym c.self.view_is) ∙ field-length mark_in refl c.self.inside.slots c.self.inside.notes.items c.self.invariant.within
 
 -- the notes that were written are of slots
-fits : (c : goal.After-self-3-1) → length c.link_all.new.notes.items ≤ c.self.inside.slots
+fits : (c : goal.After-self-4-1) → length c.link_all.new.notes.items ≤ c.self.inside.slots
 fits c =
     let all = all_marks c in
     let w = c.lengthen_to.ensures.within in

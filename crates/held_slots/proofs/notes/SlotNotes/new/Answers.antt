@@ -28,4 +28,5 @@ invariant_of-result c =
       few_newer = subst (λ o. IfSome o (λ v. v < 2 ^ 15)) (sym c.in_ok-newer.ensures.none) _;
       older_fits = c.in_ok-older.ensures.limit;
       newer_fits = c.in_ok-newer.ensures.limit;
+      ungathered = λ off. (c.in_ok-older.ensures.none, c.in_ok-newer.ensures.none);
     }
