@@ -1,4 +1,4 @@
--- A store that is handed over for a sweep and given back.
+-- A store that is handed over for a sweep or a swap, and given back.
 use Rattle.std.proofs.Common.{◌≡◌, ℕ, zero, suc, ◌==◌, Bool, true, false, ◌||◌, List, [], ◌∷◌, get_or, Option, Some, None, refl, ap, sym, subst, ◌∙◌}
 use Rattle.std.specs.List.{list_any}
 use Rattle.node_store.specs.Contents.{Content}
@@ -29,20 +29,24 @@ pub half_none : (o : Option HalfSwap) → pair_in o ≡ None → o ≡ None
 half_none None none = refl
 half_none (Some half) none = cc
 
--- no swap is half made after it, and so what its holder knew is what holds of the store
-pub given_back : (p : Plain) (before after : Held) (swept : Swept) → held_view before ≡ content_view p → IsSwept Alone (held_view before) (held_view after) swept → IsSwept Alone (content_view p) (content_view after.plain) swept
-given_back p before after swept same is =
-    let back : held_view after ≡ content_view after.plain = ap (λ (o : Option HalfSwap). record (content_view after.plain) { half = pair_in o }) (half_none after.half is.half) in
-    subst (λ (c : Content). IsSwept Alone (content_view p) c swept) back (subst (λ (c : Content). IsSwept Alone c (held_view after) swept) same is)
+-- Where no swap is half made after it, what its holder knew is what holds of the store as it was given back.
+pub handed_back : (P : Content → Content → Type 0) (p q : Plain) (before after : Held) → held_view before ≡ content_view p → (held_view after).half ≡ None → q ≡ after.plain → P (held_view before) (held_view after) → P (content_view p) (content_view q)
+handed_back P p q before after same whole back is =
+    let known : held_view after ≡ content_view after.plain = ap (λ (o : Option HalfSwap). record (content_view after.plain) { half = pair_in o }) (half_none after.half whole) in
+    subst (λ (x : Plain). P (content_view p) (content_view x)) (sym back) (subst (P (content_view p)) known (subst (λ (c : Content). P c (held_view after)) same is))
+
+-- nothing is pinned in it, and no sweep is on
+pub left_idle : (p q : Plain) → is_held p ≡ false → q.sweeping ≡ false → (content_view q).pinned ≡ (content_view p).pinned → is_held q ≡ false
+left_idle p q idle quiet same =
+    let pins = none_set p.pins (neither p.sweeping (list_any (λ bits. bits == 1) p.pins) idle).1 in
+    ap (λ b. b || list_any (λ bits. bits == 1) q.pins) quiet ∙ none_any q.pins (λ s. ap (λ (f : ℕ → Bool). f s) same ∙ pins s)
 
 pub still_idle : (p q : Plain) (swept : Swept) → is_held p ≡ false → IsSwept Alone (content_view p) (content_view q) swept → is_held q ≡ false
-still_idle p q swept idle is =
-    let pins = none_set p.pins (neither p.sweeping (list_any (λ bits. bits == 1) p.pins) idle).1 in
-    ap (λ b. b || list_any (λ bits. bits == 1) q.pins) is.sweeping ∙ none_any q.pins (λ s. ap (λ (f : ℕ → Bool). f s) is.pinned ∙ pins s)
+still_idle p q swept idle is = left_idle p q idle is.sweeping is.pinned
 
--- the same of the store as it was given back
+-- of a sweep
 pub swept_back : (p q : Plain) (before after : Held) (swept : Swept) → held_view before ≡ content_view p → q ≡ after.plain → IsSwept Alone (held_view before) (held_view after) swept → IsSwept Alone (content_view p) (content_view q) swept
-swept_back p q before after swept same back is = subst (λ (x : Plain). IsSwept Alone (content_view p) (content_view x) swept) (sym back) (given_back p before after swept same is)
+swept_back p q before after swept same back is = handed_back (λ x y. IsSwept Alone x y swept) p q before after same is.half back is
 
 -- nothing is pinned in it
 pub unpinned : (p : Plain) → is_held p ≡ false → (s : ℕ) → (content_view p).pinned s ≡ false

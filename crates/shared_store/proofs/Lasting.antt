@@ -3,6 +3,7 @@ use Rattle.std.proofs.Common.{◌≡◌, ℕ, ◌<◌, ◌≤◌, ◌==◌, List
 use Rattle.edge_bits.specs.declared.edges.Kind.{Kind}
 use Rattle.function_laws.specs.declared.history.Function.{Function}
 use Rattle.function_laws.specs.SessionEntries.{Each}
+use Rattle.function_laws.specs.Sizes.{Orders}
 use Rattle.node_store.specs.Listed.{listed_at}
 use Rattle.node_store.specs.Views.{View, Grown, values_at}
 use Rattle.seat_guard.specs.declared.view.Held.{Held}
@@ -76,9 +77,9 @@ module _ (x y : Shared) (lasts : Lasts x y) where
       (cell-lasts cell (let f = few cell.edge.index in let one = one_same cell.edge.index in omega (arith, f, one)) kept.0)
       (board-lasts cells (λ k. let f = few k in omega (arith, f)) kept.1)
 
-  -- What all sessions hold lasts: what serves a seat with the turn still does, under the orders that there are.
-  pub serves-lasts : (d : Draws) → orders y ≡ orders x → Serving x d → Serving y d
-  serves-lasts d same serves = record {
+  -- What all sessions hold lasts: what serves a seat with the turn still does, under the orders that there are then.
+  pub serves-under : (d : Draws) → Serving x d → Serving y (record d { variable_order = (orders y).variables; element_order = (orders y).elements })
+  serves-under d serves = record {
     rows_kept = rows-last d.rows (λ k. let c = serves.counted k in omega (arith, c)) serves.rows_kept;
     others_kept = others-last d.others (λ k. let c = serves.counted k in omega (arith, c)) serves.others_kept;
     cells_kept = cells-last d.cells (λ k. let c = serves.counted k in omega (arith, c)) serves.cells_kept;
@@ -88,5 +89,9 @@ module _ (x y : Shared) (lasts : Lasts x y) where
         ∙ serves.board_is;
     counts_are = lasts.counts_are ∙ serves.counts_are;
     counted = λ k. ap (λ (f : ℕ → ℕ). f k) lasts.counted ∙ serves.counted k;
-    orders_are = same ∙ serves.orders_are;
+    orders_are = refl;
   }
+
+  -- which are those of before where they are the same
+  pub serves-lasts : (d : Draws) → orders y ≡ orders x → Serving x d → Serving y d
+  serves-lasts d same serves = subst (λ (o : Orders). Serving y (record d { variable_order = o.variables; element_order = o.elements })) (same ∙ serves.orders_are) (serves-under d serves)

@@ -9,3 +9,5 @@ pub mod Lasting
 pub mod Swept
 pub mod Handed
 pub mod Emptied
+pub mod Rooms
+pub mod Reordered

@@ -1,3 +1,4 @@
 pub mod Sharing
 pub mod Lasting
 pub mod Storing
+pub mod Reordering

@@ -4,9 +4,11 @@
 mod board;
 mod counted;
 mod opening;
+mod reordering;
 mod returning;
 mod shared;
 mod sweeping;
 
+pub use reordering::Crowded;
 pub use returning::put_back;
 pub use shared::{Cell, Shared};
