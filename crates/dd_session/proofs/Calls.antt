@@ -40,7 +40,6 @@ use Rattle.seat_guard.specs.Views.{Agrees, adds_after, cell_in, holding, letting
 use Rattle.shared_store.specs.declared.shared.Shared.{Shared}
 use Rattle.shared_store.specs.Lasting.{Lasts}
 use Rattle.shared_store.specs.Sharing.{Serving, board, count, counts, functions, keeps, orders, view_of}
-use Rattle.shared_store.specs.Storing.{IsListedWork}
 use Rattle.shared_store.proofs.Lasting.{lasts-grown, serves-lasts}
 use Rattle.shared_store.proofs.Storing.{stored-only}
 use Rattle.dd_session.specs.declared.answers.Full.{Full}

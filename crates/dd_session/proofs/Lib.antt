@@ -16,4 +16,5 @@ pub mod SessionLaws
 pub mod WalkingLemmas
 pub mod ListingLaws
 mod Sweepings
+mod Swappings
 pub mod Makings

@@ -15,10 +15,14 @@ use Rattle.function_laws.specs.declared.history.Call.TheVariants as calls
 use Rattle.function_laws.specs.declared.history.Reply.{Reply}
 use Rattle.function_laws.specs.declared.history.Reply.TheVariants as replies
 use Rattle.function_laws.specs.declared.history.Entry.{Entry}
+use Rattle.function_laws.specs.EntryOrders.{orders_done}
 use Rattle.function_laws.specs.Kinds.{Denoted}
+use Rattle.function_laws.specs.Sizes.{Orders}
 use Rattle.function_laws.specs.Tables.{Sizes, Table, same_name, with_name}
 use Rattle.function_laws.specs.Outcomes.{Outcome, makes, fetches, overflows, compares, tells, shows, is_done, with_one, when}
-use Rattle.function_laws.specs.Steps.{may_be_full, with_result, from_cell}
+use Rattle.function_laws.specs.declared.orders.Order.{Order}
+use Rattle.function_laws.specs.declared.orders.Order.TheVariants.{Variables, Elements}
+use Rattle.function_laws.specs.Steps.{TellsFull, may_be_full, with_result, from_cell}
 use Rattle.node_store.specs.Listed.{listed_at}
 use Rattle.node_store.specs.Views.{View, Is, values_at}
 use Rattle.handle_count.specs.declared.rows.Held.{Held as Live}
@@ -33,6 +37,7 @@ use Rattle.seat_guard.specs.Views.{Agrees, AreTold, MayTell, told_of, letting_go
 use Rattle.shared_store.specs.declared.shared.Cell.{Cell}
 use Rattle.shared_store.specs.declared.shared.Shared.{Shared}
 use Rattle.shared_store.specs.Lasting.{IsRecounted}
+use Rattle.shared_store.specs.Reordering.{swap_call}
 use Rattle.shared_store.specs.Sharing.{count, due, held_of, keeps, view_of, whole_of}
 use Rattle.shared_store.proofs.Keeping.{kind-listed}
 use Rattle.shared_store.proofs.Stored.{functions-recounted}
@@ -44,15 +49,20 @@ use Rattle.dd_session.specs.declared.request.Answer.{Answer}
 use Rattle.dd_session.specs.declared.request.Answer.TheVariants.{Added, Dropped, Posted, Truth, Value, Done, Overflow, Full}
 use Rattle.dd_session.specs.Requests.{added_as, call_of, change_of, is_refusal, reply_of}
 use Rattle.dd_session.specs.Sessions.{fulls_in, is_full, names_in}
-use Rattle.dd_session.specs.Turns.{AddsRow, Chooses, Drew, Gives, IsAdded, MayBeFull, Notes, Told, live_as, names_by}
+use Rattle.dd_session.specs.Turns.{AddsRow, Chooses, Drew, Gives, IsAdded, MayBeFull, Notes, Told, levels_in, live_as, names_by, ordered_by}
 use Rattle.dd_session.proofs.Naming.{cond_none, same_name-eq}
-use Rattle.dd_session.proofs.RequestLemmas.{carries_none, orders_stay}
+use Rattle.dd_session.proofs.RequestLemmas.{LeavesOrders, carries_none, orders_stay}
 use Rattle.dd_session.proofs.Serving.{KnowsAs, listed-on}
 
 no_number : (w : View) (adding : Adding) (name : Name) (cell : Cell) (r : Name) (n : ℕ) → added_as w adding name cell ≡ replies.Numbered r n → ⊥
 no_number w Made name cell r n e = cc
 no_number w Chosen name cell r n e = cc
 no_number w (Taken posted) name cell r n e = cc
+
+not_done : (w : View) (adding : Adding) (name : Name) (cell : Cell) → added_as w adding name cell ≡ replies.Done → ⊥
+not_done w Made name cell e = cc
+not_done w Chosen name cell e = cc
+not_done w (Taken posted) name cell e = cc
 
 none_and : (b : Bool) → (b && false) ≡ false
 none_and true = refl
@@ -121,7 +131,7 @@ knows_added d w r adding name cell = record {
   cells_are = refl;
   others_are = refl;
   counts_are = (refl, refl, refl);
-  orders_are = orders_stay (orders_of d) r (added_as w adding name cell) (no_number w adding name cell);
+  orders_are = orders_stay (orders_of d) r (added_as w adding name cell) (record { plain = no_number w adding name cell; no_swap = λ order level a b. not_done w adding name cell b });
 }
 
 -- a call that changes nothing
@@ -180,8 +190,44 @@ may_sweep d = record {
   room = tt;
 }
 
-pub knows_quiet : (d : Draws) (r : Request) (reply : Reply) → ((name : Name) (n : ℕ) → reply ≡ replies.Numbered name n → ⊥) → KnowsAs d (told_of d 0 (quiet (call_of r) reply)) d.rows d.cells
-knows_quiet d r reply plain = record { rows_are = refl; cells_are = refl; others_are = refl; counts_are = (refl, refl, refl); orders_are = orders_stay (orders_of d) r reply plain }
+pub knows_quiet : (d : Draws) (r : Request) (reply : Reply) → LeavesOrders r reply → KnowsAs d (told_of d 0 (quiet (call_of r) reply)) d.rows d.cells
+knows_quiet d r reply leaves = record { rows_are = refl; cells_are = refl; others_are = refl; counts_are = (refl, refl, refl); orders_are = orders_stay (orders_of d) r reply leaves }
+
+-- a swap of a level and the next, where there are both
+swap_done : (d : Draws) (order : Order) (level : ℕ) → level + 1 < levels_in d order → Gives d (swap_call order level) is_done
+swap_done d Variables level within t agrees = ap (λ (z : Sizes). when (nat_lt (level + 1) z.variables) (Some is_done)) agrees.sizes_are ∙ ap (λ b. when b (Some is_done)) (lt-ltb (level + 1) d.vars within)
+swap_done d Elements level within t agrees = ap (λ (z : Sizes). when (nat_lt (level + 1) z.elements) (Some is_done)) agrees.sizes_are ∙ ap (λ b. when b (Some is_done)) (lt-ltb (level + 1) d.elements within)
+
+pub may_swap : (d : Draws) (order : Order) (level : ℕ) → level + 1 < levels_in d order → MayTell d (quiet (swap_call order level) replies.Done)
+may_swap d order level within = by order (swap_done d order level within)
+  where
+    by : (order : Order) → Gives d (swap_call order level) is_done → MayTell d (quiet (swap_call order level) replies.Done)
+    by Variables gives = record {
+      plain = refl;
+      step = λ t agrees. ((is_done, gives t agrees, tt), agrees_quiet d t (swap_call Variables level) replies.Done agrees);
+      carries = tt;
+      room = tt;
+    }
+    by Elements gives = record {
+      plain = refl;
+      step = λ t agrees. ((is_done, gives t agrees, tt), agrees_quiet d t (swap_call Elements level) replies.Done agrees);
+      carries = tt;
+      room = tt;
+    }
+
+-- which may be refused
+pub swap_refused : (d : Draws) (order : Order) (level : ℕ) → level + 1 < levels_in d order → IsTrue (may_be_full (swap_call order level)) × MayBeFull d (swap_call order level)
+swap_refused d Variables level within = (refl, λ t agrees. (is_done, swap_done d Variables level within t agrees, refl))
+swap_refused d Elements level within = (refl, λ t agrees. (is_done, swap_done d Elements level within t agrees, refl))
+
+-- and whose numbers are those of a store without room for it
+pub tells_crowded : (slots : ℕ) (order : Order) (level in_use need : ℕ) → in_use ≤ slots → slots < in_use + need → TellsFull slots (swap_call order level) in_use need
+tells_crowded slots Variables level in_use need fits full = (fits, full)
+tells_crowded slots Elements level in_use need fits full = (fits, full)
+
+-- and what the seat then knows, whose orders are those that were exchanged
+pub knows_swapped : (d : Draws) (order : Order) (level : ℕ) (o : Orders) → o ≡ orders_done (orders_of d) (swap_call order level) → KnowsAs (ordered_by d o) (told_of d 0 (quiet (swap_call order level) replies.Done)) d.rows d.cells
+knows_swapped d order level o same = record { rows_are = refl; cells_are = refl; others_are = refl; counts_are = (refl, refl, refl); orders_are = sym same }
 
 -- a post puts a function into a cell
 pub may_post : (d : Draws) (i : ℕ) (a : Name) (held : Held) → i < CELLS → length d.cells ≡ CELLS → stands_for d.rows a ≡ Some held.function

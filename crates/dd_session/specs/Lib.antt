@@ -3,6 +3,7 @@ pub mod Sessions
 pub mod Walking
 pub mod Works
 pub mod Requests
+pub mod Reorderings
 pub mod MadeRows
 pub mod Listings
 pub mod Turns

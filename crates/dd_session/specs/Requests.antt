@@ -12,6 +12,7 @@ use Rattle.seat_guard.specs.declared.view.Change.{Change}
 use Rattle.seat_guard.specs.declared.view.Change.TheVariants.{Nothing, Adds, Takes, Posts}
 use Rattle.seat_guard.specs.declared.view.Telling.{Telling}
 use Rattle.shared_store.specs.declared.shared.Cell.{Cell}
+use Rattle.shared_store.specs.Reordering.{swap_call}
 use Rattle.shared_store.specs.Sharing.{held_of}
 use Rattle.dd_session.specs.declared.request.Request.{Request}
 use Rattle.dd_session.specs.declared.request.Request.TheVariants as requests
@@ -30,6 +31,7 @@ call_of (requests.Eval a bits) = calls.Eval a bits.now
 call_of (requests.Post i a) = calls.Post i a
 call_of (requests.Fetch i a) = calls.Fetch i a
 call_of requests.Sweep = calls.Sweep
+call_of (requests.Swap order level) = swap_call order level
 
 -- what a new row is replied; a function that was chosen is told in whole
 abbrev pub added_as : View → Adding → Name → Cell → Reply

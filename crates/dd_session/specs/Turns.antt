@@ -15,7 +15,10 @@ use Rattle.function_laws.specs.Lists.{list_of}
 use Rattle.function_laws.specs.Numbers.{exactly}
 use Rattle.function_laws.specs.Values.{IsOf}
 use Rattle.function_laws.specs.Outcomes.{Outcome, makes, fetches, in_range}
+use Rattle.function_laws.specs.declared.orders.Order.{Order}
+use Rattle.function_laws.specs.declared.orders.Order.TheVariants.{Variables, Elements}
 use Rattle.function_laws.specs.SessionEntries.{Each}
+use Rattle.function_laws.specs.Sizes.{Orders}
 use Rattle.function_laws.specs.Steps.{IsNew, Replies, TellsFull, needs_no_node, outcome}
 use Rattle.function_laws.specs.Tables.{Table}
 use Rattle.handle_count.specs.declared.rows.Held.{Held as Live}
@@ -117,6 +120,15 @@ pub record Keeps (d : Draws) (book : Book) : Type 0 where
 -- it may make one more call
 abbrev pub HasPlace : Draws → Type 0
 HasPlace d = (length d.rows < MOST_ROWS) × (length d.entries < 2 ^ 48)
+
+-- how many levels an order has
+abbrev pub levels_in : Draws → Order → ℕ
+levels_in d Variables = d.vars
+levels_in d Elements = d.elements
+
+-- what it knows where both orders are these
+abbrev pub ordered_by : Draws → Orders → Draws
+ordered_by d o = record d { variable_order = o.variables; element_order = o.elements }
 
 -- the turn
 

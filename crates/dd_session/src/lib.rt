@@ -15,6 +15,7 @@ mod nodeless;
 mod number_calls;
 mod own_rows;
 mod questions;
+mod reordering;
 mod request;
 mod session;
 mod settling;

@@ -1,6 +1,6 @@
 //! A call and its answer, as data of one type each, so that one function draws the places of all calls.
 
-use function_laws::{Making, Name};
+use function_laws::{Making, Name, Order};
 use shared_store::Cell;
 
 /// A call, with what was passed.
@@ -16,6 +16,8 @@ pub enum Request<'a> {
     Post(u32, Name),
     Fetch(u32, Name),
     Sweep,
+    /// A level of an order and the next are exchanged.
+    Swap(Order, u32),
 }
 
 /// How a row came to be.

@@ -5,7 +5,7 @@ ghost use Rattle.edge_bits.specs.declared.limits.TheConstants.{MOST_COUNT};
 ghost use Rattle.function_laws.specs.declared.history.Function.{Function};
 ghost use Rattle.function_laws.specs.declared.history.Reply.TheVariants as replies;
 ghost use Rattle.function_laws.specs.Outcomes.{overflows};
-ghost use Rattle.function_laws.specs.Steps.{may_be_full};
+ghost use Rattle.function_laws.specs.Steps.{TellsFull, may_be_full};
 ghost use Rattle.node_store.specs.Views.{Is};
 ghost use Rattle.seat_guard.specs.Passes.{IsPassOf, in_hand, known};
 ghost use Rattle.shared_store.specs.Sharing.{Serving, count, due, view_of};
@@ -54,13 +54,15 @@ pub fn add_row(
     Placed { place, value: name }
 }
 
-/// The node table was full: all slots are in use, and one more was needed.
+/// The node table was full: so many slots are in use, and so many more were needed.
 pub fn be_full(
     guard: &Guard<Shared>,
     pass: &mut Pass<Shared>,
     book: &mut Book,
     shared: Shared,
     request: Request<'_>,
+    in_use: u32,
+    need: u32,
 ) -> Full
     requires hold { IsHolding guard.now pass.old }
     requires serves { Serving shared (known pass.old) }
@@ -68,22 +70,22 @@ pub fn be_full(
     requires place { HasPlace (known pass.old) }
     requires may { IsTrue (may_be_full (call_of request)) }
     requires outcome { MayBeFull (known pass.old) (call_of request) }
-    requires due { (f : Function) × (due shared ≡ Some f) }
+    requires numbers { TellsFull (known pass.old).slots (call_of request) in_use need }
     ensures own { IsPassOf guard.now pass.new × (in_hand pass.new ≡ []) }
     ensures keeps { Keeps (known pass.new) book.new }
     ensures told { IsRefused (known pass.old) (known pass.new) (call_of request.entry) (Refusal.Full result) }
+    ensures numbers { (result.in_use ≡ in_use) × (result.need ≡ need) }
     ensures notes { Notes (known pass.old) (known pass.new) shared }
     ensures rows { book.new.rows ≡ book.old.rows }
 {
-    let in_use = shared.store.in_use();
     let limit = shared.store.limit();
-    let answer = Answer::Full(in_use, 1);
+    let answer = Answer::Full(in_use, need);
     let place = finish(guard, pass, book, shared, request, answer);
     Full {
         place,
         in_use,
         limit,
-        need: 1,
+        need,
     }
 }
 
@@ -127,6 +129,7 @@ pub fn settle(
     requires spare { 1 ≤ book.old.rows.spare }
     requires few { (k : ℕ) → count shared k ≤ MOST_COUNT }
     requires ok { IfOk made (λ told. MatchResult told (λ edge. Is kind (view_of shared) edge × AddsRow (known pass.old) (view_of shared) (call_of request) adding (record { kind = kind; edge = edge })) (λ _. Gives (known pass.old) (call_of request) overflows)) }
+    requires one { (slots : ℕ) → TellsFull slots (call_of request) slots 1 }
     requires full { IsErrOf made Stop.Full → IsTrue (may_be_full (call_of request)) × MayBeFull (known pass.old) (call_of request) × ((f : Function) × (due shared ≡ Some f)) }
     ensures own { IsPassOf guard.now pass.new × (in_hand pass.new ≡ []) }
     ensures keeps { Keeps (known pass.new) book.new }
@@ -152,7 +155,11 @@ pub fn settle(
                 value: Err(over),
             })
         }
-        Err(Stop::Full) => Err(Refusal::Full(be_full(guard, pass, book, shared, request))),
+        Err(Stop::Full) => {
+            let in_use = shared.store.in_use();
+            let full = be_full(guard, pass, book, shared, request, in_use, 1);
+            Err(Refusal::Full(full))
+        }
         Err(Stop::Memory) => {
             put_back(guard, pass, shared);
             Err(Refusal::Memory)

@@ -1,21 +1,19 @@
 use Rattle.std.proofs.Common.{ℕ, refl, ap, sym, subst, ◌∙◌, arith}
 use Rattle.function_laws.specs.declared.history.Reply.TheVariants as replies
-use Rattle.function_laws.specs.Steps.{TellsFull}
 use Rattle.seat_guard.specs.Passes.{known}
 use Rattle.seat_guard.specs.declared.view.Draws.{Draws}
 use Rattle.dd_session.specs.Requests.{call_of}
 use Rattle.dd_session.specs.Turns.{Tied}
-use Rattle.dd_session.proofs.RequestLemmas.{needs_one}
 use Rattle.dd_session.proofs.Serving.{serves-same}
-use Rattle.dd_session.proofs.Tellings.{due_denoted, knows_quiet, may_be_refused, quiet}
+use Rattle.dd_session.proofs.Tellings.{knows_quiet, may_be_refused, quiet}
 use Rattle.dd_session.proofs.Tying.{longer_by, tied_same}
 use Rattle.dd_session.proofs.settling.be_full.Goals as goal
 
 pub finish-place-requires-clause-step : goal.finish-place-requires-clause-step
-finish-place-requires-clause-step c = may_be_refused (known c.args.pass.now) c.args.request c.in_use-in_use.result 1 c.requires.may c.requires.outcome
+finish-place-requires-clause-step c = may_be_refused (known c.args.pass.now) c.args.request c.args.in_use c.args.need c.requires.may c.requires.outcome
 
 pub finish-place-requires-clause-serves : goal.finish-place-requires-clause-serves
-finish-place-requires-clause-serves c = serves-same c.args.shared (known c.args.pass.now) _ c.requires.serves (knows_quiet (known c.args.pass.now) c.args.request (replies.Full c.in_use-in_use.result 1) (λ name n e. cc))
+finish-place-requires-clause-serves c = serves-same c.args.shared (known c.args.pass.now) _ c.requires.serves (knows_quiet (known c.args.pass.now) c.args.request (replies.Full c.args.in_use c.args.need) (record { plain = λ name n e. cc; no_swap = λ order level a b. cc }))
 
 pub returns-clause-keeps : goal.returns-clause-keeps
 returns-clause-keeps c =
@@ -29,14 +27,11 @@ returns-clause-keeps c =
     }
 
 pub returns-clause-told : goal.returns-clause-told
-returns-clause-told c =
-    let d = known c.args.pass.now in
-    let o = due_denoted c.args.shared c.requires.due.0 c.requires.due.1 in
-    let slots = ap (λ (p : ℕ × ℕ × ℕ). p.2) c.requires.serves.counts_are in (
-      (c.args.shared, quiet (call_of c.args.request) (replies.Full c.in_use-in_use.result 1), refl, refl, c.finish-place.ensures.drew),
-      c.limit-limit.ensures.limit ∙ slots,
-      subst (λ (n : ℕ). TellsFull d.slots (call_of c.args.request) n 1) (sym (c.in_use-in_use.ensures.full o.0 o.1 ∙ slots)) (needs_one d.slots c.args.request),
-    )
+returns-clause-told c = (
+  (c.args.shared, quiet (call_of c.args.request) (replies.Full c.args.in_use c.args.need), refl, refl, c.finish-place.ensures.drew),
+  c.limit-limit.ensures.limit ∙ ap (λ (p : ℕ × ℕ × ℕ). p.2) c.requires.serves.counts_are,
+  c.requires.numbers,
+)
 
 pub returns-clause-notes : goal.returns-clause-notes
 returns-clause-notes c = let drew = c.finish-place.ensures.drew in (drew.leaving, ap (λ (z : Draws). z.stored) drew.left, ap (λ (z : Draws). z.due) drew.left, drew.is_leaving)

@@ -13,7 +13,7 @@ pub finish-requires-clause-step : goal.finish-requires-clause-step
 finish-requires-clause-step c = may_exceed (known c.args.pass.now) c.args.request c.requires.outcome
 
 pub finish-requires-clause-serves : goal.finish-requires-clause-serves
-finish-requires-clause-serves c = serves-same c.args.shared (known c.args.pass.now) _ c.requires.serves (knows_quiet (known c.args.pass.now) c.args.request replies.Overflow (λ name n e. cc))
+finish-requires-clause-serves c = serves-same c.args.shared (known c.args.pass.now) _ c.requires.serves (knows_quiet (known c.args.pass.now) c.args.request replies.Overflow (record { plain = λ name n e. cc; no_swap = λ order level a b. cc }))
 
 pub returns-clause-keeps : goal.returns-clause-keeps
 returns-clause-keeps c =

@@ -52,7 +52,7 @@ pub finish-place-requires-clause-serves : goal.finish-place-requires-clause-serv
 finish-place-requires-clause-serves g c =
     let e = known c.take-shared.new.pass in
     let stays = c.walked-value.ensures.asked in
-    serves-same c.walked-value.new.shared e _ (serves-lasts c.take-shared.result c.walked-value.new.shared stays.lasts e stays.orders_are c.take-shared.ensures.took.2) (knows_quiet e (requests.Eval c.args.f c.args.bits) (replies.Value (to_z w64 (of_z w64 c.walked-value.result))) (λ name n e. cc))
+    serves-same c.walked-value.new.shared e _ (serves-lasts c.take-shared.result c.walked-value.new.shared stays.lasts e stays.orders_are c.take-shared.ensures.took.2) (knows_quiet e (requests.Eval c.args.f c.args.bits) (replies.Value (to_z w64 (of_z w64 c.walked-value.result))) (record { plain = λ name n e. cc; no_swap = λ order level a b. cc }))
 
 pub invariant_of-self : goal.invariant_of-self
 invariant_of-self g c = (search rules, kept_book (known c.self.inside.pass) (known c.take-shared.new.pass) c.take-shared.result (took_of c.take-shared.ensures.took c.take-shared.ensures.board) (known c.finish-place.new.pass) _ _ c.finish-place.result c.self.inside.book c.finish-place.new.book c.self.invariant.1 c.finish-place.ensures.drew refl refl c.finish-place.ensures.rows c.finish-place.ensures.calls)

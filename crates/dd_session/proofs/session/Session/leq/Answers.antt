@@ -30,7 +30,7 @@ pub finish-place-requires-clause-serves : goal.finish-place-requires-clause-serv
 finish-place-requires-clause-serves g c =
     let e = known c.take-shared.new.pass in
     let stays = c.implies.ensures.asked in
-    serves-same c.implies.new.shared e _ (serves-lasts c.take-shared.result c.implies.new.shared stays.lasts e stays.orders_are c.take-shared.ensures.took.2) (knows_quiet e (requests.Leq c.args.f c.args.g) (replies.Truth c.in-Ok.told) (λ name n e. cc))
+    serves-same c.implies.new.shared e _ (serves-lasts c.take-shared.result c.implies.new.shared stays.lasts e stays.orders_are c.take-shared.ensures.took.2) (knows_quiet e (requests.Leq c.args.f c.args.g) (replies.Truth c.in-Ok.told) (record { plain = λ name n e. cc; no_swap = λ order level a b. cc }))
 
 pub put_back-requires-clause-serves : goal.put_back-requires-clause-serves
 put_back-requires-clause-serves g c =

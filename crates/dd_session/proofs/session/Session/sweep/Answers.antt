@@ -21,7 +21,7 @@ finish-place-requires-clause-step g c = may_sweep (known c.take-shared.new.pass)
 pub finish-place-requires-clause-serves : goal.finish-place-requires-clause-serves
 finish-place-requires-clause-serves g c =
     let e = known c.take-shared.new.pass in
-    serves-same c.sweep-shared.result.0 e _ (serves-lasts c.take-shared.result c.sweep-shared.result.0 c.sweep-shared.ensures.lasts e c.sweep-shared.ensures.orders c.take-shared.ensures.took.2) (knows_quiet e requests.Sweep replies.Done (λ name n e. cc))
+    serves-same c.sweep-shared.result.0 e _ (serves-lasts c.take-shared.result c.sweep-shared.result.0 c.sweep-shared.ensures.lasts e c.sweep-shared.ensures.orders c.take-shared.ensures.took.2) (knows_quiet e requests.Sweep replies.Done (record { plain = λ name n e. cc; no_swap = λ order level a b. cc }))
 
 pub invariant_of-self : goal.invariant_of-self
 invariant_of-self g c = (search rules, kept_book (known c.self.inside.pass) (known c.take-shared.new.pass) c.take-shared.result (took_of c.take-shared.ensures.took c.take-shared.ensures.board) (known c.finish-place.new.pass) _ _ c.finish-place.result c.self.inside.book c.finish-place.new.book c.self.invariant.1 c.finish-place.ensures.drew refl refl c.finish-place.ensures.rows c.finish-place.ensures.calls)
