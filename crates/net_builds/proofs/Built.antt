@@ -1,5 +1,5 @@
 -- The outputs of a network that were built, handed over and told of.
-use Rattle.std.proofs.Common.{◌≡◌, ℕ, ◌+◌, ◌≤◌, ◌^◌, ◌++◌, Bool, false, true, List, [], ◌∷◌, length, map, refl, ap, sym, ◌∙◌, subst, append_assoc, arith, All}
+use Rattle.std.proofs.Common.{◌≡◌, ℕ, ◌+◌, ◌≤◌, ◌++◌, Bool, false, true, List, [], ◌∷◌, length, map, refl, ap, sym, ◌∙◌, subst, append_assoc, arith, All}
 use Rattle.std.specs.List.{Contains}
 use Rattle.std.proofs.lemmas.List.{length-map}
 use Rattle.std.proofs.lemmas.List.Elements.{All-append, All-cons, All-head, All-map, All-nil, All-tail, All-weaker, Contains-push}

@@ -1,4 +1,5 @@
 pub mod Built
+pub mod Classed
 pub mod Contained
 pub mod HandedLaw
 pub mod InTurn

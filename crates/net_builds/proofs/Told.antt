@@ -43,14 +43,6 @@ evaluation_asked a b asks names pattern =
     let with_values : List Bool → Evaluation = λ values. record { pattern = pattern; values = values } in
     ap with_values (values_asked a b asks names (assignment b.vars pattern) ∙ ap (λ vars. values_in a names (assignment vars pattern)) asks.works.vars_are)
 
--- one more of the names is valued
-pub values_more : (a b : Standing) (names : List Name) (i k : ℕ) (no_name : Name) (value : Bool) (before after : List Bool) → i < length names → Asks a b
-    → before ≡ values_in a (take i names) k → value ≡ value_in k (b.stands (get_or names i no_name)) → after ≡ before ++ value ∷ []
-    → after ≡ values_in a (take (i + 1) names) k
-values_more a b names i k no_name value before after inside asks so_far next is =
-    is ∙ ap₂ (λ (values : List Bool) (one : Bool). values ++ one ∷ []) so_far (next ∙ ap (value_in k) (asks.kept (get_or names i no_name)))
-    ∙ sym (map_more (λ (name : Name). value_in k (a.stands name)) names i no_name inside)
-
 -- one more of the patterns is evaluated at
 pub evaluations_more : (a b : Standing) (names : List Name) (patterns : List (List Bool)) (i : ℕ) (pattern seen : List Bool) (one : Evaluation) (before after : List Evaluation)
     → i < length patterns → pattern ≡ get_or patterns i pattern → seen ≡ pattern → Asks a b → before ≡ map (evaluation_in a names) (take i patterns)
@@ -66,7 +58,7 @@ value_held s name k value held is =
     let list = live_list s name held in
     is list.0 list.1 ∙ ap (value_in k) (sym list.1)
 
-value_of_row : (n k : ℕ) (f : ℕ → Bool) → k < 2 ^ n → value_in k (values_of n f) ≡ f k
+pub value_of_row : (n k : ℕ) (f : ℕ → Bool) → k < 2 ^ n → value_in k (values_of n f) ≡ f k
 value_of_row n k f below = truth-list_of (2 ^ n) k f below
 
 -- the functions that names stand for have the names' values
@@ -83,7 +75,7 @@ evaluations_told s names functions stand patterns =
     map_same (evaluation_in s names) (evaluation_at s.vars functions)
     (λ pattern. ap (λ values. record { pattern = pattern; values = values }) (values_told s names functions stand pattern)) patterns
 
-stands_in : (old mid : Standing) (names : List Name) (listing : Listing) (lists : Lists old mid names listing) → map mid.stands names ≡ map (values_of mid.vars) lists.functions
+pub stands_in : (old mid : Standing) (names : List Name) (listing : Listing) (lists : Lists old mid names listing) → map mid.stands names ≡ map (values_of mid.vars) lists.functions
 stands_in old mid names listing lists = subst (λ (s : Standing). map s.stands names ≡ map (values_of s.vars) lists.functions) (sym lists.new_is) lists.stand
 
 stands_on : (mid new : Standing) (names : List Name) (functions : List (ℕ → Bool)) → Asks mid new → map mid.stands names ≡ map (values_of mid.vars) functions

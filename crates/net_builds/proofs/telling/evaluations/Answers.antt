@@ -2,6 +2,7 @@ use Rattle.std.proofs.Common.{Bool, List, arith}
 use Rattle.std.proofs.lemmas.Grind.{common_steps}
 use Rattle.std.proofs.lemmas.List.Elements.{All-weaker}
 use Rattle.net_builds.specs.Standings.{IsLive}
+use Rattle.net_builds.proofs.Classed.{classed_asked}
 use Rattle.net_builds.proofs.Told.{asks_on, evaluations_more, held_asked}
 use Rattle.net_builds.proofs.telling.evaluations.Goals as goal
 
@@ -10,6 +11,12 @@ evaluate-requires-clause-held g c =
     let old = g.H.Host.standing c.args.session.now in
     let now = g.H.Host.standing c.loop-pattern.session in
     All-weaker (IsLive old) (IsLive now) (held_asked old now c.loop-pattern.invariant.asks) c.args.names.now c.requires.held
+
+pub evaluate-requires-clause-classed : goal.evaluate-requires-clause-classed
+evaluate-requires-clause-classed g c =
+    let old = g.H.Host.standing c.args.session.now in
+    let now = g.H.Host.standing c.loop-pattern.session in
+    classed_asked old now c.loop-pattern.invariant.asks c.args.names.now c.args.classes.now c.requires.classed
 
 pub loop-pattern-preserved : goal.loop-pattern-preserved
 loop-pattern-preserved g c =

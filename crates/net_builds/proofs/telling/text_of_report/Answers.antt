@@ -7,6 +7,7 @@ use Rattle.net_reports.specs.Reports.{output_names, report_text}
 use Rattle.net_builds.specs.Builds.{Reports}
 use Rattle.net_builds.specs.Handings.{IsTold}
 use Rattle.net_builds.specs.Standings.{IsLive}
+use Rattle.net_builds.proofs.Classed.{classed_listed}
 use Rattle.net_builds.proofs.Told.{held_listed, is_told, many_classes, reported}
 use Rattle.net_builds.proofs.telling.text_of_report.Goals as goal
 
@@ -16,13 +17,20 @@ evaluations-requires-clause-held g c =
     let mid = g.H.Host.standing c.list.new.session in
     All-weaker (IsLive old) (IsLive mid) (held_listed old mid c.args.names.now c.in_ok-listing.listing c.in_ok-listing.ensures.lists) c.args.names.now c.requires.held
 
+pub evaluations-requires-clause-classed : goal.evaluations-requires-clause-classed
+evaluations-requires-clause-classed g c =
+    let lists = c.in_ok-listing.ensures.lists in
+    let listing = c.in_ok-listing.listing in
+    classed_listed (g.H.Host.standing c.args.session.now) (g.H.Host.standing c.list.new.session) c.args.names.now listing c.in_ok-classes.classes.items c.deref.result.now lists
+    (c.in_ok-classes.ensures.by_function listing.order lists.functions lists.is_listing) c.deref.ensures.value
+
 pub report-requires : goal.report-requires
 report-requires g c =
     let lists = c.in_ok-listing.ensures.lists in
     let listing = c.in_ok-listing.listing in
-    let seen : List Class = c.deref.result.now in
+    let seen : List Class = c.deref-2.result.now in
     let classes : List Class = c.in_ok-classes.classes.items in
-    many_classes seen classes (g.H.Host.standing c.args.session.now) (g.H.Host.standing c.list.new.session) c.args.names.now listing lists c.deref.ensures.value
+    many_classes seen classes (g.H.Host.standing c.args.session.now) (g.H.Host.standing c.list.new.session) c.args.names.now listing lists c.deref-2.ensures.value
     (c.in_ok-classes.ensures.by_function listing.order lists.functions lists.is_listing)
     ∙ c.requires.many
 
@@ -37,13 +45,13 @@ returns-clause-told g c =
     let listing = c.in_ok-listing.listing in
     let lists = c.in_ok-listing.ensures.lists in
     let classes : List Class = c.in_ok-classes.classes.items in
-    let seen : List Class = c.deref.result.now in
-    let all : List Evaluation = c.deref-2.result.now in
+    let seen : List Class = c.deref-2.result.now in
+    let all : List Evaluation = c.deref-3.result.now in
     let order : List ℕ = c.as_slice-order.result.now in
     IfOk-weaker c.report.result (λ text. text.items ≡ report_text (length net.inputs) (output_names net) seen all order c.node_count-nodes.result)
     (λ text. IsTold (Reports net patterns) old new names text.items) (λ text is.
     is_told (Reports net patterns) old mid new names listing text.items lists c.in_ok-evaluations.ensures.asks
     (reported net patterns old mid names listing lists classes c.node_count-nodes.result text.items c.requires.vars
     (c.in_ok-classes.ensures.by_function listing.order lists.functions lists.is_listing)
-    (c.node_count-nodes.ensures (record { variables = listing.order; elements = [] }) lists.functions lists.is_listing) seen all order c.deref.ensures.value
-    (c.deref-2.ensures.value ∙ c.in_ok-evaluations.ensures.evaluations) c.as_slice-order.ensures is)) c.report.ensures.text
+    (c.node_count-nodes.ensures (record { variables = listing.order; elements = [] }) lists.functions lists.is_listing) seen all order c.deref-2.ensures.value
+    (c.deref-3.ensures.value ∙ c.in_ok-evaluations.ensures.evaluations) c.as_slice-order.ensures is)) c.report.ensures.text

@@ -1,31 +1,53 @@
-use Rattle.std.proofs.Common.{get_or}
-use Rattle.function_laws.specs.declared.history.Name.{Name}
+use Rattle.std.proofs.Common.{◌∙◌, ◌∷◌, [], ap, length, length-append, rules, subst, sym, take}
+use Rattle.std.proofs.lemmas.Slice.Zip.{zip_end, zip_turn}
 use Rattle.function_laws.specs.Values.{assignment_of}
-use Rattle.net_builds.proofs.Told.{asks_on, held_asked, value_held, values_more}
+use Rattle.net_builds.specs.Standings.{IsLive}
+use Rattle.net_builds.specs.Tellings.{values_in}
+use Rattle.net_builds.proofs.Classed.{all_valued, bits_below, next_turned, next_valued}
+use Rattle.net_builds.proofs.Told.{asks_on, held_asked}
 use Rattle.net_builds.proofs.telling.values.Goals as goal
 
-no_name : Name
-no_name = record { row = 0; generation = 0 }
+pub class_value-value-requires-clause-held : goal.class_value-value-requires-clause-held
+class_value-value-requires-clause-held g c =
+    let old = g.H.Host.standing c.args.session.now in
+    let now = g.H.Host.standing c.loop-name.session in
+    let name = c.in-Some.name.now in
+    let turn = zip_turn c.args.names.now c.args.classes.now c.loop-name.yielded c.into_iter-name-iterator.result c.loop-name.name-iterator c.next.new.self c.next.result (search rules) (search rules)
+    c.loop-name.yielded_by (c.in-Some.name, c.in-Some.class) c.in-Some.is (search rules) in
+    held_asked old now c.loop-name.invariant.asks name (subst (IsLive old) (sym (turn.2 name)) (c.requires.held (length c.loop-name.yielded) name turn.0))
 
-pub value-requires-clause-held : goal.value-requires-clause-held
-unfolding no_name
-value-requires-clause-held g c =
-    held_asked (g.H.Host.standing c.args.session.now) (g.H.Host.standing c.loop-name.session) c.loop-name.invariant.asks (get_or c.args.names.now c.loop-name.name-index no_name)
-    (c.requires.held c.loop-name.name-index no_name c.loop-name-test.true)
+pub class_value-value-requires-clause-turned : goal.class_value-value-requires-clause-turned
+class_value-value-requires-clause-turned g c =
+    let old = g.H.Host.standing c.args.session.now in
+    let now = g.H.Host.standing c.loop-name.session in
+    let turn = zip_turn c.args.names.now c.args.classes.now c.loop-name.yielded c.into_iter-name-iterator.result c.loop-name.name-iterator c.next.new.self c.next.result (search rules) (search rules)
+    c.loop-name.yielded_by (c.in-Some.name, c.in-Some.class) c.in-Some.is (search rules) in
+    next_turned old now c.loop-name.invariant.asks c.args.names.now c.args.classes.now (length c.loop-name.yielded) (assignment_of c.args.bits.now) c.in-Some.name.now
+    c.in-Some.class.now c.loop-name.values turn.0 turn.1 turn.2 turn.3 c.loop-name.invariant.values c.requires.classed (bits_below old c.args.bits.now c.requires.long)
+    c.as_slice.result.now c.as_slice.ensures
 
 pub loop-name-preserved : goal.loop-name-preserved
-unfolding no_name
 loop-name-preserved g c =
     let old = g.H.Host.standing c.args.session.now in
     let now = g.H.Host.standing c.loop-name.session in
     let names = c.args.names.now in
-    let i = c.loop-name.name-index in
     let k = assignment_of c.args.bits.now in
-    let name = get_or names i no_name in
     let asks = c.loop-name.invariant.asks in
+    let turn = zip_turn names c.args.classes.now c.loop-name.yielded c.into_iter-name-iterator.result c.loop-name.name-iterator c.next.new.self c.next.result (search rules) (search rules)
+    c.loop-name.yielded_by (c.in-Some.name, c.in-Some.class) c.in-Some.is (search rules) in
     record {
-      own = c.value.ensures.own;
-      asks = asks_on old now (g.H.Host.standing c.value.new.session) asks c.value.ensures.asks;
-      values = values_more old now names i k no_name c.value.result c.loop-name.values c.push.new.self c.loop-name-test.true asks c.loop-name.invariant.values
-          (value_held now name k c.value.result (held_asked old now asks name (c.requires.held i no_name c.loop-name-test.true)) c.value.ensures.value) c.in_ok-push.ensures.ok;
+      own = c.class_value-value.ensures.own;
+      asks = asks_on old now (g.H.Host.standing c.class_value-value.new.session) asks c.class_value-value.ensures.asks;
+      values = next_valued old now asks names c.args.classes.now (length c.loop-name.yielded) k c.in-Some.name.now c.in-Some.class.now c.loop-name.values turn.0 turn.1 turn.2 turn.3
+          c.loop-name.invariant.values c.class_value-value.result c.push.new.self c.class_value-value.ensures.value c.in_ok-push.ensures.ok
+          ∙ ap (λ i. values_in old (take i names) k) (sym (length-append c.loop-name.yielded ((c.in-Some.name, c.in-Some.class) ∷ [])));
     }
+
+pub returns-clause-values : goal.returns-clause-values
+returns-clause-values g c =
+    let old = g.H.Host.standing c.args.session.now in
+    let names = c.args.names.now in
+    let classes = c.args.classes.now in
+    let end = zip_end names classes c.loop-name.yielded c.into_iter-name-iterator.result c.loop-name.name-iterator c.next.new.self c.next.result (search rules) (search rules)
+    c.loop-name.yielded_by c.in-None.is (search rules) in
+    all_valued old names classes c.requires.classed (length c.loop-name.yielded) (assignment_of c.args.bits.now) end c.loop-name.values c.loop-name.invariant.values
