@@ -6,6 +6,7 @@ ghost use Rattle.net_builds.specs.Handings.{AreInTurn, HandsOver};
 ghost use Rattle.net_builds.specs.Standings.{HasRoom, IsCaused, IsLive};
 
 use crate::host::{Host, HostRefusal};
+use crossbeam_utils::Backoff;
 use function_laws::Name;
 use std::alloc::Global;
 use std::sync::Wait;
@@ -21,14 +22,17 @@ pub struct Handover {
     pub fetch: u64,
 }
 
-/// Goes on where the condition holds, and waits for ever where it does not.
+/// Goes on where the condition holds, and waits for ever where it does not: it backs off, so that other threads get the processor.
 fn wait_unless<R: Wait>(rt: &R, holds: bool)
     ensures { holds ≡ true }
 {
     if holds {
         return;
     }
-    for _ in rt.forever() {}
+    let backoff = Backoff::new();
+    for _ in rt.forever() {
+        backoff.snooze();
+    }
     unreachable!()
 }
 
