@@ -45,10 +45,8 @@ fn hand_outputs<R: Wait, H: Host>(
 {
     let names = build_outputs(alloc, host, session, net)?;
     let handovers = hand_over(rt, alloc, host, session, &names)?;
-    match fetched(alloc, &handovers) {
-        Ok(names) => Ok(names),
-        Err(Memory) => Err(HostRefusal::Memory),
-    }
+    let fetched = fetched(alloc, &handovers)?;
+    Ok(fetched)
 }
 
 /// Builds a network: the report of its outputs, with their values at each pattern, under an order of the variables that the session

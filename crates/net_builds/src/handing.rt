@@ -89,15 +89,11 @@ pub fn hand_over<R: Wait, H: Host>(
     ensures handed { IfOk result (λ handovers. HandsOver (H.standing session.old) (H.standing session.new) names.now handovers.items) }
     ensures caused { IfErr result (IsCaused (H.refused session.new)) }
 {
-    let Ok(mut handovers) = Vec::with_capacity(alloc, names.len()) else {
-        return Err(HostRefusal::Memory);
-    };
+    let mut handovers = Vec::with_capacity(alloc, names.len())?;
     for name in names {
         let next = hand_one(rt, host, session, *name)?;
         wait_unless(rt, is_behind(&handovers, &next));
-        let Ok(()) = handovers.push(next) else {
-            return Err(HostRefusal::Memory);
-        };
+        handovers.push(next)?;
     }
     Ok(handovers)
 }

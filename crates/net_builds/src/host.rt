@@ -1,14 +1,42 @@
 //! A manager, as a session sees it that builds functions of truth values.
 
+ghost use Rattle.std.specs.Prelude.{◌≡◌};
+ghost use Rattle.net_builds.specs.declared.host.HostRefusal.TheVariants as refusals;
+
 use diagram_dumps::Listing;
 use edge_bits::Memory;
 use function_laws::Name;
+use std::alloc::{AllocError, AllocFailed};
 
 /// Why a session was refused: want of memory, or no slot was free for a node.
 #[derive(Debug, Clone, Copy, PartialEq, Eq, Drop)]
 pub enum HostRefusal<F> {
     Memory,
     Full(F),
+}
+
+impl<F> From<Memory> for HostRefusal<F> {
+    ghost from_gives = { λ _ refusal. refusal ≡ refusals.Memory };
+
+    fn from(_: Memory) -> HostRefusal<F> {
+        HostRefusal::Memory
+    }
+}
+
+impl<F> From<AllocError> for HostRefusal<F> {
+    ghost from_gives = { λ _ refusal. refusal ≡ refusals.Memory };
+
+    fn from(_: AllocError) -> HostRefusal<F> {
+        HostRefusal::Memory
+    }
+}
+
+impl<T: Drop, F> From<AllocFailed<T>> for HostRefusal<F> {
+    ghost from_gives = { λ _ refusal. refusal ≡ refusals.Memory };
+
+    fn from(_: AllocFailed<T>) -> HostRefusal<F> {
+        HostRefusal::Memory
+    }
 }
 
 /// The name that was fetched, and whether it stands for what was posted.

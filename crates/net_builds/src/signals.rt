@@ -113,15 +113,12 @@ pub fn build_outputs<H: Host>(
     ensures built { IfOk result (λ names. BuildsOutputs net.now (H.standing session.old) (H.standing session.new) names.items) }
     ensures caused { IfErr result (IsCaused (H.refused session.new)) }
 {
-    let Ok(begun) = begin(alloc, net) else {
-        return Err(HostRefusal::Memory);
-    };
     let Ledger {
         own,
         last,
         mut rows,
         mut names,
-    } = begun;
+    } = begin(alloc, net)?;
     build_all(host, session, net, &own, &last, &mut rows, &mut names)?;
     Ok(names)
 }

@@ -125,32 +125,6 @@ fn evaluations<H: Host>(
     Ok(evaluations)
 }
 
-/// The text of a report, from the names of the outputs' functions.
-fn text_of_report<H: Host>(
-    alloc: Global,
-    host: &H,
-    session: &mut H::Session,
-    net: &Net,
-    names: &[Name],
-    patterns: &[List<bool>],
-) -> Result<Vec<u8>, Memory>
-    requires own { H.has host.now session.old }
-    requires room { HasRoom (H.standing session.old) }
-    requires vars { (H.standing session.old).vars ≡ length net.now.inputs }
-    requires held { All (IsLive (H.standing session.old)) names.now }
-    requires many { length names.now ≡ length net.now.outputs }
-    ensures own { H.has host.now session.new }
-    ensures told { IfOk result (λ text. IsTold (Reports net.now patterns.now) (H.standing session.old) (H.standing session.new) names.now text.items) }
-{
-    let listing = host.list(session, names)?;
-    let classes = classes_of(alloc, &listing)?;
-    let inputs = net.inputs().len();
-    let evaluations = evaluations(alloc, host, session, names, &classes, inputs, patterns)?;
-    let nodes = listing.node_count();
-    let order = listing.order.as_slice();
-    report(alloc, net, &classes, &evaluations, order, nodes)
-}
-
 /// The report of a network whose outputs' functions have these names, with the outputs' values at each pattern.
 pub fn tell_report<H: Host>(
     alloc: Global,
@@ -169,31 +143,14 @@ pub fn tell_report<H: Host>(
     ensures told { IfOk result (λ text. IsTold (Reports net.now patterns.now) (H.standing session.old) (H.standing session.new) names.now text.items) }
     ensures caused { IfErr result (IsCaused (H.refused session.new)) }
 {
-    match text_of_report(alloc, host, session, net, names, patterns) {
-        Ok(text) => Ok(text),
-        Err(Memory) => Err(HostRefusal::Memory),
-    }
-}
-
-/// The text of a summary, from the names of the outputs' functions.
-fn text_of_summary<H: Host>(
-    alloc: Global,
-    host: &H,
-    session: &mut H::Session,
-    net: &Net,
-    names: &[Name],
-) -> Result<Vec<u8>, Memory>
-    requires own { H.has host.now session.old }
-    requires room { HasRoom (H.standing session.old) }
-    requires vars { (H.standing session.old).vars ≡ length net.now.inputs }
-    requires held { All (IsLive (H.standing session.old)) names.now }
-    requires many { length names.now ≡ length net.now.outputs }
-    ensures own { H.has host.now session.new }
-    ensures told { IfOk result (λ text. IsTold (SumsUp net.now) (H.standing session.old) (H.standing session.new) names.now text.items) }
-{
     let listing = host.list(session, names)?;
     let classes = classes_of(alloc, &listing)?;
-    summary(alloc, net, &classes, listing.node_count())
+    let inputs = net.inputs().len();
+    let evaluations = evaluations(alloc, host, session, names, &classes, inputs, patterns)?;
+    let nodes = listing.node_count();
+    let order = listing.order.as_slice();
+    let text = report(alloc, net, &classes, &evaluations, order, nodes)?;
+    Ok(text)
 }
 
 /// The summary of a network whose outputs' functions have these names.
@@ -213,8 +170,8 @@ pub fn tell_summary<H: Host>(
     ensures told { IfOk result (λ text. IsTold (SumsUp net.now) (H.standing session.old) (H.standing session.new) names.now text.items) }
     ensures caused { IfErr result (IsCaused (H.refused session.new)) }
 {
-    match text_of_summary(alloc, host, session, net, names) {
-        Ok(text) => Ok(text),
-        Err(Memory) => Err(HostRefusal::Memory),
-    }
+    let listing = host.list(session, names)?;
+    let classes = classes_of(alloc, &listing)?;
+    let text = summary(alloc, net, &classes, listing.node_count())?;
+    Ok(text)
 }

@@ -31,7 +31,7 @@ loop-name-preserved g c =
     record {
       own = c.in_ok-next.ensures.own;
       handed = hands_more (g.H.Host.standing c.args.session.now) (g.H.Host.standing c.loop-name.session) (g.H.Host.standing c.hand_one.new.session) c.args.names.now
-          c.loop-name.name-index no_name earlier c.push.new.self.items next c.loop-name-test.true so_far one turns c.in-Ok-push.ensures.items;
+          c.loop-name.name-index no_name earlier c.push.new.self.items next c.loop-name-test.true so_far one turns c.in_ok-push.ensures.items;
     }
 
 pub returns-clause-handed : goal.returns-clause-handed

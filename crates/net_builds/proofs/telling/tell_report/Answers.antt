@@ -1,15 +1,12 @@
-use Rattle.std.proofs.Common.{◌≡◌, [], List, ℕ, ◌∙◌, length}
+use Rattle.std.proofs.Common.{[], List, ℕ, ◌∙◌}
 use Rattle.std.proofs.lemmas.List.Elements.{All-weaker}
-use Rattle.std.proofs.lemmas.Result.{IfOk-weaker}
 use Rattle.net_reports.specs.declared.classes.Class.{Class}
 use Rattle.net_reports.specs.declared.patterns.Evaluation.{Evaluation}
-use Rattle.net_reports.specs.Reports.{output_names, report_text}
 use Rattle.net_builds.specs.Builds.{Reports}
-use Rattle.net_builds.specs.Handings.{IsTold}
 use Rattle.net_builds.specs.Standings.{IsLive}
 use Rattle.net_builds.proofs.Classed.{classed_listed}
 use Rattle.net_builds.proofs.Told.{held_listed, is_told, many_classes, reported}
-use Rattle.net_builds.proofs.telling.text_of_report.Goals as goal
+use Rattle.net_builds.proofs.telling.tell_report.Goals as goal
 
 pub evaluations-requires-clause-held : goal.evaluations-requires-clause-held
 evaluations-requires-clause-held g c =
@@ -48,10 +45,9 @@ returns-clause-told g c =
     let seen : List Class = c.deref-2.result.now in
     let all : List Evaluation = c.deref-3.result.now in
     let order : List ℕ = c.as_slice-order.result.now in
-    IfOk-weaker c.report.result (λ text. text.items ≡ report_text (length net.inputs) (output_names net) seen all order c.node_count-nodes.result)
-    (λ text. IsTold (Reports net patterns) old new names text.items) (λ text is.
-    is_told (Reports net patterns) old mid new names listing text.items lists c.in_ok-evaluations.ensures.asks
-    (reported net patterns old mid names listing lists classes c.node_count-nodes.result text.items c.requires.vars
+    let text : List ℕ = c.in_ok-text.text.items in
+    is_told (Reports net patterns) old mid new names listing text lists c.in_ok-evaluations.ensures.asks
+    (reported net patterns old mid names listing lists classes c.node_count-nodes.result text c.requires.vars
     (c.in_ok-classes.ensures.by_function listing.order lists.functions lists.is_listing)
     (c.node_count-nodes.ensures (record { variables = listing.order; elements = [] }) lists.functions lists.is_listing) seen all order c.deref-2.ensures.value
-    (c.deref-3.ensures.value ∙ c.in_ok-evaluations.ensures.evaluations) c.as_slice-order.ensures is)) c.report.ensures.text
+    (c.deref-3.ensures.value ∙ c.in_ok-evaluations.ensures.evaluations) c.as_slice-order.ensures c.in_ok-text.ensures.text)
