@@ -15,7 +15,7 @@ use Rattle.net_reports.specs.declared.classes.Class.{Class}
 use Rattle.net_reports.specs.declared.patterns.Evaluation.{Evaluation}
 use Rattle.net_builds.specs.Builds.{Reports, SumsUp}
 use Rattle.net_builds.specs.Handings.{IsTold}
-use Rattle.net_builds.specs.Standings.{Asks, IsLive, IsQuiet, Lists, Standing, values_of}
+use Rattle.net_builds.specs.Standings.{Asks, HasRoom, IsLive, IsQuiet, Lists, Standing, values_of}
 use Rattle.net_builds.specs.Tellings.{evaluation_in, value_in, values_in}
 use Rattle.net_builds.proofs.StandingLemmas.{gains_none, gains_then, live_list, still_live}
 use Rattle.net_builds.proofs.Mapped.{length_same, map_same}
@@ -105,6 +105,10 @@ is_told Tells old mid new names listing text lists asks tells = record {
 pub held_listed : (old mid : Standing) (names : List Name) (listing : Listing) → Lists old mid names listing → (name : Name) → IsLive old name → IsLive mid name
 held_listed old mid names listing lists name held =
     still_live old mid name (omega (arith, ap (λ (s : Standing). s.adds) lists.new_is)) (ap (λ (s : Standing). s.stands name) lists.new_is) held
+
+-- and leaves room for as many rows
+pub room_listed : (old mid : Standing) (names : List Name) (listing : Listing) → Lists old mid names listing → HasRoom old → HasRoom mid
+room_listed old mid names listing lists room = subst HasRoom (sym lists.new_is) room
 
 -- a listing has as many functions as there are names, and as many classes
 pub many_classes : (seen classes : List Class) (old mid : Standing) (names : List Name) (listing : Listing) (lists : Lists old mid names listing) → seen ≡ classes

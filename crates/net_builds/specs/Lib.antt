@@ -1,4 +1,5 @@
 pub mod Standings
+pub mod Asked
 pub mod Signals
 pub mod Building
 pub mod Products

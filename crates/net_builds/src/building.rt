@@ -3,6 +3,7 @@
 ghost use Rattle.std.specs.Prelude.{◌≡◌, [], ◌∷◌, length, map, IfErr, IfOk};
 ghost use Rattle.blif_net.specs.Bounds.{IsBounded};
 ghost use Rattle.net_builds.specs.Builds.{Builds, Reports, SumsUp};
+ghost use Rattle.net_builds.specs.Asked.{ComesBack, MayBuild};
 ghost use Rattle.net_builds.specs.Outputs.{HandsOutputs};
 ghost use Rattle.net_builds.specs.Standings.{IsCaused};
 
@@ -35,13 +36,9 @@ fn hand_outputs<R: Wait, H: Host>(
     session: &mut H::Session,
     net: &Net,
 ) -> Result<Vec<Name>, HostRefusal<H::Full>>
-    requires own { H.has host.now session.old }
-    requires bounded { IsBounded net.now }
-    requires vars { (H.standing session.old).vars ≡ length net.now.inputs }
-    requires none { (H.standing session.old).rows ≡ 0 }
-    ensures own { H.has host.now session.new }
+    requires may { MayBuild H.has H.standing host.now session.old net.now }
     ensures handed { IfOk result (λ names. HandsOutputs net.now (H.standing session.old) (H.standing session.new) names.items) }
-    ensures caused { IfErr result (IsCaused (H.refused session.new)) }
+    ensures back { ComesBack H.has H.refused host.now session.new result }
 {
     let names = build_outputs(alloc, host, session, net)?;
     let handovers = hand_over(rt, alloc, host, session, &names)?;

@@ -1,9 +1,9 @@
 //! The handing over of built functions to the first session.
 
-ghost use Rattle.std.specs.Prelude.{◌≡◌, ◌+◌, ◌≤◌, ◌^◌, [], ◌∷◌, ◌++◌, true, length, All, IfErr, IfOk};
-ghost use Rattle.edge_bits.specs.declared.limits.TheConstants.{MOST_ROWS};
+ghost use Rattle.std.specs.Prelude.{◌≡◌, [], ◌∷◌, ◌++◌, true, length, All, IfOk};
+ghost use Rattle.net_builds.specs.Asked.{ComesBack, MayMakeRows};
 ghost use Rattle.net_builds.specs.Handings.{AreInTurn, HandsOver};
-ghost use Rattle.net_builds.specs.Standings.{HasRoom, IsCaused, IsLive};
+ghost use Rattle.net_builds.specs.Standings.{IsLive};
 
 use crate::host::{Host, HostRefusal};
 use crossbeam_utils::Backoff;
@@ -53,12 +53,10 @@ fn hand_one<R: Wait, H: Host>(
     session: &mut H::Session,
     name: Name,
 ) -> Result<Handover, HostRefusal<H::Full>>
-    requires own { H.has host.now session.old }
-    requires room { HasRoom (H.standing session.old) }
+    requires may { MayMakeRows H.has H.standing host.now session.old 1 }
     requires held { IsLive (H.standing session.old) name }
-    ensures own { H.has host.now session.new }
     ensures handed { IfOk result (λ handover. HandsOver (H.standing session.old) (H.standing session.new) (name ∷ []) (handover ∷ [])) }
-    ensures caused { IfErr result (IsCaused (H.refused session.new)) }
+    ensures back { ComesBack H.has H.refused host.now session.new result }
 {
     let posted = host.post(session, name);
     let fetched = host.fetch(session, name)?;
@@ -82,12 +80,10 @@ pub fn hand_over<R: Wait, H: Host>(
     session: &mut H::Session,
     names: &[Name],
 ) -> Result<Vec<Handover>, HostRefusal<H::Full>>
-    requires own { H.has host.now session.old }
-    requires room { (H.standing session.old).rows + length names.now ≤ MOST_ROWS }
+    requires may { MayMakeRows H.has H.standing host.now session.old (length names.now) }
     requires held { All (IsLive (H.standing session.old)) names.now }
-    ensures own { H.has host.now session.new }
     ensures handed { IfOk result (λ handovers. HandsOver (H.standing session.old) (H.standing session.new) names.now handovers.items) }
-    ensures caused { IfErr result (IsCaused (H.refused session.new)) }
+    ensures back { ComesBack H.has H.refused host.now session.new result }
 {
     let mut handovers = Vec::with_capacity(alloc, names.len())?;
     for name in names {

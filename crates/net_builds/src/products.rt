@@ -1,13 +1,13 @@
 //! The function of a cover, from the rows of the signals that it reads.
 
-ghost use Rattle.std.specs.Prelude.{◌≡◌, ◌≢◌, ◌+◌, ◌<◌, ◌≤◌, ◌^◌, Some, ℕ, Bool, IfErr, IfOk, length, slice_get};
-ghost use Rattle.edge_bits.specs.declared.limits.TheConstants.{MOST_ROWS};
+ghost use Rattle.std.specs.Prelude.{◌≡◌, ◌≢◌, ◌<◌, Some, ℕ, Bool, IfOk, length, slice_get};
 ghost use Rattle.blif_net.specs.Networks.{cover_value};
 ghost use Rattle.blif_net.specs.declared.net.Literal.TheVariants.{Any};
 ghost use Rattle.function_laws.specs.Values.{conjunction, disjunction, negation};
+ghost use Rattle.net_builds.specs.Asked.{ComesBack, MayMakeRows};
 ghost use Rattle.net_builds.specs.Products.{Replaces, match_any, match_at, with_fit};
 ghost use Rattle.net_builds.specs.Signals.{HaveRows, HaveValues};
-ghost use Rattle.net_builds.specs.Standings.{Holds, IsCaused, IsHeld, Makes};
+ghost use Rattle.net_builds.specs.Standings.{Holds, IsHeld, Makes};
 
 use crate::host::{Host, HostRefusal};
 use blif_net::{Cover, Cube, Literal};
@@ -39,13 +39,11 @@ fn with_complement<H: Host>(
     row: Name,
     product: Name,
 ) -> Result<Name, HostRefusal<H::Full>>
-    requires own { H.has host.now session.old }
-    requires room { (H.standing session.old).rows + 3 ≤ MOST_ROWS }
+    requires may { MayMakeRows H.has H.standing host.now session.old 3 }
     requires row { IsHeld (H.standing session.old) row }
     requires product { IsHeld (H.standing session.old) product }
-    ensures own { H.has host.now session.new }
     ensures made { IfOk result (λ name. (f g : ℕ → Bool) → Holds (H.standing session.old) row f → Holds (H.standing session.old) product g → Makes (H.standing session.old) (H.standing session.new) name (conjunction (negation f) g)) }
-    ensures caused { IfErr result (IsCaused (H.refused session.new)) }
+    ensures back { ComesBack H.has H.refused host.now session.new result }
 {
     let factor = host.complement(session, row)?;
     let name = host.conjunction(session, factor, product)?;
@@ -61,14 +59,12 @@ fn with_factor<H: Host>(
     row: Name,
     product: Name,
 ) -> Result<Name, HostRefusal<H::Full>>
-    requires own { H.has host.now session.old }
-    requires room { (H.standing session.old).rows + 3 ≤ MOST_ROWS }
+    requires may { MayMakeRows H.has H.standing host.now session.old 3 }
     requires row { IsHeld (H.standing session.old) row }
     requires product { IsHeld (H.standing session.old) product }
     requires asks { literal ≢ Any }
-    ensures own { H.has host.now session.new }
     ensures made { IfOk result (λ name. (f g : ℕ → Bool) → Holds (H.standing session.old) row f → Holds (H.standing session.old) product g → Makes (H.standing session.old) (H.standing session.new) name (with_fit literal f g)) }
-    ensures caused { IfErr result (IsCaused (H.refused session.new)) }
+    ensures back { ComesBack H.has H.refused host.now session.new result }
 {
     match literal {
         Literal::Zero => with_complement(host, session, row, product),
@@ -85,13 +81,11 @@ fn with_literal<H: Host>(
     row: Name,
     product: Name,
 ) -> Result<Name, HostRefusal<H::Full>>
-    requires own { H.has host.now session.old }
-    requires room { (H.standing session.old).rows + 3 ≤ MOST_ROWS }
+    requires may { MayMakeRows H.has H.standing host.now session.old 3 }
     requires row { IsHeld (H.standing session.old) row }
     requires product { IsHeld (H.standing session.old) product }
-    ensures own { H.has host.now session.new }
     ensures made { IfOk result (λ name. (f g : ℕ → Bool) → Holds (H.standing session.old) row f → Holds (H.standing session.old) product g → Replaces (H.standing session.old) (H.standing session.new) product name (with_fit literal f g)) }
-    ensures caused { IfErr result (IsCaused (H.refused session.new)) }
+    ensures back { ComesBack H.has H.refused host.now session.new result }
 {
     if literal == Literal::Any {
         return Ok(product);
@@ -109,12 +103,10 @@ fn product<H: Host>(
     ins: &[u32],
     rows: &[Option<Name>],
 ) -> Result<Name, HostRefusal<H::Full>>
-    requires own { H.has host.now session.old }
-    requires room { (H.standing session.old).rows + 4 ≤ MOST_ROWS }
+    requires may { MayMakeRows H.has H.standing host.now session.old 4 }
     requires rows { HaveRows (H.standing session.old) rows.now ins.now }
-    ensures own { H.has host.now session.new }
     ensures made { IfOk result (λ name. (values : ℕ → ℕ → Bool) → HaveValues (H.standing session.old) rows.now values ins.now → Makes (H.standing session.old) (H.standing session.new) name (match_at values ins.now literals.now)) }
-    ensures caused { IfErr result (IsCaused (H.refused session.new)) }
+    ensures back { ComesBack H.has H.refused host.now session.new result }
 {
     let mut product = host.constant(session, true)?;
     let mut at = literals.len().min(ins.len());
@@ -136,13 +128,11 @@ fn with_product<H: Host>(
     rows: &[Option<Name>],
     sum: Name,
 ) -> Result<Name, HostRefusal<H::Full>>
-    requires own { H.has host.now session.old }
-    requires room { (H.standing session.old).rows + 4 ≤ MOST_ROWS }
+    requires may { MayMakeRows H.has H.standing host.now session.old 4 }
     requires rows { HaveRows (H.standing session.old) rows.now ins.now }
     requires sum { IsHeld (H.standing session.old) sum }
-    ensures own { H.has host.now session.new }
     ensures made { IfOk result (λ name. (values : ℕ → ℕ → Bool) (f : ℕ → Bool) → HaveValues (H.standing session.old) rows.now values ins.now → Holds (H.standing session.old) sum f → Replaces (H.standing session.old) (H.standing session.new) sum name (disjunction f (match_at values ins.now cube.now.literals))) }
-    ensures caused { IfErr result (IsCaused (H.refused session.new)) }
+    ensures back { ComesBack H.has H.refused host.now session.new result }
 {
     let product = product(host, session, cube.literals.as_slice(), ins, rows)?;
     let name = host.disjunction(session, sum, product)?;
@@ -159,12 +149,10 @@ fn sum<H: Host>(
     ins: &[u32],
     rows: &[Option<Name>],
 ) -> Result<Name, HostRefusal<H::Full>>
-    requires own { H.has host.now session.old }
-    requires room { (H.standing session.old).rows + 5 ≤ MOST_ROWS }
+    requires may { MayMakeRows H.has H.standing host.now session.old 5 }
     requires rows { HaveRows (H.standing session.old) rows.now ins.now }
-    ensures own { H.has host.now session.new }
     ensures made { IfOk result (λ name. (values : ℕ → ℕ → Bool) → HaveValues (H.standing session.old) rows.now values ins.now → Makes (H.standing session.old) (H.standing session.new) name (match_any values ins.now cubes.now)) }
-    ensures caused { IfErr result (IsCaused (H.refused session.new)) }
+    ensures back { ComesBack H.has H.refused host.now session.new result }
 {
     let mut sum = host.constant(session, false)?;
     for cube in cubes {
@@ -181,12 +169,10 @@ pub fn cover<H: Host>(
     gate: &Cover,
     rows: &[Option<Name>],
 ) -> Result<Name, HostRefusal<H::Full>>
-    requires own { H.has host.now session.old }
-    requires room { (H.standing session.old).rows + 5 ≤ MOST_ROWS }
+    requires may { MayMakeRows H.has H.standing host.now session.old 5 }
     requires rows { HaveRows (H.standing session.old) rows.now gate.now.ins }
-    ensures own { H.has host.now session.new }
     ensures made { IfOk result (λ name. (values : ℕ → ℕ → Bool) → HaveValues (H.standing session.old) rows.now values gate.now.ins → Makes (H.standing session.old) (H.standing session.new) name (λ k. cover_value gate.now (λ signal. values signal k))) }
-    ensures caused { IfErr result (IsCaused (H.refused session.new)) }
+    ensures back { ComesBack H.has H.refused host.now session.new result }
 {
     let sum = sum(
         host,

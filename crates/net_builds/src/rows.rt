@@ -1,9 +1,9 @@
 //! The rows of a network's signals, made and let go in the order of the signals.
 
-ghost use Rattle.std.specs.Prelude.{◌≡◌, ◌+◌, ◌<◌, ◌≤◌, ◌^◌, length, slice_index_or, All, IfErr, IfOk, IsSome, ℕ, Some};
+ghost use Rattle.std.specs.Prelude.{◌≡◌, ◌+◌, ◌<◌, ◌≤◌, ◌^◌, length, slice_index_or, All, IfOk, IsSome, ℕ, Some};
 ghost use Rattle.blif_net.specs.Bounds.{signal_count};
-ghost use Rattle.net_builds.specs.Building.{BuildsTo, IsBuilt, IsPlan, row_at};
-ghost use Rattle.net_builds.specs.Standings.{IsCaused};
+ghost use Rattle.net_builds.specs.Building.{BuildsTo, row_at};
+ghost use Rattle.net_builds.specs.Asked.{ComesBack, HasBuilt};
 
 use crate::host::{Host, HostRefusal};
 use crate::products::cover;
@@ -19,13 +19,10 @@ fn make_input<H: Host>(
     rows: &mut [Option<Name>],
     signal: u32,
 ) -> Result<(), HostRefusal<H::Full>>
-    requires own { H.has host.now session.old }
-    requires plan { IsPlan net.now last.now }
-    requires built { IsBuilt net.now last.now signal (H.standing session.old) rows.old }
+    requires has { HasBuilt H.has H.standing host.now session.old net.now last.now signal rows.old }
     requires input { signal < length net.now.inputs }
-    ensures own { H.has host.now session.new }
     ensures built { IfOk result (λ _. BuildsTo net.now last.now (signal + 1) (H.standing session.old) (H.standing session.new) rows.new) }
-    ensures caused { IfErr result (IsCaused (H.refused session.new)) }
+    ensures back { ComesBack H.has H.refused host.now session.new result }
 {
     let place = signal as usize;
     if last[place] == 0 {
@@ -43,12 +40,9 @@ pub fn make_inputs<H: Host>(
     last: &[u32],
     rows: &mut [Option<Name>],
 ) -> Result<(), HostRefusal<H::Full>>
-    requires own { H.has host.now session.old }
-    requires plan { IsPlan net.now last.now }
-    requires built { IsBuilt net.now last.now 0 (H.standing session.old) rows.old }
-    ensures own { H.has host.now session.new }
+    requires has { HasBuilt H.has H.standing host.now session.old net.now last.now 0 rows.old }
     ensures built { IfOk result (λ _. BuildsTo net.now last.now (length net.now.inputs) (H.standing session.old) (H.standing session.new) rows.new) }
-    ensures caused { IfErr result (IsCaused (H.refused session.new)) }
+    ensures back { ComesBack H.has H.refused host.now session.new result }
 {
     for signal in 0..net.inputs().len() {
         make_input(host, session, net, last, rows, signal as u32)?;
@@ -66,9 +60,7 @@ fn let_go_read<H: Host>(
     reader: usize,
     signal: u32,
 )
-    requires own { H.has host.now session.old }
-    requires plan { IsPlan net.now last.now }
-    requires built { IsBuilt net.now last.now (reader + 1) (H.standing session.old) rows.old }
+    requires has { HasBuilt H.has H.standing host.now session.old net.now last.now (reader + 1) rows.old }
     requires within { signal < signal_count net.now }
     ensures own { H.has host.now session.new }
     ensures built { BuildsTo net.now last.now (reader + 1) (H.standing session.old) (H.standing session.new) rows.new }
@@ -92,9 +84,7 @@ fn let_go_all_read<H: Host>(
     reader: usize,
     ins: &[u32],
 )
-    requires own { H.has host.now session.old }
-    requires plan { IsPlan net.now last.now }
-    requires built { IsBuilt net.now last.now (reader + 1) (H.standing session.old) rows.old }
+    requires has { HasBuilt H.has H.standing host.now session.old net.now last.now (reader + 1) rows.old }
     requires within { All (λ signal. signal < signal_count net.now) ins.now }
     ensures own { H.has host.now session.new }
     ensures built { BuildsTo net.now last.now (reader + 1) (H.standing session.old) (H.standing session.new) rows.new }
@@ -113,14 +103,11 @@ fn make_gate<H: Host>(
     rows: &mut [Option<Name>],
     signal: usize,
 ) -> Result<(), HostRefusal<H::Full>>
-    requires own { H.has host.now session.old }
-    requires plan { IsPlan net.now last.now }
-    requires built { IsBuilt net.now last.now signal (H.standing session.old) rows.old }
+    requires has { HasBuilt H.has H.standing host.now session.old net.now last.now signal rows.old }
     requires gate { length net.now.inputs ≤ signal }
     requires within { signal < signal_count net.now }
-    ensures own { H.has host.now session.new }
     ensures built { IfOk result (λ _. BuildsTo net.now last.now (signal + 1) (H.standing session.old) (H.standing session.new) rows.new) }
-    ensures caused { IfErr result (IsCaused (H.refused session.new)) }
+    ensures back { ComesBack H.has H.refused host.now session.new result }
 {
     if last[signal] == 0 {
         return Ok(());
@@ -141,15 +128,12 @@ fn make_up_to<H: Host>(
     first: usize,
     signal: u32,
 ) -> Result<usize, HostRefusal<H::Full>>
-    requires own { H.has host.now session.old }
-    requires plan { IsPlan net.now last.now }
-    requires built { IsBuilt net.now last.now first (H.standing session.old) rows.old }
+    requires has { HasBuilt H.has H.standing host.now session.old net.now last.now first rows.old }
     requires gate { length net.now.inputs ≤ first }
     requires within { signal < signal_count net.now }
-    ensures own { H.has host.now session.new }
     ensures built { IfOk result (λ next. BuildsTo net.now last.now next (H.standing session.old) (H.standing session.new) rows.new) }
     ensures behind { IfOk result (λ next. (signal < next) × (first ≤ next)) }
-    ensures caused { IfErr result (IsCaused (H.refused session.new)) }
+    ensures back { ComesBack H.has H.refused host.now session.new result }
 {
     let mut next = first;
     while next <= signal as usize {
@@ -168,15 +152,12 @@ pub fn make_outputs<H: Host>(
     rows: &mut [Option<Name>],
     own: &[u32],
 ) -> Result<usize, HostRefusal<H::Full>>
-    requires own { H.has host.now session.old }
-    requires plan { IsPlan net.now last.now }
-    requires built { IsBuilt net.now last.now (length net.now.inputs) (H.standing session.old) rows.old }
+    requires has { HasBuilt H.has H.standing host.now session.old net.now last.now (length net.now.inputs) rows.old }
     requires within { All (λ signal. signal < signal_count net.now) own.now }
     requires few { length own.now < 2 ^ 32 }
-    ensures own { H.has host.now session.new }
     ensures built { IfOk result (λ next. BuildsTo net.now last.now next (H.standing session.old) (H.standing session.new) rows.new) }
     ensures behind { IfOk result (λ next. All (λ signal. signal < next) own.now) }
-    ensures caused { IfErr result (IsCaused (H.refused session.new)) }
+    ensures back { ComesBack H.has H.refused host.now session.new result }
 {
     let mut next = net.inputs().len();
     for number in 0..own.len() {

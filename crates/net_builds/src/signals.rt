@@ -1,10 +1,10 @@
 //! The functions of a network's outputs.
 
-ghost use Rattle.std.specs.Prelude.{◌≡◌, length, map, replicate, IfErr, IfOk, None};
+ghost use Rattle.std.specs.Prelude.{◌≡◌, length, map, replicate, IfOk, None};
 ghost use Rattle.blif_net.specs.Bounds.{IsBounded, signal_count};
 ghost use Rattle.net_builds.specs.Building.{IsBegun};
+ghost use Rattle.net_builds.specs.Asked.{ComesBack, MayBuild};
 ghost use Rattle.net_builds.specs.Signals.{BuildsOutputs};
-ghost use Rattle.net_builds.specs.Standings.{IsCaused};
 ghost use Rattle.net_builds.specs.Uses.{AreLastUses};
 
 use crate::host::{Host, HostRefusal};
@@ -79,17 +79,13 @@ fn build_all<H: Host>(
     rows: &mut [Option<Name>],
     names: &mut [Name],
 ) -> Result<(), HostRefusal<H::Full>>
-    requires own { H.has host.now session.old }
-    requires bounded { IsBounded net.now }
-    requires vars { (H.standing session.old).vars ≡ length net.now.inputs }
-    requires none { (H.standing session.old).rows ≡ 0 }
+    requires may { MayBuild H.has H.standing host.now session.old net.now }
     requires signals { own.now ≡ map (λ output. output.signal) net.now.outputs }
     requires last { AreLastUses net.now own.now last.now }
     requires rows { rows.old ≡ replicate (signal_count net.now) None }
     requires names { length names.old ≡ length net.now.outputs }
-    ensures own { H.has host.now session.new }
     ensures built { IfOk result (λ _. BuildsOutputs net.now (H.standing session.old) (H.standing session.new) names.new) }
-    ensures caused { IfErr result (IsCaused (H.refused session.new)) }
+    ensures back { ComesBack H.has H.refused host.now session.new result }
 {
     make_inputs(host, session, net, last, rows)?;
     make_outputs(host, session, net, last, rows, own)?;
@@ -105,13 +101,9 @@ pub fn build_outputs<H: Host>(
     session: &mut H::Session,
     net: &Net,
 ) -> Result<Vec<Name>, HostRefusal<H::Full>>
-    requires own { H.has host.now session.old }
-    requires bounded { IsBounded net.now }
-    requires vars { (H.standing session.old).vars ≡ length net.now.inputs }
-    requires none { (H.standing session.old).rows ≡ 0 }
-    ensures own { H.has host.now session.new }
+    requires may { MayBuild H.has H.standing host.now session.old net.now }
     ensures built { IfOk result (λ names. BuildsOutputs net.now (H.standing session.old) (H.standing session.new) names.items) }
-    ensures caused { IfErr result (IsCaused (H.refused session.new)) }
+    ensures back { ComesBack H.has H.refused host.now session.new result }
 {
     let Ledger {
         own,

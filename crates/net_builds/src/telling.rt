@@ -1,11 +1,12 @@
 //! What is told of the functions of a network's outputs.
 
-ghost use Rattle.std.specs.Prelude.{◌≡◌, Bool, Some, length, map, slice_get, All, IfErr, IfOk, OnOk};
+ghost use Rattle.std.specs.Prelude.{◌≡◌, Bool, Some, length, map, slice_get, IfOk, OnOk};
 ghost use Rattle.function_laws.specs.Values.{assignment_of, differs};
 ghost use Rattle.net_builds.specs.Builds.{Reports, SumsUp};
+ghost use Rattle.net_builds.specs.Asked.{ComesBack, MayEvaluate, MayReport};
 ghost use Rattle.net_builds.specs.Handings.{IsTold};
-ghost use Rattle.net_builds.specs.Standings.{Asks, HasRoom, IsCaused, IsLive};
-ghost use Rattle.net_builds.specs.Tellings.{AreClassed, evaluation_in, value_in, values_in};
+ghost use Rattle.net_builds.specs.Standings.{Asks, HasRoom, IsLive};
+ghost use Rattle.net_builds.specs.Tellings.{evaluation_in, value_in, values_in};
 
 use crate::host::{Host, HostRefusal};
 use blif_net::Net;
@@ -48,10 +49,7 @@ fn values<H: Host>(
     classes: &[Class],
     bits: &[bool],
 ) -> Result<List<bool>, Memory>
-    requires own { H.has host.now session.old }
-    requires room { HasRoom (H.standing session.old) }
-    requires held { All (IsLive (H.standing session.old)) names.now }
-    requires classed { AreClassed (H.standing session.old) names.now classes.now }
+    requires may { MayEvaluate H.has H.standing host.now session.old names.now classes.now }
     requires long { length bits.now ≡ (H.standing session.old).vars }
     ensures own { H.has host.now session.new }
     ensures asks { OnOk result (Asks (H.standing session.old) (H.standing session.new)) }
@@ -75,10 +73,7 @@ fn evaluate<H: Host>(
     inputs: usize,
     pattern: &[bool],
 ) -> Result<Evaluation, Memory>
-    requires own { H.has host.now session.old }
-    requires room { HasRoom (H.standing session.old) }
-    requires held { All (IsLive (H.standing session.old)) names.now }
-    requires classed { AreClassed (H.standing session.old) names.now classes.now }
+    requires may { MayEvaluate H.has H.standing host.now session.old names.now classes.now }
     requires vars { (H.standing session.old).vars ≡ inputs }
     ensures own { H.has host.now session.new }
     ensures asks { OnOk result (Asks (H.standing session.old) (H.standing session.new)) }
@@ -100,10 +95,7 @@ fn evaluations<H: Host>(
     inputs: usize,
     patterns: &[List<bool>],
 ) -> Result<Vec<Evaluation>, Memory>
-    requires own { H.has host.now session.old }
-    requires room { HasRoom (H.standing session.old) }
-    requires held { All (IsLive (H.standing session.old)) names.now }
-    requires classed { AreClassed (H.standing session.old) names.now classes.now }
+    requires may { MayEvaluate H.has H.standing host.now session.old names.now classes.now }
     requires vars { (H.standing session.old).vars ≡ inputs }
     ensures own { H.has host.now session.new }
     ensures asks { OnOk result (Asks (H.standing session.old) (H.standing session.new)) }
@@ -134,14 +126,9 @@ pub fn tell_report<H: Host>(
     names: &[Name],
     patterns: &[List<bool>],
 ) -> Result<Vec<u8>, HostRefusal<H::Full>>
-    requires own { H.has host.now session.old }
-    requires room { HasRoom (H.standing session.old) }
-    requires vars { (H.standing session.old).vars ≡ length net.now.inputs }
-    requires held { All (IsLive (H.standing session.old)) names.now }
-    requires many { length names.now ≡ length net.now.outputs }
-    ensures own { H.has host.now session.new }
+    requires may { MayReport H.has H.standing host.now session.old net.now names.now }
     ensures told { IfOk result (λ text. IsTold (Reports net.now patterns.now) (H.standing session.old) (H.standing session.new) names.now text.items) }
-    ensures caused { IfErr result (IsCaused (H.refused session.new)) }
+    ensures back { ComesBack H.has H.refused host.now session.new result }
 {
     let listing = host.list(session, names)?;
     let classes = classes_of(alloc, &listing)?;
@@ -161,14 +148,9 @@ pub fn tell_summary<H: Host>(
     net: &Net,
     names: &[Name],
 ) -> Result<Vec<u8>, HostRefusal<H::Full>>
-    requires own { H.has host.now session.old }
-    requires room { HasRoom (H.standing session.old) }
-    requires vars { (H.standing session.old).vars ≡ length net.now.inputs }
-    requires held { All (IsLive (H.standing session.old)) names.now }
-    requires many { length names.now ≡ length net.now.outputs }
-    ensures own { H.has host.now session.new }
+    requires may { MayReport H.has H.standing host.now session.old net.now names.now }
     ensures told { IfOk result (λ text. IsTold (SumsUp net.now) (H.standing session.old) (H.standing session.new) names.now text.items) }
-    ensures caused { IfErr result (IsCaused (H.refused session.new)) }
+    ensures back { ComesBack H.has H.refused host.now session.new result }
 {
     let listing = host.list(session, names)?;
     let classes = classes_of(alloc, &listing)?;

@@ -6,26 +6,22 @@ use Rattle.net_builds.specs.Standings.{IsLive}
 use Rattle.net_builds.proofs.Built.{as_many_fetched, builds_told, fetched_held, fetched_vars, room_to_tell}
 use Rattle.net_builds.proofs.building.build_summary.Goals as goal
 
-pub tell_summary-requires-clause-room : goal.tell_summary-requires-clause-room
-tell_summary-requires-clause-room g c =
-    room_to_tell c.args.net.now (g.H.Host.standing c.args.session.now) (g.H.Host.standing c.hand_outputs.new.session) c.in_ok-names.names.items c.requires.bounded
-    c.in_ok-names.ensures.handed
-
-pub tell_summary-requires-clause-vars : goal.tell_summary-requires-clause-vars
-tell_summary-requires-clause-vars g c =
-    fetched_vars c.args.net.now (g.H.Host.standing c.args.session.now) (g.H.Host.standing c.hand_outputs.new.session) c.in_ok-names.names.items c.in_ok-names.ensures.handed
-    ∙ c.requires.vars
-
-pub tell_summary-requires-clause-held : goal.tell_summary-requires-clause-held
-tell_summary-requires-clause-held g c =
+pub tell_summary-requires : goal.tell_summary-requires
+tell_summary-requires g c =
+    let net = c.args.net.now in
+    let old = g.H.Host.standing c.args.session.now in
     let mid = g.H.Host.standing c.hand_outputs.new.session in
-    subst (All (IsLive mid)) (sym c.deref.ensures.value)
-    (fetched_held c.args.net.now (g.H.Host.standing c.args.session.now) mid c.in_ok-names.names.items c.in_ok-names.ensures.handed)
-
-pub tell_summary-requires-clause-many : goal.tell_summary-requires-clause-many
-tell_summary-requires-clause-many g c =
-    ap length c.deref.ensures.value
-    ∙ as_many_fetched c.args.net.now (g.H.Host.standing c.args.session.now) (g.H.Host.standing c.hand_outputs.new.session) c.in_ok-names.names.items c.in_ok-names.ensures.handed
+    let names = c.in_ok-names.names.items in
+    let handed = c.in_ok-names.ensures.handed in
+    record {
+      may = record {
+        own = c.in_ok-names.ensures.back.own;
+        room = room_to_tell net old mid names c.requires.bounded handed;
+        vars = fetched_vars net old mid names handed ∙ c.requires.vars;
+        held = subst (All (IsLive mid)) (sym c.deref.ensures.value) (fetched_held net old mid names handed);
+        many = ap length c.deref.ensures.value ∙ as_many_fetched net old mid names handed;
+      };
+    }
 
 pub returns-clause-built : goal.returns-clause-built
 returns-clause-built g c =

@@ -5,11 +5,14 @@ use Rattle.net_builds.specs.Standings.{IsLive}
 use Rattle.net_builds.proofs.Built.{all_held, room_to_hand}
 use Rattle.net_builds.proofs.building.hand_outputs.Goals as goal
 
-pub hand_over-requires-clause-room : goal.hand_over-requires-clause-room
-hand_over-requires-clause-room g c =
+pub hand_over-requires-clause-may : goal.hand_over-requires-clause-may
+hand_over-requires-clause-may g c =
     let mid = g.H.Host.standing c.build_outputs.new.session in
-    subst (λ (names : List Name). mid.rows + length names ≤ MOST_ROWS) (sym c.deref.ensures.value)
-    (room_to_hand c.args.net.now (g.H.Host.standing c.args.session.now) mid c.in_ok-names.names.items c.requires.bounded c.in_ok-names.ensures.built)
+    record {
+      own = c.in_ok-names.ensures.back.own;
+      room = subst (λ (names : List Name). mid.rows + length names ≤ MOST_ROWS) (sym c.deref.ensures.value)
+          (room_to_hand c.args.net.now (g.H.Host.standing c.args.session.now) mid c.in_ok-names.names.items c.requires.may.bounded c.in_ok-names.ensures.built);
+    }
 
 pub hand_over-requires-clause-held : goal.hand_over-requires-clause-held
 hand_over-requires-clause-held g c =

@@ -16,7 +16,7 @@ complement-requires-clause-room g c =
     let made = cover_sum _ _ c.args.rows.now c.in_ok-sum.sum c.args.gate.now c.as_slice.result.now c.as_slice-2.result.now c.as_slice.ensures c.as_slice-2.ensures c.in_ok-sum.ensures.made in
     let some = some_values (g.H.Host.standing c.args.session.now) c.args.rows.now c.args.gate.now.ins c.requires.rows in
     let one = made some.0 some.1 in
-    omega (arith, c.requires.room, one.rows)
+    omega (arith, c.requires.may.room, one.rows)
 
 pub complement-requires-clause-held : goal.complement-requires-clause-held
 complement-requires-clause-held g c =
@@ -30,7 +30,7 @@ let_go-requires-clause-room g c =
     let some = some_values (g.H.Host.standing c.args.session.now) c.args.rows.now c.args.gate.now.ins c.requires.rows in
     let one = made some.0 some.1 in
     let two = c.in_ok-name.ensures.made (match_any some.0 c.args.gate.now.ins c.args.gate.now.rows) one.holds in
-    omega (arith, c.requires.room, one.rows, two.rows)
+    omega (arith, c.requires.may.room, one.rows, two.rows)
 
 pub let_go-requires-clause-held : goal.let_go-requires-clause-held
 let_go-requires-clause-held g c =

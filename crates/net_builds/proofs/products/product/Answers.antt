@@ -22,14 +22,11 @@ row_of-row-requires g c =
     let has = c.requires.rows (c.loop-at.at - 1) 0 (omega (arith, c.loop-at.invariant.read, c.loop-at-test.true)) in
     record { row = (has.0, has.1) }
 
-pub with_literal-requires-clause-own : goal.with_literal-requires-clause-own
-with_literal-requires-clause-own g c = c.loop-at.invariant.own
-
-pub with_literal-requires-clause-room : goal.with_literal-requires-clause-room
-with_literal-requires-clause-room g c =
+pub with_literal-requires-clause-may : goal.with_literal-requires-clause-may
+with_literal-requires-clause-may g c =
     let some = some_values (g.H.Host.standing c.args.session.now) c.args.rows.now c.args.ins.now c.requires.rows in
     let made = c.loop-at.invariant.up some.0 some.1 in
-    omega (arith, c.requires.room, made.rows)
+    record { own = c.loop-at.invariant.own; room = omega (arith, c.requires.may.room, made.rows) }
 
 pub with_literal-requires-clause-row : goal.with_literal-requires-clause-row
 with_literal-requires-clause-row g c =
@@ -50,15 +47,12 @@ loop-at-preserved g c =
     record {
       asked = omega (arith, c.loop-at.invariant.asked);
       read = omega (arith, c.loop-at.invariant.read);
-      own = c.in_ok-product-2.ensures.own;
+      own = c.in_ok-product-2.ensures.back.own;
       up = λ values have.
           product_step _ _ _ c.args.rows.now c.args.ins.now c.args.literals.now values c.loop-at.at before c.loop-at.product c.in_ok-product-2.product c.row_of-row.result c.literal_at-literal.result
           (omega (arith, c.loop-at-test.true)) c.literal_at-literal.ensures (omega (arith, c.loop-at.invariant.read, c.loop-at-test.true)) c.row_of-row.ensures
           c.in_ok-product-2.ensures.made have (c.loop-at.invariant.up values have);
     }
-
-pub returns-clause-own : goal.returns-clause-own
-returns-clause-own g c = c.loop-at.invariant.own
 
 pub returns-clause-made : goal.returns-clause-made
 returns-clause-made g c = λ values have.

@@ -7,14 +7,11 @@ use Rattle.net_builds.proofs.ProductLemmas.{sum_step}
 use Rattle.net_builds.proofs.RowLemmas.{rows_later, some_values}
 use Rattle.net_builds.proofs.products.sum.Goals as goal
 
-pub with_product-requires-clause-own : goal.with_product-requires-clause-own
-with_product-requires-clause-own g c = c.loop-cube.invariant.own
-
-pub with_product-requires-clause-room : goal.with_product-requires-clause-room
-with_product-requires-clause-room g c =
+pub with_product-requires-clause-may : goal.with_product-requires-clause-may
+with_product-requires-clause-may g c =
     let some = some_values (g.H.Host.standing c.args.session.now) c.args.rows.now c.args.ins.now c.requires.rows in
     let made = c.loop-cube.invariant.up some.0 some.1 in
-    omega (arith, c.requires.room, made.rows)
+    record { own = c.loop-cube.invariant.own; room = omega (arith, c.requires.may.room, made.rows) }
 
 pub with_product-requires-clause-rows : goal.with_product-requires-clause-rows
 with_product-requires-clause-rows g c =
@@ -30,14 +27,11 @@ pub loop-cube-preserved : goal.loop-cube-preserved
 loop-cube-preserved g c =
     let i = c.loop-cube.cube-index in
     record {
-      own = c.in_ok-sum-2.ensures.own;
+      own = c.in_ok-sum-2.ensures.back.own;
       up = λ values have.
           sum_step _ _ _ c.args.rows.now c.args.ins.now c.args.cubes.now values i c.loop-cube.sum c.in_ok-sum-2.sum c.cube-item.result
           c.loop-cube-test.true (sym c.cube-item.is) c.in_ok-sum-2.ensures.made have (c.loop-cube.invariant.up values have);
     }
-
-pub returns-clause-own : goal.returns-clause-own
-returns-clause-own g c = c.loop-cube.invariant.own
 
 pub returns-clause-made : goal.returns-clause-made
 returns-clause-made g c = λ values have.

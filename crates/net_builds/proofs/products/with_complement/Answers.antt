@@ -9,7 +9,7 @@ let_go-requires-clause-room g c =
     let p = c.requires.product.0 in
     let one = c.in_ok-factor.ensures.made f c.requires.row.1 in
     let two = c.in_ok-name.ensures.made (negation f) p one.holds (kept_holds _ _ _ _ _ p one c.requires.product.1) in
-    omega (arith, c.requires.room, one.rows, two.rows)
+    omega (arith, c.requires.may.room, one.rows, two.rows)
 
 pub let_go-requires-clause-held : goal.let_go-requires-clause-held
 let_go-requires-clause-held g c =

@@ -7,7 +7,7 @@ use Rattle.net_builds.proofs.products.with_literal.Goals as goal
 pub let_go-requires-clause-room : goal.let_go-requires-clause-room
 let_go-requires-clause-room g c =
     let made = c.in_ok-name.ensures.made c.requires.row.0 c.requires.product.0 c.requires.row.1 c.requires.product.1 in
-    omega (arith, c.requires.room, made.rows)
+    omega (arith, c.requires.may.room, made.rows)
 
 pub let_go-requires-clause-held : goal.let_go-requires-clause-held
 let_go-requires-clause-held g c =

@@ -11,7 +11,7 @@ pub disjunction-requires-clause-room : goal.disjunction-requires-clause-room
 disjunction-requires-clause-room g c =
     let some = some_values (g.H.Host.standing c.args.session.now) c.args.rows.now c.args.ins.now c.requires.rows in
     let one = c.in_ok-product.ensures.made some.0 some.1 in
-    omega (arith, c.requires.room, one.rows)
+    omega (arith, c.requires.may.room, one.rows)
 
 pub disjunction-requires-clause-first : goal.disjunction-requires-clause-first
 disjunction-requires-clause-first g c =
@@ -32,7 +32,7 @@ let_go-requires-clause-room g c =
     let p = match_at some.0 c.args.ins.now c.as_slice.result.now in
     let one = c.in_ok-product.ensures.made some.0 some.1 in
     let two = c.in_ok-name.ensures.made f p (kept_holds _ _ c.in_ok-product.product c.args.sum p f one c.requires.sum.1) one.holds in
-    omega (arith, c.requires.room, one.rows, two.rows)
+    omega (arith, c.requires.may.room, one.rows, two.rows)
 
 pub let_go-requires-clause-held : goal.let_go-requires-clause-held
 let_go-requires-clause-held g c =
@@ -51,7 +51,7 @@ let_go-requires-2-clause-room g c =
     let one = c.in_ok-product.ensures.made some.0 some.1 in
     let two = c.in_ok-name.ensures.made f p (kept_holds _ _ c.in_ok-product.product c.args.sum p f one c.requires.sum.1) one.holds in
     let over = makes_over _ _ _ _ c.in_ok-product.product c.in_ok-name.name p (disjunction f p) one two c.let_go.ensures.gone in
-    omega (arith, c.requires.room, over.rows)
+    omega (arith, c.requires.may.room, over.rows)
 
 pub let_go-requires-2-clause-held : goal.let_go-requires-2-clause-held
 let_go-requires-2-clause-held g c =

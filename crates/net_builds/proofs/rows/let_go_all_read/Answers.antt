@@ -4,8 +4,8 @@ use Rattle.net_builds.proofs.rows.let_go_all_read.Goals as goal
 
 pub loop-signal-init : goal.loop-signal-init
 loop-signal-init g c = record {
-  own = c.requires.own;
-  built = builds_none c.args.net.now c.args.last.now (c.args.reader + 1) (g.H.Host.standing c.args.session.now) c.args.rows.now c.requires.built;
+  own = c.requires.has.own;
+  built = builds_none c.args.net.now c.args.last.now (c.args.reader + 1) (g.H.Host.standing c.args.session.now) c.args.rows.now c.requires.has.built;
 }
 
 pub loop-signal-preserved : goal.loop-signal-preserved

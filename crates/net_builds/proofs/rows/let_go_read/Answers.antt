@@ -6,9 +6,9 @@ use Rattle.net_builds.proofs.rows.let_go_read.Goals as goal
 
 pub let_go-requires-clause-held : goal.let_go-requires-clause-held
 let_go-requires-clause-held g c =
-    holds_held (g.H.Host.standing c.args.session.now) c.in-Some.name (signal_value c.args.net.now c.args.signal) (c.requires.built.held c.args.signal c.in-Some.name c.in-Some.is)
+    holds_held (g.H.Host.standing c.args.session.now) c.in-Some.name (signal_value c.args.net.now c.args.signal) (c.requires.has.built.held c.args.signal c.in-Some.name c.in-Some.is)
 
 pub returns-in-Some-clause-built : goal.returns-in-Some-clause-built
 returns-in-Some-clause-built g c =
     built_gone c.args.net.now c.args.last.now (c.args.reader + 1) c.args.signal (g.H.Host.standing c.args.session.now) (g.H.Host.standing c.let_go.new.session) c.args.rows.now c.in-Some.name
-    c.requires.within (omega (arith, c.if-last-place.true)) c.in-Some.is c.requires.built c.let_go.ensures.gone
+    c.requires.within (omega (arith, c.if-last-place.true)) c.in-Some.is c.requires.has.built c.let_go.ensures.gone

@@ -29,8 +29,8 @@ pub cover-requires-clause-rows : goal.cover-requires-clause-rows
 cover-requires-clause-rows g c =
     let here = (goal.at.cover-requires-clause-rows g c).After-index-gates-signal in
     let net = c.args.net.now in
-    gate_rows net c.args.last.now c.requires.plan c.args.signal (c.args.signal - length net.inputs) c.index-gates-signal.result (gate_at g here) (place g here)
-    (g.H.Host.standing c.args.session.now) c.args.rows.now c.if-last-signal-eq0.false c.requires.built
+    gate_rows net c.args.last.now c.requires.has.plan c.args.signal (c.args.signal - length net.inputs) c.index-gates-signal.result (gate_at g here) (place g here)
+    (g.H.Host.standing c.args.session.now) c.args.rows.now c.if-last-signal-eq0.false c.requires.has.built
 
 -- the gate's row was made
 made : (g : given.Over) (c : After-as_slice g) → slice_get c.args.net.now.gates (c.args.signal - length c.args.net.now.inputs) ≡ Some c.index-gates-signal.result
@@ -45,19 +45,25 @@ made g c at =
     let rows = c.args.rows.now in
     let place : signal ≡ length net.inputs + i = omega (arith, c.requires.gate) in
     let values : HaveValues old rows (signal_value net) gate.ins =
-    gate_values net last c.requires.plan signal i gate at place old rows c.if-last-signal-eq0.false c.requires.built in
+    gate_values net last c.requires.has.plan signal i gate at place old rows c.if-last-signal-eq0.false c.requires.has.built in
     built_made net last signal old (g.H.Host.standing c.cover.new.session) rows c.in_ok-cover.field-0 (λ k. cover_value gate (λ input. signal_value net input k)) c.requires.within
-    (gate_value net last c.requires.plan signal i gate at place) c.requires.built (c.in_ok-cover.ensures.made (signal_value net) values)
+    (gate_value net last c.requires.has.plan signal i gate at place) c.requires.has.built (c.in_ok-cover.ensures.made (signal_value net) values)
 
-pub let_go_all_read-requires-clause-built : goal.let_go_all_read-requires-clause-built
-let_go_all_read-requires-clause-built g c = (made g (goal.at.let_go_all_read-requires-clause-built g c).After-as_slice (gate_at g (goal.at.let_go_all_read-requires-clause-built g c).After-index-gates-signal)).built
+pub let_go_all_read-requires-clause-has : goal.let_go_all_read-requires-clause-has
+let_go_all_read-requires-clause-has g c =
+    let here = goal.at.let_go_all_read-requires-clause-has g c in
+    record {
+      own = c.in_ok-cover.ensures.back.own;
+      plan = c.requires.has.plan;
+      built = (made g here.After-as_slice (gate_at g here.After-index-gates-signal)).built;
+    }
 
 pub let_go_all_read-requires-clause-within : goal.let_go_all_read-requires-clause-within
 let_go_all_read-requires-clause-within g c =
     let here = (goal.at.let_go_all_read-requires-clause-within g c).After-index-gates-signal in
     let net = c.args.net.now in
     subst (λ (ins : List ℕ). All (λ input. input < signal_count net) ins) (sym c.as_slice.ensures)
-    (reads_signals net c.args.last.now c.requires.plan c.args.signal (c.args.signal - length net.inputs) c.index-gates-signal.result (gate_at g here) (place g here))
+    (reads_signals net c.args.last.now c.requires.has.plan c.args.signal (c.args.signal - length net.inputs) c.index-gates-signal.result (gate_at g here) (place g here))
 
 pub returns-clause-built : goal.returns-clause-built
 returns-clause-built g c =

@@ -14,7 +14,7 @@ behind_more own number next later within more here behind i d less = dite (ℕ_d
 
 pub loop-number-preserved : goal.loop-number-preserved
 loop-number-preserved g c = record {
-  own = c.make_up_to.ensures.own;
+  own = c.make_up_to.ensures.back.own;
   built = builds_more c.args.net.now c.args.last.now c.loop-number.next c.in_ok-next.next (g.H.Host.standing c.args.session.now) (g.H.Host.standing c.loop-number.session)
       (g.H.Host.standing c.make_up_to.new.session) c.loop-number.rows c.make_up_to.new.rows c.loop-number.invariant.built c.in_ok-next.ensures.built;
   later = omega (arith, c.loop-number.invariant.later, c.in_ok-next.ensures.behind.1);

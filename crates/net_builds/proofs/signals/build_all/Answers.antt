@@ -10,17 +10,24 @@ use Rattle.net_builds.proofs.OutputNames.{all_hold, built_begun, own_rows, own_s
 use Rattle.net_builds.proofs.StandingLemmas.{gains_then}
 use Rattle.net_builds.proofs.signals.build_all.Goals as goal
 
-pub make_inputs-requires-clause-built : goal.make_inputs-requires-clause-built
-make_inputs-requires-clause-built g c =
-    built_begun c.args.net.now c.args.last.now (g.H.Host.standing c.args.session.now) c.args.rows.now c.requires.rows c.requires.vars c.requires.none
+pub make_inputs-requires : goal.make_inputs-requires
+make_inputs-requires g c =
+    let may = c.requires.may in
+    record {
+      has = record {
+        own = may.own;
+        plan = record { bounded = may.bounded; long = c.requires.last.long; reads = c.requires.last.reads };
+        built = built_begun c.args.net.now c.args.last.now (g.H.Host.standing c.args.session.now) c.args.rows.now c.requires.rows may.vars may.none;
+      };
+    }
 
 pub make_outputs-requires-clause-within : goal.make_outputs-requires-clause-within
-make_outputs-requires-clause-within g c = own_signals c.args.net.now c.args.own.now c.requires.bounded c.requires.signals
+make_outputs-requires-clause-within g c = own_signals c.args.net.now c.args.own.now c.requires.may.bounded c.requires.signals
 
 pub note_names-requires-clause-rows : goal.note_names-requires-clause-rows
 note_names-requires-clause-rows g c k d less =
     ap is_some (own_rows c.args.net.now c.args.own.now c.args.last.now c.in_ok-make_outputs.field-0 (g.H.Host.standing c.make_outputs.new.session) c.make_outputs.new.rows c.requires.last
-    c.requires.bounded c.in_ok-make_outputs.ensures.built.built c.in_ok-make_outputs.ensures.behind k d less).1
+    c.requires.may.bounded c.in_ok-make_outputs.ensures.built.built c.in_ok-make_outputs.ensures.behind k d less).1
 
 pub returns-clause-built : goal.returns-clause-built
 returns-clause-built g c =

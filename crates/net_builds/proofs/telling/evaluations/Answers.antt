@@ -6,17 +6,18 @@ use Rattle.net_builds.proofs.Classed.{classed_asked}
 use Rattle.net_builds.proofs.Told.{asks_on, evaluations_more, held_asked}
 use Rattle.net_builds.proofs.telling.evaluations.Goals as goal
 
-pub evaluate-requires-clause-held : goal.evaluate-requires-clause-held
-evaluate-requires-clause-held g c =
+pub evaluate-requires-clause-may : goal.evaluate-requires-clause-may
+evaluate-requires-clause-may g c =
     let old = g.H.Host.standing c.args.session.now in
     let now = g.H.Host.standing c.loop-pattern.session in
-    All-weaker (IsLive old) (IsLive now) (held_asked old now c.loop-pattern.invariant.asks) c.args.names.now c.requires.held
-
-pub evaluate-requires-clause-classed : goal.evaluate-requires-clause-classed
-evaluate-requires-clause-classed g c =
-    let old = g.H.Host.standing c.args.session.now in
-    let now = g.H.Host.standing c.loop-pattern.session in
-    classed_asked old now c.loop-pattern.invariant.asks c.args.names.now c.args.classes.now c.requires.classed
+    let may = c.requires.may in
+    let asks = c.loop-pattern.invariant.asks in
+    record {
+      own = c.loop-pattern.invariant.own;
+      room = omega (arith, may.room, asks.rows);
+      held = All-weaker (IsLive old) (IsLive now) (held_asked old now asks) c.args.names.now may.held;
+      classed = classed_asked old now asks c.args.names.now c.args.classes.now may.classed;
+    }
 
 pub loop-pattern-preserved : goal.loop-pattern-preserved
 loop-pattern-preserved g c =

@@ -5,21 +5,23 @@ use Rattle.net_reports.specs.declared.patterns.Evaluation.{Evaluation}
 use Rattle.net_builds.specs.Builds.{Reports}
 use Rattle.net_builds.specs.Standings.{IsLive}
 use Rattle.net_builds.proofs.Classed.{classed_listed}
-use Rattle.net_builds.proofs.Told.{held_listed, is_told, many_classes, reported}
+use Rattle.net_builds.proofs.Told.{held_listed, is_told, many_classes, reported, room_listed}
 use Rattle.net_builds.proofs.telling.tell_report.Goals as goal
 
-pub evaluations-requires-clause-held : goal.evaluations-requires-clause-held
-evaluations-requires-clause-held g c =
+pub evaluations-requires-clause-may : goal.evaluations-requires-clause-may
+evaluations-requires-clause-may g c =
     let old = g.H.Host.standing c.args.session.now in
     let mid = g.H.Host.standing c.list.new.session in
-    All-weaker (IsLive old) (IsLive mid) (held_listed old mid c.args.names.now c.in_ok-listing.listing c.in_ok-listing.ensures.lists) c.args.names.now c.requires.held
-
-pub evaluations-requires-clause-classed : goal.evaluations-requires-clause-classed
-evaluations-requires-clause-classed g c =
+    let may = c.requires.may in
     let lists = c.in_ok-listing.ensures.lists in
     let listing = c.in_ok-listing.listing in
-    classed_listed (g.H.Host.standing c.args.session.now) (g.H.Host.standing c.list.new.session) c.args.names.now listing c.in_ok-classes.classes.items c.deref.result.now lists
-    (c.in_ok-classes.ensures.by_function listing.order lists.functions lists.is_listing) c.deref.ensures.value
+    record {
+      own = c.in_ok-listing.ensures.own;
+      room = room_listed old mid c.args.names.now listing lists may.room;
+      held = All-weaker (IsLive old) (IsLive mid) (held_listed old mid c.args.names.now listing lists) c.args.names.now may.held;
+      classed = classed_listed old mid c.args.names.now listing c.in_ok-classes.classes.items c.deref.result.now lists
+          (c.in_ok-classes.ensures.by_function listing.order lists.functions lists.is_listing) c.deref.ensures.value;
+    }
 
 pub report-requires : goal.report-requires
 report-requires g c =
@@ -29,7 +31,7 @@ report-requires g c =
     let classes : List Class = c.in_ok-classes.classes.items in
     many_classes seen classes (g.H.Host.standing c.args.session.now) (g.H.Host.standing c.list.new.session) c.args.names.now listing lists c.deref-2.ensures.value
     (c.in_ok-classes.ensures.by_function listing.order lists.functions lists.is_listing)
-    ∙ c.requires.many
+    ∙ c.requires.may.many
 
 pub returns-clause-told : goal.returns-clause-told
 returns-clause-told g c =
@@ -47,7 +49,7 @@ returns-clause-told g c =
     let order : List ℕ = c.as_slice-order.result.now in
     let text : List ℕ = c.in_ok-text.text.items in
     is_told (Reports net patterns) old mid new names listing text lists c.in_ok-evaluations.ensures.asks
-    (reported net patterns old mid names listing lists classes c.node_count-nodes.result text c.requires.vars
+    (reported net patterns old mid names listing lists classes c.node_count-nodes.result text c.requires.may.vars
     (c.in_ok-classes.ensures.by_function listing.order lists.functions lists.is_listing)
     (c.node_count-nodes.ensures (record { variables = listing.order; elements = [] }) lists.functions lists.is_listing) seen all order c.deref-2.ensures.value
     (c.deref-3.ensures.value ∙ c.in_ok-evaluations.ensures.evaluations) c.as_slice-order.ensures c.in_ok-text.ensures.text)

@@ -16,6 +16,6 @@ returns-clause-told g c =
     let seen : List Class = c.deref.result.now in
     let text : List ℕ = c.in_ok-text.text.items in
     is_told (SumsUp net) old mid mid names listing text lists (asks_none mid)
-    (summed_up net old mid names listing lists classes c.node_count.result text c.requires.vars
+    (summed_up net old mid names listing lists classes c.node_count.result text c.requires.may.vars
     (c.in_ok-classes.ensures.by_function listing.order lists.functions lists.is_listing)
     (c.node_count.ensures (record { variables = listing.order; elements = [] }) lists.functions lists.is_listing) seen c.deref.ensures.value c.in_ok-text.ensures.text)

@@ -14,7 +14,7 @@ class_value-value-requires-clause-held g c =
     let name = c.in-Some.name.now in
     let turn = zip_turn c.args.names.now c.args.classes.now c.loop-name.yielded c.into_iter-name-iterator.result c.loop-name.name-iterator c.next.new.self c.next.result (search rules) (search rules)
     c.loop-name.yielded_by (c.in-Some.name, c.in-Some.class) c.in-Some.is (search rules) in
-    held_asked old now c.loop-name.invariant.asks name (subst (IsLive old) (sym (turn.2 name)) (c.requires.held (length c.loop-name.yielded) name turn.0))
+    held_asked old now c.loop-name.invariant.asks name (subst (IsLive old) (sym (turn.2 name)) (c.requires.may.held (length c.loop-name.yielded) name turn.0))
 
 pub class_value-value-requires-clause-turned : goal.class_value-value-requires-clause-turned
 class_value-value-requires-clause-turned g c =
@@ -23,7 +23,7 @@ class_value-value-requires-clause-turned g c =
     let turn = zip_turn c.args.names.now c.args.classes.now c.loop-name.yielded c.into_iter-name-iterator.result c.loop-name.name-iterator c.next.new.self c.next.result (search rules) (search rules)
     c.loop-name.yielded_by (c.in-Some.name, c.in-Some.class) c.in-Some.is (search rules) in
     next_turned old now c.loop-name.invariant.asks c.args.names.now c.args.classes.now (length c.loop-name.yielded) (assignment_of c.args.bits.now) c.in-Some.name.now
-    c.in-Some.class.now c.loop-name.values turn.0 turn.1 turn.2 turn.3 c.loop-name.invariant.values c.requires.classed (bits_below old c.args.bits.now c.requires.long)
+    c.in-Some.class.now c.loop-name.values turn.0 turn.1 turn.2 turn.3 c.loop-name.invariant.values c.requires.may.classed (bits_below old c.args.bits.now c.requires.long)
     c.as_slice.result.now c.as_slice.ensures
 
 pub loop-name-preserved : goal.loop-name-preserved
@@ -50,4 +50,4 @@ returns-clause-values g c =
     let classes = c.args.classes.now in
     let end = zip_end names classes c.loop-name.yielded c.into_iter-name-iterator.result c.loop-name.name-iterator c.next.new.self c.next.result (search rules) (search rules)
     c.loop-name.yielded_by c.in-None.is (search rules) in
-    all_valued old names classes c.requires.classed (length c.loop-name.yielded) (assignment_of c.args.bits.now) end c.loop-name.values c.loop-name.invariant.values
+    all_valued old names classes c.requires.may.classed (length c.loop-name.yielded) (assignment_of c.args.bits.now) end c.loop-name.values c.loop-name.invariant.values
