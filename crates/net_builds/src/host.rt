@@ -56,11 +56,12 @@ pub struct Placed<T> {
 /// A manager of functions. Its sessions hold functions under names, and each call of a session is an entry of the history. A
 /// session that has made all the calls that it may make waits for ever in place of a further one.
 pub trait Host {
-    ghost use Rattle.std.specs.Prelude.{◌≡◌, ◌<◌, ℕ, Bool, List, Some, IfErr, IfOk, All, length};
+    ghost use Rattle.std.specs.Prelude.{◌≡◌, ◌<◌, ℕ, Bool, List, Some, IfOk, All, length};
     ghost use Rattle.function_laws.specs.declared.history.Function.TheVariants.{Bdd};
     ghost use Rattle.function_laws.specs.Lists.{truth};
     ghost use Rattle.function_laws.specs.Values.{assignment_of, conjunction, constant, disjunction, negation, projection};
-    ghost use Rattle.net_builds.specs.Standings.{Asks, Fetches, HasRoom, Holds, IsCaused, IsHeld, IsLive, LetsGo, Lists, Makes, Posts, Standing};
+    ghost use Rattle.net_builds.specs.Asked.{ComesBack, MayMakeRows};
+    ghost use Rattle.net_builds.specs.Standings.{Asks, Fetches, Holds, IsHeld, IsLive, LetsGo, Lists, Makes, Posts, Standing};
 
     /// Whose calls they are.
     type Session;
@@ -86,11 +87,9 @@ pub trait Host {
         session: &mut Self::Session,
         value: bool,
     ) -> Result<Name, HostRefusal<Self::Full>>
-        requires own { has self.now session.old }
-        requires room { HasRoom (standing session.old) }
-        ensures own { has self.now session.new }
+        requires may { MayMakeRows has standing self.now session.old 1 }
         ensures made { IfOk result (λ name. Makes (standing session.old) (standing session.new) name (constant value)) }
-        ensures caused { IfErr result (IsCaused (refused session.new)) };
+        ensures back { ComesBack has refused self.now session.new result };
 
     /// The projection of a variable, under a new name.
     fn projection(
@@ -98,12 +97,10 @@ pub trait Host {
         session: &mut Self::Session,
         variable: u32,
     ) -> Result<Name, HostRefusal<Self::Full>>
-        requires own { has self.now session.old }
-        requires room { HasRoom (standing session.old) }
+        requires may { MayMakeRows has standing self.now session.old 1 }
         requires variable { variable < (standing session.old).vars }
-        ensures own { has self.now session.new }
         ensures made { IfOk result (λ name. Makes (standing session.old) (standing session.new) name (projection variable)) }
-        ensures caused { IfErr result (IsCaused (refused session.new)) };
+        ensures back { ComesBack has refused self.now session.new result };
 
     /// The complement of a function, under a new name.
     fn complement(
@@ -111,12 +108,10 @@ pub trait Host {
         session: &mut Self::Session,
         f: Name,
     ) -> Result<Name, HostRefusal<Self::Full>>
-        requires own { has self.now session.old }
-        requires room { HasRoom (standing session.old) }
+        requires may { MayMakeRows has standing self.now session.old 1 }
         requires held { IsHeld (standing session.old) f }
-        ensures own { has self.now session.new }
         ensures made { IfOk result (λ name. (a : ℕ → Bool) → Holds (standing session.old) f a → Makes (standing session.old) (standing session.new) name (negation a)) }
-        ensures caused { IfErr result (IsCaused (refused session.new)) };
+        ensures back { ComesBack has refused self.now session.new result };
 
     /// The conjunction of two functions, under a new name.
     fn conjunction(
@@ -125,13 +120,11 @@ pub trait Host {
         f: Name,
         g: Name,
     ) -> Result<Name, HostRefusal<Self::Full>>
-        requires own { has self.now session.old }
-        requires room { HasRoom (standing session.old) }
+        requires may { MayMakeRows has standing self.now session.old 1 }
         requires first { IsHeld (standing session.old) f }
         requires second { IsHeld (standing session.old) g }
-        ensures own { has self.now session.new }
         ensures made { IfOk result (λ name. (a b : ℕ → Bool) → Holds (standing session.old) f a → Holds (standing session.old) g b → Makes (standing session.old) (standing session.new) name (conjunction a b)) }
-        ensures caused { IfErr result (IsCaused (refused session.new)) };
+        ensures back { ComesBack has refused self.now session.new result };
 
     /// The disjunction of two functions, under a new name.
     fn disjunction(
@@ -140,26 +133,22 @@ pub trait Host {
         f: Name,
         g: Name,
     ) -> Result<Name, HostRefusal<Self::Full>>
-        requires own { has self.now session.old }
-        requires room { HasRoom (standing session.old) }
+        requires may { MayMakeRows has standing self.now session.old 1 }
         requires first { IsHeld (standing session.old) f }
         requires second { IsHeld (standing session.old) g }
-        ensures own { has self.now session.new }
         ensures made { IfOk result (λ name. (a b : ℕ → Bool) → Holds (standing session.old) f a → Holds (standing session.old) g b → Makes (standing session.old) (standing session.new) name (disjunction a b)) }
-        ensures caused { IfErr result (IsCaused (refused session.new)) };
+        ensures back { ComesBack has refused self.now session.new result };
 
     /// Lets a name go.
     fn let_go(&self, session: &mut Self::Session, f: Name)
-        requires own { has self.now session.old }
-        requires room { HasRoom (standing session.old) }
+        requires may { MayMakeRows has standing self.now session.old 1 }
         requires held { IsHeld (standing session.old) f }
         ensures own { has self.now session.new }
         ensures gone { LetsGo (standing session.old) (standing session.new) f };
 
     /// The value of a function, where bit i is the value of variable i.
     fn value(&self, session: &mut Self::Session, f: Name, bits: &[bool]) -> bool
-        requires own { has self.now session.old }
-        requires room { HasRoom (standing session.old) }
+        requires may { MayMakeRows has standing self.now session.old 1 }
         requires held { IsLive (standing session.old) f }
         requires long { length bits.now ≡ (standing session.old).vars }
         ensures own { has self.now session.new }
@@ -168,8 +157,7 @@ pub trait Host {
 
     /// Puts a function into the first cell of the board, in place of what was there.
     fn post(&self, session: &mut Self::Session, f: Name) -> Placed<()>
-        requires own { has self.now session.old }
-        requires room { HasRoom (standing session.old) }
+        requires may { MayMakeRows has standing self.now session.old 1 }
         requires held { IsLive (standing session.old) f }
         ensures own { has self.now session.new }
         ensures posts { Posts (standing session.old) (standing session.new) f result.place };
@@ -180,18 +168,15 @@ pub trait Host {
         session: &mut Self::Session,
         other: Name,
     ) -> Result<Placed<Fetched>, HostRefusal<Self::Full>>
-        requires own { has self.now session.old }
-        requires room { HasRoom (standing session.old) }
+        requires may { MayMakeRows has standing self.now session.old 1 }
         requires held { IsLive (standing session.old) other }
-        ensures own { has self.now session.new }
         ensures fetches { IfOk result (λ placed. Fetches (standing session.old) (standing session.new) other placed.value.name placed.value.posted placed.place) }
-        ensures caused { IfErr result (IsCaused (refused session.new)) };
+        ensures back { ComesBack has refused self.now session.new result };
 
     /// The listing of some functions, under the order of the variables that the entries below some place leave. It is no call
     /// of the history.
     fn list(&self, session: &mut Self::Session, names: &[Name]) -> Result<Listing, Memory>
-        requires own { has self.now session.old }
-        requires room { HasRoom (standing session.old) }
+        requires may { MayMakeRows has standing self.now session.old 1 }
         requires held { All (IsLive (standing session.old)) names.now }
         ensures own { has self.now session.new }
         ensures lists { IfOk result (λ listing. Lists (standing session.old) (standing session.new) names.now listing) };

@@ -11,12 +11,12 @@ returns-then-gate-clause-made g c = λ values have.
     let made = cover_sum _ _ c.args.rows.now c.in_ok-sum.sum c.args.gate.now c.as_slice.result.now c.as_slice-2.result.now c.as_slice.ensures c.as_slice-2.ensures c.in_ok-sum.ensures.made in
     cover_on _ _ c.in_ok-sum.sum c.args.gate.now values c.if-gate.true (made values have)
 
-pub complement-requires-clause-room : goal.complement-requires-clause-room
-complement-requires-clause-room g c =
+pub complement-requires-clause-may : goal.complement-requires-clause-may
+complement-requires-clause-may g c =
     let made = cover_sum _ _ c.args.rows.now c.in_ok-sum.sum c.args.gate.now c.as_slice.result.now c.as_slice-2.result.now c.as_slice.ensures c.as_slice-2.ensures c.in_ok-sum.ensures.made in
     let some = some_values (g.H.Host.standing c.args.session.now) c.args.rows.now c.args.gate.now.ins c.requires.rows in
     let one = made some.0 some.1 in
-    omega (arith, c.requires.may.room, one.rows)
+    record { own = c.in_ok-sum.ensures.back.own; room = omega (arith, c.requires.may.room, one.rows) }
 
 pub complement-requires-clause-held : goal.complement-requires-clause-held
 complement-requires-clause-held g c =
@@ -24,13 +24,13 @@ complement-requires-clause-held g c =
     let some = some_values (g.H.Host.standing c.args.session.now) c.args.rows.now c.args.gate.now.ins c.requires.rows in
     (match_any some.0 c.args.gate.now.ins c.args.gate.now.rows, (made some.0 some.1).holds)
 
-pub let_go-requires-clause-room : goal.let_go-requires-clause-room
-let_go-requires-clause-room g c =
+pub let_go-requires-clause-may : goal.let_go-requires-clause-may
+let_go-requires-clause-may g c =
     let made = cover_sum _ _ c.args.rows.now c.in_ok-sum.sum c.args.gate.now c.as_slice.result.now c.as_slice-2.result.now c.as_slice.ensures c.as_slice-2.ensures c.in_ok-sum.ensures.made in
     let some = some_values (g.H.Host.standing c.args.session.now) c.args.rows.now c.args.gate.now.ins c.requires.rows in
     let one = made some.0 some.1 in
     let two = c.in_ok-name.ensures.made (match_any some.0 c.args.gate.now.ins c.args.gate.now.rows) one.holds in
-    omega (arith, c.requires.may.room, one.rows, two.rows)
+    record { own = c.in_ok-name.ensures.back.own; room = omega (arith, c.requires.may.room, one.rows, two.rows) }
 
 pub let_go-requires-clause-held : goal.let_go-requires-clause-held
 let_go-requires-clause-held g c =

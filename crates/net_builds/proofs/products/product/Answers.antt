@@ -11,7 +11,7 @@ pub loop-at-init : goal.loop-at-init
 loop-at-init g c = record {
   asked = omega (arith, c.min-at.ensures);
   read = omega (arith, c.min-at.ensures);
-  own = c.in_ok-product.ensures.own;
+  own = c.in_ok-product.ensures.back.own;
   up = λ values have.
       makes_same _ _ c.in_ok-product.product (constant true) (match_at values (drop c.min-at.result c.args.ins.now) (drop c.min-at.result c.args.literals.now)) c.in_ok-product.ensures.made
       (λ k. sym (matches_end (λ s. values s k) c.min-at.result c.args.literals.now c.args.ins.now (λ a b. omega (arith, a, b, c.min-at.ensures))));

@@ -4,10 +4,10 @@ use Rattle.net_builds.proofs.StandingLemmas.{kept_holds}
 use Rattle.net_builds.proofs.ReplaceLemmas.{makes_in_place}
 use Rattle.net_builds.proofs.products.with_literal.Goals as goal
 
-pub let_go-requires-clause-room : goal.let_go-requires-clause-room
-let_go-requires-clause-room g c =
+pub let_go-requires-clause-may : goal.let_go-requires-clause-may
+let_go-requires-clause-may g c =
     let made = c.in_ok-name.ensures.made c.requires.row.0 c.requires.product.0 c.requires.row.1 c.requires.product.1 in
-    omega (arith, c.requires.may.room, made.rows)
+    record { own = c.in_ok-name.ensures.back.own; room = omega (arith, c.requires.may.room, made.rows) }
 
 pub let_go-requires-clause-held : goal.let_go-requires-clause-held
 let_go-requires-clause-held g c =

@@ -7,11 +7,11 @@ use Rattle.net_builds.proofs.RowLemmas.{some_values}
 use Rattle.net_builds.proofs.StandingLemmas.{kept_holds, makes_over}
 use Rattle.net_builds.proofs.products.with_product.Goals as goal
 
-pub disjunction-requires-clause-room : goal.disjunction-requires-clause-room
-disjunction-requires-clause-room g c =
+pub disjunction-requires-clause-may : goal.disjunction-requires-clause-may
+disjunction-requires-clause-may g c =
     let some = some_values (g.H.Host.standing c.args.session.now) c.args.rows.now c.args.ins.now c.requires.rows in
     let one = c.in_ok-product.ensures.made some.0 some.1 in
-    omega (arith, c.requires.may.room, one.rows)
+    record { own = c.in_ok-product.ensures.back.own; room = omega (arith, c.requires.may.room, one.rows) }
 
 pub disjunction-requires-clause-first : goal.disjunction-requires-clause-first
 disjunction-requires-clause-first g c =
@@ -25,14 +25,14 @@ disjunction-requires-clause-second g c =
     let some = some_values (g.H.Host.standing c.args.session.now) c.args.rows.now c.args.ins.now c.requires.rows in
     (match_at some.0 c.args.ins.now c.as_slice.result.now, (c.in_ok-product.ensures.made some.0 some.1).holds)
 
-pub let_go-requires-clause-room : goal.let_go-requires-clause-room
-let_go-requires-clause-room g c =
+pub let_go-requires-clause-may : goal.let_go-requires-clause-may
+let_go-requires-clause-may g c =
     let some = some_values (g.H.Host.standing c.args.session.now) c.args.rows.now c.args.ins.now c.requires.rows in
     let f = c.requires.sum.0 in
     let p = match_at some.0 c.args.ins.now c.as_slice.result.now in
     let one = c.in_ok-product.ensures.made some.0 some.1 in
     let two = c.in_ok-name.ensures.made f p (kept_holds _ _ c.in_ok-product.product c.args.sum p f one c.requires.sum.1) one.holds in
-    omega (arith, c.requires.may.room, one.rows, two.rows)
+    record { own = c.in_ok-name.ensures.back.own; room = omega (arith, c.requires.may.room, one.rows, two.rows) }
 
 pub let_go-requires-clause-held : goal.let_go-requires-clause-held
 let_go-requires-clause-held g c =
@@ -43,15 +43,15 @@ let_go-requires-clause-held g c =
     let two = c.in_ok-name.ensures.made f p (kept_holds _ _ c.in_ok-product.product c.args.sum p f one c.requires.sum.1) one.holds in
     (p, kept_holds _ _ c.in_ok-name.name c.in_ok-product.product (disjunction f p) p two one.holds)
 
-pub let_go-requires-2-clause-room : goal.let_go-requires-2-clause-room
-let_go-requires-2-clause-room g c =
+pub let_go-requires-2-clause-may : goal.let_go-requires-2-clause-may
+let_go-requires-2-clause-may g c =
     let some = some_values (g.H.Host.standing c.args.session.now) c.args.rows.now c.args.ins.now c.requires.rows in
     let f = c.requires.sum.0 in
     let p = match_at some.0 c.args.ins.now c.as_slice.result.now in
     let one = c.in_ok-product.ensures.made some.0 some.1 in
     let two = c.in_ok-name.ensures.made f p (kept_holds _ _ c.in_ok-product.product c.args.sum p f one c.requires.sum.1) one.holds in
     let over = makes_over _ _ _ _ c.in_ok-product.product c.in_ok-name.name p (disjunction f p) one two c.let_go.ensures.gone in
-    omega (arith, c.requires.may.room, over.rows)
+    record { own = c.let_go.ensures.own; room = omega (arith, c.requires.may.room, over.rows) }
 
 pub let_go-requires-2-clause-held : goal.let_go-requires-2-clause-held
 let_go-requires-2-clause-held g c =

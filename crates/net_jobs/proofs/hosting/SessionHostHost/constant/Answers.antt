@@ -1,4 +1,4 @@
-use Rattle.std.proofs.Common.{refl, ◌∙◌}
+use Rattle.std.proofs.Common.{arith, refl, ◌∙◌}
 use Rattle.function_laws.specs.declared.history.Call.TheVariants as calls
 use Rattle.function_laws.specs.declared.making.Making.TheVariants as makings
 use Rattle.function_laws.specs.declared.making.BddMaking.TheVariants as bdds
@@ -7,16 +7,10 @@ use Rattle.net_jobs.proofs.HostLaws.{denied, has_room, made, named_caused, named
 use Rattle.net_jobs.proofs.hosting.SessionHostHost.constant.Goals as goal
 
 pub one-requires : goal.one-requires
-one-requires g c = record { own = c.requires.own; room = has_room c.args.session.now c.requires.room c.ready.ensures; can = tt }
+one-requires g c = record { own = c.requires.may.own; room = has_room c.args.session.now (omega (arith, c.requires.may.room)) c.ready.ensures; can = tt }
 
 pub zero-requires : goal.zero-requires
-zero-requires g c = record { own = c.requires.own; room = has_room c.args.session.now c.requires.room c.ready.ensures; can = tt }
-
-pub returns-then-value-clause-own : goal.returns-then-value-clause-own
-returns-then-value-clause-own g c =
-    let old = c.args.session.now in
-    let new = c.one.new.self in
-    named_own old new (calls.Makes (makings.Bdd bdds.One)) c.one.result (denied old new (calls.Makes (makings.Bdd bdds.One)) c.one.result c.one.ensures.told) ∙ c.requires.own
+zero-requires g c = record { own = c.requires.may.own; room = has_room c.args.session.now (omega (arith, c.requires.may.room)) c.ready.ensures; can = tt }
 
 pub returns-then-value-clause-made : goal.returns-then-value-clause-made
 returns-then-value-clause-made g c =
@@ -25,17 +19,14 @@ returns-then-value-clause-made g c =
     named_ok old new (calls.Makes (makings.Bdd bdds.One)) c.one.result (denied old new (calls.Makes (makings.Bdd bdds.One)) c.one.result c.one.ensures.told) c.named.result c.named.ensures _
     (λ name place called. made old new (calls.Makes (makings.Bdd bdds.One)) name place called refl (λ cell. refl) (constantly c.args.value) (outcome-one old called.board c.args.value c.if-value.true))
 
-pub returns-then-value-clause-caused : goal.returns-then-value-clause-caused
-returns-then-value-clause-caused g c =
+pub returns-then-value-clause-back : goal.returns-then-value-clause-back
+returns-then-value-clause-back g c =
     let old = c.args.session.now in
     let new = c.one.new.self in
-    named_caused old new (calls.Makes (makings.Bdd bdds.One)) c.one.result (denied old new (calls.Makes (makings.Bdd bdds.One)) c.one.result c.one.ensures.told) c.named.result c.named.ensures (λ limit in_use need tells. tells.0)
-
-pub returns-else-value-clause-own : goal.returns-else-value-clause-own
-returns-else-value-clause-own g c =
-    let old = c.args.session.now in
-    let new = c.zero.new.self in
-    named_own old new (calls.Makes (makings.Bdd bdds.Zero)) c.zero.result (denied old new (calls.Makes (makings.Bdd bdds.Zero)) c.zero.result c.zero.ensures.told) ∙ c.requires.own
+    record {
+      own = named_own old new (calls.Makes (makings.Bdd bdds.One)) c.one.result (denied old new (calls.Makes (makings.Bdd bdds.One)) c.one.result c.one.ensures.told) ∙ c.requires.may.own;
+      caused = named_caused old new (calls.Makes (makings.Bdd bdds.One)) c.one.result (denied old new (calls.Makes (makings.Bdd bdds.One)) c.one.result c.one.ensures.told) c.named.result c.named.ensures (λ limit in_use need tells. tells.0);
+    }
 
 pub returns-else-value-clause-made : goal.returns-else-value-clause-made
 returns-else-value-clause-made g c =
@@ -44,8 +35,11 @@ returns-else-value-clause-made g c =
     named_ok old new (calls.Makes (makings.Bdd bdds.Zero)) c.zero.result (denied old new (calls.Makes (makings.Bdd bdds.Zero)) c.zero.result c.zero.ensures.told) c.named-else-value.result c.named-else-value.ensures _
     (λ name place called. made old new (calls.Makes (makings.Bdd bdds.Zero)) name place called refl (λ cell. refl) (constantly c.args.value) (outcome-zero old called.board c.args.value c.if-value.false))
 
-pub returns-else-value-clause-caused : goal.returns-else-value-clause-caused
-returns-else-value-clause-caused g c =
+pub returns-else-value-clause-back : goal.returns-else-value-clause-back
+returns-else-value-clause-back g c =
     let old = c.args.session.now in
     let new = c.zero.new.self in
-    named_caused old new (calls.Makes (makings.Bdd bdds.Zero)) c.zero.result (denied old new (calls.Makes (makings.Bdd bdds.Zero)) c.zero.result c.zero.ensures.told) c.named-else-value.result c.named-else-value.ensures (λ limit in_use need tells. tells.0)
+    record {
+      own = named_own old new (calls.Makes (makings.Bdd bdds.Zero)) c.zero.result (denied old new (calls.Makes (makings.Bdd bdds.Zero)) c.zero.result c.zero.ensures.told) ∙ c.requires.may.own;
+      caused = named_caused old new (calls.Makes (makings.Bdd bdds.Zero)) c.zero.result (denied old new (calls.Makes (makings.Bdd bdds.Zero)) c.zero.result c.zero.ensures.told) c.named-else-value.result c.named-else-value.ensures (λ limit in_use need tells. tells.0);
+    }

@@ -1,4 +1,4 @@
-use Rattle.std.proofs.Common.{refl, ◌∙◌}
+use Rattle.std.proofs.Common.{arith, refl, ◌∙◌}
 use Rattle.function_laws.specs.declared.history.Call.TheVariants as calls
 use Rattle.function_laws.specs.declared.making.Making.TheVariants as makings
 use Rattle.function_laws.specs.declared.making.BddMaking.TheVariants as bdds
@@ -7,14 +7,7 @@ use Rattle.net_jobs.proofs.HostLaws.{denied, has_room, made, named_caused, named
 use Rattle.net_jobs.proofs.hosting.SessionHostHost.projection.Goals as goal
 
 pub var-requires : goal.var-requires
-var-requires g c = record { own = c.requires.own; room = has_room c.args.session.now c.requires.room c.ready.ensures; can = (c.requires.variable, tt) }
-
-pub returns-clause-own : goal.returns-clause-own
-returns-clause-own g c =
-    let old = c.args.session.now in
-    let new = c.var.new.self in
-    let call = calls.Makes (makings.Bdd (bdds.Var c.args.variable)) in
-    named_own old new call c.var.result (denied old new call c.var.result c.var.ensures.told) ∙ c.requires.own
+var-requires g c = record { own = c.requires.may.own; room = has_room c.args.session.now (omega (arith, c.requires.may.room)) c.ready.ensures; can = (c.requires.variable, tt) }
 
 pub returns-clause-made : goal.returns-clause-made
 returns-clause-made g c =
@@ -24,9 +17,12 @@ returns-clause-made g c =
     named_ok old new call c.var.result (denied old new call c.var.result c.var.ensures.told) c.named.result c.named.ensures _
     (λ name place called. made old new call name place called refl (λ cell. refl) (projection c.args.variable) (outcome-projection old called.board c.args.variable c.requires.variable))
 
-pub returns-clause-caused : goal.returns-clause-caused
-returns-clause-caused g c =
+pub returns-clause-back : goal.returns-clause-back
+returns-clause-back g c =
     let old = c.args.session.now in
     let new = c.var.new.self in
     let call = calls.Makes (makings.Bdd (bdds.Var c.args.variable)) in
-    named_caused old new call c.var.result (denied old new call c.var.result c.var.ensures.told) c.named.result c.named.ensures (λ limit in_use need tells. tells.0)
+    record {
+      own = named_own old new call c.var.result (denied old new call c.var.result c.var.ensures.told) ∙ c.requires.may.own;
+      caused = named_caused old new call c.var.result (denied old new call c.var.result c.var.ensures.told) c.named.result c.named.ensures (λ limit in_use need tells. tells.0);
+    }
