@@ -1,0 +1,4 @@
+pub mod Once
+pub mod Joined
+pub mod ByNames
+pub mod Clashing
