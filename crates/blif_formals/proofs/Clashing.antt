@@ -27,11 +27,11 @@ later_max a b = by_test (nat_lt a b) refl
 
 -- the lower one of two, where either may lack
 
-abbrev least_of : Option ℕ → Option ℕ → Option ℕ
+abbrev pub least_of : Option ℕ → Option ℕ → Option ℕ
 least_of None b = b
 least_of (Some a) b = Some (lesser a b)
 
-turned : (a b : Option ℕ) → least_of a b ≡ least_of b a
+pub turned : (a b : Option ℕ) → least_of a b ≡ least_of b a
 turned None None = refl
 turned None (Some b) = refl
 turned (Some a) None = refl
@@ -49,7 +49,7 @@ crossed a b c d =
     ∙ ap (least_of a) (sym (grouped b c d) ∙ ap (λ o. least_of o d) (turned b c) ∙ grouped c b d)
     ∙ sym (grouped a c (least_of b d))
 
-least_both : (xs ys : List ℕ) → least (xs ++ ys) ≡ least_of (least xs) (least ys)
+pub least_both : (xs ys : List ℕ) → least (xs ++ ys) ≡ least_of (least xs) (least ys)
 least_both [] ys = refl
 least_both (x ∷ xs) ys = ap (λ o. Some (lesser x o)) (least_both xs ys) ∙ sym (grouped (Some x) (least xs) (least ys))
 

@@ -2,3 +2,4 @@ pub mod Once
 pub mod Joined
 pub mod ByNames
 pub mod Clashing
+pub mod ReachedLines

@@ -1,3 +1,4 @@
 pub mod Joining
 pub mod ByNames
 pub mod Clashes
+pub mod Reached

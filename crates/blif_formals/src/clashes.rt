@@ -14,7 +14,7 @@ pub struct Definition {
 }
 
 /// The lower one of a line and another, if there is another.
-fn lesser(line: u64, other: Option<u64>) -> u64
+pub fn lesser(line: u64, other: Option<u64>) -> u64
     ensures { result ≡ lesser line other }
 {
     match other {

@@ -54,7 +54,7 @@ module _ (models : List Model) (among : ℕ → Bool) (holds : List (List ℕ)) 
           absurd (false≢true (sym f ∙ ap (λ (x : Model). other.line == x.line) same ∙ own other.line))
       by_cases false e true f = absurd (false≢true (sym e ∙ ap (λ k. k == n) (apart m n one other i k at there (sym (same_number other.line one.line f))) ∙ own n))
 
-  agrees : (levels m n : ℕ) (one other : Model) → among m ≡ true → among n ≡ true → slice_get models m ≡ Some one → slice_get models n ≡ Some other → (is_model other one || list_any (is_model other) (reached models levels one.items)) ≡ is_reached holds levels m n
+  pub agrees : (levels m n : ℕ) (one other : Model) → among m ≡ true → among n ≡ true → slice_get models m ≡ Some one → slice_get models n ≡ Some other → (is_model other one || list_any (is_model other) (reached models levels one.items)) ≡ is_reached holds levels m n
   unfolding is_reached reached
   agrees zero m n one other i k at there = or_none (is_model other one) ∙ same_model m n one other i k at there
   agrees (suc levels) m n one other i k at there =

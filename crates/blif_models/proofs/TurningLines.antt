@@ -30,7 +30,7 @@ use Rattle.blif_models.proofs.NumberedGraphs.{numbered_are_graphs}
 
 -- the least of some numbers
 
-least_in : (xs : List ℕ) (n : ℕ) → least xs ≡ Some n → is_in xs n ≡ true
+pub least_in : (xs : List ℕ) (n : ℕ) → least xs ≡ Some n → is_in xs n ≡ true
 least_in [] n e = cc
 least_in (x ∷ xs) n e = by_rest (least xs) refl e (λ b f. least_in xs b f)
   where
@@ -57,7 +57,7 @@ lesser_other x b = by_test (nat_lt b x) refl
     by_test true f = omega arith
     by_test false f = let le : x ≤ b = grind (arith, nat_tests) in le
 
-least_low : (xs : List ℕ) (k : ℕ) → is_in xs k ≡ true → (n : ℕ) × (least xs ≡ Some n) × (n ≤ k)
+pub least_low : (xs : List ℕ) (k : ℕ) → is_in xs k ≡ true → (n : ℕ) × (least xs ≡ Some n) × (n ≤ k)
 least_low [] k e = absurd (false≢true e)
 least_low (x ∷ xs) k e = (
   lesser x (least xs),
@@ -157,10 +157,10 @@ module _ (p : Holding → Bool) where
 -- models that are reached have numbers
 
 module _ (models : List Model) (among : ℕ → Bool) (holds : List (List ℕ)) (graph : IsGraph models among holds) (apart : AreApart models among) where
-  abbrev HasNumber : Model → Type 0
+  abbrev pub HasNumber : Model → Type 0
   HasNumber x = (m : ℕ) × (among m ≡ true) × (slice_get models m ≡ Some x)
 
-  abbrev HaveNumbers : List Model → Type 0
+  abbrev pub HaveNumbers : List Model → Type 0
   HaveNumbers [] = Unit {0}
   HaveNumbers (x ∷ xs) = HasNumber x × HaveNumbers xs
 
@@ -186,7 +186,7 @@ module _ (models : List Model) (among : ℕ → Bool) (holds : List (List ℕ)) 
   flat_flat inside found [] = refl
   flat_flat inside found (one ∷ ones) = ap (λ (ms : List Model). flat_map inside (found one) ++ ms) (flat_flat inside found ones) ∙ sym (flat_both inside (found one) (flat_map found ones))
 
-  reached_number : (levels m : ℕ) (one : Model) → among m ≡ true → slice_get models m ≡ Some one → HaveNumbers (reached models levels one.items)
+  pub reached_number : (levels m : ℕ) (one : Model) → among m ≡ true → slice_get models m ≡ Some one → HaveNumbers (reached models levels one.items)
   unfolding reached
   reached_number zero m one i at = tt
   reached_number (suc levels) m one i at =
@@ -200,7 +200,7 @@ module _ (models : List Model) (among : ℕ → Bool) (holds : List (List ℕ)) 
   some_in Goal f n (x ∷ ms) h k e =
       ⊎_elim (λ here. k x h.0 here) (λ later. some_in Goal f n ms h.1 k later) (or_cases (is_in (f x) n) (is_in (flat_map f ms) n) (sym (list_any-append (λ y. y == n) (f x) (flat_map f ms)) ∙ e))
 
-  any_in : (f : Model → List ℕ) (n : ℕ) (x : Model) → HasNumber x → (ms : List Model) → HaveNumbers ms → list_any (is_model x) ms ≡ true → is_in (f x) n ≡ true → is_in (flat_map f ms) n ≡ true
+  pub any_in : (f : Model → List ℕ) (n : ℕ) (x : Model) → HasNumber x → (ms : List Model) → HaveNumbers ms → list_any (is_model x) ms ≡ true → is_in (f x) n ≡ true → is_in (flat_map f ms) n ≡ true
   any_in f n x number [] h e g = absurd (false≢true e)
   any_in f n x number (y ∷ ms) h e g =
       list_any-append (λ z. z == n) (f y) (flat_map f ms)
@@ -257,7 +257,7 @@ module _ (models : List Model) (among : ℕ → Bool) (words : List (List Word))
       by_cases true line more = λ j. line j ∷ more j
       by_cases false line more = more
 
-some_model : (models : List Model) (m : ℕ) → m < length models → (x : Model) × (slice_get models m ≡ Some x)
+pub some_model : (models : List Model) (m : ℕ) → m < length models → (x : Model) × (slice_get models m ≡ Some x)
 some_model [] m lt = absurd (omega (arith, lt))
 some_model (x ∷ models) zero lt = (x, refl)
 some_model (x ∷ models) (suc m) lt = some_model models m (omega (arith, lt))
