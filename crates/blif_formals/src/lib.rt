@@ -1,18 +1,25 @@
-//! What instances join to the formal names of their models, by number, and which signals are defined twice.
+//! What may be wrong with several models, by number: names of models, what instances join to formal names, and signals that are
+//! defined twice.
 #![tactic(auto)]
 
 ghost use Rattle.blif_formals.specs.ByNames.{ClashesAgree, FormalsAgree};
 ghost use Rattle.blif_formals.specs.Reached.{ReachedLinesAgree};
+ghost use Rattle.blif_formals.specs.Titles.{TitlesAgree};
+ghost use Rattle.blif_formals.specs.Words.{NumbersStay};
 
 mod clashes;
 mod interface;
 mod joining;
 mod reached;
+mod titles;
+mod words;
 
 pub use clashes::{Definition, clash_line};
 pub use interface::{Interface, Port, interface_of};
 pub use joining::joins_well;
 pub use reached::first_met;
+pub use titles::{Heading, Title, mistitled_line, titles_of};
+pub use words::Words;
 
 /// Whether an instance joins the formal names of its model well is the same by numbers and by names.
 pub fn formals_agree()
@@ -27,4 +34,14 @@ pub fn clashes_agree()
 /// Of what is told at lines of models, the first line in those that a main one reaches is the same by numbers and by names.
 pub fn reached_lines_agree()
     ensures { ReachedLinesAgree }
+{}
+
+/// Words keep their numbers where one more comes, and no word has two.
+pub fn numbers_stay()
+    ensures { NumbersStay }
+{}
+
+/// Which model has a name, and which further models have none of their own, is the same by numbers and by names.
+pub fn titles_agree()
+    ensures { TitlesAgree }
 {}

@@ -25,7 +25,7 @@ mod totals;
 mod tour;
 
 pub use adding::limit_line;
-pub use arranging::{Arrangement, arrange_models, holdings_of};
+pub use arranging::{Arrangement, arrange_models, holdings_of, number_of};
 pub use cycles::{Holding, first_turning};
 pub use expanding::{Outcome, expand};
 pub use graph::{Own, holds_of, own_in};
