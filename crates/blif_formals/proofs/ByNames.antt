@@ -63,7 +63,7 @@ module _ (words : List (List Word)) (m : ℕ) (apart : AreApart words m) where
       by_cases true e false f = absurd (false≢true (sym f ∙ subst (λ x. (n == x) ≡ true) (apart n k a.0 b.0 (a.1 ∙ sym ((bytes_eq-Decides w v).0 e) ∙ sym b.1)) (own n)))
       by_cases false e true f = absurd (false≢true (sym e ∙ (bytes_eq-Decides w v).1 (sym b.1 ∙ ap (own_word words m) (sym (same_number n k f)) ∙ a.1)))
 
-  among : (ns : List ℕ) (names : List Word) → AreNumbersOf words m ns names → (k : ℕ) (w : Word) → IsNumberOf words m k w → is_among names w ≡ is_in ns k
+  pub among : (ns : List ℕ) (names : List Word) → AreNumbersOf words m ns names → (k : ℕ) (w : Word) → IsNumberOf words m k w → is_among names w ≡ is_in ns k
   among [] [] a k w b = refl
   among [] (v ∷ names) a k w b = absurd a
   among (n ∷ ns) [] a k w b = absurd a
@@ -137,7 +137,7 @@ module _ (words : List (List Word)) (m : ℕ) (apart : AreApart words m) where
 
 -- what is an input or an output is a formal name
 
-kept_among : (w : Word) (ins outs : List Word) → is_among ins w ≡ false → is_among (filter (λ name. not (is_among ins name)) outs) w ≡ is_among outs w
+pub kept_among : (w : Word) (ins outs : List Word) → is_among ins w ≡ false → is_among (filter (λ name. not (is_among ins name)) outs) w ≡ is_among outs w
 kept_among w ins [] e = refl
 kept_among w ins (v ∷ outs) e = by_cases (is_among ins v) refl (kept_among w ins outs e)
   where

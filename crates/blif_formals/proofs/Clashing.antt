@@ -3,9 +3,11 @@ use Rattle.std.proofs.Common.{◌≡◌, ℕ, ◌==◌, ◌<◌, ◌≤◌, min,
 use Rattle.std.specs.Option.{option_map}
 use Rattle.std.proofs.lemmas.Bool.Decides.{nat_tests}
 use Rattle.std.proofs.lemmas.Grind.{flat_map-append}
+use Rattle.std.proofs.lemmas.List.{map-append}
+use Rattle.std.proofs.lemmas.List.Elements.{filter-append}
 use Rattle.blif_models.specs.ModelFaults.{least, lesser}
 use Rattle.blif_formals.specs.declared.clashes.Definition.{Definition}
-use Rattle.blif_formals.specs.Clashes.{clash_with, clashes, later}
+use Rattle.blif_formals.specs.Clashes.{clash_with, clashes, later, least_of}
 
 -- the lines of the definitions of a name
 abbrev pub lines_of : ℕ → List Definition → List ℕ
@@ -26,10 +28,6 @@ later_max a b = by_test (nat_lt a b) refl
     by_test false e = let le : b ≤ a = grind (arith, nat_tests) in omega (arith, le)
 
 -- the lower one of two, where either may lack
-
-abbrev pub least_of : Option ℕ → Option ℕ → Option ℕ
-least_of None b = b
-least_of (Some a) b = Some (lesser a b)
 
 pub turned : (a b : Option ℕ) → least_of a b ≡ least_of b a
 turned None None = refl
@@ -52,6 +50,15 @@ crossed a b c d =
 pub least_both : (xs ys : List ℕ) → least (xs ++ ys) ≡ least_of (least xs) (least ys)
 least_both [] ys = refl
 least_both (x ∷ xs) ys = ap (λ o. Some (lesser x o)) (least_both xs ys) ∙ sym (grouped (Some x) (least xs) (least ys))
+
+-- the first line, where one more stands at the end that passes or does not
+pub lines_last : {X : Type 0} (line : X → ℕ) (p : X → Bool) (xs : List X) (x : X) → least (map line (filter p (xs ++ x ∷ []))) ≡ (if p x then Some (lesser (line x) (least (map line (filter p xs)))) else least (map line (filter p xs)))
+lines_last {X} line p xs x =
+    ap (λ (ys : List X). least (map line ys)) (filter-append p xs (x ∷ [])) ∙ ap least (map-append line (filter p xs) (filter p (x ∷ []))) ∙ least_both (map line (filter p xs)) (map line (filter p (x ∷ []))) ∙ by_cases (p x)
+  where
+    by_cases : (t : Bool) → least_of (least (map line (filter p xs))) (least (map line (cond t (x ∷ []) []))) ≡ (if t then Some (lesser (line x) (least (map line (filter p xs)))) else least (map line (filter p xs)))
+    by_cases true = turned (least (map line (filter p xs))) (Some (line x))
+    by_cases false = turned (least (map line (filter p xs))) None
 
 -- one definition more
 
@@ -94,20 +101,4 @@ clash_some ones one first e =
     last_clash ones one ∙ ap (λ o. least_of (least (clashes ones)) (option_map (λ line. later line one.line) o)) e ∙ turned (least (clashes ones)) (Some (later first one.line))
 
 pub lines_more : (n : ℕ) (ones : List Definition) (one : Definition) → least (lines_of n (ones ++ one ∷ [])) ≡ (if one.name == n then Some (lesser one.line (least (lines_of n ones))) else least (lines_of n ones))
-lines_more n [] one = by_cases (one.name == n)
-  where
-    by_cases : (t : Bool) → least (map (λ (k : Definition). k.line) (cond t (one ∷ []) [])) ≡ (if t then Some one.line else None)
-    by_cases true = refl
-    by_cases false = refl
-lines_more n (x ∷ ones) one = by_cases (x.name == n) (one.name == n) (lines_more n ones one)
-  where
-    first_then : (o p : Option ℕ) → p ≡ Some (lesser one.line o) → Some (lesser x.line p) ≡ Some (lesser one.line (Some (lesser x.line o)))
-    first_then o p e = ap (λ q. Some (lesser x.line q)) e ∙ sym (grouped (Some x.line) (Some one.line) o) ∙ ap (λ q. least_of q o) (turned (Some x.line) (Some one.line)) ∙ grouped (Some one.line) (Some x.line) o
-
-    by_cases : (s t : Bool) → least (lines_of n (ones ++ one ∷ [])) ≡ (if t then Some (lesser one.line (least (lines_of n ones))) else least (lines_of n ones))
-        → least (map (λ (k : Definition). k.line) (cond s (x ∷ filter (λ k. k.name == n) (ones ++ one ∷ [])) (filter (λ k. k.name == n) (ones ++ one ∷ []))))
-        ≡ (if t then Some (lesser one.line (least (map (λ (k : Definition). k.line) (cond s (x ∷ filter (λ k. k.name == n) ones) (filter (λ k. k.name == n) ones)))))
-        else least (map (λ (k : Definition). k.line) (cond s (x ∷ filter (λ k. k.name == n) ones) (filter (λ k. k.name == n) ones))))
-    by_cases true true more = first_then (least (lines_of n ones)) (least (lines_of n (ones ++ one ∷ []))) more
-    by_cases true false more = ap (λ o. Some (lesser x.line o)) more
-    by_cases false t more = more
+lines_more n ones one = lines_last (λ one. one.line) (λ one. one.name == n) ones one

@@ -5,3 +5,5 @@ pub mod Clashing
 pub mod ReachedLines
 pub mod WordIndex
 pub mod Titled
+pub mod Defining
+pub mod Calling

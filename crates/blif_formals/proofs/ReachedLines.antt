@@ -18,7 +18,8 @@ use Rattle.blif_models.specs.Models.{Model}
 use Rattle.blif_models.proofs.HoldingThemselves.{agrees}
 use Rattle.blif_models.proofs.TurningLines.{HaveNumbers, any_in, least_in, least_low, reached_number, some_model}
 use Rattle.blif_formals.specs.Reached.{ReachedLinesAgree, line_met, lines_met}
-use Rattle.blif_formals.proofs.Clashing.{least_both, least_of, turned}
+use Rattle.blif_formals.specs.Clashes.{least_of}
+use Rattle.blif_formals.proofs.Clashing.{least_both, turned}
 
 -- one more model
 

@@ -5,19 +5,17 @@ use Rattle.std.specs.List.{list_any}
 use Rattle.std.specs.Str.{bytes_eq}
 use Rattle.std.proofs.lemmas.Bool.{false≢true}
 use Rattle.std.proofs.lemmas.Bool.Decides.{nat_tests}
-use Rattle.std.proofs.lemmas.List.Elements.{filter-append}
-use Rattle.std.proofs.lemmas.List.{get_or-set_other, get_or-set_same, map-append}
+use Rattle.std.proofs.lemmas.List.{get_or-set_other, get_or-set_same}
 use Rattle.std.proofs.lemmas.List.Sums.{length-filter, sum_by-append, sum_by-cons}
 use Rattle.std.proofs.lemmas.Slice.Eq.{bytes_eq-Decides}
 use Rattle.job_words.specs.Text.{Word}
 use Rattle.blif_order.proofs.Walks.{or_none, own, same_number}
 use Rattle.blif_models.specs.Models.{Model, has_name, model_called}
-use Rattle.blif_models.specs.ModelFaults.{is_misnamed, least, lesser}
+use Rattle.blif_models.specs.ModelFaults.{is_misnamed}
 use Rattle.blif_formals.specs.declared.titles.Heading.{Heading}
 use Rattle.blif_formals.specs.declared.titles.Title.{Title}
 use Rattle.blif_formals.specs.Titles.{AreHeadingsOf, IsTitleOf, TitlesAgree, again_in, first_titled, got_model, has_title, is_again, is_mistitled, is_title, mistitled_by, mistitled_lines, noted, title_of}
 use Rattle.blif_formals.specs.Words.{HaveOneNumber}
-use Rattle.blif_formals.proofs.Clashing.{least_both, least_of, turned}
 
 -- one model more
 
@@ -112,19 +110,6 @@ again_told headings n = by_cases (first_titled headings n) (count_first headings
 pub mistitled_told : (headings : List Heading) (titles : List (Option Title)) → ((n : ℕ) → get_or titles n None ≡ title_of headings n) → (title : Option ℕ) → mistitled_by titles title ≡ is_mistitled headings title
 mistitled_told headings titles h None = refl
 mistitled_told headings titles h (Some n) = ap again_in (h n) ∙ again_told headings n
-
--- the first line, where one heading more is misnamed or not
-pub lines_last : (p : Heading → Bool) (headings : List Heading) (one : Heading)
-    → least (map (λ heading. heading.line) (filter p (headings ++ one ∷ []))) ≡ (if p one then Some (lesser one.line (least (map (λ heading. heading.line) (filter p headings)))) else least (map (λ heading. heading.line) (filter p headings)))
-lines_last p headings one =
-    ap (λ (hs : List Heading). least (map (λ (h : Heading). h.line) hs)) (filter-append p headings (one ∷ []))
-    ∙ ap least (map-append (λ (h : Heading). h.line) (filter p headings) (filter p (one ∷ []))) ∙ least_both (map (λ (h : Heading). h.line) (filter p headings)) (map (λ (h : Heading). h.line) (filter p (one ∷ [])))
-    ∙ by_cases (p one)
-  where
-    by_cases : (t : Bool) → least_of (least (map (λ (h : Heading). h.line) (filter p headings))) (least (map (λ (h : Heading). h.line) (cond t (one ∷ []) [])))
-        ≡ (if t then Some (lesser one.line (least (map (λ (h : Heading). h.line) (filter p headings)))) else least (map (λ (h : Heading). h.line) (filter p headings)))
-    by_cases true = turned (least (map (λ (h : Heading). h.line) (filter p headings))) (Some one.line)
-    by_cases false = turned (least (map (λ (h : Heading). h.line) (filter p headings))) None
 
 -- by names
 

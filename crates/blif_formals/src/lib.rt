@@ -3,18 +3,24 @@
 #![tactic(auto)]
 
 ghost use Rattle.blif_formals.specs.ByNames.{ClashesAgree, FormalsAgree};
+ghost use Rattle.blif_formals.specs.Calls.{CallsAgree};
+ghost use Rattle.blif_formals.specs.Definitions.{DefinitionsAgree};
 ghost use Rattle.blif_formals.specs.Reached.{ReachedLinesAgree};
 ghost use Rattle.blif_formals.specs.Titles.{TitlesAgree};
 ghost use Rattle.blif_formals.specs.Words.{NumbersStay};
 
+mod calls;
 mod clashes;
+mod definitions;
 mod interface;
 mod joining;
 mod reached;
 mod titles;
 mod words;
 
+pub use calls::{Call, holds_by, nameless_line};
 pub use clashes::{Definition, clash_line};
+pub use definitions::add_definitions;
 pub use interface::{Interface, Port, interface_of};
 pub use joining::joins_well;
 pub use reached::first_met;
@@ -44,4 +50,14 @@ pub fn numbers_stay()
 /// Which model has a name, and which further models have none of their own, is the same by numbers and by names.
 pub fn titles_agree()
     ensures { TitlesAgree }
+{}
+
+/// What stands in a model defines the same signals by numbers and by names.
+pub fn definitions_agree()
+    ensures { DefinitionsAgree }
+{}
+
+/// What models hold, and the first line by which a model is not named as it should be, are the same by numbers and by names.
+pub fn calls_agree()
+    ensures { CallsAgree }
 {}

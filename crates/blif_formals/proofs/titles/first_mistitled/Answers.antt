@@ -3,7 +3,7 @@ use Rattle.std.proofs.lemmas.List.{take_more}
 use Rattle.blif_models.specs.ModelFaults.{least, lesser}
 use Rattle.blif_formals.specs.declared.titles.Heading.{Heading}
 use Rattle.blif_formals.specs.Titles.{mistitled_by}
-use Rattle.blif_formals.proofs.Titled.{lines_last}
+use Rattle.blif_formals.proofs.Clashing.{lines_last}
 use Rattle.blif_formals.proofs.titles.first_mistitled.Goals as goal
 use Rattle.blif_formals.proofs.titles.first_mistitled.Goals.{then-is_mistitled, else-is_mistitled}
 
@@ -15,7 +15,7 @@ loop-heading-preserved c =
     let p = λ (heading : Heading). mistitled_by c.args.titles.now heading.title in
     let before = least (map (λ heading. heading.line) (filter p (take i headings))) in
     let more : least (map (λ heading. heading.line) (filter p (take (i + 1) headings))) ≡ (if p one then Some (lesser one.line before) else before) =
-    ap (λ xs. least (map (λ heading. heading.line) (filter p xs))) (take_more headings i (record { line = 0; title = None }) c.loop-heading-test.true) ∙ lines_last p (take i headings) one in
+    ap (λ xs. least (map (λ heading. heading.line) (filter p xs))) (take_more headings i (record { line = 0; title = None }) c.loop-heading-test.true) ∙ lines_last (λ heading. heading.line) p (take i headings) one in
     let test = sym c.is_mistitled.ensures in
     elim c.if-is_mistitled.branch [
       | then-is_mistitled w ↦
