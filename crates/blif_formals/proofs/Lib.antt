@@ -7,3 +7,4 @@ pub mod WordIndex
 pub mod Titled
 pub mod Defining
 pub mod Calling
+pub mod Parted

@@ -6,3 +6,4 @@ pub mod Reached
 pub mod Words
 pub mod Titles
 pub mod Calls
+pub mod Parting

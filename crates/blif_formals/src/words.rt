@@ -48,8 +48,8 @@ impl Words {
         self.index.len()
     }
 
-    /// The number of a word.
-    fn find(&self, word: &[u8]) -> Option<u32>
+    /// The number of a word, if it came.
+    pub fn find(&self, word: &[u8]) -> Option<u32>
         ensures { MatchOption result (is_among self.now word.now ≡ false) (λ number. slice_get self.now number ≡ Some word.now) }
     {
         match self.index.get_index_of(word) {
