@@ -7,6 +7,7 @@ ghost use Rattle.net_builds.specs.Standings.{Fetches, IsLive};
 ghost use Rattle.net_jobs.specs.Hosts.{named_by, standing_of};
 
 use crate::gate::Gate;
+use crossbeam_utils::Backoff;
 use dd_session::{Full, Manager, Refusal, Session};
 use diagram_dumps::Listing;
 use edge_bits::Memory;
@@ -27,10 +28,12 @@ pub struct SessionHost<'a, R, G> {
 fn ready<R: Wait>(rt: &R, session: &Session)
     ensures { length session.now.entries < 2 ^ 47 }
 {
+    let backoff = Backoff::new();
     for _ in rt.forever() {
         if session.calls() < 1 << 47 {
             return;
         }
+        backoff.snooze();
     }
     unreachable!()
 }
