@@ -1,6 +1,6 @@
 //! Calls of a session that has few rows and has made few calls, where no memory is wanting.
 
-ghost use Rattle.std.specs.Prelude.{◌≡◌, length, ◌<◌, IsTrue};
+ghost use Rattle.std.specs.Prelude.{◌≡◌, ◌+◌, ◌<◌, length, IsTrue};
 ghost use Rattle.edge_bits.specs.declared.edges.Kind.TheVariants as kinds;
 ghost use Rattle.dd_session.specs.Sessions.{HasRoom, IsLiveAs};
 
@@ -71,6 +71,54 @@ pub fn and<R: Abort + Wait>(
             None
         }
         Err(Refusal::Memory) => panic!(rt; "no memory"),
+    }
+}
+
+/// The disjunction of two rows, where the table is not full.
+pub fn or<R: Abort + Wait>(rt: &R, manager: &Manager, session: &mut Session, f: H, g: H) -> H
+    requires own { session.old.manager ≡ manager.now }
+    ensures { (session.new.manager ≡ session.old.manager) × (session.new.number ≡ session.old.number) }
+{
+    ready(rt, session, f, g);
+    match session.or(rt, manager, f, g) {
+        Ok(placed) => placed.value,
+        Err(_) => panic!(rt; "no disjunction"),
+    }
+}
+
+/// Exchanges a level of the variables and the next. Where there is no room it tells how many slots were in use and how many it needed.
+pub fn swap<R: Abort + Wait>(
+    rt: &R,
+    manager: &Manager,
+    session: &mut Session,
+    level: u32,
+) -> Result<(), (u32, u32)>
+    requires own { session.old.manager ≡ manager.now }
+    requires level { level + 1 < manager.now.vars }
+    ensures { (session.new.manager ≡ session.old.manager) × (session.new.number ≡ session.old.number) }
+{
+    has_room(rt, session);
+    match session.swap(rt, manager, level) {
+        Ok(placed) => Ok(placed.value),
+        Err(full) => Err((full.in_use, full.need)),
+    }
+}
+
+/// The same of the elements.
+pub fn swap_elements<R: Abort + Wait>(
+    rt: &R,
+    manager: &Manager,
+    session: &mut Session,
+    level: u32,
+) -> Result<(), (u32, u32)>
+    requires own { session.old.manager ≡ manager.now }
+    requires level { level + 1 < manager.now.elements }
+    ensures { (session.new.manager ≡ session.old.manager) × (session.new.number ≡ session.old.number) }
+{
+    has_room(rt, session);
+    match session.swap_elements(rt, manager, level) {
+        Ok(placed) => Ok(placed.value),
+        Err(full) => Err((full.in_use, full.need)),
     }
 }
 

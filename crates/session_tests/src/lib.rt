@@ -10,4 +10,6 @@ mod listings;
 #[cfg(test)]
 mod many_sessions;
 #[cfg(test)]
+mod swaps;
+#[cfg(test)]
 mod threads;
