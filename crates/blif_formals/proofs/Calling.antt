@@ -45,13 +45,13 @@ module _ (words : List Word) (models : List Model) (headings : List Heading) (ti
       by_cases None = refl
       by_cases (Some m) = refl
 
-  found_by : (name : Option Word) (title : Option ℕ) → IsTitleOf words name title → model_in models name ≡ got_model models (model_by titles title)
+  pub found_by : (name : Option Word) (title : Option ℕ) → IsTitleOf words name title → model_in models name ≡ got_model models (model_by titles title)
   found_by None None is = refl
   found_by None (Some n) is = absurd is
   found_by (Some word) None is = absurd is
   found_by (Some word) (Some n) is = titles_agree.called words models headings n word named.one_number named.headings_are is ∙ ap (got_model models) (sym (first_model n))
 
-  there : (title : Option ℕ) (m : ℕ) → model_by titles title ≡ Some m → (x : Model) × (slice_get models m ≡ Some x)
+  pub there : (title : Option ℕ) (m : ℕ) → model_by titles title ≡ Some m → (x : Model) × (slice_get models m ≡ Some x)
   there None m e = cc
   there (Some n) m e = got_there words models headings named.headings_are n m (sym (first_model n) ∙ e)
 
@@ -80,7 +80,7 @@ module _ (words : List Word) (models : List Model) (headings : List Heading) (ti
       subst (λ (y : Model). AreHeld models y.items (held_by titles ones)) same (held (instances_in x.items) ones a.0)
   held_at (x ∷ ms) (ones ∷ cs) a (suc m) model at = held_at ms cs a.1 m model at
 
-  held_graph : IsGraph models (λ m. true) (map (held_by titles) calls)
+  pub held_graph : IsGraph models (λ m. true) (map (held_by titles) calls)
   held_graph = record {
     told = λ m model i at. held_at models calls named.calls_are m model at;
     closed = λ m model i at k d lt. refl;
@@ -117,7 +117,7 @@ module _ (words : List Word) (models : List Model) (headings : List Heading) (ti
       ap least (sym (unknown (instances_in x.items) ones a.0)) ∙ ap (λ (y : Model). least (map (λ (k : Instance). k.line) (filter (names_no_model models) (instances_in y.items)))) same
   unknown_at (x ∷ ms) (ones ∷ cs) a (suc m) model at = unknown_at ms cs a.1 m model at
 
-  as_many : (ms : List Model) (cs : List (List Call)) → AreAllCallsOf words ms cs → length (map (held_by titles) cs) ≡ length ms
+  pub as_many : (ms : List Model) (cs : List (List Call)) → AreAllCallsOf words ms cs → length (map (held_by titles) cs) ≡ length ms
   as_many [] [] a = refl
   as_many [] (ones ∷ cs) a = absurd a
   as_many (x ∷ ms) [] a = absurd a

@@ -8,3 +8,4 @@ pub mod Titled
 pub mod Defining
 pub mod Calling
 pub mod Parted
+pub mod Misjoined

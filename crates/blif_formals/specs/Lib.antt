@@ -7,3 +7,4 @@ pub mod Words
 pub mod Titles
 pub mod Calls
 pub mod Parting
+pub mod Formals

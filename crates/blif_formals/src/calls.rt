@@ -21,7 +21,7 @@ pub struct Call {
 }
 
 /// The model of a name.
-fn model_by(titles: &[Option<Title>], title: Option<u32>) -> Option<u32>
+pub fn model_by(titles: &[Option<Title>], title: Option<u32>) -> Option<u32>
     requires { IsTitleBelow (length titles.now) title }
     ensures { result ≡ model_by titles.now title }
 {
