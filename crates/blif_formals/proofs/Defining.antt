@@ -50,7 +50,7 @@ among_outputs ins outs w = by_cases (is_among ins w) refl
     by_cases false e = kept_among w ins outs e
     by_cases true e = none_kept w ins outs e
 
-both_defined : (words : List (List Word)) (m : ℕ) (ones others : List Definition) (by_names more : List Use) → AreDefinitionsOf words m ones by_names → AreDefinitionsOf words m others more → AreDefinitionsOf words m (ones ++ others) (by_names ++ more)
+pub both_defined : (words : List (List Word)) (m : ℕ) (ones others : List Definition) (by_names more : List Use) → AreDefinitionsOf words m ones by_names → AreDefinitionsOf words m others more → AreDefinitionsOf words m (ones ++ others) (by_names ++ more)
 both_defined words m [] others [] more a b = b
 both_defined words m [] others (u ∷ by_names) more a b = absurd a
 both_defined words m (one ∷ ones) others [] more a b = absurd a

@@ -9,3 +9,4 @@ pub mod Defining
 pub mod Calling
 pub mod Parted
 pub mod Misjoined
+pub mod DefinedTwice

@@ -8,3 +8,4 @@ pub mod Titles
 pub mod Calls
 pub mod Parting
 pub mod Formals
+pub mod Twice

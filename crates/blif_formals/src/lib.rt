@@ -7,6 +7,7 @@ ghost use Rattle.blif_formals.specs.Calls.{CallsAgree};
 ghost use Rattle.blif_formals.specs.Definitions.{DefinitionsAgree};
 ghost use Rattle.blif_formals.specs.Reached.{ReachedLinesAgree};
 ghost use Rattle.blif_formals.specs.Titles.{TitlesAgree};
+ghost use Rattle.blif_formals.specs.Twice.{TwiceLinesAgree};
 ghost use Rattle.blif_formals.specs.Words.{NumbersStay};
 
 mod calls;
@@ -18,6 +19,7 @@ mod joining;
 mod parting;
 mod reached;
 mod titles;
+mod twice;
 mod words;
 
 pub use calls::{Call, holds_by, nameless_line};
@@ -29,6 +31,7 @@ pub use joining::joins_well;
 pub use parting::{is_misjoined, join_of};
 pub use reached::first_met;
 pub use titles::{Heading, Title, mistitled_line, titles_of};
+pub use twice::twice_line;
 pub use words::Words;
 
 /// Whether an instance joins the formal names of its model well is the same by numbers and by names.
@@ -64,4 +67,9 @@ pub fn definitions_agree()
 /// What models hold, and the first line by which a model is not named as it should be, are the same by numbers and by names.
 pub fn calls_agree()
     ensures { CallsAgree }
+{}
+
+/// The first line by which a signal is defined twice, in the models that a main one reaches, is the same by numbers and by names.
+pub fn twice_lines_agree()
+    ensures { TwiceLinesAgree }
 {}
