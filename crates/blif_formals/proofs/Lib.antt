@@ -10,3 +10,4 @@ pub mod Calling
 pub mod Parted
 pub mod Misjoined
 pub mod DefinedTwice
+pub mod Numbering

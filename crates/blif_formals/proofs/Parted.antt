@@ -1,9 +1,10 @@
 -- Words parted at their first `=`.
-use Rattle.std.proofs.Common.{◌≡◌, ℕ, zero, suc, ◌+◌, ◌==◌, ◌<◌, ◌≤◌, ◌&&◌, ◌||◌, Bool, true, false, cond, not, List, [], ◌∷◌, ◌++◌, drop, get_or, length, map, nat_lt, refl, ap, subst, sym, ◌∙◌, arith, length-drop, length-take}
-use Rattle.std.specs.Prelude.{All}
+use Rattle.std.proofs.Common.{◌≡◌, ℕ, zero, suc, ◌+◌, ◌==◌, ◌<◌, ◌≤◌, ◌&&◌, ◌||◌, Bool, true, false, cond, not, List, [], ◌∷◌, ◌++◌, Option, Some, drop, get_or, length, map, nat_lt, refl, ap, subst, sym, ◌∙◌, arith, length-drop, length-take}
+use Rattle.std.specs.Prelude.{All, MatchOption}
+use Rattle.std.specs.Global.{Vec}
 use Rattle.std.specs.List.{list_all, list_any, position_or_len}
 use Rattle.std.proofs.lemmas.Bool.Decides.{nat_tests}
-use Rattle.std.proofs.lemmas.Option.{get_or_from_slice_get, slice_get_within}
+use Rattle.std.proofs.lemmas.Option.{MatchOption-at_some, get_or_from_slice_get, slice_get_within}
 use Rattle.std.proofs.lemmas.List.Elements.{All-cons, All-nil}
 use Rattle.job_words.specs.Text.{Word}
 use Rattle.blif_models.specs.Models.{join_of}
@@ -115,3 +116,10 @@ told_by_numbers names interface words ns well a e all m model instance same is b
 pub told_unknown : (names : List Word) (interface : Interface) (words : List Word) → list_all (joins_one_of names) words ≡ false → IsMisjoined names interface words true
 told_unknown names interface words e all m model instance same is behind =
     formals_agree.unknown all m model interface instance is ((λ j. list_all (joins_one_of (same j)) (behind j)) ∙ e)
+
+-- what was found of words: the numbers of the formal names that they join, if each joins one of these names
+abbrev pub AreFound : List Word → List Word → Option (Vec ℕ) → Type 0
+AreFound names words found = MatchOption found (list_all (joins_one_of names) words ≡ false) (λ formals. JoinNumbers names words formals.items)
+
+pub numbered : (names words : List Word) (found : Option (Vec ℕ)) (formals : Vec ℕ) → found ≡ Some formals → AreFound names words found → JoinNumbers names words formals.items
+numbered names words found formals e h = MatchOption-at_some (list_all (joins_one_of names) words ≡ false) (λ (formals : Vec ℕ). JoinNumbers names words formals.items) formals e h

@@ -9,3 +9,4 @@ pub mod Calls
 pub mod Parting
 pub mod Formals
 pub mod Twice
+pub mod Actuals

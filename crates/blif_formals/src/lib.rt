@@ -2,6 +2,7 @@
 //! defined twice.
 #![tactic(auto)]
 
+ghost use Rattle.blif_formals.specs.Actuals.{JoinsAgree};
 ghost use Rattle.blif_formals.specs.ByNames.{ClashesAgree, FormalsAgree};
 ghost use Rattle.blif_formals.specs.Calls.{CallsAgree};
 ghost use Rattle.blif_formals.specs.Definitions.{DefinitionsAgree};
@@ -10,6 +11,7 @@ ghost use Rattle.blif_formals.specs.Titles.{TitlesAgree};
 ghost use Rattle.blif_formals.specs.Twice.{TwiceLinesAgree};
 ghost use Rattle.blif_formals.specs.Words.{NumbersStay};
 
+mod actuals;
 mod calls;
 mod clashes;
 mod definitions;
@@ -22,6 +24,7 @@ mod titles;
 mod twice;
 mod words;
 
+pub use actuals::{actuals_in, joins_in};
 pub use calls::{Call, holds_by, nameless_line};
 pub use clashes::{Definition, clash_line};
 pub use definitions::add_definitions;
@@ -72,4 +75,9 @@ pub fn calls_agree()
 /// The first line by which a signal is defined twice, in the models that a main one reaches, is the same by numbers and by names.
 pub fn twice_lines_agree()
     ensures { TwiceLinesAgree }
+{}
+
+/// What instances join is the same by numbers and by names, and words that come later leave it as it is.
+pub fn joins_agree()
+    ensures { JoinsAgree }
 {}

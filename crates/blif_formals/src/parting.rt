@@ -34,7 +34,11 @@ fn formal_in(names: &Words, word: &[u8]) -> Option<u32>
 }
 
 /// The numbers of the formal names that words join, if each joins one of these names.
-fn formals_in(alloc: Global, names: &Words, words: &[&[u8]]) -> Result<Option<Vec<u32>>, AllocError>
+pub fn formals_in(
+    alloc: Global,
+    names: &Words,
+    words: &[&[u8]],
+) -> Result<Option<Vec<u32>>, AllocError>
     ensures { IfOk result (λ found. MatchOption found (list_all (joins_one_of names.now) (map (λ word. word.now) words.now) ≡ false) (λ formals. JoinNumbers names.now (map (λ word. word.now) words.now) formals.items)) }
 {
     let mut formals = Vec::with_capacity(alloc, words.len())?;

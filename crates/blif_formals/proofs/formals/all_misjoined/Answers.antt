@@ -1,4 +1,4 @@
-use Rattle.std.proofs.Common.{◌≡◌, ◌<◌, ◌≤◌, ◌+◌, ◌++◌, ◌∷◌, [], length, take, ap, subst, sym, ◌∙◌, arith}
+use Rattle.std.proofs.Common.{◌≡◌, ◌<◌, ◌≤◌, ◌+◌, ◌++◌, ◌∷◌, [], List, Option, ℕ, length, take, ap, subst, sym, ◌∙◌, arith}
 use Rattle.std.proofs.lemmas.List.{take_all, take_more}
 use Rattle.blif_formals.specs.Formals.{AreLinesOf, IsLineOf}
 use Rattle.blif_formals.proofs.Misjoined.{as_many_in, as_many_models, one_line}
@@ -27,7 +27,7 @@ loop-model-preserved c =
     let told : IsLineOf callees ones words line =
     subst (λ w. IsLineOf callees ones w line) c.as_slice.ensures (subst (λ o. IsLineOf callees o c.as_slice.result.now line) c.as_slice-ones.ensures c.in_ok-misjoined_line.ensures) in
     let step = one_line callees (take m calls) (take m joined) c.loop-model.lines.items c.loop-model.invariant ones words line told in
-    subst (AreLinesOf callees (take (m + 1) calls) (take (m + 1) joined)) (sym c.in_ok-push.ensures.items)
+    subst (AreLinesOf callees (take (m + 1) calls) (take (m + 1) joined)) (sym {A = List (Option ℕ)} c.in_ok-push.ensures.items)
     (subst (λ w. AreLinesOf callees (take (m + 1) calls) w (c.loop-model.lines.items ++ line ∷ [])) (sym more_joined)
     (subst (λ o. AreLinesOf callees o (take m joined ++ words ∷ []) (c.loop-model.lines.items ++ line ∷ [])) (sym more_calls) step))
 

@@ -1,24 +1,14 @@
-use Rattle.std.proofs.Common.{◌≡◌, ◌<◌, Bor, List, Option, Some, ℕ, false, length, map, ap, subst, sym, ◌∙◌}
-use Rattle.std.specs.Prelude.{All, MatchOption}
+use Rattle.std.proofs.Common.{◌≡◌, ◌<◌, List, ℕ, false, length, ap, subst, sym, ◌∙◌}
+use Rattle.std.specs.Prelude.{All}
 use Rattle.std.specs.Global.{Vec}
 use Rattle.std.specs.List.{list_all}
-use Rattle.std.proofs.lemmas.Option.{MatchOption-at_none, MatchOption-at_some}
-use Rattle.job_words.specs.Text.{Word}
+use Rattle.std.proofs.lemmas.Option.{MatchOption-at_none}
 use Rattle.blif_formals.specs.ByNames.{joins_one_of}
+use Rattle.blif_formals.specs.Formals.{words_in}
 use Rattle.blif_formals.specs.Joining.{joins_well}
 use Rattle.blif_formals.specs.Parting.{JoinNumbers}
-use Rattle.blif_formals.proofs.Parted.{numbers_below, told_by_numbers, told_unknown}
+use Rattle.blif_formals.proofs.Parted.{numbered, numbers_below, told_by_numbers, told_unknown}
 use Rattle.blif_formals.proofs.parting.is_misjoined.Goals as goal
-
-abbrev words_in : List (Bor (List ℕ)) → List Word
-words_in words = map (λ w. w.now) words
-
--- what was found
-abbrev AreFound : List Word → List Word → Option (Vec ℕ) → Type 0
-AreFound names words found = MatchOption found (list_all (joins_one_of names) words ≡ false) (λ formals. JoinNumbers names words formals.items)
-
-numbered : (names words : List Word) (found : Option (Vec ℕ)) (formals : Vec ℕ) → found ≡ Some formals → AreFound names words found → JoinNumbers names words formals.items
-numbered names words found formals e h = MatchOption-at_some (list_all (joins_one_of names) words ≡ false) (λ (formals : Vec ℕ). JoinNumbers names words formals.items) formals e h
 
 pub joins_well-requires-clause-within : goal.joins_well-requires-clause-within
 joins_well-requires-clause-within c =

@@ -1,0 +1,10 @@
+use Rattle.std.proofs.Common.{take}
+use Rattle.blif_formals.specs.Actuals.{AreActuals, Keeps}
+use Rattle.blif_formals.specs.Formals.{words_in}
+use Rattle.blif_formals.proofs.actuals.actuals_in.Given as goal
+
+abbrev pub invariant-loop-word : goal.invariant-loop-word
+invariant-loop-word l = record {
+  names : Keeps l.initial.names l.names;
+  actuals : AreActuals l.names (words_in (take l.word-index l.words)) l.actuals;
+}
