@@ -11,3 +11,4 @@ pub mod Parted
 pub mod Misjoined
 pub mod DefinedTwice
 pub mod Numbering
+pub mod InLines

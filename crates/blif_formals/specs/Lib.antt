@@ -10,3 +10,4 @@ pub mod Parting
 pub mod Formals
 pub mod Twice
 pub mod Actuals
+pub mod Lines

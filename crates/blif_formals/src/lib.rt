@@ -6,6 +6,7 @@ ghost use Rattle.blif_formals.specs.Actuals.{JoinsAgree};
 ghost use Rattle.blif_formals.specs.ByNames.{ClashesAgree, FormalsAgree};
 ghost use Rattle.blif_formals.specs.Calls.{CallsAgree};
 ghost use Rattle.blif_formals.specs.Definitions.{DefinitionsAgree};
+ghost use Rattle.blif_formals.specs.Lines.{LinesAgree};
 ghost use Rattle.blif_formals.specs.Reached.{ReachedLinesAgree};
 ghost use Rattle.blif_formals.specs.Titles.{TitlesAgree};
 ghost use Rattle.blif_formals.specs.Twice.{TwiceLinesAgree};
@@ -80,4 +81,9 @@ pub fn twice_lines_agree()
 /// What instances join is the same by numbers and by names, and words that come later leave it as it is.
 pub fn joins_agree()
     ensures { JoinsAgree }
+{}
+
+/// Where the lines of models rise, what comes of the main one by numbers is what comes of it by names.
+pub fn lines_agree()
+    ensures { LinesAgree }
 {}
