@@ -1,17 +1,20 @@
 -- Models whose lines rise.
 use Rattle.std.proofs.Common.{◌≡◌, ℕ, zero, suc, ◌≤◌, ◌⊎◌, inl, inr, Bool, true, false, List, [], ◌∷◌, ◌++◌, Some, flat_map, length, map, refl, ap, sym, ◌∙◌, subst, arith}
 use Rattle.std.specs.Prelude.{slice_get}
+use Rattle.std.proofs.lemmas.Option.{get_or_from_slice_get, slice_get_within}
 use Rattle.blif_models.specs.declared.cycles.Holding.{Holding}
+use Rattle.blif_models.specs.declared.limits.Adding.{Adding}
 use Rattle.blif_models.specs.declared.numbered.Entry.{Entry}
 use Rattle.blif_models.specs.declared.numbered.Entry.TheVariants as entries
 use Rattle.blif_models.specs.declared.numbered.NumberedModel.{NumberedModel}
+use Rattle.blif_models.specs.Additions.{AreFrom, AreRising, lines_of}
 use Rattle.blif_models.specs.Agreement.{AreInLines, HasLines, HoldingsFrom, HoldingsRise, entry_line}
 use Rattle.blif_models.specs.Arrangements.{holdings_by, holdings_from}
 use Rattle.blif_models.specs.Graphs.{is_reached}
 use Rattle.blif_models.specs.Kept.{reached_models}
 use Rattle.blif_models.specs.Layouts.{model_at}
-use Rattle.blif_models.specs.ModelFaults.{line_of}
-use Rattle.blif_models.specs.Models.{Model}
+use Rattle.blif_models.specs.ModelFaults.{adding_inputs, line_of}
+use Rattle.blif_models.specs.Models.{Model, Named}
 use Rattle.blif_models.specs.NumberedGraphs.{all_held}
 use Rattle.blif_models.proofs.KeptModels.{kept_many}
 use Rattle.blif_models.proofs.KeptReached.{kept_agree}
@@ -49,6 +52,50 @@ one_place (model ∷ models) low (suc m) zero one other h at there same =
     let line : model.line ≡ other.line = ap (λ (x : Model). x.line) first in
     absurd (omega (arith, above, line, same))
 one_place (model ∷ models) low (suc m) (suc n) one other h at there same = ap suc (one_place models (suc model.line) m n one other h.1 at there same)
+
+-- what lines add rises with them
+
+adding_lower : (ones : List Adding) (low high : ℕ) → low ≤ high → AreFrom high ones → AreFrom low ones
+adding_lower [] low high le h = tt
+adding_lower (one ∷ ones) low high le h = (omega (arith, le, h.0), adding_lower ones low high le h.1)
+
+adding_rise : (ones : List Adding) (n : ℕ) → RiseFrom n (map (λ one. one.line) ones) → AreFrom n ones × AreRising ones
+adding_rise [] n h = (tt, tt)
+adding_rise (one ∷ ones) n h =
+    let low = h.0 in
+    let both = adding_rise ones (suc one.line) h.1 in
+    ((low, adding_lower ones n (suc one.line) (omega (arith, low)) both.0), both)
+
+lines_alike : (ones : List Entry) → map entry_line ones ≡ map (λ one. one.line) (lines_of ones)
+lines_alike [] = refl
+lines_alike (entries.Cover cover ∷ ones) = λ j. cover.line ∷ lines_alike ones j
+lines_alike (entries.Latch latch ∷ ones) = λ j. latch.line ∷ lines_alike ones j
+lines_alike (entries.Instance instance ∷ ones) = λ j. instance.line ∷ lines_alike ones j
+
+rise_before : (front rest : List ℕ) (n : ℕ) → RiseFrom n (front ++ rest) → RiseFrom n front
+rise_before [] rest n h = tt
+rise_before (line ∷ front) rest n h = (h.0, rise_before front rest (suc line) h.1)
+
+in_model : (models : List Model) (n m : ℕ) (model : Model) → RiseFrom n (flat_map (λ model. map line_of model.items) models) → slice_get models m ≡ Some model → RiseFrom n (map line_of model.items)
+in_model [] n m model h at = cc
+in_model (x ∷ models) n zero model h at =
+    let same : x ≡ model = cc in
+    subst (λ (y : Model). RiseFrom n (map line_of y.items)) same (rise_before (map line_of x.items) (flat_map (λ (y : Model). map line_of y.items) models) n h)
+in_model (x ∷ models) n (suc m) model h at = in_model models n m model (rise_behind (map line_of x.items) (flat_map (λ (y : Model). map line_of y.items) models) n h) at
+
+entries_rise : (models : List Model) (numbered : List NumberedModel) (main : ℕ) (model : Model) → AreRisingModels models → slice_get models main ≡ Some model → HasLines model (model_at numbered main) → AreRising (lines_of (model_at numbered main).entries)
+entries_rise models numbered main model rising at lines =
+    (adding_rise (lines_of (model_at numbered main).entries) 0 (subst (RiseFrom 0) (lines ∙ lines_alike (model_at numbered main).entries) (in_model models 0 main model rising.items at))).1
+
+inputs_alike : (ones : List Named) → map (λ one. one.line) ones ≡ map (λ one. one.line) (map adding_inputs ones)
+inputs_alike [] = refl
+inputs_alike (one ∷ ones) = λ j. one.line ∷ inputs_alike ones j
+
+inputs_rise : (models : List Model) (main : ℕ) (model : Model) → AreRisingModels models → slice_get models main ≡ Some model → AreRising (map adding_inputs model.inputs)
+inputs_rise models main model rising at =
+    let own : RiseFrom 0 (map (λ one. one.line) model.inputs) =
+    subst (λ (x : Model). RiseFrom 0 (map (λ one. one.line) x.inputs)) (get_or_from_slice_get models main model model at) (rising.inputs main model (slice_get_within models main model at)) in
+    (adding_rise (map adding_inputs model.inputs) 0 (subst (RiseFrom 0) (inputs_alike model.inputs) own)).1
 
 -- instances rise with the lines on which they stand
 
@@ -130,6 +177,8 @@ module _ (models : List Model) (numbered : List NumberedModel) (main : ℕ) (man
 pub lines_agree : LinesAgree
 unfolding among
 lines_agree = record {
+  entries = entries_rise;
+  inputs = inputs_rise;
   in_lines = λ models numbered main many rising have. in_lines models numbered main many rising have;
   outcome = λ models words numbered main model outcome is rising have comes.
       outcomes_agree models (is_reached (all_held numbered) (length numbered) main) words (reached_models numbered main) main model outcome (kept_agree.named models words numbered main model is)
