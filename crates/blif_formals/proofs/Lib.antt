@@ -12,3 +12,4 @@ pub mod Misjoined
 pub mod DefinedTwice
 pub mod Numbering
 pub mod InLines
+pub mod Entering

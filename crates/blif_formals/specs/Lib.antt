@@ -11,3 +11,4 @@ pub mod Formals
 pub mod Twice
 pub mod Actuals
 pub mod Lines
+pub mod Instances

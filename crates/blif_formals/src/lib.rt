@@ -6,6 +6,7 @@ ghost use Rattle.blif_formals.specs.Actuals.{JoinsAgree};
 ghost use Rattle.blif_formals.specs.ByNames.{ClashesAgree, FormalsAgree};
 ghost use Rattle.blif_formals.specs.Calls.{CallsAgree};
 ghost use Rattle.blif_formals.specs.Definitions.{DefinitionsAgree};
+ghost use Rattle.blif_formals.specs.Instances.{InstancesAgree};
 ghost use Rattle.blif_formals.specs.Lines.{LinesAgree};
 ghost use Rattle.blif_formals.specs.Reached.{ReachedLinesAgree};
 ghost use Rattle.blif_formals.specs.Titles.{TitlesAgree};
@@ -17,6 +18,7 @@ mod calls;
 mod clashes;
 mod definitions;
 mod formals;
+mod instances;
 mod interface;
 mod joining;
 mod parting;
@@ -30,6 +32,7 @@ pub use calls::{Call, holds_by, nameless_line};
 pub use clashes::{Definition, clash_line};
 pub use definitions::add_definitions;
 pub use formals::{Callees, formal_line};
+pub use instances::instance_by;
 pub use interface::{Interface, Port, interface_of};
 pub use joining::joins_well;
 pub use parting::{is_misjoined, join_of};
@@ -86,4 +89,9 @@ pub fn joins_agree()
 /// Where the lines of models rise, what comes of the main one by numbers is what comes of it by names.
 pub fn lines_agree()
     ensures { LinesAgree }
+{}
+
+/// An instance by number is the one by name.
+pub fn instances_agree()
+    ensures { InstancesAgree }
 {}
