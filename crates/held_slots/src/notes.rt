@@ -1,6 +1,6 @@
 //! The notes of a store's slots.
 
-ghost use Rattle.std.specs.Prelude.{◌≡◌, ℕ, Bool, Option, Some, None, ◌+◌, ◌<◌, ◌≤◌, ◌^◌, ◌⊎◌, ◌==◌, IfOk, IfSome, IfNone, length, not, replicate, slice_index, slice_set, vec_capacity, true, false};
+ghost use Rattle.std.specs.Prelude.{◌≡◌, ℕ, Bool, Option, Some, None, ◌+◌, ◌<◌, ◌≤◌, ◌^◌, ◌⊎◌, ◌==◌, if◌then◌else◌, IfOk, IfSome, IfNone, length, not, replicate, slice_index, slice_set, vec_capacity, true, false};
 ghost use Rattle.edge_bits.specs.Reading.{slots_of};
 ghost use Rattle.edge_bits.specs.declared.words.Word.{Word as WordOf};
 ghost use Rattle.held_slots.specs.Notes.{Notes, flag, link_in, mark_in, pin_in};
@@ -153,9 +153,7 @@ impl SlotNotes {
 
     /// Says so where links may lead through slots that were freed, so that they are made anew at the next walk.
     pub fn unlink_stale(&mut self)
-        ensures marks { self.new.marks ≡ self.old.marks }
-        ensures pins { self.new.pins ≡ self.old.pins }
-        ensures linked { (word : ℕ → Option WordOf) → IsLinkedTo word self.old.chain → IsLinkedTo word self.new.chain }
+        ensures { self.new ≡ record self.old { chain = record self.old.chain { linked = if self.old.chain.stale then false else self.old.chain.linked } } }
     {
         if self.stale {
             self.unlink();

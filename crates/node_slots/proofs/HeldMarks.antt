@@ -1,7 +1,7 @@
 -- A held store after a slot was marked or pinned, or a sweep began or ended.
 use Rattle.std.proofs.Common.{◌≡◌, ℕ, zero, ◌<◌, inl, inr, Bool, true, false, List, length, set, replicate, Option, Some, None, refl, ap, sym, ◌∙◌, subst, arith}
 use Rattle.std.proofs.lemmas.Bool.{cases_lt}
-use Rattle.std.specs.Prelude.{◌==◌}
+use Rattle.std.specs.Prelude.{◌==◌, if◌then◌else◌}
 use Rattle.std.proofs.lemmas.List.{length-set, length-replicate, get_or_past}
 use Rattle.node_store.specs.Contents.{IsUsed}
 use Rattle.node_store.specs.Changes.{After, with_mark, with_pin}
@@ -110,16 +110,18 @@ module _ (q p : Held) (same : q ≡ p) (is : IsHeld q) where
         (after_seen (record (held_view q) { sweeping = true; marked = λ s. false }) (held_view (begun n))
         (ap (λ x. held_view (begun x)) e ∙ ap (λ m. record (held_view q) { sweeping = true; marked = m }) (no_flags (replicate (length q.plain.marks) zero) (length q.plain.marks) refl)) begun_held.sound)
 
-    -- and links that don't hold any more are given up
-    module _ (m : Notes) (marks : m.marks ≡ n.marks) (pins : m.pins ≡ n.pins) (linked : (word : ℕ → Option Word) → IsLinkedTo word n.chain → IsLinkedTo word m.chain) where
-      flags : ◌≡◌ {A = List ℕ × List ℕ} (n.marks, n.pins) (m.marks, m.pins)
-      flags i = ((sym marks) i, (sym pins) i)
+    -- and links that may lead through freed slots are given up
+    module _ (m : Notes) (is_m : m ≡ record n { chain = record n.chain { linked = if n.chain.stale then false else n.chain.linked } }) where
+      still : (stale on : Bool) → (if stale then false else on) ≡ true → on ≡ true
+      still true on e = let lies : false ≡ true = e in cc
+      still false on e = e
 
       pub unlinked_held : IsHeld (begun m)
-      unlinked_held = subst (λ (x : List ℕ × List ℕ). IsHeld (record q { plain = record q.plain { marks = x.0; pins = x.1; sweeping = true }; chain = m.chain })) flags (relinked (begun n) m.chain begun_held (linked (slots q.plain)))
+      unlinked_held = subst (λ x. IsHeld (begun x)) (sym is_m)
+          (relinked (begun n) (record n.chain { linked = if n.chain.stale then false else n.chain.linked }) begun_held (λ linked on. linked (still n.chain.stale n.chain.linked on)))
 
       pub unlinked_after : After Alone (record (held_view p) { sweeping = true; marked = λ s. false }) (held_view (begun m))
-      unlinked_after = subst (λ (x : List ℕ × List ℕ). After Alone (record (held_view p) { sweeping = true; marked = λ s. false }) (held_view (record q { plain = record q.plain { marks = x.0; pins = x.1; sweeping = true }; chain = m.chain }))) flags begun_after
+      unlinked_after = subst (λ x. After Alone (record (held_view p) { sweeping = true; marked = λ s. false }) (held_view (begun x))) (sym is_m) begun_after
 
   pub ended_held : IsHeld (record q { plain = record q.plain { sweeping = false } })
   ended_held = flagged_held q is q.plain.marks q.plain.pins false refl refl is.sound.unpinned
