@@ -29,3 +29,4 @@ pub mod NetBuilding
 pub mod Wholes
 pub mod Reading
 pub mod OnCycles
+pub mod Written

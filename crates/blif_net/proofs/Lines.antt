@@ -252,7 +252,7 @@ inputs_too_many old new ws l a none more =
     either false b e = ap (λ t. then_some t kinds.TooMany) e
 
 -- Covers
-front_is : (front : List Word) (last : Word) → (front_of (front ++ last ∷ []) ≡ front) × (last_of (front ++ last ∷ []) ≡ last)
+pub front_is : (front : List Word) (last : Word) → (front_of (front ++ last ∷ []) ≡ front) × (last_of (front ++ last ∷ []) ≡ last)
 front_is front last = (ap (λ n. take n (front ++ last ∷ [])) (omega (arith, length-append front (last ∷ []))) ∙ taken front, lasts front)
   where
     taken : (ws : List Word) → take (length ws) (ws ++ last ∷ []) ≡ ws
@@ -264,7 +264,7 @@ front_is front last = (ap (λ n. take n (front ++ last ∷ [])) (omega (arith, l
     lasts (w ∷ []) = refl
     lasts (w ∷ v ∷ ws) = lasts (v ∷ ws)
 
-some_names : (c : Context) (front : List Word) (last : Word) → names_fault c (front ++ last ∷ []) ≡ option_or (then_some (is_among (signals_in c) last) kinds.Twice) (then_some (nat_lt MOST_SIGNALS (length (signals_in c) + 1)) kinds.TooMany)
+pub some_names : (c : Context) (front : List Word) (last : Word) → names_fault c (front ++ last ∷ []) ≡ option_or (then_some (is_among (signals_in c) last) kinds.Twice) (then_some (nat_lt MOST_SIGNALS (length (signals_in c) + 1)) kinds.TooMany)
 some_names c [] last = refl
 some_names c (w ∷ front) last =
     ap (λ t. option_or (then_some (is_among (signals_in c) t) kinds.Twice) (then_some (nat_lt MOST_SIGNALS (length (signals_in c) + 1)) kinds.TooMany)) ((front_is (w ∷ front) last).1)
