@@ -30,3 +30,5 @@ pub mod Wholes
 pub mod Reading
 pub mod OnCycles
 pub mod Written
+pub mod WrittenCircuits
+pub mod WrittenNets

@@ -145,7 +145,7 @@ or_right : (a b : Bool) → b ≡ true → (a || b) ≡ true
 or_right true b h = refl
 or_right false b h = h
 
-front_among : (front back : List Word) (z : Word) → is_among front z ≡ true → is_among (front ++ back) z ≡ true
+pub front_among : (front back : List Word) (z : Word) → is_among front z ≡ true → is_among (front ++ back) z ≡ true
 front_among front back z h = list_any-append (bytes_eq z) front back ∙ or_left (is_among front z) (is_among back z) h
 
 back_among : (front back : List Word) (z : Word) → is_among back z ≡ true → is_among (front ++ back) z ≡ true

@@ -140,7 +140,7 @@ stays line h =
       cond-false (ends_with nat_eq line (13 ∷ [])) (without_last line) line (no_end is_lined 13 line h refl),
       on,
       cond-false (goes_on line) (without_last line) (before_first (λ b. b == 35) line) on
-      ∙ take_all (position_or_len (λ b. b == 35) line) line (none_before (λ b. b == 35) line (all_weaker is_lined (λ b. not (b == 35)) line lined_comment h)),
+          ∙ take_all (position_or_len (λ b. b == 35) line) line (none_before (λ b. b == 35) line (all_weaker is_lined (λ b. not (b == 35)) line lined_comment h)),
     )
 
 -- the lines of a written text are read
