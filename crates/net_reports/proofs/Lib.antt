@@ -1,3 +1,5 @@
+mod AdderNames
+mod Adders
 mod Evaluated
 mod Firsts
 mod Padding

@@ -1,7 +1,10 @@
 //! The text of the network that is generated.
 
-ghost use Rattle.std.specs.Prelude.{◌≡◌, ◌<◌, ◌++◌, OnOk, IfOk, string_bytes};
+ghost use Rattle.std.specs.Prelude.{◌≡◌, ◌*◌, ◌<◌, ◌≤◌, ◌++◌, length, OnOk, IfOk, string_bytes};
 ghost use Rattle.std.specs.List.{flat_map, range_with_len};
+ghost use Rattle.edge_bits.specs.declared.limits.TheConstants.{MOST_BITS};
+ghost use Rattle.blif_net.specs.declared.net.Net.{Net};
+ghost use Rattle.blif_net.specs.Networks.{IsBlifText};
 ghost use Rattle.net_reports.specs.GenTexts.{bit_covers, carry_cover, complement_cover, gen_text, inputs_below, outputs_of, sum_cover, zeros_cover};
 
 use edge_bits::Memory;
@@ -82,10 +85,11 @@ fn put_covers(text: &mut String, bit: u32) -> Result<(), AllocError>
 }
 
 /// The text of the network that adds two numbers of so many bits: of each bit the sum, by its ones and by its zeros, and its
-/// complement, and the last carry.
+/// complement, and the last carry. Up to the greatest number of bits it is the text of a network, with two inputs a bit.
 #[tactic(auto, unfolding(crate::specs::GenTexts::gen_text))]
 pub fn gen_text(alloc: Global, bits: u32) -> Result<Vec<u8>, Memory>
-    ensures { IfOk result (λ text. text.items ≡ gen_text bits) }
+    ensures text { IfOk result (λ text. text.items ≡ gen_text bits) }
+    ensures network { bits ≤ MOST_BITS → IfOk result (λ text. (net : Net) × IsBlifText text.items net × (length net.inputs ≡ 2 * bits)) }
 {
     let mut text = String::from_str(alloc, ".model gen\n.inputs")?;
     put_inputs(&mut text, bits)?;

@@ -1,8 +1,18 @@
-use Rattle.std.proofs.Common.{string_bytes}
-use Rattle.net_reports.specs.GenTexts.{bit_covers}
+use Rattle.std.proofs.Common.{◌≡◌, ◌*◌, ℕ, List, arith, length, string_bytes, subst, sym}
+use Rattle.std.proofs.lemmas.Grind.{common_steps}
+use Rattle.blif_net.specs.declared.net.Net.{Net}
+use Rattle.blif_net.specs.Networks.{IsBlifText}
+use Rattle.net_reports.specs.GenTexts.{bit_covers, gen_text}
+use Rattle.net_reports.proofs.AdderNames.{generated_net}
 use Rattle.net_reports.proofs.Texts.{one_more_number}
 use Rattle.net_reports.proofs.generated.gen_text.Goals as goal
 
 pub loop-bit-preserved : goal.loop-bit-preserved
 loop-bit-preserved c =
     one_more_number bit_covers c.loop-bit.bit (string_bytes c.write.new.self) (string_bytes c.loop-bit.text) (string_bytes c.put_covers.new.text) c.loop-bit.invariant c.in_ok-put_covers.ensures
+
+pub returns-clause-network : goal.returns-clause-network
+unfolding gen_text
+returns-clause-network c few =
+    let text : c.into_bytes.result.items ≡ gen_text c.args.bits = grind (arith, common_steps) in
+    subst (λ (t : List ℕ). (net : Net) × IsBlifText t net × (length net.inputs ≡ 2 * c.args.bits)) (sym text) (generated_net c.args.bits few)
