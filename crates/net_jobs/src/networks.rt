@@ -14,7 +14,7 @@ ghost use Rattle.net_jobs.specs.Networks.{IsFilledBy, IsFreshOf, IsOpenedFor, Is
 
 use crate::gate::Gate;
 use crate::hosting::SessionHost;
-use blif_net::{BlifError, Net, networks_are_bounded, read};
+use blif_net::{BlifError, Net, networks_are_bounded, read, texts_have_one_reading};
 use command_words::Options;
 use dd_session::{Config, Full, Manager, OpenFault, Session};
 use edge_bits::{Memory, USUAL_LIMIT};
@@ -59,8 +59,7 @@ pub fn build<R: Wait, G: Gate>(
     build_report(rt, alloc, &host, &mut sessions[0], net, patterns)
 }
 
-/// The network that is made for so many bits. Its text is read without a fault; what the prover does not know of that is
-/// answered as want of memory.
+/// The network that is made for so many bits. Its text has no fault, so memory may be wanted and nothing else.
 fn made<R: RandomSource>(rt: &R, alloc: Global, bits: u32) -> Result<Net, Memory>
     requires { bits ≤ MOST_BITS }
     ensures text { IfOk result (λ net. IsBlifText (gen_text bits) net) }
@@ -70,9 +69,11 @@ fn made<R: RandomSource>(rt: &R, alloc: Global, bits: u32) -> Result<Net, Memory
     let Ok(keys) = RandomState::new(rt) else {
         return Err(Memory);
     };
+    texts_have_one_reading();
     match read(alloc, keys, &text) {
-        Ok(net) if net.inputs().len() == 2 * bits as usize => Ok(net),
-        _ => Err(Memory),
+        Ok(net) => Ok(net),
+        Err(BlifError::Memory) => Err(Memory),
+        Err(BlifError::Fault(_)) => unreachable!(),
     }
 }
 
