@@ -11,3 +11,5 @@ pub mod Handed
 pub mod Emptied
 pub mod Rooms
 pub mod Reordered
+pub mod SiftLaws
+pub mod SiftFound

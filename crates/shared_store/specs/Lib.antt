@@ -2,3 +2,4 @@ pub mod Sharing
 pub mod Lasting
 pub mod Storing
 pub mod Reordering
+pub mod Sifting

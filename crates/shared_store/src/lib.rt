@@ -7,6 +7,7 @@ mod opening;
 mod reordering;
 mod returning;
 mod shared;
+mod sifting;
 mod sweeping;
 
 pub use reordering::Crowded;
