@@ -17,4 +17,5 @@ pub mod WalkingLemmas
 pub mod ListingLaws
 mod Sweepings
 mod Swappings
+mod SiftTellings
 pub mod Makings

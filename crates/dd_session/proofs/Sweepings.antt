@@ -9,7 +9,7 @@ use Rattle.shared_store.specs.declared.reordering.Crowded.{Crowded}
 use Rattle.shared_store.specs.Reordering.{IsReordered, Reorders}
 use Rattle.dd_session.specs.Counting.{ZeroStays}
 
-beside : (a b : ℕ → ℕ) → Alone a b → ZeroStays a b
+pub beside : (a b : ℕ → ℕ) → Alone a b → ZeroStays a b
 beside a b same s zero = ap (λ (f : ℕ → ℕ). f s) same ∙ zero
 
 pub swept_beside : (before after : Content) (swept : Swept) → IsSwept Alone before after swept → IsSwept ZeroStays before after swept

@@ -138,7 +138,7 @@ knows_added d w r adding name cell = record {
 abbrev pub quiet : Call → Reply → Telling
 quiet call reply = record { call = call; reply = reply; change = Nothing }
 
-agrees_quiet : (d : Draws) (t : Table) (call : Call) (reply : Reply) → Agrees d t → Agrees (told_of d 0 (quiet call reply)) t
+pub agrees_quiet : (d : Draws) (t : Table) (call : Call) (reply : Reply) → Agrees d t → Agrees (told_of d 0 (quiet call reply)) t
 agrees_quiet d t call reply agrees = record { sizes_are = agrees.sizes_are; live = agrees.live; fresh = agrees.fresh; cells = agrees.cells }
 
 pub may_be_refused : (d : Draws) (r : Request) (in_use need : ℕ) → IsTrue (may_be_full (call_of r)) → MayBeFull d (call_of r) → MayTell d (quiet (call_of r) (replies.Full in_use need))

@@ -4,6 +4,7 @@ pub mod Walking
 pub mod Works
 pub mod Requests
 pub mod Reorderings
+pub mod Siftings
 pub mod MadeRows
 pub mod Listings
 pub mod Turns

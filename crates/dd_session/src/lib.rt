@@ -19,10 +19,12 @@ mod reordering;
 mod request;
 mod session;
 mod settling;
+mod sifting;
 mod starting;
 mod walking;
 
 pub use answers::{Again, Fetched, Full, Placed, Refusal};
+pub use group_sift::{Blocks, Mode, Sifted};
 pub use handle_count::H;
 pub use manager::{Closed, Config, Manager, OpenFault};
 pub use operator_calls::Overflow;

@@ -4,6 +4,7 @@ ghost use Rattle.std.specs.Prelude.{◌≡◌, ◌+◌, ◌<◌, ◌≤◌, ◌�
 ghost use Rattle.seat_guard.specs.Passes.{IsPassOf, in_hand, known};
 ghost use Rattle.seat_guard.specs.Views.{one_more};
 ghost use Rattle.dd_session.specs.Managing.{AreAll, IsClosing, IsClosed, IsConfig, newcomer, opened};
+ghost use Rattle.dd_session.specs.Reorderings.{levels_of};
 ghost use Rattle.dd_session.specs.Turns.{managed_by};
 
 use crate::book::Book;
@@ -12,6 +13,7 @@ use crate::session::Session;
 use edge_bits::{
     FIRST_PROJECTION, MOST_ELEMENTS, MOST_SESSIONS, MOST_SLOTS, MOST_VARIABLES, Memory,
 };
+use function_laws::Order;
 use handle_count::Rows;
 use seat_guard::opening::open;
 use seat_guard::seat::{Guard, Pass, Rest};
@@ -42,6 +44,8 @@ pub enum OpenFault {
 pub struct Manager {
     pub(crate) guard: Guard<Shared>,
     closing: Rest<Shared>,
+    vars: u32,
+    elements: u32,
     /// Room for the rows of all sessions, for the end.
     ended: Vec<Rows>,
 }
@@ -55,7 +59,7 @@ impl Model for Manager {
 
     ghost view = { λ m. managed_of m.guard m.closing };
 
-    ghost invariant = { λ m. IsRestOf m.guard m.closing × IsClosing (resting m.closing) × (m.ended.items ≡ []) × ((resting m.closing).sessions ≤ vec_capacity m.ended) };
+    ghost invariant = { λ m. IsRestOf m.guard m.closing × IsClosing (resting m.closing) × (m.ended.items ≡ []) × ((resting m.closing).sessions ≤ vec_capacity m.ended) × ((resting m.closing).vars ≡ m.vars) × ((resting m.closing).elements ≡ m.elements) };
 }
 
 /// The next session.
@@ -103,9 +107,11 @@ fn with_sessions(
     guard: Guard<Shared>,
     mut closing: Pass<Shared>,
     ended: Vec<Rows>,
+    config: Config,
     sessions: u32,
 ) -> Result<(Manager, Vec<Session>), Memory>
     requires own { IsPassOf guard closing × (in_hand closing ≡ []) }
+    requires numbers { ((known closing).vars ≡ config.vars) × ((known closing).elements ≡ config.elements) }
     requires closing { ((known closing).closing ≡ true) × ((known closing).gone ≡ []) × ((known closing).rows ≡ []) }
     requires first { (known closing).given ≡ 0 }
     requires room { (sessions ≡ (known closing).sessions) × (sessions ≤ MOST_SESSIONS) }
@@ -118,6 +124,8 @@ fn with_sessions(
         Manager {
             guard,
             closing,
+            vars: config.vars,
+            elements: config.elements,
             ended,
         },
         all,
@@ -142,7 +150,7 @@ fn open_in_range(
     let ended = Vec::with_capacity(alloc, sessions as usize)?;
     let shared = Shared::new(alloc, config.vars, config.elements, config.limit)?;
     let (guard, closing) = open(alloc, shared, &key)?;
-    with_sessions(alloc, guard, closing, ended, sessions)
+    with_sessions(alloc, guard, closing, ended, config, sessions)
 }
 
 /// How many calls there were, and how many slots were left in use.
@@ -156,6 +164,16 @@ impl Manager {
     /// Where a call takes memory for a list of its own.
     pub(crate) fn allocator(&self) -> Global {
         *self.ended.allocator()
+    }
+
+    /// How many levels an order has: one for each variable, or for each element.
+    pub fn levels(&self, order: Order) -> u32
+        ensures { result ≡ levels_of self.now order }
+    {
+        match order {
+            Order::Variables => self.vars,
+            Order::Elements => self.elements,
+        }
     }
 
     /// A manager and its sessions, 1 to 64, which have made no call. Config is answered exactly where a number is out of range.
@@ -198,6 +216,8 @@ impl Manager {
         let Manager {
             guard,
             closing,
+            vars: _,
+            elements: _,
             mut ended,
         } = self;
         let mut closing = closing.wake(rt);

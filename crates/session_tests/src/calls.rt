@@ -2,9 +2,10 @@
 
 ghost use Rattle.std.specs.Prelude.{◌≡◌, ◌+◌, ◌<◌, length, IsTrue};
 ghost use Rattle.edge_bits.specs.declared.edges.Kind.TheVariants as kinds;
+ghost use Rattle.group_sift.specs.Turns.{last_end};
 ghost use Rattle.dd_session.specs.Sessions.{HasRoom, IsLiveAs};
 
-use dd_session::{Fetched, H, Manager, Refusal, Session};
+use dd_session::{Blocks, Fetched, H, Manager, Refusal, Session, Sifted};
 use edge_bits::Kind;
 use std::process::Abort;
 use std::sync::Wait;
@@ -120,6 +121,36 @@ pub fn swap_elements<R: Abort + Wait>(
         Ok(placed) => Ok(placed.value),
         Err(full) => Err((full.in_use, full.need)),
     }
+}
+
+/// Sifts the variables in blocks.
+pub fn sift<R: Abort + Wait>(
+    rt: &R,
+    manager: &Manager,
+    session: &mut Session,
+    blocks: &mut Blocks,
+) -> Sifted
+    requires own { session.old.manager ≡ manager.now }
+    requires end { last_end 0 blocks.old ≡ manager.now.vars }
+    ensures { (session.new.manager ≡ session.old.manager) × (session.new.number ≡ session.old.number) }
+{
+    has_room(rt, session);
+    session.sift(rt, manager, blocks).value
+}
+
+/// The same of the elements.
+pub fn sift_elements<R: Abort + Wait>(
+    rt: &R,
+    manager: &Manager,
+    session: &mut Session,
+    blocks: &mut Blocks,
+) -> Sifted
+    requires own { session.old.manager ≡ manager.now }
+    requires end { last_end 0 blocks.old ≡ manager.now.elements }
+    ensures { (session.new.manager ≡ session.old.manager) × (session.new.number ≡ session.old.number) }
+{
+    has_room(rt, session);
+    session.sift_elements(rt, manager, blocks).value
 }
 
 /// Lets a row go.

@@ -10,6 +10,8 @@ mod listings;
 #[cfg(test)]
 mod many_sessions;
 #[cfg(test)]
+mod sifts;
+#[cfg(test)]
 mod swaps;
 #[cfg(test)]
 mod threads;

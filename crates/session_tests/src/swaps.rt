@@ -2,7 +2,7 @@
 
 ghost use Rattle.std.specs.Prelude.{◌≡◌, IfOk};
 
-use crate::calls::{and, eval, or, swap, swap_elements, sweep, var};
+use crate::calls::{and, drop_row, eval, or, swap, swap_elements, sweep, var};
 use dd_session::{Config, H, Manager, OpenFault, Session};
 use std::alloc::Global;
 use std::process::Abort;
@@ -10,7 +10,7 @@ use std::sync::Wait;
 use std::test::Fail;
 
 /// A manager, and its one session.
-fn open(
+pub fn open(
     alloc: Global,
     vars: u32,
     elements: u32,
@@ -48,8 +48,8 @@ fn a_swap_asks_for_room(rt: HostRuntime) -> Result<(), Fail> {
     Ok(())
 }
 
-/// x0 x2 + x1 x3.
-fn pairs<R: Abort + Wait>(rt: &R, manager: &Manager, session: &mut Session) -> H
+/// x0 x2 + x1 x3. What it was made of is let go, but for the variables.
+pub fn pairs<R: Abort + Wait>(rt: &R, manager: &Manager, session: &mut Session) -> H
     requires own { session.old.manager ≡ manager.now }
     requires variables { manager.now.vars ≡ 4 }
     ensures { (session.new.manager ≡ session.old.manager) × (session.new.number ≡ session.old.number) }
@@ -63,11 +63,14 @@ fn pairs<R: Abort + Wait>(rt: &R, manager: &Manager, session: &mut Session) -> H
     let (Some(first), Some(second)) = (first, second) else {
         panic!(rt; "full");
     };
-    or(rt, manager, session, first, second)
+    let f = or(rt, manager, session, first, second);
+    drop_row(rt, manager, session, first);
+    drop_row(rt, manager, session, second);
+    f
 }
 
 /// Whether the row has the value of x0 x2 + x1 x3 everywhere.
-fn is_pairs<R: Abort + Wait>(rt: &R, manager: &Manager, session: &mut Session, f: H) -> bool
+pub fn is_pairs<R: Abort + Wait>(rt: &R, manager: &Manager, session: &mut Session, f: H) -> bool
     requires own { session.old.manager ≡ manager.now }
     requires variables { manager.now.vars ≡ 4 }
     ensures { (session.new.manager ≡ session.old.manager) × (session.new.number ≡ session.old.number) }

@@ -1,13 +1,21 @@
 -- What a sift finds of what all share, and the order that it leaves.
 use Rattle.std.specs.Prelude.{ℕ, ◌==◌, Bool, not, List, map}
+use Rattle.function_laws.specs.declared.history.Call.{Call}
+use Rattle.function_laws.specs.declared.history.Call.TheVariants.{Sift, SiftElements}
 use Rattle.function_laws.specs.declared.history.Sifting.{Sifting}
 use Rattle.function_laws.specs.declared.orders.Order.{Order}
+use Rattle.function_laws.specs.declared.orders.Order.TheVariants.{Variables, Elements}
 use Rattle.function_laws.specs.Kinds.{Denoted}
 use Rattle.function_laws.specs.SiftedOrders.{Block, SiftedOrder, sifted}
 use Rattle.node_store.specs.Sweeps.{root_functions}
 use Rattle.node_slots.specs.Wholes.{content_view}
 use Rattle.shared_store.specs.declared.shared.Shared.{Shared}
 use Rattle.shared_store.specs.Sharing.{count, orders, view_of, whole_of}
+
+-- the call that sifts an order
+abbrev pub sift_call : Order → Sifting → Call
+sift_call Variables told = Sift told
+sift_call Elements told = SiftElements told
 
 -- a row or a cell holds the slot
 abbrev pub is_counted : Shared → ℕ → Bool
