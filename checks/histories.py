@@ -38,6 +38,8 @@ def went(program, row):
 
 def with_another_reply(line):
     call, _, reply = line.rpartition(" -> ")
+    if call.split()[2] in ("swap", "eswap"):
+        return f"{call} -> yes"
     return f"{call} -> {OTHERS.get(reply) or int(reply) + 1}"
 
 

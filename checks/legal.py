@@ -289,8 +289,11 @@ def after(words, reply, session, kinds, world, n, m):
         case "post":
             is_due = reply == "ok"
             world["cell", int(words[1])] = (kinds[words[2]], world[session, words[2]])
-        case "sweep":
+        case "sweep" | "sift" | "esift":
             is_due = reply == "ok"
+        case "swap" | "eswap":
+            # Whether the table is full for it depends on nodes, which no table of values tells.
+            is_due = reply in ("ok", "full")
         case "same":
             f, g = world[session, words[1]], world[session, words[2]]
             is_due = reply == ("yes" if f == g else "no")

@@ -3,7 +3,8 @@
 usage: sessions.py PROGRAM EXAMPLE..
 
 Each example is played some times, and so is a job of 64 sections with 200 calls each. A comment behind `eval`, `same` or `leq` begins
-with the reply that is due, and one behind an assignment may begin with `overflow` or `full`. Then come jobs in whose full table a dropped
+with the reply that is due, and one behind an assignment may begin with `overflow` or `full`. Then come jobs of four sections of which two
+exchange levels of both orders and sift them all the time, some of them with so few slots that a swap may be refused, jobs in whose full table a dropped
 number makes room for the last one that is made, and two long jobs of one section: one that makes more dead nodes than there are slots, and
 one that makes and drops many registers.
 """
@@ -14,6 +15,7 @@ import sys
 from legal import Illegal, judge
 
 RUNS = 100
+SWAP_JOBS = 100
 EXAMPLE_RUNS = 10
 
 
@@ -87,6 +89,21 @@ class Section:
                 self.assign(kind, f"{rng.choice(words)} {f} {g}")
 
 
+def swapped_sections(seed):
+    """Two sections that only exchange levels and sift, and two that make, copy, drop and evaluate meanwhile."""
+    rng = random.Random(seed)
+    lines = ["vars 4", "elements 4"] + ([f"limit {rng.randrange(60, 120)}"] if seed % 4 == 0 else [])
+    for _ in range(2):
+        swaps = [rng.choice(["sift", "esift"]) if rng.randrange(10) == 0 else f"{rng.choice(['swap', 'eswap'])} {rng.randrange(3)}" for _ in range(200)]
+        lines += ["session", *swaps]
+    for _ in range(2):
+        section = Section(rng)
+        while len(section.lines) < 200:
+            section.step()
+        lines += ["session", *section.lines]
+    return "\n".join(lines) + "\n"
+
+
 def many_sections(seed):
     rng = random.Random(seed)
     lines = ["vars 4", "elements 4"]
@@ -157,6 +174,7 @@ def main(program, *examples):
     faults = 0
     jobs = [(name, open(name).read(), EXAMPLE_RUNS) for name in examples]
     jobs.append(("64 sections", many_sections(1), RUNS))
+    jobs += [(f"swaps {seed}", swapped_sections(seed), 1) for seed in range(SWAP_JOBS)]
     for name, job, runs in jobs:
         for _ in range(runs):
             try:
@@ -175,7 +193,7 @@ def main(program, *examples):
         if evals(history) != due or " -> full" in history:
             print(f"NOT AS DUE {name}: {evals(history)}, due {due}")
             faults += 1
-    print(f"{len(examples)} examples, {RUNS} runs of 64 sessions, {len(ROOMS)} full tables and 2 long jobs: {faults} faults")
+    print(f"{len(examples)} examples, {RUNS} runs of 64 sessions, {SWAP_JOBS} jobs with swaps, {len(ROOMS)} full tables and 2 long jobs: {faults} faults")
     return faults > 0
 
 

@@ -11,13 +11,14 @@ use Rattle.function_laws.specs.declared.making.BddMaking.TheVariants as bdds
 use Rattle.function_laws.specs.declared.making.AddMaking.TheVariants as adds
 use Rattle.function_laws.specs.declared.making.ExactMaking.TheVariants as exacts
 use Rattle.function_laws.specs.declared.making.ZddMaking.TheVariants as zdds
+use Rattle.function_laws.specs.declared.orders.Order.TheVariants.{Variables, Elements}
 use Rattle.function_laws.specs.Makings.{kind_made as kind_of_making}
 use Rattle.job_commands.specs.declared.acts.Act.{Act}
 use Rattle.job_commands.specs.declared.acts.Act.TheVariants as acts
 use Rattle.job_commands.specs.declared.commands.Opcode.{Opcode}
 use Rattle.job_commands.specs.declared.commands.Opcode.TheVariants as does
 use Rattle.job_commands.specs.declared.commands.Place.{Place}
-use Rattle.job_commands.specs.declared.commands.Place.TheVariants.{Fresh, Held, Any, Alike, Variable, NewVariable, Element, Cell, Value, Bit, Bits}
+use Rattle.job_commands.specs.declared.commands.Place.TheVariants.{Fresh, Held, Any, Alike, Variable, NewVariable, Element, Level, Cell, Value, Bit, Bits}
 use Rattle.job_commands.specs.declared.operands.Operands.{Operands}
 use Rattle.job_words.specs.Text.{Word, is_number, is_integer, is_name, is_bit, is_bits}
 
@@ -97,6 +98,10 @@ telling =
     ∷ form (codes "leq") does.Leq (bdd ∷ bdd ∷ []) []
     ∷ form (codes "eval") does.Eval (Any ∷ Bits ∷ []) []
     ∷ form (codes "sweep") does.Sweep [] []
+    ∷ form (codes "swap") (does.Swap Variables) (Level Variables ∷ []) []
+    ∷ form (codes "eswap") (does.Swap Elements) (Level Elements ∷ []) []
+    ∷ form (codes "sift") (does.Sift Variables) [] []
+    ∷ form (codes "esift") (does.Sift Elements) [] []
     ∷ []
 
 -- the kind of what an operation makes; that of a BDD, where it makes none
@@ -154,6 +159,7 @@ has_form (Alike, word) = is_name word
 has_form (Variable, word) = is_number word
 has_form (NewVariable, word) = is_number word
 has_form (Element, word) = is_number word
+has_form (Level order, word) = is_number word
 has_form (Cell, word) = is_number word
 has_form (Value, word) = is_integer word
 has_form (Bit, word) = is_bit word
@@ -214,7 +220,9 @@ act_of does.Same given = acts.Same (slice_index given.registers 0) (slice_index 
 act_of does.Leq given = acts.Leq (slice_index given.registers 0) (slice_index given.registers 1)
 act_of does.Eval given = acts.Eval (slice_index given.registers 0) given.bits
 act_of does.Sweep given = acts.Sweep
+act_of (does.Swap order) given = acts.Swap order (slice_index given.levels 0)
+act_of (does.Sift order) given = acts.Sift order
 
 -- no operand yet
 abbrev pub no_operands : Operands
-no_operands = record { registers = []; kind = Bdd; variables = []; elements = []; cells = []; values = []; bits = [] }
+no_operands = record { registers = []; kind = Bdd; variables = []; elements = []; levels = []; cells = []; values = []; bits = [] }

@@ -1,7 +1,7 @@
 //! What a command of a job does.
 
 use edge_bits::List;
-use function_laws::Making;
+use function_laws::{Making, Order};
 
 /// What a command does. Registers go by number of assignment in their section, from 0.
 #[derive(Drop)]
@@ -24,4 +24,8 @@ pub enum Act {
     Eval(u32, List<bool>),
     /// `sweep`: slots that nothing reaches are freed.
     Sweep,
+    /// `swap L`, of the elements `eswap L`: the level and the next of the order are exchanged.
+    Swap(Order, u32),
+    /// `sift`, of the elements `esift`: the order is sifted in one block.
+    Sift(Order),
 }

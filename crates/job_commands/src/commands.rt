@@ -10,7 +10,7 @@ ghost use Rattle.job_commands.specs.Slots.{form_of};
 use crate::acts::Act;
 use crate::operands::Operands;
 use edge_bits::{Kind, List};
-use function_laws::{AddMaking, BddMaking, ExactMaking, Making, ZddMaking};
+use function_laws::{AddMaking, BddMaking, ExactMaking, Making, Order, ZddMaking};
 use std::alloc::{AllocError, Global};
 
 /// What a command does, before it is told with what.
@@ -34,6 +34,10 @@ pub enum Opcode {
     Eval,
     /// `sweep`
     Sweep,
+    /// `swap L`, `eswap L`
+    Swap(Order),
+    /// `sift`, `esift`
+    Sift(Order),
 }
 
 /// What is due at a place of a command.
@@ -53,6 +57,8 @@ pub enum Place {
     NewVariable,
     /// The number of an element.
     Element,
+    /// The number of a level of this order, from 0, that has a next one.
+    Level(Order),
     /// The number of a cell, from 0 to 255.
     Cell,
     /// A whole number from -2^46 to 2^46 - 1.
@@ -332,7 +338,7 @@ const ASSIGNING: [Known; 41] = [
 ];
 
 /// The other commands, by their first word.
-const TELLING: [Known; 6] = [
+const TELLING: [Known; 10] = [
     Known {
         word: b"post",
         opcode: Opcode::Post,
@@ -366,6 +372,30 @@ const TELLING: [Known; 6] = [
     Known {
         word: b"sweep",
         opcode: Opcode::Sweep,
+        places: &[],
+        repeated: &[],
+    },
+    Known {
+        word: b"swap",
+        opcode: Opcode::Swap(Order::Variables),
+        places: &[Place::Level(Order::Variables)],
+        repeated: &[],
+    },
+    Known {
+        word: b"eswap",
+        opcode: Opcode::Swap(Order::Elements),
+        places: &[Place::Level(Order::Elements)],
+        repeated: &[],
+    },
+    Known {
+        word: b"sift",
+        opcode: Opcode::Sift(Order::Variables),
+        places: &[],
+        repeated: &[],
+    },
+    Known {
+        word: b"esift",
+        opcode: Opcode::Sift(Order::Elements),
         places: &[],
         repeated: &[],
     },
@@ -433,6 +463,7 @@ impl Operands {
         let a = self.register(0);
         let b = self.register(1);
         let k = cell_at(self.cells.as_slice(), 0);
+        let level = number_at(self.levels.as_slice(), 0);
         match opcode {
             Opcode::Makes(making) => Ok(Act::Makes(self.making(alloc, making)?)),
             Opcode::Copy => Ok(Act::Copy(a)),
@@ -443,6 +474,8 @@ impl Operands {
             Opcode::Leq => Ok(Act::Leq(a, b)),
             Opcode::Eval => Ok(Act::Eval(a, self.take_bits(alloc))),
             Opcode::Sweep => Ok(Act::Sweep),
+            Opcode::Swap(order) => Ok(Act::Swap(order, level)),
+            Opcode::Sift(order) => Ok(Act::Sift(order)),
         }
     }
 

@@ -39,9 +39,8 @@ impl Slot<'_> {
     {
         match self.place {
             Place::Fresh | Place::Held(_) | Place::Any | Place::Alike => is_name(self.word),
-            Place::Variable | Place::NewVariable | Place::Element | Place::Cell => {
-                is_number(self.word)
-            }
+            Place::Variable | Place::NewVariable | Place::Element | Place::Level(_) | Place::Cell =>
+                { is_number(self.word) }
             Place::Value => is_integer(self.word),
             Place::Bit => is_bit(self.word),
             Place::Bits => is_bits(self.word),

@@ -1,6 +1,6 @@
 -- Words without a fault say something, and each text has a reading.
 use Rattle.std.proofs.Common.{◌≡◌, ◌⊎◌, ℕ, ◌+◌, ◌==◌, ◌<◌, ◌≤◌, ◌&&◌, ◌||◌, Bool, true, false, not, cond, List, [], ◌∷◌, ◌++◌, length, map, Option, Some, None, option_map, Result, Ok, inl, inr, refl, ap, sym, ◌∙◌, subst, arith, codes, append_assoc}
-use Rattle.std.specs.Prelude.{nat_lt, nat_le, is_some}
+use Rattle.std.specs.Prelude.{◌-◌, nat_lt, nat_le, is_some}
 use Rattle.std.specs.List.{list_any, list_all, position_or_len}
 use Rattle.std.specs.Str.{bytes_eq}
 use Rattle.std.specs.Str.Parse.{digits_value}
@@ -10,6 +10,7 @@ use Rattle.std.proofs.lemmas.List.{append-nil}
 use Rattle.std.proofs.lemmas.Slice.Eq.{bytes_eq-Decides}
 use Rattle.edge_bits.specs.declared.limits.TheConstants.{CELLS, MOST_ELEMENTS, MOST_SESSIONS, MOST_SLOTS, MOST_VARIABLES}
 use Rattle.edge_bits.specs.declared.edges.Kind.{Kind}
+use Rattle.function_laws.specs.declared.orders.Order.{Order}
 use Rattle.function_laws.specs.Numbers.{is_value}
 use Rattle.job_commands.specs.declared.acts.Act.{Act}
 use Rattle.job_text.specs.declared.job.Command.{Command}
@@ -31,7 +32,7 @@ use Rattle.job_text.specs.declared.faults.JobError.{JobError}
 use Rattle.job_words.specs.Text.{Word, IsNumber, is_name, integer_value, is_number, is_allowed, lines_of, words_of, line_words, bit_word, is_bit, is_bits}
 use Rattle.job_commands.specs.Commands.{act_of}
 use Rattle.job_commands.specs.Commands.{no_operands}
-use Rattle.job_text.specs.Places.{AllFit, IsFresh, Refers, is_called, kind_fault, kind_of, misfit, with_operand, with_operands}
+use Rattle.job_text.specs.Places.{AllFit, IsFresh, Refers, is_called, kind_fault, kind_of, levels_of, misfit, with_operand, with_operands}
 use Rattle.job_text.specs.Grammar.{IsJobText, Says, kind_called, register_called}
 use Rattle.job_text.specs.Faults.{slot_fault, beside_fault, word_fault, left_after, nothing_left, first_fault, fault_in, or_else, command_fault, name_fault, is_session, number_fault, has_begun, words_fault, line_fault, IsFaultText}
 use Rattle.job_commands.specs.Commands.{has_form, command_of}
@@ -91,6 +92,12 @@ variable_of n rs w h = (digits_value 10 w, (h.0, refl), below (digits_value 10 w
 element_of : (n : Counts) (rs : List Register) (w : Word) → Fits n rs (places.Element, w) → (e : ℕ) × IsNumber w e × (e < n.elements)
 element_of n rs w h = (digits_value 10 w, (h.0, refl), below (digits_value 10 w) n.elements (where_true (nat_lt (digits_value 10 w) n.elements) kinds.Range h.1))
 
+below_next : (d n : ℕ) → nat_lt d (n - 1) ≡ true → d + 1 < n
+below_next d n e = grind (arith, nat_tests)
+
+level_of : (n : Counts) (rs : List Register) (order : Order) (w : Word) → Fits n rs (places.Level order, w) → (l : ℕ) × IsNumber w l × (l + 1 < levels_of n order)
+level_of n rs order w h = (digits_value 10 w, (h.0, refl), below_next (digits_value 10 w) (levels_of n order) (where_true (nat_lt (digits_value 10 w) (levels_of n order - 1)) kinds.Range h.1))
+
 cell_of : (n : Counts) (rs : List Register) (w : Word) → Fits n rs (places.Cell, w) → (k : ℕ) × IsNumber w k × (k < CELLS)
 cell_of n rs w h = (digits_value 10 w, (h.0, refl), below (digits_value 10 w) CELLS (where_true (nat_lt (digits_value 10 w) CELLS) kinds.Range h.1))
 
@@ -117,6 +124,7 @@ operand_at n rs places.Alike w h = let a = named_of rs w h.0 h.1 in (operands.Al
 operand_at n rs places.Variable w h = let v = variable_of n rs w h in (operands.Variable v.0, (refl, (v.1, v.2)))
 operand_at n rs places.NewVariable w h = let v = variable_of n rs w h in (operands.NewVariable v.0, (refl, (v.1, v.2)))
 operand_at n rs places.Element w h = let e = element_of n rs w h in (operands.Element e.0, (refl, (e.1, e.2)))
+operand_at n rs (places.Level order) w h = let l = level_of n rs order w h in (operands.Level order l.0, (refl, (l.1, l.2)))
 operand_at n rs places.Cell w h = let k = cell_of n rs w h in (operands.Cell k.0, (refl, (k.1, k.2)))
 operand_at n rs places.Value w h = (operands.Value (integer_value w), (refl, ((h.0, refl), where_true (is_value (integer_value w)) kinds.Range h.1)))
 operand_at n rs places.Bit w h = let b = bit_of w h.0 in (operands.Bit b.0, (refl, b.1))

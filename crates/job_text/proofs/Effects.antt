@@ -211,7 +211,7 @@ module _ (n : Counts) (rs : List Register) where
   TellsDrop word _ = bytes_eq word (codes "drop") ≡ false
 
   each_tells_drop : EachRow (λ own. (given : Operands) → TellsDrop own.word (act_of own.opcode given)) telling
-  each_tells_drop = ((λ g. refl), ((λ g. refl), ((λ g. refl), ((λ g. refl), ((λ g. refl), ((λ g. refl), tt))))))
+  each_tells_drop = ((λ g. refl), ((λ g. refl), ((λ g. refl), ((λ g. refl), ((λ g. refl), ((λ g. refl), ((λ g. refl), ((λ g. refl), ((λ g. refl), ((λ g. refl), tt))))))))))
 
   -- the first word, which no register has as its name
   abbrev pub IsTarget : List Word → Word → Type 0

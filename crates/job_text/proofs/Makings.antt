@@ -84,6 +84,7 @@ target_is n rs r (operands.Alike a) h = cc h.0
 target_is n rs r (operands.Variable v) h = cc h.0
 target_is n rs r (operands.NewVariable v) h = cc h.0
 target_is n rs r (operands.Element e) h = cc h.0
+target_is n rs r (operands.Level order l) h = cc h.0
 target_is n rs r (operands.Cell k) h = cc h.0
 target_is n rs r (operands.Value w) h = cc h.0
 target_is n rs r (operands.Bit b) h = cc h.0

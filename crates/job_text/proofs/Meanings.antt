@@ -1,6 +1,6 @@
 -- Words that say something have no fault.
-use Rattle.std.proofs.Common.{◌≡◌, ◌≢◌, ℕ, suc, ◌<◌, ◌&&◌, ◌||◌, Bool, true, false, cond, List, [], ◌∷◌, ◌++◌, Some, None, option_map, option_and_then, refl, ap, sym, ◌∙◌, subst, arith, codes}
-use Rattle.std.specs.Prelude.{nat_lt}
+use Rattle.std.proofs.Common.{◌≡◌, ◌≢◌, ℕ, suc, ◌+◌, ◌<◌, ◌&&◌, ◌||◌, Bool, true, false, cond, List, [], ◌∷◌, ◌++◌, Some, None, option_map, option_and_then, refl, ap, sym, ◌∙◌, subst, arith, codes}
+use Rattle.std.specs.Prelude.{◌-◌, nat_lt}
 use Rattle.std.specs.List.{list_any, list_all, All}
 use Rattle.std.specs.Str.{bytes_eq}
 use Rattle.std.specs.Str.Parse.{digits_value}
@@ -9,6 +9,7 @@ use Rattle.std.proofs.lemmas.Bool.Decides.{nat_tests}
 use Rattle.std.proofs.lemmas.Slice.Eq.{bytes_eq-Decides}
 use Rattle.edge_bits.specs.declared.limits.TheConstants.{CELLS}
 use Rattle.edge_bits.specs.declared.edges.Kind.{Kind}
+use Rattle.function_laws.specs.declared.orders.Order.{Order}
 use Rattle.function_laws.specs.Numbers.{is_value}
 use Rattle.job_commands.specs.declared.acts.Act.{Act}
 use Rattle.job_text.specs.declared.job.Counts.{Counts}
@@ -21,7 +22,7 @@ use Rattle.job_commands.specs.declared.operands.Operands.{Operands}
 use Rattle.job_text.specs.declared.faults.FaultKind.TheVariants as kinds
 use Rattle.job_words.specs.Text.{Word, IsNumber, is_name, is_number, is_integer, bit_word, is_assignment, is_bit, is_bits}
 use Rattle.job_commands.specs.Commands.{no_operands}
-use Rattle.job_text.specs.Places.{AllFit, AllStandFor, Follows, IsFresh, Refers, StandsFor, is_called, kind_fault, kind_of, misfit, place_of, with_operand}
+use Rattle.job_text.specs.Places.{AllFit, AllStandFor, Follows, IsFresh, Refers, StandsFor, is_called, kind_fault, kind_of, levels_of, misfit, place_of, with_operand}
 use Rattle.job_text.specs.Grammar.{Forms, Says, assigns, register_called, tells}
 use Rattle.job_text.specs.Faults.{slot_fault, beside_fault, word_fault, left_after, nothing_left, first_fault, fault_in, or_else, command_fault, is_session, name_fault}
 use Rattle.job_commands.specs.Commands.{Form, form_in, assigning, telling, filled, command_in, has_form, command_of}
@@ -64,6 +65,12 @@ variable_fits n rs w v h lt = (h.0, ap (λ b. cond b None (Some kinds.Range)) (b
 pub element_fits : (n : Counts) (rs : List Register) (w : Word) (e : ℕ) → IsNumber w e → e < n.elements → Fits n rs (places.Element, w)
 element_fits n rs w e h lt = (h.0, ap (λ b. cond b None (Some kinds.Range)) (below e (digits_value 10 w) n.elements h.1 lt))
 
+below_next : (l d n : ℕ) → d ≡ l → l + 1 < n → nat_lt d (n - 1) ≡ true
+below_next l d n e h = grind (arith, nat_tests)
+
+pub level_fits : (n : Counts) (rs : List Register) (w : Word) (order : Order) (l : ℕ) → IsNumber w l → l + 1 < levels_of n order → Fits n rs (places.Level order, w)
+level_fits n rs w order l h lt = (h.0, ap (λ b. cond b None (Some kinds.Range)) (below_next l (digits_value 10 w) (levels_of n order) h.1 lt))
+
 pub cell_fits : (n : Counts) (rs : List Register) (w : Word) (k : ℕ) → IsNumber w k → k < CELLS → Fits n rs (places.Cell, w)
 cell_fits n rs w k h lt = (h.0, ap (λ b. cond b None (Some kinds.Range)) (below k (digits_value 10 w) CELLS h.1 lt))
 
@@ -80,6 +87,7 @@ operand_fits n rs slot (operands.Alike a) h = subst (λ (p : Place). Fits n rs (
 operand_fits n rs slot (operands.Variable v) h = subst (λ (p : Place). Fits n rs (p, slot.1)) h.0 (variable_fits n rs slot.1 v h.1.0 h.1.1)
 operand_fits n rs slot (operands.NewVariable v) h = subst (λ (p : Place). Fits n rs (p, slot.1)) h.0 (variable_fits n rs slot.1 v h.1.0 h.1.1)
 operand_fits n rs slot (operands.Element e) h = subst (λ (p : Place). Fits n rs (p, slot.1)) h.0 (element_fits n rs slot.1 e h.1.0 h.1.1)
+operand_fits n rs slot (operands.Level order l) h = subst (λ (p : Place). Fits n rs (p, slot.1)) h.0 (level_fits n rs slot.1 order l h.1.0 h.1.1)
 operand_fits n rs slot (operands.Cell k) h = subst (λ (p : Place). Fits n rs (p, slot.1)) h.0 (cell_fits n rs slot.1 k h.1.0 h.1.1)
 operand_fits n rs slot (operands.Value w) h = subst (λ (p : Place). Fits n rs (p, slot.1)) h.0 (h.1.0.0, ap (λ b. cond b None (Some kinds.Range)) (ap is_value h.1.0.1 ∙ h.1.1))
 operand_fits n rs slot (operands.Bit b) h = subst (λ (p : Place). Fits n rs (p, slot.1)) h.0 (bit_fits n rs slot.1 b h.1)
@@ -164,6 +172,7 @@ no_equals n rs w (operands.Alike a) h = unlike_equals is_name w equals_is_none.0
 no_equals n rs w (operands.Variable v) h = unlike_equals is_number w equals_is_none.1 h.0.0
 no_equals n rs w (operands.NewVariable v) h = unlike_equals is_number w equals_is_none.1 h.0.0
 no_equals n rs w (operands.Element e) h = unlike_equals is_number w equals_is_none.1 h.0.0
+no_equals n rs w (operands.Level order l) h = unlike_equals is_number w equals_is_none.1 h.0.0
 no_equals n rs w (operands.Cell k) h = unlike_equals is_number w equals_is_none.1 h.0.0
 no_equals n rs w (operands.Value v) h = unlike_equals is_integer w equals_is_none.2 h.0.0
 no_equals n rs w (operands.Bit b) h = ap (λ t. bytes_eq t (codes "=")) h ∙ bits_no_equals (b ∷ [])

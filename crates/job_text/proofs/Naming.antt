@@ -37,6 +37,8 @@ left_is n rs others slot (operands.NewVariable v) h =
     subst (λ (p : Place). left_after rs (left_by others) (p, slot.1) ≡ left_by (with_operand rs others (operands.NewVariable v))) h.0 (ap (λ t. record { variables = others.variables ++ t ∷ []; kind = others.kind }) h.1.0.1)
 left_is n rs others slot (operands.Element e) h =
     subst (λ (p : Place). left_after rs (left_by others) (p, slot.1) ≡ left_by (with_operand rs others (operands.Element e))) h.0 refl
+left_is n rs others slot (operands.Level order l) h =
+    subst (λ (p : Place). left_after rs (left_by others) (p, slot.1) ≡ left_by (with_operand rs others (operands.Level order l))) h.0 refl
 left_is n rs others slot (operands.Cell k) h =
     subst (λ (p : Place). left_after rs (left_by others) (p, slot.1) ≡ left_by (with_operand rs others (operands.Cell k))) h.0 refl
 left_is n rs others slot (operands.Value w) h =
@@ -62,6 +64,8 @@ beside_is n rs others slot (operands.NewVariable v) h =
     subst (λ (p : Place). beside_fault n rs (left_by others) (p, slot.1) ≡ misfit n rs others (operands.NewVariable v)) h.0 (ap (λ t. cond (list_any (λ u. u == t) others.variables) (Some kinds.Range) None) h.1.0.1)
 beside_is n rs others slot (operands.Element e) h =
     subst (λ (p : Place). beside_fault n rs (left_by others) (p, slot.1) ≡ misfit n rs others (operands.Element e)) h.0 refl
+beside_is n rs others slot (operands.Level order l) h =
+    subst (λ (p : Place). beside_fault n rs (left_by others) (p, slot.1) ≡ misfit n rs others (operands.Level order l)) h.0 refl
 beside_is n rs others slot (operands.Cell k) h =
     subst (λ (p : Place). beside_fault n rs (left_by others) (p, slot.1) ≡ misfit n rs others (operands.Cell k)) h.0 refl
 beside_is n rs others slot (operands.Value w) h =

@@ -17,7 +17,7 @@ use Rattle.job_text.specs.declared.job.Register.{Register}
 use Rattle.job_commands.specs.declared.commands.Opcode.{Opcode}
 use Rattle.job_commands.specs.declared.commands.Opcode.TheVariants as does
 use Rattle.job_commands.specs.declared.commands.Place.{Place}
-use Rattle.job_commands.specs.declared.commands.Place.TheVariants.{Fresh, Held, Any, Alike, Variable, NewVariable, Element, Cell, Value, Bit, Bits}
+use Rattle.job_commands.specs.declared.commands.Place.TheVariants.{Fresh, Held, Any, Alike, Variable, NewVariable, Element, Level, Cell, Value, Bit, Bits}
 use Rattle.job_text.specs.declared.faults.FaultKind.TheVariants as kinds
 use Rattle.job_text.specs.declared.operands.Operand.{Operand}
 use Rattle.job_text.specs.declared.operands.Operand.TheVariants as operands
@@ -59,6 +59,7 @@ Carried Alike = ℕ
 Carried Variable = ℕ
 Carried NewVariable = ℕ
 Carried Element = ℕ
+Carried (Level order) = ℕ
 Carried Cell = ℕ
 Carried Value = ℤ
 Carried Bit = Bool
@@ -72,6 +73,7 @@ operand_with Alike a = operands.Alike a
 operand_with Variable v = operands.Variable v
 operand_with NewVariable v = operands.NewVariable v
 operand_with Element e = operands.Element e
+operand_with (Level order) l = operands.Level order l
 operand_with Cell k = operands.Cell k
 operand_with Value w = operands.Value w
 operand_with Bit b = operands.Bit b
@@ -88,6 +90,7 @@ at_own (operands.Alike a) = (a, refl)
 at_own (operands.Variable v) = (v, refl)
 at_own (operands.NewVariable v) = (v, refl)
 at_own (operands.Element e) = (e, refl)
+at_own (operands.Level order l) = (l, refl)
 at_own (operands.Cell k) = (k, refl)
 at_own (operands.Value w) = (w, refl)
 at_own (operands.Bit b) = (b, refl)
@@ -150,6 +153,8 @@ module _ (n : Counts) (rs : List Register) where
   Takes (acts.Leq a b) os = os ≡ operands.Register Bdd a ∷ operands.Register Bdd b ∷ []
   Takes (acts.Eval a bits) os = (os ≡ operands.Any a ∷ operands.Bits bits ∷ []) × (length bits ≡ bits_for n (kind_at rs a))
   Takes acts.Sweep os = os ≡ []
+  Takes (acts.Swap order level) os = os ≡ operands.Level order level ∷ []
+  Takes (acts.Sift order) os = os ≡ []
 
   -- The operands that follow the places of a command are those of what it does.
   record IsRow (own : Form) : Type 0 where
@@ -416,7 +421,7 @@ module _ (n : Counts) (rs : List Register) where
 
   -- and each that tells
   each_tells : EachRow IsRow telling
-  each_tells = (makes (λ g. refl), (makes (λ g. refl), (compared _, (makes (λ g. refl), (evaluated _, (makes (λ g. refl), tt))))))
+  each_tells = (makes (λ g. refl), (makes (λ g. refl), (compared _, (makes (λ g. refl), (evaluated _, (makes (λ g. refl), (makes (λ g. refl), (makes (λ g. refl), (makes (λ g. refl), (makes (λ g. refl), tt))))))))))
 
   -- the operands of the words of a command are those of what it does
   pub takes : (words : List Word) (act : Act) (says : Says n rs words act) → Takes act says.operands

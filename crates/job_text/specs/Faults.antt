@@ -1,5 +1,5 @@
 -- What is wrong with a text: its first faulty line, and on it the first fault.
-use Rattle.std.specs.Prelude.{◌≡◌, ℕ, ◌+◌, ◌==◌, nat_lt, nat_le, Bool, true, false, ◌&&◌, not, List, [], ◌∷◌, ◌++◌, Option, Some, None, length, codes, if◌then◌else◌, ◌⊎◌, unwrap_or, is_some}
+use Rattle.std.specs.Prelude.{◌≡◌, ℕ, ◌+◌, ◌-◌, ◌==◌, nat_lt, nat_le, Bool, true, false, ◌&&◌, not, List, [], ◌∷◌, ◌++◌, Option, Some, None, length, codes, if◌then◌else◌, ◌⊎◌, unwrap_or, is_some}
 use Rattle.std.specs.List.{list_all, list_any}
 use Rattle.std.specs.Option.{option_map}
 use Rattle.std.specs.Str.{bytes_eq}
@@ -9,7 +9,7 @@ use Rattle.edge_bits.specs.declared.edges.Kind.{Kind}
 use Rattle.edge_bits.specs.declared.edges.Kind.TheVariants.{Bdd}
 use Rattle.function_laws.specs.Numbers.{is_value}
 use Rattle.job_commands.specs.declared.commands.Place.{Place}
-use Rattle.job_commands.specs.declared.commands.Place.TheVariants.{Fresh, Held, Any, Alike, Variable, NewVariable, Element, Cell, Value, Bit, Bits}
+use Rattle.job_commands.specs.declared.commands.Place.TheVariants.{Fresh, Held, Any, Alike, Variable, NewVariable, Element, Level, Cell, Value, Bit, Bits}
 use Rattle.job_text.specs.declared.faults.FaultKind.{FaultKind}
 use Rattle.job_text.specs.declared.faults.FaultKind.TheVariants as kinds
 use Rattle.job_text.specs.declared.faults.JobError.{JobError}
@@ -18,7 +18,7 @@ use Rattle.job_text.specs.declared.job.Counts.{Counts}
 use Rattle.job_text.specs.declared.job.Register.{Register}
 use Rattle.job_words.specs.Text.{Word, is_number, integer_value, is_allowed, lines_of, words_of, bits_in}
 use Rattle.job_commands.specs.Commands.{has_form, command_of}
-use Rattle.job_text.specs.Places.{bits_for, is_called, kind_fault}
+use Rattle.job_text.specs.Places.{bits_for, is_called, kind_fault, levels_of}
 use Rattle.job_text.specs.Grammar.{kind_called, register_called, registers_after}
 
 -- the fault where a register of any kind is due, and this one has the name that stands there
@@ -43,6 +43,7 @@ slot_fault n registers (Alike, word) = name_fault (register_called registers wor
 slot_fault n registers (Variable, word) = below_fault n.vars word
 slot_fault n registers (NewVariable, word) = below_fault n.vars word
 slot_fault n registers (Element, word) = below_fault n.elements word
+slot_fault n registers (Level order, word) = below_fault (levels_of n order - 1) word
 slot_fault n registers (Cell, word) = below_fault CELLS word
 slot_fault n registers (Value, word) = if is_value (integer_value word) then None else Some kinds.Range
 slot_fault n registers (Bit, word) = None
@@ -66,6 +67,7 @@ beside_fault n registers left (Alike, word) = kind_fault left.kind (kind_called 
 beside_fault n registers left (Variable, word) = None
 beside_fault n registers left (NewVariable, word) = if list_any (λ v. v == digits_value 10 word) left.variables then Some kinds.Range else None
 beside_fault n registers left (Element, word) = None
+beside_fault n registers left (Level order, word) = None
 beside_fault n registers left (Cell, word) = None
 beside_fault n registers left (Value, word) = None
 beside_fault n registers left (Bit, word) = None
@@ -84,6 +86,7 @@ left_after registers left (Alike, word) = record left { kind = kind_called regis
 left_after registers left (Variable, word) = record left { variables = left.variables ++ digits_value 10 word ∷ [] }
 left_after registers left (NewVariable, word) = record left { variables = left.variables ++ digits_value 10 word ∷ [] }
 left_after registers left (Element, word) = left
+left_after registers left (Level order, word) = left
 left_after registers left (Cell, word) = left
 left_after registers left (Value, word) = left
 left_after registers left (Bit, word) = left

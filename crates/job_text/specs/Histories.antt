@@ -9,13 +9,15 @@ use Rattle.function_laws.specs.declared.history.Call.TheVariants as calls
 use Rattle.function_laws.specs.declared.history.Reply.TheVariants as replies
 use Rattle.function_laws.specs.declared.history.Reply.{Reply as Answer}
 use Rattle.function_laws.specs.declared.history.Entry.{Entry}
+use Rattle.function_laws.specs.declared.history.Sifting.{Sifting}
+use Rattle.function_laws.specs.declared.orders.Order.TheVariants.{Variables, Elements}
 use Rattle.function_laws.specs.Steps.{TellsFull}
 use Rattle.function_laws.specs.Tables.{Sizes}
 use Rattle.function_laws.specs.Histories.{IsLegal}
 use Rattle.job_text.specs.declared.history_line.Reply.{Reply}
 use Rattle.job_text.specs.declared.history_line.Reply.TheVariants as reply
 use Rattle.job_commands.specs.declared.acts.Act.{Act}
-use Rattle.job_commands.specs.declared.acts.Act.TheVariants.{Makes, Copy, Fetch, Post, Drop, Same, Leq, Eval, Sweep}
+use Rattle.job_commands.specs.declared.acts.Act.TheVariants.{Makes, Copy, Fetch, Post, Drop, Same, Leq, Eval, Sweep, Swap, Sift}
 use Rattle.job_text.specs.declared.job.Command.{Command}
 use Rattle.job_text.specs.declared.job.Job.{Job}
 use Rattle.job_words.specs.Text.{Word}
@@ -120,6 +122,10 @@ IsCallOf registers (Same a b) call = (x y : Name) × IsNamedAs registers a x × 
 IsCallOf registers (Leq a b) call = (x y : Name) × IsNamedAs registers a x × IsNamedAs registers b y × (call ≡ calls.Leq x y)
 IsCallOf registers (Eval a bits) call = (x : Name) × IsNamedAs registers a x × (call ≡ calls.Eval x bits)
 IsCallOf registers Sweep call = call ≡ calls.Sweep
+IsCallOf registers (Swap Variables level) call = call ≡ calls.Swap level
+IsCallOf registers (Swap Elements level) call = call ≡ calls.SwapElements level
+IsCallOf registers (Sift Variables) call = (told : Sifting) × (call ≡ calls.Sift told)
+IsCallOf registers (Sift Elements) call = (told : Sifting) × (call ≡ calls.SiftElements told)
 
 -- each line has the words of the command at its place, and calls what that says; there may be further commands
 abbrev pub SayInOrder : List NamedRegister → List HistoryLine → List Command → Type 0

@@ -1,10 +1,12 @@
 -- The words of a command: what each stands for at its place, and which fit those to their left.
-use Rattle.std.specs.Prelude.{◌≡◌, ◌≢◌, ℕ, ◌<◌, ◌==◌, Bool, true, false, List, [], ◌∷◌, ◌++◌, Option, Some, None, All, length, slice_get, if◌then◌else◌}
+use Rattle.std.specs.Prelude.{◌≡◌, ◌≢◌, ℕ, ◌+◌, ◌<◌, ◌==◌, Bool, true, false, List, [], ◌∷◌, ◌++◌, Option, Some, None, All, length, slice_get, if◌then◌else◌}
 use Rattle.std.specs.List.{list_any, position_or_len}
 use Rattle.std.specs.Str.{bytes_eq}
 use Rattle.edge_bits.specs.declared.limits.TheConstants.{CELLS}
 use Rattle.edge_bits.specs.declared.edges.Kind.{Kind}
 use Rattle.edge_bits.specs.declared.edges.Kind.TheVariants.{Bdd, Add, Zdd}
+use Rattle.function_laws.specs.declared.orders.Order.{Order}
+use Rattle.function_laws.specs.declared.orders.Order.TheVariants.{Variables, Elements}
 use Rattle.function_laws.specs.Numbers.{is_value}
 use Rattle.job_commands.specs.declared.commands.Place.{Place}
 use Rattle.job_commands.specs.declared.commands.Place.TheVariants as places
@@ -31,6 +33,11 @@ Refers registers word a kind =
     (is_name word ≡ true) × (slice_get registers a ≡ Some (record { name = word; live = true; kind = kind }))
     × (position_or_len (is_called word) registers ≡ a)
 
+-- how many levels an order has: one for each variable, or for each element
+abbrev pub levels_of : Counts → Order → ℕ
+levels_of n Variables = n.vars
+levels_of n Elements = n.elements
+
 -- the word stands for this, over these registers and these numbers of variables and elements
 abbrev pub StandsFor : Counts → List Register → Word → Operand → Type 0
 StandsFor n registers word operands.Target = IsFresh registers word
@@ -40,6 +47,7 @@ StandsFor n registers word (operands.Alike a) = (kind : Kind) × Refers register
 StandsFor n registers word (operands.Variable v) = IsNumber word v × (v < n.vars)
 StandsFor n registers word (operands.NewVariable v) = IsNumber word v × (v < n.vars)
 StandsFor n registers word (operands.Element e) = IsNumber word e × (e < n.elements)
+StandsFor n registers word (operands.Level order l) = IsNumber word l × (l + 1 < levels_of n order)
 StandsFor n registers word (operands.Cell k) = IsNumber word k × (k < CELLS)
 StandsFor n registers word (operands.Value w) = IsInteger word w × (is_value w ≡ true)
 StandsFor n registers word (operands.Bit b) = word ≡ bit_word (b ∷ [])
@@ -60,6 +68,7 @@ place_of (operands.Alike a) = places.Alike
 place_of (operands.Variable v) = places.Variable
 place_of (operands.NewVariable v) = places.NewVariable
 place_of (operands.Element e) = places.Element
+place_of (operands.Level order l) = places.Level order
 place_of (operands.Cell k) = places.Cell
 place_of (operands.Value w) = places.Value
 place_of (operands.Bit b) = places.Bit
@@ -100,6 +109,7 @@ with_operand registers others (operands.Alike a) = with_register registers other
 with_operand registers others (operands.Variable v) = record others { variables = others.variables ++ v ∷ [] }
 with_operand registers others (operands.NewVariable v) = record others { variables = others.variables ++ v ∷ [] }
 with_operand registers others (operands.Element e) = record others { elements = others.elements ++ e ∷ [] }
+with_operand registers others (operands.Level order l) = record others { levels = others.levels ++ l ∷ [] }
 with_operand registers others (operands.Cell k) = record others { cells = others.cells ++ k ∷ [] }
 with_operand registers others (operands.Value w) = record others { values = others.values ++ w ∷ [] }
 with_operand registers others (operands.Bit b) = record others { bits = others.bits ++ b ∷ [] }
@@ -129,6 +139,7 @@ misfit n registers others (operands.Alike a) = kind_fault others.kind (kind_at r
 misfit n registers others (operands.Variable v) = None
 misfit n registers others (operands.NewVariable v) = if list_any (λ other. other == v) others.variables then Some kinds.Range else None
 misfit n registers others (operands.Element e) = None
+misfit n registers others (operands.Level order l) = None
 misfit n registers others (operands.Cell k) = None
 misfit n registers others (operands.Value w) = None
 misfit n registers others (operands.Bit b) = None

@@ -7,6 +7,7 @@ ghost use Rattle.job_text.specs.Places.{with_operand, with_register};
 use crate::job::Register;
 use crate::registers::kind_at;
 use edge_bits::{Kind, List};
+use function_laws::Order;
 use job_commands::Operands;
 use std::alloc::AllocError;
 
@@ -27,6 +28,8 @@ pub enum Operand {
     NewVariable(u32),
     /// An element, by its number.
     Element(u32),
+    /// A level of the order that has a next one, by its number from 0.
+    Level(Order, u32),
     /// A cell, by its number.
     Cell(u8),
     /// A whole number.
@@ -60,6 +63,7 @@ pub fn add_operand(
         }
         Operand::Variable(v) | Operand::NewVariable(v) => others.variables.push(v)?,
         Operand::Element(e) => others.elements.push(e)?,
+        Operand::Level(_, level) => others.levels.push(level)?,
         Operand::Cell(k) => others.cells.push(k)?,
         Operand::Value(w) => others.values.push(w)?,
         Operand::Bit(bit) => others.bits.push(bit)?,

@@ -5,7 +5,7 @@ ghost use Rattle.std.specs.List.{list_all};
 ghost use Rattle.edge_bits.specs.declared.limits.TheConstants.{MOST_ELEMENTS, MOST_VARIABLES};
 ghost use Rattle.job_words.specs.Text.{IsNumber, is_integer, is_name, is_number, is_bit, is_bits, split_words};
 ghost use Rattle.job_commands.specs.Commands.{no_operands};
-ghost use Rattle.job_text.specs.Places.{AllFit, Refers, bits_for, misfit, with_operand, with_operands};
+ghost use Rattle.job_text.specs.Places.{AllFit, Refers, bits_for, levels_of, misfit, with_operand, with_operands};
 ghost use Rattle.job_text.specs.Grammar.{Says, kind_called, register_called};
 ghost use Rattle.job_text.specs.Faults.{below_fault, name_fault, word_fault};
 ghost use Rattle.job_commands.specs.Commands.{has_form};
@@ -21,6 +21,7 @@ use crate::job::Counts;
 use crate::operands::{Operand, add_operand, names};
 use crate::registers::{Found, Registers, kind_at, same_kind};
 use edge_bits::{CELLS, Kind, List};
+use function_laws::Order;
 use job_commands::{Act, Operands, Place, Slot, Slots, all_have_form, command_line};
 use job_words::{bits_of, integer_value, number_value};
 use std::alloc::Global;
@@ -42,6 +43,16 @@ impl Counts {
         match kind {
             Kind::Bdd | Kind::Add => self.vars,
             Kind::Zdd => self.elements,
+        }
+    }
+
+    /// How many levels the order has.
+    fn levels_of(&self, order: Order) -> u32
+        ensures { result ≡ levels_of self.now order }
+    {
+        match order {
+            Order::Variables => self.vars,
+            Order::Elements => self.elements,
         }
     }
 }
@@ -141,6 +152,19 @@ impl Scope {
         Ok(Operand::Element(number_below(self.counts.elements, word)?))
     }
 
+    /// The number of a level of the order that has a next one.
+    fn level(&self, order: Order, word: &[u8]) -> Result<Operand, JobStop>
+        requires number { is_number word.now ≡ true }
+        requires vars { self.now.counts.vars ≤ MOST_VARIABLES }
+        requires elements { self.now.counts.elements ≤ MOST_ELEMENTS }
+        ensures ok { IfOk result (λ operand. IsOperand self.now.counts self.now.registers (places.Level order, word.now) operand) }
+        ensures stop { IfErr result (λ stop. SlotStop self.now.counts self.now.registers (places.Level order, word.now) stop) }
+    {
+        let levels = self.counts.levels_of(order);
+        let level = number_below(levels.saturating_sub(1), word)?;
+        Ok(Operand::Level(order, level))
+    }
+
     /// The number of a cell.
     fn cell(&self, word: &[u8]) -> Result<Operand, JobStop>
         requires { is_number word.now ≡ true }
@@ -187,6 +211,7 @@ impl Scope {
             Place::Variable => Ok(Operand::Variable(self.variable(slot.word)?)),
             Place::NewVariable => Ok(Operand::NewVariable(self.variable(slot.word)?)),
             Place::Element => self.element(slot.word),
+            Place::Level(order) => self.level(order, slot.word),
             Place::Cell => self.cell(slot.word),
             Place::Value => self.value(slot.word),
             Place::Bit => Ok(Operand::Bit(slot.word == b"1".as_slice())),

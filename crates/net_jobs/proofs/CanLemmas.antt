@@ -9,7 +9,7 @@ use Rattle.edge_bits.specs.Words.{IsLeafValue}
 use Rattle.edge_bits.specs.declared.edges.Kind.{Kind}
 use Rattle.edge_bits.specs.declared.edges.Kind.TheVariants as kinds
 use Rattle.job_commands.specs.declared.acts.Act.{Act}
-use Rattle.job_commands.specs.declared.acts.Act.TheVariants.{Makes, Copy, Fetch, Post, Drop, Same, Leq, Eval, Sweep}
+use Rattle.job_commands.specs.declared.acts.Act.TheVariants.{Makes, Copy, Fetch, Post, Drop, Same, Leq, Eval, Sweep, Swap, Sift}
 use Rattle.job_text.specs.declared.job.Counts.{Counts}
 use Rattle.job_text.specs.declared.job.Register.{Register}
 use Rattle.job_text.specs.declared.operands.Operand.TheVariants as operands
@@ -115,6 +115,8 @@ can_each n registers s names (Copy a) os covers each takes = let one = subst (Ea
 can_each n registers s names (Fetch cell a) os covers each takes = let both = subst (EachStands n registers) takes each in (both.1.0.1.0, covers.held a both.1.0.0 both.1.0.1.0 both.1.0.1.1.1, both.0.1.1)
 can_each n registers s names (Post cell a) os covers each takes = let both = subst (EachStands n registers) takes each in (both.1.0.1.0, covers.held a both.1.0.0 both.1.0.1.0 both.1.0.1.1.1, both.0.1.1)
 can_each n registers s names Sweep os covers each takes = tt
+can_each n registers s names (Sift order) os covers each takes = tt
+can_each n registers s names (Swap order level) os covers each takes = let one = subst (EachStands n registers) takes each in one.0.1.1
 can_each n registers s names (Drop a) os covers each takes = let one = subst (EachStands n registers) takes each in (one.0.1.0, covers.held a one.0.0 one.0.1.0 one.0.1.1.1)
 can_each n registers s names (Same a b) os covers each takes = let both = subst (EachStands n registers) takes.0 each in alike n registers s names a b covers both.0 both.1.0 takes.1
 can_each n registers s names (Leq a b) os covers each takes = let both = subst (EachStands n registers) takes each in (held n registers s names kinds.Bdd a covers both.0, held n registers s names kinds.Bdd b covers both.1.0)

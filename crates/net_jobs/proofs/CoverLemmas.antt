@@ -13,11 +13,13 @@ use Rattle.function_laws.specs.declared.history.Call.{Call}
 use Rattle.function_laws.specs.declared.history.Call.TheVariants as calls
 use Rattle.function_laws.specs.declared.history.Function.{Function}
 use Rattle.function_laws.specs.declared.history.Name.{Name}
+use Rattle.function_laws.specs.declared.history.Sifting.{Sifting}
+use Rattle.function_laws.specs.declared.orders.Order.TheVariants.{Variables, Elements}
 use Rattle.function_laws.specs.Tables.{same_name}
 use Rattle.dd_session.specs.Managing.{stands_for}
 use Rattle.dd_session.specs.Sessions.{kind_of}
 use Rattle.job_commands.specs.declared.acts.Act.{Act}
-use Rattle.job_commands.specs.declared.acts.Act.TheVariants.{Makes, Copy, Fetch, Post, Drop, Same, Leq, Eval, Sweep}
+use Rattle.job_commands.specs.declared.acts.Act.TheVariants.{Makes, Copy, Fetch, Post, Drop, Same, Leq, Eval, Sweep, Swap, Sift}
 use Rattle.job_text.specs.declared.job.Counts.{Counts}
 use Rattle.job_text.specs.declared.job.Register.{Register}
 use Rattle.job_text.specs.declared.operands.Operand.TheVariants as operands
@@ -59,9 +61,13 @@ name-apart a b apart = ap (λ g. (a.row == b.row) && g) (ne_eqb a.generation b.g
     and_false false = refl
 
 -- a command's call is one of a job
-pub plain : (names : List Assigned) (act : Act) → is_plain (call_of names act) ≡ true
-plain names (Drop a) = refl
-plain names act = refl
+pub plain : (told : Sifting) (names : List Assigned) (act : Act) → is_plain (call_of told names act) ≡ true
+plain told names (Drop a) = refl
+plain told names (Swap Variables level) = refl
+plain told names (Swap Elements level) = refl
+plain told names (Sift Variables) = refl
+plain told names (Sift Elements) = refl
+plain told names act = refl
 
 and_both : (a b : Bool) → (a && b) ≡ true → (a ≡ true) × (b ≡ true)
 and_both true b is = (refl, is)
@@ -146,40 +152,40 @@ module _ (n : Counts) (registers : List Register) (old new : Seen) (names : List
         (held.0, live_along k old new (name_at names j) (gone (name_at names j) ∙ ap (λ b. cond b None (stands_for old.rows (name_at names j))) other) held.1);
   }
 
-  module _ (act : Act) (answered : Answered) (is : IsAnswered old new (call_of names act) answered) (goes : stops answered.reply ≡ false) where
-    made-is : makes_row (call_of names act) ≡ true → is_some answered.made ≡ true
+  module _ (told : Sifting) (act : Act) (answered : Answered) (is : IsAnswered old new (call_of told names act) answered) (goes : stops answered.reply ≡ false) where
+    made-is : makes_row (call_of told names act) ≡ true → is_some answered.made ≡ true
     made-is makes = is.made_if ∙ ap (λ b. b && not (stops answered.reply)) makes ∙ ap not goes
 
-    made-none : makes_row (call_of names act) ≡ false → is_some answered.made ≡ false
+    made-none : makes_row (call_of told names act) ≡ false → is_some answered.made ≡ false
     made-none none = is.made_if ∙ ap (λ b. b && not (stops answered.reply)) none
 
     -- the call gave a name
-    pub gave : makes_row (call_of names act) ≡ true → (name : Name) × (answered.made ≡ Some name) × Given old new (call_of names act) name
+    pub gave : makes_row (call_of told names act) ≡ true → (name : Name) × (answered.made ≡ Some name) × Given old new (call_of told names act) name
     gave makes = by answered.made refl (made-is makes)
       where
-        by : (o : Option Name) → answered.made ≡ o → is_some o ≡ true → (name : Name) × (answered.made ≡ Some name) × Given old new (call_of names act) name
+        by : (o : Option Name) → answered.made ≡ o → is_some o ≡ true → (name : Name) × (answered.made ≡ Some name) × Given old new (call_of told names act) name
         by None made some = absurd (false≢true some)
-        by (Some name) made some = (name, made, given old new (call_of names act) is.reply answered.place is.called name (plain names act) (is.gives ∙ made))
+        by (Some name) made some = (name, made, given old new (call_of told names act) is.reply answered.place is.called name (plain told names act) (is.gives ∙ made))
 
     -- or none
-    pub gave_none : makes_row (call_of names act) ≡ false → (answered.made ≡ None) × ((name : Name) → stands_for new.rows name ≡ left_by (call_of names act) name (stands_for old.rows name))
+    pub gave_none : makes_row (call_of told names act) ≡ false → (answered.made ≡ None) × ((name : Name) → stands_for new.rows name ≡ left_by (call_of told names act) name (stands_for old.rows name))
     gave_none none = by answered.made refl (made-none none)
       where
-        by : (o : Option Name) → answered.made ≡ o → is_some o ≡ false → (answered.made ≡ None) × ((name : Name) → stands_for new.rows name ≡ left_by (call_of names act) name (stands_for old.rows name))
-        by None made some = (made, left old new (call_of names act) is.reply answered.place is.called (is.gives ∙ made))
+        by : (o : Option Name) → answered.made ≡ o → is_some o ≡ false → (answered.made ≡ None) × ((name : Name) → stands_for new.rows name ≡ left_by (call_of told names act) name (stands_for old.rows name))
+        by None made some = (made, left old new (call_of told names act) is.reply answered.place is.called (is.gives ∙ made))
         by (Some name) made some = absurd (false≢true (sym some))
 
     along : (o : Option Name) (rs : List Register) → registers_after registers words ≡ rs → answered.made ≡ o → Covers rs new (assigned_after o i names) → Covers (registers_after registers words) new (assigned_after answered.made i names)
     along o rs same made c = subst (λ (x : List Register). Covers x new (assigned_after answered.made i names)) (sym same) (subst (λ (x : Option Name). Covers rs new (assigned_after x i names)) (sym made) c)
 
-    after-made : (k : Kind) (r : Word) → registers_after registers words ≡ registers ++ record { name = r; live = true; kind = k } ∷ [] → ComesOf k old (call_of names act) → makes_row (call_of names act) ≡ true
+    after-made : (k : Kind) (r : Word) → registers_after registers words ≡ registers ++ record { name = r; live = true; kind = k } ∷ [] → ComesOf k old (call_of told names act) → makes_row (call_of told names act) ≡ true
         → Covers (registers_after registers words) new (assigned_after answered.made i names)
     after-made k r more comes makes =
         let one = gave makes in
-        along (Some one.0) _ more one.1 (covers-push one.0 (call_of names act) r k one.2 (one.2.kind k comes))
+        along (Some one.0) _ more one.1 (covers-push one.0 (call_of told names act) r k one.2 (one.2.kind k comes))
 
-    after-kept : registers_after registers words ≡ registers → makes_row (call_of names act) ≡ false
-        → ((name : Name) (o : Option Function) → left_by (call_of names act) name o ≡ o) → Covers (registers_after registers words) new (assigned_after answered.made i names)
+    after-kept : registers_after registers words ≡ registers → makes_row (call_of told names act) ≡ false
+        → ((name : Name) (o : Option Function) → left_by (call_of told names act) name o ≡ o) → Covers (registers_after registers words) new (assigned_after answered.made i names)
     after-kept keeps none same =
         let nothing = gave_none none in
         along None registers keeps nothing.0 (covers-kept (λ name. nothing.1 name ∙ same name (stands_for old.rows name)))
@@ -194,25 +200,29 @@ module _ (n : Counts) (registers : List Register) (old new : Seen) (names : List
       subst (λ (j : Kind). IsOfKind j o) (kind_held k old (name_at names a) held.1 ∙ sym (refers-kind registers stands.0 a k stands.1.1)) (comes z cells o at)
 
   -- the registers after a command that goes on
-  pub covers-after : (act : Act) (answered : Answered) → IsAnswered old new (call_of names act) answered → stops answered.reply ≡ false → Says n registers words act
+  pub covers-after : (told : Sifting) (act : Act) (answered : Answered) → IsAnswered old new (call_of told names act) answered → stops answered.reply ≡ false → Says n registers words act
       → Covers (registers_after registers words) new (assigned_after answered.made i names)
-  covers-after act answered is goes says = by act is (leaves n registers words act says) (takes n registers words act says) (operands_stand n registers words act says)
+  covers-after told act answered is goes says = by act is (leaves n registers words act says) (takes n registers words act says) (operands_stand n registers words act says)
     where
-      by : (act : Act) → IsAnswered old new (call_of names act) answered → Leaves n registers words act → Takes n registers act says.operands → EachStands n registers says.operands
+      by : (act : Act) → IsAnswered old new (call_of told names act) answered → Leaves n registers words act → Takes n registers act says.operands → EachStands n registers says.operands
           → Covers (registers_after registers words) new (assigned_after answered.made i names)
       by (Makes making) is leave take each =
-          after-made (Makes making) answered is goes (kind_made making) leave.0 leave.1 (λ z cells o at. named-kind z (stands_for old.rows) (name_at names) making o at) refl
+          after-made told (Makes making) answered is goes (kind_made making) leave.0 leave.1 (λ z cells o at. named-kind z (stands_for old.rows) (name_at names) making o at) refl
       by (Copy a) is leave take each =
           let one = subst (EachStands n registers) take each in
-          after-made (Copy a) answered is goes (kind_at registers a) leave.0 leave.1 (handed a (calls.Copy (name_at names a)) one.0 (λ z cells o at. copy-kind z cells (stands_for old.rows) (name_at names a) o at)) refl
+          after-made told (Copy a) answered is goes (kind_at registers a) leave.0 leave.1 (handed a (calls.Copy (name_at names a)) one.0 (λ z cells o at. copy-kind z cells (stands_for old.rows) (name_at names a) o at)) refl
       by (Fetch cell a) is leave take each =
           let both = subst (EachStands n registers) take each in
-          after-made (Fetch cell a) answered is goes (kind_at registers a) leave.0 leave.1 (handed a (calls.Fetch cell (name_at names a)) both.1.0 (λ z cells o at. fetch-kind z cells (stands_for old.rows) cell (name_at names a) o at)) refl
+          after-made told (Fetch cell a) answered is goes (kind_at registers a) leave.0 leave.1 (handed a (calls.Fetch cell (name_at names a)) both.1.0 (λ z cells o at. fetch-kind z cells (stands_for old.rows) cell (name_at names a) o at)) refl
       by (Drop a) is leave take each =
-          let nothing = gave_none (Drop a) answered is goes refl in
-          along (Drop a) answered is goes None (map (without leave.0) registers) leave.3 nothing.0 (covers-drop leave.0 leave.1 a leave.2.1 nothing.1)
-      by (Post cell a) is leave take each = after-kept (Post cell a) answered is goes leave refl (λ name o. refl)
-      by Sweep is leave take each = after-kept Sweep answered is goes leave refl (λ name o. refl)
-      by (Same a b) is leave take each = after-kept (Same a b) answered is goes leave refl (λ name o. refl)
-      by (Leq a b) is leave take each = after-kept (Leq a b) answered is goes leave refl (λ name o. refl)
-      by (Eval a bits) is leave take each = after-kept (Eval a bits) answered is goes leave refl (λ name o. refl)
+          let nothing = gave_none told (Drop a) answered is goes refl in
+          along told (Drop a) answered is goes None (map (without leave.0) registers) leave.3 nothing.0 (covers-drop leave.0 leave.1 a leave.2.1 nothing.1)
+      by (Post cell a) is leave take each = after-kept told (Post cell a) answered is goes leave refl (λ name o. refl)
+      by Sweep is leave take each = after-kept told Sweep answered is goes leave refl (λ name o. refl)
+      by (Swap Variables level) is leave take each = after-kept told (Swap Variables level) answered is goes leave refl (λ name o. refl)
+      by (Swap Elements level) is leave take each = after-kept told (Swap Elements level) answered is goes leave refl (λ name o. refl)
+      by (Sift Variables) is leave take each = after-kept told (Sift Variables) answered is goes leave refl (λ name o. refl)
+      by (Sift Elements) is leave take each = after-kept told (Sift Elements) answered is goes leave refl (λ name o. refl)
+      by (Same a b) is leave take each = after-kept told (Same a b) answered is goes leave refl (λ name o. refl)
+      by (Leq a b) is leave take each = after-kept told (Leq a b) answered is goes leave refl (λ name o. refl)
+      by (Eval a bits) is leave take each = after-kept told (Eval a bits) answered is goes leave refl (λ name o. refl)

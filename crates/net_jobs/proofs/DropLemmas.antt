@@ -10,6 +10,7 @@ use Rattle.function_laws.specs.declared.history.Call.{Call}
 use Rattle.function_laws.specs.declared.history.Call.TheVariants as calls
 use Rattle.function_laws.specs.declared.history.Function.{Function}
 use Rattle.function_laws.specs.declared.history.Name.{Name}
+use Rattle.function_laws.specs.declared.history.Sifting.{Sifting}
 use Rattle.function_laws.specs.SessionEntries.{entry}
 use Rattle.function_laws.specs.Tables.{same_name}
 use Rattle.dd_session.specs.Managing.{stands_for}
@@ -69,13 +70,13 @@ can_drop n s names row assigned act at is live =
     let named : name_at names row ≡ assigned.name = ap name_in at in
     subst (λ (a : Act). CanCall n s names a) (sym is) (live.0, (slice_get_within names row assigned at, subst (IsLiveAs live.0 s) (sym named) live.1))
 
-pub drops_live : (commands : List Command) (old new : Seen) (before after : Script) (row : ℕ) (assigned : Assigned) (command : Command) (answered : Answered) → slice_get before.names.items row ≡ Some assigned
-    → command.act ≡ Drop row → command.words ≡ drop_words commands assigned → is_none (stands_for old.rows assigned.name) ≡ false → IsAnswered old new (call_of before.names.items command.act) answered
+pub drops_live : (commands : List Command) (old new : Seen) (before after : Script) (row : ℕ) (assigned : Assigned) (command : Command) (answered : Answered) (told : Sifting) → slice_get before.names.items row ≡ Some assigned
+    → command.act ≡ Drop row → command.words ≡ drop_words commands assigned → is_none (stands_for old.rows assigned.name) ≡ false → IsAnswered old new (call_of told before.names.items command.act) answered
     → map written_as after.lines.items ≡ map written_as before.lines.items ++ (answered.place, line_text answered.place old.number command.words answered.reply) ∷ []
     → after.names.items ≡ before.names.items → DropsOne commands old new before after row assigned
-drops_live commands old new before after row assigned command answered at act words kept is lines names =
+drops_live commands old new before after row assigned command answered told at act words kept is lines names =
     let named : name_at before.names.items row ≡ assigned.name = ap name_in at in
-    let call : call_of before.names.items command.act ≡ calls.DropRow assigned.name = ap (call_of before.names.items) act ∙ ap calls.DropRow named in
+    let call : call_of told before.names.items command.act ≡ calls.DropRow assigned.name = ap (call_of told before.names.items) act ∙ ap calls.DropRow named in
     let dropped : IsAnswered old new (calls.DropRow assigned.name) answered = subst (λ (c : Call). IsAnswered old new c answered) call is in
     inr (
       kept,

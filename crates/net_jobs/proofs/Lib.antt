@@ -16,6 +16,7 @@ pub mod LoopLemmas
 pub mod Opening
 pub mod OrderLemmas
 pub mod OutcomeKinds
+pub mod SiftLemmas
 pub mod SizeLemmas
 pub mod Sorting
 pub mod StandsLemmas

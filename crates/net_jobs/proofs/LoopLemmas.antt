@@ -7,9 +7,11 @@ use Rattle.std.proofs.lemmas.List.{length_push, length-append, length-map}
 use Rattle.std.proofs.lemmas.List.Folds.{list_any-append}
 use Rattle.function_laws.specs.declared.history.Call.{Call}
 use Rattle.function_laws.specs.declared.history.Name.{Name}
+use Rattle.function_laws.specs.declared.history.Sifting.{Sifting}
 use Rattle.std.proofs.lemmas.Option.{slice_get_within}
 use Rattle.job_commands.specs.declared.acts.Act.{Act}
-use Rattle.job_commands.specs.declared.acts.Act.TheVariants.{Drop}
+use Rattle.function_laws.specs.declared.orders.Order.TheVariants.{Variables, Elements}
+use Rattle.job_commands.specs.declared.acts.Act.TheVariants.{Drop, Swap, Sift}
 use Rattle.job_text.specs.declared.job.Command.{Command}
 use Rattle.job_text.specs.declared.job.Counts.{Counts}
 use Rattle.job_text.specs.declared.job.Register.{Register}
@@ -20,18 +22,22 @@ use Rattle.net_jobs.specs.declared.answering.Answered.{Answered}
 use Rattle.net_jobs.specs.declared.registers.Assigned.{Assigned}
 use Rattle.net_jobs.specs.declared.section.Script.{Script}
 use Rattle.net_jobs.specs.Sections.{CanPlay, counts_of, entry_of}
-use Rattle.net_jobs.specs.Saying.{CanCall, Covers, SaysOne, SaysThrough, Spoke, HasSaid, assigned_after, call_of, name_at, target_in}
+use Rattle.net_jobs.specs.Saying.{CanCall, Covers, SaysOne, SaysThrough, Spoke, HasSaid, assigned_after, call_of, last_told, name_at, target_in}
 use Rattle.net_jobs.proofs.CanLemmas.{can_call}
 use Rattle.net_jobs.proofs.CoverLemmas.{covers-after, name-apart, numbered, plain}
 use Rattle.net_jobs.proofs.OrderLemmas.{in_order-after}
 use Rattle.net_jobs.proofs.StandsLemmas.{generation_of, said_line, stands-after, stands-first}
 
 -- a command drops no name that was not given
-drops_old : (n : Counts) (s : Seen) (names : List Assigned) (first : ℕ) (act : Act) → CanCall n s names act → map generation_of names ≡ range_with_len first (length names) → s.adds ≡ first + length names
-    → (name : Name) → s.adds ≤ name.generation → drops name (call_of names act) ≡ false
-drops_old n s names first (Drop a) can generations adds name from =
+drops_old : (told : Sifting) (n : Counts) (s : Seen) (names : List Assigned) (first : ℕ) (act : Act) → CanCall n s names act → map generation_of names ≡ range_with_len first (length names) → s.adds ≡ first + length names
+    → (name : Name) → s.adds ≤ name.generation → drops name (call_of told names act) ≡ false
+drops_old told n s names first (Drop a) can generations adds name from =
     name-apart name (name_at names a) (λ e. omega (arith, e, from, adds, numbered names first generations a can.1.0, can.1.0))
-drops_old n s names first act can generations adds name from = refl
+drops_old told n s names first (Swap Variables level) can generations adds name from = refl
+drops_old told n s names first (Swap Elements level) can generations adds name from = refl
+drops_old told n s names first (Sift Variables) can generations adds name from = refl
+drops_old told n s names first (Sift Elements) can generations adds name from = refl
+drops_old told n s names first act can generations adds name from = refl
 
 -- So many commands were said, none of which stopped the session.
 pub record SaysUpTo (old now : Seen) (commands : List Command) (script : Script) (i : ℕ) : Type 0 where
@@ -144,29 +150,29 @@ says-first m old commands script can names lines = record {
 }
 
 module _ (old now new : Seen) (commands : List Command) (before after : Script) (i : ℕ) (command : Command) (up : SaysUpTo old now commands before i) (at : slice_get commands i ≡ Some command)
-    (answered : Answered) (spoke : Spoke now new before after i command.words (call_of before.names.items command.act) answered) where
+    (answered : Answered) (told : Sifting) (spoke : Spoke now new before after i command.words (call_of told before.names.items command.act) answered) where
   abbrev names : List Assigned
   names = before.names.items
 
   abbrev call : Call
-  call = call_of names command.act
+  call = call_of told names command.act
 
   can : CanCall (counts_of old.manager) now names command.act
   can = can_start old now commands before i command up at
 
   old_drops : (name : Name) → now.adds ≤ name.generation → drops name call ≡ false
-  old_drops = drops_old (counts_of old.manager) now names old.adds command.act can up.stands.generations up.stands.adds
+  old_drops = drops_old told (counts_of old.manager) now names old.adds command.act can up.stands.generations up.stands.adds
 
   abbrev line : HistoryLine
-  line = said_line old now new commands names before.lines.items after.lines.items up.said command.words call answered i up.stands spoke.is (plain names command.act) old_drops
+  line = said_line old now new commands names before.lines.items after.lines.items up.said command.words call answered i up.stands spoke.is (plain told names command.act) old_drops
 
   stands-next : HasSaid old new commands after.names.items after.lines.items (up.said ++ line ∷ [])
   stands-next = subst (λ ns. HasSaid old new commands ns after.lines.items (up.said ++ line ∷ [])) (sym spoke.names)
-      (stands-after old now new commands names before.lines.items after.lines.items up.said command.words call answered i up.stands spoke.is (plain names command.act) old_drops
+      (stands-after old now new commands names before.lines.items after.lines.items up.said command.words call answered i up.stands spoke.is (plain told names command.act) old_drops
       (λ made. (slice_get_within commands i command at, sym (ap target_in at))) spoke.lines)
 
   in_order-next : SayInOrder (registers_of (up.said ++ line ∷ [])) (up.said ++ line ∷ []) commands
-  in_order-next = in_order-after (counts_of old.manager) now commands names up.said up.stands.registers line command up.in_order (ap (slice_get commands) up.count ∙ at) refl refl can
+  in_order-next = in_order-after (counts_of old.manager) now commands names up.said up.stands.registers told line command up.in_order (ap (slice_get commands) up.count ∙ at) refl refl can
 
   count-next : length (up.said ++ line ∷ []) ≡ i + 1
   count-next = length_push up.said line ∙ ap (λ k. k + 1) up.count
@@ -178,7 +184,7 @@ module _ (old now new : Seen) (commands : List Command) (before after : Script) 
         registers = registers_after up.registers command.words;
         rest = rest.1;
         covers = subst (λ ns. Covers (registers_after up.registers command.words) new ns) (sym spoke.names)
-            (covers-after (counts_of old.manager) up.registers now new names old.adds i command.words up.covers up.stands.generations up.stands.adds command.act answered spoke.is goes rest.0);
+            (covers-after (counts_of old.manager) up.registers now new names old.adds i command.words up.covers up.stands.generations up.stands.adds told command.act answered spoke.is goes rest.0);
         said = up.said ++ line ∷ [];
         stands = stands-next;
         in_order = in_order-next;
@@ -211,12 +217,12 @@ module _ (old now new : Seen) (commands : List Command) (before after : Script) 
 -- the same, by what say tells
 pub next_said : (old now new : Seen) (commands : List Command) (before after : Script) (i : ℕ) (command : Command) → SaysUpTo old now commands before i → slice_get commands i ≡ Some command
     → SaysOne now new before after i command true → SaysUpTo old new commands after (i + 1)
-next_said old now new commands before after i command up at one = next_command old now new commands before after i command up at one.0 one.1 (not_not (stops (one.0).reply) true one.2)
+next_said old now new commands before after i command up at one = next_command old now new commands before after i command up at one.0 (last_told new.entries) one.1 (not_not (stops (one.0).reply) true one.2)
 
 pub stop_said : (old now new : Seen) (commands : List Command) (before after : Script) (i : ℕ) (command : Command) → SaysUpTo old now commands before i → slice_get commands i ≡ Some command
     → SaysOne now new before after i command false → i < length commands → Through old new commands after × (length after.names.items ≤ length commands)
 stop_said old now new commands before after i command up at one below =
-    says_stop old now new commands before after i command up at one.0 one.1 (not_not (stops (one.0).reply) false one.2) below
+    says_stop old now new commands before after i command up at one.0 (last_told new.entries) one.1 (not_not (stops (one.0).reply) false one.2) below
 
 -- at the end of the commands
 pub says_all : (old now : Seen) (commands : List Command) (script : Script) (i : ℕ) → SaysUpTo old now commands script i → length commands ≡ i

@@ -8,8 +8,10 @@ use Rattle.edge_bits.specs.declared.edges.Kind.{Kind}
 use Rattle.edge_bits.specs.declared.edges.Kind.TheVariants as kinds
 use Rattle.function_laws.specs.declared.history.Call.{Call}
 use Rattle.function_laws.specs.declared.history.Name.{Name}
+use Rattle.function_laws.specs.declared.history.Sifting.{Sifting}
+use Rattle.function_laws.specs.declared.orders.Order.TheVariants.{Variables, Elements}
 use Rattle.job_commands.specs.declared.acts.Act.{Act}
-use Rattle.job_commands.specs.declared.acts.Act.TheVariants.{Makes, Copy, Fetch, Post, Drop, Same, Leq, Eval, Sweep}
+use Rattle.job_commands.specs.declared.acts.Act.TheVariants.{Makes, Copy, Fetch, Post, Drop, Same, Leq, Eval, Sweep, Swap, Sift}
 use Rattle.function_laws.specs.Makings.{Taken, bit, element, function, literals, number, pairs, taken, value, variable, variables}
 use Rattle.job_text.specs.declared.job.Command.{Command}
 use Rattle.job_text.specs.declared.job.Counts.{Counts}
@@ -48,6 +50,10 @@ calls-more registers more (Copy a) call is = (is.0, named-more registers more a 
 calls-more registers more (Fetch cell a) call is = (is.0, named-more registers more a is.0 is.1, is.2)
 calls-more registers more (Post cell a) call is = (is.0, named-more registers more a is.0 is.1, is.2)
 calls-more registers more Sweep call is = is
+calls-more registers more (Swap Variables level) call is = is
+calls-more registers more (Swap Elements level) call is = is
+calls-more registers more (Sift Variables) call is = is
+calls-more registers more (Sift Elements) call is = is
 calls-more registers more (Drop a) call is = (is.0, named-more registers more a is.0 is.1, is.2)
 calls-more registers more (Same a b) call is = (is.0, is.1, named-more registers more a is.0 is.2, named-more registers more b is.1 is.3, is.4)
 calls-more registers more (Leq a b) call is = (is.0, is.1, named-more registers more a is.0 is.2, named-more registers more b is.1 is.3, is.4)
@@ -96,23 +102,27 @@ module _ (n : Counts) (s : Seen) (commands : List Command) (names : List Assigne
   are_named (bit b ∷ all) can = are_named all can.1
   are_named (variables vs ∷ all) can = are_named all can.1
 
-  calls_of : (act : Act) → CanCall n s names act → IsCallOf (registers_of said) act (call_of names act)
-  calls_of (Makes making) can = (name_at names, are_named (taken making) can, refl)
-  calls_of (Copy a) can = (name_at names a, named can.0 a can.1, refl)
-  calls_of (Fetch cell a) can = (name_at names a, named can.0 a can.1, refl)
-  calls_of (Post cell a) can = (name_at names a, named can.0 a can.1, refl)
-  calls_of Sweep can = refl
-  calls_of (Drop a) can = (name_at names a, named can.0 a can.1, refl)
-  calls_of (Same a b) can = (name_at names a, name_at names b, named can.0 a can.1, named can.0 b can.2, refl)
-  calls_of (Leq a b) can = (name_at names a, name_at names b, named kinds.Bdd a can.0, named kinds.Bdd b can.1, refl)
-  calls_of (Eval a bits) can = (name_at names a, named can.0 a can.1, refl)
+  calls_of : (told : Sifting) (act : Act) → CanCall n s names act → IsCallOf (registers_of said) act (call_of told names act)
+  calls_of told (Makes making) can = (name_at names, are_named (taken making) can, refl)
+  calls_of told (Copy a) can = (name_at names a, named can.0 a can.1, refl)
+  calls_of told (Fetch cell a) can = (name_at names a, named can.0 a can.1, refl)
+  calls_of told (Post cell a) can = (name_at names a, named can.0 a can.1, refl)
+  calls_of told Sweep can = refl
+  calls_of told (Swap Variables level) can = refl
+  calls_of told (Swap Elements level) can = refl
+  calls_of told (Sift Variables) can = (told, refl)
+  calls_of told (Sift Elements) can = (told, refl)
+  calls_of told (Drop a) can = (name_at names a, named can.0 a can.1, refl)
+  calls_of told (Same a b) can = (name_at names a, name_at names b, named can.0 a can.1, named can.0 b can.2, refl)
+  calls_of told (Leq a b) can = (name_at names a, name_at names b, named kinds.Bdd a can.0, named kinds.Bdd b can.1, refl)
+  calls_of told (Eval a bits) can = (name_at names a, named can.0 a can.1, refl)
 
   -- the commands were said in order, with one more
-  pub in_order-after : (line : HistoryLine) (command : Command) → SayInOrder (registers_of said) said commands → slice_get commands (length said) ≡ Some command
-      → line.words ≡ command.words → line.entry.call ≡ call_of names command.act → CanCall n s names command.act
+  pub in_order-after : (told : Sifting) (line : HistoryLine) (command : Command) → SayInOrder (registers_of said) said commands → slice_get commands (length said) ≡ Some command
+      → line.words ≡ command.words → line.entry.call ≡ call_of told names command.act → CanCall n s names command.act
       → SayInOrder (registers_of (said ++ line ∷ [])) (said ++ line ∷ []) commands
-  in_order-after line command says at words call can =
+  in_order-after told line command says at words call can =
       subst (λ rs. SayInOrder rs (said ++ line ∷ []) commands) (sym (registers-grow said line))
       (in_order-more (registers_of said) (cons_option (held_by line) []) (said ++ line ∷ []) commands
       (in_order-push (registers_of said) said commands line command says at words
-      (subst (λ (c : Call). IsCallOf (registers_of said) command.act c) (sym call) (calls_of command.act can))))
+      (subst (λ (c : Call). IsCallOf (registers_of said) command.act c) (sym call) (calls_of told command.act can))))

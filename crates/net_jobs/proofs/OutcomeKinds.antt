@@ -31,10 +31,6 @@ IsOfKind k _ = Unit {0}
 
 -- the call is one of a job
 abbrev pub is_plain : Call → Bool
-is_plain (calls.Swap level) = false
-is_plain (calls.SwapElements level) = false
-is_plain (calls.Sift told) = false
-is_plain (calls.SiftElements told) = false
 is_plain calls.AddVar = false
 is_plain calls.AddElement = false
 is_plain _ = true
@@ -155,10 +151,6 @@ module _ (z : Sizes) (cells : ℕ → Option Function) (live : Name → Option F
   pub no-count : (call : Call) (o : Outcome) → is_plain call ≡ true → outcome_of z cells live call ≡ Some o → CountsNone o
   no-count (calls.Makes making) o plain is = kind-counts-none (kind_made making) o (made-kind z live making o is)
   no-count (calls.Same a b) o plain is = of_same (live a) (live b) o is
-  no-count (calls.Swap level) o plain is = cc
-  no-count (calls.SwapElements level) o plain is = cc
-  no-count (calls.Sift told) o plain is = cc
-  no-count (calls.SiftElements told) o plain is = cc
   no-count calls.AddVar o plain is = cc
   no-count calls.AddElement o plain is = cc
   no-count call o plain is = search (itself CountsNone, one CountsNone, two CountsNone, three CountsNone, guarded CountsNone, cell_counts_none, is)

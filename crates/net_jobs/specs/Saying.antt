@@ -6,18 +6,21 @@ use Rattle.edge_bits.specs.declared.edges.Kind.{Kind}
 use Rattle.edge_bits.specs.declared.edges.Kind.TheVariants as kinds
 use Rattle.function_laws.specs.declared.history.Call.{Call}
 use Rattle.function_laws.specs.declared.history.Call.TheVariants as calls
+use Rattle.function_laws.specs.declared.history.Entry.{Entry}
 use Rattle.function_laws.specs.declared.history.Function.{Function}
 use Rattle.function_laws.specs.declared.history.Name.{Name}
 use Rattle.function_laws.specs.declared.history.Reply.{Reply as LawReply}
+use Rattle.function_laws.specs.declared.history.Sifting.{Sifting}
+use Rattle.function_laws.specs.declared.orders.Order.TheVariants.{Variables, Elements}
 use Rattle.job_commands.specs.declared.acts.Act.{Act}
-use Rattle.job_commands.specs.declared.acts.Act.TheVariants.{Makes, Drop, Same, Leq, Eval, Copy, Fetch, Post, Sweep}
+use Rattle.job_commands.specs.declared.acts.Act.TheVariants.{Makes, Drop, Same, Leq, Eval, Copy, Fetch, Post, Sweep, Swap, Sift}
 use Rattle.job_text.specs.declared.job.Command.{Command}
 use Rattle.job_text.specs.declared.job.Counts.{Counts}
 use Rattle.job_text.specs.declared.job.Register.{Register}
 use Rattle.job_words.specs.Text.{Word}
 use Rattle.function_laws.specs.declared.making.Making.{Making}
 use Rattle.function_laws.specs.Makings.{named, taken}
-use Rattle.job_text.specs.Places.{bits_for}
+use Rattle.job_text.specs.Places.{bits_for, levels_of}
 use Rattle.job_text.specs.Grammar.{target_of}
 use Rattle.job_text.specs.Histories.{NamedRegister, HistoryLine, SayInOrder, drop_of, drops, given_by, left_of, line_text, registers_of, stops, told_of}
 use Rattle.operator_calls.specs.Taking.{CanTakeAll}
@@ -52,22 +55,28 @@ CanCall n s names (Copy a) = (k : Kind) × IsHeldAs k s names a
 CanCall n s names (Fetch cell a) = (k : Kind) × IsHeldAs k s names a × (cell < CELLS)
 CanCall n s names (Post cell a) = (k : Kind) × IsHeldAs k s names a × (cell < CELLS)
 CanCall n s names Sweep = Unit {0}
+CanCall n s names (Swap order level) = level + 1 < levels_of n order
+CanCall n s names (Sift order) = Unit {0}
 CanCall n s names (Drop a) = (k : Kind) × IsHeldAs k s names a
 CanCall n s names (Same a b) = (k : Kind) × IsHeldAs k s names a × IsHeldAs k s names b
 CanCall n s names (Leq a b) = IsHeldAs kinds.Bdd s names a × IsHeldAs kinds.Bdd s names b
 CanCall n s names (Eval a bits) = (k : Kind) × IsHeldAs k s names a × (length bits ≡ bits_for n k)
 
--- the call of a command, by the names of the registers
-abbrev pub call_of : List Assigned → Act → Call
-call_of names (Makes making) = calls.Makes (named (name_at names) making)
-call_of names (Copy a) = calls.Copy (name_at names a)
-call_of names (Fetch cell a) = calls.Fetch cell (name_at names a)
-call_of names (Post cell a) = calls.Post cell (name_at names a)
-call_of names Sweep = calls.Sweep
-call_of names (Drop a) = calls.DropRow (name_at names a)
-call_of names (Same a b) = calls.Same (name_at names a) (name_at names b)
-call_of names (Leq a b) = calls.Leq (name_at names a) (name_at names b)
-call_of names (Eval a bits) = calls.Eval (name_at names a) bits
+-- the call of a command, by the names of the registers; one that sifts tells this
+abbrev pub call_of : Sifting → List Assigned → Act → Call
+call_of told names (Makes making) = calls.Makes (named (name_at names) making)
+call_of told names (Copy a) = calls.Copy (name_at names a)
+call_of told names (Fetch cell a) = calls.Fetch cell (name_at names a)
+call_of told names (Post cell a) = calls.Post cell (name_at names a)
+call_of told names Sweep = calls.Sweep
+call_of told names (Swap Variables level) = calls.Swap level
+call_of told names (Swap Elements level) = calls.SwapElements level
+call_of told names (Sift Variables) = calls.Sift told
+call_of told names (Sift Elements) = calls.SiftElements told
+call_of told names (Drop a) = calls.DropRow (name_at names a)
+call_of told names (Same a b) = calls.Same (name_at names a) (name_at names b)
+call_of told names (Leq a b) = calls.Leq (name_at names a) (name_at names b)
+call_of told names (Eval a bits) = calls.Eval (name_at names a) bits
 
 -- the call makes a row, unless it stops the session
 abbrev pub makes_row : Call → Bool
@@ -77,6 +86,10 @@ makes_row (calls.Leq a b) = false
 makes_row (calls.Eval a bits) = false
 makes_row (calls.Post cell a) = false
 makes_row calls.Sweep = false
+makes_row (calls.Swap level) = false
+makes_row (calls.SwapElements level) = false
+makes_row (calls.Sift told) = false
+makes_row (calls.SiftElements told) = false
 makes_row _ = true
 
 -- The call was made, and this was answered.
@@ -87,6 +100,23 @@ pub record IsAnswered (old new : Seen) (call : Call) (answered : Answered) : Typ
   pub gives : given_by reply ≡ answered.made
   pub full : IsFullBy old.manager call reply
   pub made_if : is_some answered.made ≡ (makes_row call && not (stops answered.reply))
+
+-- what the last of these calls told, if it was a sift
+abbrev pub told_by : Call → Sifting
+told_by (calls.Sift told) = told
+told_by (calls.SiftElements told) = told
+told_by _ = record { variables = []; elements = []; functions = []; order = [] }
+
+abbrev pub told_in : Option Entry → Sifting
+told_in None = told_by calls.Sweep
+told_in (Some e) = told_by e.call
+
+abbrev pub last_told : List Entry → Sifting
+last_told entries = told_in (slice_get entries (length entries - 1))
+
+-- the command was called, and this was answered
+abbrev pub AnswersAct : Seen → Seen → List Assigned → Act → Answered → Type 0
+AnswersAct old new names act answered = IsAnswered old new (call_of (last_told new.entries) names act) answered
 
 -- the session is of the same manager, and has the same number
 abbrev pub IsKept : Seen → Seen → Type 0
@@ -162,7 +192,7 @@ pub record Spoke (old new : Seen) (before after : Script) (i : ℕ) (words : Lis
 -- the command was said; whether the session goes on
 abbrev pub SaysOne : Seen → Seen → Script → Script → ℕ → Command → Bool → Type 0
 SaysOne old new before after i command goes_on =
-    (answered : Answered) × Spoke old new before after i command.words (call_of before.names.items command.act) answered × (goes_on ≡ not (stops answered.reply))
+    (answered : Answered) × Spoke old new before after i command.words (call_of (last_told new.entries) before.names.items command.act) answered × (goes_on ≡ not (stops answered.reply))
 
 -- the words that drop a register
 abbrev pub drop_words : List Command → Assigned → List Word

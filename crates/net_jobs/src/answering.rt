@@ -1,16 +1,17 @@
 //! What a command is answered.
 
-ghost use Rattle.std.specs.Prelude.{◌≡◌, ℕ, Bool, List, true, false, IfOk, IsOk};
+ghost use Rattle.std.specs.Prelude.{◌≡◌, ℕ, Bool, List, true, false, IfOk, IsOk, MatchResult};
 ghost use Rattle.function_laws.specs.declared.history.Call.{Call};
 ghost use Rattle.function_laws.specs.declared.history.Call.TheVariants as calls;
 ghost use Rattle.function_laws.specs.declared.history.Reply.TheVariants as laws;
 ghost use Rattle.function_laws.specs.declared.making.Making.{Making};
+ghost use Rattle.dd_session.specs.declared.answers.Refusal.TheVariants as refusals;
 ghost use Rattle.dd_session.specs.MadeRows.{MakesOrExceeds, TellsRow};
 ghost use Rattle.dd_session.specs.Managing.{is_posted};
-ghost use Rattle.dd_session.specs.Sessions.{Called, Seen};
+ghost use Rattle.dd_session.specs.Sessions.{Called, Denies, Seen};
 ghost use Rattle.net_jobs.specs.Saying.{IsAnswered, makes_row};
 
-use dd_session::{Again, Fetched, Overflow, Placed, Refusal};
+use dd_session::{Again, Fetched, Full, Overflow, Placed, Refusal};
 use edge_bits::Memory;
 use function_laws::Name;
 use job_text::Reply;
@@ -90,6 +91,20 @@ pub fn done(place: u64) -> Answered
         place,
         reply: Reply::Done,
         made: None,
+    }
+}
+
+/// What a swap of two levels is answered.
+pub fn swapped(told: Result<Placed<()>, Full>) -> Answered
+    ensures { (old new : Seen) (call : Call) → makes_row call ≡ false → MatchResult told (λ placed. Called old new call laws.Done placed.place) (λ full. Denies old new call (refusals.Full full)) → IsAnswered old new call result }
+{
+    match told {
+        Ok(placed) => done(placed.place),
+        Err(full) => Answered {
+            place: full.place,
+            reply: Reply::Full,
+            made: None,
+        },
     }
 }
 

@@ -1,17 +1,18 @@
 //! The call of a command.
 
-ghost use Rattle.std.specs.Prelude.{◌≡◌, ◌<◌, true, IfOk};
+ghost use Rattle.std.specs.Prelude.{◌≡◌, ◌<◌, true, IfOk, List as ListOf};
 ghost use Rattle.function_laws.specs.declared.history.Call.TheVariants as calls;
 ghost use Rattle.function_laws.specs.Makings.{named};
 ghost use Rattle.dd_session.specs.Sessions.{HasRoom, IsLive};
+ghost use Rattle.net_jobs.specs.declared.registers.Assigned.{Assigned as AssignedOf};
 ghost use Rattle.net_jobs.specs.Sections.{counts_of};
-ghost use Rattle.net_jobs.specs.Saying.{CanCall, CanMake, IsAnswered, IsKept, call_of, name_at};
+ghost use Rattle.net_jobs.specs.Saying.{AnswersAct, CanCall, CanMake, IsAnswered, IsKept, name_at};
 
-use crate::answering::{Answered, answer_of, done, fetched, made, valued, yes_or_no};
+use crate::answering::{Answered, answer_of, done, fetched, made, swapped, valued, yes_or_no};
 use crate::registers::{Assigned, Registers, at};
-use dd_session::{H, Manager, Session};
+use dd_session::{Blocks, H, Manager, Session};
 use edge_bits::{List, Memory};
-use function_laws::Making;
+use function_laws::{Making, Order};
 use job_commands::Act;
 use operator_calls::{renamed, renamed_pairs};
 use std::alloc::Global;
@@ -73,6 +74,27 @@ fn fetch<R: Wait>(
     Ok(fetched(session.fetch(rt, manager, cell, name)))
 }
 
+/// Makes the call of a `sift` or an `esift`, which is over one block.
+fn sift<R: Wait>(
+    rt: &R,
+    alloc: Global,
+    manager: &Manager,
+    session: &mut Session,
+    order: Order,
+) -> Result<Answered, Memory>
+    requires own { session.old.manager ≡ manager.now }
+    requires room { HasRoom session.old }
+    ensures answered { IfOk result (λ answered. (names : ListOf AssignedOf) → AnswersAct session.old session.new names (Act.Sift order) answered) }
+    ensures kept { IsKept session.old session.new }
+{
+    let mut blocks = Blocks::one(alloc, manager.levels(order))?;
+    let placed = match order {
+        Order::Variables => session.sift(rt, manager, &mut blocks),
+        Order::Elements => session.sift_elements(rt, manager, &mut blocks),
+    };
+    Ok(done(placed.place))
+}
+
 /// Makes the call of a command.
 pub fn perform<R: Wait>(
     rt: &R,
@@ -85,7 +107,7 @@ pub fn perform<R: Wait>(
     requires own { session.old.manager ≡ manager.now }
     requires room { HasRoom session.old }
     requires can { CanCall (counts_of session.old.manager) session.old names.now act.now }
-    ensures answered { IfOk result (IsAnswered session.old session.new (call_of names.now act.now)) }
+    ensures answered { IfOk result (AnswersAct session.old session.new names.now act.now) }
     ensures kept { IsKept session.old session.new }
 {
     Ok(match act {
@@ -94,6 +116,9 @@ pub fn perform<R: Wait>(
         Act::Post(cell, a) => done(session.post(rt, manager, *cell, at(names, *a)).place),
         Act::Drop(a) => done(session.drop_row(rt, manager, at(names, *a)).place),
         Act::Sweep => done(session.sweep(rt, manager).place),
+        Act::Swap(Order::Variables, level) => swapped(session.swap(rt, manager, *level)),
+        Act::Swap(Order::Elements, level) => swapped(session.swap_elements(rt, manager, *level)),
+        Act::Sift(order) => sift(rt, alloc, manager, session, *order)?,
         Act::Same(a, b) => { yes_or_no(session.same(rt, manager, at(names, *a), at(names, *b))) }
         Act::Leq(a, b) => { yes_or_no(session.leq(rt, manager, at(names, *a), at(names, *b))?) }
         Act::Eval(a, bits) => { valued(session.eval(rt, manager, at(names, *a), bits.as_slice())) }

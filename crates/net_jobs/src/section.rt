@@ -6,7 +6,7 @@ ghost use Rattle.job_commands.specs.declared.acts.Act.TheVariants as acts;
 ghost use Rattle.job_text.specs.Histories.{HistoryLine, line_text, stops};
 ghost use Rattle.dd_session.specs.Sessions.{HasRoom, Seen};
 ghost use Rattle.net_jobs.specs.Sections.{CanPlay, PlaysSection, counts_of, written_as};
-ghost use Rattle.net_jobs.specs.Saying.{AreWithin, CanCall, DropsOne, DropsTheRest, IsAnswered, IsKept, SaysOne, SaysThrough, HasSaid, assigned_after, call_of, target_at};
+ghost use Rattle.net_jobs.specs.Saying.{AnswersAct, AreWithin, CanCall, DropsOne, DropsTheRest, IsKept, SaysOne, SaysThrough, HasSaid, assigned_after, target_at};
 
 use crate::answering::Answered;
 use crate::gate::Gate;
@@ -41,7 +41,7 @@ fn speak<R: Wait>(
     requires room { HasRoom session.old }
     requires number { number ≡ session.old.number }
     requires can { CanCall (counts_of session.old.manager) session.old script.old.names.items command.now.act }
-    ensures answered { IfOk result (IsAnswered session.old session.new (call_of script.old.names.items command.now.act)) }
+    ensures answered { IfOk result (AnswersAct session.old session.new script.old.names.items command.now.act) }
     ensures lines { IfOk result (λ answered. map written_as script.new.lines.items ≡ map written_as script.old.lines.items ++ (answered.place, line_text answered.place session.old.number command.now.words answered.reply) ∷ []) }
     ensures names { OnOk result (script.new.names.items ≡ script.old.names.items) }
     ensures kept { IsKept session.old session.new }

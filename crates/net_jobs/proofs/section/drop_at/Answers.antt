@@ -4,7 +4,7 @@ use Rattle.std.proofs.lemmas.Option.{slice_get_read}
 use Rattle.dd_session.specs.Sessions.{IsLive}
 use Rattle.net_jobs.specs.declared.registers.Assigned.{Assigned}
 use Rattle.net_jobs.specs.Sections.{counts_of}
-use Rattle.net_jobs.specs.Saying.{DropsOne}
+use Rattle.net_jobs.specs.Saying.{DropsOne, last_told}
 use Rattle.net_jobs.proofs.DropLemmas.{can_drop, drops_live, gone_if, kept_if}
 use Rattle.net_jobs.proofs.section.drop_at.Goals as goal
 
@@ -36,5 +36,5 @@ returns-clause-dropped g c =
     let at : slice_get script.names.items c.args.a ≡ Some assigned = slice_get_read script.names.items (length script.names.items) c.args.a assigned refl c.requires.within c.index.ensures in
     let live : IsLive old assigned.name = c.is_live.ensures.0 c.if-not-is_live.false in
     subst (λ (o : Option Assigned). IfSome o (λ x. DropsOne commands old new script c.speak.new.script c.args.a x)) (sym at)
-    (drops_live commands old new script c.speak.new.script c.args.a assigned c.in_ok-command.command c.in_ok-_answered._answered at c.in_ok-command.ensures.act
+    (drops_live commands old new script c.speak.new.script c.args.a assigned c.in_ok-command.command c.in_ok-_answered._answered (last_told new.entries) at c.in_ok-command.ensures.act
     c.in_ok-command.ensures.words (kept_if old assigned.name live) c.in_ok-_answered.ensures.answered c.in_ok-_answered.ensures.lines c.in_ok-_answered.ensures.names)
