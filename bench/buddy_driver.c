@@ -2,7 +2,7 @@
  * results, and the greatest number of nodes in use.
  *
  * Standard input: the number of variables, the number of registers, and then a line for each operation: a letter, the register that
- * is made, and its operands. The program is read whole before the clock starts. */
+ * is made, and its operands; `s 0` sifts all variables. The program is read whole before the clock starts. */
 #include <bdd.h>
 #include <stdio.h>
 #include <stdlib.h>
@@ -41,6 +41,7 @@ int main(void) {
         int n;
         if (scanf("%d", &s.made) != 1) return 1;
         switch (op) {
+        case 's': n = 1; break;
         case 'v': case 'n': case 'd': n = scanf("%d", &s.f) == 1; break;
         case 'i': n = scanf("%d %d %d", &s.f, &s.g, &s.h) == 3; break;
         case 'e': {
@@ -88,6 +89,7 @@ int main(void) {
             break;
         }
         case 'd': bdd_delref(regs[s.f]); regs[s.f] = bddfalse; continue;
+        case 's': bdd_varblockall(); bdd_reorder(BDD_REORDER_SIFT); continue;
         }
         regs[s.made] = bdd_addref(made);
     }

@@ -1,7 +1,7 @@
 """Plays scripts that make functions under an order that does not suit them, with and without a sift behind them, and prints a table of the
-seconds that the sift takes.
+seconds that the sift takes; with a driver of BuDDy those of its BDD_REORDER_SIFT too.
 
-usage: sifts.py PROGRAM
+usage: sifts.py PROGRAM [DRIVER]
 
   pairs     the sum of twelve products of two variables each, whose firsts all stand before their seconds
   halves    the same of thirteen products over 64 variables, of which 38 are not used
@@ -68,10 +68,43 @@ def seconds_of(lines):
     return float(row.group(3))
 
 
+LETTERS = {"not": "n", "and": "a", "or": "o", "xor": "x"}
+
+
+def program_of(lines):
+    """The script as the driver of BuDDy reads it."""
+    registers, steps, variables = {}, [], 0
+
+    def number(name):
+        return registers.setdefault(name, len(registers))
+
+    for words in map(str.split, lines):
+        if words[0] == "vars":
+            variables = int(words[1])
+        elif words[0] == "drop":
+            steps.append(f"d 0 {number(words[1])}")
+        elif words[0] == "sift":
+            steps.append("s 0")
+        elif words[1:3] == ["=", "var"]:
+            steps.append(f"v {number(words[0])} {words[3]}")
+        elif words[1:2] == ["="]:
+            operands = " ".join(str(number(it)) for it in words[3:])
+            steps.append(f"{LETTERS[words[2]]} {number(words[0])} {operands}")
+    return "\n".join([f"{variables} {len(registers)}", *steps]) + "\n"
+
+
+def buddy_seconds(lines):
+    told = [subprocess.run([sys.argv[2]], input=program_of(lines), capture_output=True, check=True, text=True).stdout.split() for _ in range(RUNS)]
+    return min(float(seconds) for seconds, *_ in told)
+
+
 def least(lines):
     return min(seconds_of(lines) for _ in range(RUNS))
 
 
-print(f"{'script':10} {'lines':>6} {'seconds of the sift':>20}")
+print(f"{'script':10} {'lines':>6} {'ddsh':>8}" + (f" {'BuDDy':>8}" if sys.argv[2:] else ""))
 for name, lines in SCRIPTS.items():
-    print(f"{name:10} {len(lines):6} {least([*lines, 'sift']) - least(lines):20.2f}")
+    row = f"{name:10} {len(lines):6} {least([*lines, 'sift']) - least(lines):8.2f}"
+    if sys.argv[2:]:
+        row += f" {buddy_seconds([*lines, 'sift']) - buddy_seconds(lines):8.2f}"
+    print(row)
