@@ -65,6 +65,7 @@ fn pairs_in_two_blocks_stay_apart(rt: HostRuntime) -> Result<(), Fail> {
 fn a_sift_keeps_to_its_slots(rt: HostRuntime) -> Result<(), Fail> {
     let mut blocks = Blocks::one(rt.alloc(), 4)?;
     assert!(rt; sifted_in(&rt, rt.alloc(), 20, &mut blocks) == left_apart());
+    let mut blocks = Blocks::one(rt.alloc(), 4)?;
     assert!(rt; sifted_in(&rt, rt.alloc(), 21, &mut blocks) == brought_together());
     Ok(())
 }
