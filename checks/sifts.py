@@ -207,7 +207,7 @@ def main(program):
         level = rng.randrange((m if which else n) - 1)
         if limits is None:
             size, need = store.need(store.sift([list(range(n)), list(range(m))], which, 10**6), which, level)
-            limits = [size + need - 1, size + need]
+            limits = [max(5 + n, size + need - 1), size + need]
         for limit in limits:
             reached, fault = judged(program, store, n, m, which, limit, lines, level)
             plays += reached
