@@ -13,3 +13,5 @@ pub mod DefinedTwice
 pub mod Numbering
 pub mod InLines
 pub mod Entering
+pub mod Known
+pub mod PartBy
