@@ -15,3 +15,9 @@ pub mod InLines
 pub mod Entering
 pub mod Known
 pub mod PartBy
+pub mod OfDrafts
+pub mod Reaching
+pub mod Judging
+pub mod Numbered
+pub mod ByVerdict
+pub mod Telling

@@ -15,3 +15,4 @@ pub mod Instances
 pub mod Drafts
 pub mod Entries
 pub mod Parts
+pub mod Verdicts

@@ -28,6 +28,7 @@ mod parts;
 mod reached;
 mod titles;
 mod twice;
+mod verdicts;
 mod words;
 
 pub use actuals::{actuals_in, joins_in};
@@ -45,6 +46,7 @@ pub use parts::{Parts, parts_of};
 pub use reached::first_met;
 pub use titles::{Heading, Title, mistitled_line, titles_of};
 pub use twice::twice_line;
+pub use verdicts::{Judged, Verdict, judge};
 pub use words::Words;
 
 /// Whether an instance joins the formal names of its model well is the same by numbers and by names.
