@@ -267,10 +267,14 @@ module _ (titles : List Word) (models : List Model) (drafts : List Draft) (are :
   have_interfaces m model i at =
       let x = draft_at titles models drafts are m model at in
       let face = face_at drafts parts.interfaces.items of.interfaces m x.0 x.1 in
-      let here = words_here m x.0 x.1 in
-      (face.0, face.1, face.2.is, record {
-        apart = apart_in words m (one_number m model at);
-        inputs = subst (λ ns. AreNumbersOf words m ns (formal_inputs model)) (sym face.2.inputs)
-            (input_numbers words m x.0.inputs model (definitions_to words m x.0.names here x.0.inputs (input_definitions model) x.2.inputs));
-        outputs = subst (λ ns. AreNumbersOf words m ns (names_of model.outputs)) (sym face.2.outputs) (numbers_to words m x.0.names here x.0.outputs (names_of model.outputs) x.2.outputs);
-      })
+      let here = words_here m x.0 x.1 in (
+        face.0,
+        face.1,
+        face.2.is,
+        record {
+          apart = apart_in words m (one_number m model at);
+          inputs = subst (λ ns. AreNumbersOf words m ns (formal_inputs model)) (sym face.2.inputs)
+              (input_numbers words m x.0.inputs model (definitions_to words m x.0.names here x.0.inputs (input_definitions model) x.2.inputs));
+          outputs = subst (λ ns. AreNumbersOf words m ns (names_of model.outputs)) (sym face.2.outputs) (numbers_to words m x.0.names here x.0.outputs (names_of model.outputs) x.2.outputs);
+        },
+      )

@@ -124,11 +124,7 @@ fn come_of(
 }
 
 /// What is told of models of which these are the drafts, the main one first, where the names of models have these numbers.
-pub fn judge(
-    alloc: Global,
-    titles: &Words,
-    drafts: Vec<Draft<'_>>,
-) -> Result<Judged, AllocError>
+pub fn judge(alloc: Global, titles: &Words, drafts: Vec<Draft<'_>>) -> Result<Judged, AllocError>
     requires some { 0 < length drafts.items }
     requires drafts { (models : ListOf Model) × AreDraftsOf titles.now models drafts.items }
     ensures names { IfOk result (λ judged. judged.names.items ≡ map (λ draft. draft.names) drafts.entry.items) }
@@ -156,7 +152,14 @@ pub fn judge(
         Some(verdict) => verdict,
         None => {
             let models = models_in(alloc, &callees, &calls, &joined, met, items)?;
-            come_of(alloc, &interfaces, &inputs, models, met, lines[0].as_slice())?
+            come_of(
+                alloc,
+                &interfaces,
+                &inputs,
+                models,
+                met,
+                lines[0].as_slice(),
+            )?
         }
     };
     Ok(Judged {

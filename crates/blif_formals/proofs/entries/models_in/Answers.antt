@@ -43,8 +43,8 @@ loop-own-preserved c =
     let new : Q m one = (
       c.in_ok-model_in.ensures.names ∙ ap length names,
       λ e. subst (λ xs. AreEntriesBy callees (get_or calls m []) (get_or joined m []) 0 xs one.entries) here
-      (subst (λ ws. AreEntriesBy callees (get_or calls m []) ws 0 own one.entries) words
-      (subst (λ cs. AreEntriesBy callees cs c.as_slice-words.result.now 0 own one.entries) ones (c.in_ok-model_in.ensures.met e))),
+          (subst (λ ws. AreEntriesBy callees (get_or calls m []) ws 0 own one.entries) words
+          (subst (λ cs. AreEntriesBy callees cs c.as_slice-words.result.now 0 own one.entries) ones (c.in_ok-model_in.ensures.met e))),
       λ e. c.in_ok-model_in.ensures.unmet e,
     ) in
     let grown = c.in_ok-push.ensures.items in

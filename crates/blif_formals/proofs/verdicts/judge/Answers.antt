@@ -257,24 +257,24 @@ returns-clause-judged c =
     let Is = VerdictIs models callees.names.now main in
     let so : Is c.match-branch-4.verdict =
     elim c.match-branch-4.branch [
-      in-Some w ↦ subst Is (sym w.verdict-is) (misnamed titles models callees parts.headings.items parts.items.items parts.calls.items parts.joined.items told met main at reached w.in-Some.verdict (subst (λ (o : Option Verdict). IsMisnaming callees parts.headings.items parts.calls.items parts.joined.items met o) w.in-Some.is naming))
-    | in-None+in_ok-models-in-None+in_ok-verdict-in-None w ↦
-      let numbered = w.in_ok-models-in-None.models.items in
-      let by : AreModelsBy callees parts.items.items parts.calls.items parts.joined.items met numbered =
-      subst (λ (cs : List (List Call)). AreModelsBy callees parts.items.items cs parts.joined.items met numbered) w.deref-in-None.ensures.value
-      (subst (λ (js : List (List (List (Bor (List ℕ))))). AreModelsBy callees parts.items.items w.deref-in-None.result.now js met numbered) w.deref-in-None-2.ensures.value w.in_ok-models-in-None.ensures) in
-      let inputs = parts.inputs.items in
-      let so_many_inputs = many_inputs titles models drafts all.drafts_are parts of in
-      let are_inputs = λ (m : ℕ) (model : Model) (found : slice_get models m ≡ Some model). subst (λ (ws : List (List Word)). AreDefinitionsOf ws m (get_or inputs m []) (input_definitions model)) (sym {A = List (List Word)} c.deref-4.ensures.value) (inputs_are titles models drafts all.drafts_are parts of m model found) in
-      let some : 0 < length parts.added.items = (let low = slice_get_within models 0 main at in let so = many_added titles models drafts all.drafts_are parts of in omega (arith, low, so)) in
-      let added_is : w.as_slice.result.now ≡ map adding_inputs main.inputs =
-      w.as_slice.ensures ∙ w.index-lines-0.is ∙ ap (λ (ones : List (List Adding)). get_or ones 0 w.index-lines-0.result) c.as_slice-lines.ensures.value ∙ get_or_default parts.added.items 0 w.index-lines-0.result [] some
-      ∙ added_are titles models drafts all.drafts_are parts of 0 main at in
-      let verdict = w.in_ok-verdict-in-None.verdict in
-      let come : Comes callees.interfaces.now inputs numbered met w.as_slice.result.now verdict =
-      subst (λ (is : List Interface). Comes is inputs numbered met w.as_slice.result.now verdict) (w.deref-in-None-3.ensures.value ∙ sym {A = List Interface} c.deref-5.ensures.value)
-      (subst (λ (ones : List (List Definition)). Comes w.deref-in-None-3.result.now ones numbered met w.as_slice.result.now verdict) w.deref-in-None-4.ensures.value w.in_ok-verdict-in-None.ensures) in
-      subst Is (sym w.verdict-is)
-      (comes titles models callees parts.headings.items parts.items.items parts.calls.items parts.joined.items told met main at reached inputs so_many_inputs are_inputs numbered by w.as_slice.result.now verdict added_is (subst (λ (o : Option Verdict). IsMisnaming callees parts.headings.items parts.calls.items parts.joined.items met o) w.in-None.is naming) come)
+      | in-Some w ↦ subst Is (sym w.verdict-is) (misnamed titles models callees parts.headings.items parts.items.items parts.calls.items parts.joined.items told met main at reached w.in-Some.verdict (subst (λ (o : Option Verdict). IsMisnaming callees parts.headings.items parts.calls.items parts.joined.items met o) w.in-Some.is naming))
+      | in-None+in_ok-models-in-None+in_ok-verdict-in-None w ↦
+          let numbered = w.in_ok-models-in-None.models.items in
+          let by : AreModelsBy callees parts.items.items parts.calls.items parts.joined.items met numbered =
+          subst (λ (cs : List (List Call)). AreModelsBy callees parts.items.items cs parts.joined.items met numbered) w.deref-in-None.ensures.value
+          (subst (λ (js : List (List (List (Bor (List ℕ))))). AreModelsBy callees parts.items.items w.deref-in-None.result.now js met numbered) w.deref-in-None-2.ensures.value w.in_ok-models-in-None.ensures) in
+          let inputs = parts.inputs.items in
+          let so_many_inputs = many_inputs titles models drafts all.drafts_are parts of in
+          let are_inputs = λ (m : ℕ) (model : Model) (found : slice_get models m ≡ Some model). subst (λ (ws : List (List Word)). AreDefinitionsOf ws m (get_or inputs m []) (input_definitions model)) (sym {A = List (List Word)} c.deref-4.ensures.value) (inputs_are titles models drafts all.drafts_are parts of m model found) in
+          let some : 0 < length parts.added.items = (let low = slice_get_within models 0 main at in let so = many_added titles models drafts all.drafts_are parts of in omega (arith, low, so)) in
+          let added_is : w.as_slice.result.now ≡ map adding_inputs main.inputs =
+          w.as_slice.ensures ∙ w.index-lines-0.is ∙ ap (λ (ones : List (List Adding)). get_or ones 0 w.index-lines-0.result) c.as_slice-lines.ensures.value ∙ get_or_default parts.added.items 0 w.index-lines-0.result [] some
+          ∙ added_are titles models drafts all.drafts_are parts of 0 main at in
+          let verdict = w.in_ok-verdict-in-None.verdict in
+          let come : Comes callees.interfaces.now inputs numbered met w.as_slice.result.now verdict =
+          subst (λ (is : List Interface). Comes is inputs numbered met w.as_slice.result.now verdict) (w.deref-in-None-3.ensures.value ∙ sym {A = List Interface} c.deref-5.ensures.value)
+          (subst (λ (ones : List (List Definition)). Comes w.deref-in-None-3.result.now ones numbered met w.as_slice.result.now verdict) w.deref-in-None-4.ensures.value w.in_ok-verdict-in-None.ensures) in
+          subst Is (sym w.verdict-is)
+          (comes titles models callees parts.headings.items parts.items.items parts.calls.items parts.joined.items told met main at reached inputs so_many_inputs are_inputs numbered by w.as_slice.result.now verdict added_is (subst (λ (o : Option Verdict). IsMisnaming callees parts.headings.items parts.calls.items parts.joined.items met o) w.in-None.is naming) come)
     ] in
     (have_interfaces titles models drafts all.drafts_are parts of, subst (λ (ws : List (List Word)). VerdictIs models ws main c.match-branch-4.verdict) c.deref-4.ensures.value so)
