@@ -38,7 +38,7 @@ line_above (model ∷ models) n zero one h at =
     subst (λ (x : Model). n ≤ x.line) same h.0
 line_above (model ∷ models) n (suc m) one h at = let above = line_above models (suc model.line) m one h.1 at in let low = h.0 in omega (arith, above, low)
 
-one_place : (models : List Model) (low m n : ℕ) (one other : Model) → RiseFrom low (map (λ model. model.line) models) → slice_get models m ≡ Some one → slice_get models n ≡ Some other → one.line ≡ other.line → m ≡ n
+pub one_place : (models : List Model) (low m n : ℕ) (one other : Model) → RiseFrom low (map (λ model. model.line) models) → slice_get models m ≡ Some one → slice_get models n ≡ Some other → one.line ≡ other.line → m ≡ n
 one_place [] low m n one other h at there same = cc
 one_place (model ∷ models) low zero zero one other h at there same = refl
 one_place (model ∷ models) low zero (suc n) one other h at there same =
