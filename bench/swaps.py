@@ -53,11 +53,9 @@ rng = random.Random(7)
 base = list(sums(rng))
 calls = {
     "sweeps": ["sweep"] * CALLS,
-    "swaps, to and fro at each level": [f"swap {k // 2 % (VARIABLES - 1)}" for k in range(CALLS)],
-    "swaps, one level after another": [f"swap {k % (VARIABLES - 1)}" for k in range(CALLS)],
-    "swaps, at levels by chance": [f"swap {rng.randrange(VARIABLES - 1)}" for _ in range(CALLS)],
+    "swaps, to and fro at each level in turn": [f"swap {k // 2 % (VARIABLES - 1)}" for k in range(CALLS)],
 }
 alone = least(base)
-print(f"{'calls':34} {'seconds':>8}")
+print(f"{'calls':40} {'seconds':>8}")
 for name, lines in calls.items():
-    print(f"{name:34} {least(base + lines) - alone:8.2f}")
+    print(f"{name:40} {least(base + lines) - alone:8.2f}")
