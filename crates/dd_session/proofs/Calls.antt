@@ -1,5 +1,6 @@
 -- What a call is for its caller.
 use Rattle.std.proofs.Common.{◌≡◌, ◌⊎◌, inl, inr, ℕ, suc, ◌+◌, ◌≤◌, ◌^◌, Bool, true, false, cond, List, [], ◌∷◌, ◌++◌, length, max, Contains, Option, Some, Result, Ok, Err, MatchResult, OnOk, refl, ap, sym, subst, ◌∙◌, arith, true≢false}
+use Rattle.std.proofs.Math.Nat.{zero-add}
 use Rattle.edge_bits.specs.declared.limits.TheConstants.{CELLS}
 use Rattle.atomic_table.specs.Seated.{TableId}
 use Rattle.std.specs.Result.{is_err}
@@ -18,7 +19,7 @@ use Rattle.function_laws.specs.Kinds.{Denoted, ValueOf}
 use Rattle.function_laws.specs.Outcomes.{Outcome}
 use Rattle.function_laws.specs.Steps.{outcome, TellsFull}
 use Rattle.function_laws.specs.Sizes.{Orders}
-use Rattle.function_laws.specs.Tables.{Table, same_name}
+use Rattle.function_laws.specs.Tables.{Sizes, Table, same_name}
 use Rattle.handle_count.specs.RowMaps.{RowMap}
 use Rattle.node_store.specs.declared.grow.Stop.{Stop}
 use Rattle.node_store.specs.Listed.{listed, listed_at}
@@ -36,7 +37,8 @@ use Rattle.seat_guard.specs.declared.view.Row.{Row}
 use Rattle.seat_guard.specs.declared.view.Telling.{Telling}
 use Rattle.seat_guard.specs.Passes.{IsPassOf, known, resting}
 use Rattle.seat_guard.specs.Turn.{KeepsRows}
-use Rattle.seat_guard.specs.Views.{Agrees, adds_after, cell_in, holding, letting_go, note_of, rows_after, without}
+use Rattle.seat_guard.specs.Notes.{orders_in}
+use Rattle.seat_guard.specs.Views.{Agrees, sizes_for, adds_after, cell_at, holding, letting_go, note_of, rows_after, told_of, without}
 use Rattle.shared_store.specs.declared.shared.Shared.{Shared}
 use Rattle.shared_store.specs.Lasting.{Lasts}
 use Rattle.shared_store.specs.Sharing.{Serving, board, count, counts, functions, keeps, orders, view_of}
@@ -47,7 +49,7 @@ use Rattle.dd_session.specs.declared.answers.Placed.{Placed}
 use Rattle.dd_session.specs.declared.answers.Refusal.{Refusal}
 use Rattle.dd_session.specs.declared.answers.Refusal.TheVariants as refusals
 use Rattle.dd_session.specs.declared.book.Book.{Book}
-use Rattle.dd_session.specs.Sessions.{Called, Denies, IsAsBefore, Managed, Seen, fulls_in, note_at}
+use Rattle.dd_session.specs.Sessions.{Called, Denies, IsAsBefore, Managed, Seen, fulls_in, known_sizes}
 use Rattle.node_slots.specs.Stores.{IsStore}
 use Rattle.node_slots.proofs.Settling.{level_same}
 use Rattle.dd_session.specs.Works.{HasRows, IsOfWork, IsOrderedBy, StoresAt, StoresWork}
@@ -103,18 +105,26 @@ stands_taken d e x took = record {
   counts_are = took.serves.counts_are ∙ (λ i. ((took.is i).vars, (took.is i).elements, (took.is i).slots));
 }
 
+-- a session knows as many variables and elements as its seat
+pub seen_sizes : (table : TableId) (d : Draws) (spare : ℕ) → known_sizes (seen_by table d spare) ≡ sizes_for d.vars d.elements
+seen_sizes table d spare = λ i. sizes_for (zero-add d.vars i) (zero-add d.elements i)
+
 -- a store that stands has the session's rows
 pub has_rows : (table : TableId) (d : Draws) (spare : ℕ) (x : Shared) → Stands (view_of x) d → HasRows (view_of x) (seen_by table d spare)
-has_rows table d spare x stands = record { vars = ap (λ (p : ℕ × ℕ × ℕ). p.0) stands.counts_are; elements = ap (λ (p : ℕ × ℕ × ℕ). p.1) stands.counts_are; rows = stands.rows_kept }
+has_rows table d spare x stands = record { vars = ap (λ (p : ℕ × ℕ × ℕ). p.0) stands.counts_are ∙ sym (zero-add d.vars); elements = ap (λ (p : ℕ × ℕ × ℕ). p.1) stands.counts_are ∙ sym (zero-add d.elements); rows = stands.rows_kept }
 
 -- its variables and elements stand as these orders have them
 ordered_as : (v : Shared) (o : Orders) → IsStore v.store → orders v ≡ o → IsOrderedBy (view_of v) o
 ordered_as v o of same = subst (IsOrderedBy (view_of v)) same (level_same v.store of)
 
--- the orders at the place were noted
-placed_told : {call : Call} {reply : Reply} (old held new : Draws) (x : Shared) (place : ℕ) → Took old held x → Told held new call reply place → new.placed ≡ old.placed ++ note_at place (orders x) ∷ []
+-- what there was at the place was noted
+placed_told : {call : Call} {reply : Reply} (old held new : Draws) (x : Shared) (place : ℕ) → Took old held x → Told held new call reply place → new.placed ≡ old.placed ++ note_of held place ∷ []
 placed_told old held new x place took told =
-    ap (λ (d : Draws). d.placed) told.4.left ∙ ap (λ (d : Draws). d.placed ++ note_of d place ∷ []) took.is
+    ap (λ (d : Draws). d.placed) told.4.left ∙ ap (λ (d : Draws). d.placed ++ note_of held place ∷ []) took.is
+
+-- with the orders of the store
+noted_orders : (old held : Draws) (x : Shared) (place : ℕ) → Took old held x → orders x ≡ orders_in (note_of held place)
+noted_orders old held x place took = sym (ap (λ (d : Draws). orders_in (note_of d place)) took.is)
 
 adds_are : (c : Change) (n : ℕ) → adds_after c n ≡ n + names_by c
 adds_are (Adds row) n = omega arith
@@ -150,13 +160,24 @@ called old held new x table table' spare spare' call reply place same took told 
     by t = let y : Telling = t.1 in let drew = t.4 in
         subst (λ (z : Call × Reply). Called (seen_by table old spare) (seen_by table new spare') z.0 z.1 place) (λ i. (t.2 i, t.3 i))
         (subst (λ (d : Draws). Called (seen_by table old spare) (seen_by table d spare') y.call y.reply place) (sym drew.left) (record {
-          board = cell_in cells;
-          orders = orders x;
+          board = cell_at (sizes_for old.vars old.elements) cells;
+          note = note_of (holding old cells took.others (orders x) (functions x)) place;
+          place_is = refl;
+          rows_noted = refl;
           placed_are = refl;
-          step = λ u seen board_is. let says = drew.may.step u (record { sizes_are = seen.sizes_are; live = seen.live; fresh = seen.fresh; cells = λ _. (board_is, took.many) }) in (
-            says.0,
-            record { sizes_are = says.1.sizes_are; live = says.1.live; fresh = says.1.fresh },
-          );
+          sizes_are = sym (seen_sizes table old spare);
+          more_are = (refl, refl);
+          step = λ u seen board_is sizes_are.
+              let says = drew.may.step u (record { sizes_are = sizes_are; live = seen.live; fresh = seen.fresh; cells = λ _. (board_is ∙ ap (λ (z : Sizes). cell_at z cells) (sym sizes_are), took.many) }) in
+              let many = says.1.sizes_are in (
+                says.0,
+                record {
+                  grown = (let n = ap (λ (z : Sizes). z.variables) many in omega (arith, n), let n = ap (λ (z : Sizes). z.elements) many in omega (arith, n));
+                  live = says.1.live;
+                  fresh = says.1.fresh;
+                },
+                many ∙ sym (seen_sizes table (letting_go (told_of (holding old cells took.others (orders x) (functions x)) place y) drew.leaving) spare'),
+              );
           entries_are = refl;
           later = drew.later;
           manager_is = refl;
@@ -226,7 +247,12 @@ module _ {X : Type 0} (old held new : Draws) (x y : Shared) (table table' : Tabl
         by g (inr part) = inr (of_work g part)
 
     stores_at : {call : Call} {reply : Reply} (place : ℕ) → Told held new call reply place → StoresAt Work (seen_by table old spare) (seen_by table' new spare') place
-    stores_at place told = record { orders = orders x; placed = placed_told old held new x place took told; stored = stored_work }
+    stores_at place told = record {
+      note = note_of held place;
+      place_is = refl;
+      placed = placed_told old held new x place took told;
+      stored = λ f c. subst (λ (o : Orders). IsOfWork (seen_by table old spare) o Work f) (noted_orders old held x place took) (stored_work f c);
+    }
 
     stored_row : (call : Call) (chose : Bool) (place : ℕ) (r : Result Name Overflow) → MatchResult r (λ name. IsAdded held new call (adding_by chose) name place) (λ over. Told held new call replies.Overflow place)
         → StoresAt Work (seen_by table old spare) (seen_by table' new spare') place
@@ -256,7 +282,7 @@ module _ {X : Type 0} (old held new : Draws) (x y : Shared) (table table' : Tabl
         };
         view = view_of tried.from;
         has = has_rows table old spare tried.from (stands_of old held x tried.from took tried.lasts tried.orders_are);
-        ordered = ordered_as tried.from (orders x) tried.ran.store tried.orders_are;
+        ordered = subst (IsOrderedBy (view_of tried.from)) (noted_orders old held x full.place took) (ordered_as tried.from (orders x) tried.ran.store tried.orders_are);
         same = refl;
         work = due.2;
       },

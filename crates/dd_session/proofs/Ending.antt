@@ -15,7 +15,7 @@ use Rattle.seat_guard.specs.declared.view.Gone.{Gone}
 use Rattle.seat_guard.specs.declared.view.Draws.{Draws}
 use Rattle.seat_guard.specs.Notes.{IsNotedIn}
 use Rattle.seat_guard.specs.Views.{sizes_for}
-use Rattle.seat_guard.specs.Rule.{AllBack, Whole}
+use Rattle.seat_guard.specs.Rule.{AllBack, RowsStand, Whole}
 use Rattle.seat_guard.proofs.RowCounts.{each_map}
 use Rattle.dd_session.specs.Managing.{AreAll, IsHistoryOf, Managed, Seen, gone_as}
 
@@ -51,9 +51,11 @@ history_of m d n k sessions vars elements given gone all first whole = (
     count = sym (ap (λ (l : List Entry). length l) (one_log d (sizes_for d.vars d.elements) n k (all_back m d sessions given gone all) first whole)) ∙ first.count;
     carried = subst (λ (z : Sizes). EachWith Carries (opening z) (opening_orders z) whole.log) (λ i. sizes_for (vars i) (elements i)) whole.carried;
     each = λ k s at. whole.each k (gone_as s) (ap (λ (l : List Gone). get_elem? l k) gone ∙ at_map gone_as sessions k s at);
-    rows = λ k s at. ap (λ (z : Sizes). (table_after (opening z) whole.log).live s.number) (λ i. sizes_for (sym vars i) (sym elements i)) ∙ whole.rows k (gone_as s) (ap (λ (l : List Gone). get_elem? l k) gone ∙ at_map gone_as sessions k s at);
-    placed = λ k s at. subst (λ (z : Sizes). Each (IsNotedIn z whole.log) s.placed) (λ i. sizes_for (vars i) (elements i)) (whole.noted k (gone_as s) (ap (λ (l : List Gone). get_elem? l k) gone ∙ at_map gone_as sessions k s at)).placed;
-    noted = λ k s at. subst (λ (z : Sizes). Each (IsNotedIn z whole.log) s.noted) (λ i. sizes_for (vars i) (elements i)) (whole.noted k (gone_as s) (ap (λ (l : List Gone). get_elem? l k) gone ∙ at_map gone_as sessions k s at)).noted;
+    rows = λ k s at. subst (λ (z : Sizes). RowsStand (table_after (opening z) whole.log) (gone_as s)) (λ i. sizes_for (vars i) (elements i)) (whole.rows k (gone_as s) (ap (λ (l : List Gone). get_elem? l k) gone ∙ at_map gone_as sessions k s at));
+    known = λ k s at. whole.known k (gone_as s) (ap (λ (l : List Gone). get_elem? l k) gone ∙ at_map gone_as sessions k s at) ∙ (λ i. sizes_for (vars i) (elements i));
+    fixed = subst (λ (z : Sizes). (table_after (opening z) whole.log).sizes ≡ z) (λ i. sizes_for (vars i) (elements i)) whole.fixed;
+    placed = λ k s at. subst (λ (z : Sizes). Each (IsNotedIn z whole.log s.number) s.placed) (λ i. sizes_for (vars i) (elements i)) (whole.noted k (gone_as s) (ap (λ (l : List Gone). get_elem? l k) gone ∙ at_map gone_as sessions k s at)).placed;
+    noted = λ k s at. subst (λ (z : Sizes). Each (IsNotedIn z whole.log s.number) s.noted) (λ i. sizes_for (vars i) (elements i)) (whole.noted k (gone_as s) (ap (λ (l : List Gone). get_elem? l k) gone ∙ at_map gone_as sessions k s at)).noted;
     no_other = λ p other. dite (dec_lt p m.sessions)
         (λ below. let c = all.covered p below in absurd (other c.0 c.1 c.2 c.3))
         (λ above. whole.beyond p (omega (arith, above, given)));

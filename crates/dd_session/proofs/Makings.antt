@@ -1,5 +1,6 @@
 -- What comes of every making of rows: one lemma a kind of answer, and a line a making.
 use Rattle.std.proofs.Common.{◌≡◌, ℕ, ◌^◌, ◌<◌, Bool, true, false, cond, ℤ, pos, ◌+ℤ◌, ◌-ℤ◌, ◌*ℤ◌, int_le, length, List, Option, Some, None, Result, Ok, Err, IfOk, MatchResult, inl, arith, ap, refl, sym, subst, ◌∙◌}
+use Rattle.std.proofs.Math.Nat.{zero-add}
 use Rattle.std.proofs.lemmas.Bool.{false≢true}
 use Rattle.std.specs.Prelude.{IsTrue, is_err}
 use Rattle.std.proofs.lemmas.List.Folds.{list_all_at}
@@ -139,7 +140,7 @@ module _ (d : Draws) (v : View) (of : IsSmall v) (stands : Stands v d) where
       → HasOutcome d v (calls.Makes (makings.Bdd (bdds.Restrict a b))) kinds.Bdd Chosen (λ u e. Restricted v u (edge a) (edge b) e) ⊥
   restricted a b first second = record {
     outcome = restricts (list_of (2 ^ v.vars) (bdd_at v (edge a))) (list_of (2 ^ v.vars) (bdd_at v (edge b)));
-    gives = λ t agrees. outcome-restrict v t.sizes t.cells (t.live d.session) a b (edge a) (edge b) (live d t a (listed_at kinds.Bdd v (edge a)) agrees (own kinds.Bdd a first v stands).1) (live d t b (listed_at kinds.Bdd v (edge b)) agrees (own kinds.Bdd b second v stands).1);
+    gives = λ t agrees. outcome-restrict v t.sizes t.cells (t.live d.session) a b (edge a) (edge b) (live d t a kinds.Bdd v (edge a) agrees stands (own kinds.Bdd a first v stands).1) (live d t b kinds.Bdd v (edge b) agrees stands (own kinds.Bdd b second v stands).1);
     may = refl;
     ok = λ w grown e is.
         let list : list_of (2 ^ w.vars) (bdd_at w e) ≡ list_of (2 ^ v.vars) (bdd_at w e) = ap (λ n. list_of (2 ^ n) (bdd_at w e)) grown.vars in (
@@ -169,7 +170,7 @@ module _ (d : Draws) (v : View) (of : IsSmall v) (stands : Stands v d) where
       let s = own k a first v stands in
       let r = own k b second v stands in (
         record { first = s.0; second = r.0 },
-        from_value k d v call f (has_value k d v call f (λ t agrees. comes t (live d t a (listed_at k v (edge a)) agrees s.1) (live d t b (listed_at k v (edge b)) agrees r.1))),
+        from_value k d v call f (has_value k d v call f (λ t agrees. comes t (live d t a k v (edge a) agrees stands s.1) (live d t b k v (edge b) agrees stands r.1))),
       )
 
   exact : (T : Type 0) (call : Call) (f : ℕ → ℤ) → T × HasExact d v call f → T × HasOutcome d v call kinds.Add Made (λ u e. Denotes kinds.Add u e f) (Overflows kinds.Add f)
@@ -179,7 +180,7 @@ module _ (d : Draws) (v : View) (of : IsSmall v) (stands : Stands v d) where
   told (makings.Bdd bdds.One) can = (tt, from_value kinds.Bdd d v _ (constant true) (has_value kinds.Bdd d v _ (constant true) (λ t agrees. outcome-one v t.sizes t.cells (t.live d.session) (vars d t v agrees stands))))
   told (makings.Bdd bdds.Zero) can = (tt, from_value kinds.Bdd d v _ (constant false) (has_value kinds.Bdd d v _ (constant false) (λ t agrees. outcome-zero v t.sizes t.cells (t.live d.session) (vars d t v agrees stands))))
   told (makings.Bdd (bdds.Var m)) can = let var = operations.variable_in d v of stands m can.0 in (var, from_value kinds.Bdd d v _ (projection m) (has_value kinds.Bdd d v _ (projection m) (λ t agrees. outcome-var v t.sizes t.cells (t.live d.session) (vars d t v agrees stands) m var.1)))
-  told (makings.Bdd (bdds.Not a)) can = let s = own kinds.Bdd a can.0 v stands in (s.0, from_value kinds.Bdd d v _ (negation (bdd_at v (edge a))) (has_value kinds.Bdd d v _ (negation (bdd_at v (edge a))) (λ t agrees. outcome-not v t.sizes t.cells (t.live d.session) a (edge a) (live d t a (listed_at kinds.Bdd v (edge a)) agrees s.1))))
+  told (makings.Bdd (bdds.Not a)) can = let s = own kinds.Bdd a can.0 v stands in (s.0, from_value kinds.Bdd d v _ (negation (bdd_at v (edge a))) (has_value kinds.Bdd d v _ (negation (bdd_at v (edge a))) (λ t agrees. outcome-not v t.sizes t.cells (t.live d.session) a (edge a) (live d t a kinds.Bdd v (edge a) agrees stands s.1))))
   told (makings.Bdd (bdds.And a b)) can = two kinds.Bdd a b can.0 can.1.0 _ (conjunction (bdd_at v (edge a)) (bdd_at v (edge b))) (λ t. outcome-and v t.sizes t.cells (t.live d.session) a b (edge a) (edge b))
   told (makings.Bdd (bdds.Or a b)) can = two kinds.Bdd a b can.0 can.1.0 _ (disjunction (bdd_at v (edge a)) (bdd_at v (edge b))) (λ t. outcome-or v t.sizes t.cells (t.live d.session) a b (edge a) (edge b))
   told (makings.Bdd (bdds.Xor a b)) can = two kinds.Bdd a b can.0 can.1.0 _ (exclusive (bdd_at v (edge a)) (bdd_at v (edge b))) (λ t. outcome-xor v t.sizes t.cells (t.live d.session) a b (edge a) (edge b))
@@ -267,4 +268,5 @@ module _ (s : Seen) (d : Draws) (seat : IsSeatOf s d) (making : Making Name (Lis
   Comes w by = takes by w × HasOutcome d w (calls.Makes making) (kind_made making) (adding_by (chooses making)) (answer by w) (exceeds by w)
 
   pub told_by_edges : (w : View) → IsSmall w → Stands w d → Comes w edges
-  told_by_edges w small stands = subst (Comes w) (sym (same ∙ ap (λ (z : Seen). by_edges z.rows making) seat.is)) (told d w small stands making (subst (λ (z : Seen). HasTaken z making) seat.is has))
+  told_by_edges w small stands = subst (Comes w) (sym (same ∙ ap (λ (z : Seen). by_edges z.rows making) seat.is)) (told d w small stands making
+      (subst (λ (p : ℕ × ℕ). CanTakeAll (λ k a. IsNamed k d.rows a) p.0 p.1 (taken making)) (λ i. (zero-add d.vars i, zero-add d.elements i)) (subst (λ (z : Seen). HasTaken z making) seat.is has)))

@@ -15,7 +15,7 @@ use Rattle.seat_guard.specs.declared.view.Held.{Held}
 use Rattle.seat_guard.specs.declared.view.Row.{Row}
 use Rattle.seat_guard.specs.declared.view.Draws.{Draws}
 use Rattle.seat_guard.specs.Views.{stands_for}
-use Rattle.shared_store.specs.Sharing.{IsHeldIn, kind_of}
+use Rattle.shared_store.specs.Sharing.{IsHeldIn, kind_of, noted_in}
 use Rattle.dd_session.specs.Sessions.{IsNamed, Seen, edge_in, edge_or, held_as}
 use Rattle.dd_session.specs.Turns.{IsEdgeOf, IsSeatOf, Tied, live_as}
 
@@ -82,8 +82,8 @@ own_edge d name k named x stands =
     let same : edge_in d.rows name ≡ h.0.edge = ap edge_or h.1 in
     let kept : IsHeldIn x h.0 = held_kept (IsHeldIn x) d.rows name h.0 stands.rows_kept h.1 in
     let w = x in
-    subst (λ (y : Kind × Edge). Is y.0 w y.1 × (stands_for d.rows name ≡ Some (listed_at y.0 w y.1))) (λ i. (kind i, sym same i))
-    (kept.0, held_stands d.rows name ∙ ap (option_map (λ (z : Held). z.function)) h.1 ∙ ap Some (sym kept.1))
+    subst (λ (y : Kind × Edge). Is y.0 w y.1 × (option_map (noted_in w) (stands_for d.rows name) ≡ Some (listed_at y.0 w y.1))) (λ i. (kind i, sym same i))
+    (kept.0, ap (option_map (noted_in w)) (held_stands d.rows name ∙ ap (option_map (λ (z : Held). z.function)) h.1) ∙ ap Some (sym kept.1))
 
 -- in each seat that is seen as the session
 pub edge_seen : (s : Seen) (d : Draws) → IsSeatOf s d → (k : Kind) (name : Name) (e : Edge) → e ≡ edge_in s.rows name → IsNamed k s.rows name → IsEdgeOf k d name e
@@ -115,8 +115,8 @@ module _ (d : Draws) (rows : RowMap) (name : Name) (tied : Tied d rows) where
       let same : e ≡ h.0.edge = subst (λ (o : Option Live). IfSome o (λ held. e ≡ held.edge)) h.2 is in
       let kept : IsHeldIn x h.0 = held_kept (IsHeldIn x) d.rows name h.0 stands.rows_kept h.1 in
       let w = x in
-      subst (λ (y : Kind × Edge). Is y.0 w y.1 × (stands_for d.rows name ≡ Some (listed_at y.0 w y.1))) (λ i. (h.3 i, sym same i))
-      (kept.0, held_stands d.rows name ∙ ap (option_map (λ (z : Held). z.function)) h.1 ∙ ap Some (sym kept.1))
+      subst (λ (y : Kind × Edge). Is y.0 w y.1 × (option_map (noted_in w) (stands_for d.rows name) ≡ Some (listed_at y.0 w y.1))) (λ i. (h.3 i, sym same i))
+      (kept.0, ap (option_map (noted_in w)) (held_stands d.rows name ∙ ap (option_map (λ (z : Held). z.function)) h.1) ∙ ap Some (sym kept.1))
 
 -- a name is found exactly if it stands for something
 pub found_live : (d : Draws) (rows : RowMap) (name : Name) (b : Bool) → Tied d rows → IsTrue b ↔ IsSome (find_row rows.live name) → IsTrue b ↔ ((k : Kind) × IsNamed k d.rows name)

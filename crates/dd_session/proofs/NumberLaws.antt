@@ -30,7 +30,7 @@ use Rattle.dd_session.proofs.Outcomes.{has_value, live, vars}
 
 -- what a row's name stands for, in a table that agrees
 pub held_at : (d : Draws) (k : Kind) (a : Name) (e : Edge) → IsEdgeOf k d a e → (x : View) → Stands x d → (t : Table) → Agrees d t → t.live d.session a ≡ Some (listed_at k x e)
-held_at d k a e edge x stands t agrees = live d t a (listed_at k x e) agrees (edge x stands).1
+held_at d k a e edge x stands t agrees = live d t a k x e agrees stands (edge x stands).1
 
 module _ (d : Draws) where
   pub told_constant : (v : ℤ) → IsLeafValue v → (x : View) → IsSmall x → Stands x d → IsLeafValue v × HasValue kinds.Add (λ u edge. Denotes kinds.Add u edge (constant v)) d x (calls.Makes (makings.Add (adds.Constant v)))

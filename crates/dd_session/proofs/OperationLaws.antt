@@ -57,7 +57,7 @@ module _ (d : Draws) where
     w₁ = x
 
     abbrev own : (t : Table) → Agrees d t → t.live d.session a ≡ Some (listed_at kinds.Bdd w₁ e)
-    own t agrees = live d t a (listed_at kinds.Bdd w₁ e) agrees (first x stands).1
+    own t agrees = live d t a kinds.Bdd w₁ e agrees stands (first x stands).1
 
     pub told_cofactor : (v : ℕ) (bit : Bool) → v < d.vars
         → (Is kinds.Bdd w₁ e × IsVariable kinds.Bdd w₁ v) × HasValue kinds.Bdd (λ u edge. Denotes kinds.Bdd u edge (cofactor_at w₁ e v bit)) d w₁ (calls.Makes (makings.Bdd (bdds.Cofactor a v bit)))
@@ -83,10 +83,10 @@ module _ (d : Draws) where
     two = record { first = (first x stands).0; second = (second x stands).0 }
 
     abbrev own_first : (t : Table) → Agrees d t → t.live d.session a ≡ Some (listed_at kinds.Bdd w e)
-    own_first t agrees = live d t a (listed_at kinds.Bdd w e) agrees (first x stands).1
+    own_first t agrees = live d t a kinds.Bdd w e agrees stands (first x stands).1
 
     abbrev own_second : (t : Table) → Agrees d t → t.live d.session b ≡ Some (listed_at kinds.Bdd w i)
-    own_second t agrees = live d t b (listed_at kinds.Bdd w i) agrees (second x stands).1
+    own_second t agrees = live d t b kinds.Bdd w i agrees stands (second x stands).1
 
     pub told_and_exists : (vs : List ℕ) → All (λ v. v < d.vars) vs
         → (AreTwo kinds.Bdd w e i × All (IsVariable kinds.Bdd w) vs) × HasValue kinds.Bdd (λ u edge. Denotes kinds.Bdd u edge (exists_all (both_at w e i) vs)) d w (calls.Makes (makings.Bdd (bdds.AndExists a b vs)))
@@ -102,7 +102,7 @@ module _ (d : Draws) where
     w₃ = x
 
     pub told_ite : AreThree kinds.Bdd w₃ e i j × HasValue kinds.Bdd (λ v edge. Denotes kinds.Bdd v edge (ite_at kinds.Bdd w₃ e i j)) d w₃ (calls.Makes (makings.Bdd (bdds.Ite a b c)))
-    told_ite = (record { condition = (first x stands).0; first = (second x stands).0; second = (third x stands).0 }, has_value kinds.Bdd d w₃ (calls.Makes (makings.Bdd (bdds.Ite a b c))) (ite_at kinds.Bdd w₃ e i j) (λ t agrees. outcome-ite w₃ t.sizes t.cells (t.live d.session) a b c e i j (live d t a (listed_at kinds.Bdd w₃ e) agrees (first x stands).1) (live d t b (listed_at kinds.Bdd w₃ i) agrees (second x stands).1) (live d t c (listed_at kinds.Bdd w₃ j) agrees (third x stands).1)))
+    told_ite = (record { condition = (first x stands).0; first = (second x stands).0; second = (third x stands).0 }, has_value kinds.Bdd d w₃ (calls.Makes (makings.Bdd (bdds.Ite a b c))) (ite_at kinds.Bdd w₃ e i j) (λ t agrees. outcome-ite w₃ t.sizes t.cells (t.live d.session) a b c e i j (live d t a kinds.Bdd w₃ e agrees stands (first x stands).1) (live d t b kinds.Bdd w₃ i agrees stands (second x stands).1) (live d t c kinds.Bdd w₃ j agrees stands (third x stands).1)))
 
 -- the rows that are put for variables
 edge_variables : (rows : List Row) (pairs : List (ℕ × Name)) → map (λ pair. pair.0) (map (with_edge rows) pairs) ≡ map (λ pair. pair.0) pairs
@@ -119,7 +119,7 @@ module _ (d : Draws) (x : View) (of : IsSmall x) (stands : Stands x d) where
   pairs_live t (pair ∷ pairs) all agrees =
       let named = All-head (λ pair. IsNamed kinds.Bdd d.rows pair.1) pair pairs all in
       ap₂ (λ y o. option_and_then (λ f. option_map (λ rest. (pair.0, f) ∷ rest) o) (as_bdd y))
-      (live d t pair.1 (listed_at kinds.Bdd w₄ (edge_in d.rows pair.1)) agrees (own_edge d pair.1 kinds.Bdd named x stands).1)
+      (live d t pair.1 kinds.Bdd w₄ (edge_in d.rows pair.1) agrees stands (own_edge d pair.1 kinds.Bdd named x stands).1)
       (pairs_live t pairs (All-tail (λ pair. IsNamed kinds.Bdd d.rows pair.1) pair pairs all) agrees)
 
   pub told_vector_compose : (a : Name) (e : Edge) → IsEdgeOf kinds.Bdd d a e → (pairs : List (ℕ × Name)) → All (λ pair. pair.0 < d.vars) pairs → All (λ pair. IsNamed kinds.Bdd d.rows pair.1) pairs
@@ -133,7 +133,7 @@ module _ (d : Draws) (x : View) (of : IsSmall x) (stands : Stands x d) where
           each = All-map (IsPair w₄) (with_edge d.rows) pairs (λ k pair below. (variable_in d x of stands _ (ranges k pair below), (own_edge d _ kinds.Bdd (named k pair below) x stands).0));
           distinct = ap are_distinct (edge_variables d.rows pairs) ∙ distinct;
         },
-        has_value kinds.Bdd d w₄ (calls.Makes (makings.Bdd (bdds.VectorCompose a pairs))) (substituted_at w₄ e (map (with_edge d.rows) pairs)) (λ t agrees. outcome-vector_compose w₄ t.sizes t.cells (t.live d.session) (vars d t x agrees stands) a pairs e (map (with_edge d.rows) pairs) within (All-map (λ pair. pair.0 < w₄.vars) (with_edge d.rows) pairs within) distinct (live d t a (listed_at kinds.Bdd w₄ e) agrees (first x stands).1) (pairs_live t pairs named agrees)),
+        has_value kinds.Bdd d w₄ (calls.Makes (makings.Bdd (bdds.VectorCompose a pairs))) (substituted_at w₄ e (map (with_edge d.rows) pairs)) (λ t agrees. outcome-vector_compose w₄ t.sizes t.cells (t.live d.session) (vars d t x agrees stands) a pairs e (map (with_edge d.rows) pairs) within (All-map (λ pair. pair.0 < w₄.vars) (with_edge d.rows) pairs within) distinct (live d t a kinds.Bdd w₄ e agrees stands (first x stands).1) (pairs_live t pairs named agrees)),
       )
 
 -- an implication, as the turn has been taken
@@ -147,7 +147,7 @@ gives_leq old held x took idle a b e i first second told is =
       leq_of (list_of (2 ^ w.vars) (bdd_at w e)) (list_of (2 ^ w.vars) (bdd_at w i)),
       leq_of-list_of w.vars (bdd_at w e) (bdd_at w i) told s.0.beyond r.0.beyond is,
       gives_held old held x (calls.Leq a b) (tells (leq_of (list_of (2 ^ w.vars) (bdd_at w e)) (list_of (2 ^ w.vars) (bdd_at w i)))) took idle
-          (λ t agrees. outcome-leq w t.sizes t.cells (t.live old.session) a b e i (live old t a (listed_at kinds.Bdd w e) agrees s.1) (live old t b (listed_at kinds.Bdd w i) agrees r.1)),
+          (λ t agrees. outcome-leq w t.sizes t.cells (t.live old.session) a b e i (live old t a kinds.Bdd w e agrees (stands_taken old held x took) s.1) (live old t b kinds.Bdd w i agrees (stands_taken old held x took) r.1)),
     )
 
 pub two_held : (old held : Draws) (x : Shared) → Took old held x → (a b : Name) (e i : Edge) → IsEdgeOf kinds.Bdd old a e → IsEdgeOf kinds.Bdd old b i → AreTwo kinds.Bdd (view_of x) e i

@@ -1,5 +1,6 @@
 -- Turns in which two levels were swapped, and what they are for their caller.
 use Rattle.std.proofs.Common.{◌≡◌, ◌+◌, ◌<◌, ◌≤◌, ℕ, Contains, length, Result, Ok, Err, IsTrue, refl, ap, sym, subst, ◌∙◌}
+use Rattle.std.proofs.Math.Nat.{zero-add}
 use Rattle.std.specs.Prelude.{IfErr, MatchResult}
 use Rattle.std.specs.Result.{is_err}
 use Rattle.atomic_table.specs.Seated.{TableId}
@@ -24,17 +25,22 @@ use Rattle.dd_session.specs.declared.answers.Placed.{Placed}
 use Rattle.dd_session.specs.declared.answers.Refusal.TheVariants as refusals
 use Rattle.dd_session.specs.declared.book.Book.{Book}
 use Rattle.dd_session.specs.Counting.{ZeroStays}
-use Rattle.dd_session.specs.Reorderings.{IsSwapOf, crowded_in, levels_of}
+use Rattle.dd_session.specs.Reorderings.{IsSwapOf, crowded_in, levels_of, opened_levels}
 use Rattle.dd_session.specs.Sessions.{Called, Denies}
 use Rattle.dd_session.specs.Turns.{IsRefused, Keeps, Notes, Told, Took, levels_in, managed_by, seen_by}
 use Rattle.dd_session.proofs.Calls.{called, denied, has_rows, stands_taken}
 use Rattle.dd_session.proofs.Sweepings.{reorders_beside}
 use Rattle.dd_session.proofs.Turning.{stored_nothing}
 
--- as its manager is seen
-pub levels_managed : (table : TableId) (d : Draws) (order : Order) → levels_of (managed_by table d) order ≡ levels_in d order
-levels_managed table d Variables = refl
-levels_managed table d Elements = refl
+-- as its session is seen, that knows of no more than the manager was opened with
+pub levels_open : (table : TableId) (d : Draws) (spare : ℕ) (order : Order) → levels_of (seen_by table d spare) order ≡ opened_levels (managed_by table d) order
+levels_open table d spare Variables = zero-add d.vars
+levels_open table d spare Elements = zero-add d.elements
+
+-- and as its seat knows
+pub levels_known : (table : TableId) (d : Draws) (spare : ℕ) (order : Order) → levels_of (seen_by table d spare) order ≡ levels_in d order
+levels_known table d spare Variables = zero-add d.vars
+levels_known table d spare Elements = zero-add d.elements
 
 module _ (d e : Draws) (x : Shared) (took : Took d e x) where
   -- who has the turn has the rows and the calls of before

@@ -1,5 +1,5 @@
 -- What each call may tell, and what it then is for its caller.
-use Rattle.std.proofs.Common.{◌≡◌, ◌≢◌, ℕ, zero, suc, ◌+◌, ◌<◌, ◌≤◌, Bool, true, false, cond, ◌&&◌, ◌||◌, ◌==◌, List, [], ◌∷◌, ◌++◌, length, set, Option, Some, None, IsTrue, ◌↔◌, refl, ap, ap₂, sym, subst, ◌∙◌, arith, eq-eqb, ne_eqb, ℤ, nat_lt}
+use Rattle.std.proofs.Common.{◌≡◌, ◌≢◌, ℕ, zero, suc, ◌+◌, ◌<◌, ◌≤◌, Bool, true, false, cond, ◌&&◌, ◌||◌, ◌==◌, List, [], ◌∷◌, ◌++◌, length, set, Option, Some, None, option_map, IsTrue, ◌↔◌, refl, ap, ap₂, sym, subst, ◌∙◌, arith, eq-eqb, ne_eqb, ℤ, nat_lt}
 use Rattle.std.specs.Prelude.{slice_get, All, Contains}
 use Rattle.std.proofs.Math.ListN.{length-set}
 use Rattle.std.proofs.lemmas.Bool.{lt-ltb}
@@ -19,6 +19,7 @@ use Rattle.function_laws.specs.EntryOrders.{orders_done}
 use Rattle.function_laws.specs.Kinds.{Denoted}
 use Rattle.function_laws.specs.Sizes.{Orders}
 use Rattle.function_laws.specs.Tables.{Sizes, Table, same_name, with_name}
+use Rattle.function_laws.specs.Widening.{at_sizes}
 use Rattle.function_laws.specs.Outcomes.{Outcome, makes, fetches, overflows, compares, tells, shows, is_done, with_one, when}
 use Rattle.function_laws.specs.declared.orders.Order.{Order}
 use Rattle.function_laws.specs.declared.orders.Order.TheVariants.{Variables, Elements}
@@ -33,13 +34,14 @@ use Rattle.seat_guard.specs.declared.view.Change.TheVariants.{Nothing, Adds, Tak
 use Rattle.seat_guard.specs.declared.view.Telling.{Telling}
 use Rattle.seat_guard.specs.declared.view.Leaving.{Leaving}
 use Rattle.seat_guard.specs.declared.view.Draws.{Draws}
-use Rattle.seat_guard.specs.Views.{Agrees, AreTold, MayTell, told_of, letting_go, orders_of, stands_for, without, cell_in, function_in}
+use Rattle.seat_guard.specs.Known.{known_at, sizes_for}
+use Rattle.seat_guard.specs.Views.{Agrees, AreTold, MayTell, told_of, known_as, letting_go, orders_of, stands_for, without, cell_at, function_in}
 use Rattle.shared_store.specs.declared.shared.Cell.{Cell}
 use Rattle.shared_store.specs.declared.shared.Shared.{Shared}
 use Rattle.shared_store.specs.Lasting.{IsRecounted}
 use Rattle.shared_store.specs.Reordering.{swap_call}
-use Rattle.shared_store.specs.Sharing.{count, due, held_of, keeps, view_of, whole_of}
-use Rattle.shared_store.proofs.Keeping.{kind-listed}
+use Rattle.shared_store.specs.Sharing.{count, due, held_of, keeps, noted_in, view_of, whole_of}
+use Rattle.shared_store.proofs.Keeping.{kind-listed, listed-noted}
 use Rattle.shared_store.proofs.Stored.{functions-recounted}
 use Rattle.shared_store.specs.Storing.{IsLeaving}
 use Rattle.dd_session.specs.declared.request.Request.{Request}
@@ -49,8 +51,9 @@ use Rattle.dd_session.specs.declared.request.Answer.{Answer}
 use Rattle.dd_session.specs.declared.request.Answer.TheVariants.{Added, Dropped, Posted, Truth, Value, Done, Overflow, Full}
 use Rattle.dd_session.specs.Requests.{added_as, call_of, change_of, is_refusal, reply_of}
 use Rattle.dd_session.specs.Sessions.{fulls_in, is_full, names_in}
-use Rattle.dd_session.specs.Turns.{AddsRow, Chooses, Drew, Gives, IsAdded, MayBeFull, Notes, Told, levels_in, live_as, names_by, ordered_by}
+use Rattle.dd_session.specs.Turns.{sizes_in, AddsRow, Chooses, Drew, Gives, IsAdded, MayBeFull, Notes, Told, levels_in, live_as, names_by, ordered_by}
 use Rattle.dd_session.proofs.Naming.{cond_none, same_name-eq}
+use Rattle.dd_session.proofs.Outcomes.{listed-known}
 use Rattle.dd_session.proofs.RequestLemmas.{LeavesOrders, carries_none, orders_stay}
 use Rattle.dd_session.proofs.Serving.{KnowsAs, listed-on}
 
@@ -72,27 +75,35 @@ abbrev adds : Call → Reply → Name → Held → Telling
 adds call reply name held = record { call = call; reply = reply; change = Adds (record { name = name; held = held }) }
 
 -- a table with one name more agrees with one row more
-agrees_made : (d : Draws) (t : Table) (name : Name) (held : Held) (call : Call) (reply : Reply) → Agrees d t → name.generation ≡ d.adds → Agrees (told_of d 0 (adds call reply name held)) (with_name t d.session name held.function)
-agrees_made d t name held call reply agrees is = let here = eq-eqb d.session d.session refl in record {
+agrees_made : (d : Draws) (t : Table) (name : Name) (held : Held) (call : Call) (reply : Reply) → Agrees d t → name.generation ≡ d.adds → known_at d held.function ≡ held.function
+    → Agrees (told_of d 0 (adds call reply name held)) (with_name t d.session name held.function)
+agrees_made d t name held call reply agrees is noted = let here = eq-eqb d.session d.session refl in record {
   sizes_are = agrees.sizes_are;
-  live = λ i other. cond (here i && same_name other name) (Some held.function) (agrees.live i other);
+  live = λ other. ap (λ b. cond (b && same_name other name) (Some held.function) (t.live d.session other)) here ∙ by other (same_name other name);
   fresh = λ other le.
       let apart : same_name other name ≡ false = ap (λ b. (other.row == name.row) && b) (ne_eqb other.generation name.generation (λ e. omega (arith, e, is, le))) ∙ none_and (other.row == name.row) in
       ap (λ b. b || t.given d.session other) (ap (λ b. (d.session == d.session) && b) apart ∙ none_and (d.session == d.session)) ∙ agrees.fresh other (omega (arith, le));
   cells = agrees.cells;
 }
+  where
+    by : (other : Name) (b : Bool) → cond (true && b) (Some held.function) (t.live d.session other) ≡ option_map (at_sizes t.sizes) (cond b (Some held.function) (stands_for d.rows other))
+    by other true = ap Some (sym (ap (λ (z : Sizes). at_sizes z held.function) agrees.sizes_are ∙ noted))
+    by other false = agrees.live other
 
 -- a call that adds a row
-module _ (d : Draws) (w : View) (r : Request) (name : Name) (cell : Cell) (new : name.generation ≡ d.adds) (few : length d.rows < MOST_ROWS) where
+module _ (d : Draws) (w : View) (r : Request) (name : Name) (cell : Cell) (counts : sizes_in w ≡ (d.vars, d.elements, d.slots)) (new : name.generation ≡ d.adds) (few : length d.rows < MOST_ROWS) where
   abbrev held : Held
   held = held_of w cell
+
+  noted : known_at d held.function ≡ held.function
+  noted = listed-known d w counts cell.kind (values_at cell.kind w cell.edge)
 
   may_make : Gives d (call_of r) (makes held.function) → MayTell d (adds (call_of r) (replies.Made name) name held)
   may_make is_outcome = record {
     plain = refl;
     step = λ t agrees. let is = is_outcome t agrees in (
       (makes held.function, is, agrees.fresh name (omega (arith, new))),
-      subst (λ (u : Table). Agrees (told_of d 0 (adds (call_of r) (replies.Made name) name held)) u) (sym (ap (with_result t d.session name) is)) (agrees_made d t name held (call_of r) (replies.Made name) agrees new),
+      subst (λ (u : Table). Agrees (told_of d 0 (adds (call_of r) (replies.Made name) name held)) u) (sym (ap (with_result t d.session name) is)) (agrees_made d t name held (call_of r) (replies.Made name) agrees new noted),
     );
     carries = carries_none d r;
     room = few;
@@ -103,21 +114,21 @@ module _ (d : Draws) (w : View) (r : Request) (name : Name) (cell : Cell) (new :
     plain = refl;
     step = λ t agrees. let is = is_outcome t agrees in (
       (fetches held.function posted, is, (agrees.fresh name (omega (arith, new)), refl)),
-      subst (λ (u : Table). Agrees (told_of d 0 (adds (call_of r) (replies.Fetched name posted) name held)) u) (sym (ap (with_result t d.session name) is)) (agrees_made d t name held (call_of r) (replies.Fetched name posted) agrees new),
+      subst (λ (u : Table). Agrees (told_of d 0 (adds (call_of r) (replies.Fetched name posted) name held)) u) (sym (ap (with_result t d.session name) is)) (agrees_made d t name held (call_of r) (replies.Fetched name posted) agrees new noted),
     );
     carries = carries_none d r;
     room = few;
   }
 
-pub may_add : (d : Draws) (w : View) (r : Request) (adding : Adding) (name : Name) (cell : Cell) → name.generation ≡ d.adds → length d.rows < MOST_ROWS → AddsRow d w (call_of r) adding cell
+pub may_add : (d : Draws) (w : View) (r : Request) (adding : Adding) (name : Name) (cell : Cell) → sizes_in w ≡ (d.vars, d.elements, d.slots) → name.generation ≡ d.adds → length d.rows < MOST_ROWS → AddsRow d w (call_of r) adding cell
     → MayTell d (record { call = call_of r; reply = added_as w adding name cell; change = Adds (record { name = name; held = held_of w cell }) })
-may_add d w r Made name cell new few gives = may_make d w r name cell new few gives
-may_add d w r (Taken posted) name cell new few gives = may_fetch d w r name cell new few posted gives
-may_add d w r Chosen name cell new few gives = let held = held_of w cell in record {
+may_add d w r Made name cell counts new few gives = may_make d w r name cell counts new few gives
+may_add d w r (Taken posted) name cell counts new few gives = may_fetch d w r name cell counts new few posted gives
+may_add d w r Chosen name cell counts new few gives = let held = held_of w cell in record {
   plain = refl;
   step = λ t agrees. (
     (gives.outcome, gives.gives t agrees, gives.may t agrees name (agrees.fresh name (omega (arith, new)))),
-    agrees_made d t name held (call_of r) (replies.Chose name held.function) agrees new,
+    agrees_made d t name held (call_of r) (replies.Chose name held.function) agrees new (noted d w r name cell counts new few),
   );
   carries = carries_none d r;
   room = few;
@@ -230,17 +241,18 @@ pub knows_swapped : (d : Draws) (order : Order) (level : ℕ) (o : Orders) → o
 knows_swapped d order level o same = record { rows_are = refl; cells_are = refl; others_are = refl; counts_are = (refl, refl, refl); orders_are = sym same }
 
 -- a post puts a function into a cell
-pub may_post : (d : Draws) (i : ℕ) (a : Name) (held : Held) → i < CELLS → length d.cells ≡ CELLS → stands_for d.rows a ≡ Some held.function
+pub may_post : (d : Draws) (i : ℕ) (a : Name) (held : Held) → i < CELLS → length d.cells ≡ CELLS → known_as d a ≡ Some (known_at d held.function)
     → MayTell d (record { call = calls.Post i a; reply = replies.Done; change = Posts i held })
 may_post d i a held within len is = record {
   plain = refl;
   step = λ t agrees.
-      let live : t.live d.session a ≡ Some held.function = ap (λ (h : Name → Option Function). h a) agrees.live ∙ is in
+      let live : t.live d.session a ≡ Some (at_sizes t.sizes held.function) =
+      agrees.live a ∙ ap (λ (z : Sizes). option_map (at_sizes z) (stands_for d.rows a)) agrees.sizes_are ∙ is ∙ ap (λ (z : Sizes). Some (at_sizes z held.function)) (sym agrees.sizes_are) in
       let there : slice_get (set d.cells i (Some held)) i ≡ Some (Some held) = get-set_same d.cells (Some held) i (omega (arith, within, len)) in
-      let each : d.holds ≡ true → (k : ℕ) → cond (k == i) (t.live d.session a) (t.cells k) ≡ cell_in (set d.cells i (Some held)) k =
+      let each : d.holds ≡ true → (k : ℕ) → cond (k == i) (t.live d.session a) (t.cells k) ≡ cell_at t.sizes (set d.cells i (Some held)) k =
       λ h k. dite (ℕ_discrete k i)
-      (λ same. ap (λ b. cond b (t.live d.session a) (t.cells k)) (eq-eqb k i same) ∙ live ∙ sym (ap (λ (j : ℕ). cell_in (set d.cells i (Some held)) j) same ∙ ap function_in there))
-      (λ other. ap (λ b. cond b (t.live d.session a) (t.cells k)) (ne_eqb k i other) ∙ ap (λ (f : ℕ → Option Function). f k) (agrees.cells h).0 ∙ sym (ap function_in (get-set_other d.cells (Some held) i k other))) in (
+      (λ same. ap (λ b. cond b (t.live d.session a) (t.cells k)) (eq-eqb k i same) ∙ live ∙ sym (ap (λ (j : ℕ). cell_at t.sizes (set d.cells i (Some held)) j) same ∙ ap (λ o. option_map (at_sizes t.sizes) (function_in o)) there))
+      (λ other. ap (λ b. cond b (t.live d.session a) (t.cells k)) (ne_eqb k i other) ∙ ap (λ (f : ℕ → Option Function). f k) (agrees.cells h).0 ∙ sym (ap (λ o. option_map (at_sizes t.sizes) (function_in o)) (get-set_other d.cells (Some held) i k other))) in (
         (
           is_done,
           ap (λ (z : Sizes). when (nat_lt i z.cells) (with_one (t.live d.session a) (λ f. is_done))) agrees.sizes_are
@@ -275,10 +287,10 @@ pub may_drop : (d : Draws) (a : Name) (f : Function) → stands_for d.rows a ≡
 may_drop d a f is = record {
   plain = refl;
   step = λ t agrees. (
-    (is_done, ap (λ o. with_one o (λ f. is_done)) (ap (λ (h : Name → Option Function). h a) agrees.live ∙ is), tt),
+    (is_done, ap (λ o. with_one o (λ f. is_done)) (agrees.live a ∙ ap (option_map (at_sizes t.sizes)) is), tt),
     record {
       sizes_are = agrees.sizes_are;
-      live = λ i name. each t agrees name i;
+      live = each t agrees;
       fresh = agrees.fresh;
       cells = agrees.cells;
     },
@@ -306,18 +318,24 @@ may_drop d a f is = record {
         by false stays true here false is rest = ap (λ b. stands_for (cond b (without a rows) (row ∷ without a rows)) name) stays ∙ ap (λ b. cond b (Some row.held.function) (stands_for (without a rows) name)) here ∙ sym (ap₂ (λ b c. cond b None (cond c (Some row.held.function) (stands_for rows name))) is here)
         by false stays false other s is rest = ap (λ b. stands_for (cond b (without a rows) (row ∷ without a rows)) name) stays ∙ ap (λ b. cond b (Some row.held.function) (stands_for (without a rows) name)) other ∙ rest ∙ sym (ap (λ b. cond (same_name name a) None (cond b (Some row.held.function) (stands_for rows name))) other)
 
-    each : (t : Table) → Agrees d t → (name : Name) → cond ((d.session == d.session) && same_name name a) None (t.live d.session name) ≡ stands_for (without a d.rows) name
+    none_mapped : (z : Sizes) (b : Bool) (o : Option Function) → cond b None (option_map (at_sizes z) o) ≡ option_map (at_sizes z) (cond b None o)
+    none_mapped z true o = refl
+    none_mapped z false o = refl
+
+    each : (t : Table) → Agrees d t → (name : Name) → cond ((d.session == d.session) && same_name name a) None (t.live d.session name) ≡ option_map (at_sizes t.sizes) (stands_for (without a d.rows) name)
     each t agrees name =
-        ap (λ b. cond (b && same_name name a) None (t.live d.session name)) (eq-eqb d.session d.session refl) ∙ ap (cond (same_name name a) None) (ap (λ (h : Name → Option Function). h name) agrees.live) ∙ sym (stands-without d.rows name)
+        ap (λ b. cond (b && same_name name a) None (t.live d.session name)) (eq-eqb d.session d.session refl) ∙ ap (cond (same_name name a) None) (agrees.live name)
+        ∙ none_mapped t.sizes (same_name name a) (stands_for d.rows name) ∙ ap (option_map (at_sizes t.sizes)) (sym (stands-without d.rows name))
 
 -- what a fetch finds
-pub outcome-of_fetch : (d : Draws) (i : ℕ) (a : Name) (f : Function) (o : Outcome) → i < CELLS → d.holds ≡ true → stands_for d.rows a ≡ Some f → from_cell (cell_in d.cells i) f ≡ o → Gives d (calls.Fetch i a) o
+pub outcome-of_fetch : (d : Draws) (i : ℕ) (a : Name) (f : Function) (o : Outcome) → i < CELLS → d.holds ≡ true → known_as d a ≡ Some f → from_cell (cell_at (sizes_for d.vars d.elements) d.cells i) f ≡ o → Gives d (calls.Fetch i a) o
 outcome-of_fetch d i a f o within holds is found t agrees =
-    let live : t.live d.session a ≡ Some f = ap (λ (h : Name → Option Function). h a) agrees.live ∙ is in
+    let live : t.live d.session a ≡ Some f = agrees.live a ∙ ap (λ (z : Sizes). option_map (at_sizes z) (stands_for d.rows a)) agrees.sizes_are ∙ is in
     ap (λ (z : Sizes). when (nat_lt i z.cells) (with_one (t.live d.session a) (from_cell (t.cells i)))) agrees.sizes_are
     ∙ ap (λ b. when b (with_one (t.live d.session a) (from_cell (t.cells i)))) (lt-ltb i CELLS within)
     ∙ ap (λ x. with_one x (from_cell (t.cells i))) live
     ∙ ap (λ (cells : ℕ → Option Function). Some (from_cell (cells i) f)) (agrees.cells holds).0
+    ∙ ap (λ (z : Sizes). Some (from_cell (cell_at z d.cells i) f)) agrees.sizes_are
     ∙ ap Some found
 
 -- refused calls
@@ -411,7 +429,8 @@ module _ (x y : Shared) (view : view_of y ≡ record (view_of x) { count = count
   pub row-kept : (cell : Cell) → Is cell.kind (view_of x) cell.edge → keeps x (held_of (view_of y) cell)
   row-kept cell is =
       subst (λ (f : Function). keeps x (record { edge = cell.edge; function = f })) (sym (listed-same cell.kind cell.edge))
-      (subst (λ (k : Kind). Is k (view_of x) cell.edge × (listed_at k (view_of x) cell.edge ≡ listed_at cell.kind (view_of x) cell.edge)) (sym (kind-listed cell.kind (view_of x) (values_at cell.kind (view_of x) cell.edge))) (is, refl))
+      (subst (λ (k : Kind). Is k (view_of x) cell.edge × (listed_at k (view_of x) cell.edge ≡ noted_in (view_of x) (listed_at cell.kind (view_of x) cell.edge))) (sym (kind-listed cell.kind (view_of x) (values_at cell.kind (view_of x) cell.edge)))
+      (is, sym (listed-noted cell.kind (view_of x) (values_at cell.kind (view_of x) cell.edge) (sizes_for (view_of x).vars (view_of x).elements) refl refl)))
 
 -- a row in memory is the one that the seat knows
 pub held-row : (w : View) (cell : Cell) (name : Name) (old new : List Live) → IsWithOne old (record { name = name; kind = cell.kind; edge = cell.edge }) new → IsWithOne old (live_as name (held_of w cell)) new

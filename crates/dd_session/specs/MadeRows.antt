@@ -19,12 +19,12 @@ use Rattle.dd_session.specs.declared.answers.Refusal.{Refusal}
 use Rattle.dd_session.specs.declared.answers.Refusal.TheVariants as refusals
 use Rattle.dd_session.specs.declared.request.Adding.{Adding}
 use Rattle.dd_session.specs.declared.request.Adding.TheVariants.{Made, Chosen}
-use Rattle.dd_session.specs.Sessions.{Called, Denies, HasRoom, IsLiveAs, Managed, Seen, edge_in, told_as}
+use Rattle.dd_session.specs.Sessions.{Called, Denies, HasRoom, IsLiveAs, Managed, Seen, edge_in, elements_in, told_as, variables_in}
 use Rattle.dd_session.specs.Works.{StoresWork}
 
 -- the session has what it takes
 abbrev pub HasTaken : Seen → Making Name (List ℕ) (List (ℕ × Name)) → Type 0
-HasTaken s making = CanTakeAll (λ k a. IsLiveAs k s a) s.manager.vars s.manager.elements (taken making)
+HasTaken s making = CanTakeAll (λ k a. IsLiveAs k s a) (variables_in s) (elements_in s) (taken making)
 
 -- The session may make the function: it is one of the manager, may make one more call, and has what that takes.
 pub record MayMake (s : Seen) (m : Managed) (making : Making Name (List ℕ) (List (ℕ × Name))) : Type 0 where

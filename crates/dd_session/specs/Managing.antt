@@ -8,7 +8,8 @@ use Rattle.function_laws.specs.EntryOrders.{EachWith, opening_orders, orders_fro
 use Rattle.function_laws.specs.Histories.{IsLegal, table_after}
 use Rattle.function_laws.specs.SessionEntries.{Each, entries_of}
 use Rattle.function_laws.specs.SiftEntries.{Carries}
-use Rattle.function_laws.specs.Tables.{opening}
+use Rattle.function_laws.specs.Tables.{Table, opening}
+use Rattle.function_laws.specs.Widening.{AgreesAt}
 use Rattle.node_store.specs.Contents.{Content}
 use Rattle.dead_sweep.specs.declared.sweeping.Swept.{Swept}
 use Rattle.dead_sweep.specs.Swept.{IsSwept}
@@ -26,6 +27,7 @@ use Rattle.dd_session.specs.declared.answers.Fetched.{Fetched}
 use Rattle.dd_session.specs.Counting.{ZeroStays}
 use Rattle.dd_session.specs.declared.book.Book.{Book}
 use Rattle.dd_session.specs.Sessions as sessions
+use Rattle.dd_session.specs.Sessions.{elements_in, known_sizes, variables_in}
 use Rattle.dd_session.specs.Turns as turns
 
 abbrev pub Managed : Type 0
@@ -49,7 +51,7 @@ IsClosing d = (d.closing ≡ true) × (d.gone ≡ []) × (d.given ≡ d.sessions
 
 -- a session that has made no call
 abbrev pub newcomer : Managed → ℕ → Seen
-newcomer m number = record { manager = m; number = number; rows = []; adds = 0; spare = 0; entries = []; found = []; stored = []; due = None; noted = []; placed = [] }
+newcomer m number = record { manager = m; number = number; rows = []; more_variables = 0; more_elements = 0; adds = 0; spare = 0; entries = []; found = []; stored = []; due = None; noted = []; placed = [] }
 
 -- the first n sessions, as they are opened
 abbrev pub newcomers : Managed → ℕ → List Seen
@@ -70,6 +72,10 @@ pub record AreAll (m : Managed) (sessions : List Seen) : Type 0 where
   pub as_many : length sessions ≡ m.sessions
   pub covered : (p : ℕ) → p < m.sessions → (k : ℕ) × (s : Seen) × (get_elem? sessions k ≡ some s) × (s.number ≡ p)
 
+-- the table has the rows of the session
+abbrev pub HasRowsOf : Seen → Table → Type 0
+HasRowsOf s t = AgreesAt t.sizes (stands_for s.rows) (t.live s.number)
+
 -- There is one legal history of n calls. The calls of each of these sessions are those that it has of it, and it has no calls of others.
 pub record IsHistoryOf (m : Managed) (sessions : List Seen) (n : ℕ) : Type 0 where
   pub log : List Entry
@@ -79,11 +85,14 @@ pub record IsHistoryOf (m : Managed) (sessions : List Seen) (n : ℕ) : Type 0 w
   pub carried : EachWith Carries (opening (sizes_for m.vars m.elements)) (opening_orders (sizes_for m.vars m.elements)) log
   pub each : (k : ℕ) (s : Seen) → get_elem? sessions k ≡ some s → entries_of s.number log ≡ s.entries
   -- the table that the history leaves has these rows of each session
-  pub rows : (k : ℕ) (s : Seen) → get_elem? sessions k ≡ some s → (table_after (opening (sizes_for m.vars m.elements)) log).live s.number ≡ stands_for s.rows
-  -- the orders that a session noted at a place are those that the calls below that place leave
-  pub noted : (k : ℕ) (s : Seen) → get_elem? sessions k ≡ some s → Each (IsNotedIn (sizes_for m.vars m.elements) log) s.noted
-  -- and so are the orders at the places of its calls
-  pub placed : (k : ℕ) (s : Seen) → get_elem? sessions k ≡ some s → Each (IsNotedIn (sizes_for m.vars m.elements) log) s.placed
+  pub rows : (k : ℕ) (s : Seen) → get_elem? sessions k ≡ some s → HasRowsOf s (table_after (opening (sizes_for m.vars m.elements)) log)
+  -- so far no call adds a variable or an element, so each session knows of all
+  pub fixed : (table_after (opening (sizes_for m.vars m.elements)) log).sizes ≡ sizes_for m.vars m.elements
+  pub known : (k : ℕ) (s : Seen) → get_elem? sessions k ≡ some s → known_sizes s ≡ sizes_for m.vars m.elements
+  -- what a session noted at a place is what the calls below that place leave: the orders, how many variables and elements, and its rows
+  pub noted : (k : ℕ) (s : Seen) → get_elem? sessions k ≡ some s → Each (IsNotedIn (sizes_for m.vars m.elements) log s.number) s.noted
+  -- and so is what there was at the places of its calls
+  pub placed : (k : ℕ) (s : Seen) → get_elem? sessions k ≡ some s → Each (IsNotedIn (sizes_for m.vars m.elements) log s.number) s.placed
   pub no_other : (p : ℕ) → ((k : ℕ) (s : Seen) → get_elem? sessions k ≡ some s → s.number ≡ p → ⊥) → entries_of p log ≡ []
 
 -- What a sweep left in use, of a store whose orders are those that the entries leave, and in which nothing holds a slot any more.
@@ -104,7 +113,7 @@ pub record IsClosed (m : Managed) (sessions : List Seen) (calls left : ℕ) : Ty
 
 -- what is left of a session as it comes back
 abbrev pub gone_as : Seen → Gone
-gone_as s = record { session = s.number; rows = s.rows; entries = s.entries; noted = s.noted; placed = s.placed }
+gone_as s = record { session = s.number; vars = variables_in s; elements = elements_in s; rows = s.rows; entries = s.entries; noted = s.noted; placed = s.placed }
 
 abbrev pub is_posted : Fetched → Bool
 is_posted = turns.is_posted

@@ -12,13 +12,18 @@ use Rattle.dd_session.specs.declared.answers.Full.{Full}
 use Rattle.dd_session.specs.declared.answers.Placed.{Placed}
 use Rattle.dd_session.specs.declared.answers.Refusal.TheVariants as refusals
 use Rattle.dd_session.specs.Counting.{ZeroStays}
-use Rattle.dd_session.specs.Sessions.{Called, Denies, Managed, Seen}
+use Rattle.dd_session.specs.Sessions.{Called, Denies, Managed, Seen, elements_in, variables_in}
 use Rattle.dd_session.specs.Works.{HasRows, StoresNothing}
 
--- how many levels an order has
-abbrev pub levels_of : Managed → Order → ℕ
-levels_of m Variables = m.vars
-levels_of m Elements = m.elements
+-- how many levels an order had as the manager was opened
+abbrev pub opened_levels : Managed → Order → ℕ
+opened_levels m Variables = m.vars
+opened_levels m Elements = m.elements
+
+-- how many levels an order has, as the session knows
+abbrev pub levels_of : Seen → Order → ℕ
+levels_of s Variables = variables_in s
+levels_of s Elements = elements_in s
 
 -- the slots in use and those that were needed, where it was refused
 abbrev pub crowded_in : Result (Placed (Unit {0})) Full → Result (Unit {0}) Crowded

@@ -1,5 +1,5 @@
 -- What callers see of a session, and what a call says.
-use Rattle.std.specs.Prelude.{◌≡◌, ℕ, ◌+◌, ◌≤◌, ◌<◌, ◌^◌, List, [], ◌∷◌, ◌++◌, All, length, Option, Some, None, Result, Ok, Err, false, if◌then◌else◌}
+use Rattle.std.specs.Prelude.{◌≡◌, ℕ, ◌+◌, ◌≤◌, ◌<◌, ◌^◌, List, [], ◌∷◌, ◌++◌, All, length, Option, Some, None, option_map, Result, Ok, Err, false, if◌then◌else◌}
 use Rattle.edge_bits.specs.declared.limits.TheConstants.{MOST_ROWS}
 use Rattle.add_ops.specs.declared.arithmetic.Overflow.{Overflow}
 use Rattle.atomic_table.specs.Seated.{TableId}
@@ -12,8 +12,8 @@ use Rattle.function_laws.specs.declared.history.Reply.{Reply}
 use Rattle.function_laws.specs.declared.history.Reply.TheVariants as replies
 use Rattle.function_laws.specs.declared.history.Entry.{Entry}
 use Rattle.function_laws.specs.SessionEntries.{entry}
-use Rattle.function_laws.specs.Sizes.{Orders}
-use Rattle.function_laws.specs.Tables.{Table, same_name}
+use Rattle.function_laws.specs.Tables.{Sizes, Table, same_name}
+use Rattle.function_laws.specs.Widening.{AgreesAt, at_sizes}
 use Rattle.function_laws.specs.Steps.{IsAllowed, TellsFull, after}
 use Rattle.seat_guard.specs.declared.view.Change.{Change}
 use Rattle.seat_guard.specs.declared.view.Held.{Held}
@@ -40,6 +40,9 @@ pub record Seen : Type 0 where
   pub number : ℕ
   -- its rows: each with its name, its edge and the function that this denotes
   pub rows : List Row
+  -- how many variables and elements it knows to have been added since the manager was opened; they never fall
+  pub more_variables : ℕ
+  pub more_elements : ℕ
   -- how many names it has given, and how many more rows take no memory
   pub adds : ℕ
   pub spare : ℕ
@@ -50,15 +53,29 @@ pub record Seen : Type 0 where
   -- the functions that its last call stored, and the one that was due at the last Full before the end of that call
   pub stored : List Function
   pub due : Option Function
-  -- what it noted of the orders, the oldest first
+  -- what it noted at its listings, the oldest first
   pub noted : List Noted
-  -- the orders at the places of its calls, the oldest first
+  -- what there was at the places of its calls, the oldest first
   pub placed : List Noted
 
--- The table of functions has what the session sees, and has not been given further names by it.
+-- how many variables and elements it knows
+abbrev pub variables_in : Seen → ℕ
+variables_in s = s.more_variables + s.manager.vars
+
+abbrev pub elements_in : Seen → ℕ
+elements_in s = s.more_elements + s.manager.elements
+
+abbrev pub known_sizes : Seen → Sizes
+known_sizes s = sizes_for (variables_in s) (elements_in s)
+
+-- what a name stands for, as a function of the variables and elements that the session knows
+abbrev pub stands_now : Seen → Name → Option Function
+stands_now s name = option_map (at_sizes (known_sizes s)) (stands_for s.rows name)
+
+-- The table of functions has what the session sees, which it noted when there were at most as many variables and elements, and has not been given further names by it.
 pub record SeenIn (s : Seen) (t : Table) : Type 0 where
-  pub sizes_are : t.sizes ≡ sizes_for s.manager.vars s.manager.elements
-  pub live : t.live s.number ≡ stands_for s.rows
+  pub grown : (variables_in s ≤ t.sizes.variables) × (elements_in s ≤ t.sizes.elements)
+  pub live : AgreesAt t.sizes (stands_for s.rows) (t.live s.number)
   pub fresh : (name : Name) → s.adds ≤ name.generation → t.given s.number name ≡ false
 
 -- how many names a reply gives
@@ -69,17 +86,23 @@ names_in (replies.Fetched name posted) = 1
 names_in (replies.Numbered name n) = 1
 names_in _ = 0
 
--- these orders at a place
-abbrev pub note_at : ℕ → Orders → Noted
-note_at place orders = record { place = place; variable_order = orders.variables; element_order = orders.elements }
+-- how many variables and elements there were at the place of a note
+abbrev pub sizes_at : Noted → Sizes
+sizes_at note = sizes_for note.vars note.elements
 
--- The call was made at the place and replied so: in whatever table the session is seen, with the board that there was at the place, this is a step, and the session is seen afterwards in the table that is left. It is the one entry more of the session, above its other ones.
+-- The call was made at the place and replied so: in whatever table the session is seen, with the board, the variables and the elements that there were at the place, this is a step, and the session is seen afterwards in the table that is left, whose variables and elements it knows. It is the one entry more of the session, above its other ones.
 pub record Called (old new : Seen) (call : Call) (reply : Reply) (place : ℕ) : Type 0 where
   pub board : ℕ → Option Function
-  -- the orders at the place, which it noted
-  pub orders : Orders
-  pub placed_are : new.placed ≡ old.placed ++ note_at place orders ∷ []
-  pub step : (t : Table) → SeenIn old t → t.cells ≡ board → IsAllowed t old.number call reply × SeenIn new (after t old.number call reply)
+  -- what there was at the place, which it noted: the orders, the numbers of variables and elements, and its rows
+  pub note : Noted
+  pub place_is : note.place ≡ place
+  pub rows_noted : note.rows ≡ old.rows
+  pub placed_are : new.placed ≡ old.placed ++ note ∷ []
+  pub step : (t : Table) → SeenIn old t → t.cells ≡ board → t.sizes ≡ sizes_at note
+      → IsAllowed t old.number call reply × SeenIn new (after t old.number call reply) × ((after t old.number call reply).sizes ≡ known_sizes new)
+  -- so far no call adds a variable or an element: there were as many as the session knew, and it knows of no more
+  pub sizes_are : sizes_at note ≡ known_sizes old
+  pub more_are : (new.more_variables ≡ old.more_variables) × (new.more_elements ≡ old.more_elements)
   pub entries_are : new.entries ≡ old.entries ++ entry place old.number call reply ∷ []
   pub later : All (λ (e : Entry). e.place < place) old.entries
   pub manager_is : new.manager ≡ old.manager

@@ -47,7 +47,7 @@ use Rattle.node_slots.specs.Wholes.{content_view}
 use Rattle.shared_store.specs.declared.shared.Cell.{Cell}
 use Rattle.shared_store.specs.declared.shared.Shared.{Shared}
 use Rattle.shared_store.specs.Lasting.{Lasts}
-use Rattle.shared_store.specs.Sharing.{IsHeldIn, Serving, board, count, due, functions, kind_of, orders, view_of}
+use Rattle.shared_store.specs.Sharing.{noted_in, IsHeldIn, Serving, board, count, due, functions, kind_of, orders, view_of}
 use Rattle.shared_store.specs.Storing.{IsLeaving, IsListedWork, StoresOnly}
 use Rattle.dd_session.specs.declared.answers.Fetched.{Fetched}
 use Rattle.dd_session.specs.declared.answers.Fetched.TheVariants.{Posted, Empty}
@@ -68,6 +68,8 @@ seen_by table d spare = record {
   manager = managed_by table d;
   number = d.session;
   rows = d.rows;
+  more_variables = 0;
+  more_elements = 0;
   adds = d.adds;
   spare = spare;
   entries = d.entries;
@@ -169,7 +171,7 @@ IsSmall w = (w.vars ≤ MOST_VARIABLES) × (w.elements ≤ MOST_ELEMENTS)
 
 -- the edge of a row, in each view that has the rows
 abbrev pub IsEdgeOf : Kind → Draws → Name → Edge → Type 0
-IsEdgeOf k d name e = (w : View) → Stands w d → Is k w e × (stands_for d.rows name ≡ Some (listed_at k w e))
+IsEdgeOf k d name e = (w : View) → Stands w d → Is k w e × (option_map (noted_in w) (stands_for d.rows name) ≡ Some (listed_at k w e))
 
 -- the turn was given back with this content
 pub record Left (d d' : Draws) (y : Shared) : Type 0 where

@@ -15,13 +15,15 @@ use Rattle.shared_store.specs.Storing.{IsListedWork}
 use Rattle.dd_session.specs.declared.answers.Placed.{Placed}
 use Rattle.dd_session.specs.declared.answers.Refusal.{Refusal}
 use Rattle.dd_session.specs.declared.answers.Refusal.TheVariants as refusals
-use Rattle.dd_session.specs.Sessions.{Seen, note_at}
+use Rattle.seat_guard.specs.declared.view.Noted.{Noted}
+use Rattle.seat_guard.specs.Notes.{orders_in}
+use Rattle.dd_session.specs.Sessions.{Seen, elements_in, variables_in}
 use Rattle.dd_session.specs.Counting.{ZeroStays}
 
 -- a store with the session's rows: each row's edge denotes its function
 pub record HasRows (w : View) (s : Seen) : Type 0 where
-  pub vars : w.vars ≡ s.manager.vars
-  pub elements : w.elements ≡ s.manager.elements
+  pub vars : w.vars ≡ variables_in s
+  pub elements : w.elements ≡ elements_in s
   pub rows : Each (λ (row : Row). IsHeldIn w row.held) s.rows
 
 -- each variable and each element has the level at which it stands in these orders
@@ -61,15 +63,16 @@ pub record IsDueAfterSweep (s : Seen) (o : Orders) (Work : View → Denoted → 
 
 -- Each function that the call stored is a part of this work, under the orders at its place, which the session noted.
 pub record StoresAt (Work : View → Denoted → Type 0) (old new : Seen) (place : ℕ) : Type 0 where
-  pub orders : Orders
-  pub placed : new.placed ≡ old.placed ++ note_at place orders ∷ []
-  pub stored : (f : Function) → Contains new.stored f → IsOfWork old orders Work f
+  pub note : Noted
+  pub place_is : note.place ≡ place
+  pub placed : new.placed ≡ old.placed ++ note ∷ []
+  pub stored : (f : Function) → Contains new.stored f → IsOfWork old (orders_in note) Work f
 
 -- What a call stored is of its work. Where it was refused, a sweep came before the last try, and a part of the work was due after it. At want of memory it has no place, and there may have been no try.
 abbrev pub StoresWork : {X : Type 0} → (View → Denoted → Type 0) → Seen → Seen → Result (Placed X) Refusal → Type 0
 StoresWork Work old new (Ok placed) = StoresAt Work old new placed.place
 StoresWork Work old new (Err refusals.Memory) = (f : Function) → Contains new.stored f → Contains old.stored f ⊎ ((o : Orders) × IsOfWork old o Work f)
-StoresWork Work old new (Err (refusals.Full full)) = (stores : StoresAt Work old new full.place) × IsDueAfterSweep old stores.orders Work new.due
+StoresWork Work old new (Err (refusals.Full full)) = (stores : StoresAt Work old new full.place) × IsDueAfterSweep old (orders_in stores.note) Work new.due
 
 -- a call that makes nothing stores nothing
 abbrev pub StoresNothing : Seen → Type 0

@@ -5,7 +5,7 @@ ghost use Rattle.edge_bits.specs.declared.edges.Kind.TheVariants as kinds;
 ghost use Rattle.function_laws.specs.declared.history.Entry.{Entry};
 ghost use Rattle.seat_guard.specs.declared.view.Leaving.{Leaving};
 ghost use Rattle.seat_guard.specs.Passes.{IsIdle, IsPassOf, in_hand, known};
-ghost use Rattle.seat_guard.specs.Views.{letting_go, noting};
+ghost use Rattle.seat_guard.specs.Views.{known_as, letting_go, noting};
 ghost use Rattle.shared_store.specs.Sharing.{Serving, orders};
 ghost use Rattle.shared_store.specs.Storing.{IsLeaving};
 ghost use Rattle.dd_session.specs.Listings.{IsListed, ListsRows};
@@ -52,7 +52,7 @@ fn listing_of(
     requires tied { Tied (known pass.now) book.now.rows }
     requires live { All (IsNamed kinds.Bdd (known pass.now).rows) rows.now }
     requires serves { Serving shared.now (known pass.now) }
-    ensures { IfOk result (λ listing. (listing.order ≡ (known pass.now).variable_order) × ListsRows (known pass.now).vars (known pass.now).rows rows.now listing) }
+    ensures { IfOk result (λ listing. (listing.order ≡ (known pass.now).variable_order) × ListsRows (known pass.now).vars (known_as (known pass.now)) rows.now listing) }
 {
     shared.store.tell_sound();
     let edges = edges_of(alloc, pass, book, rows)?;

@@ -10,7 +10,7 @@ ghost use Rattle.operator_calls.specs.Taking.{of_lent, with_given};
 ghost use Rattle.shared_store.specs.Lasting.{Lasts};
 ghost use Rattle.shared_store.specs.Sharing.{orders, view_of};
 ghost use Rattle.dd_session.specs.MadeRows.{MakesRow, MakesOrExceeds, MayMake, adding_by, chooses};
-ghost use Rattle.dd_session.specs.Sessions.{IsLiveAs, edge_in};
+ghost use Rattle.dd_session.specs.Sessions.{IsLiveAs, edge_in, elements_in, variables_in};
 ghost use Rattle.dd_session.specs.Turns.{Ran, Tried};
 
 use crate::answers::{Placed, Refusal};
@@ -111,9 +111,9 @@ struct Edges<'a> {
 impl<'b> Renaming<H, Edge, &'b [u32], &'b [(u32, H)]> for Edges<'_> {
     ghost is = { λ e k h. IsLiveAs k e.session.now h };
 
-    ghost vars = { λ e. e.session.now.manager.vars };
+    ghost vars = { λ e. variables_in e.session.now };
 
-    ghost elements = { λ e. e.session.now.manager.elements };
+    ghost elements = { λ e. elements_in e.session.now };
 
     ghost gives = { λ e h. edge_in e.session.now.rows h };
 

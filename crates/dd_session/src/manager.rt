@@ -4,7 +4,7 @@ ghost use Rattle.std.specs.Prelude.{◌≡◌, ◌+◌, ◌<◌, ◌≤◌, ◌�
 ghost use Rattle.seat_guard.specs.Passes.{IsPassOf, in_hand, known};
 ghost use Rattle.seat_guard.specs.Views.{one_more};
 ghost use Rattle.dd_session.specs.Managing.{AreAll, IsClosing, IsClosed, IsConfig, newcomer, opened};
-ghost use Rattle.dd_session.specs.Reorderings.{levels_of};
+ghost use Rattle.dd_session.specs.Reorderings.{opened_levels};
 ghost use Rattle.dd_session.specs.Turns.{managed_by};
 
 use crate::book::Book;
@@ -166,9 +166,9 @@ impl Manager {
         *self.ended.allocator()
     }
 
-    /// How many levels an order has: one for each variable, or for each element.
-    pub fn levels(&self, order: Order) -> u32
-        ensures { result ≡ levels_of self.now order }
+    /// How many levels an order had as the manager was opened: one for each variable, or for each element.
+    pub(crate) fn levels(&self, order: Order) -> u32
+        ensures { result ≡ opened_levels self.now order }
     {
         match order {
             Order::Variables => self.vars,

@@ -9,6 +9,7 @@ ghost use Rattle.dd_session.specs.Sessions.{Called, HasRoom, IsAsBefore, IsLive,
 ghost use Rattle.dd_session.specs.Listings.{IsListed};
 ghost use Rattle.dd_session.specs.Works.{IsSweepAsked, StoresNothing};
 ghost use Rattle.dd_session.specs.Managing.{is_posted};
+ghost use Rattle.dd_session.specs.Reorderings.{levels_of};
 
 use crate::answers::{Fetched, Placed};
 use crate::drawing::finish;
@@ -21,6 +22,7 @@ use crate::settling::add_row;
 use dead_sweep::Swept;
 use diagram_dumps::Listing;
 use edge_bits::{Kind, Memory};
+use function_laws::Order;
 use handle_count::H;
 use shared_store::Cell;
 use std::sync::Wait;
@@ -61,6 +63,15 @@ impl Session {
         ensures { result ≡ fulls_in self.now.entries }
     {
         self.book.fulls
+    }
+
+    /// How many levels an order has, as the session knows: one for each variable, or for each element.
+    pub fn levels(&self, manager: &Manager, order: Order) -> u32
+        requires { self.now.manager ≡ manager.now }
+        ensures { result ≡ levels_of self.now order }
+    {
+        let _ = &self.pass;
+        manager.levels(order)
     }
 
     /// Whether the name is live.

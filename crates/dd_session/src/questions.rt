@@ -1,6 +1,6 @@
 //! The calls of a session that tell of rows: whether one implies another, and the value of one.
 
-ghost use Rattle.std.specs.Prelude.{IfOk, IsOk, MatchResult, ◌<◌, ◌≡◌, length, true};
+ghost use Rattle.std.specs.Prelude.{IfOk, IsOk, MatchResult, ◌<◌, ◌≡◌, ◌≤◌, length, true};
 ghost use Rattle.edge_bits.specs.declared.edges.Kind.{Kind as KindOf};
 ghost use Rattle.edge_bits.specs.declared.edges.Kind.TheVariants as kinds;
 ghost use Rattle.function_laws.specs.declared.history.Call.TheVariants as calls;
@@ -15,10 +15,22 @@ use crate::manager::Manager;
 use crate::nodeless::{implies, walked};
 use crate::request::{Answer, Request};
 use crate::session::Session;
-use edge_bits::Memory;
+use edge_bits::{Kind, Memory};
+use function_laws::Order;
 use handle_count::H;
 use shared_store::put_back;
 use std::sync::Wait;
+
+/// How many bits an evaluation of a kind's function reads: one for each variable, or for each element.
+fn bits_read(manager: &Manager, kind: Kind) -> usize
+    ensures { result ≡ bits_of kind manager.now }
+{
+    let order = match kind {
+        Kind::Bdd | Kind::Add => Order::Variables,
+        Kind::Zdd => Order::Elements,
+    };
+    manager.levels(order) as usize
+}
 
 impl Session {
     /// Whether the second of two rows is true wherever the first is. It makes no node, so that only want of memory leaves it
@@ -61,7 +73,8 @@ impl Session {
     }
 
     /// The value of a row: of a BDD 0 or 1, and of an ADD its number, where bit i is the value of variable i; of a family 1 where the
-    /// elements whose bits are set are a member, and 0 else. While sessions take turns it is never refused.
+    /// elements whose bits are set are a member, and 0 else. There are at least as many bits as the manager was opened with variables,
+    /// or elements; further bits have no effect. While sessions take turns it is never refused.
     pub fn eval<R: Wait>(
         &mut self,
         rt: &R,
@@ -71,7 +84,7 @@ impl Session {
     ) -> Result<Placed<i64>, Again>
         requires own { self.old.manager ≡ manager.now }
         requires room { HasRoom self.old }
-        requires live { (k : KindOf) × IsLiveAs k self.old f × (length bits.now ≡ bits_of k self.old.manager) }
+        requires live { (k : KindOf) × IsLiveAs k self.old f × (bits_of k self.old.manager ≤ length bits.now) }
         ensures ok { IsOk result }
         ensures told { IfOk result (λ placed. Called self.old self.new (calls.Eval f bits.now) (replies.Value placed.value) placed.place) }
         ensures stored { StoresNothing self.new }
@@ -80,7 +93,8 @@ impl Session {
         let kind = self.kind(f);
         let edge = self.edge(f);
         let mut shared = manager.guard.take(rt, &mut self.pass);
-        let value = walked(&mut shared, kind, edge, bits);
+        let read = &bits[..bits_read(manager, kind)];
+        let value = walked(&mut shared, kind, edge, read);
         let place = finish(
             &manager.guard,
             &mut self.pass,

@@ -7,7 +7,7 @@ ghost use Rattle.seat_guard.specs.Views.{orders_of};
 ghost use Rattle.shared_store.specs.Reordering.{orders_left, swap_call};
 ghost use Rattle.shared_store.specs.Sharing.{Serving, orders};
 ghost use Rattle.dd_session.specs.Reorderings.{SwapsLevels, crowded_in, levels_of};
-ghost use Rattle.dd_session.specs.Sessions.{HasRoom};
+ghost use Rattle.dd_session.specs.Sessions.{HasRoom, elements_in, variables_in};
 ghost use Rattle.dd_session.specs.Turns.{HasPlace, IsHolding, IsRefused, Keeps, Notes, Told, levels_in, ordered_by};
 
 use crate::answers::{Full, Placed, Refusal};
@@ -70,7 +70,7 @@ impl Session {
     ) -> Result<Placed<()>, Full>
         requires own { self.old.manager ≡ manager.now }
         requires room { HasRoom self.old }
-        requires level { level + 1 < levels_of self.old.manager order }
+        requires level { level + 1 < levels_of self.old order }
         ensures { SwapsLevels order level self.old self.new result }
     {
         let shared = manager.guard.take(rt, &mut self.pass);
@@ -98,7 +98,7 @@ impl Session {
     ) -> Result<Placed<()>, Full>
         requires own { self.old.manager ≡ manager.now }
         requires room { HasRoom self.old }
-        requires level { level + 1 < self.old.manager.vars }
+        requires level { level + 1 < variables_in self.old }
         ensures { SwapsLevels Order.Variables level self.old self.new result }
     {
         self.swap_levels(rt, manager, Order::Variables, level)
@@ -113,7 +113,7 @@ impl Session {
     ) -> Result<Placed<()>, Full>
         requires own { self.old.manager ≡ manager.now }
         requires room { HasRoom self.old }
-        requires level { level + 1 < self.old.manager.elements }
+        requires level { level + 1 < elements_in self.old }
         ensures { SwapsLevels Order.Elements level self.old self.new result }
     {
         self.swap_levels(rt, manager, Order::Elements, level)

@@ -14,7 +14,7 @@ ghost use Rattle.shared_store.specs.declared.shared.Shared.{Shared as SharedOf};
 ghost use Rattle.shared_store.specs.Sharing.{Serving};
 ghost use Rattle.shared_store.specs.Sifting.{sift_call, sifting_of};
 ghost use Rattle.dd_session.specs.Reorderings.{levels_of};
-ghost use Rattle.dd_session.specs.Sessions.{HasRoom};
+ghost use Rattle.dd_session.specs.Sessions.{HasRoom, elements_in, variables_in};
 ghost use Rattle.dd_session.specs.Siftings.{SiftsLevels, sift_telling};
 ghost use Rattle.dd_session.specs.Turns.{Drew, HasPlace, IsHolding, Keeps, Told, levels_in};
 
@@ -97,7 +97,7 @@ impl Session {
     ) -> Placed<Sifted>
         requires own { self.old.manager ≡ manager.now }
         requires room { HasRoom self.old }
-        requires end { last_end 0 blocks.old ≡ levels_of self.old.manager order }
+        requires end { last_end 0 blocks.old ≡ levels_of self.old order }
         ensures sifted { SiftsLevels order blocks.old self.old self.new result }
         ensures blocks { blocks.new ≡ blocks.old }
     {
@@ -124,7 +124,7 @@ impl Session {
     ) -> Placed<Sifted>
         requires own { self.old.manager ≡ manager.now }
         requires room { HasRoom self.old }
-        requires end { last_end 0 blocks.old ≡ self.old.manager.vars }
+        requires end { last_end 0 blocks.old ≡ variables_in self.old }
         ensures sifted { SiftsLevels Order.Variables blocks.old self.old self.new result }
         ensures blocks { blocks.new ≡ blocks.old }
     {
@@ -140,7 +140,7 @@ impl Session {
     ) -> Placed<Sifted>
         requires own { self.old.manager ≡ manager.now }
         requires room { HasRoom self.old }
-        requires end { last_end 0 blocks.old ≡ self.old.manager.elements }
+        requires end { last_end 0 blocks.old ≡ elements_in self.old }
         ensures sifted { SiftsLevels Order.Elements blocks.old self.old self.new result }
         ensures blocks { blocks.new ≡ blocks.old }
     {

@@ -1,5 +1,5 @@
 -- One session that built a network, in the history that the closing of its manager tells.
-use Rattle.std.proofs.Common.{◌≡◌, ◌⊎◌, Bool, Option, ℕ, zero, suc, ◌*◌, Result, Ok, Err, IfErr, inr, List, [], ◌∷◌, ◌++◌, length, map, take, drop, All, Contains, refl, ap, sym, ◌∙◌, subst, arith}
+use Rattle.std.proofs.Common.{◌≡◌, ◌⊎◌, Bool, Option, option_map, ℕ, zero, suc, ◌*◌, Result, Ok, Err, IfErr, inr, List, [], ◌∷◌, ◌++◌, length, map, take, drop, All, Contains, refl, ap, sym, ◌∙◌, subst, arith}
 use mathlib.Core.Option.{some}
 use lib.ListN.{get_elem?}
 use Rattle.std.proofs.Math.Seq.{take-append_seam}
@@ -16,10 +16,12 @@ use Rattle.function_laws.specs.Histories.{table_after}
 use Rattle.function_laws.specs.SessionEntries.{Each, entries_of}
 use Rattle.function_laws.specs.Sizes.{Orders}
 use Rattle.function_laws.specs.Tables.{Sizes, opening}
+use Rattle.function_laws.specs.Widening.{at_sizes}
 use Rattle.seat_guard.specs.declared.view.Noted.{Noted}
 use Rattle.seat_guard.specs.Notes.{IsNotedIn}
 use Rattle.dd_session.specs.declared.answers.Full.{Full}
-use Rattle.dd_session.specs.Managing.{AreAll, IsHistoryOf, Managed, Seen, newcomer, sizes_for}
+use Rattle.dd_session.specs.Sessions.{variables_in}
+use Rattle.dd_session.specs.Managing.{AreAll, IsHistoryOf, Managed, Seen, newcomer, sizes_for, stands_for}
 use Rattle.net_builds.specs.declared.handing.Handover.{Handover}
 use Rattle.net_builds.specs.declared.host.HostRefusal.{HostRefusal}
 use Rattle.net_builds.specs.declared.host.HostRefusal.TheVariants as stops
@@ -39,10 +41,10 @@ note_of noted = record { place = noted.place; order = noted.variable_order }
 abbrev IsRight : Sizes → List Entry → Note → Type 0
 IsRight sizes log note = (orders_from (opening_orders sizes) (take note.place log)).variables ≡ note.order
 
-all_noted : (sizes : Sizes) (log : List Entry) (noted : List Noted) → Each (IsNotedIn sizes log) noted → All (IsRight sizes log) (map note_of noted)
-all_noted sizes log [] each = All-nil (IsRight sizes log)
-all_noted sizes log (note ∷ noted) each =
-    All-cons (IsRight sizes log) (note_of note) (map note_of noted) (ap (λ (o : Orders). o.variables) each.0.1) (all_noted sizes log noted each.1)
+all_noted : (sizes : Sizes) (log : List Entry) (session : ℕ) (noted : List Noted) → Each (IsNotedIn sizes log session) noted → All (IsRight sizes log) (map note_of noted)
+all_noted sizes log session [] each = All-nil (IsRight sizes log)
+all_noted sizes log session (note ∷ noted) each =
+    All-cons (IsRight sizes log) (note_of note) (map note_of noted) (ap (λ (o : Orders). o.variables) each.0.orders_are) (all_noted sizes log session noted each.1)
 
 -- of one session
 pub history_of : (m : Managed) (s : Seen) (n : ℕ) (h : IsHistoryOf m (s ∷ []) n) → builds.IsLegalHistoryOf (sizes_for m.vars m.elements) h.log (standing_of s ∷ [])
@@ -51,8 +53,8 @@ history_of m s n h = record {
   carried = h.carried;
   each = one (λ (t : Standing). entries_of t.number h.log ≡ t.entries) (h.each 0 s refl);
   rows = one (λ (t : Standing). (name : Name) → (table_after (opening (sizes_for m.vars m.elements)) h.log).live t.number name ≡ t.stands name)
-      (λ name. ap (λ (f : Name → Option Function). f name) (h.rows 0 s refl));
-  noted = one (λ (t : Standing). All (IsRight (sizes_for m.vars m.elements) h.log) t.notes) (all_noted (sizes_for m.vars m.elements) h.log s.noted (h.noted 0 s refl));
+      (λ name. h.rows 0 s refl name ∙ ap (λ (z : Sizes). option_map (at_sizes z) (stands_for s.rows name)) (h.fixed ∙ sym (h.known 0 s refl)));
+  noted = one (λ (t : Standing). All (IsRight (sizes_for m.vars m.elements) h.log) t.notes) (all_noted (sizes_for m.vars m.elements) h.log s.number s.noted (h.noted 0 s refl));
   no_other = λ p apart. h.no_other p (λ k t at is. only k t at p is (All-head (λ (t : Standing). t.number ≡ p → ⊥) (standing_of s) [] apart));
 }
   where
@@ -71,14 +73,14 @@ history_of m s n h = record {
     only (suc k) t at p is apart = none k t at
 
 -- as many sessions as there were gained
-one_more : (handovers : List Handover) (a : Standing) (new : List Seen) → AllGain handovers (a ∷ []) (map standing_of new) → (s : Seen) × (new ≡ s ∷ []) × (s.number ≡ a.number)
+one_more : (handovers : List Handover) (a : Standing) (new : List Seen) → AllGain handovers (a ∷ []) (map standing_of new) → (s : Seen) × (new ≡ s ∷ []) × (s.number ≡ a.number) × (variables_in s ≡ a.vars)
 one_more handovers a [] gains = absurd gains
-one_more handovers a (s ∷ []) gains = (s, refl, gains.4)
+one_more handovers a (s ∷ []) gains = (s, refl, gains.4, gains.3)
 one_more handovers a (s ∷ t ∷ rest) gains = absurd gains.5
 
 module _ (m : Managed) (Tells : List (ℕ → Bool) → List ℕ → List ℕ → Type 0) (net : Net) (new : List Seen) (text : List ℕ) (own : All (λ (s : Seen). s.manager ≡ m) new)
     (built : Builds Tells net (map standing_of (newcomer m 0 ∷ [])) (map standing_of new) text) where
-  abbrev only : (s : Seen) × (new ≡ s ∷ []) × (s.number ≡ 0)
+  abbrev only : (s : Seen) × (new ≡ s ∷ []) × (s.number ≡ 0) × (variables_in s ≡ m.vars)
   only = one_more built.handovers (standing_of (newcomer m 0)) new built.gains
 
   -- it is all sessions of its manager
@@ -103,7 +105,7 @@ module _ (m : Managed) (Tells : List (ℕ → Bool) → List ℕ → List ℕ �
   vars_are : m.vars ≡ length net.inputs → All (λ (s : Standing). s.vars ≡ length net.inputs) (map standing_of new)
   vars_are vars =
       subst (λ (xs : List Seen). All (λ (s : Standing). s.vars ≡ length net.inputs) (map standing_of xs)) (sym only.1)
-      (All-cons (λ (t : Standing). t.vars ≡ length net.inputs) (standing_of only.0) [] (ap (λ (x : Managed). x.vars) (All-head (λ (s : Seen). s.manager ≡ m) only.0 [] (subst (All (λ (s : Seen). s.manager ≡ m)) only.1 own)) ∙ vars) (All-nil (λ (t : Standing). t.vars ≡ length net.inputs)))
+      (All-cons (λ (t : Standing). t.vars ≡ length net.inputs) (standing_of only.0) [] (only.3 ∙ vars) (All-nil (λ (t : Standing). t.vars ≡ length net.inputs)))
 
   none_before : All (λ (s : Standing). s.entries ≡ []) (map standing_of (newcomer m 0 ∷ []))
   none_before = All-cons (λ (t : Standing). t.entries ≡ []) (standing_of (newcomer m 0)) [] refl (All-nil (λ (t : Standing). t.entries ≡ []))

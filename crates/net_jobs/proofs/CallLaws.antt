@@ -15,8 +15,7 @@ use Rattle.function_laws.specs.Tables.{Sizes, Table, same_name, with_name}
 use Rattle.function_laws.specs.Outcomes.{Outcome, makes, restricts, covers, fetches, counts, is_done}
 use Rattle.function_laws.specs.Steps.{IsAllowed, IsNew, Replies, after, outcome, outcome_of, with_result}
 use Rattle.function_laws.proofs.StepLemmas.{chosen-new}
-use Rattle.dd_session.specs.Managing.{stands_for}
-use Rattle.dd_session.specs.Sessions.{kind_of}
+use Rattle.dd_session.specs.Sessions.{kind_of, stands_now}
 use Rattle.job_text.specs.Histories.{drops, given_by}
 use Rattle.dd_session.specs.Sessions.{Called, Seen, names_in}
 use Rattle.dd_session.proofs.Naming.{same_name-refl}
@@ -26,16 +25,16 @@ use Rattle.net_jobs.proofs.OutcomeKinds.{IsOfKind, is_plain, no-count, one}
 
 -- what comes of a call is always of this kind
 abbrev pub ComesOf : Kind → Seen → Call → Type 0
-ComesOf k old call = (z : Sizes) (cells : ℕ → Option Function) (o : Outcome) → outcome_of z cells (stands_for old.rows) call ≡ Some o → IsOfKind k o
+ComesOf k old call = (z : Sizes) (cells : ℕ → Option Function) (o : Outcome) → outcome_of z cells (stands_now old) call ≡ Some o → IsOfKind k o
 
 -- A name that a call gave: it is that of the next generation, and stands for a function of the kind that is due; each other name
 -- stands for what it stood for.
 pub record Given (old new : Seen) (call : Call) (name : Name) : Type 0 where
   pub generation : name.generation ≡ old.adds
   pub function : Function
-  pub stands : stands_for new.rows name ≡ Some function
+  pub stands : stands_now new name ≡ Some function
   pub kind : (k : Kind) → ComesOf k old call → kind_of function ≡ k
-  pub others : (other : Name) → same_name other name ≡ false → stands_for new.rows other ≡ stands_for old.rows other
+  pub others : (other : Name) → same_name other name ≡ false → stands_now new other ≡ stands_now old other
 
 with_here : (s : ℕ) (t : Table) (name : Name) (f : Function) → (with_name t s name f).live s name ≡ Some f
 with_here s t name f = ap₂ (λ a b. cond (a && b) (Some f) (t.live s name)) (eq-eqb s s refl) (same_name-refl name)
@@ -73,7 +72,7 @@ module _ (old new : Seen) (call : Call) (reply : Reply) (place : ℕ) (called : 
   abbrev t : Table
   t = table_of old called.board
 
-  live_before : t.live old.number ≡ stands_for old.rows
+  live_before : t.live old.number ≡ stands_now old
   live_before = λ i name. stood_before old new call reply place called name i
 
   -- a name that is new is that of the next generation
@@ -84,7 +83,7 @@ module _ (old new : Seen) (call : Call) (reply : Reply) (place : ℕ) (called : 
       let given : (after t old.number call reply).given new.number name ≡ true =
       ap (λ (u : Table). u.given new.number name) is ∙ ap₂ (λ a b. (a && b) || t.given new.number name) (eq-eqb new.number old.number called.number_is) (same_name-refl name) in
       let upper : name.generation < new.adds = ⊎_elim
-      (λ yes. absurd (false≢true (sym ((called.step t (seen_in_table old called.board) refl).1.fresh name yes.1) ∙ given)))
+      (λ yes. absurd (false≢true (sym ((called.step t (seen_in_table old called.board) refl (sym called.sizes_are)).1.fresh name yes.1) ∙ given)))
       (λ no. no.1) (leb_tells new.adds name.generation) in
       omega (arith, lower, upper, called.adds_are, one_name reply)
 
@@ -153,7 +152,7 @@ left_by _ name o = o
 drop_allowed : (t : Table) (s : ℕ) (a : Name) (P : Outcome → Type 0) → P is_done → (o : Outcome) → outcome t s (calls.DropRow a) ≡ Some o → P o
 drop_allowed t s a P holds o at = one P (t.live s a) (λ f. is_done) o (λ f. holds) at
 
-done_stays : (old new : Seen) (call : Call) (place : ℕ) → Called old new call replies.Done place → (name : Name) → stands_for new.rows name ≡ left_by call name (stands_for old.rows name)
+done_stays : (old new : Seen) (call : Call) (place : ℕ) → Called old new call replies.Done place → (name : Name) → stands_now new name ≡ left_by call name (stands_now old name)
 done_stays old new (calls.DropRow a) place called name =
     stands_after old new (calls.DropRow a) replies.Done place called name
     ∙ ap (λ b. cond (b && same_name name a) None ((table_of old called.board).live old.number name)) (eq-eqb old.number old.number refl)
@@ -162,7 +161,7 @@ done_stays old new (calls.Post i a) place called name = posted_stays old new i a
 done_stays old new call place called name = stands_still old new call replies.Done place called refl name
 
 -- a call that gives no name
-pub left : (old new : Seen) (call : Call) (reply : Reply) (place : ℕ) → Called old new call reply place → given_by reply ≡ None → (name : Name) → stands_for new.rows name ≡ left_by call name (stands_for old.rows name)
+pub left : (old new : Seen) (call : Call) (reply : Reply) (place : ℕ) → Called old new call reply place → given_by reply ≡ None → (name : Name) → stands_now new name ≡ left_by call name (stands_now old name)
 left old new call (replies.Made r) place called none name = cc
 left old new call (replies.Chose r g) place called none name = cc
 left old new call (replies.Fetched r posted) place called none name = cc

@@ -16,8 +16,8 @@ use Rattle.function_laws.specs.declared.history.Name.{Name}
 use Rattle.function_laws.specs.declared.history.Sifting.{Sifting}
 use Rattle.function_laws.specs.declared.orders.Order.TheVariants.{Variables, Elements}
 use Rattle.function_laws.specs.Tables.{same_name}
-use Rattle.dd_session.specs.Managing.{stands_for}
-use Rattle.dd_session.specs.Sessions.{kind_of}
+use Rattle.dd_session.specs.Sessions.{kind_of, stands_now}
+use Rattle.dd_session.proofs.SessionLaws.{live_now, now_live}
 use Rattle.job_commands.specs.declared.acts.Act.{Act}
 use Rattle.job_commands.specs.declared.acts.Act.TheVariants.{Makes, Copy, Fetch, Post, Drop, Same, Leq, Eval, Sweep, Swap, Sift}
 use Rattle.job_text.specs.declared.job.Counts.{Counts}
@@ -96,15 +96,15 @@ without-live dropped word k (Some register) is =
     )
 
 -- what stands for the same is live of the same kind
-live_along : (k : Kind) (old new : Seen) (name : Name) → stands_for new.rows name ≡ stands_for old.rows name → IsLiveAs k old name → IsLiveAs k new name
-live_along k old new name same live = (live.0, same ∙ live.1, live.2)
+live_along : (k : Kind) (old new : Seen) (name : Name) → stands_now new name ≡ stands_now old name → IsLiveAs k old name → IsLiveAs k new name
+live_along k old new name same live = let held = now_live k old name live in live_now k new name held.0 (same ∙ held.1) held.2
 
-kind_held : (k : Kind) (s : Seen) (name : Name) → IsLiveAs k s name → kind_or (stands_for s.rows name) ≡ k
-kind_held k s name live = ap kind_or live.1 ∙ live.2
+kind_held : (k : Kind) (s : Seen) (name : Name) → IsLiveAs k s name → kind_or (stands_now s name) ≡ k
+kind_held k s name live = let held = now_live k s name live in ap kind_or held.1 ∙ held.2
 
 module _ (n : Counts) (registers : List Register) (old new : Seen) (names : List Assigned) (first i : ℕ) (words : List Word) (covers : Covers registers old names)
     (generations : map generation_of names ≡ range_with_len first (length names)) (adds : old.adds ≡ first + length names) where
-  covers-kept : ((name : Name) → stands_for new.rows name ≡ stands_for old.rows name) → Covers registers new names
+  covers-kept : ((name : Name) → stands_now new name ≡ stands_now old name) → Covers registers new names
   covers-kept same = record {
     as_many = covers.as_many;
     held = λ a word k at. let held = covers.held a word k at in (held.0, live_along k old new (name_at names a) (same (name_at names a)) held.1);
@@ -133,7 +133,7 @@ module _ (n : Counts) (registers : List Register) (old new : Seen) (names : List
       }
 
   covers-drop : (word : Word) (kind : Kind) (a : ℕ) → slice_get registers a ≡ Some (record { name = word; live = true; kind = kind })
-      → ((name : Name) → stands_for new.rows name ≡ left_by (calls.DropRow (name_at names a)) name (stands_for old.rows name)) → Covers (map (without word) registers) new names
+      → ((name : Name) → stands_now new name ≡ left_by (calls.DropRow (name_at names a)) name (stands_now old name)) → Covers (map (without word) registers) new names
   covers-drop word kind a is gone = record {
     as_many = length-map registers (without word) ∙ covers.as_many;
     held = λ j name k at.
@@ -149,7 +149,7 @@ module _ (n : Counts) (registers : List Register) (old new : Seen) (names : List
         let dropped = covers.held a word kind is in
         let other = name-apart (name_at names j) (name_at names a)
         (λ e. apart (omega (arith, e, numbered names first generations j held.0, numbered names first generations a dropped.0))) in
-        (held.0, live_along k old new (name_at names j) (gone (name_at names j) ∙ ap (λ b. cond b None (stands_for old.rows (name_at names j))) other) held.1);
+        (held.0, live_along k old new (name_at names j) (gone (name_at names j) ∙ ap (λ b. cond b None (stands_now old (name_at names j))) other) held.1);
   }
 
   module _ (told : Sifting) (act : Act) (answered : Answered) (is : IsAnswered old new (call_of told names act) answered) (goes : stops answered.reply ≡ false) where
@@ -168,10 +168,10 @@ module _ (n : Counts) (registers : List Register) (old new : Seen) (names : List
         by (Some name) made some = (name, made, given old new (call_of told names act) is.reply answered.place is.called name (plain told names act) (is.gives ∙ made))
 
     -- or none
-    pub gave_none : makes_row (call_of told names act) ≡ false → (answered.made ≡ None) × ((name : Name) → stands_for new.rows name ≡ left_by (call_of told names act) name (stands_for old.rows name))
+    pub gave_none : makes_row (call_of told names act) ≡ false → (answered.made ≡ None) × ((name : Name) → stands_now new name ≡ left_by (call_of told names act) name (stands_now old name))
     gave_none none = by answered.made refl (made-none none)
       where
-        by : (o : Option Name) → answered.made ≡ o → is_some o ≡ false → (answered.made ≡ None) × ((name : Name) → stands_for new.rows name ≡ left_by (call_of told names act) name (stands_for old.rows name))
+        by : (o : Option Name) → answered.made ≡ o → is_some o ≡ false → (answered.made ≡ None) × ((name : Name) → stands_now new name ≡ left_by (call_of told names act) name (stands_now old name))
         by None made some = (made, left old new (call_of told names act) is.reply answered.place is.called (is.gives ∙ made))
         by (Some name) made some = absurd (false≢true (sym some))
 
@@ -188,11 +188,11 @@ module _ (n : Counts) (registers : List Register) (old new : Seen) (names : List
         → ((name : Name) (o : Option Function) → left_by (call_of told names act) name o ≡ o) → Covers (registers_after registers words) new (assigned_after answered.made i names)
     after-kept keeps none same =
         let nothing = gave_none none in
-        along None registers keeps nothing.0 (covers-kept (λ name. nothing.1 name ∙ same name (stands_for old.rows name)))
+        along None registers keeps nothing.0 (covers-kept (λ name. nothing.1 name ∙ same name (stands_now old name)))
 
   -- what was handed on is of the kind of its register
   handed : (a : ℕ) (call : Call) → (word : Word) × StandsFor n registers word (operands.Any a)
-      → ((z : Sizes) (cells : ℕ → Option Function) (o : Outcome) → outcome_of z cells (stands_for old.rows) call ≡ Some o → IsOfKind (kind_or (stands_for old.rows (name_at names a))) o)
+      → ((z : Sizes) (cells : ℕ → Option Function) (o : Outcome) → outcome_of z cells (stands_now old) call ≡ Some o → IsOfKind (kind_or (stands_now old (name_at names a))) o)
       → ComesOf (kind_at registers a) old call
   handed a call stands comes z cells o at =
       let k = stands.1.0 in
@@ -207,13 +207,13 @@ module _ (n : Counts) (registers : List Register) (old new : Seen) (names : List
       by : (act : Act) → IsAnswered old new (call_of told names act) answered → Leaves n registers words act → Takes n registers act says.operands → EachStands n registers says.operands
           → Covers (registers_after registers words) new (assigned_after answered.made i names)
       by (Makes making) is leave take each =
-          after-made told (Makes making) answered is goes (kind_made making) leave.0 leave.1 (λ z cells o at. named-kind z (stands_for old.rows) (name_at names) making o at) refl
+          after-made told (Makes making) answered is goes (kind_made making) leave.0 leave.1 (λ z cells o at. named-kind z (stands_now old) (name_at names) making o at) refl
       by (Copy a) is leave take each =
           let one = subst (EachStands n registers) take each in
-          after-made told (Copy a) answered is goes (kind_at registers a) leave.0 leave.1 (handed a (calls.Copy (name_at names a)) one.0 (λ z cells o at. copy-kind z cells (stands_for old.rows) (name_at names a) o at)) refl
+          after-made told (Copy a) answered is goes (kind_at registers a) leave.0 leave.1 (handed a (calls.Copy (name_at names a)) one.0 (λ z cells o at. copy-kind z cells (stands_now old) (name_at names a) o at)) refl
       by (Fetch cell a) is leave take each =
           let both = subst (EachStands n registers) take each in
-          after-made told (Fetch cell a) answered is goes (kind_at registers a) leave.0 leave.1 (handed a (calls.Fetch cell (name_at names a)) both.1.0 (λ z cells o at. fetch-kind z cells (stands_for old.rows) cell (name_at names a) o at)) refl
+          after-made told (Fetch cell a) answered is goes (kind_at registers a) leave.0 leave.1 (handed a (calls.Fetch cell (name_at names a)) both.1.0 (λ z cells o at. fetch-kind z cells (stands_now old) cell (name_at names a) o at)) refl
       by (Drop a) is leave take each =
           let nothing = gave_none told (Drop a) answered is goes refl in
           along told (Drop a) answered is goes None (map (without leave.0) registers) leave.3 nothing.0 (covers-drop leave.0 leave.1 a leave.2.1 nothing.1)

@@ -13,8 +13,8 @@ use Rattle.function_laws.specs.declared.history.Name.{Name}
 use Rattle.function_laws.specs.declared.history.Sifting.{Sifting}
 use Rattle.function_laws.specs.SessionEntries.{entry}
 use Rattle.function_laws.specs.Tables.{same_name}
-use Rattle.dd_session.specs.Managing.{stands_for}
-use Rattle.dd_session.specs.Sessions.{kind_of}
+use Rattle.dd_session.specs.Sessions.{kind_of, stands_now}
+use Rattle.dd_session.proofs.SessionLaws.{live_now, now_live}
 use Rattle.job_commands.specs.declared.acts.Act.{Act}
 use Rattle.job_commands.specs.declared.acts.Act.TheVariants.{Drop}
 use Rattle.job_text.specs.declared.job.Command.{Command}
@@ -54,15 +54,15 @@ some_live None is = absurd (false≢true (sym is))
 some_live (Some f) is = (f, refl)
 
 -- whether a name is live tells what it stands for
-pub gone_if : (s : Seen) (name : Name) (live : Bool) → IsTrue live ↔ IsLive s name → live ≡ false → is_none (stands_for s.rows name) ≡ true
-gone_if s name live tells off = by (stands_for s.rows name) refl
+pub gone_if : (s : Seen) (name : Name) (live : Bool) → IsTrue live ↔ IsLive s name → live ≡ false → is_none (stands_now s name) ≡ true
+gone_if s name live tells off = by (stands_now s name) refl
   where
-    by : (o : Option Function) → stands_for s.rows name ≡ o → is_none (stands_for s.rows name) ≡ true
+    by : (o : Option Function) → stands_now s name ≡ o → is_none (stands_now s name) ≡ true
     by None at = ap is_none at
-    by (Some f) at = absurd (false≢true (sym off ∙ tells.1 (kind_of f, (f, at, refl))))
+    by (Some f) at = absurd (false≢true (sym off ∙ tells.1 (kind_of f, live_now (kind_of f) s name f at refl)))
 
-pub kept_if : (s : Seen) (name : Name) → IsLive s name → is_none (stands_for s.rows name) ≡ false
-kept_if s name live = ap is_none live.1.1
+pub kept_if : (s : Seen) (name : Name) → IsLive s name → is_none (stands_now s name) ≡ false
+kept_if s name live = ap is_none (now_live live.0 s name live.1).1
 
 -- a live register may be dropped
 pub can_drop : (n : Counts) (s : Seen) (names : List Assigned) (row : ℕ) (assigned : Assigned) (act : Act) → slice_get names row ≡ Some assigned → act ≡ Drop row → IsLive s assigned.name → CanCall n s names act
@@ -71,7 +71,7 @@ can_drop n s names row assigned act at is live =
     subst (λ (a : Act). CanCall n s names a) (sym is) (live.0, (slice_get_within names row assigned at, subst (IsLiveAs live.0 s) (sym named) live.1))
 
 pub drops_live : (commands : List Command) (old new : Seen) (before after : Script) (row : ℕ) (assigned : Assigned) (command : Command) (answered : Answered) (told : Sifting) → slice_get before.names.items row ≡ Some assigned
-    → command.act ≡ Drop row → command.words ≡ drop_words commands assigned → is_none (stands_for old.rows assigned.name) ≡ false → IsAnswered old new (call_of told before.names.items command.act) answered
+    → command.act ≡ Drop row → command.words ≡ drop_words commands assigned → is_none (stands_now old assigned.name) ≡ false → IsAnswered old new (call_of told before.names.items command.act) answered
     → map written_as after.lines.items ≡ map written_as before.lines.items ++ (answered.place, line_text answered.place old.number command.words answered.reply) ∷ []
     → after.names.items ≡ before.names.items → DropsOne commands old new before after row assigned
 drops_live commands old new before after row assigned command answered told at act words kept is lines names =
@@ -98,8 +98,8 @@ drop_line gone commands assigned = if gone then [] else drop_of (register_of com
 pub record Turned (start now new : Seen) (commands : List Command) (after : Script) (assigned : Assigned) (said : List HistoryLine) : Type 0 where
   pub added : List HistoryLine
   pub stands : HasSaid start new commands after.names.items after.lines.items (said ++ added)
-  pub says : map spoken added ≡ drop_line (is_none (stands_for now.rows assigned.name)) commands assigned
-  pub others : (name : Name) → same_name name assigned.name ≡ false → stands_for new.rows name ≡ stands_for now.rows name
+  pub says : map spoken added ≡ drop_line (is_none (stands_now now assigned.name)) commands assigned
+  pub others : (name : Name) → same_name name assigned.name ≡ false → stands_now new name ≡ stands_now now name
 
 turned : (start now new : Seen) (commands : List Command) (before after : Script) (row : ℕ) (assigned : Assigned) (said : List HistoryLine) → slice_get before.names.items row ≡ Some assigned
     → HasSaid start now commands before.names.items before.lines.items said → DropsOne commands now new before after row assigned → Turned start now new commands after assigned said
@@ -110,7 +110,7 @@ turned start now new commands before after row assigned said at stands drops_it 
           (subst (λ (s : Seen). HasSaid start s commands after.names.items after.lines.items said) (sym gone.1)
           (subst (λ (x : Script). HasSaid start now commands x.names.items x.lines.items said) (sym gone.2) stands));
       says = sym (ap (λ b. drop_line b commands assigned) gone.0);
-      others = λ name apart. ap (λ (s : Seen). stands_for s.rows name) gone.1;
+      others = λ name apart. ap (λ (s : Seen). stands_now s name) gone.1;
     })
     (λ live.
     let answered = live.1.0 in
@@ -129,7 +129,7 @@ turned start now new commands before after row assigned said at stands drops_it 
           (λ made. absurd (false≢true (sym (ap is_some none) ∙ made))) spoke.lines);
       says = sym (ap (λ b. drop_line b commands assigned) live.0);
       others = λ name apart. left now new (calls.DropRow assigned.name) (spoke.is).reply answered.place (spoke.is).called ((spoke.is).gives ∙ none) name
-          ∙ ap (λ b. cond b None (stands_for now.rows name)) apart;
+          ∙ ap (λ b. cond b None (stands_now now name)) apart;
     })
     drops_it
 
@@ -142,17 +142,17 @@ pub record Dropping (start old now : Seen) (commands : List Command) (before scr
   pub dropped : List HistoryLine
   pub stands : HasSaid start now commands script.names.items script.lines.items (said ++ dropped)
   pub says : map spoken dropped ≡ map drop_of (filter (is_left said) (take row (registers_of said)))
-  pub others : (k : ℕ) → row ≤ k → k < length before.names.items → stands_for now.rows (name_at before.names.items k) ≡ stands_for old.rows (name_at before.names.items k)
+  pub others : (k : ℕ) → row ≤ k → k < length before.names.items → stands_now now (name_at before.names.items k) ≡ stands_now old (name_at before.names.items k)
 
 -- a register is live where the lines do not drop it
 live_at : (s : Seen) (commands : List Command) (names : List Assigned) (said : List HistoryLine) (row : ℕ) (assigned : Assigned) → slice_get names row ≡ Some assigned
-    → All (λ (a : Assigned). is_dropped said a.name ≡ is_none (stands_for s.rows a.name)) names → is_dropped said assigned.name ≡ is_none (stands_for s.rows assigned.name)
+    → All (λ (a : Assigned). is_dropped said a.name ≡ is_none (stands_now s a.name)) names → is_dropped said assigned.name ≡ is_none (stands_now s assigned.name)
 live_at s commands [] said row assigned at live = cc
 live_at s commands (a ∷ names) said zero assigned at live =
     let same : a ≡ assigned = cc in
-    subst (λ (x : Assigned). is_dropped said x.name ≡ is_none (stands_for s.rows x.name)) same (All-head (λ (x : Assigned). is_dropped said x.name ≡ is_none (stands_for s.rows x.name)) a names live)
+    subst (λ (x : Assigned). is_dropped said x.name ≡ is_none (stands_now s x.name)) same (All-head (λ (x : Assigned). is_dropped said x.name ≡ is_none (stands_now s x.name)) a names live)
 live_at s commands (a ∷ names) said (suc row) assigned at live =
-    live_at s commands names said row assigned at (All-tail (λ (x : Assigned). is_dropped said x.name ≡ is_none (stands_for s.rows x.name)) a names live)
+    live_at s commands names said row assigned at (All-tail (λ (x : Assigned). is_dropped said x.name ≡ is_none (stands_now s x.name)) a names live)
 
 -- So many registers are dropped.
 pub record DropsUpTo (old now : Seen) (commands : List Command) (before script : Script) (row : ℕ) : Type 0 where
@@ -219,13 +219,13 @@ next_drop old now new commands before script after row assigned up at drops_it r
       let is_register : slice_get (registers_of said) row ≡ Some register =
       ap (λ rs. slice_get rs row) stands.registers ∙ slice_get-map (register_of commands) before.names.items row ∙ ap (option_map (register_of commands)) here in
       let named : name_at before.names.items row ≡ assigned.name = ap name_in here in
-      let same : stands_for now.rows assigned.name ≡ stands_for old.rows assigned.name =
-      subst (λ (name : Name). stands_for now.rows name ≡ stands_for old.rows name) named (was.others row (omega arith) below) in
-      let left_is : is_left said register ≡ not (is_none (stands_for now.rows assigned.name)) = ap not (live_at old commands before.names.items said row assigned here stands.live ∙ ap is_none (sym same)) in
+      let same : stands_now now assigned.name ≡ stands_now old assigned.name =
+      subst (λ (name : Name). stands_now now name ≡ stands_now old name) named (was.others row (omega arith) below) in
+      let left_is : is_left said register ≡ not (is_none (stands_now now assigned.name)) = ap not (live_at old commands before.names.items said row assigned here stands.live ∙ ap is_none (sym same)) in
       record {
         dropped = was.dropped ++ turn.added;
         stands = subst (λ lines. HasSaid start new commands after.names.items after.lines.items lines) (append_assoc said was.dropped turn.added) turn.stands;
-        says = map-append spoken was.dropped turn.added ∙ ap₂ (λ xs ys. xs ++ ys) was.says (turn.says ∙ said_if (is_none (stands_for now.rows assigned.name)) (is_left said register) register left_is)
+        says = map-append spoken was.dropped turn.added ∙ ap₂ (λ xs ys. xs ++ ys) was.says (turn.says ∙ said_if (is_none (stands_now now assigned.name)) (is_left said register) register left_is)
             ∙ sym (map-append drop_of (filter (is_left said) (take row (registers_of said))) (if is_left said register then register ∷ [] else []))
             ∙ ap (map drop_of) (sym (filter-push (is_left said) (take row (registers_of said)) register))
             ∙ ap (λ xs. map drop_of (filter (is_left said) xs)) (sym (take-next (registers_of said) row register is_register));

@@ -5,7 +5,8 @@ use Rattle.std.proofs.lemmas.List.{append_assoc, append-nil, take-append-drop}
 use Rattle.job_text.specs.declared.job.Command.{Command}
 use Rattle.dd_session.specs.Managing.{Managed, Seen}
 use Rattle.net_jobs.specs.declared.said.Said.{Said}
-use Rattle.net_jobs.specs.Plays.{AllCan, AllPlay, AreNumbered}
+use Rattle.net_jobs.specs.Plays.{AllCan, AllKept, AllPlay, AreNumbered}
+use Rattle.net_jobs.specs.Saying.{IsKept}
 use Rattle.net_jobs.specs.Sections.{PlaysSection}
 
 -- as many sections as sessions
@@ -50,6 +51,22 @@ both_play (Err e) sections cs ds sessions xs xs' ys ys' is_sections is_sessions 
 both_play (Ok said) sections cs ds sessions xs xs' ys ys' is_sections is_sessions both =
     subst (λ (p : List (List Command) × List Seen × List Said). AllPlay p.0 p.1 (xs' ++ ys') p.2) (λ i. (sym is_sections i, sym is_sessions i, sym both.2 i))
     (play_append cs ds xs xs' ys ys' both.0 both.1 both.3 both.4)
+
+-- the sessions of both halves are still their manager's
+pub kept_append : (xs xs' ys ys' : List Seen) → AllKept xs xs' → AllKept ys ys' → AllKept (xs ++ ys) (xs' ++ ys')
+kept_append [] [] ys ys' a b = b
+kept_append [] (x' ∷ xs') ys ys' a b = absurd a
+kept_append (x ∷ xs) [] ys ys' a b = absurd a
+kept_append (x ∷ xs) (x' ∷ xs') ys ys' a b = (a.0, kept_append xs xs' ys ys' a.1 b)
+
+pub none_kept : (sessions : List Seen) → length sessions ≡ 0 → AllKept sessions sessions
+none_kept [] none = tt
+none_kept (s ∷ sessions) none = absurd (omega (arith, none))
+
+pub one_kept : (sessions : List Seen) (s s' : Seen) → length sessions ≡ 1 → IsKept (slice_index_or sessions 0 s) s' → AllKept sessions (slice_set sessions 0 s')
+one_kept [] s s' one kept = absurd (omega (arith, one))
+one_kept (x ∷ []) s s' one kept = (kept, tt)
+one_kept (x ∷ (y ∷ xs)) s s' one kept = absurd (omega (arith, one))
 
 -- one session alone
 pub one_plays : {A E : Type 0} (result : Result (Vec Said A) E) (m : Managed) (sections : List (List Command)) (sessions : List Seen) (c commands : List Command) (s s' : Seen) → AllCan m sections sessions → length sessions ≡ 1

@@ -32,9 +32,8 @@ use Rattle.dd_session.specs.declared.answers.Placed.{Placed}
 use Rattle.dd_session.specs.declared.answers.Refusal.{Refusal}
 use Rattle.dd_session.specs.declared.answers.Refusal.TheVariants as refusals
 use Rattle.dd_session.specs.Listings.{IsListed}
-use Rattle.dd_session.specs.Managing.{stands_for}
-use Rattle.dd_session.specs.Sessions.{Called, Denies, HasRoom, IsAsBefore, IsLive as IsRow, IsLiveAs, Managed, Seen, kind_of}
-use Rattle.dd_session.proofs.SessionLaws.{dropped_stays, evaluated_as, made_as, posted_stays, table_of, valued_stays}
+use Rattle.dd_session.specs.Sessions.{Called, Denies, HasRoom, IsAsBefore, IsLive as IsRow, IsLiveAs, Managed, Seen, kind_of, stands_now, variables_in}
+use Rattle.dd_session.proofs.SessionLaws.{dropped_stays, evaluated_as, live_now, made_as, now_live, posted_stays, table_of, valued_stays}
 use Rattle.net_builds.specs.declared.host.HostRefusal.{HostRefusal}
 use Rattle.net_builds.specs.Standings.{Asks, Fetches, IsCaused, IsHeld, IsLive, IsQuiet, LetsGo, Lists, Makes, Posts, Works, values_of}
 use Rattle.net_jobs.specs.Hosts.{IsRefusedBy, named_by, standing_of}
@@ -44,13 +43,13 @@ use Rattle.net_jobs.proofs.OutcomeKinds.{IsOfKind, fetch-kind, is_plain, kind_or
 
 -- a name that stands for a list of truth values is that of a row, and so is one that stands for a function
 pub live_is_bdd : (s : Seen) (name : Name) → IsLive (standing_of s) name → IsLiveAs kinds.Bdd s name
-live_is_bdd s name live = (Bdd live.0, live.1, refl)
+live_is_bdd s name live = live_now kinds.Bdd s name (Bdd live.0) live.1 refl
 
 pub live_is_row : (s : Seen) (name : Name) → IsLive (standing_of s) name → IsRow s name
 live_is_row s name live = (kinds.Bdd, live_is_bdd s name live)
 
 pub held_is_bdd : (s : Seen) (name : Name) → IsHeld (standing_of s) name → IsLiveAs kinds.Bdd s name
-held_is_bdd s name held = (Bdd (list_of (2 ^ s.manager.vars) held.0), held.1.stands, refl)
+held_is_bdd s name held = live_now kinds.Bdd s name (Bdd (list_of (2 ^ variables_in s) held.0)) held.1.stands refl
 
 pub held_is_row : (s : Seen) (name : Name) → IsHeld (standing_of s) name → IsRow s name
 held_is_row s name held = (kinds.Bdd, held_is_bdd s name held)
@@ -58,6 +57,10 @@ held_is_row s name held = (kinds.Bdd, held_is_bdd s name held)
 -- a session that has few rows and has made few calls may make one more
 pub has_room : (s : Seen) → length s.rows < MOST_ROWS → length s.entries < 2 ^ 47 → HasRoom s
 has_room s rows calls = (rows, omega (arith, calls))
+
+-- a call leaves as many variables as the session knew
+variables_stay : (old new : Seen) (call : Call) (reply : Reply) (place : ℕ) → Called old new call reply place → variables_in new ≡ variables_in old
+variables_stay old new call reply place called = ap₂ (λ (n : ℕ) (m : Managed). n + m.vars) called.more_are.0 called.manager_is
 
 notes_kept : (old new : Seen) → new.noted ≡ old.noted → (standing_of new).notes ≡ (standing_of old).notes
 notes_kept old new is = λ i. (standing_of (record old { noted = is i })).notes
@@ -67,7 +70,7 @@ module _ (old new : Seen) (call : Call) where
   module _ (reply : Reply) (place : ℕ) (called : Called old new call reply place) where
     pub works : IsQuiet (entry place old.number call reply) → Works (standing_of old) (standing_of new)
     works quiet = record {
-      vars_are = ap (λ (m : Managed). m.vars) called.manager_is;
+      vars_are = variables_stay old new call reply place called;
       number_is = called.number_is;
       notes_are = notes_kept old new called.noted_are;
       gained = entry place old.number call reply ∷ [];
@@ -78,13 +81,13 @@ module _ (old new : Seen) (call : Call) where
 
   -- a call that made a BDD
   module _ (name : Name) (place : ℕ) (called : Called old new call (replies.Made name) place) (plain : is_plain call ≡ true) (posts : (cell : ℕ) → posts_to cell call ≡ false) where
-    pub made : (f : ℕ → Bool) → outcome (table_of old called.board) old.number call ≡ Some (makes (Bdd (list_of (2 ^ old.manager.vars) f))) → Makes (standing_of old) (standing_of new) name f
+    pub made : (f : ℕ → Bool) → outcome (table_of old called.board) old.number call ≡ Some (makes (Bdd (list_of (2 ^ variables_in old) f))) → Makes (standing_of old) (standing_of new) name f
     made f is =
         let gave = given old new call (replies.Made name) place called name plain refl in
         record {
           works = works (replies.Made name) place called (record { plain = record { unnumbered = refl; ordered = λ orders. refl }; posts = posts });
           holds = record {
-            stands = made_as old new call name place called (Bdd (list_of (2 ^ old.manager.vars) f)) is ∙ ap (λ (m : Managed). values_of m.vars f) (sym called.manager_is);
+            stands = made_as old new call name place called (Bdd (list_of (2 ^ variables_in old) f)) is ∙ ap (λ n. values_of n f) (sym (variables_stay old new call (replies.Made name) place called));
             given = omega (arith, gave.generation, called.adds_are);
           };
           newer = omega (arith, gave.generation);
@@ -136,14 +139,14 @@ module _ (old new : Seen) (call : Call) where
 -- what comes of the calls, in a table in which the session is seen
 module _ (s : Seen) (board : ℕ → Option Function) where
   abbrev size : ℕ
-  size = 2 ^ s.manager.vars
+  size = 2 ^ variables_in s
 
   -- a name that stands for the function f
   abbrev Stands : Name → (ℕ → Bool) → Type 0
-  Stands name f = stands_for s.rows name ≡ Some (Bdd (list_of size f))
+  Stands name f = stands_now s name ≡ Some (Bdd (list_of size f))
 
-  in_table : (name : Name) (f : Function) → stands_for s.rows name ≡ Some f → (table_of s board).live s.number name ≡ Some f
-  in_table name f stands = ap (λ b. cond b (stands_for s.rows name) None) (eq-eqb s.number s.number refl) ∙ stands
+  in_table : (name : Name) (f : Function) → stands_now s name ≡ Some f → (table_of s board).live s.number name ≡ Some f
+  in_table name f stands = ap (λ b. cond b (stands_now s name) None) (eq-eqb s.number s.number refl) ∙ stands
 
   pub outcome-one : (value : Bool) → value ≡ true → outcome (table_of s board) s.number (calls.Makes (makings.Bdd bdds.One)) ≡ Some (makes (Bdd (list_of size (constant value))))
   outcome-one value is = ap (λ b. Some (makes (Bdd (list_of size (constant b))))) (sym is)
@@ -151,7 +154,7 @@ module _ (s : Seen) (board : ℕ → Option Function) where
   pub outcome-zero : (value : Bool) → value ≡ false → outcome (table_of s board) s.number (calls.Makes (makings.Bdd bdds.Zero)) ≡ Some (makes (Bdd (list_of size (constant value))))
   outcome-zero value is = ap (λ b. Some (makes (Bdd (list_of size (constant b))))) (sym is)
 
-  pub outcome-projection : (v : ℕ) → v < s.manager.vars → outcome (table_of s board) s.number (calls.Makes (makings.Bdd (bdds.Var v))) ≡ Some (makes (Bdd (list_of size (projection v))))
+  pub outcome-projection : (v : ℕ) → v < variables_in s → outcome (table_of s board) s.number (calls.Makes (makings.Bdd (bdds.Var v))) ≡ Some (makes (Bdd (list_of size (projection v))))
   outcome-projection v below = outcome-var (table_of s board) s.number v below
 
   pub outcome-complement : (a : Name) (f : ℕ → Bool) → Stands a f → outcome (table_of s board) s.number (calls.Makes (makings.Bdd (bdds.Not a))) ≡ Some (makes (Bdd (list_of size (negation f))))
@@ -185,12 +188,12 @@ module _ (old new : Seen) where
       rows = omega (arith, called.few);
     }
 
-    pub valued : length bits ≡ old.manager.vars → (f : List Bool) → stands_for old.rows a ≡ Some (Bdd f) → told ≡ pos (digit (truth f (assignment_of bits)))
-    valued long f stands = evaluated_as old new a bits told place called (Bdd f) stands ∙ ap (λ bs. pos (digit (truth f (assignment_of bs)))) (take_all old.manager.vars bits (omega (arith, long)))
+    pub valued : length bits ≡ variables_in old → (f : List Bool) → stands_now old a ≡ Some (Bdd f) → told ≡ pos (digit (truth f (assignment_of bits)))
+    valued long f stands = evaluated_as old new a bits told place called (Bdd f) stands ∙ ap (λ bs. pos (digit (truth f (assignment_of bs)))) (take_all (variables_in old) bits (omega (arith, long)))
 
   pub posts : (a : Name) (place : ℕ) → Called old new (calls.Post 0 a) replies.Done place → Posts (standing_of old) (standing_of new) a place
   posts a place called = record {
-    vars_are = ap (λ (m : Managed). m.vars) called.manager_is;
+    vars_are = variables_stay old new (calls.Post 0 a) replies.Done place called;
     number_is = called.number_is;
     notes_are = notes_kept old new called.noted_are;
     adds_are = omega (arith, called.adds_are);
@@ -208,9 +211,9 @@ module _ (old new : Seen) where
       → Fetches (standing_of old) (standing_of new) other to posted place
   fetches other to posted place called live =
       let gave = given old new (calls.Fetch 0 other) (replies.Fetched to posted) place called to refl refl in
-      let bdd = is_bdd gave.function (gave.kind kinds.Bdd (λ z cells o at. subst (λ (k : Kind). IsOfKind k o) (ap kind_or live.1) (fetch-kind z cells (stands_for old.rows) 0 other o at))) in
+      let bdd = is_bdd gave.function (gave.kind kinds.Bdd (λ z cells o at. subst (λ (k : Kind). IsOfKind k o) (ap kind_or live.1) (fetch-kind z cells (stands_now old) 0 other o at))) in
       record {
-        vars_are = ap (λ (m : Managed). m.vars) called.manager_is;
+        vars_are = variables_stay old new (calls.Fetch 0 other) (replies.Fetched to posted) place called;
         number_is = called.number_is;
         notes_are = notes_kept old new called.noted_are;
         more = omega (arith, called.adds_are);

@@ -12,7 +12,7 @@ use Rattle.function_laws.specs.declared.history.Entry.{Entry}
 use Rattle.function_laws.specs.declared.history.Name.{Name}
 use Rattle.function_laws.specs.SessionEntries.{entry}
 use Rattle.function_laws.specs.Tables.{same_name}
-use Rattle.dd_session.specs.Managing.{stands_for}
+use Rattle.dd_session.specs.Sessions.{stands_now}
 use Rattle.job_text.specs.declared.job.Command.{Command}
 use Rattle.job_words.specs.Text.{Word}
 use Rattle.job_text.specs.Grammar.{target_of}
@@ -122,7 +122,7 @@ module _ (start old new : Seen) (commands : List Command) (names : List Assigned
   below = subst (λ n. All (λ (a : Assigned). a.name.generation < n) names) (sym stands.adds) (all_below names start.adds stands.generations)
 
   abbrev IsLeft : List HistoryLine → Seen → Assigned → Type 0
-  IsLeft lines s a = is_dropped lines a.name ≡ is_none (stands_for s.rows a.name)
+  IsLeft lines s a = is_dropped lines a.name ≡ is_none (stands_now s a.name)
 
   -- what depends on whether the call gave a name
   record Registers (made : Option Name) : Type 0 where
@@ -149,7 +149,7 @@ module _ (start old new : Seen) (commands : List Command) (names : List Assigned
     generations = stands.generations;
     fresh = λ name from. fresh_by name (omega (arith, from, adds_by None gives));
     live = all_kept (IsLeft said old) (λ a. a.name.generation < old.adds) (IsLeft after new) names (λ a kept before.
-        dropped-after a.name ∙ ap (λ b. b || drops a.name call) kept ∙ sym (left_none call a.name (stands_for old.rows a.name))
+        dropped-after a.name ∙ ap (λ b. b || drops a.name call) kept ∙ sym (left_none call a.name (stands_now old a.name))
         ∙ ap is_none (sym (left old new call is.reply answered.place is.called gives a.name))) stands.live below;
     few = omega (arith, rows_by None gives, stands.few);
   }
@@ -168,7 +168,7 @@ module _ (start old new : Seen) (commands : List Command) (names : List Assigned
         fresh = λ other from. fresh_by other (omega (arith, from, adds_by (Some name) gives));
         live = All-append (IsLeft after new) names (one ∷ [])
             (all_kept (IsLeft said old) (λ a. a.name.generation < old.adds) (IsLeft after new) names (λ a kept before.
-            dropped-after a.name ∙ ap₂ (λ x y. x || y) kept (makes_drops call a.name makes) ∙ or_false (is_none (stands_for old.rows a.name))
+            dropped-after a.name ∙ ap₂ (λ x y. x || y) kept (makes_drops call a.name makes) ∙ or_false (is_none (stands_now old a.name))
             ∙ ap is_none (sym (is_given.others a.name (other_generation a.name name (omega (arith, before, is_given.generation)))))) stands.live below)
             (All-cons (IsLeft after new) one [] (fresh_by name (omega (arith, is_given.generation)) ∙ ap is_none (sym is_given.stands)) (All-nil (IsLeft after new)));
         few = omega (arith, rows_by (Some name) gives, stands.few, longer);
@@ -216,6 +216,6 @@ stands-first s commands empty = record {
   adds = omega arith;
   generations = refl;
   fresh = λ name from. refl;
-  live = All-nil (λ (a : Assigned). is_dropped [] a.name ≡ is_none (stands_for s.rows a.name));
+  live = All-nil (λ (a : Assigned). is_dropped [] a.name ≡ is_none (stands_now s a.name));
   few = omega (arith, ap length empty);
 }

@@ -4,8 +4,7 @@ use Rattle.dd_session.specs.declared.answers.Full.{Full}
 use Rattle.dd_session.specs.declared.answers.Placed.{Placed}
 use Rattle.dd_session.specs.declared.answers.Refusal.{Refusal}
 use Rattle.dd_session.specs.declared.answers.Refusal.TheVariants as refusals
-use Rattle.dd_session.specs.Managing.{stands_for}
-use Rattle.dd_session.specs.Sessions.{Seen}
+use Rattle.dd_session.specs.Sessions.{Seen, stands_now, variables_in}
 use Rattle.function_laws.specs.declared.history.Call.{Call}
 use Rattle.function_laws.specs.declared.history.Name.{Name}
 use Rattle.function_laws.specs.declared.history.Reply.TheVariants as replies
@@ -17,11 +16,11 @@ use Rattle.net_builds.specs.Standings.{Standing}
 -- what is seen of a session that builds functions: of its notes the place and the order of the variables
 abbrev pub standing_of : Seen → Standing
 standing_of s = record {
-  vars = s.manager.vars;
+  vars = variables_in s;
   number = s.number;
   adds = s.adds;
   rows = length s.rows;
-  stands = stands_for s.rows;
+  stands = stands_now s;
   entries = s.entries;
   notes = map (λ noted. record { place = noted.place; order = noted.variable_order }) s.noted;
 }

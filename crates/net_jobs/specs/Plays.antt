@@ -6,6 +6,7 @@ use Rattle.job_text.specs.declared.job.Command.{Command}
 use Rattle.job_text.specs.Histories.{HistoryLine, IsScript, text_of, told_of}
 use Rattle.dd_session.specs.Managing.{Managed, Seen}
 use Rattle.net_jobs.specs.declared.said.Said.{Said}
+use Rattle.net_jobs.specs.Saying.{IsKept}
 use Rattle.net_jobs.specs.Sections.{CanPlay, IsFullBy, PlaysSection, entry_of}
 
 -- each session of the second list can play its section
@@ -20,6 +21,12 @@ AllPlay [] [] [] written = written ≡ []
 AllPlay (commands ∷ sections) (a ∷ old) (b ∷ new) written =
     (here : List Said) × (rest : List Said) × (written ≡ here ++ rest) × PlaysSection commands a b here × AllPlay sections old new rest
 AllPlay _ _ _ written = ⊥
+
+-- each session is still of its manager, and has its number
+abbrev pub AllKept : List Seen → List Seen → Type 0
+AllKept [] [] = Unit {0}
+AllKept (a ∷ old) (b ∷ new) = IsKept a b × AllKept old new
+AllKept _ _ = ⊥
 
 -- the sessions have these numbers, one after another
 abbrev pub AreNumbered : ℕ → List Seen → Type 0

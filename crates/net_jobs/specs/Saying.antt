@@ -24,8 +24,7 @@ use Rattle.job_text.specs.Places.{bits_for, levels_of}
 use Rattle.job_text.specs.Grammar.{target_of}
 use Rattle.job_text.specs.Histories.{NamedRegister, HistoryLine, SayInOrder, drop_of, drops, given_by, left_of, line_text, registers_of, stops, told_of}
 use Rattle.operator_calls.specs.Taking.{CanTakeAll}
-use Rattle.dd_session.specs.Managing.{stands_for}
-use Rattle.dd_session.specs.Sessions.{Called, IsLiveAs, Seen}
+use Rattle.dd_session.specs.Sessions.{Called, IsLiveAs, Seen, stands_now}
 use Rattle.net_jobs.specs.declared.answering.Answered.{Answered}
 use Rattle.net_jobs.specs.declared.registers.Assigned.{Assigned}
 use Rattle.net_jobs.specs.declared.said.Said.{Said}
@@ -168,7 +167,7 @@ pub record HasSaid (old now : Seen) (commands : List Command) (names : List Assi
   pub generations : map (λ (a : Assigned). a.name.generation) names ≡ range_with_len old.adds (length names)
   -- a name that was not given was not dropped
   pub fresh : (name : Name) → now.adds ≤ name.generation → is_dropped said name ≡ false
-  pub live : All (λ (a : Assigned). is_dropped said a.name ≡ is_none (stands_for now.rows a.name)) names
+  pub live : All (λ (a : Assigned). is_dropped said a.name ≡ is_none (stands_now now a.name)) names
   pub few : length now.rows ≤ length names
 
 -- Each register of the grammar that was not dropped is live, and of its kind.
@@ -201,8 +200,8 @@ drop_words commands assigned = codes "drop" ∷ target_at commands assigned.comm
 -- the register was dropped, where it was live
 abbrev pub DropsOne : List Command → Seen → Seen → Script → Script → ℕ → Assigned → Type 0
 DropsOne commands old new before after i assigned =
-    ((is_none (stands_for old.rows assigned.name) ≡ true) × (new ≡ old) × (after ≡ before))
-    ⊎ ((is_none (stands_for old.rows assigned.name) ≡ false) × ((answered : Answered) × Spoke old new before after i (drop_words commands assigned) (calls.DropRow assigned.name) answered))
+    ((is_none (stands_now old assigned.name) ≡ true) × (new ≡ old) × (after ≡ before))
+    ⊎ ((is_none (stands_now old assigned.name) ≡ false) × ((answered : Answered) × Spoke old new before after i (drop_words commands assigned) (calls.DropRow assigned.name) answered))
 
 -- what a line says
 abbrev pub spoken : HistoryLine → List Word × Call

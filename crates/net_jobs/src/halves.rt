@@ -5,7 +5,7 @@ ghost use Rattle.std.specs.Prelude.{List as ListOf};
 ghost use Rattle.edge_bits.specs.declared.limits.TheConstants.{MOST_SESSIONS};
 ghost use denote.Param.Send.{IsSync};
 ghost use Rattle.net_jobs.specs.declared.said.Said.{Said as Written};
-ghost use Rattle.net_jobs.specs.Plays.{AllCan, AllPlay, AreNumbered};
+ghost use Rattle.net_jobs.specs.Plays.{AllCan, AllKept, AllPlay, AreNumbered};
 
 use crate::gate::Gate;
 use crate::said::Said;
@@ -32,7 +32,8 @@ pub fn parts<R: Threads + Wait + Sync, G: Gate>(
     requires can { AllCan manager.now sections.now sessions.old }
     requires numbers { AreNumbered first sessions.old }
     requires few { first + length sessions.old ≤ MOST_SESSIONS }
-    ensures { IfOk result (λ said. AllPlay sections.now sessions.old sessions.new said.items) }
+    ensures said { IfOk result (λ said. AllPlay sections.now sessions.old sessions.new said.items) }
+    ensures kept { AllKept sessions.old sessions.new }
 {
     if sessions.is_empty() {
         return Ok(Vec::new(alloc));
@@ -75,15 +76,16 @@ fn both_halves<R: Threads + Wait + Sync, G: Gate>(
     requires some { (0 < length low.old) × (0 < length high.old) }
     requires low { AllCan manager.now low_sections.now low.old × AreNumbered first low.old × (first + length low.old ≤ MOST_SESSIONS) }
     requires high { AllCan manager.now high_sections.now high.old × AreNumbered up high.old × (up + length high.old ≤ MOST_SESSIONS) }
-    ensures { IfOk result (λ said. (here : ListOf Written) × (rest : ListOf Written) × (said.items ≡ here ++ rest) × AllPlay low_sections.now low.old low.new here × AllPlay high_sections.now high.old high.new rest) }
+    ensures said { IfOk result (λ said. (here : ListOf Written) × (rest : ListOf Written) × (said.items ≡ here ++ rest) × AllPlay low_sections.now low.old low.new here × AllPlay high_sections.now high.old high.new rest) }
+    ensures kept { AllKept low.old low.new × AllKept high.old high.new }
 {
     let mut front = || -> Result<Vec<Said>, Memory>
         requires { IsSync R.row × IsSync G.row × AllCan manager.now low_sections.now low.now × AreNumbered first low.now × (first + length low.now ≤ MOST_SESSIONS) }
-        ensures { IfOk result (λ said. AllPlay low_sections.entry.now low.entry.now low.exit.now said.items) }
+        ensures { IfOk result (λ said. AllPlay low_sections.entry.now low.entry.now low.exit.now said.items) × AllKept low.entry.now low.exit.now }
     { parts(rt, alloc, manager, gate, first, low_sections, low) };
     let mut back = || -> Result<Vec<Said>, Memory>
         requires { IsSync R.row × IsSync G.row × AllCan manager.now high_sections.now high.now × AreNumbered up high.now × (up + length high.now ≤ MOST_SESSIONS) }
-        ensures { IfOk result (λ said. AllPlay high_sections.entry.now high.entry.now high.exit.now said.items) }
+        ensures { IfOk result (λ said. AllPlay high_sections.entry.now high.entry.now high.exit.now said.items) × AllKept high.entry.now high.exit.now }
     { parts(rt, alloc, manager, gate, up, high_sections, high) };
     let (a, b) = join_mut(rt, &mut front, &mut back);
     let mut said = a?;

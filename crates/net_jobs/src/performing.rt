@@ -87,7 +87,7 @@ fn sift<R: Wait>(
     ensures answered { IfOk result (λ answered. (names : ListOf AssignedOf) → AnswersAct session.old session.new names (Act.Sift order) answered) }
     ensures kept { IsKept session.old session.new }
 {
-    let mut blocks = Blocks::one(alloc, manager.levels(order))?;
+    let mut blocks = Blocks::one(alloc, session.levels(manager, order))?;
     let placed = match order {
         Order::Variables => session.sift(rt, manager, &mut blocks),
         Order::Elements => session.sift_elements(rt, manager, &mut blocks),

@@ -3,7 +3,7 @@
 ghost use Rattle.std.specs.Prelude.{◌≡◌, ◌≤◌, IfOk, length};
 ghost use Rattle.std.specs.List.{flat_map};
 ghost use Rattle.edge_bits.specs.declared.limits.TheConstants.{MOST_SESSIONS};
-ghost use Rattle.net_jobs.specs.Plays.{AllCan, AreNumbered, PlaysIn};
+ghost use Rattle.net_jobs.specs.Plays.{AllCan, AllKept, AreNumbered, PlaysIn};
 
 use crate::gate::Gate;
 use crate::halves::parts;
@@ -27,7 +27,8 @@ fn written(alloc: Global, said: &[Said]) -> Result<Vec<u8>, Memory>
 }
 
 /// Plays each section of a job in a session of its own, all at once: the lines of their calls in the order of places. Session
-/// k passes the gate as worker k before each command, with the command's number from 0.
+/// k passes the gate as worker k before each command, with the command's number from 0. After want of memory too the sessions are
+/// the manager's, for its caller to close.
 pub fn play<R: Threads + Wait + Sync, G: Gate>(
     rt: &R,
     alloc: Global,
@@ -39,7 +40,8 @@ pub fn play<R: Threads + Wait + Sync, G: Gate>(
     requires can { AllCan manager.now job.now.sections sessions.old }
     requires numbers { AreNumbered 0 sessions.old }
     requires few { length sessions.old ≤ MOST_SESSIONS }
-    ensures { IfOk result (λ text. PlaysIn manager.now job.now.sections sessions.old sessions.new text.items) }
+    ensures played { IfOk result (λ text. PlaysIn manager.now job.now.sections sessions.old sessions.new text.items) }
+    ensures kept { AllKept sessions.old sessions.new }
 {
     let sections = job.sections.as_slice();
     let mut said = parts(rt, alloc, manager, gate, 0, sections, sessions)?;

@@ -21,15 +21,17 @@ use Rattle.seat_guard.specs.declared.view.Telling.{Telling}
 use Rattle.seat_guard.specs.declared.view.Gone.{Gone}
 use Rattle.seat_guard.specs.declared.view.Draws.{Draws}
 use Rattle.seat_guard.specs.declared.view.Leaving.{Leaving}
-use Rattle.seat_guard.specs.Views.{told_of, MayTell, stands_for, cell_in, sizes_for, blank, session_of, holding, letting_go, gone_of, with_gone, one_more, orders_of, note_of, noting}
+use Rattle.seat_guard.specs.Known.{StandsIn, sizes_for}
+use Rattle.seat_guard.specs.Views.{Agrees, told_of, MayTell, stands_for, cell_at, blank, session_of, holding, letting_go, gone_of, with_gone, one_more, orders_of, note_of, noting}
 use Rattle.function_laws.specs.SessionEntries.{Each, entries_of, entry}
 use Rattle.function_laws.specs.Sizes.{Orders}
 use Rattle.function_laws.specs.EntryOrders.{EachWith, opening_orders, orders_from}
 use Rattle.seat_guard.specs.Notes.{AreNotedIn}
 use Rattle.seat_guard.specs.Journal.{IsLeftRow, LiveFits, Fits, Journal}
 use Rattle.function_laws.specs.SiftEntries.{Carries, CarriesCall}
+use Rattle.function_laws.specs.Widening.{AgreesAt, at_sizes}
 use Rattle.seat_guard.specs.Sifted.{IsOfOther}
-use Rattle.seat_guard.specs.Rule.{AllBack, Whole}
+use Rattle.seat_guard.specs.Rule.{AllBack, RowsStand, Whole}
 use Rattle.function_laws.proofs.SessionEntryLemmas.{put_at, put_here, put_else, entries_same, entries_other}
 use Rattle.function_laws.proofs.ApartLemmas.{after_apart}
 use Rattle.seat_guard.proofs.RowCounts.{at_end, each_append, each_map, each_set, off, not_true}
@@ -55,7 +57,7 @@ module _ (place turn : ℕ) (ds : List Draws) (start : Sizes) (log : List Entry)
   held_turn i d at h = (mine i d at ((r.each i d at).holder h)).held h
 
   -- the free turn is taken
-  pub takes_it : (id : ℕ) (d : Draws) (cells : List (std.Option Held)) (others : List Held) (now : Orders) (functions : List Function) → get_elem? ds id ≡ some d → d.live ≡ true → turn ≡ 0 → table.cells ≡ cell_in cells → length cells ≡ CELLS → Each (IsOfOther table d.session) others
+  pub takes_it : (id : ℕ) (d : Draws) (cells : List (std.Option Held)) (others : List Held) (now : Orders) (functions : List Function) → get_elem? ds id ≡ some d → d.live ≡ true → turn ≡ 0 → table.cells ≡ cell_at table.sizes cells → length cells ≡ CELLS → Each (IsOfOther table d.session) others
       → Journal place (suc d.session) (set ds id (holding d cells others now functions)) start log table
   takes_it id d cells others now functions at live free board len apart_from =
       let me = mine id d at live in record {
@@ -156,8 +158,12 @@ module _ (place turn : ℕ) (ds : List Draws) (start : Sizes) (log : List Entry)
       let aside : (p : ℕ) → p ≢ d.session → (u.live p ≡ table.live p) × (u.given p ≡ table.given p) = λ p apart. after_apart table d.session p x.call x.reply may.plain apart in
       let sizes : u.sizes ≡ table.sizes = says.1.sizes_are ∙ sym me.agrees.sizes_are in
       let carries : CarriesCall table (orders_from (opening_orders start) log) d.session x.call =
-      carries-left d table (orders_from (opening_orders start) log) now me.stand (me.others holds) (me.agrees.cells holds).0 me.agrees.live x.call may.carries in
-      let other_rows : (held : Held) → IsOfOther table d.session held → IsOfOther u d.session held = λ held o. (o.0, o.1, o.2, ap (λ (h : Name → std.Option Function). h o.1) (aside o.0 o.2).0 ∙ o.3) in
+      carries-left d table (orders_from (opening_orders start) log) now me.agrees.sizes_are me.stand (me.others holds) (me.agrees.cells holds).0 me.agrees.live x.call may.carries in
+      let other_rows : (held : Held) → IsOfOther table d.session held → IsOfOther u d.session held = λ held o. (o.0, o.1, o.2, ap (λ (h : Name → std.Option Function). h o.1) (aside o.0 o.2).0 ∙ o.3 ∙ ap (λ (z : Sizes). std.Some (at_sizes z held.function)) (sym sizes)) in
+      let row_stays : (p : ℕ) → p ≢ d.session → (row : Row) → StandsIn table p row → StandsIn u p row =
+      λ p away row is. ap (λ (k : Name → std.Option Function). k row.name) (aside p away).0 ∙ is ∙ ap (λ (z : Sizes). std.Some (at_sizes z row.held.function)) (sym sizes) in
+      let rows_stay : (p : ℕ) → p ≢ d.session → (rows : List Row) → AgreesAt table.sizes (stands_for rows) (table.live p) → AgreesAt u.sizes (stands_for rows) (u.live p) =
+      λ p away rows agrees name. ap (λ (k : Name → std.Option Function). k name) (aside p away).0 ∙ agrees name ∙ ap (λ (z : Sizes). std.option_map (at_sizes z) (stands_for rows name)) (sym sizes) in
       record {
         seat = r.seat;
         legal = IsLegal-push start log e r.legal refl (subst (λ (t : Table). IsAllowed t d.session x.call x.reply) (sym r.leaves) says.0);
@@ -177,13 +183,13 @@ module _ (place turn : ℕ) (ds : List Draws) (start : Sizes) (log : List Entry)
                 mine = other f.session away ∙ g.mine;
                 agrees = record {
                   sizes_are = sizes ∙ g.agrees.sizes_are;
-                  live = (aside f.session away).0 ∙ g.agrees.live;
+                  live = rows_stay f.session away f.rows g.agrees.live;
                   fresh = λ name le. ap (λ (h : Name → Bool). h name) (aside f.session away).1 ∙ g.agrees.fresh name le;
                   cells = λ h. absurd (apart (one_holder j id f d here at h holds));
                 };
                 held = g.held;
                 given = λ name h is. let a = aside f.session away in ap (λ (k : Name → Bool). k name) a.1 ∙ g.given name h (sym (ap (λ (k : Name → std.Option Function). k name) a.0) ∙ is);
-                stand = each_map (λ (row : Row). table.live f.session row.name ≡ std.Some row.held.function) (λ (row : Row). u.live f.session row.name ≡ std.Some row.held.function) (λ row is. ap (λ (k : Name → std.Option Function). k row.name) (aside f.session away).0 ∙ is) f.rows g.stand;
+                stand = each_map (StandsIn table f.session) (StandsIn u f.session) (row_stays f.session away) f.rows g.stand;
                 others = λ h. absurd (apart (one_holder j id f d here at h holds));
               };
               closing = λ c. let g = fits.closing c in let k = g.2 in (
@@ -198,13 +204,13 @@ module _ (place turn : ℕ) (ds : List Draws) (start : Sizes) (log : List Entry)
                     no_row = (aside p away).0 ∙ a.no_row;
                     no_name = (aside p away).1 ∙ a.no_name;
                   };
-                  back = λ i y there. let a = k.back i y there in let away : y.session ≢ d.session = λ is. some-ne-none id (sym me.seated ∙ (ap r.seat (sym is) ∙ a.1)) in (a.0, a.1, other y.session away ∙ a.2, (aside y.session away).0 ∙ a.3, notes-longer start log (e ∷ []) y.noted y.placed a.4);
-                  left = each_map (IsLeftRow table r.seat f.given) (IsLeftRow u r.seat f.given) (λ row a. let away : a.0 ≢ d.session = λ is. some-ne-none id (sym me.seated ∙ (ap r.seat (sym is) ∙ a.2)) in (a.0, a.1, a.2, ap (λ (k : Name → std.Option Function). k row.name) (aside a.0 away).0 ∙ a.3)) f.rows k.left;
+                  back = λ i y there. let a = k.back i y there in let away : y.session ≢ d.session = λ is. some-ne-none id (sym me.seated ∙ (ap r.seat (sym is) ∙ a.1)) in (a.0, a.1, other y.session away ∙ a.2, rows_stay y.session away y.rows a.3, notes-longer start log (e ∷ []) y.session y.noted y.placed a.4, sizes ∙ a.5);
+                  left = each_map (IsLeftRow table r.seat f.given) (IsLeftRow u r.seat f.given) (λ row a. let away : a.0 ≢ d.session = λ is. some-ne-none id (sym me.seated ∙ (ap r.seat (sym is) ∙ a.2)) in (a.0, a.1, a.2, row_stays a.0 away row a.3)) f.rows k.left;
                 },
               );
               holder = fits.holder;
               rowless = fits.rowless;
-              noted = notes-longer start log (e ∷ []) f.noted f.placed fits.noted;
+              noted = notes-longer start log (e ∷ []) f.session f.noted f.placed fits.noted;
             }) (record {
               live = λ l. record {
                 seated = me.seated;
@@ -213,13 +219,13 @@ module _ (place turn : ℕ) (ds : List Draws) (start : Sizes) (log : List Entry)
                 agrees = record { sizes_are = says.1.sizes_are; live = says.1.live; fresh = says.1.fresh; cells = says.1.cells };
                 held = me.held;
                 given = given-after d x table may.plain says.0 me.given;
-                stand = stand-after d x table may.plain says.0 says.1 me.given me.stand;
+                stand = stand-after d x table may.plain says.0 says.1 sizes me.given me.stand;
                 others = λ h. each_map (IsOfOther table d.session) (IsOfOther u d.session) other_rows d.others (me.others holds);
               };
               closing = λ c. absurd (true≢false (sym live ∙ ((r.each id d at).closing c).0));
               holder = λ h. live;
               rowless = λ l c. absurd (true≢false (sym live ∙ l));
-              noted = with-place start log d n refl now (r.each id d at).noted (e ∷ []);
+              noted = with-place start log d n refl now (subst (Agrees d) (sym r.leaves) me.agrees) (r.each id d at).noted (e ∷ []);
             });
       }
 
@@ -251,7 +257,7 @@ module _ (place turn : ℕ) (ds : List Draws) (start : Sizes) (log : List Entry)
           closing = λ c. absurd (true≢false (sym live ∙ (f.closing c).0));
           holder = f.holder;
           rowless = f.rowless;
-          noted = with-note start log d place r.drawn now f.noted;
+          noted = with-note start log d place r.drawn now (subst (Agrees d) (sym r.leaves) me.agrees) f.noted;
         });
       }
 
@@ -287,7 +293,7 @@ module _ (place turn : ℕ) (ds : List Draws) (start : Sizes) (log : List Entry)
               no_row = a.no_row;
               no_name = a.no_name;
             };
-            back = λ i y there. let a = k.back i y there in let below = a.0 in (omega (arith, below), put_else r.seat d.given y.session (some n) (λ e. omega (arith, e, below)) ∙ a.1, a.2, a.3, a.4);
+            back = λ i y there. let a = k.back i y there in let below = a.0 in (omega (arith, below), put_else r.seat d.given y.session (some n) (λ e. omega (arith, e, below)) ∙ a.1, a.2, a.3, a.4, a.5);
             left = each_map (IsLeftRow table r.seat d.given) (IsLeftRow table seat (suc d.given)) (λ row a. let below = a.1 in (a.0, omega (arith, below), put_else r.seat d.given a.0 (some n) (λ e. omega (arith, e, below)) ∙ a.2, a.3)) d.rows k.left;
           },
         );
@@ -310,7 +316,7 @@ module _ (place turn : ℕ) (ds : List Draws) (start : Sizes) (log : List Entry)
                 seated = put_here r.seat d.given (some n);
                 below = let few = k.few.1 in omega (arith, room, few);
                 mine = fresh.no_entry;
-                agrees = record { sizes_are = r.fixed ∙ k.start_is; live = fresh.no_row; fresh = λ name le. ap (λ (h : Name → Bool). h name) fresh.no_name; cells = λ h. absurd (off h) };
+                agrees = record { sizes_are = r.fixed ∙ k.start_is; live = λ name. ap (λ (h : Name → std.Option Function). h name) fresh.no_row; fresh = λ name le. ap (λ (h : Name → Bool). h name) fresh.no_name; cells = λ h. absurd (off h) };
                 held = λ h. absurd (off h);
                 given = λ name f is. absurd (let a : std.None ≡ std.Some f = sym (ap (λ (h : Name → std.Option Function). h name) fresh.no_row) ∙ is in cc);
                 stand = tt;
@@ -358,12 +364,12 @@ module _ (place turn : ℕ) (ds : List Draws) (start : Sizes) (log : List Entry)
                   start_is = k.start_is;
                   later = λ p le. let a = k.later p le in record { no_seat = none_kept p a.no_seat; no_entry = a.no_entry; no_row = a.no_row; no_name = a.no_name };
                   back = λ i y lies. ⊎_elim
-                      (λ (was : get_elem? d.gone i ≡ some y). let a = k.back i y was in (a.0, none_kept y.session a.1, a.2, a.3, a.4))
-                      (λ (new : gone_of e ≡ y). subst (λ (z : Gone). (z.session < d.given) × (seat z.session ≡ none) × (entries_of z.session log ≡ z.entries) × (table.live z.session ≡ stands_for z.rows) × AreNotedIn start log z.noted z.placed) new (given, put_here r.seat e.session none, them.mine, them.agrees.live, (r.each other e at_other).noted))
+                      (λ (was : get_elem? d.gone i ≡ some y). let a = k.back i y was in (a.0, none_kept y.session a.1, a.2, a.3, a.4, a.5))
+                      (λ (new : gone_of e ≡ y). subst (λ (z : Gone). (z.session < d.given) × (seat z.session ≡ none) × (entries_of z.session log ≡ z.entries) × AgreesAt table.sizes (stands_for z.rows) (table.live z.session) × AreNotedIn start log z.session z.noted z.placed × (table.sizes ≡ sizes_for z.vars z.elements)) new (given, put_here r.seat e.session none, them.mine, them.agrees.live, (r.each other e at_other).noted, them.agrees.sizes_are))
                       (at_snoc d.gone (gone_of e) y i lies);
                   left = each_append (IsLeftRow table seat d.given) d.rows e.rows
                       (each_map (IsLeftRow table r.seat d.given) (IsLeftRow table seat d.given) (λ row a. (a.0, a.1, none_kept a.0 a.2, a.3)) d.rows k.left)
-                      (each_map (λ (row : Row). table.live e.session row.name ≡ std.Some row.held.function) (IsLeftRow table seat d.given) (λ row is. (e.session, given, put_here r.seat e.session none, is)) e.rows them.stand);
+                      (each_map (StandsIn table e.session) (IsLeftRow table seat d.given) (λ row is. (e.session, given, put_here r.seat e.session none, is)) e.rows them.stand);
                 },
               );
               holder = (r.each id d at).holder;
@@ -402,11 +408,13 @@ module _ (place turn : ℕ) (ds : List Draws) (start : Sizes) (log : List Entry)
         log = log;
         legal = subst (λ (z : Sizes). IsLegal z log) k.start_is r.legal;
         count = sym r.drawn;
+        fixed = subst (λ (z : Sizes). (table_after (opening z) log).sizes ≡ z) k.start_is (ap (λ (t : Table). t.sizes) r.leaves ∙ r.fixed);
         carried = subst (λ (z : Sizes). EachWith Carries (opening z) (opening_orders z) log) k.start_is r.carried;
+        known = λ i g there. sym (k.back i g there).5 ∙ r.fixed ∙ k.start_is;
         each = λ i g there. (k.back i g there).2;
-        rows = λ i g there. ap (λ (z : Sizes). (table_after (opening z) log).live g.session) start_is ∙ ap (λ (t : Table). t.live g.session) r.leaves ∙ (k.back i g there).3;
+        rows = λ i g there. subst (λ (t : Table). RowsStand t g) (sym (ap (λ (z : Sizes). table_after (opening z) log) start_is ∙ r.leaves)) (k.back i g there).3;
         beyond = λ p le. (k.later p le).no_entry;
-        noted = λ i g there. subst (λ (z : Sizes). AreNotedIn z log g.noted g.placed) k.start_is (k.back i g there).4;
+        noted = λ i g there. subst (λ (z : Sizes). AreNotedIn z log g.session g.noted g.placed) k.start_is (k.back i g there).4;
       }
 
   -- once all have come back, the other seats have no row
@@ -428,7 +436,7 @@ module _ (place turn : ℕ) (ds : List Draws) (start : Sizes) (log : List Entry)
       let fits = r.each j e here in
       of (Each (λ (row : Row). IsOfOther table d.session row.held) e.rows) e.live e.closing
       (λ l. let g = fits.live l in let away : e.session ≢ d.session = λ is. apart (one_seat j id e d g me is) in
-      each_map (λ (row : Row). table.live e.session row.name ≡ std.Some row.held.function) (λ (row : Row). IsOfOther table d.session row.held) (λ row is. (e.session, row.name, away, is)) e.rows g.stand)
+      each_map (StandsIn table e.session) (λ (row : Row). IsOfOther table d.session row.held) (λ row is. (e.session, row.name, away, is)) e.rows g.stand)
       (λ c. each_map (IsLeftRow table r.seat e.given) (λ (row : Row). IsOfOther table d.session row.held) (λ row a. (a.0, row.name, (λ is. some-ne-none id (sym me.seated ∙ (ap r.seat (sym is) ∙ a.2))), a.3)) e.rows (fits.closing c).2.left)
       (λ l c. subst (λ (rows : List Row). Each (λ (row : Row). IsOfOther table d.session row.held) rows) (sym (fits.rowless l c)) tt)
     where

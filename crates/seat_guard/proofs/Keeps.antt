@@ -16,6 +16,7 @@ use Rattle.function_laws.specs.declared.history.Function.{Function}
 use Rattle.function_laws.specs.declared.history.Entry.{Entry}
 use Rattle.function_laws.specs.Tables.{Table, Sizes, opening}
 use Rattle.function_laws.specs.Steps.{after}
+use Rattle.function_laws.specs.Widening.{at_sizes}
 use Rattle.seat_guard.specs.declared.guard.TheConstants.{CLOSING_TURN}
 use Rattle.seat_guard.specs.declared.view.Held.{Held}
 use Rattle.seat_guard.specs.declared.view.Row.{Row}
@@ -416,7 +417,7 @@ module _ {S : Type 0} (keeps_it : S → Held → Type 0) (board : S → List (st
       each = one;
     };
     turn = record {
-      home_is = λ _. (x, refl, record { cells_are = sym empty; as_many = len; cells_kept = kept; counts_are = sizes; counted = λ k. let a = zeros k in let b = none_counted k (board x) (λ i. ap (λ (f : ℕ → std.Option Function). f i) empty) in let c : row_count k d.rows ≡ 0 = ap (row_count k) rows in omega (arith, a, b, c); rows_kept = λ j e at. subst (KeepsRows keeps_it board counts count orders x) (sym (only j e at (λ f. f.rows ≡ []) rows)) tt; orders_are = ordered });
+      home_is = λ _. (x, refl, record { cells_are = λ j i. std.option_map (at_sizes (sizes_for d.vars d.elements)) (sym empty j i); as_many = len; cells_kept = kept; counts_are = sizes; counted = λ k. let a = zeros k in let b = none_counted k (board x) (λ i. ap (λ (f : ℕ → std.Option Function). f i) empty) in let c : row_count k d.rows ≡ 0 = ap (row_count k) rows in omega (arith, a, b, c); rows_kept = λ j e at. subst (KeepsRows keeps_it board counts count orders x) (sym (only j e at (λ f. f.rows ≡ []) rows)) tt; orders_are = ordered });
       away = λ i f at h. absurd (true≢false (sym h ∙ only i f at (λ f. f.holds ≡ false) free));
       others_counted = λ i f at h. absurd (true≢false (sym h ∙ only i f at (λ f. f.holds ≡ false) free));
       ordered = λ i f at h. absurd (true≢false (sym h ∙ only i f at (λ f. f.holds ≡ false) free));
@@ -445,6 +446,6 @@ module _ {S : Type 0} (keeps_it : S → Held → Type 0) (board : S → List (st
         );
         holder = λ h. absurd (true≢false (sym h ∙ free));
         rowless = λ _ _. rows;
-        noted = subst (λ (z : List Noted × List Noted). AreNotedIn (sizes_for d.vars d.elements) [] z.0 z.1) (λ i. (sym notes i, sym calls i)) (record { noted = tt; placed = tt });
+        noted = subst (λ (z : List Noted × List Noted). AreNotedIn (sizes_for d.vars d.elements) [] d.session z.0 z.1) (λ i. (sym notes i, sym calls i)) (record { noted = tt; placed = tt });
       })
       one (suc id) e at = absurd (some-ne-none e (sym at))

@@ -1,5 +1,5 @@
 -- What becomes of a session's names and rows at its own step.
-use Rattle.std.proofs.Common.{◌≡◌, ◌⊎◌, ℕ, ◌==◌, Bool, true, false, cond, ◌&&◌, ◌||◌, List, [], ◌∷◌, Option, Some, None, refl, ap, ap₂, sym, subst, ◌∙◌, inl, inr, true≢false, eq-eqb}
+use Rattle.std.proofs.Common.{◌≡◌, ◌⊎◌, ℕ, ◌==◌, Bool, true, false, cond, ◌&&◌, ◌||◌, List, [], ◌∷◌, Option, Some, None, option_map, refl, ap, ap₂, sym, subst, ◌∙◌, inl, inr, true≢false, eq-eqb}
 use Rattle.std.proofs.lemmas.Bool.{eqb-true}
 use Rattle.function_laws.specs.declared.history.Name.{Name}
 use Rattle.function_laws.specs.declared.history.Function.{Function}
@@ -8,10 +8,11 @@ use Rattle.function_laws.specs.declared.history.Call.{Call}
 use Rattle.function_laws.specs.declared.history.Call.TheVariants as calls
 use Rattle.function_laws.specs.declared.history.Reply.{Reply}
 use Rattle.function_laws.specs.declared.history.Reply.TheVariants.{Made, Chose, Fetched, Numbered, Done, Truth, Value, Overflow, Apart, Most, Full}
-use Rattle.function_laws.specs.Tables.{Table, same_name, with_name}
+use Rattle.function_laws.specs.Tables.{Sizes, Table, same_name, with_name}
 use Rattle.function_laws.specs.Outcomes.{Outcome, makes, fetches}
 use Rattle.function_laws.specs.Steps.{with_result, changed, Replies, IsAllowed, after}
 use Rattle.function_laws.specs.Handovers.{is_numbered}
+use Rattle.function_laws.specs.Widening.{AgreesAt, at_sizes}
 use Rattle.function_laws.specs.SessionEntries.{Each}
 use Rattle.seat_guard.specs.declared.view.Row.{Row}
 use Rattle.seat_guard.specs.declared.view.Change.{Change}
@@ -19,10 +20,11 @@ use Rattle.seat_guard.specs.declared.view.Change.TheVariants.{Nothing, Adds, Tak
 use Rattle.seat_guard.specs.declared.view.Telling.{Telling}
 use Rattle.seat_guard.specs.declared.view.Draws.{Draws}
 use Rattle.function_laws.specs.Sizes.{Orders}
-use Rattle.function_laws.specs.SiftEntries.{CarriesCall, IsAmong, IsOfCell, IsOfRow, IsSiftOf}
+use Rattle.function_laws.specs.SiftEntries.{AreOne, CarriesCall, IsAmong, IsOfCell, IsOfRow, IsSiftOf}
 use Rattle.function_laws.proofs.StepLemmas.{chosen-new}
+use Rattle.seat_guard.specs.Known.{StandsIn, known_at, sizes_for}
 use Rattle.seat_guard.specs.Sifted.{IsKnown, IsOfOther, IsSiftBy, MayCarry}
-use Rattle.seat_guard.specs.Views.{Agrees, cell_in, function_in, orders_of, stands_for, without, rows_after, told_of}
+use Rattle.seat_guard.specs.Views.{Agrees, cell_at, function_in, orders_of, stands_for, without, rows_after, told_of}
 use Rattle.seat_guard.proofs.RowCounts.{each_map, each_both, each_at}
 
 both_true : (x y : Bool) → (x && y) ≡ true → (x ≡ true) × (y ≡ true)
@@ -122,30 +124,31 @@ each_without P name (x ∷ rows) all = by (each_without P name rows all.1) (same
 
 -- after the step each row's name stands for the row's function, as before
 pub stand-after : (d : Draws) (x : Telling) (t : Table) → is_numbered x.reply ≡ false → IsAllowed t d.session x.call x.reply → Agrees (told_of d 0 x) (after t d.session x.call x.reply)
+    → (after t d.session x.call x.reply).sizes ≡ t.sizes
     → ((name : Name) (f : Function) → t.live d.session name ≡ Some f → t.given d.session name ≡ true)
-    → Each (λ (row : Row). t.live d.session row.name ≡ Some row.held.function) d.rows
-    → Each (λ (row : Row). (after t d.session x.call x.reply).live d.session row.name ≡ Some row.held.function) (rows_after x.change d.rows)
-stand-after d x t plain allowed agrees given stand = by x.change agrees.live
+    → Each (StandsIn t d.session) d.rows → Each (StandsIn (after t d.session x.call x.reply) d.session) (rows_after x.change d.rows)
+stand-after d x t plain allowed agrees same given stand = by x.change agrees.live
   where
     u : Table
     u = after t d.session x.call x.reply
 
     Was : Row → Type 0
-    Was row = t.live d.session row.name ≡ Some row.held.function
+    Was row = StandsIn t d.session row
 
     Is : Row → Type 0
-    Is row = u.live d.session row.name ≡ Some row.held.function
+    Is row = StandsIn u d.session row
 
     -- a row that was there
-    old : (rows : List Row) → u.live d.session ≡ stands_for rows → (row : Row) → IsNamed rows row → Was row → Is row
-    old rows live row (g, is) was = same-by d.session row.name t u (becomes d.session row.name t x.call x.reply plain allowed) row.held.function g was (given row.name row.held.function was)
-        (ap (λ (h : Name → Option Function). h row.name) live ∙ is)
+    old : (rows : List Row) → AgreesAt u.sizes (stands_for rows) (u.live d.session) → (row : Row) → IsNamed rows row → Was row → Is row
+    old rows live row (g, is) was = same-by d.session row.name t u (becomes d.session row.name t x.call x.reply plain allowed) (at_sizes t.sizes row.held.function) (at_sizes u.sizes g) was (given row.name (at_sizes t.sizes row.held.function) was)
+            (live row.name ∙ ap (option_map (at_sizes u.sizes)) is)
+        ∙ ap (λ (z : Sizes). Some (at_sizes z row.held.function)) (sym same)
 
-    by : (change : Change) → u.live d.session ≡ stands_for (rows_after change d.rows) → Each Is (rows_after change d.rows)
+    by : (change : Change) → AgreesAt u.sizes (stands_for (rows_after change d.rows)) (u.live d.session) → Each Is (rows_after change d.rows)
     by Nothing live = each_both (IsNamed d.rows) Was Is (old d.rows live) d.rows (all_named d.rows) stand
     by (Posts i held) live = each_both (IsNamed d.rows) Was Is (old d.rows live) d.rows (all_named d.rows) stand
     by (Adds row) live = (
-      ap (λ (h : Name → Option Function). h row.name) live ∙ ap (λ b. cond b (Some row.held.function) (stands_for d.rows row.name)) (same_name-refl row.name),
+      live row.name ∙ ap (λ b. option_map (at_sizes u.sizes) (cond b (Some row.held.function) (stands_for d.rows row.name))) (same_name-refl row.name),
       each_both (IsNamed (row ∷ d.rows)) Was Is (old (row ∷ d.rows) live) d.rows (all_named (row ∷ d.rows)).1 stand,
     )
     by (Takes name) live = each_both (IsNamed (without name d.rows)) Was Is (old (without name d.rows) live) (without name d.rows) (all_named (without name d.rows)) (each_without Was name d.rows stand)
@@ -157,32 +160,40 @@ given-after d x t plain allowed given name f live =
     given-by d.session name t (after t d.session x.call x.reply) (becomes d.session name t x.call x.reply plain allowed) (given name) f live
 
 -- what who has the turn knows to be the function of a row or a cell is that of one of the table
-pub known-left : (d : Draws) (t : Table) → Each (λ (row : Row). t.live d.session row.name ≡ Some row.held.function) d.rows → Each (IsOfOther t d.session) d.others → t.cells ≡ cell_in d.cells
+pub known-left : (d : Draws) (t : Table) → t.sizes ≡ sizes_for d.vars d.elements → Each (StandsIn t d.session) d.rows → Each (IsOfOther t d.session) d.others → t.cells ≡ cell_at t.sizes d.cells
     → (f : Function) → IsKnown d f → IsOfRow t f ⊎ IsOfCell t f
-known-left d t stand others cells f (inl (k, row, at, one)) = inl (d.session, row.name, row.held.function, each_at (λ (row : Row). t.live d.session row.name ≡ Some row.held.function) d.rows k row stand at, one)
-known-left d t stand others cells f (inr (inl (k, held, at, one))) =
-    let o = each_at (IsOfOther t d.session) d.others k held others at in inl (o.0, o.1, held.function, o.3, one)
-known-left d t stand others cells f (inr (inr (i, held, at, one))) = inr (i, held.function, ap (λ (h : ℕ → Option Function). h i) cells ∙ ap function_in at, one)
+known-left d t sizes stand others cells f known = by known
+  where
+    -- as the seat knows it, and as it stands in the table
+    there : (g : Function) → AreOne f (known_at d g) → AreOne f (at_sizes t.sizes g)
+    there g one = subst (λ (z : Sizes). AreOne f (at_sizes z g)) (sym sizes) one
+
+    by : IsKnown d f → IsOfRow t f ⊎ IsOfCell t f
+    by (inl (k, row, at, one)) = inl (d.session, row.name, at_sizes t.sizes row.held.function, each_at (StandsIn t d.session) d.rows k row stand at, there row.held.function one)
+    by (inr (inl (k, held, at, one))) =
+        let o = each_at (IsOfOther t d.session) d.others k held others at in inl (o.0, o.1, at_sizes t.sizes held.function, o.3, there held.function one)
+    by (inr (inr (i, held, at, one))) =
+        inr (i, at_sizes t.sizes held.function, ap (λ (h : ℕ → Option Function). h i) cells ∙ ap (λ o. option_map (at_sizes t.sizes) (function_in o)) at, there held.function one)
 
 -- what is among some functions for each row is so for each name
-among-named : (functions : List Function) (rows : List Row) → Each (λ (row : Row). IsAmong functions row.held.function) rows
-    → (name : Name) (f : Function) → stands_for rows name ≡ Some f → IsAmong functions f
-among-named functions [] among name f is = cc
-among-named functions (row ∷ rows) among name f is = by (same_name name row.name) (among-named functions rows among.1 name f) is
+among-named : (z : Sizes) (functions : List Function) (rows : List Row) → Each (λ (row : Row). IsAmong functions (at_sizes z row.held.function)) rows
+    → (name : Name) (f : Function) → option_map (at_sizes z) (stands_for rows name) ≡ Some f → IsAmong functions f
+among-named z functions [] among name f is = cc
+among-named z functions (row ∷ rows) among name f is = by (same_name name row.name) (among-named z functions rows among.1 name f) is
   where
-    by : (b : Bool) → (stands_for rows name ≡ Some f → IsAmong functions f) → cond b (Some row.held.function) (stands_for rows name) ≡ Some f → IsAmong functions f
-    by true rest at = subst (IsAmong functions) (let e : row.held.function ≡ f = cc in e) among.0
+    by : (b : Bool) → (option_map (at_sizes z) (stands_for rows name) ≡ Some f → IsAmong functions f) → option_map (at_sizes z) (cond b (Some row.held.function) (stands_for rows name)) ≡ Some f → IsAmong functions f
+    by true rest at = subst (IsAmong functions) (let e : at_sizes z row.held.function ≡ f = cc in e) among.0
     by false rest at = rest at
 
-module _ (d : Draws) (t : Table) (orders : Orders) (now : orders_of d ≡ orders) (stand : Each (λ (row : Row). t.live d.session row.name ≡ Some row.held.function) d.rows)
-    (others : Each (IsOfOther t d.session) d.others) (cells : t.cells ≡ cell_in d.cells) (live : t.live d.session ≡ stands_for d.rows) where
+module _ (d : Draws) (t : Table) (orders : Orders) (now : orders_of d ≡ orders) (sizes : t.sizes ≡ sizes_for d.vars d.elements) (stand : Each (StandsIn t d.session) d.rows)
+    (others : Each (IsOfOther t d.session) d.others) (cells : t.cells ≡ cell_at t.sizes d.cells) (live : AgreesAt t.sizes (stands_for d.rows) (t.live d.session)) where
   sift-left : (told : Sifting) → IsSiftBy d told → IsSiftOf t orders d.session told
   sift-left told by = record {
     variables_are = by.variables_are ∙ ap (λ (o : Orders). o.variables) now;
     elements_are = by.elements_are ∙ ap (λ (o : Orders). o.elements) now;
     apart = by.apart;
-    of_table = each_map (IsKnown d) (λ (f : Function). IsOfRow t f ⊎ IsOfCell t f) (known-left d t stand others cells) told.functions by.known;
-    own = λ name f is. among-named told.functions d.rows by.own name f (sym (ap (λ (h : Name → Option Function). h name) live) ∙ is);
+    of_table = each_map (IsKnown d) (λ (f : Function). IsOfRow t f ⊎ IsOfCell t f) (known-left d t sizes stand others cells) told.functions by.known;
+    own = λ name f is. among-named (sizes_for d.vars d.elements) told.functions d.rows by.own name f (ap (λ (z : Sizes). option_map (at_sizes z) (stands_for d.rows name)) (sym sizes) ∙ sym (live name) ∙ is);
   }
 
   -- what a call carries by what the seat knows, it carries by the table and the orders

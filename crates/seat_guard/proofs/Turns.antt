@@ -12,7 +12,7 @@ use Rattle.seat_guard.specs.declared.view.Row.{Row}
 use Rattle.seat_guard.specs.declared.view.Telling.{Telling}
 use Rattle.seat_guard.specs.declared.view.Draws.{Draws}
 use Rattle.seat_guard.specs.declared.view.Leaving.{Leaving}
-use Rattle.seat_guard.specs.Views.{told_of, cell_in, sizes_for, holding, letting_go, orders_of}
+use Rattle.seat_guard.specs.Views.{told_of, cell_at, sizes_for, holding, letting_go, orders_of}
 use Rattle.function_laws.specs.SessionEntries.{Each}
 use Rattle.function_laws.specs.Sizes.{Orders}
 use Rattle.function_laws.specs.EntryOrders.{orders_after}
@@ -82,14 +82,14 @@ module _ {S : Type 0} (keeps_it : S → Held → Type 0) (board : S → List (st
   -- the turn comes home
   pub comes_home : (turn id : ℕ) (home : Option (Option (std.Option S))) (ds : List Draws) (t : Table) (now : Orders) (d : Draws) (x : S) (leaving : Leaving) → TurnOf turn home ds t now → get_elem? ds id ≡ some d → d.holds ≡ true
       → ((j : ℕ) (e : Draws) → get_elem? ds j ≡ some e → e.holds ≡ true → j ≡ id)
-      → t.cells ≡ cell_in d.cells → length d.cells ≡ CELLS → t.sizes ≡ sizes_for d.vars d.elements → d.slots ≡ slots → Serves keeps_it board counts count orders x d
+      → t.cells ≡ cell_at t.sizes d.cells → length d.cells ≡ CELLS → t.sizes ≡ sizes_for d.vars d.elements → d.slots ≡ slots → Serves keeps_it board counts count orders x d
       → TurnOf 0 (some (some (std.Some x))) (set ds id (letting_go d leaving)) t now
   comes_home turn id home ds t now d x leaving part at holds alone cells len sizes as_many serves = record {
     home_is = λ z. (
       x,
       refl,
       record {
-        cells_are = cells ∙ ap cell_in (sym serves.board_is);
+        cells_are = cells ∙ ap (cell_at t.sizes) (sym serves.board_is);
         as_many = ap (λ (l : List (std.Option Held)). length l) serves.board_is ∙ len;
         cells_kept = subst (λ (l : List (std.Option Held)). Each (IsKeptCell keeps_it board counts count orders x) l) (sym serves.board_is) serves.cells_kept;
         counts_are = serves.counts_are ∙ ap₂ (λ (z : Sizes) (n : ℕ). (z.variables, z.elements, n)) (sym sizes) as_many;

@@ -11,13 +11,15 @@ use Rattle.function_laws.specs.Tables.{Table, Sizes, opening}
 use Rattle.function_laws.specs.Histories.{IsLegal, table_after}
 use Rattle.function_laws.specs.EntryOrders.{EachWith, opening_orders}
 use Rattle.function_laws.specs.SiftEntries.{Carries}
+use Rattle.function_laws.specs.Widening.{AgreesAt}
 use Rattle.function_laws.specs.SessionEntries.{Each, entries_of}
 use Rattle.seat_guard.specs.declared.view.Row.{Row}
 use Rattle.seat_guard.specs.declared.view.Gone.{Gone}
 use Rattle.seat_guard.specs.declared.view.Draws.{Draws}
+use Rattle.seat_guard.specs.Known.{StandsIn, sizes_for}
 use Rattle.seat_guard.specs.Sifted.{IsOfOther}
 use Rattle.seat_guard.specs.Notes.{AreNotedIn}
-use Rattle.seat_guard.specs.Views.{Agrees, sizes_for, stands_for}
+use Rattle.seat_guard.specs.Views.{Agrees, stands_for}
 
 -- what the rule says of a live seat, and of the closing one
 pub record LiveFits (turn : ℕ) (log : List Entry) (t : Table) (seat : ℕ → Option ℕ) (id : ℕ) (d : Draws) : Type 0 where
@@ -28,7 +30,7 @@ pub record LiveFits (turn : ℕ) (log : List Entry) (t : Table) (seat : ℕ → 
   pub held : d.holds ≡ true → turn ≡ suc d.session
   -- its names were given, each row's stands for the row's function; with the turn, what it knows of others are functions of other sessions' rows
   pub given : (name : Name) (f : Function) → t.live d.session name ≡ std.Some f → t.given d.session name ≡ true
-  pub stand : Each (λ (row : Row). t.live d.session row.name ≡ std.Some row.held.function) d.rows
+  pub stand : Each (StandsIn t d.session) d.rows
   pub others : d.holds ≡ true → Each (IsOfOther t d.session) d.others
 
 pub record IsUnused (log : List Entry) (t : Table) (seat : ℕ → Option ℕ) (p : ℕ) : Type 0 where
@@ -39,13 +41,13 @@ pub record IsUnused (log : List Entry) (t : Table) (seat : ℕ → Option ℕ) (
 
 -- a row that a session left behind
 abbrev pub IsLeftRow : Table → (ℕ → Option ℕ) → ℕ → Row → Type 0
-IsLeftRow t seat given row = (p : ℕ) × (p < given) × (seat p ≡ none) × (t.live p row.name ≡ std.Some row.held.function)
+IsLeftRow t seat given row = (p : ℕ) × (p < given) × (seat p ≡ none) × StandsIn t p row
 
 pub record ClosingFits (start : Sizes) (log : List Entry) (t : Table) (seat : ℕ → Option ℕ) (d : Draws) : Type 0 where
   pub few : (d.given ≤ d.sessions) × (d.sessions ≤ MOST_SESSIONS)
   pub start_is : start ≡ sizes_for d.vars d.elements
   pub later : (p : ℕ) → d.given ≤ p → IsUnused log t seat p
-  pub back : (k : ℕ) (g : Gone) → get_elem? d.gone k ≡ some g → (g.session < d.given) × (seat g.session ≡ none) × (entries_of g.session log ≡ g.entries) × (t.live g.session ≡ stands_for g.rows) × AreNotedIn start log g.noted g.placed
+  pub back : (k : ℕ) (g : Gone) → get_elem? d.gone k ≡ some g → (g.session < d.given) × (seat g.session ≡ none) × (entries_of g.session log ≡ g.entries) × AgreesAt t.sizes (stands_for g.rows) (t.live g.session) × AreNotedIn start log g.session g.noted g.placed × (t.sizes ≡ sizes_for g.vars g.elements)
   pub left : Each (IsLeftRow t seat d.given) d.rows
 
 pub record Fits (turn : ℕ) (start : Sizes) (log : List Entry) (t : Table) (seat : ℕ → Option ℕ) (id : ℕ) (d : Draws) : Type 0 where
@@ -53,9 +55,9 @@ pub record Fits (turn : ℕ) (start : Sizes) (log : List Entry) (t : Table) (sea
   pub closing : d.closing ≡ true → (d.live ≡ false) × (id ≡ 0) × ClosingFits start log t seat d
   pub holder : d.holds ≡ true → d.live ≡ true
   pub rowless : d.live ≡ false → d.closing ≡ false → d.rows ≡ []
-  pub noted : AreNotedIn start log d.noted d.placed
+  pub noted : AreNotedIn start log d.session d.noted d.placed
 
--- The part of the journal: there is one legal history, whose length is the journal word, and each seat knows its session's entries of it. The orders that it noted at a place, and those at the places of its calls, are those that the entries below that place leave. What a sift's entry carries is what the entries below it leave.
+-- The part of the journal: there is one legal history, whose length is the journal word, and each seat knows its session's entries of it. What it noted at a place, and what there was at the places of its calls, is what the entries below that place leave. What a sift's entry carries is what the entries below it leave.
 pub record Journal (place turn : ℕ) (ds : List Draws) (start : Sizes) (log : List Entry) (table : Table) : Type 0 where
   pub seat : ℕ → Option ℕ
   pub legal : IsLegal start log

@@ -1,3 +1,4 @@
+pub mod Known
 pub mod Sifted
 pub mod Allots
 pub mod Notes

@@ -10,6 +10,7 @@ use Rattle.function_laws.specs.declared.history.Function.{Function}
 use Rattle.function_laws.specs.Tables.{Table, Sizes, opening}
 use Rattle.function_laws.specs.Histories.{IsLegal, table_after}
 use Rattle.function_laws.specs.SiftEntries.{Carries}
+use Rattle.function_laws.specs.Widening.{AgreesAt}
 use Rattle.function_laws.specs.SessionEntries.{Each, entries_of}
 use Rattle.function_laws.specs.Sizes.{Orders}
 use Rattle.function_laws.specs.EntryOrders.{EachWith, opening_orders, orders_from}
@@ -25,16 +26,23 @@ use Rattle.seat_guard.specs.Views.{sizes_for, stands_for, told_of, holding, lett
 use Rattle.seat_guard.specs.Journal.{Journal}
 use Rattle.seat_guard.specs.Turn.{AreSized, IsKeptCell, KeepsRows, Serves, Turn, row_count, cells_count}
 
--- A legal history of n calls, in which each session that came back has the entries that it had, which leaves each its rows, and which has none of sessions that there never were. The orders that a session noted at a place, and those at the places of its calls, are those that the entries below that place leave. What a sift's entry carries is what the entries below it leave.
+-- the table has the rows with which a session came back
+abbrev pub RowsStand : Table → Gone → Type 0
+RowsStand t g = AgreesAt t.sizes (stands_for g.rows) (t.live g.session)
+
+-- A legal history of n calls, in which each session that came back has the entries that it had, which leaves each its rows, and which has none of sessions that there never were. What a session noted at a place, and what there was at the places of its calls, is what the entries below that place leave. What a sift's entry carries is what the entries below it leave.
 pub record Whole (n : ℕ) (start : Sizes) (given : ℕ) (gone : List Gone) : Type 0 where
   pub log : List Entry
   pub legal : IsLegal start log
   pub count : length log ≡ n
+  -- so far no call adds a variable or an element, so each session knew of all
+  pub fixed : (table_after (opening start) log).sizes ≡ start
+  pub known : (k : ℕ) (g : Gone) → get_elem? gone k ≡ some g → sizes_for g.vars g.elements ≡ start
   pub carried : EachWith Carries (opening start) (opening_orders start) log
   pub each : (k : ℕ) (g : Gone) → get_elem? gone k ≡ some g → entries_of g.session log ≡ g.entries
-  pub rows : (k : ℕ) (g : Gone) → get_elem? gone k ≡ some g → (table_after (opening start) log).live g.session ≡ stands_for g.rows
+  pub rows : (k : ℕ) (g : Gone) → get_elem? gone k ≡ some g → RowsStand (table_after (opening start) log) g
   pub beyond : (p : ℕ) → given ≤ p → entries_of p log ≡ []
-  pub noted : (k : ℕ) (g : Gone) → get_elem? gone k ≡ some g → AreNotedIn start log g.noted g.placed
+  pub noted : (k : ℕ) (g : Gone) → get_elem? gone k ≡ some g → AreNotedIn start log g.session g.noted g.placed
 
 module _ {S : Type 0} (keeps : S → Held → Type 0) (board : S → List (std.Option Held)) (counts : S → ℕ × ℕ × ℕ) (count : S → ℕ → ℕ) (orders : S → Orders) where
   pub record Rule (s : State (std.Option S) View) : Type 0 where

@@ -10,7 +10,7 @@ use Rattle.function_laws.specs.Sizes.{Orders}
 use Rattle.seat_guard.specs.declared.view.Held.{Held}
 use Rattle.seat_guard.specs.declared.view.Row.{Row}
 use Rattle.seat_guard.specs.declared.view.Draws.{Draws}
-use Rattle.seat_guard.specs.Views.{cell_in, orders_of}
+use Rattle.seat_guard.specs.Views.{cell_at, orders_of}
 
 -- the list has this edge with this function
 abbrev pub Has : List Held → Held → Type 0
@@ -66,7 +66,7 @@ module _ {S : Type 0} (keeps : S → Held → Type 0) (board : S → List (std.O
 
   -- the content at home: it has the table's board and sizes, so many slots and these orders, and keeps the cells and each session's rows
   pub record IsHome (slots : ℕ) (x : S) (ds : List Draws) (t : Table) (now : Orders) : Type 0 where
-    pub cells_are : t.cells ≡ cell_in (board x)
+    pub cells_are : t.cells ≡ cell_at t.sizes (board x)
     pub as_many : length (board x) ≡ CELLS
     pub cells_kept : Each (IsKeptCell x) (board x)
     pub counts_are : counts x ≡ (t.sizes.variables, t.sizes.elements, slots)

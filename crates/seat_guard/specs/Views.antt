@@ -1,16 +1,17 @@
 -- What a seat knows, when a table of functions agrees with it, and what a call may tell.
-use Rattle.std.specs.Prelude.{◌≡◌, ◌⊎◌, Contains, ℕ, suc, ◌≤◌, if◌then◌else◌, true, false, List, [], ◌∷◌, ◌++◌, length, slice_get, slice_set, Option, Some, None}
+use Rattle.std.specs.Prelude.{◌≡◌, ◌⊎◌, Contains, ℕ, suc, ◌≤◌, if◌then◌else◌, true, false, List, [], ◌∷◌, ◌++◌, length, slice_get, slice_set, Option, Some, None, option_map}
 use Rattle.edge_bits.specs.declared.limits.TheConstants.{CELLS}
 use Rattle.function_laws.specs.declared.history.Name.{Name}
 use Rattle.function_laws.specs.declared.history.Function.{Function}
 use Rattle.function_laws.specs.declared.history.Call.TheVariants as calls
 use Rattle.function_laws.specs.declared.history.Reply.TheVariants as replies
-use Rattle.function_laws.specs.Tables.{Table, Sizes, same_name}
+use Rattle.function_laws.specs.Tables.{Sizes, Table, same_name}
 use Rattle.function_laws.specs.Steps.{IsAllowed, after}
 use Rattle.function_laws.specs.SessionEntries.{entry}
 use Rattle.function_laws.specs.Sizes.{Orders}
 use Rattle.function_laws.specs.EntryOrders.{orders_after}
 use Rattle.function_laws.specs.Handovers.{is_numbered}
+use Rattle.function_laws.specs.Widening.{AgreesAt, at_sizes}
 use Rattle.seat_guard.specs.declared.view.Held.{Held}
 use Rattle.seat_guard.specs.declared.view.Row.{Row}
 use Rattle.seat_guard.specs.declared.view.Change.{Change}
@@ -22,17 +23,18 @@ use Rattle.seat_guard.specs.declared.view.Gone.{Gone}
 use Rattle.seat_guard.specs.declared.view.Draws.{Draws}
 use Rattle.seat_guard.specs.declared.view.View.{View}
 use Rattle.seat_guard.specs.declared.view.Opening.{Opening}
+pub use Rattle.seat_guard.specs.Known.{known_at, sizes_for}
 use Rattle.seat_guard.specs.Sifted.{MayCarry}
 use Rattle.seat_guard.specs.Allots.{HasRoomFor}
-
--- n variables and m elements
-abbrev pub sizes_for : ℕ → ℕ → Sizes
-sizes_for n m = record { variables = n; elements = m; most_variables = n; most_elements = m; cells = CELLS }
 
 -- what a name stands for
 abbrev pub stands_for : List Row → Name → Option Function
 stands_for [] name = None
 stands_for (row ∷ rows) name = if same_name name row.name then Some row.held.function else stands_for rows name
+
+-- what a name of its own stands for, with the variables and elements that the seat knows
+abbrev pub known_as : Draws → Name → Option Function
+known_as d name = option_map (known_at d) (stands_for d.rows name)
 
 -- the rows but that of a name
 abbrev pub without : Name → List Row → List Row
@@ -47,12 +49,16 @@ function_in _ = None
 abbrev pub cell_in : List (Option Held) → ℕ → Option Function
 cell_in cells i = function_in (slice_get cells i)
 
+-- and in a table of these sizes
+abbrev pub cell_at : Sizes → List (Option Held) → ℕ → Option Function
+cell_at z cells i = option_map (at_sizes z) (cell_in cells i)
+
 -- the table agrees with what a seat knows: its rows, which names it has not given, and, with the turn, the board
 pub record Agrees (d : Draws) (t : Table) : Type 0 where
   pub sizes_are : t.sizes ≡ sizes_for d.vars d.elements
-  pub live : t.live d.session ≡ stands_for d.rows
+  pub live : AgreesAt t.sizes (stands_for d.rows) (t.live d.session)
   pub fresh : (name : Name) → d.adds ≤ name.generation → t.given d.session name ≡ false
-  pub cells : d.holds ≡ true → (t.cells ≡ cell_in d.cells) × (length d.cells ≡ CELLS)
+  pub cells : d.holds ≡ true → (t.cells ≡ cell_at t.sizes d.cells) × (length d.cells ≡ CELLS)
 
 abbrev pub rows_after : Change → List Row → List Row
 rows_after (Adds row) rows = row ∷ rows
@@ -71,11 +77,11 @@ cells_after _ cells = cells
 abbrev pub orders_of : Draws → Orders
 orders_of d = record { variables = d.variable_order; elements = d.element_order }
 
--- it notes the orders, which it knows as it has the turn, at the place n
+-- it notes what it knows as it has the turn, at the place n
 abbrev pub note_of : Draws → ℕ → Noted
-note_of d n = record { place = n; variable_order = d.variable_order; element_order = d.element_order }
+note_of d n = record { place = n; vars = d.vars; elements = d.elements; rows = d.rows; variable_order = d.variable_order; element_order = d.element_order }
 
--- what a seat knows after a call at the place n, with the orders at that place
+-- what a seat knows after a call at the place n, with what there was at that place
 abbrev pub told_of : Draws → ℕ → Telling → Draws
 told_of d n x = record d {
   rows = rows_after x.change d.rows;
@@ -162,7 +168,7 @@ letting_go d x = record d {
   due = x.due;
 }
 
--- it notes the orders, as it does at each call
+-- it notes what it knows, as it does at each call
 abbrev pub noting : Draws → ℕ → Draws
 noting d n = record d { noted = d.noted ++ note_of d n ∷ [] }
 
@@ -171,7 +177,7 @@ abbrev pub AreTold : Draws → List Function → List Function → Type 0
 AreTold d stored functions = (f : Function) → Contains functions f → Contains d.functions f ⊎ Contains stored f
 
 abbrev pub gone_of : Draws → Gone
-gone_of d = record { session = d.session; rows = d.rows; entries = d.entries; noted = d.noted; placed = d.placed }
+gone_of d = record { session = d.session; vars = d.vars; elements = d.elements; rows = d.rows; entries = d.entries; noted = d.noted; placed = d.placed }
 
 abbrev pub with_gone : Draws → Draws → Draws
 with_gone d e = record d { rows = d.rows ++ e.rows; gone = d.gone ++ gone_of e ∷ [] }

@@ -1,15 +1,20 @@
 -- An edge that denotes a function still does, where its slot's function stays.
-use Rattle.std.proofs.Common.{◌≡◌, ℕ, ◌^◌, Option, Some, refl, ap, sym, subst, ◌∙◌}
+use Rattle.std.proofs.Common.{◌≡◌, ℕ, pos, false, ◌%◌, ◌^◌, Option, Some, length, refl, ap, sym, subst, ◌∙◌}
+use Rattle.std.proofs.Math.Nat.{mod-eq_of_lt}
 use Rattle.edge_bits.specs.declared.edges.Edge.{Edge}
 use Rattle.edge_bits.specs.declared.edges.Kind.{Kind}
 use Rattle.edge_bits.specs.declared.edges.Kind.TheVariants as kinds
 use Rattle.function_laws.specs.declared.history.Function.TheVariants.{Bdd, Add, Zdd}
 use Rattle.function_laws.specs.Kinds.{Denoted, ValueOf, Fits, Lacks, flipped, function_of, values_of}
-use Rattle.function_laws.specs.Lists.{list_of}
+use Rattle.function_laws.specs.Lists.{list_of, truth, whole}
+use Rattle.function_laws.specs.Tables.{Sizes}
+use Rattle.function_laws.specs.Widening.{at_sizes}
+use Rattle.function_laws.proofs.ListLemmas.{get_or-list_of, length-list_of, list_of-same}
 use Rattle.node_store.specs.KindLaws.{flipped-some}
 use Rattle.node_store.specs.Listed.{listed, listed_at}
 use Rattle.node_store.specs.Views.{View, Is, IsBeyond, Grown, values_at}
 use Rattle.seat_guard.specs.declared.view.Held.{Held}
+use Rattle.seat_guard.specs.Known.{sizes_for}
 use Rattle.shared_store.specs.Sharing.{IsHeldIn, kind_of}
 
 -- the numbers of variables and elements are the same, and so is the function of a slot
@@ -45,7 +50,7 @@ listed_at-same k a b e same = listed-same k a b (values_at k b e) same.vars same
 pub IsHeldIn-same : (a b : View) (h : Held) → IsSameAt a b h.edge.index → IsHeldIn a h → IsHeldIn b h
 IsHeldIn-same a b h same held = (
   Is-same (kind_of h.function) a b h.edge same held.0,
-  listed_at-same (kind_of h.function) a b h.edge same ∙ held.1,
+  listed_at-same (kind_of h.function) a b h.edge same ∙ held.1 ∙ (λ i. at_sizes (sizes_for (sym same.vars i) (sym same.elements i)) h.function),
 )
 
 pub kind-listed : (k : Kind) (w : View) (f : ℕ → ValueOf k) → kind_of (listed k w f) ≡ k
@@ -58,3 +63,17 @@ pub IsSameAt-grown : (k : Kind) (a b : View) (e : Edge) → Grown a b → Is k a
 IsSameAt-grown k a b e grown is =
     let s = flipped-some e.complement (a.content e.index) (function_of k (values_at k a e)) is.is in
     record { vars = grown.vars; elements = grown.elements; content = grown.content e.index s.0 s.1 ∙ sym s.1 }
+
+-- what is listed of a view is as it was noted, where the table has the view's variables and elements
+pub listed-noted : (k : Kind) (w : View) (f : ℕ → ValueOf k) (z : Sizes) → z.variables ≡ w.vars → z.elements ≡ w.elements → at_sizes z (listed k w f) ≡ listed k w f
+listed-noted kinds.Bdd w f z vars elements =
+    ap Bdd (ap (λ i. list_of (2 ^ i) (λ k. truth (list_of (2 ^ w.vars) f) (k % length (list_of (2 ^ w.vars) f)))) vars
+    ∙ list_of-same (2 ^ w.vars) (λ k. truth (list_of (2 ^ w.vars) f) (k % length (list_of (2 ^ w.vars) f))) f
+    (λ k below. ap (λ i. truth (list_of (2 ^ w.vars) f) (k % i)) (length-list_of (2 ^ w.vars) f) ∙ ap (truth (list_of (2 ^ w.vars) f)) (mod-eq_of_lt below) ∙ get_or-list_of (2 ^ w.vars) k f false below))
+listed-noted kinds.Add w f z vars elements =
+    ap Add (ap (λ i. list_of (2 ^ i) (λ k. whole (list_of (2 ^ w.vars) f) (k % length (list_of (2 ^ w.vars) f)))) vars
+    ∙ list_of-same (2 ^ w.vars) (λ k. whole (list_of (2 ^ w.vars) f) (k % length (list_of (2 ^ w.vars) f))) f
+    (λ k below. ap (λ i. whole (list_of (2 ^ w.vars) f) (k % i)) (length-list_of (2 ^ w.vars) f) ∙ ap (whole (list_of (2 ^ w.vars) f)) (mod-eq_of_lt below) ∙ get_or-list_of (2 ^ w.vars) k f (pos 0) below))
+listed-noted kinds.Zdd w f z vars elements =
+    ap Zdd (ap (λ i. list_of (2 ^ i) (truth (list_of (2 ^ w.elements) f))) elements
+    ∙ list_of-same (2 ^ w.elements) (truth (list_of (2 ^ w.elements) f)) f (λ k below. get_or-list_of (2 ^ w.elements) k f false below))

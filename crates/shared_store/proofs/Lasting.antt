@@ -14,7 +14,8 @@ use Rattle.shared_store.specs.declared.shared.Cell.{Cell}
 use Rattle.shared_store.specs.declared.shared.Shared.{Shared}
 use Rattle.shared_store.specs.Sharing.{Serving, board, count, counts, held_in, held_of, keeps, kind_of, orders, view_of}
 use Rattle.shared_store.specs.Lasting.{IsRecounted, KeepsGenerations, Lasts}
-use Rattle.shared_store.proofs.Keeping.{IsHeldIn-same, IsSameAt-grown, kind-listed}
+use Rattle.seat_guard.specs.Known.{sizes_for}
+use Rattle.shared_store.proofs.Keeping.{IsHeldIn-same, IsSameAt-grown, kind-listed, listed-noted}
 
 one_same : (k : ℕ) → one_if (k == k) ≡ 1
 one_same k = ap one_if (eq-eqb k k refl)
@@ -66,8 +67,9 @@ module _ (x y : Shared) (lasts : Lasts x y) where
   cell-lasts cell some kept =
       let k : Kind = cell.kind in
       let then = (lasts.held (held_of (view_of x) cell) some kept).1 in
+      let noted = listed-noted k (view_of x) (values_at k (view_of x) cell.edge) (sizes_for (view_of y).vars (view_of y).elements) (ap (λ (p : ℕ × ℕ × ℕ). p.0) lasts.counts_are) (ap (λ (p : ℕ × ℕ × ℕ). p.1) lasts.counts_are) in
       ap (λ (f : Function). record { edge = cell.edge; function = f })
-      (subst (λ (j : Kind). listed_at j (view_of y) cell.edge ≡ listed_at k (view_of x) cell.edge) (kind-listed k (view_of x) (values_at k (view_of x) cell.edge)) then)
+      (subst (λ (j : Kind). listed_at j (view_of y) cell.edge ≡ listed_at k (view_of x) cell.edge) (kind-listed k (view_of x) (values_at k (view_of x) cell.edge)) (then ∙ noted))
 
   board-lasts : (cells : List (Option Cell)) → ((k : ℕ) → cells_count k (map (held_in (view_of x)) cells) ≤ count x k)
       → Each (IsKeptCell keeps board counts count orders x) (map (held_in (view_of x)) cells) → map (held_in (view_of y)) cells ≡ map (held_in (view_of x)) cells

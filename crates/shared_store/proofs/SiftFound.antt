@@ -19,6 +19,7 @@ use Rattle.function_laws.specs.SiftEntries.{AreApart, AreOne, IsAmong}
 use Rattle.function_laws.specs.SiftedOrders.{Block}
 use Rattle.function_laws.specs.Sizes.{Orders}
 use Rattle.function_laws.specs.Values.{negation}
+use Rattle.function_laws.specs.Widening.{at_sizes}
 use Rattle.function_laws.proofs.BridgeLemmas.{not_of-list_of}
 use Rattle.function_laws.proofs.DistinctLemmas.{In}
 use Rattle.function_laws.proofs.ListLemmas.{list_of-same}
@@ -37,10 +38,11 @@ use Rattle.node_slots.proofs.Settling.{settled_sound}
 use Rattle.seat_guard.specs.declared.view.Draws.{Draws}
 use Rattle.seat_guard.specs.declared.view.Held.{Held}
 use Rattle.seat_guard.specs.declared.view.Row.{Row}
+use Rattle.seat_guard.specs.Known.{known_at, sizes_for}
 use Rattle.seat_guard.specs.Sifted.{IsKnown, IsSiftBy}
 use Rattle.seat_guard.specs.Turn.{IsKeptCell, cells_count, held_count, one_if, row_count}
 use Rattle.shared_store.specs.declared.shared.Shared.{Shared}
-use Rattle.shared_store.specs.Sharing.{IsHeldIn, Serving, board, count, counts, keeps, kind_of, orders, view_of, whole_of}
+use Rattle.shared_store.specs.Sharing.{IsHeldIn, Serving, board, count, counts, keeps, kind_of, noted_in, orders, view_of, whole_of}
 use Rattle.shared_store.specs.Sifting.{counted_functions, is_counted, sifting_of}
 
 -- as a whole list, what denotes a function is what lists its values
@@ -179,7 +181,7 @@ module _ (x : Shared) (of : IsStore x.store) where
       at false rest = rest
 
   -- what an edge denotes is one with what its slot denotes
-  edge-one : (h : Held) (s : ℕ) (f : Denoted) → IsHeldIn w h → h.edge.index ≡ s → c.function s ≡ Some f → AreOne (whole_of w f) h.function
+  edge-one : (h : Held) (s : ℕ) (f : Denoted) → IsHeldIn w h → h.edge.index ≡ s → c.function s ≡ Some f → AreOne (whole_of w f) (noted_in w h.function)
   edge-one h s f kept at is = by f h.edge.complement (ap (flipped h.edge.complement) (sym is ∙ ap c.function (sym at)) ∙ kept.0.is)
     where
       k : Kind
@@ -188,10 +190,10 @@ module _ (x : Shared) (of : IsStore x.store) where
       v : ℕ → ValueOf k
       v = values_at k w h.edge
 
-      whole-is : whole_of w (function_of k v) ≡ h.function
+      whole-is : whole_of w (function_of k v) ≡ noted_in w h.function
       whole-is = whole-listed k w v ∙ kept.1
 
-      by : (f : Denoted) (b : Bool) → flipped b (Some f) ≡ Some (function_of k v) → AreOne (whole_of w f) h.function
+      by : (f : Denoted) (b : Bool) → flipped b (Some f) ≡ Some (function_of k v) → AreOne (whole_of w f) (noted_in w h.function)
       by f false e = let same : f ≡ function_of k v = cc in subst (AreOne (whole_of w f)) (ap (whole_of w) same ∙ whole-is) (one-itself (whole_of w f))
       by (BddFunction f) true e =
           let same : BddFunction (negation f) ≡ function_of k v = cc in
@@ -205,6 +207,13 @@ module _ (x : Shared) (of : IsStore x.store) where
       by (ZddFamily f) true e = cc
 
   module _ (d : Draws) (serves : Serving x d) where
+    -- what an edge denotes is as the seat knows it
+    known-held : (h : Held) → noted_in w h.function ≡ known_at d h.function
+    known-held h = ap (λ (p : ℕ × ℕ × ℕ). at_sizes (sizes_for p.0 p.1) h.function) serves.counts_are
+
+    edge-known : (h : Held) (s : ℕ) (f : Denoted) → keeps x h → h.edge.index ≡ s → c.function s ≡ Some f → AreOne (whole_of w f) (known_at d h.function)
+    edge-known h s f kept at is = subst (AreOne (whole_of w f)) (known-held h) (edge-one h s f kept at is)
+
     -- each slot that is held is that of a row or of a cell
     known-slot : (s : ℕ) (f : Denoted) → c.function s ≡ Some f → is_counted x s ≡ true → IsKnown d (whole_of w f)
     known-slot s f is counted = by (row_count s d.rows) (held_count s d.others) (cells_count s d.cells) refl refl refl
@@ -212,13 +221,13 @@ module _ (x : Shared) (of : IsStore x.store) where
         by : (a b e : ℕ) → row_count s d.rows ≡ a → held_count s d.others ≡ b → cells_count s d.cells ≡ e → IsKnown d (whole_of w f)
         by (suc a) b e ra rb re =
             let z = row_found s d.rows (omega (arith, ra)) in
-            inl (z.0, z.1, z.2, edge-one z.1.held s f (each_row (λ (row : Row). keeps x row.held) d.rows z.0 z.1 serves.rows_kept z.2) z.3 is)
+            inl (z.0, z.1, z.2, edge-known z.1.held s f (each_row (λ (row : Row). keeps x row.held) d.rows z.0 z.1 serves.rows_kept z.2) z.3 is)
         by zero (suc b) e ra rb re =
             let z = held_found s d.others (omega (arith, rb)) in
-            inr (inl (z.0, z.1, z.2, edge-one z.1 s f (each_held (keeps x) d.others z.0 z.1 serves.others_kept z.2) z.3 is))
+            inr (inl (z.0, z.1, z.2, edge-known z.1 s f (each_held (keeps x) d.others z.0 z.1 serves.others_kept z.2) z.3 is))
         by zero zero (suc e) ra rb re =
             let z = cell_found s d.cells (omega (arith, re)) in
-            inr (inr (z.0, z.1, z.2, edge-one z.1 s f (kept d.cells z.0 z.1 serves.cells_kept z.2) z.3 is))
+            inr (inr (z.0, z.1, z.2, edge-known z.1 s f (kept d.cells z.0 z.1 serves.cells_kept z.2) z.3 is))
           where
             kept : (cells : List (Option Held)) (j : ℕ) (h : Held) → Each (IsKeptCell keeps board counts count orders x) cells → slice_get cells j ≡ Some (Some h) → keeps x h
             kept [] j h each at = cc
@@ -228,15 +237,15 @@ module _ (x : Shared) (of : IsStore x.store) where
         by zero zero zero ra rb re = absurd (let n = serves.counted s in let p = above (count x s) counted in omega (arith, n, p, ra, rb, re))
 
     -- and each row is one of them
-    own-row : (h : Held) → keeps x h → 0 < count x h.edge.index → IsAmong (map (whole_of w) (counted_functions x)) h.function
+    own-row : (h : Held) → keeps x h → 0 < count x h.edge.index → IsAmong (map (whole_of w) (counted_functions x)) (known_at d h.function)
     own-row h kept many =
         let s = flipped-some h.edge.complement (c.function h.edge.index) (function_of (kind_of h.function) (values_at (kind_of h.function) w h.edge)) kept.0.is in
         let inside = sound.within h.edge.index (sound.used h.edge.index s.0 s.1) in
-        among-whole h.function s.0 (counted_functions x)
+        among-whole (known_at d h.function) s.0 (counted_functions x)
         (functions-In c.function s.0 h.edge.index (filter (is_counted x) (range_with_len 0 c.limit)) (In-filter (is_counted x) h.edge.index (range_with_len 0 c.limit) (range-In h.edge.index 0 c.limit (omega arith) (omega (arith, inside))) (positive (count x h.edge.index) many)) s.1)
-        (edge-one h h.edge.index s.0 kept refl s.1)
+        (edge-known h h.edge.index s.0 kept refl s.1)
 
-    own-rows : (rows : List Row) → Each (λ (row : Row). keeps x row.held) rows → ((k : ℕ) → row_count k rows ≤ count x k) → Each (λ (row : Row). IsAmong (map (whole_of w) (counted_functions x)) row.held.function) rows
+    own-rows : (rows : List Row) → Each (λ (row : Row). keeps x row.held) rows → ((k : ℕ) → row_count k rows ≤ count x k) → Each (λ (row : Row). IsAmong (map (whole_of w) (counted_functions x)) (known_at d row.held.function)) rows
     own-rows [] kept few = tt
     own-rows (row ∷ rows) kept few = (
       own-row row.held kept.0 (let f = few row.held.edge.index in let one = ap one_if (eq-eqb row.held.edge.index row.held.edge.index refl) in omega (arith, f, one)),

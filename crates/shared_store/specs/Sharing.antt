@@ -10,6 +10,7 @@ use Rattle.function_laws.specs.SessionEntries.{Each}
 use Rattle.function_laws.specs.Kinds.{Denoted, BddFunction, AddFunction, ZddFamily}
 use Rattle.function_laws.specs.Lists.{list_of}
 use Rattle.function_laws.specs.Sizes.{Orders}
+use Rattle.function_laws.specs.Widening.{at_sizes}
 use Rattle.node_store.specs.Listed.{listed_at}
 use Rattle.node_store.specs.Views.{View, Is}
 use Rattle.node_slots.specs.Stores.{IsOpening, plain_view, count_at, generation_at}
@@ -25,9 +26,13 @@ kind_of (Bdd f) = kinds.Bdd
 kind_of (Add f) = kinds.Add
 kind_of (Zdd p) = kinds.Zdd
 
--- the edge denotes the function, as a whole list
+-- a noted function, with the variables and elements that the view has
+abbrev pub noted_in : View → Function → Function
+noted_in w f = at_sizes (sizes_for w.vars w.elements) f
+
+-- the edge denotes the function, with as many variables and elements
 abbrev pub IsHeldIn : View → Held → Type 0
-IsHeldIn w held = Is (kind_of held.function) w held.edge × (listed_at (kind_of held.function) w held.edge ≡ held.function)
+IsHeldIn w held = Is (kind_of held.function) w held.edge × (listed_at (kind_of held.function) w held.edge ≡ noted_in w held.function)
 
 -- a cell with what its edge denotes
 abbrev pub held_of : View → Cell → Held

@@ -1,4 +1,5 @@
 use Rattle.std.proofs.Common.{◌∷◌, [], ◌++◌, List, length, ap, ap₂, sym, ◌∙◌, arith, length-append}
+use Rattle.std.proofs.Math.Nat.{zero-add}
 use mathlib.Core.List.{map-append}
 use Rattle.seat_guard.specs.declared.view.Draws.{Draws}
 use Rattle.seat_guard.specs.declared.view.Gone.{Gone}
@@ -23,7 +24,7 @@ loop-session-preserved c =
       ap (λ (d : Draws). d.given) j.1 ∙ inv.3,
       ap (λ (d : Draws). d.vars) j.1 ∙ inv.4,
       ap (λ (d : Draws). d.elements) j.1 ∙ inv.5,
-      ap (λ (d : Draws). d.gone) j.1 ∙ ap₂ (λ (l : List Gone) (g : Gone). l ++ g ∷ []) inv.6 (ap gone_as c.session.view_is) ∙ sym (map-append gone_as c.loop-session.yielded (c.in-Some.session ∷ [])),
+      ap (λ (d : Draws). d.gone) j.1 ∙ ap₂ (λ (l : List Gone) (g : Gone). l ++ g ∷ []) inv.6 ((λ i. record { session = e.session; vars = sym (zero-add e.vars) i; elements = sym (zero-add e.elements) i; rows = e.rows; entries = e.entries; noted = e.noted; placed = e.placed }) ∙ ap gone_as c.session.view_is) ∙ sym (map-append gone_as c.loop-session.yielded (c.in-Some.session ∷ [])),
       (λ k.
           let a = ap (all_live k) c.push_reserved.ensures.items in
           let b = all_live-append k c.loop-session.ended.items (rows ∷ []) in

@@ -4,6 +4,7 @@ use Rattle.edge_bits.specs.declared.edges.Kind.TheVariants as kinds
 use Rattle.edge_bits.specs.declared.lists.Memory.{Memory}
 use Rattle.seat_guard.specs.declared.view.Draws.{Draws}
 use Rattle.seat_guard.specs.Passes.{known}
+use Rattle.seat_guard.specs.Views.{known_as}
 use Rattle.dd_session.specs.Listings.{ListsRows}
 use Rattle.dd_session.specs.Sessions.{IsNamed}
 use Rattle.dd_session.specs.Turns.{Took}
@@ -39,7 +40,7 @@ returns-in-Ok-clause-told g c =
     let t : Took (known c.args.pass.now) e c.take-shared.result = took_of c.take-shared.ensures.took c.take-shared.ensures.board in
     is_listed (known c.args.pass.now) e (known c.note.new.pass) c.take-shared.result c.args.pass.now.seat.table_id c.note.new.pass.seat.table_id c.args.book.now.rows.spare c.note.result c.note.ensures.gave.0 c.args.rows.now c.in-Ok.listing
     (c.note.ensures.own.0 ∙ sym c.requires.idle.0) t c.note.ensures.gave.1 c.note.ensures.later
-    (subst (λ (r : Result Listing Memory). IfOk r (λ listing. (listing.order ≡ e.variable_order) × ListsRows e.vars e.rows c.args.rows.now listing)) c.in-Ok.is c.listing_of.ensures)
+    (subst (λ (r : Result Listing Memory). IfOk r (λ listing. (listing.order ≡ e.variable_order) × ListsRows e.vars (known_as e) c.args.rows.now listing)) c.in-Ok.is c.listing_of.ensures)
 
 pub returns-in-Ok-clause-stored : goal.returns-in-Ok-clause-stored
 returns-in-Ok-clause-stored g c = let gave = c.note.ensures.gave in stored_nothing (known c.args.pass.now) (known c.take-shared.new.pass) c.take-shared.result (took_of c.take-shared.ensures.took c.take-shared.ensures.board) (known c.note.new.pass) c.take-shared.result gave.0 (stores_same c.take-shared.result) (ap (λ (d : Draws). d.stored) gave.1) gave.2

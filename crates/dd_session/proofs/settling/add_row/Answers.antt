@@ -1,9 +1,10 @@
-use Rattle.std.proofs.Common.{refl, ap, sym, arith, subst}
+use Rattle.std.proofs.Common.{refl, ap, sym, arith, subst, ◌∙◌}
 use Rattle.seat_guard.specs.Passes.{known}
 use Rattle.seat_guard.specs.declared.view.Draws.{Draws}
 use Rattle.shared_store.specs.Sharing.{held_of, view_of}
 use Rattle.dd_session.specs.Requests.{call_of, telling_of}
 use Rattle.dd_session.specs.declared.request.Answer.TheVariants.{Added}
+use Rattle.dd_session.specs.Turns.{sizes_in}
 use Rattle.dd_session.proofs.Serving.{serves-added}
 use Rattle.dd_session.proofs.Tellings.{adds-on, added-reply, held-row, knows_added, may_add, notes_on, row-kept}
 use Rattle.dd_session.proofs.Tying.{longer_by, tied_more}
@@ -14,7 +15,7 @@ finish-place-requires-clause-step c =
     let d = known c.args.pass.now in
     let a = c.add-name.ensures.generation in
     let b = c.requires.keeps.rows.adds_are in
-    may_add d (view_of c.raise.new.self) c.args.request c.args.adding c.add-name.result c.args.cell (omega (arith, a, b)) c.requires.place.0
+    may_add d (view_of c.raise.new.self) c.args.request c.args.adding c.add-name.result c.args.cell (ap sizes_in c.raise.ensures.rest.view ∙ c.requires.serves.counts_are) (omega (arith, a, b)) c.requires.place.0
     (adds-on c.args.shared c.raise.new.self c.raise.ensures.rest.view d (call_of c.args.request) c.args.adding c.args.cell c.requires.adds)
 
 pub finish-place-requires-clause-serves : goal.finish-place-requires-clause-serves

@@ -6,6 +6,7 @@ use Rattle.operator_calls.specs.Taking.{of_lent, renamed_by, with_lists}
 use Rattle.operator_calls.proofs.MakingLaws.{can-renamed, with-lists}
 use Rattle.dd_session.specs.MadeRows.{HasTaken}
 use Rattle.dd_session.specs.Sessions.{IsLiveAs, Seen}
+use Rattle.dd_session.proofs.SessionLaws.{can_still}
 use Rattle.net_jobs.specs.declared.registers.Assigned.{Assigned}
 use Rattle.net_jobs.specs.Saying.{CanMake, IsAnswered, IsHeldAs, name_at}
 use Rattle.net_jobs.specs.Sections.{counts_of}
@@ -28,7 +29,7 @@ make-requires g c =
     let names = c.args.names.now in
     let can = can-renamed (name_at names) (λ k a. IsHeldAs k s names a) (λ k a. IsLiveAs k s a) (λ k a held. held.1) s.manager.vars s.manager.elements (with_lists (λ vars. vars) (λ pairs. pairs) c.args.making.now)
     (can_as_lists s names c.args.making.now c.requires.can) in
-    record { own = c.requires.own; room = c.requires.room; can = subst (HasTaken s) (sym c.renamed-named.ensures.same) can }
+    record { own = c.requires.own; room = c.requires.room; can = subst (HasTaken s) (sym c.renamed-named.ensures.same) (can_still s (renamed_by (name_at names) (with_lists (λ vars. vars) (λ pairs. pairs) c.args.making.now)) can) }
 
 pub returns-clause-answered : goal.returns-clause-answered
 returns-clause-answered g c =

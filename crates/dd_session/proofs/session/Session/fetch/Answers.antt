@@ -1,16 +1,17 @@
-use Rattle.std.proofs.Common.{◌≡◌, ℕ, Some, ap, sym, subst, ◌∙◌, ⊎_elim, arith}
+use Rattle.std.proofs.Common.{◌≡◌, ℕ, Some, option_map, ap, sym, subst, ◌∙◌, ⊎_elim, arith}
 use Rattle.function_laws.specs.declared.history.Call.TheVariants as calls
 use Rattle.function_laws.specs.declared.history.Reply.TheVariants as replies
 use Rattle.function_laws.specs.Steps.{from_cell}
 use Rattle.node_store.specs.Listed.{listed_at}
 use Rattle.node_store.specs.Views.{Is}
 use Rattle.seat_guard.specs.Passes.{known}
+use Rattle.seat_guard.specs.Known.{known_at}
 use Rattle.seat_guard.specs.Views.{cell_in}
 use Rattle.shared_store.specs.declared.shared.Cell.{Cell}
 use Rattle.shared_store.specs.Sharing.{view_of}
 use Rattle.dd_session.specs.Turns.{Took}
 use Rattle.dd_session.proofs.Calls.{called, took_of, same_table, seat_of}
-use Rattle.dd_session.proofs.Outcomes.{is_kind, stands_held_as}
+use Rattle.dd_session.proofs.Outcomes.{cell-known, is_kind, stands_held_as}
 use Rattle.dd_session.proofs.Tellings.{outcome-of_fetch}
 use Rattle.dd_session.proofs.Turning.{cell-board, cell-kept, notes_nothing}
 use Rattle.dd_session.proofs.session.Session.fetch.Goals as goal
@@ -38,7 +39,8 @@ add_row-made-requires-clause-adds g c =
     let kind = c.kind.ensures live.0 live.1 in
     let stands = stands_held_as d e x t c.self.invariant.0.1 live.0 c.args.other c.edge.result (c.edge.ensures.edge live.0 live.1 (known c.self.inside.pass) (seat_of c.self.inside.pass c.self.inside.book c.self.view_is)) ∙ ap (λ k. Some (listed_at k (view_of x) c.edge.result)) (sym kind) in
     outcome-of_fetch e i c.args.other (listed_at c.kind.result (view_of x) c.edge.result) _ (let f = c.ranges.cell.fits in omega (arith, at, f)) (ap (λ z. z.holds) t.is) stands
-    (ap (λ o. from_cell o (listed_at c.kind.result (view_of x) c.edge.result)) (ap (cell_in e.cells) at ∙ cell-board x e t.serves.board_is t.serves.cells_kept c.args.cell c.cell.result c.cell.ensures) ∙ c.choose-chosen.ensures.taken (view_of x))
+    (ap (λ o. from_cell o (listed_at c.kind.result (view_of x) c.edge.result)) (ap (option_map (known_at e)) (ap (cell_in e.cells) at ∙ cell-board x e t.serves.board_is t.serves.cells_kept c.args.cell c.cell.result c.cell.ensures) ∙ cell-known e (view_of x) t.serves.counts_are c.cell.result)
+    ∙ c.choose-chosen.ensures.taken (view_of x))
 
 pub returns-clause-told : goal.returns-clause-told
 returns-clause-told g c =

@@ -4,15 +4,15 @@ use Rattle.edge_bits.specs.declared.edges.Kind.{Kind}
 use Rattle.function_laws.specs.declared.history.Call.TheVariants as calls
 use Rattle.function_laws.specs.declared.history.Reply.TheVariants as replies
 use Rattle.node_store.specs.Listed.{listed_at}
-use Rattle.node_store.specs.Views.{View}
+use Rattle.node_store.specs.Views.{View, values_at}
 use Rattle.seat_guard.specs.Passes.{known}
 use Rattle.seat_guard.specs.declared.view.Change.TheVariants.{Posts}
 use Rattle.seat_guard.specs.declared.view.Draws.{Draws}
 use Rattle.shared_store.specs.declared.shared.Cell.{Cell}
 use Rattle.shared_store.specs.Sharing.{count_at_cell, functions_below, held_of, view_of, whole_of}
-use Rattle.dd_session.specs.Turns.{Took}
+use Rattle.dd_session.specs.Turns.{Took, sizes_in}
 use Rattle.dd_session.proofs.Calls.{called, stands_taken, took_of, same_table, seat_of}
-use Rattle.dd_session.proofs.Outcomes.{is_kind, stands_held_as}
+use Rattle.dd_session.proofs.Outcomes.{is_kind, listed-known, stands_held_as}
 use Rattle.dd_session.proofs.Serving.{keeps-on, serves-posted}
 use Rattle.dd_session.proofs.Tellings.{knows_posted, listed-same, may_post, row-kept}
 use Rattle.dd_session.proofs.Turning.{cell_counted, drew_nothing, kept_book, stores_recounted}
@@ -39,7 +39,8 @@ finish-place-requires-clause-step g c =
     let new : Cell = record { kind = c.kind-kind.result; edge = c.edge-edge.result } in
     let stands = stands_held_as d e x t c.self.invariant.0.1 live.0 c.args.h c.edge-edge.result (c.edge-edge.ensures.edge live.0 live.1 (known c.self.inside.pass) (seat_of c.self.inside.pass c.self.inside.book c.self.view_is)) in
     may_post e c.from-number.result c.args.h (held_of (view_of y) new) (let a = c.from-number.ensures in let f = c.ranges.cell.fits in omega (arith, a, f)) (ap (λ (z : Draws). length z.cells) t.is ∙ t.many)
-    (stands ∙ ap Some (ap (λ (k : Kind). listed_at k (view_of x) c.edge-edge.result) (sym kind) ∙ sym (listed-same x y c.set_cell.ensures.view c.kind-kind.result c.edge-edge.result)))
+    (stands ∙ ap Some (ap (λ (k : Kind). listed_at k (view_of x) c.edge-edge.result) (sym kind) ∙ sym (listed-same x y c.set_cell.ensures.view c.kind-kind.result c.edge-edge.result))
+    ∙ ap Some (sym (listed-known e (view_of y) (ap sizes_in c.set_cell.ensures.view ∙ t.serves.counts_are) c.kind-kind.result (values_at c.kind-kind.result (view_of y) c.edge-edge.result))))
 
 pub finish-place-requires-clause-serves : goal.finish-place-requires-clause-serves
 finish-place-requires-clause-serves g c =

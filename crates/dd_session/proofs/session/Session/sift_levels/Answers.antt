@@ -10,15 +10,15 @@ use Rattle.dd_session.specs.Siftings.{IsSiftTold}
 use Rattle.dd_session.specs.Turns.{seen_of}
 use Rattle.dd_session.proofs.Calls.{called, same_table, took_of}
 use Rattle.dd_session.proofs.SiftTellings.{found_sift, sift_told}
-use Rattle.dd_session.proofs.Swappings.{levels_are, levels_managed}
+use Rattle.dd_session.proofs.Swappings.{levels_are, levels_known}
 use Rattle.dd_session.proofs.session.Session.sift_levels.Goals as goal
 
 pub sift_shared-requires-clause-end : goal.sift_shared-requires-clause-end
 sift_shared-requires-clause-end g c =
     let d = known c.self.inside.pass in
     let e = known c.take-shared.new.pass in
-    subst (λ (s : Seen). last_end 0 c.args.blocks.now ≡ levels_of s.manager c.args.order) (sym c.self.view_is) c.requires.end
-    ∙ levels_managed c.self.inside.pass.seat.table_id d c.args.order
+    subst (λ (s : Seen). last_end 0 c.args.blocks.now ≡ levels_of s c.args.order) (sym c.self.view_is) c.requires.end
+    ∙ levels_known c.self.inside.pass.seat.table_id d c.self.inside.book.rows.spare c.args.order
     ∙ sym (levels_are d e c.take-shared.result (took_of c.take-shared.ensures.took c.take-shared.ensures.board) c.args.order)
 
 pub sift_shared-requires-clause-tells : goal.sift_shared-requires-clause-tells

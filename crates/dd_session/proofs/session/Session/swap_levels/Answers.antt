@@ -7,7 +7,7 @@ use Rattle.dd_session.specs.Reorderings.{IsSwapOf, crowded_in, levels_of}
 use Rattle.dd_session.specs.Sessions.{Seen}
 use Rattle.dd_session.specs.Turns.{seen_of}
 use Rattle.dd_session.proofs.Calls.{same_table, took_of}
-use Rattle.dd_session.proofs.Swappings.{found_swap, levels_are, levels_managed, numbers_taken, swap_of, swap_stored, told_swap}
+use Rattle.dd_session.proofs.Swappings.{found_swap, levels_are, levels_known, numbers_taken, swap_of, swap_stored, told_swap}
 use Rattle.dd_session.proofs.session.Session.swap_levels.Goals as goal
 
 pub settle_swap-requires-clause-serves : goal.settle_swap-requires-clause-serves
@@ -18,8 +18,8 @@ pub settle_swap-requires-clause-level : goal.settle_swap-requires-clause-level
 settle_swap-requires-clause-level g c =
     let d = known c.self.inside.pass in
     let e = known c.take-shared.new.pass in
-    let asked = subst (λ (s : Seen). c.args.level + 1 < levels_of s.manager c.args.order) (sym c.self.view_is) c.requires.level in
-    let managed = levels_managed c.self.inside.pass.seat.table_id d c.args.order in
+    let asked = subst (λ (s : Seen). c.args.level + 1 < levels_of s c.args.order) (sym c.self.view_is) c.requires.level in
+    let managed = levels_known c.self.inside.pass.seat.table_id d c.self.inside.book.rows.spare c.args.order in
     let taken = levels_are d e c.take-shared.result (took_of c.take-shared.ensures.took c.take-shared.ensures.board) c.args.order in
     omega (arith, asked, managed, taken)
 
