@@ -1,12 +1,13 @@
 //! Calls of a session that has few rows and has made few calls, where no memory is wanting.
 
-ghost use Rattle.std.specs.Prelude.{◌≡◌, ◌+◌, ◌<◌, length, IsTrue};
+ghost use Rattle.std.specs.Prelude.{◌≤◌, ◌≡◌, ◌+◌, ◌<◌, length, IsTrue};
 ghost use Rattle.edge_bits.specs.declared.edges.Kind.TheVariants as kinds;
 ghost use Rattle.group_sift.specs.Turns.{last_end};
 ghost use Rattle.dd_session.specs.Sessions.{HasRoom, IsLiveAs};
 
 use dd_session::{Blocks, Fetched, H, Manager, Refusal, Session, Sifted};
 use edge_bits::Kind;
+use function_laws::Order;
 use std::process::Abort;
 use std::sync::Wait;
 
@@ -123,18 +124,20 @@ pub fn swap_elements<R: Abort + Wait>(
     }
 }
 
-/// Sifts the variables in blocks.
+/// Sifts the variables in blocks, which end at so many levels.
 pub fn sift<R: Abort + Wait>(
     rt: &R,
     manager: &Manager,
     session: &mut Session,
     blocks: &mut Blocks,
+    levels: u32,
 ) -> Sifted
     requires own { session.old.manager ≡ manager.now }
-    requires end { last_end 0 blocks.old ≡ manager.now.vars }
+    requires end { last_end 0 blocks.old ≡ levels }
     ensures { (session.new.manager ≡ session.old.manager) × (session.new.number ≡ session.old.number) }
 {
     has_room(rt, session);
+    assert!(rt; session.levels(manager, Order::Variables) == levels);
     session.sift(rt, manager, blocks).value
 }
 
@@ -144,12 +147,14 @@ pub fn sift_elements<R: Abort + Wait>(
     manager: &Manager,
     session: &mut Session,
     blocks: &mut Blocks,
+    levels: u32,
 ) -> Sifted
     requires own { session.old.manager ≡ manager.now }
-    requires end { last_end 0 blocks.old ≡ manager.now.elements }
+    requires end { last_end 0 blocks.old ≡ levels }
     ensures { (session.new.manager ≡ session.old.manager) × (session.new.number ≡ session.old.number) }
 {
     has_room(rt, session);
+    assert!(rt; session.levels(manager, Order::Elements) == levels);
     session.sift_elements(rt, manager, blocks).value
 }
 
@@ -210,7 +215,7 @@ pub fn sweep<R: Abort + Wait>(rt: &R, manager: &Manager, session: &mut Session) 
     session.sweep(rt, manager).value.in_use
 }
 
-/// The value of a row at some bits.
+/// The value of a row at some bits, of which there are at least as many as variables.
 pub fn eval<R: Abort + Wait>(
     rt: &R,
     manager: &Manager,
@@ -219,7 +224,7 @@ pub fn eval<R: Abort + Wait>(
     bits: &[bool],
 ) -> i64
     requires own { session.old.manager ≡ manager.now }
-    requires bits { length bits.now ≡ manager.now.vars }
+    requires bits { manager.now.vars ≤ length bits.now }
     ensures { (session.new.manager ≡ session.old.manager) × (session.new.number ≡ session.old.number) }
 {
     has_room(rt, session);

@@ -19,7 +19,7 @@ fn sifted_in<R: Abort + Wait>(rt: &R, alloc: Global, limit: u32, blocks: &mut Bl
         panic!(rt; "not opened");
     };
     let f = pairs(rt, &manager, &mut session);
-    let sifted = sift(rt, &manager, &mut session, blocks);
+    let sifted = sift(rt, &manager, &mut session, blocks, 4);
     assert!(rt; is_pairs(rt, &manager, &mut session, f));
     assert!(rt; sweep(rt, &manager, &mut session) == sifted.after && session.fulls() == 0);
     sifted
@@ -77,7 +77,7 @@ fn elements_without_families(rt: HostRuntime) -> Result<(), Fail> {
         panic!(rt; "not opened");
     };
     let mut blocks = Blocks::one(rt.alloc(), 4)?;
-    let sifted = sift_elements(&rt, &manager, &mut session, &mut blocks);
+    let sifted = sift_elements(&rt, &manager, &mut session, &mut blocks, 4);
     assert!(rt;
         sifted
             == Sifted {

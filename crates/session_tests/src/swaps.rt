@@ -69,7 +69,7 @@ pub fn pairs<R: Abort + Wait>(rt: &R, manager: &Manager, session: &mut Session) 
     f
 }
 
-/// Whether the row has the value of x0 x2 + x1 x3 everywhere.
+/// Whether the row has the value of x0 x2 + x1 x3 everywhere, whatever bits are told behind those of the four variables.
 pub fn is_pairs<R: Abort + Wait>(rt: &R, manager: &Manager, session: &mut Session, f: H) -> bool
     requires own { session.old.manager ≡ manager.now }
     requires variables { manager.now.vars ≡ 4 }
@@ -83,6 +83,7 @@ pub fn is_pairs<R: Abort + Wait>(rt: &R, manager: &Manager, session: &mut Sessio
         let d = number / 8 % 2 == 1;
         let value = eval(rt, manager, session, f, &[a, b, c, d]);
         all = all && (value == 1) == (a && c || b && d);
+        all = all && eval(rt, manager, session, f, &[a, b, c, d, !a, b]) == value;
     }
     all
 }
