@@ -13,7 +13,7 @@ use Rattle.net_reports.specs.declared.classes.Class.{Class}
 use Rattle.net_builds.specs.Standings.{Asks, Lists, Standing, values_of}
 use Rattle.net_builds.specs.Tellings.{AreClassed, value_in, values_in}
 use Rattle.net_builds.proofs.Mapped.{length_same, map_same}
-use Rattle.net_builds.proofs.Told.{stands_in, value_of_row}
+use Rattle.net_builds.proofs.TellingLemmas.{stands_in, value_of_row}
 
 -- the function that the name at a place stands for
 function_at : (s : Standing) (names : List Name) (functions : List (ℕ → Bool)) → map s.stands names ≡ map (values_of s.vars) functions → (i : ℕ) (name : Name)

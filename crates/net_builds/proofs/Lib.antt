@@ -5,6 +5,7 @@ pub mod HandedLaw
 pub mod InTurn
 pub mod Mapped
 pub mod NamesOnce
+pub mod OnceEach
 pub mod OutputNames
 pub mod Passing
 pub mod ProductLemmas
@@ -13,7 +14,7 @@ pub mod RowLemmas
 pub mod SameReports
 pub mod SignalSteps
 pub mod StandingLemmas
-pub mod Told
+pub mod TellingLemmas
 pub mod ToldLaws
 pub mod UseLemmas
 mod WorkedHistory

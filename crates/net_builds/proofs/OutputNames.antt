@@ -49,7 +49,8 @@ own_rows net own last next s rows uses bounded built behind k d less =
 -- the noted names stand for the outputs' functions
 pub all_hold : (s : Standing) (net : Net) (rows : List (Option Name)) → ((signal : ℕ) (name : Name) → row_at rows signal ≡ Some name → Holds s name (signal_value net signal))
     → (outputs : List Output) (names : List Name) → length names ≡ length outputs
-    → ((i d : ℕ) (e : Name) → i < length outputs → row_at rows (get_or (map (λ (output : Output). output.signal) outputs) i d) ≡ Some (get_or names i e)) → AllHold s net outputs names
+    → ((i d : ℕ) (e : Name) → i < length outputs → row_at rows (get_or (map (λ (output : Output). output.signal) outputs) i d) ≡ Some (get_or names i e))
+    → AllHold s (map (λ (output : Output). signal_value net output.signal) outputs) names
 all_hold s net rows held [] [] long noted = tt
 all_hold s net rows held [] (name ∷ names) long noted = absurd (omega (arith, long))
 all_hold s net rows held (output ∷ outputs) [] long noted = absurd (omega (arith, long))

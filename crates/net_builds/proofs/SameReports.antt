@@ -1,17 +1,20 @@
 -- What is told of functions of n variables depends on their values below 2 ^ n alone.
-use Rattle.std.proofs.Common.{◌≡◌, ℕ, zero, suc, ◌+◌, ◌<◌, ◌≤◌, ◌^◌, Bool, List, [], ◌∷◌, length, map, take, refl, ap, sym, ◌∙◌, subst, arith, inl, inr, pow_mono}
+use Rattle.std.proofs.Common.{◌≡◌, ℕ, suc, ◌<◌, ◌≤◌, ◌^◌, Bool, List, [], ◌∷◌, length, map, take, refl, ap, sym, ◌∙◌, subst, arith, inl, inr, pow_mono, All}
+use Rattle.std.specs.Prelude.{IsPermutation}
 use Rattle.std.specs.List.{range_with_len}
 use Rattle.std.proofs.lemmas.List.{length-take}
-use Rattle.std.proofs.lemmas.List.FromFn.{length-range_with_len}
+use Rattle.std.proofs.lemmas.List.FromFn.{get_or-range_with_len, length-range_with_len}
+use Rattle.std.proofs.lemmas.List.Sorted.{All-permutation, length_permutation}
 use Rattle.function_laws.proofs.BitLists.{assignment_of-below}
 use Rattle.function_laws.proofs.DistinctLemmas.{In}
 use Rattle.net_reports.specs.Classes.{Function}
 use Rattle.net_reports.specs.Evaluations.{assignment, evaluation_at, values_at}
-use Rattle.net_reports.specs.Reports.{IsReport, IsSummary, Subject, count_firsts, node_count, report_text, summary_text}
+use Rattle.net_reports.specs.Reports.{count_firsts, node_count, report_text, summary_text}
 use Rattle.net_reports.specs.declared.patterns.Evaluation.{Evaluation}
 use Rattle.diagram_dumps.specs.Agreement.{AreSame}
 use Rattle.diagram_dumps.proofs.Sameness.{size_same}
 use Rattle.net_reports.proofs.SameClasses.{classes_same}
+use Rattle.net_builds.specs.Builds.{ReportsOf, SumsUpOf}
 
 -- a pattern's assignment
 pub assignment_below : (n : ℕ) (pattern : List Bool) → assignment n pattern < 2 ^ n
@@ -36,36 +39,37 @@ evaluations_same n fs gs same (pattern ∷ patterns) =
     ap (λ (one : Evaluation). one ∷ map (evaluation_at n fs) patterns) (ap with_values (values_same n fs gs same pattern))
     ∙ ap (λ (rest : List Evaluation). evaluation_at n gs pattern ∷ rest) (evaluations_same n fs gs same patterns)
 
-In_range : (v from count : ℕ) → In v (range_with_len from count) → v < from + count
-In_range v from zero i = absurd i
-In_range v from (suc count) (inl e) = omega (arith, e)
-In_range v from (suc count) (inr i) = let less = In_range v (from + 1) count i in omega (arith, less)
+in_all : (n : ℕ) (vs : List ℕ) → All (λ v. v < n) vs → (v : ℕ) → In v vs → v < n
+in_all n [] all v i = absurd i
+in_all n (x ∷ vs) all v (inl is) = omega (arith, is, all 0 x (omega arith))
+in_all n (x ∷ vs) all v (inr i) = in_all n vs (λ k d less. all (suc k) d (omega (arith, less))) v i
 
--- under the order 0, 1, 2, ..
-nodes_same : (n : ℕ) (fs gs : List Function) → AreSame n fs gs → node_count (range_with_len 0 n) fs ≡ node_count (range_with_len 0 n) gs
-nodes_same n fs gs same =
-    let order : List ℕ = range_with_len 0 n in
-    let wide : length order ≡ n = length-range_with_len 0 n in
-    size_same (record { variables = order; elements = [] }) (λ v i. let less = In_range v 0 n i in omega (arith, less, wide)) fs gs
+range_below : (n : ℕ) → All (λ v. v < n) (range_with_len 0 n)
+range_below n k d less = omega (arith, less, length-range_with_len 0 n, get_or-range_with_len 0 n k d (omega (arith, less, length-range_with_len 0 n)))
+
+-- under an order of the n variables
+nodes_same : (n : ℕ) (order : List ℕ) → IsPermutation (range_with_len 0 n) order → (fs gs : List Function) → AreSame n fs gs → node_count order fs ≡ node_count order gs
+nodes_same n order once fs gs same =
+    let wide : length order ≡ n = length_permutation (range_with_len 0 n) order once ∙ length-range_with_len 0 n in
+    let below = All-permutation (λ v. v < n) (range_with_len 0 n) order once (range_below n) in
+    size_same (record { variables = order; elements = [] }) (λ v i. omega (arith, in_all n order below v i, wide)) fs gs
     (subst (λ m. AreSame m fs gs) (sym wide) same)
 
--- these functions of n variables, under the order 0, 1, 2, ..
-abbrev pub told_of : ℕ → List (List ℕ) → List (List Bool) → List Function → Subject
-told_of n names patterns functions = record { n = n; names = names; functions = functions; order = range_with_len 0 n; patterns = patterns }
-
-module _ (n : ℕ) (names : List (List ℕ)) (patterns : List (List Bool)) (fs gs : List Function) (same : AreSame n fs gs) where
-  pub report_same : (text : List ℕ) → IsReport (told_of n names patterns fs) text → IsReport (told_of n names patterns gs) text
-  report_same text is = record {
+module _ (n : ℕ) (names : List (List ℕ)) (patterns : List (List Bool)) (fs gs : List Function) (same : AreSame n fs gs) (order text : List ℕ) where
+  pub report_same : ReportsOf n names patterns fs order text → ReportsOf n names patterns gs order text
+  report_same is = record {
+    orders = is.orders;
     classes = is.classes;
     are_classes = classes_same n fs gs same is.classes is.are_classes;
     bytes = is.bytes
-        ∙ ap (λ (evaluations : List Evaluation). report_text n names is.classes evaluations (range_with_len 0 n) (node_count (range_with_len 0 n) fs)) (evaluations_same n fs gs same patterns)
-        ∙ ap (report_text n names is.classes (map (evaluation_at n gs) patterns) (range_with_len 0 n)) (nodes_same n fs gs same);
+        ∙ ap (λ (evaluations : List Evaluation). report_text n names is.classes evaluations order (node_count order fs)) (evaluations_same n fs gs same patterns)
+        ∙ ap (report_text n names is.classes (map (evaluation_at n gs) patterns) order) (nodes_same n order is.orders fs gs same);
   }
 
-  pub summary_same : (text : List ℕ) → IsSummary (told_of n names patterns fs) text → IsSummary (told_of n names patterns gs) text
-  summary_same text is = record {
+  pub summary_same : SumsUpOf n names fs order text → SumsUpOf n names gs order text
+  summary_same is = record {
+    orders = is.orders;
     classes = is.classes;
     are_classes = classes_same n fs gs same is.classes is.are_classes;
-    bytes = is.bytes ∙ ap (summary_text n (length names) (count_firsts is.classes)) (nodes_same n fs gs same);
+    bytes = is.bytes ∙ ap (summary_text n (length names) (count_firsts is.classes)) (nodes_same n order is.orders fs gs same);
   }

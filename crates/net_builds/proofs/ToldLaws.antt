@@ -1,11 +1,9 @@
--- What the first session told is true of the network's outputs.
+-- What the first session told is true of the wanted functions.
 use Rattle.std.proofs.Common.{◌≡◌, ℕ, zero, suc, ◌+◌, ◌<◌, ◌≤◌, ◌==◌, ◌⊎◌, ◌^◌, Bool, true, false, cond, List, [], ◌∷◌, ◌++◌, length, map, take, refl, ap, sym, ◌∙◌, subst, arith, inl, inr, eq-eqb, All}
 use Rattle.std.specs.List.{Contains, range_with_len}
 use Rattle.std.proofs.lemmas.Bool.{cases_eq}
-use Rattle.std.proofs.lemmas.List.Elements.{All-contains}
-use Rattle.blif_net.specs.declared.net.Net.{Net}
-use Rattle.blif_net.specs.declared.net.Output.{Output}
-use Rattle.blif_net.specs.Networks.{signal_value}
+use Rattle.std.proofs.lemmas.List.Elements.{All-cons, All-contains, All-head, All-nil, All-tail, Contains-push}
+use Rattle.std.proofs.Math.ListN.{drop}
 use Rattle.function_laws.specs.declared.history.Call.TheVariants as calls
 use Rattle.function_laws.specs.declared.history.Entry.{Entry}
 use Rattle.function_laws.specs.declared.history.Function.TheVariants.{Bdd}
@@ -22,9 +20,9 @@ use Rattle.function_laws.proofs.DistinctLemmas.{In}
 use Rattle.function_laws.proofs.ListLemmas.{same-list_of}
 use Rattle.net_builds.proofs.Contained.{all-has, has-contained}
 use Rattle.net_builds.proofs.HandedLaw.{Has, handed-law}
-use Rattle.net_builds.specs.Builds.{AllGain, AllHandedOver, Builds, IsHandedOver, IsLegalHistoryOf}
+use Rattle.net_builds.specs.Builds.{AllGain, AllHandedOver, AreUnsifted, Builds, IsDelivered, IsLegalHistoryOf}
 use Rattle.net_builds.specs.Handings.{AreInTurn, IsKnown}
-use Rattle.net_builds.specs.Standings.{IsPlain, Note, Standing, values_of}
+use Rattle.net_builds.specs.Standings.{KeepsOrders, Note, Standing, values_of}
 use Rattle.net_builds.specs.declared.handing.Handover.{Handover}
 use Rattle.diagram_dumps.specs.Agreement.{AreSame, IsSame}
 
@@ -60,33 +58,58 @@ has_take (suc k) [] e has = absurd has
 has_take (suc k) (x ∷ log) e (inl is) = inl is
 has_take (suc k) (x ∷ log) e (inr has) = inr (has_take k log e has)
 
--- plain entries leave the orders
-plain_orders : (log : List Entry) → ((e : Entry) → Has e log → IsPlain e) → (orders : Orders) → orders_from orders log ≡ orders
-plain_orders [] plain orders = refl
-plain_orders (x ∷ log) plain orders =
-    ap (λ (o : Orders). orders_from o log) ((plain x (inl refl)).ordered orders) ∙ plain_orders log (λ e has. plain e (inr has)) orders
+-- entries that leave the orders, one after another
+kept_orders : (log : List Entry) → ((e : Entry) → Has e log → KeepsOrders e) → (orders : Orders) → orders_from orders log ≡ orders
+kept_orders [] keep orders = refl
+kept_orders (x ∷ log) keep orders =
+    ap (λ (o : Orders). orders_from o log) (keep x (inl refl) orders) ∙ kept_orders log (λ e has. keep e (inr has)) orders
 
--- the entries of a session that gained such entries, where some session has this number
-owner : (handovers : List Handover) (log : List Entry) (p : ℕ) (old new : List Standing) → AllGain handovers old new → All (λ (s : Standing). s.entries ≡ []) old
-    → All (λ (s : Standing). entries_of s.number log ≡ s.entries) new
-    → ((e : Entry) → Has e (entries_of p log) → IsKnown handovers e) ⊎ All (λ (s : Standing). s.number ≡ p → ⊥) new
-owner handovers log p [] [] gains fresh each = inr (λ k d inside. absurd (omega (arith, inside)))
-owner handovers log p [] (b ∷ new) gains fresh each = absurd gains
-owner handovers log p (a ∷ old) [] gains fresh each = absurd gains
-owner handovers log p (a ∷ old) (b ∷ new) (gained, are, known, vars, number, rest) fresh each = elim (cases_eq b.number p) [
+-- the session's entries are such
+abbrev AllOf : (Entry → Type 0) → Standing → Type 0
+AllOf P s = All P s.entries
+
+-- what sessions gained that had made no call is all that they did
+gained_all : (cell : ℕ) (handovers : List Handover) (old new : List Standing) → AllGain cell handovers old new → All (λ (s : Standing). s.entries ≡ []) old
+    → All (AllOf (IsKnown cell handovers)) new
+gained_all cell handovers [] [] gains fresh = All-nil (AllOf (IsKnown cell handovers))
+gained_all cell handovers [] (b ∷ new) gains fresh = absurd gains
+gained_all cell handovers (a ∷ old) [] gains fresh = absurd gains
+gained_all cell handovers (a ∷ old) (b ∷ new) (gained, are, known, vars, number, rest) fresh =
+    let none : a.entries ≡ [] = All-head (λ (s : Standing). s.entries ≡ []) a old fresh in
+    All-cons (AllOf (IsKnown cell handovers)) b new
+    (subst (All (IsKnown cell handovers)) (sym (are ∙ ap (λ (es : List Entry). es ++ gained) none)) known)
+    (gained_all cell handovers old new rest (All-tail (λ (s : Standing). s.entries ≡ []) a old fresh))
+
+unsifted_all : (old new : List Standing) → AreUnsifted old new → All (λ (s : Standing). s.entries ≡ []) old → All (AllOf KeepsOrders) new
+unsifted_all [] [] unsifted fresh = All-nil (AllOf KeepsOrders)
+unsifted_all [] (b ∷ new) unsifted fresh = absurd unsifted
+unsifted_all (a ∷ old) [] unsifted fresh = absurd unsifted
+unsifted_all (a ∷ old) (b ∷ new) unsifted fresh =
+    let none : a.entries ≡ [] = All-head (λ (s : Standing). s.entries ≡ []) a old fresh in
+    All-cons (AllOf KeepsOrders) b new
+    (subst (λ (es : List Entry). All KeepsOrders (drop (length es) b.entries)) none unsifted.0)
+    (unsifted_all old new unsifted.1 (All-tail (λ (s : Standing). s.entries ≡ []) a old fresh))
+
+-- the entries of a session are such, where some session has this number
+owner : (P : Entry → Type 0) (log : List Entry) (p : ℕ) (new : List Standing) → All (AllOf P) new → All (λ (s : Standing). entries_of s.number log ≡ s.entries) new
+    → ((e : Entry) → Has e (entries_of p log) → P e) ⊎ All (λ (s : Standing). s.number ≡ p → ⊥) new
+owner P log p [] all each = inr (All-nil (λ (s : Standing). s.number ≡ p → ⊥))
+owner P log p (b ∷ new) all each = elim (cases_eq b.number p) [
   | inl same ↦ (
-      let all : entries_of p log ≡ gained =
-      ap (λ m. entries_of m log) (sym same) ∙ each 0 b (omega arith) ∙ are ∙ ap (λ (es : List Entry). es ++ gained) (fresh 0 a (omega arith)) in
-      inl (λ e has. all-has (IsKnown handovers) gained known e (subst (λ es. Has e es) all has)))
-  | inr other ↦ elim (owner handovers log p old new rest (λ k d inside. fresh (suc k) d (omega (arith, inside))) (λ k d inside. each (suc k) d (omega (arith, inside)))) [
+      let are : entries_of p log ≡ b.entries = ap (λ m. entries_of m log) (sym same) ∙ All-head (λ (s : Standing). entries_of s.number log ≡ s.entries) b new each in
+      inl (λ e has. all-has P b.entries (All-head (AllOf P) b new all) e (subst (λ es. Has e es) are has)))
+  | inr other ↦ elim (owner P log p new (All-tail (AllOf P) b new all) (All-tail (λ (s : Standing). entries_of s.number log ≡ s.entries) b new each)) [
     | inl all ↦ inl all
-    | inr none ↦ inr (none_cons none other)
+    | inr none ↦ inr (All-cons (λ (s : Standing). s.number ≡ p → ⊥) b new other none)
   ]
 ]
-  where
-    none_cons : All (λ (s : Standing). s.number ≡ p → ⊥) new → (b.number ≡ p → ⊥) → All (λ (s : Standing). s.number ≡ p → ⊥) (b ∷ new)
-    none_cons none here zero d inside = here
-    none_cons none here (suc k) d inside = none k d (omega (arith, inside))
+
+-- and so are those of the history
+all_of_history : (P : Entry → Type 0) (sizes : Sizes) (log : List Entry) (new : List Standing) → All (AllOf P) new → IsLegalHistoryOf sizes log new → (e : Entry) → Has e log → P e
+all_of_history P sizes log new all history e has = elim (owner P log e.session new all history.each) [
+  | inl all ↦ all e (own_has log e has)
+  | inr none ↦ absurd (subst (λ es. Has e es) (history.no_other e.session none) (own_has log e has))
+]
 
 -- handovers in turn
 turn_of : (low : ℕ) (hs : List Handover) (h : Handover) → AreInTurn low hs → In h hs → (low ≤ h.post) × (h.post < h.fetch)
@@ -117,21 +140,18 @@ same_values n f g is =
     let lists : list_of (2 ^ n) f ≡ list_of (2 ^ n) g = cc in
     same-list_of (2 ^ n) f g lists
 
--- A legal history of sessions which had made no call, and gained plain entries that post to the first cell in these handovers alone.
-module _ (n : ℕ) (sizes : Sizes) (log : List Entry) (old new : List Standing) (handovers : List Handover) (first : Standing) (has_first : Contains new first)
+-- A legal history of sessions which had made no call, and gained entries that add nothing and post to the cell in these handovers alone.
+module _ (n : ℕ) (sizes : Sizes) (log : List Entry) (old new : List Standing) (cell : ℕ) (handovers : List Handover) (first : Standing) (has_first : Contains new first)
     (wide : All (λ (s : Standing). s.vars ≡ n) new) (fresh : All (λ (s : Standing). s.entries ≡ []) old) (history : IsLegalHistoryOf sizes log new)
-    (turns : AreInTurn 0 handovers) (gains : AllGain handovers old new) where
-  known : (e : Entry) → Has e log → IsKnown handovers e
-  known e has = elim (owner handovers log e.session old new gains fresh history.each) [
-    | inl all ↦ all e (own_has log e has)
-    | inr none ↦ absurd (subst (λ es. Has e es) (history.no_other e.session none) (own_has log e has))
-  ]
+    (turns : AreInTurn 0 handovers) (gains : AllGain cell handovers old new) where
+  known : (e : Entry) → Has e log → IsKnown cell handovers e
+  known = all_of_history (IsKnown cell handovers) sizes log new (gained_all cell handovers old new gains fresh) history
 
-  -- between a post and its fetch none posts to the first cell
-  alone : (h : Handover) → In h handovers → (e : Entry) → Has e log → h.post < e.place → e.place < h.fetch → posts_to 0 e.call ≡ false
-  alone h i e has after before = by (posts_to 0 e.call) refl
+  -- between a post and its fetch none posts to the cell
+  alone : (h : Handover) → In h handovers → (e : Entry) → Has e log → h.post < e.place → e.place < h.fetch → posts_to cell e.call ≡ false
+  alone h i e has after before = by (posts_to cell e.call) refl
     where
-      by : (b : Bool) → posts_to 0 e.call ≡ b → posts_to 0 e.call ≡ false
+      by : (b : Bool) → posts_to cell e.call ≡ b → posts_to cell e.call ≡ false
       by false is = is
       by true is =
           let one = posted_by handovers e.place (contains_in (map (λ (x : Handover). x.post) handovers) e.place ((known e has).1 is)) in
@@ -149,56 +169,61 @@ module _ (n : ℕ) (sizes : Sizes) (log : List Entry) (old new : List Standing) 
   wide_of s among = All-contains (λ (x : Standing). x.vars ≡ n) new s wide among
 
   -- what the first session fetched is what was built
-  handed_same : (net : Net) (output : Output) (h : Handover) (giver : Standing) → In h handovers → Contains new giver → IsHandedOver net output giver first h
-      → (f : ℕ → Bool) → first.stands h.to ≡ values_of first.vars f → IsSame n f (signal_value net output.signal)
-  handed_same net output h giver i among handed f stands =
-      let g = signal_value net output.signal in
+  handed_same : (g : ℕ → Bool) (h : Handover) (giver : Standing) → In h handovers → Contains new giver → IsDelivered cell g giver first h
+      → (f : ℕ → Bool) → first.stands h.to ≡ values_of first.vars f → IsSame n f g
+  handed_same g h giver i among handed f stands =
       let turn = turn_of 0 handovers h turns i in
       let agreed : Bdd (list_of (2 ^ n) g) ≡ Bdd (list_of (2 ^ n) f) =
-      handed-law sizes log history.legal (λ e has. (known e has).0.unnumbered) 0
-      (entry h.post giver.number (calls.Post 0 h.from) replies.Done) (entry h.fetch first.number (calls.Fetch 0 h.other) (replies.Fetched h.to true)) h.from h.to
+      handed-law sizes log history.legal (λ e has. (known e has).0) cell
+      (entry h.post giver.number (calls.Post cell h.from) replies.Done) (entry h.fetch first.number (calls.Fetch cell h.other) (replies.Fetched h.to true)) h.from h.to
       (entries_in giver among _ handed.passed.0) (entries_in first has_first _ handed.passed.1) turn.1
-      (λ e has after before. ((known e has).0.unnumbered, alone h i e has after before))
+      (λ e has after before. ((known e has).0, alone h i e has after before))
       refl refl h.other refl refl (Bdd (list_of (2 ^ n) g)) (Bdd (list_of (2 ^ n) f))
       (row_of giver among h.from ∙ handed.built.stands ∙ ap (λ m. values_of m g) (wide_of giver among))
       (row_of first has_first h.to ∙ stands ∙ ap (λ m. values_of m f) (wide_of first has_first)) in
       same_values n f g (sym agreed)
 
-  all_same : (net : Net) (outputs : List Output) (hs : List Handover) (functions : List (ℕ → Bool)) → ((h : Handover) → In h hs → In h handovers)
-      → AllHandedOver net outputs new first hs → map first.stands (map (λ (h : Handover). h.to) hs) ≡ map (values_of first.vars) functions
-      → AreSame n functions (map (λ (output : Output). signal_value net output.signal) outputs)
-  all_same net [] [] [] among handed stand = tt
-  all_same net [] [] (f ∷ functions) among handed stand = absurd (cc stand)
-  all_same net [] (h ∷ hs) functions among handed stand = absurd handed
-  all_same net (output ∷ outputs) [] functions among handed stand = absurd handed
-  all_same net (output ∷ outputs) (h ∷ hs) [] among handed stand = absurd (cc stand)
-  all_same net (output ∷ outputs) (h ∷ hs) (f ∷ functions) among handed stand =
+  all_same : (wanted : List (ℕ → Bool)) (hs : List Handover) (functions : List (ℕ → Bool)) → ((h : Handover) → In h hs → In h handovers)
+      → AllHandedOver cell wanted new first hs → map first.stands (map (λ (h : Handover). h.to) hs) ≡ map (values_of first.vars) functions
+      → AreSame n functions wanted
+  all_same [] [] [] among handed stand = tt
+  all_same [] [] (f ∷ functions) among handed stand = absurd (cc stand)
+  all_same [] (h ∷ hs) functions among handed stand = absurd handed
+  all_same (g ∷ wanted) [] functions among handed stand = absurd handed
+  all_same (g ∷ wanted) (h ∷ hs) [] among handed stand = absurd (cc stand)
+  all_same (g ∷ wanted) (h ∷ hs) (f ∷ functions) among handed stand =
       let here : first.stands h.to ≡ values_of first.vars f = cc in
       let later : map first.stands (map (λ (x : Handover). x.to) hs) ≡ map (values_of first.vars) functions = cc in (
-        handed_same net output h handed.0.0 (among h (inl refl)) handed.0.1 handed.0.2 f here,
-        all_same net outputs hs functions (λ x i. among x (inr i)) handed.1 later,
+        handed_same g h handed.0.0 (among h (inl refl)) handed.0.1 handed.0.2 f here,
+        all_same wanted hs functions (λ x i. among x (inr i)) handed.1 later,
       )
 
-  -- what it noted is the order 0, 1, 2, ..
-  noted_order : sizes.variables ≡ n → (note : Note) → Contains first.notes note → note.order ≡ range_with_len 0 n
-  noted_order all note noted =
-      let is : (orders_from (opening_orders sizes) (take note.place log)).variables ≡ note.order =
+  -- what it noted is the order that the entries below leave
+  noted_order : (note : Note) → Contains first.notes note → (orders_from (opening_orders sizes) (take note.place log)).variables ≡ note.order
+  noted_order note noted =
       All-contains (λ (x : Note). (orders_from (opening_orders sizes) (take x.place log)).variables ≡ x.order) first.notes note
-      (All-contains (λ (s : Standing). All (λ (x : Note). (orders_from (opening_orders sizes) (take x.place log)).variables ≡ x.order) s.notes) new first history.noted has_first) noted in
-      sym is ∙ ap (λ (o : Orders). o.variables) (plain_orders (take note.place log) (λ e has. (known e (has_take note.place log e has)).0) (opening_orders sizes)) ∙ ap (range_with_len 0) all
+      (All-contains (λ (s : Standing). All (λ (x : Note). (orders_from (opening_orders sizes) (take x.place log)).variables ≡ x.order) s.notes) new first history.noted has_first) noted
 
--- What is told of functions under the order 0, 1, 2, .. and depends on their values at n variables alone, is told of the network's outputs.
-pub told_true : (Tells : List (ℕ → Bool) → List ℕ → List ℕ → Type 0) (net : Net) (sizes : Sizes) (log : List Entry) (old new : List Standing) (text : List ℕ)
-    → sizes.variables ≡ length net.inputs → All (λ (s : Standing). s.vars ≡ length net.inputs) new → All (λ (s : Standing). s.entries ≡ []) old
-    → IsLegalHistoryOf sizes log new → Builds Tells net old new text
-    → (functions : List (ℕ → Bool)) × AreSame (length net.inputs) functions (map (λ (output : Output). signal_value net output.signal) net.outputs)
-    × Tells functions (range_with_len 0 (length net.inputs)) text
-told_true Tells net sizes log old new text all wide fresh history builds =
-    let n : ℕ = length net.inputs in
-    let has_first : Contains new builds.first = subst (λ (ss : List Standing). Contains ss builds.first) (sym builds.new_is) (0, omega arith, refl) in (
-      builds.functions,
-      all_same n sizes log old new builds.handovers builds.first has_first wide fresh history builds.turns builds.gains net net.outputs builds.handovers builds.functions
-          (λ h i. i) builds.handed builds.stand,
-      subst (λ order. Tells builds.functions order text)
-          (noted_order n sizes log old new builds.handovers builds.first has_first wide fresh history builds.turns builds.gains all builds.note builds.noted) builds.tells,
-    )
+module _ (Tells : List (ℕ → Bool) → List ℕ → List ℕ → Type 0) (n : ℕ) (wanted : List (ℕ → Bool)) (sizes : Sizes) (log : List Entry) (old new : List Standing) (cell : ℕ) (text : List ℕ)
+    (wide : All (λ (s : Standing). s.vars ≡ n) new) (fresh : All (λ (s : Standing). s.entries ≡ []) old)
+    (history : IsLegalHistoryOf sizes log new) (builds : Builds Tells cell wanted old new text) where
+  has_first : Contains new builds.first
+  has_first = subst (λ (ss : List Standing). Contains ss builds.first) (sym builds.new_is) (0, omega arith, refl)
+
+  -- the functions that were told of have the values of the wanted ones
+  pub told_same : AreSame n builds.functions wanted
+  told_same =
+      all_same n sizes log old new cell builds.handovers builds.first has_first wide fresh history builds.turns builds.gains wanted builds.handovers builds.functions
+      (λ h i. i) builds.handed builds.stand
+
+  -- the order that was noted behind the earlier notes is that of the history
+  pub told_order : (orders_from (opening_orders sizes) (take builds.note.place log)).variables ≡ builds.note.order
+  told_order =
+      noted_order n sizes log old new cell builds.handovers builds.first has_first wide fresh history builds.turns builds.gains builds.note
+      (subst (λ (notes : List Note). Contains notes builds.note) (sym builds.noted) (Contains-push builds.before.notes builds.note))
+
+  -- and where none swapped or sifted, it is 0, 1, 2, ..
+  pub unsifted_order : sizes.variables ≡ n → AreUnsifted old new → builds.note.order ≡ range_with_len 0 n
+  unsifted_order all unsifted =
+      let keep = all_of_history KeepsOrders sizes log new (unsifted_all old new unsifted fresh) history in
+      sym told_order ∙ ap (λ (o : Orders). o.variables) (kept_orders (take builds.note.place log) (λ e has. keep e (has_take builds.note.place log e has)) (opening_orders sizes)) ∙ ap (range_with_len 0) all

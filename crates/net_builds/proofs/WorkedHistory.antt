@@ -3,6 +3,7 @@ use Rattle.std.proofs.Common.{◌≡◌, ℕ, zero, suc, true, false, cond, List
 use Rattle.std.specs.Prelude.{Some, None, slice_get}
 use Rattle.std.specs.List.{All}
 use Rattle.std.specs.Fmt.{digits}
+use Rattle.std.proofs.lemmas.List.Sorted.{IsPermutation-refl}
 use Rattle.std.proofs.lemmas.Option.{slice_get_within}
 use Rattle.edge_bits.specs.declared.limits.TheConstants.{CELLS}
 use Rattle.edge_bits.specs.Assignments.{set_bit}
@@ -26,11 +27,12 @@ use Rattle.function_laws.specs.Tables.{Sizes, opening}
 use Rattle.function_laws.specs.Values.{constant, projection}
 use Rattle.net_builds.proofs.HandedLaw.{Has}
 use Rattle.net_reports.specs.Classes.{AreClasses, Function as Values, IsClass}
-use Rattle.net_reports.specs.Reports.{report_text}
+use Rattle.net_reports.specs.Reports.{output_functions, report_text}
 use Rattle.net_reports.specs.declared.classes.Class.{Class}
 use Rattle.net_builds.specs.Builds.{Builds, IsLegalHistoryOf, Reports}
 use Rattle.net_builds.specs.Handings.{IsKnown}
-use Rattle.net_builds.specs.Standings.{IsPlain, Note, Standing}
+use Rattle.net_builds.specs.Handed.{IsPlain}
+use Rattle.net_builds.specs.Standings.{Note, Standing}
 use Rattle.net_builds.specs.declared.handing.Handover.{Handover}
 
 abbrev name : ℕ → Name
@@ -126,8 +128,8 @@ history = record {
   no_other = no_other;
 }
 
--- an entry that posts to no cell is known
-quiet : (e : Entry) → IsPlain e → posts_to 0 e.call ≡ false → IsKnown (handover ∷ []) e
+-- an entry that does not post to the cell is known
+quiet : (e : Entry) → IsPlain e → posts_to 0 e.call ≡ false → IsKnown 0 (handover ∷ []) e
 quiet e plain posts = (plain, λ is. absurd (true≢false (sym is ∙ posts)))
 
 abbrev own_class : Class
@@ -148,10 +150,13 @@ one_class = record { as_many = refl; each = each }
     each (suc i) class at = absurd (let less = slice_get_within (own_class ∷ []) (suc i) class at in omega (arith, less))
 
 -- the two built the output and told of it
-told : Builds (Reports net []) net (before 0 ∷ before 1 ∷ []) (first ∷ second ∷ []) (codes "inputs 1\noutputs 1\nout 0 f 0 +\norder 0\nnodes 2\n")
+told : Builds (Reports net []) 0 (output_functions net) (before 0 ∷ before 1 ∷ []) (first ∷ second ∷ []) (codes "inputs 1\noutputs 1\nout 0 f 0 +\norder 0\nnodes 2\n")
 unfolding list_of value_within report_text digits all_below all_parts distinct parts set_bit
 told = record {
   handovers = handover ∷ [];
+  before = before 0;
+  others = before 1 ∷ [];
+  old_is = refl;
   first = first;
   rest = second ∷ [];
   new_is = refl;
@@ -160,22 +165,22 @@ told = record {
   gains = (
     other ∷ fetch ∷ [],
     refl,
-    all_two (IsKnown (handover ∷ [])) other fetch (quiet other (record { unnumbered = refl; ordered = λ orders. refl }) refl) (quiet fetch (record { unnumbered = refl; ordered = λ orders. refl }) refl),
+    all_two (IsKnown 0 (handover ∷ [])) other fetch (quiet other refl refl) (quiet fetch refl refl),
     refl,
     refl,
     (
       built ∷ post ∷ [],
       refl,
-      all_two (IsKnown (handover ∷ [])) built post (quiet built (record { unnumbered = refl; ordered = λ orders. refl }) refl)
-          (record { unnumbered = refl; ordered = λ orders. refl }, λ posts. (0, omega arith, refl)),
+      all_two (IsKnown 0 (handover ∷ [])) built post (quiet built refl refl)
+          (refl, λ posts. (0, omega arith, refl)),
       refl,
       refl,
       tt,
     ),
   );
   note = note;
-  noted = (0, omega arith, refl);
+  noted = refl;
   functions = projection 0 ∷ [];
   stand = refl;
-  tells = record { classes = own_class ∷ []; are_classes = one_class; bytes = refl };
+  tells = record { orders = IsPermutation-refl (0 ∷ []); classes = own_class ∷ []; are_classes = one_class; bytes = refl };
 }

@@ -1,9 +1,7 @@
--- What sessions build of a network, hand over and report.
-use Rattle.std.specs.Prelude.{◌≡◌, ℕ, Bool, List, [], ◌∷◌, ◌++◌, All, Contains, length, map, take}
+-- What sessions build, hand over and report.
+use Rattle.std.specs.Prelude.{◌≡◌, ℕ, Bool, List, [], ◌∷◌, ◌++◌, All, Contains, drop, length, map, take}
 use Rattle.std.specs.List.{range_with_len}
 use Rattle.blif_net.specs.declared.net.Net.{Net}
-use Rattle.blif_net.specs.declared.net.Output.{Output}
-use Rattle.blif_net.specs.Networks.{signal_value}
 use Rattle.function_laws.specs.declared.history.Entry.{Entry}
 use Rattle.function_laws.specs.declared.history.Name.{Name}
 use Rattle.function_laws.specs.EntryOrders.{EachWith, opening_orders, orders_from}
@@ -11,61 +9,62 @@ use Rattle.function_laws.specs.Histories.{IsLegal, table_after}
 use Rattle.function_laws.specs.SiftEntries.{Carries}
 use Rattle.function_laws.specs.SessionEntries.{entries_of}
 use Rattle.function_laws.specs.Tables.{Sizes, opening}
-use Rattle.net_reports.specs.Reports.{IsReport, IsSummary, Subject, net_subject, output_names}
+use Rattle.net_reports.specs.Reports.{IsReport, IsSummary, output_names}
 use Rattle.net_builds.specs.Handings.{AreInTurn, IsKnown, IsPassed}
-use Rattle.net_builds.specs.Standings.{Holds, Note, Standing, values_of}
+use Rattle.net_builds.specs.Standings.{Holds, KeepsOrders, Note, Standing, values_of}
 use Rattle.net_builds.specs.declared.handing.Handover.{Handover}
 
--- the functions of the network's outputs, or others in their place
-abbrev pub subject_with : Net → List (ℕ → Bool) → List ℕ → List (List Bool) → Subject
-subject_with net functions order patterns = record {
-  n = length net.inputs;
-  names = output_names net;
-  functions = functions;
-  order = order;
-  patterns = patterns;
-}
+-- A function went from the session that built it to the first one: the name that was posted to the cell stands for it, and a later fetch found that cell posted.
+pub record IsDelivered (cell : ℕ) (f : ℕ → Bool) (giver first : Standing) (h : Handover) : Type 0 where
+  pub built : Holds giver h.from f
+  pub passed : IsPassed cell giver first h
 
--- An output's function went from the session that built it to the first one: the name that was posted to the board's first cell stands for it, and a later fetch found that cell posted.
-pub record IsHandedOver (net : Net) (output : Output) (giver first : Standing) (h : Handover) : Type 0 where
-  pub built : Holds giver h.from (signal_value net output.signal)
-  pub passed : IsPassed giver first h
+-- Each session gained entries that add no variable and no element, and those that post to the cell are of these handovers.
+abbrev pub AllGain : ℕ → List Handover → List Standing → List Standing → Type 0
+AllGain cell handovers [] [] = Unit {0}
+AllGain cell handovers (a ∷ old) (b ∷ new) =
+    (gained : List Entry) × (b.entries ≡ a.entries ++ gained) × All (IsKnown cell handovers) gained × (b.vars ≡ a.vars) × (b.number ≡ a.number) × AllGain cell handovers old new
+AllGain cell handovers _ _ = ⊥
 
--- Each session gained entries that are plain, and those that post to the board's first cell are of these handovers.
-abbrev pub AllGain : List Handover → List Standing → List Standing → Type 0
-AllGain handovers [] [] = Unit {0}
-AllGain handovers (a ∷ old) (b ∷ new) = (gained : List Entry) × (b.entries ≡ a.entries ++ gained) × All (IsKnown handovers) gained × (b.vars ≡ a.vars) × (b.number ≡ a.number) × AllGain handovers old new
-AllGain handovers _ _ = ⊥
+-- The wanted functions in turn were built by some sessions, each by one of them, and handed over to the first.
+abbrev pub AllHandedOver : ℕ → List (ℕ → Bool) → List Standing → Standing → List Handover → Type 0
+AllHandedOver cell [] sessions first [] = Unit {0}
+AllHandedOver cell (f ∷ wanted) sessions first (h ∷ hs) =
+    ((giver : Standing) × Contains sessions giver × IsDelivered cell f giver first h) × AllHandedOver cell wanted sessions first hs
+AllHandedOver cell _ sessions first _ = ⊥
 
--- The outputs in turn were built by some sessions, each by one of them, and handed over to the first.
-abbrev pub AllHandedOver : Net → List Output → List Standing → Standing → List Handover → Type 0
-AllHandedOver net [] sessions first [] = Unit {0}
-AllHandedOver net (output ∷ outputs) sessions first (h ∷ hs) =
-    ((giver : Standing) × Contains sessions giver × IsHandedOver net output giver first h) × AllHandedOver net outputs sessions first hs
-AllHandedOver net _ sessions first _ = ⊥
-
--- What is told of functions that the first session fetched.
-pub record Builds (Tells : List (ℕ → Bool) → List ℕ → List ℕ → Type 0) (net : Net) (old new : List Standing) (text : List ℕ) : Type 0 where
+-- What is told of functions that the first session fetched, in place of the wanted ones, under the order that it noted last and behind its earlier notes.
+pub record Builds (Tells : List (ℕ → Bool) → List ℕ → List ℕ → Type 0) (cell : ℕ) (wanted : List (ℕ → Bool)) (old new : List Standing) (text : List ℕ) : Type 0 where
   pub handovers : List Handover
+  pub before : Standing
+  pub others : List Standing
+  pub old_is : old ≡ before ∷ others
   pub first : Standing
   pub rest : List Standing
   pub new_is : new ≡ first ∷ rest
-  pub handed : AllHandedOver net net.outputs new first handovers
+  pub handed : AllHandedOver cell wanted new first handovers
   pub turns : AreInTurn 0 handovers
-  pub gains : AllGain handovers old new
+  pub gains : AllGain cell handovers old new
   pub note : Note
-  pub noted : Contains first.notes note
+  pub noted : first.notes ≡ before.notes ++ note ∷ []
   pub functions : List (ℕ → Bool)
   pub stand : map first.stands (map (λ h. h.to) handovers) ≡ map (values_of first.vars) functions
   pub tells : Tells functions note.order text
 
--- a report of the functions under the order, with their values at these patterns
-abbrev pub Reports : Net → List (List Bool) → List (ℕ → Bool) → List ℕ → List ℕ → Type 0
-Reports net patterns functions order text = IsReport (subject_with net functions order patterns) text
+-- a report of functions of n variables, which have these names, under the order, with their values at these patterns
+abbrev pub ReportsOf : ℕ → List (List ℕ) → List (List Bool) → List (ℕ → Bool) → List ℕ → List ℕ → Type 0
+ReportsOf n names patterns functions order text = IsReport (record { n = n; names = names; functions = functions; order = order; patterns = patterns }) text
 
--- a summary of the functions under the order
+-- and a summary
+abbrev pub SumsUpOf : ℕ → List (List ℕ) → List (ℕ → Bool) → List ℕ → List ℕ → Type 0
+SumsUpOf n names functions order text = IsSummary (record { n = n; names = names; functions = functions; order = order; patterns = [] }) text
+
+-- those of a network, with its outputs' functions or others in their place
+abbrev pub Reports : Net → List (List Bool) → List (ℕ → Bool) → List ℕ → List ℕ → Type 0
+Reports net patterns = ReportsOf (length net.inputs) (output_names net) patterns
+
 abbrev pub SumsUp : Net → List (ℕ → Bool) → List ℕ → List ℕ → Type 0
-SumsUp net functions order text = IsSummary (subject_with net functions order []) text
+SumsUp net = SumsUpOf (length net.inputs) (output_names net)
 
 -- The entries are a legal history of these sessions, which had made no call: it leaves their names standing for what they do, and what they noted of the order is what the entries below its place leave.
 pub record IsLegalHistoryOf (sizes : Sizes) (log : List Entry) (sessions : List Standing) : Type 0 where
@@ -77,16 +76,35 @@ pub record IsLegalHistoryOf (sizes : Sizes) (log : List Entry) (sessions : List 
   pub noted : All (λ (s : Standing). All (λ (note : Note). (orders_from (opening_orders sizes) (take note.place log)).variables ≡ note.order) s.notes) sessions
   pub no_other : (p : ℕ) → All (λ (s : Standing). s.number ≡ p → ⊥) sessions → entries_of p log ≡ []
 
--- What was told is true of the network's outputs, under the order 0, 1, 2, ..
-abbrev pub ToldTrue : (List (ℕ → Bool) → List ℕ → List ℕ → Type 0) → (List ℕ → List ℕ → Type 0) → Net → Type 0
-ToldTrue Tells IsTold net = (sizes : Sizes) (log : List Entry) (old new : List Standing) (text : List ℕ)
-    → sizes.variables ≡ length net.inputs → All (λ (s : Standing). s.vars ≡ length net.inputs) new → All (λ (s : Standing). s.entries ≡ []) old
-    → IsLegalHistoryOf sizes log new → Builds Tells net old new text → IsTold (range_with_len 0 (length net.inputs)) text
+-- What was told is told of the wanted functions of n variables themselves, under the order that was noted; and this is the order that the entries below the note's place leave.
+abbrev pub ToldTrue : (List (ℕ → Bool) → List ℕ → List ℕ → Type 0) → ℕ → List (ℕ → Bool) → Type 0
+ToldTrue Tells n wanted = (sizes : Sizes) (log : List Entry) (old new : List Standing) (cell : ℕ) (text : List ℕ)
+    → All (λ (s : Standing). s.vars ≡ n) new → All (λ (s : Standing). s.entries ≡ []) old
+    → IsLegalHistoryOf sizes log new → (built : Builds Tells cell wanted old new text)
+    → Tells wanted built.note.order text × ((orders_from (opening_orders sizes) (take built.note.place log)).variables ≡ built.note.order)
 
--- a report that was told is one of the network's own outputs
+-- what each session gained leaves the orders as they are
+abbrev pub AreUnsifted : List Standing → List Standing → Type 0
+AreUnsifted [] [] = Unit {0}
+AreUnsifted (a ∷ old) (b ∷ new) = All KeepsOrders (drop (length a.entries) b.entries) × AreUnsifted old new
+AreUnsifted _ _ = ⊥
+
+-- Where the sessions left the orders as they are, it is told under the order 0, 1, 2, ..
+abbrev pub ToldUnsifted : (List (ℕ → Bool) → List ℕ → List ℕ → Type 0) → ℕ → List (ℕ → Bool) → Type 0
+ToldUnsifted Tells n wanted = (sizes : Sizes) (log : List Entry) (old new : List Standing) (cell : ℕ) (text : List ℕ)
+    → sizes.variables ≡ n → All (λ (s : Standing). s.vars ≡ n) new → All (λ (s : Standing). s.entries ≡ []) old → AreUnsifted old new
+    → IsLegalHistoryOf sizes log new → Builds Tells cell wanted old new text → Tells wanted (range_with_len 0 n) text
+
+-- a report that was told of fetched functions is one of the wanted functions
 abbrev pub ReportsAreTrue : Type 0
-ReportsAreTrue = (net : Net) (patterns : List (List Bool)) → ToldTrue (Reports net patterns) (λ order text. IsReport (net_subject net order patterns) text) net
+ReportsAreTrue = (n : ℕ) (names : List (List ℕ)) (patterns : List (List Bool)) (wanted : List (ℕ → Bool)) → ToldTrue (ReportsOf n names patterns) n wanted
+
+abbrev pub UnsiftedReportsAreTrue : Type 0
+UnsiftedReportsAreTrue = (n : ℕ) (names : List (List ℕ)) (patterns : List (List Bool)) (wanted : List (ℕ → Bool)) → ToldUnsifted (ReportsOf n names patterns) n wanted
 
 -- and so is a summary
 abbrev pub SummariesAreTrue : Type 0
-SummariesAreTrue = (net : Net) → ToldTrue (SumsUp net) (λ order text. IsSummary (net_subject net order []) text) net
+SummariesAreTrue = (n : ℕ) (names : List (List ℕ)) (wanted : List (ℕ → Bool)) → ToldTrue (SumsUpOf n names) n wanted
+
+abbrev pub UnsiftedSummariesAreTrue : Type 0
+UnsiftedSummariesAreTrue = (n : ℕ) (names : List (List ℕ)) (wanted : List (ℕ → Bool)) → ToldUnsifted (SumsUpOf n names) n wanted

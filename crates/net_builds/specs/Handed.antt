@@ -10,9 +10,12 @@ use Rattle.function_laws.specs.Histories.{IsLegal, table_after}
 use Rattle.function_laws.specs.SessionEntries.{entry}
 use Rattle.function_laws.specs.Tables.{Sizes, opening}
 
--- no entry adds a variable or an element
+-- the entry adds no variable and no element
+abbrev pub IsPlain : Entry → Type 0
+IsPlain e = is_numbered e.reply ≡ false
+
 abbrev pub ArePlain : List Entry → Type 0
-ArePlain log = All (λ (e : Entry). is_numbered e.reply ≡ false) log
+ArePlain log = All IsPlain log
 
 -- what a name of a session stands for after these entries
 abbrev pub Stands : Sizes → List Entry → ℕ → Name → Function → Type 0

@@ -10,10 +10,11 @@ use Rattle.function_laws.specs.declared.history.Function.TheVariants.{Bdd}
 use Rattle.function_laws.specs.declared.history.Name.{Name}
 use Rattle.function_laws.specs.declared.history.Reply.TheVariants as replies
 use Rattle.function_laws.specs.EntryOrders.{orders_after}
-use Rattle.function_laws.specs.Handovers.{is_numbered, posts_to}
+use Rattle.function_laws.specs.Handovers.{posts_to}
 use Rattle.function_laws.specs.Lists.{list_of}
 use Rattle.function_laws.specs.SessionEntries.{entry}
 use Rattle.function_laws.specs.Sizes.{Orders}
+use Rattle.net_builds.specs.Handed.{IsPlain}
 use Rattle.net_builds.specs.declared.host.HostRefusal.{HostRefusal}
 use Rattle.net_builds.specs.declared.host.HostRefusal.TheVariants as stops
 
@@ -60,15 +61,14 @@ IsLive s name = (f : List Bool) × (s.stands name ≡ Some (Bdd f)) × (name.gen
 abbrev pub HasRoom : Standing → Type 0
 HasRoom s = s.rows < MOST_ROWS
 
--- the entry adds no variable and leaves the order as it is
-pub record IsPlain (e : Entry) : Type 0 where
-  pub unnumbered : is_numbered e.reply ≡ false
-  pub ordered : (orders : Orders) → orders_after orders e.call e.reply ≡ orders
-
--- and posts to no cell
+-- the entry adds no variable and no element, and posts to no cell
 pub record IsQuiet (e : Entry) : Type 0 where
   pub plain : IsPlain e
   pub posts : (cell : ℕ) → posts_to cell e.call ≡ false
+
+-- the entry leaves both orders as they are: it swaps no levels and sifts nothing
+abbrev pub KeepsOrders : Entry → Type 0
+KeepsOrders e = (orders : Orders) → orders_after orders e.call e.reply ≡ orders
 
 -- Some calls were made, each of which is such an entry. The session gave no name twice, and noted nothing.
 pub record Gains (P : Entry → Type 0) (old new : Standing) : Type 0 where
@@ -80,7 +80,7 @@ pub record Gains (P : Entry → Type 0) (old new : Standing) : Type 0 where
   pub each : All P gained
   pub more : old.adds ≤ new.adds
 
--- calls were made that add no variable, leave the order and post to no cell
+-- calls were made that add no variable and no element and post to no cell
 abbrev pub Works : Standing → Standing → Type 0
 Works = Gains IsQuiet
 
@@ -113,23 +113,23 @@ abbrev pub IsCaused : {F : Type 0} → (F → Type 0) → HostRefusal F → Type
 IsCaused refused stops.Memory = Unit {0}
 IsCaused refused (stops.Full full) = refused full
 
--- one call was made, at a place above the earlier ones; it changed no row
-pub record Posts (old new : Standing) (from : Name) (place : ℕ) : Type 0 where
+-- the name was posted to the cell, at this place; that changed no row
+pub record Posts (cell : ℕ) (old new : Standing) (from : Name) (place : ℕ) : Type 0 where
   pub vars_are : new.vars ≡ old.vars
   pub number_is : new.number ≡ old.number
   pub notes_are : new.notes ≡ old.notes
   pub adds_are : new.adds ≡ old.adds
   pub rows : new.rows ≤ old.rows
-  pub entries_are : new.entries ≡ old.entries ++ entry place old.number (calls.Post 0 from) replies.Done ∷ []
+  pub entries_are : new.entries ≡ old.entries ++ entry place old.number (calls.Post cell from) replies.Done ∷ []
   pub kept : (other : Name) → new.stands other ≡ old.stands other
 
--- the name was fetched from the board's first cell, which had a function of truth values posted
-pub record Fetches (old new : Standing) (kind to : Name) (posted : Bool) (place : ℕ) : Type 0 where
+-- a name was fetched from the cell, which had a function of truth values posted or not
+pub record Fetches (cell : ℕ) (old new : Standing) (kind to : Name) (posted : Bool) (place : ℕ) : Type 0 where
   pub vars_are : new.vars ≡ old.vars
   pub number_is : new.number ≡ old.number
   pub notes_are : new.notes ≡ old.notes
   pub more : old.adds ≤ new.adds
-  pub entries_are : new.entries ≡ old.entries ++ entry place old.number (calls.Fetch 0 kind) (replies.Fetched to posted) ∷ []
+  pub entries_are : new.entries ≡ old.entries ++ entry place old.number (calls.Fetch cell kind) (replies.Fetched to posted) ∷ []
   pub newer : old.adds ≤ to.generation
   pub held : IsLive new to
   pub kept : KeepsAll old new

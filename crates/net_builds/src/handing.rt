@@ -1,6 +1,7 @@
 //! The handing over of built functions to the first session.
 
-ghost use Rattle.std.specs.Prelude.{◌≡◌, [], ◌∷◌, ◌++◌, true, length, All, IfOk};
+ghost use Rattle.std.specs.Prelude.{◌≡◌, ◌<◌, [], ◌∷◌, ◌++◌, true, length, All, IfOk};
+ghost use Rattle.edge_bits.specs.declared.limits.TheConstants.{CELLS};
 ghost use Rattle.net_builds.specs.Asked.{ComesBack, MayMakeRows};
 ghost use Rattle.net_builds.specs.Handings.{AreInTurn, HandsOver};
 ghost use Rattle.net_builds.specs.Standings.{IsLive};
@@ -11,7 +12,7 @@ use function_laws::Name;
 use std::alloc::Global;
 use std::sync::Wait;
 
-/// A function that went from one session to another by the first cell of the board: the name under which it was built, the name
+/// A function that went from one session to another by a cell of the board: the name under which it was built, the name
 /// under which it was fetched, the places of the two calls, and the name that the fetch had beside.
 #[derive(Debug, Clone, Copy, PartialEq, Eq, Drop)]
 pub struct Handover {
@@ -46,20 +47,22 @@ fn is_behind(earlier: &[Handover], next: &Handover) -> bool
     }
 }
 
-/// Hands over one name: posts it and fetches it. It waits for ever where the fetch finds nothing posted, or lies below the post.
+/// Hands over one name: posts it to the cell and fetches it from there. It waits for ever where the fetch finds nothing posted, or lies below the post.
 fn hand_one<R: Wait, H: Host>(
     rt: &R,
     host: &H,
     session: &mut H::Session,
+    cell: u32,
     name: Name,
 ) -> Result<Handover, HostRefusal<H::Full>>
     requires may { MayMakeRows H.has H.standing host.now session.old 1 }
+    requires cell { cell < CELLS }
     requires held { IsLive (H.standing session.old) name }
-    ensures handed { IfOk result (λ handover. HandsOver (H.standing session.old) (H.standing session.new) (name ∷ []) (handover ∷ [])) }
+    ensures handed { IfOk result (λ handover. HandsOver cell (H.standing session.old) (H.standing session.new) (name ∷ []) (handover ∷ [])) }
     ensures back { ComesBack H.has H.refused host.now session.new result }
 {
-    let posted = host.post(session, name);
-    let fetched = host.fetch(session, name)?;
+    let posted = host.post(session, cell, name);
+    let fetched = host.fetch(session, cell, name)?;
     wait_unless(rt, fetched.value.posted);
     wait_unless(rt, posted.place < fetched.place);
     Ok(Handover {
@@ -71,23 +74,25 @@ fn hand_one<R: Wait, H: Host>(
     })
 }
 
-/// Hands over names one after another: each is posted and fetched, the fetch above the post and below the next post. Where the
+/// Hands over names one after another by a cell of the board: each is posted and fetched, the fetch above the post and below the next post. Where the
 /// places are not so, or a fetch finds nothing posted, it waits for ever.
 pub fn hand_over<R: Wait, H: Host>(
     rt: &R,
     alloc: Global,
     host: &H,
     session: &mut H::Session,
+    cell: u32,
     names: &[Name],
 ) -> Result<Vec<Handover>, HostRefusal<H::Full>>
     requires may { MayMakeRows H.has H.standing host.now session.old (length names.now) }
+    requires cell { cell < CELLS }
     requires held { All (IsLive (H.standing session.old)) names.now }
-    ensures handed { IfOk result (λ handovers. HandsOver (H.standing session.old) (H.standing session.new) names.now handovers.items) }
+    ensures handed { IfOk result (λ handovers. HandsOver cell (H.standing session.old) (H.standing session.new) names.now handovers.items) }
     ensures back { ComesBack H.has H.refused host.now session.new result }
 {
     let mut handovers = Vec::with_capacity(alloc, names.len())?;
     for name in names {
-        let next = hand_one(rt, host, session, *name)?;
+        let next = hand_one(rt, host, session, cell, *name)?;
         wait_unless(rt, is_behind(&handovers, &next));
         handovers.push(next)?;
     }

@@ -41,14 +41,14 @@ impl<T: Drop, F> From<AllocFailed<T>> for HostRefusal<F> {
 
 /// The name that was fetched, and whether it stands for what was posted.
 #[derive(Debug, Clone, Copy, PartialEq, Eq, Drop)]
-pub struct Fetched {
+pub struct Taken {
     pub name: Name,
     pub posted: bool,
 }
 
 /// An answer, and its place in the history.
 #[derive(Debug, Clone, Copy, PartialEq, Eq, Drop)]
-pub struct Placed<T> {
+pub struct Told<T> {
     pub place: u64,
     pub value: T,
 }
@@ -57,6 +57,7 @@ pub struct Placed<T> {
 /// session that has made all the calls that it may make waits for ever in place of a further one.
 pub trait Host {
     ghost use Rattle.std.specs.Prelude.{◌≡◌, ◌<◌, ℕ, Bool, List, Some, IfOk, All, length};
+    ghost use Rattle.edge_bits.specs.declared.limits.TheConstants.{CELLS};
     ghost use Rattle.function_laws.specs.declared.history.Function.TheVariants.{Bdd};
     ghost use Rattle.function_laws.specs.Lists.{truth};
     ghost use Rattle.function_laws.specs.Values.{assignment_of, conjunction, constant, disjunction, negation, projection};
@@ -72,7 +73,7 @@ pub trait Host {
     /// What is seen of a session.
     ghost standing: { Self.Session → Standing };
 
-    /// The session is one of this manager.
+    /// The session is one of this manager, and what a host may say of it besides: each call leaves it so.
     ghost has: { Self → Self.Session → Type 0 };
 
     /// Some call of the session was refused so.
@@ -155,22 +156,25 @@ pub trait Host {
         ensures asks { Asks (standing session.old) (standing session.new) }
         ensures value { (a : List Bool) → (standing session.old).stands f ≡ Some (Bdd a) → result ≡ truth a (assignment_of bits.now) };
 
-    /// Puts a function into the first cell of the board, in place of what was there.
-    fn post(&self, session: &mut Self::Session, f: Name) -> Placed<()>
+    /// Puts a function into a cell of the board, in place of what was there.
+    fn post(&self, session: &mut Self::Session, cell: u32, f: Name) -> Told<()>
         requires may { MayMakeRows has standing self.now session.old 1 }
+        requires cell { cell < CELLS }
         requires held { IsLive (standing session.old) f }
         ensures own { has self.now session.new }
-        ensures posts { Posts (standing session.old) (standing session.new) f result.place };
+        ensures posts { Posts cell (standing session.old) (standing session.new) f result.place };
 
-    /// The function in the first cell of the board under a new name, or that of another name where the cell has none.
+    /// The function in a cell of the board under a new name, or that of another name where the cell has none.
     fn fetch(
         &self,
         session: &mut Self::Session,
+        cell: u32,
         other: Name,
-    ) -> Result<Placed<Fetched>, HostRefusal<Self::Full>>
+    ) -> Result<Told<Taken>, HostRefusal<Self::Full>>
         requires may { MayMakeRows has standing self.now session.old 1 }
+        requires cell { cell < CELLS }
         requires held { IsLive (standing session.old) other }
-        ensures fetches { IfOk result (λ placed. Fetches (standing session.old) (standing session.new) other placed.value.name placed.value.posted placed.place) }
+        ensures fetches { IfOk result (λ told. Fetches cell (standing session.old) (standing session.new) other told.value.name told.value.posted told.place) }
         ensures back { ComesBack has refused self.now session.new result };
 
     /// The listing of some functions, under the order of the variables that the entries below some place leave. It is no call

@@ -15,5 +15,5 @@ mod uses;
 pub use building::{build_report, build_summary};
 pub use handing::Handover;
 pub use handovers::{handed_names_agree, names_stand_for_one_function};
-pub use host::{Fetched, Host, HostRefusal, Placed};
+pub use host::{Host, HostRefusal, Taken, Told};
 pub use laws::{reports_are_true, summaries_are_true};

@@ -4,8 +4,9 @@ ghost use Rattle.std.specs.Prelude.{◌≡◌, length, map, replicate, IfOk, Non
 ghost use Rattle.blif_net.specs.Bounds.{IsBounded, signal_count};
 ghost use Rattle.net_builds.specs.Building.{IsBegun};
 ghost use Rattle.net_builds.specs.Asked.{ComesBack, MayBuild};
-ghost use Rattle.net_builds.specs.Signals.{BuildsOutputs};
+ghost use Rattle.net_builds.specs.Signals.{BuildsAll};
 ghost use Rattle.net_builds.specs.Uses.{AreLastUses};
+ghost use Rattle.net_reports.specs.Reports.{output_functions};
 
 use crate::host::{Host, HostRefusal};
 use crate::rows::{make_inputs, make_outputs, note_names};
@@ -84,7 +85,7 @@ fn build_all<H: Host>(
     requires last { AreLastUses net.now own.now last.now }
     requires rows { rows.old ≡ replicate (signal_count net.now) None }
     requires names { length names.old ≡ length net.now.outputs }
-    ensures built { IfOk result (λ _. BuildsOutputs net.now (H.standing session.old) (H.standing session.new) names.new) }
+    ensures built { IfOk result (λ _. BuildsAll (output_functions net.now) (signal_count net.now) (H.standing session.old) (H.standing session.new) names.new) }
     ensures back { ComesBack H.has H.refused host.now session.new result }
 {
     make_inputs(host, session, net, last, rows)?;
@@ -102,7 +103,7 @@ pub fn build_outputs<H: Host>(
     net: &Net,
 ) -> Result<Vec<Name>, HostRefusal<H::Full>>
     requires may { MayBuild H.has H.standing host.now session.old net.now }
-    ensures built { IfOk result (λ names. BuildsOutputs net.now (H.standing session.old) (H.standing session.new) names.items) }
+    ensures built { IfOk result (λ names. BuildsAll (output_functions net.now) (signal_count net.now) (H.standing session.old) (H.standing session.new) names.items) }
     ensures back { ComesBack H.has H.refused host.now session.new result }
 {
     let Ledger {

@@ -37,3 +37,25 @@ module _ (old new : Seen) (making : Making Name (List ℕ) (List (ℕ × Name)))
   pub kept : (made : Result (Placed (Result Name Overflow)) Refusal) → MakesOrExceeds old new making made → IsKept old new
   kept (Ok placed) makes = let called = was_called (chooses making) placed.value placed.place makes.told in (called.1.manager_is, called.1.number_is)
   kept (Err refusal) makes = denied_kept refusal (denied (needs_nodes making) refusal makes.told)
+
+-- room for more rows is no part of what a call says
+pub called_spared : (old new : Seen) (spare : ℕ) (call : Call) (reply : Reply) (place : ℕ) → Called (record old { spare = spare }) new call reply place → Called old new call reply place
+called_spared old new spare call reply place is = record {
+  board = is.board;
+  note = is.note;
+  place_is = is.place_is;
+  rows_noted = is.rows_noted;
+  placed_are = is.placed_are;
+  step = λ t seen board sizes. is.step t (record { grown = seen.grown; live = seen.live; fresh = seen.fresh }) board sizes;
+  sizes_are = is.sizes_are;
+  more_are = is.more_are;
+  entries_are = is.entries_are;
+  later = is.later;
+  manager_is = is.manager_is;
+  number_is = is.number_is;
+  adds_are = is.adds_are;
+  few = is.few;
+  change = is.change;
+  rows_are = is.rows_are;
+  noted_are = is.noted_are;
+}

@@ -1,5 +1,6 @@
 -- One session that built a network, in the history that the closing of its manager tells.
-use Rattle.std.proofs.Common.{◌≡◌, ◌⊎◌, Bool, Option, option_map, ℕ, zero, suc, ◌*◌, Result, Ok, Err, IfErr, inr, List, [], ◌∷◌, ◌++◌, length, map, take, drop, All, Contains, refl, ap, sym, ◌∙◌, subst, arith}
+use Rattle.std.proofs.Common.{◌≡◌, ◌⊎◌, Bool, Option, option_map, ℕ, zero, suc, ◌+◌, ◌*◌, Result, Ok, Err, IfErr, inr, List, [], ◌∷◌, ◌++◌, length, map, take, drop, All, Contains, refl, ap, sym, ◌∙◌, subst, arith}
+use Rattle.std.proofs.Math.Nat.{zero-add}
 use mathlib.Core.Option.{some}
 use lib.ListN.{get_elem?}
 use Rattle.std.proofs.Math.Seq.{take-append_seam}
@@ -25,12 +26,14 @@ use Rattle.dd_session.specs.Managing.{AreAll, IsHistoryOf, Managed, Seen, newcom
 use Rattle.net_builds.specs.declared.handing.Handover.{Handover}
 use Rattle.net_builds.specs.declared.host.HostRefusal.{HostRefusal}
 use Rattle.net_builds.specs.declared.host.HostRefusal.TheVariants as stops
-use Rattle.net_builds.specs.Builds.{AllGain, Builds, Reports, ReportsAreTrue, SummariesAreTrue, SumsUp}
+use Rattle.net_builds.specs.Builds.{AllGain, AreUnsifted, Builds, Reports, SumsUp, UnsiftedReportsAreTrue, UnsiftedSummariesAreTrue}
 use Rattle.net_builds.specs.Builds as builds
 use Rattle.net_builds.specs.Standings.{IsCaused, Note, Standing}
-use Rattle.net_reports.specs.Reports.{IsReport, IsSummary, net_subject}
+use Rattle.net_reports.specs.Reports.{IsReport, IsSummary, net_subject, output_functions, output_names}
 use Rattle.net_jobs.specs.Ends.{rising}
+use Rattle.net_jobs.specs.declared.networks.TheConstants.{OUTPUTS_CELL}
 use Rattle.net_jobs.specs.Hosts.{IsRefusedBy, standing_of}
+use Rattle.net_jobs.proofs.HostLaws.{none_gained}
 use Rattle.net_jobs.specs.Networks.{IsRefusedIn}
 
 -- what a note of the orders tells of the variables
@@ -72,16 +75,20 @@ history_of m s n h = record {
     only zero t at p is apart = apart (ap (λ (x : Seen). x.number) (first t at) ∙ is)
     only (suc k) t at p is apart = none k t at
 
--- as many sessions as there were gained
-one_more : (handovers : List Handover) (a : Standing) (new : List Seen) → AllGain handovers (a ∷ []) (map standing_of new) → (s : Seen) × (new ≡ s ∷ []) × (s.number ≡ a.number) × (variables_in s ≡ a.vars)
-one_more handovers a [] gains = absurd gains
-one_more handovers a (s ∷ []) gains = (s, refl, gains.4, gains.3)
-one_more handovers a (s ∷ t ∷ rest) gains = absurd gains.5
+-- a session that knows of no more variables than its manager was opened with
+pub known_vars : (m : Managed) (s : Seen) (n : ℕ) → s.manager ≡ m → s.more_variables ≡ 0 → m.vars ≡ n → variables_in s ≡ n
+known_vars m s n own none is = (λ i. none i + (own i).vars) ∙ zero-add m.vars ∙ is
 
-module _ (m : Managed) (Tells : List (ℕ → Bool) → List ℕ → List ℕ → Type 0) (net : Net) (new : List Seen) (text : List ℕ) (own : All (λ (s : Seen). s.manager ≡ m) new)
-    (built : Builds Tells net (map standing_of (newcomer m 0 ∷ [])) (map standing_of new) text) where
-  abbrev only : (s : Seen) × (new ≡ s ∷ []) × (s.number ≡ 0) × (variables_in s ≡ m.vars)
-  only = one_more built.handovers (standing_of (newcomer m 0)) new built.gains
+-- as many sessions as there were gained
+one_more : (cell : ℕ) (handovers : List Handover) (a : Standing) (new : List Seen) → AllGain cell handovers (a ∷ []) (map standing_of new) → (s : Seen) × (new ≡ s ∷ []) × (s.number ≡ a.number) × (variables_in s ≡ a.vars)
+one_more cell handovers a [] gains = absurd gains
+one_more cell handovers a (s ∷ []) gains = (s, refl, gains.4, gains.3)
+one_more cell handovers a (s ∷ t ∷ rest) gains = absurd gains.5
+
+module _ (m : Managed) (Tells : List (ℕ → Bool) → List ℕ → List ℕ → Type 0) (cell : ℕ) (wanted : List (ℕ → Bool)) (new : List Seen) (text : List ℕ) (own : All (λ (s : Seen). s.manager ≡ m) new)
+    (built : Builds Tells cell wanted (map standing_of (newcomer m 0 ∷ [])) (map standing_of new) text) where
+  abbrev only : (s : Seen) × (new ≡ s ∷ []) × (s.number ≡ 0) × (variables_in s ≡ (standing_of (newcomer m 0)).vars)
+  only = one_more cell built.handovers (standing_of (newcomer m 0)) new built.gains
 
   -- it is all sessions of its manager
   pub are_all : m.sessions ≡ 1 → AreAll m new
@@ -102,10 +109,10 @@ module _ (m : Managed) (Tells : List (ℕ → Bool) → List ℕ → List ℕ �
       let one : IsHistoryOf m (only.0 ∷ []) n = subst (λ (xs : List Seen). IsHistoryOf m xs n) only.1 h in
       (one.log, subst (λ (xs : List Seen). builds.IsLegalHistoryOf (sizes_for m.vars m.elements) one.log (map standing_of xs)) (sym only.1) (history_of m only.0 n one))
 
-  vars_are : m.vars ≡ length net.inputs → All (λ (s : Standing). s.vars ≡ length net.inputs) (map standing_of new)
-  vars_are vars =
-      subst (λ (xs : List Seen). All (λ (s : Standing). s.vars ≡ length net.inputs) (map standing_of xs)) (sym only.1)
-      (All-cons (λ (t : Standing). t.vars ≡ length net.inputs) (standing_of only.0) [] (only.3 ∙ vars) (All-nil (λ (t : Standing). t.vars ≡ length net.inputs)))
+  vars_are : (n : ℕ) → m.vars ≡ n → All (λ (s : Standing). s.vars ≡ n) (map standing_of new)
+  vars_are n vars =
+      subst (λ (xs : List Seen). All (λ (s : Standing). s.vars ≡ n) (map standing_of xs)) (sym only.1)
+      (All-cons (λ (t : Standing). t.vars ≡ n) (standing_of only.0) [] (only.3 ∙ zero-add m.vars ∙ vars) (All-nil (λ (t : Standing). t.vars ≡ n)))
 
   none_before : All (λ (s : Standing). s.entries ≡ []) (map standing_of (newcomer m 0 ∷ []))
   none_before = All-cons (λ (t : Standing). t.entries ≡ []) (standing_of (newcomer m 0)) [] refl (All-nil (λ (t : Standing). t.entries ≡ []))
@@ -126,16 +133,29 @@ pub refused_at_first : {X : Type 0} (bits : ℕ) (net : Net) → IsBlifText (gen
 refused_at_first bits net text inputs sessions s one (Ok x) caused = tt
 refused_at_first bits net text inputs sessions s one (Err stop) caused = inr (net, text, inputs, refused_in (slice_set sessions 0 s) s (first_there sessions s one) stop caused)
 
-pub reported : ReportsAreTrue → (m : Managed) (net : Net) (patterns : List (List Bool)) (new : List Seen) (text : List ℕ) (n : ℕ) → m.vars ≡ length net.inputs → All (λ (s : Seen). s.manager ≡ m) new
-    → Builds (Reports net patterns) net (map standing_of (newcomer m 0 ∷ [])) (map standing_of new) text → IsHistoryOf m new n → IsReport (net_subject net (rising net) patterns) text
-reported law m net patterns new text n vars own built h =
-    let is = history m (Reports net patterns) net new text own built n h in
-    law net patterns (sizes_for m.vars m.elements) is.0 (map standing_of (newcomer m 0 ∷ [])) (map standing_of new) text vars
-    (vars_are m (Reports net patterns) net new text own built vars) (none_before m (Reports net patterns) net new text own built) is.1 built
+-- sessions that gained nothing left the orders as they are
+pub unsifted_still : (sessions : List Standing) → AreUnsifted sessions sessions
+unsifted_still [] = tt
+unsifted_still (s ∷ sessions) = (none_gained s.entries, unsifted_still sessions)
 
-pub summed_up : SummariesAreTrue → (m : Managed) (net : Net) (new : List Seen) (text : List ℕ) (n : ℕ) → m.vars ≡ length net.inputs → All (λ (s : Seen). s.manager ≡ m) new
-    → Builds (SumsUp net) net (map standing_of (newcomer m 0 ∷ [])) (map standing_of new) text → IsHistoryOf m new n → IsSummary (net_subject net (rising net) []) text
-summed_up law m net new text n vars own built h =
-    let is = history m (SumsUp net) net new text own built n h in
-    law net (sizes_for m.vars m.elements) is.0 (map standing_of (newcomer m 0 ∷ [])) (map standing_of new) text vars
-    (vars_are m (SumsUp net) net new text own built vars) (none_before m (SumsUp net) net new text own built) is.1 built
+module _ (m : Managed) (net : Net) (new : List Seen) (text : List ℕ) (n : ℕ) (vars : m.vars ≡ length net.inputs) (own : All (λ (s : Seen). s.manager ≡ m) new)
+    (unsifted : AreUnsifted (map standing_of (newcomer m 0 ∷ [])) (map standing_of new)) (h : IsHistoryOf m new n) where
+  abbrev wanted_here : List (ℕ → Bool)
+  wanted_here = output_functions net
+
+  abbrev old_here : List Standing
+  old_here = map standing_of (newcomer m 0 ∷ [])
+
+  pub reported : UnsiftedReportsAreTrue → (patterns : List (List Bool)) → Builds (Reports net patterns) OUTPUTS_CELL wanted_here old_here (map standing_of new) text
+      → IsReport (net_subject net (rising net) patterns) text
+  reported law patterns built =
+      let Tells = Reports net patterns in
+      let is = history m Tells OUTPUTS_CELL wanted_here new text own built n h in
+      law (length net.inputs) (output_names net) patterns wanted_here (sizes_for m.vars m.elements) is.0 old_here (map standing_of new) OUTPUTS_CELL text vars
+      (vars_are m Tells OUTPUTS_CELL wanted_here new text own built (length net.inputs) vars) (none_before m Tells OUTPUTS_CELL wanted_here new text own built) unsifted is.1 built
+
+  pub summed_up : UnsiftedSummariesAreTrue → Builds (SumsUp net) OUTPUTS_CELL wanted_here old_here (map standing_of new) text → IsSummary (net_subject net (rising net) []) text
+  summed_up law built =
+      let is = history m (SumsUp net) OUTPUTS_CELL wanted_here new text own built n h in
+      law (length net.inputs) (output_names net) wanted_here (sizes_for m.vars m.elements) is.0 old_here (map standing_of new) OUTPUTS_CELL text vars
+      (vars_are m (SumsUp net) OUTPUTS_CELL wanted_here new text own built (length net.inputs) vars) (none_before m (SumsUp net) OUTPUTS_CELL wanted_here new text own built) unsifted is.1 built

@@ -128,7 +128,7 @@ module _ (n : Counts) (registers : List Register) (old new : Seen) (names : List
             let same : k ≡ j = ap (λ (r : Register). r.kind) fresh.1 in
             let here : a ≡ length names = fresh.0 ∙ covers.as_many in
             let named : name_at (names ++ one ∷ []) a ≡ name = ap (name_at (names ++ one ∷ [])) here ∙ ap name_in (slice_get-push_new names one) in
-            (omega (arith, here, longer), subst (IsLiveAs j new) (sym named) (is.function, is.stands, kind ∙ same)))
+            (omega (arith, here, longer), subst (IsLiveAs j new) (sym named) (live_now j new name is.function is.stands (kind ∙ same))))
             (slice_get-push registers register (record { name = other; live = true; kind = j }) a at);
       }
 

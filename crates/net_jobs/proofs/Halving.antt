@@ -53,11 +53,14 @@ both_play (Ok said) sections cs ds sessions xs xs' ys ys' is_sections is_session
     (play_append cs ds xs xs' ys ys' both.0 both.1 both.3 both.4)
 
 -- the sessions of both halves are still their manager's
-pub kept_append : (xs xs' ys ys' : List Seen) → AllKept xs xs' → AllKept ys ys' → AllKept (xs ++ ys) (xs' ++ ys')
+kept_append : (xs xs' ys ys' : List Seen) → AllKept xs xs' → AllKept ys ys' → AllKept (xs ++ ys) (xs' ++ ys')
 kept_append [] [] ys ys' a b = b
 kept_append [] (x' ∷ xs') ys ys' a b = absurd a
 kept_append (x ∷ xs) [] ys ys' a b = absurd a
 kept_append (x ∷ xs) (x' ∷ xs') ys ys' a b = (a.0, kept_append xs xs' ys ys' a.1 b)
+
+pub both_kept : (sessions xs xs' ys ys' : List Seen) → sessions ≡ xs ++ ys → AllKept xs xs' → AllKept ys ys' → AllKept sessions (xs' ++ ys')
+both_kept sessions xs xs' ys ys' is a b = subst (λ (l : List Seen). AllKept l (xs' ++ ys')) (sym is) (kept_append xs xs' ys ys' a b)
 
 pub none_kept : (sessions : List Seen) → length sessions ≡ 0 → AllKept sessions sessions
 none_kept [] none = tt

@@ -1,8 +1,10 @@
 -- What the calls of a session leave of it, as one that builds functions is seen.
-use Rattle.std.proofs.Common.{◌≡◌, ℕ, ◌<◌, ◌^◌, Bool, true, false, List, [], ◌∷◌, ◌++◌, ◌+◌, ℤ, pos, cond, ◌||◌, Option, Some, None, Result, Ok, Err, IfOk, IfErr, MatchResult, length, take_all, eq-eqb, refl, ap, ap₂, sym, subst, ◌∙◌, arith}
+use Rattle.std.proofs.Common.{◌≡◌, ℕ, zero, suc, ◌<◌, ◌^◌, Bool, true, false, List, [], ◌∷◌, ◌++◌, ◌+◌, ℤ, pos, cond, ◌||◌, Option, Some, None, Result, Ok, Err, IfOk, IfErr, MatchResult, length, take_all, eq-eqb, refl, ap, ap₂, sym, subst, ◌∙◌, arith, All}
 use Rattle.std.specs.Prelude.{Contains}
-use Rattle.std.proofs.lemmas.List.{map-append}
-use Rattle.std.proofs.lemmas.List.Elements.{All-cons, All-nil, Contains-append_right}
+use Rattle.std.proofs.Math.ListN.{drop}
+use Rattle.std.proofs.Math.Seq.{drop-append_seam}
+use Rattle.std.proofs.lemmas.List.{append-nil, map-append}
+use Rattle.std.proofs.lemmas.List.Elements.{All-append, All-cons, All-nil, Contains-append_right}
 use Rattle.diagram_dumps.specs.declared.listings.Listing.{Listing}
 use Rattle.edge_bits.specs.declared.limits.TheConstants.{MOST_ROWS}
 use Rattle.edge_bits.specs.declared.edges.Kind.{Kind}
@@ -13,6 +15,7 @@ use Rattle.function_laws.specs.declared.history.Call.{Call}
 use Rattle.function_laws.specs.declared.history.Call.TheVariants as calls
 use Rattle.function_laws.specs.declared.making.Making.TheVariants as makings
 use Rattle.function_laws.specs.declared.making.BddMaking.TheVariants as bdds
+use Rattle.function_laws.specs.declared.history.Entry.{Entry}
 use Rattle.function_laws.specs.declared.history.Function.{Function}
 use Rattle.function_laws.specs.declared.history.Function.TheVariants.{Bdd, Add, Zdd}
 use Rattle.function_laws.specs.declared.history.Name.{Name}
@@ -35,8 +38,8 @@ use Rattle.dd_session.specs.Listings.{IsListed}
 use Rattle.dd_session.specs.Sessions.{Called, Denies, HasRoom, IsAsBefore, IsLive as IsRow, IsLiveAs, Managed, Seen, kind_of, stands_now, variables_in}
 use Rattle.dd_session.proofs.SessionLaws.{dropped_stays, evaluated_as, live_now, made_as, now_live, posted_stays, table_of, valued_stays}
 use Rattle.net_builds.specs.declared.host.HostRefusal.{HostRefusal}
-use Rattle.net_builds.specs.Standings.{Asks, Fetches, IsCaused, IsHeld, IsLive, IsQuiet, LetsGo, Lists, Makes, Posts, Works, values_of}
-use Rattle.net_jobs.specs.Hosts.{IsRefusedBy, named_by, standing_of}
+use Rattle.net_builds.specs.Standings.{Asks, Fetches, IsCaused, IsHeld, IsLive, IsQuiet, KeepsOrders, LetsGo, Lists, Makes, Posts, Works, values_of}
+use Rattle.net_jobs.specs.Hosts.{IsRefusedBy, IsUnsifted, named_by, standing_of}
 use Rattle.net_jobs.proofs.CallLaws.{given}
 use Rattle.net_jobs.proofs.CoverLemmas.{name-apart}
 use Rattle.net_jobs.proofs.OutcomeKinds.{IsOfKind, fetch-kind, is_plain, kind_or}
@@ -65,6 +68,28 @@ variables_stay old new call reply place called = ap₂ (λ (n : ℕ) (m : Manage
 notes_kept : (old new : Seen) → new.noted ≡ old.noted → (standing_of new).notes ≡ (standing_of old).notes
 notes_kept old new is = λ i. (standing_of (record old { noted = is i })).notes
 
+-- one entry more, which leaves the orders as they are
+keeps_more : (since : ℕ) (es : List Entry) (e : Entry) → KeepsOrders e → All KeepsOrders (drop since es) → All KeepsOrders (drop since (es ++ e ∷ []))
+keeps_more zero es e keeps all = All-append KeepsOrders es (e ∷ []) all (All-cons KeepsOrders e [] keeps (All-nil KeepsOrders))
+keeps_more (suc since) [] e keeps all = none since
+  where
+    none : (k : ℕ) → All KeepsOrders (drop k [])
+    none zero = All-nil KeepsOrders
+    none (suc k) = All-nil KeepsOrders
+keeps_more (suc since) (x ∷ es) e keeps all = keeps_more since es e keeps all
+
+-- and so a call more
+pub still_unsifted : (m : Managed) (since : ℕ) (old new : Seen) (call : Call) (reply : Reply) (place : ℕ) → Called old new call reply place
+    → KeepsOrders (entry place old.number call reply) → IsUnsifted m since old → IsUnsifted m since new
+still_unsifted m since old new call reply place called keeps own = record {
+  own = called.manager_is ∙ own.own;
+  keeps = subst (λ (es : List Entry). All KeepsOrders (drop since es)) (sym called.entries_are) (keeps_more since old.entries (entry place old.number call reply) keeps own.keeps);
+}
+
+-- behind all of them there is none
+pub none_gained : (es : List Entry) → All KeepsOrders (drop (length es) es)
+none_gained es = subst (λ (xs : List Entry). All KeepsOrders (drop (length es) xs)) (append-nil es) (subst (All KeepsOrders) (sym (drop-append_seam es [])) (All-nil KeepsOrders))
+
 module _ (old new : Seen) (call : Call) where
   -- a call that neither posts nor adds a variable
   module _ (reply : Reply) (place : ℕ) (called : Called old new call reply place) where
@@ -85,7 +110,7 @@ module _ (old new : Seen) (call : Call) where
     made f is =
         let gave = given old new call (replies.Made name) place called name plain refl in
         record {
-          works = works (replies.Made name) place called (record { plain = record { unnumbered = refl; ordered = λ orders. refl }; posts = posts });
+          works = works (replies.Made name) place called (record { plain = refl; posts = posts });
           holds = record {
             stands = made_as old new call name place called (Bdd (list_of (2 ^ variables_in old) f)) is ∙ ap (λ n. values_of n f) (sym (variables_stay old new call (replies.Made name) place called));
             given = omega (arith, gave.generation, called.adds_are);
@@ -124,11 +149,15 @@ module _ (old new : Seen) (call : Call) where
           limit = limit ∙ ap (λ (m : Managed). m.limit) (sym called.manager_is);
         }
 
-  -- the session is still one of its manager
-  pub named_own : (told : Result (Placed Name) Refusal) → Tells told → new.manager ≡ old.manager
-  named_own (Ok placed) called = called.manager_is
-  named_own (Err refusals.Memory) denies = ap (λ (s : Seen). s.manager) denies.0
-  named_own (Err (refusals.Full full)) denies = denies.0.manager_is
+  -- the session is still one of its manager, and left the orders as they are
+  pub named_own : (m : Managed) (since : ℕ) (told : Result (Placed Name) Refusal) → Tells told → IsUnsifted m since old → IsUnsifted m since new
+  named_own m since (Ok placed) called own = still_unsifted m since old new call (replies.Made placed.value) placed.place called (λ orders. refl) own
+  named_own m since (Err refusals.Memory) denies own = record {
+    own = ap (λ (s : Seen). s.manager) denies.0 ∙ own.own;
+    keeps = subst (λ (s : Seen). All KeepsOrders (drop since s.entries)) (sym denies.0) own.keeps;
+  }
+  named_own m since (Err (refusals.Full full)) denies own =
+      still_unsifted m since old new call (replies.Full full.in_use full.need) full.place denies.0 (λ orders. refl) own
 
   -- a call that is refused for want of memory alone
   pub denied : (told : Result (Placed Name) Refusal)
@@ -174,7 +203,7 @@ module _ (s : Seen) (board : ℕ → Option Function) where
 module _ (old new : Seen) where
   pub lets_go : (a : Name) (place : ℕ) → Called old new (calls.DropRow a) replies.Done place → length new.rows + 1 ≡ length old.rows → LetsGo (standing_of old) (standing_of new) a
   lets_go a place called fewer = record {
-    works = works old new (calls.DropRow a) replies.Done place called (record { plain = record { unnumbered = refl; ordered = λ orders. refl }; posts = λ cell. refl });
+    works = works old new (calls.DropRow a) replies.Done place called (record { plain = refl; posts = λ cell. refl });
     kept = λ other apart. dropped_stays old new a place called other (name-apart other a apart);
     rows = fewer;
   }
@@ -183,7 +212,7 @@ module _ (old new : Seen) where
   module _ (a : Name) (bits : List Bool) (told : ℤ) (place : ℕ) (called : Called old new (calls.Eval a bits) (replies.Value told) place) where
     pub asks : Asks (standing_of old) (standing_of new)
     asks = record {
-      works = works old new (calls.Eval a bits) (replies.Value told) place called (record { plain = record { unnumbered = refl; ordered = λ orders. refl }; posts = λ cell. refl });
+      works = works old new (calls.Eval a bits) (replies.Value told) place called (record { plain = refl; posts = λ cell. refl });
       kept = valued_stays old new (calls.Eval a bits) told place called;
       rows = omega (arith, called.few);
     }
@@ -191,15 +220,15 @@ module _ (old new : Seen) where
     pub valued : length bits ≡ variables_in old → (f : List Bool) → stands_now old a ≡ Some (Bdd f) → told ≡ pos (digit (truth f (assignment_of bits)))
     valued long f stands = evaluated_as old new a bits told place called (Bdd f) stands ∙ ap (λ bs. pos (digit (truth f (assignment_of bs)))) (take_all (variables_in old) bits (omega (arith, long)))
 
-  pub posts : (a : Name) (place : ℕ) → Called old new (calls.Post 0 a) replies.Done place → Posts (standing_of old) (standing_of new) a place
-  posts a place called = record {
-    vars_are = variables_stay old new (calls.Post 0 a) replies.Done place called;
+  pub posts : (cell : ℕ) (a : Name) (place : ℕ) → Called old new (calls.Post cell a) replies.Done place → Posts cell (standing_of old) (standing_of new) a place
+  posts cell a place called = record {
+    vars_are = variables_stay old new (calls.Post cell a) replies.Done place called;
     number_is = called.number_is;
     notes_are = notes_kept old new called.noted_are;
     adds_are = omega (arith, called.adds_are);
     rows = omega (arith, called.few);
     entries_are = called.entries_are;
-    kept = posted_stays old new 0 a place called;
+    kept = posted_stays old new cell a place called;
   }
 
   is_bdd : (f : Function) → kind_of f ≡ kinds.Bdd → (g : List Bool) × (f ≡ Bdd g)
@@ -207,13 +236,13 @@ module _ (old new : Seen) where
   is_bdd (Add g) is = cc
   is_bdd (Zdd g) is = cc
 
-  pub fetches : (other to : Name) (posted : Bool) (place : ℕ) → Called old new (calls.Fetch 0 other) (replies.Fetched to posted) place → IsLive (standing_of old) other
-      → Fetches (standing_of old) (standing_of new) other to posted place
-  fetches other to posted place called live =
-      let gave = given old new (calls.Fetch 0 other) (replies.Fetched to posted) place called to refl refl in
-      let bdd = is_bdd gave.function (gave.kind kinds.Bdd (λ z cells o at. subst (λ (k : Kind). IsOfKind k o) (ap kind_or live.1) (fetch-kind z cells (stands_now old) 0 other o at))) in
+  pub fetches : (cell : ℕ) (other to : Name) (posted : Bool) (place : ℕ) → Called old new (calls.Fetch cell other) (replies.Fetched to posted) place → IsLive (standing_of old) other
+      → Fetches cell (standing_of old) (standing_of new) other to posted place
+  fetches cell other to posted place called live =
+      let gave = given old new (calls.Fetch cell other) (replies.Fetched to posted) place called to refl refl in
+      let bdd = is_bdd gave.function (gave.kind kinds.Bdd (λ z cells o at. subst (λ (k : Kind). IsOfKind k o) (ap kind_or live.1) (fetch-kind z cells (stands_now old) cell other o at))) in
       record {
-        vars_are = variables_stay old new (calls.Fetch 0 other) (replies.Fetched to posted) place called;
+        vars_are = variables_stay old new (calls.Fetch cell other) (replies.Fetched to posted) place called;
         number_is = called.number_is;
         notes_are = notes_kept old new called.noted_are;
         more = omega (arith, called.adds_are);
@@ -223,6 +252,15 @@ module _ (old new : Seen) where
         kept = λ name below. gave.others name (name-apart name to (λ same. omega (arith, same, below, gave.generation)));
         rows = called.few;
       }
+
+  -- a fetch behind a reservation of rows
+  pub fetched_unsifted : (m : Managed) (since cell place : ℕ) (other to : Name) (posted : Bool) → Fetches cell (standing_of old) (standing_of new) other to posted place → new.manager ≡ old.manager
+      → IsUnsifted m since old → IsUnsifted m since new
+  fetched_unsifted m since cell place other to posted fetched same own = record {
+    own = same ∙ own.own;
+    keeps = subst (λ (es : List Entry). All KeepsOrders (drop since es)) (sym fetched.entries_are)
+        (keeps_more since old.entries (entry place old.number (calls.Fetch cell other) (replies.Fetched to posted)) (λ orders. refl) own.keeps);
+  }
 
   pub lists : (names : List Name) (listing : Listing) → IsListed old new names listing → Lists (standing_of old) (standing_of new) names listing
   lists names listing is = record {
@@ -243,9 +281,15 @@ module _ (old new : Seen) where
         by (Ok listing) is = lists names listing is
         by (Err memory) is = tt
 
-    pub listed_own : new.manager ≡ old.manager
-    listed_own = by result told
+    pub listed_own : (m : Managed) (since : ℕ) → IsUnsifted m since old → IsUnsifted m since new
+    listed_own m since own = by result told
       where
-        by : (result : Result Listing Memory) → MatchResult result (IsListed old new names) (λ _. IsAsBefore old new) → new.manager ≡ old.manager
-        by (Ok listing) is = ap (λ (s : Seen). s.manager) is.new_is
-        by (Err memory) is = ap (λ (s : Seen). s.manager) is.0
+        by : (result : Result Listing Memory) → MatchResult result (IsListed old new names) (λ _. IsAsBefore old new) → IsUnsifted m since new
+        by (Ok listing) is = record {
+          own = ap (λ (s : Seen). s.manager) is.new_is ∙ own.own;
+          keeps = subst (λ (s : Seen). All KeepsOrders (drop since s.entries)) (sym is.new_is) own.keeps;
+        }
+        by (Err memory) is = record {
+          own = ap (λ (s : Seen). s.manager) is.0 ∙ own.own;
+          keeps = subst (λ (s : Seen). All KeepsOrders (drop since s.entries)) (sym is.0) own.keeps;
+        }

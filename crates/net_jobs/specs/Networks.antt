@@ -6,9 +6,9 @@ use Rattle.net_builds.specs.declared.host.HostRefusal.{HostRefusal}
 use Rattle.net_builds.specs.declared.host.HostRefusal.TheVariants as stops
 use Rattle.net_jobs.specs.Hosts.{IsRefusedBy}
 
--- a session of the manager that has no live row
+-- a session of the manager that has no live row, and knows of no variable that was added
 abbrev pub IsFreshOf : Managed → Seen → Type 0
-IsFreshOf m s = (s.manager ≡ m) × (s.rows ≡ [])
+IsFreshOf m s = (s.manager ≡ m) × (s.rows ≡ []) × (s.more_variables ≡ 0)
 
 -- a manager for so many inputs, and its one session
 pub record IsOpenedFor (inputs limit : ℕ) (m : Managed) (sessions : List Seen) : Type 0 where

@@ -1,6 +1,6 @@
 //! What a command is answered.
 
-ghost use Rattle.std.specs.Prelude.{◌≡◌, ℕ, Bool, List, true, false, IfOk, IsOk, MatchResult};
+ghost use Rattle.std.specs.Prelude.{◌≡◌, ℕ, Bool, List, true, false, IfOk, MatchResult};
 ghost use Rattle.function_laws.specs.declared.history.Call.{Call};
 ghost use Rattle.function_laws.specs.declared.history.Call.TheVariants as calls;
 ghost use Rattle.function_laws.specs.declared.history.Reply.TheVariants as laws;
@@ -11,7 +11,7 @@ ghost use Rattle.dd_session.specs.Managing.{is_posted};
 ghost use Rattle.dd_session.specs.Sessions.{Called, Denies, Seen};
 ghost use Rattle.net_jobs.specs.Saying.{IsAnswered, makes_row};
 
-use dd_session::{Again, Fetched, Full, Overflow, Placed, Refusal};
+use dd_session::{Fetched, Full, Overflow, Placed, Refusal};
 use edge_bits::Memory;
 use function_laws::Name;
 use job_text::Reply;
@@ -120,16 +120,12 @@ pub fn yes_or_no(told: Placed<bool>) -> Answered
 }
 
 /// What an evaluation is answered.
-pub fn valued(told: Result<Placed<i64>, Again>) -> Answered
-    requires { IsOk told }
-    ensures { (old new : Seen) (call : Call) → makes_row call ≡ false → IfOk told (λ placed. Called old new call (laws.Value placed.value) placed.place) → IsAnswered old new call result }
+pub fn valued(told: Placed<i64>) -> Answered
+    ensures { (old new : Seen) (call : Call) → makes_row call ≡ false → Called old new call (laws.Value told.value) told.place → IsAnswered old new call result }
 {
-    match told {
-        Ok(placed) => Answered {
-            place: placed.place,
-            reply: Reply::Number(placed.value),
-            made: None,
-        },
-        Err(_) => unreachable!(),
+    Answered {
+        place: told.place,
+        reply: Reply::Number(told.value),
+        made: None,
     }
 }

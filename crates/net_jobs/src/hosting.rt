@@ -1,27 +1,30 @@
 //! The sessions of a manager, as those that build the functions of networks.
 
 ghost use Rattle.std.specs.Prelude.{◌≡◌, ◌<◌, ◌≤◌, ◌^◌, length};
-ghost use Rattle.edge_bits.specs.declared.limits.TheConstants.{MOST_ROWS};
+ghost use Rattle.edge_bits.specs.declared.limits.TheConstants.{CELLS, MOST_ROWS};
 ghost use Rattle.dd_session.specs.Managing.{is_posted};
 ghost use Rattle.net_builds.specs.Standings.{Fetches, IsLive};
 ghost use Rattle.net_jobs.specs.Hosts.{named_by, standing_of};
 
+use crate::evaluation::evaluate;
 use crate::gate::Gate;
 use crossbeam_utils::Backoff;
-use dd_session::{Full, Manager, Refusal, Session};
+use dd_session::{Fetched, Full, Manager, Placed, Refusal, Session};
 use diagram_dumps::Listing;
 use edge_bits::Memory;
 use function_laws::Name;
-use net_builds::{Fetched, Host, HostRefusal, Placed};
+use net_builds::{Host, HostRefusal, Taken, Told};
 use std::sync::Wait;
 
-/// A manager whose sessions build functions. The gate is passed before each output, with the number of the worker.
+/// A manager whose sessions build functions. The gate is passed before each output, with the number of the worker. `since` is how
+/// many calls its session has made: those behind them swap no levels and sift nothing.
 #[derive(Drop)]
 pub struct SessionHost<'a, R, G> {
     pub rt: &'a R,
     pub manager: &'a Manager,
     pub gate: &'a G,
     pub worker: u32,
+    pub since: u64,
 }
 
 /// Waits for ever where the session has made all the calls that it may make.
@@ -39,7 +42,7 @@ fn ready<R: Wait>(rt: &R, session: &Session)
 }
 
 /// The name that a call made, without its place.
-fn named(told: Result<dd_session::Placed<Name>, Refusal>) -> Result<Name, HostRefusal<Full>>
+fn named(told: Result<Placed<Name>, Refusal>) -> Result<Name, HostRefusal<Full>>
     ensures { result ≡ named_by told }
 {
     match told {
@@ -50,42 +53,44 @@ fn named(told: Result<dd_session::Placed<Name>, Refusal>) -> Result<Name, HostRe
 }
 
 /// Whether a fetch took what the board had.
-fn was_posted(from: dd_session::Fetched) -> bool
+fn was_posted(from: Fetched) -> bool
     ensures { result ≡ is_posted from }
 {
     match from {
-        dd_session::Fetched::Posted => true,
-        dd_session::Fetched::Empty => false,
+        Fetched::Posted => true,
+        Fetched::Empty => false,
     }
 }
 
-/// Fetches from the first cell of the board. There is room for a row.
+/// Fetches from a cell of the board. There is room for a row.
 fn fetch_row<R: Wait>(
     rt: &R,
     manager: &Manager,
     session: &mut Session,
+    cell: u32,
     other: Name,
-) -> Placed<Fetched>
+) -> Told<Taken>
+    requires cell { cell < CELLS }
     requires own { session.old.manager ≡ manager.now }
     requires room { length session.old.rows < MOST_ROWS }
     requires spare { 1 ≤ session.old.spare }
     requires live { IsLive (standing_of session.old) other }
     ensures own { session.new.manager ≡ session.old.manager }
-    ensures fetches { Fetches (standing_of session.old) (standing_of session.new) other result.value.name result.value.posted result.place }
+    ensures fetches { Fetches cell (standing_of session.old) (standing_of session.new) other result.value.name result.value.posted result.place }
 {
     ready(rt, session);
-    let fetched = session.fetch(rt, manager, 0, other);
+    let fetched = session.fetch(rt, manager, cell as u8, other);
     let (name, from) = fetched.value;
     let posted = was_posted(from);
-    Placed {
+    Told {
         place: fetched.place,
-        value: Fetched { name, posted },
+        value: Taken { name, posted },
     }
 }
 
 impl<'a, R: Wait, G: Gate> Host for SessionHost<'a, R, G> {
     ghost use Rattle.std.specs.Prelude.{◌≡◌};
-    ghost use Rattle.net_jobs.specs.Hosts.{IsRefusedBy, standing_of};
+    ghost use Rattle.net_jobs.specs.Hosts.{IsRefusedBy, IsUnsifted, standing_of};
 
     type Session = Session;
 
@@ -93,7 +98,7 @@ impl<'a, R: Wait, G: Gate> Host for SessionHost<'a, R, G> {
 
     ghost standing = { λ s. standing_of s };
 
-    ghost has = { λ host s. s.manager ≡ host.manager.now };
+    ghost has = { λ host s. IsUnsifted host.manager.now host.since s };
 
     ghost refused = { λ s full. IsRefusedBy s full };
 
@@ -147,16 +152,13 @@ impl<'a, R: Wait, G: Gate> Host for SessionHost<'a, R, G> {
 
     fn value(&self, session: &mut Session, f: Name, bits: &[bool]) -> bool {
         ready(self.rt, session);
-        match session.eval(self.rt, self.manager, f, bits) {
-            Ok(placed) => placed.value != 0,
-            Err(_) => unreachable!(),
-        }
+        evaluate(self.rt, self.manager, session, f, bits).value != 0
     }
 
-    fn post(&self, session: &mut Session, f: Name) -> Placed<()> {
+    fn post(&self, session: &mut Session, cell: u32, f: Name) -> Told<()> {
         ready(self.rt, session);
-        let posted = session.post(self.rt, self.manager, 0, f);
-        Placed {
+        let posted = session.post(self.rt, self.manager, cell as u8, f);
+        Told {
             place: posted.place,
             value: (),
         }
@@ -165,10 +167,11 @@ impl<'a, R: Wait, G: Gate> Host for SessionHost<'a, R, G> {
     fn fetch(
         &self,
         session: &mut Session,
+        cell: u32,
         other: Name,
-    ) -> Result<Placed<Fetched>, HostRefusal<Full>> {
+    ) -> Result<Told<Taken>, HostRefusal<Full>> {
         match session.reserve(1) {
-            Ok(()) => Ok(fetch_row(self.rt, self.manager, session, other)),
+            Ok(()) => Ok(fetch_row(self.rt, self.manager, session, cell, other)),
             Err(Memory) => Err(HostRefusal::Memory),
         }
     }

@@ -2,6 +2,7 @@
 #![tactic(auto)]
 
 mod answering;
+mod evaluation;
 mod finding;
 mod gate;
 mod halves;

@@ -5,9 +5,9 @@ ghost use Rattle.edge_bits.specs.declared.limits.TheConstants.{MOST_BITS, MOST_L
 ghost use Rattle.blif_net.specs.Bounds.{IsBounded};
 ghost use Rattle.blif_net.specs.declared.net.Net.{Net as NetOf};
 ghost use Rattle.blif_net.specs.Networks.{IsBlifText};
-ghost use Rattle.net_builds.specs.Builds.{Builds, Reports, SumsUp};
+ghost use Rattle.net_builds.specs.Builds.{AreUnsifted, Builds, Reports, SumsUp};
 ghost use Rattle.net_reports.specs.GenTexts.{gen_text};
-ghost use Rattle.net_reports.specs.Reports.{IsReport, IsSummary, net_subject};
+ghost use Rattle.net_reports.specs.Reports.{IsReport, IsSummary, net_subject, output_functions};
 ghost use Rattle.net_jobs.specs.Ends.{rising};
 ghost use Rattle.net_jobs.specs.Hosts.{standing_of};
 ghost use Rattle.net_jobs.specs.Networks.{IsFilledBy, IsFreshOf, IsOpenedFor, IsRefusedIn};
@@ -24,6 +24,9 @@ use std::alloc::Global;
 use std::hash::RandomState;
 use std::random::RandomSource;
 use std::sync::Wait;
+
+/// The cell of the board by which outputs are handed over.
+pub const OUTPUTS_CELL: u32 = 0;
 
 /// Why a part has nothing to tell: want of memory, or a call of a session was refused for a full node table.
 pub type PartStop = HostRefusal<Full>;
@@ -46,7 +49,8 @@ pub fn build<R: Wait, G: Gate>(
     requires unsifted { options.now.sift ≡ false }
     requires unstored { options.now.store ≡ false }
     ensures own { All (λ s. s.manager ≡ manager.now) sessions.new }
-    ensures built { IfOk result (λ text. Builds (Reports net.now options.now.patterns) net.now (map standing_of sessions.old) (map standing_of sessions.new) text.items) }
+    ensures unsifted { AreUnsifted (map standing_of sessions.old) (map standing_of sessions.new) }
+    ensures built { IfOk result (λ text. Builds (Reports net.now options.now.patterns) OUTPUTS_CELL (output_functions net.now) (map standing_of sessions.old) (map standing_of sessions.new) text.items) }
     ensures full { IfErr result (IsRefusedIn sessions.new) }
 {
     let host = SessionHost {
@@ -54,9 +58,18 @@ pub fn build<R: Wait, G: Gate>(
         manager,
         gate,
         worker: 0,
+        since: sessions[0].calls(),
     };
     let patterns = options.patterns.as_slice();
-    build_report(rt, alloc, &host, &mut sessions[0], net, patterns)
+    build_report(
+        rt,
+        alloc,
+        &host,
+        &mut sessions[0],
+        OUTPUTS_CELL,
+        net,
+        patterns,
+    )
 }
 
 /// The network that is made for so many bits. Its text has no fault, so memory may be wanted and nothing else.
@@ -92,7 +105,8 @@ pub fn generate<R: Wait + RandomSource, G: Gate>(
     requires bits { bits ≤ MOST_BITS }
     requires vars { manager.now.vars ≡ 2 * bits }
     ensures own { All (λ s. s.manager ≡ manager.now) sessions.new }
-    ensures built { IfOk result (λ text. (net : NetOf) × IsBlifText (gen_text bits) net × (length net.inputs ≡ 2 * bits) × Builds (SumsUp net) net (map standing_of sessions.old) (map standing_of sessions.new) text.items) }
+    ensures unsifted { AreUnsifted (map standing_of sessions.old) (map standing_of sessions.new) }
+    ensures built { IfOk result (λ text. (net : NetOf) × IsBlifText (gen_text bits) net × (length net.inputs ≡ 2 * bits) × Builds (SumsUp net) OUTPUTS_CELL (output_functions net) (map standing_of sessions.old) (map standing_of sessions.new) text.items) }
     ensures full { IfErr result (λ stop. (stop ≡ HostRefusal.Memory) ⊎ ((net : NetOf) × IsBlifText (gen_text bits) net × (length net.inputs ≡ 2 * bits) × IsRefusedIn sessions.new stop)) }
 {
     let Ok(net) = made(rt, alloc, bits) else {
@@ -104,8 +118,9 @@ pub fn generate<R: Wait + RandomSource, G: Gate>(
         manager,
         gate,
         worker: 0,
+        since: sessions[0].calls(),
     };
-    build_summary(rt, alloc, &host, &mut sessions[0], &net)
+    build_summary(rt, alloc, &host, &mut sessions[0], OUTPUTS_CELL, &net)
 }
 
 /// A manager with one session, for so many inputs and so many slots beyond the permanent ones.

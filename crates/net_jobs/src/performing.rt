@@ -9,6 +9,7 @@ ghost use Rattle.net_jobs.specs.Sections.{counts_of};
 ghost use Rattle.net_jobs.specs.Saying.{AnswersAct, CanCall, CanMake, IsAnswered, IsKept, name_at};
 
 use crate::answering::{Answered, answer_of, done, fetched, made, swapped, valued, yes_or_no};
+use crate::evaluation::evaluate;
 use crate::registers::{Assigned, Registers, at};
 use dd_session::{Blocks, H, Manager, Session};
 use edge_bits::{List, Memory};
@@ -121,7 +122,13 @@ pub fn perform<R: Wait>(
         Act::Sift(order) => sift(rt, alloc, manager, session, *order)?,
         Act::Same(a, b) => { yes_or_no(session.same(rt, manager, at(names, *a), at(names, *b))) }
         Act::Leq(a, b) => { yes_or_no(session.leq(rt, manager, at(names, *a), at(names, *b))?) }
-        Act::Eval(a, bits) => { valued(session.eval(rt, manager, at(names, *a), bits.as_slice())) }
+        Act::Eval(a, bits) => valued(evaluate(
+            rt,
+            manager,
+            session,
+            at(names, *a),
+            bits.as_slice(),
+        )),
         Act::Makes(making) => make(rt, alloc, manager, session, names, making)?,
     })
 }

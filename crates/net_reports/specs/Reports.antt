@@ -1,5 +1,5 @@
 -- The report of a network or of a stored diagram, and the summary of a network.
-use Rattle.std.specs.Prelude.{◌≡◌, ℕ, ◌==◌, Bool, List, [], ◌++◌, codes, length, map, count_by, if◌then◌else◌}
+use Rattle.std.specs.Prelude.{◌≡◌, ℕ, ◌==◌, Bool, List, [], ◌++◌, codes, length, map, count_by, IsPermutation, if◌then◌else◌}
 use Rattle.std.specs.List.{enumerate_from, flat_map, range_with_len, zip}
 use Rattle.std.specs.Fmt.{decimal}
 use Rattle.function_laws.specs.Kinds.{BddFunction}
@@ -73,14 +73,16 @@ node_count order functions = size (record { variables = order; elements = [] }) 
 abbrev pub evaluations_of : Subject → List Evaluation
 evaluations_of subject = map (evaluation_at subject.n subject.functions) subject.patterns
 
--- The text is a report of this subject.
+-- The text is a report of this subject, whose order has each of its variables once.
 pub record IsReport (subject : Subject) (text : List ℕ) : Type 0 where
+  pub orders : IsPermutation (range_with_len 0 subject.n) subject.order
   pub classes : List Class
   pub are_classes : AreClasses subject.n subject.functions classes
   pub bytes : text ≡ report_text subject.n subject.names classes (evaluations_of subject) subject.order (node_count subject.order subject.functions)
 
--- The text is the summary of this subject: the outputs that are their own first are counted, not listed.
+-- The text is the summary of this subject, whose order has each of its variables once: the outputs that are their own first are counted, not listed.
 pub record IsSummary (subject : Subject) (text : List ℕ) : Type 0 where
+  pub orders : IsPermutation (range_with_len 0 subject.n) subject.order
   pub classes : List Class
   pub are_classes : AreClasses subject.n subject.functions classes
   pub bytes : text ≡ summary_text subject.n (length subject.names) (count_firsts classes) (node_count subject.order subject.functions)

@@ -1,7 +1,7 @@
 //! The report of a network or of a stored diagram, and the summary of a network.
 
-ghost use Rattle.std.specs.Prelude.{◌≡◌, ◌++◌, [], List as ListOf, ℕ, codes, IfOk, OnOk, length, map};
-ghost use Rattle.std.specs.List.{flat_map};
+ghost use Rattle.std.specs.Prelude.{◌≡◌, ◌++◌, [], List as ListOf, ℕ, codes, IfOk, IsPermutation, OnOk, length, map};
+ghost use Rattle.std.specs.List.{flat_map, range_with_len};
 ghost use Rattle.net_reports.specs.Classes.{AreClasses};
 ghost use Rattle.net_reports.specs.Evaluations.{AreValues, patterns_of};
 ghost use Rattle.net_reports.specs.Reports.{IsReport, IsSummary, count_firsts, count_line, dump_subject, eval_line, net_subject, node_count, out_lines, output_functions, output_names, report_text, rest_text, root_names, summary_text};
@@ -97,7 +97,8 @@ pub fn report(
     requires { length classes.now ≡ length net.now.outputs }
     ensures text { IfOk result (λ text. text.items ≡ report_text (length net.now.inputs) (output_names net.now) classes.now evaluations.now order.now nodes) }
     ensures report { IfOk result (λ text.
-        AreClasses (length net.now.inputs) (output_functions net.now) classes.now
+        IsPermutation (range_with_len 0 (length net.now.inputs)) order.now
+        → AreClasses (length net.now.inputs) (output_functions net.now) classes.now
         → AreValues (length net.now.inputs) (output_functions net.now) evaluations.now
         → nodes ≡ node_count order.now (output_functions net.now)
         → IsReport (net_subject net.now order.now (patterns_of evaluations.now)) text.items) }
@@ -121,7 +122,8 @@ pub fn dump_report(
     requires { length classes.now ≡ length dump.now.roots }
     ensures text { IfOk result (λ text. text.items ≡ report_text dump.now.nvars (root_names (length dump.now.roots)) classes.now evaluations.now order.now nodes) }
     ensures report { IfOk result (λ text.
-        AreClasses dump.now.nvars (root_functions dump.now) classes.now
+        IsPermutation (range_with_len 0 dump.now.nvars) order.now
+        → AreClasses dump.now.nvars (root_functions dump.now) classes.now
         → AreValues dump.now.nvars (root_functions dump.now) evaluations.now
         → nodes ≡ node_count order.now (root_functions dump.now)
         → IsReport (dump_subject dump.now order.now (patterns_of evaluations.now)) text.items) }
@@ -148,6 +150,7 @@ fn count_firsts(classes: &[Class]) -> usize
 pub fn summary(alloc: Global, net: &Net, classes: &[Class], nodes: usize) -> Result<Vec<u8>, Memory>
     ensures text { IfOk result (λ text. text.items ≡ summary_text (length net.now.inputs) (length net.now.outputs) (count_firsts classes.now) nodes) }
     ensures summary { IfOk result (λ text. (order : ListOf ℕ)
+        → IsPermutation (range_with_len 0 (length net.now.inputs)) order
         → AreClasses (length net.now.inputs) (output_functions net.now) classes.now
         → nodes ≡ node_count order (output_functions net.now)
         → IsSummary (net_subject net.now order []) text.items) }

@@ -30,7 +30,7 @@ loop-name-preserved g c =
     (c.is_behind.ensures c.wait_unless.ensures (subst {A = List Handover} (AreInTurn 0) (sym {A = List Handover} {a = seen} {b = earlier} c.deref.ensures.value) so_far.turns) one.turns) in
     record {
       own = c.in_ok-next.ensures.back.own;
-      handed = hands_more (g.H.Host.standing c.args.session.now) (g.H.Host.standing c.loop-name.session) (g.H.Host.standing c.hand_one.new.session) c.args.names.now
+      handed = hands_more c.args.cell (g.H.Host.standing c.args.session.now) (g.H.Host.standing c.loop-name.session) (g.H.Host.standing c.hand_one.new.session) c.args.names.now
           c.loop-name.name-index no_name earlier c.push.new.self.items next c.loop-name-test.true so_far one turns c.in_ok-push.ensures.items;
     }
 

@@ -1,12 +1,19 @@
--- The fetched functions have the values of the outputs, and the order is 0, 1, 2, ..
-use Rattle.std.proofs.Common.{[], length}
-use Rattle.net_builds.specs.Builds.{SumsUp}
-use Rattle.net_reports.specs.Reports.{output_functions, output_names}
+-- The fetched functions have the values of the wanted ones.
+use Rattle.std.proofs.Common.{List, ℕ, [], subst}
+use Rattle.net_builds.specs.Builds.{SumsUpOf}
 use Rattle.net_builds.proofs.SameReports.{summary_same}
-use Rattle.net_builds.proofs.ToldLaws.{told_true}
+use Rattle.net_builds.proofs.ToldLaws.{told_order, told_same, unsifted_order}
 use Rattle.net_builds.proofs.laws.summaries_are_true.Goals as goal
 
-pub returns : goal.returns
-returns c = λ net sizes log old new text all wide fresh history builds.
-    let told = told_true (SumsUp net) net sizes log old new text all wide fresh history builds in
-    summary_same (length net.inputs) (output_names net) [] told.0 (output_functions net) told.1 text told.2
+pub returns-clause-told : goal.returns-clause-told
+returns-clause-told c = λ n names wanted sizes log old new cell text wide fresh history built.
+    let Tells = SumsUpOf n names in (
+      summary_same n names [] built.functions wanted (told_same Tells n wanted sizes log old new cell text wide fresh history built) built.note.order text built.tells,
+      told_order Tells n wanted sizes log old new cell text wide fresh history built,
+    )
+
+pub returns-clause-unsifted : goal.returns-clause-unsifted
+returns-clause-unsifted c = λ n names wanted sizes log old new cell text all wide fresh unsifted history built.
+    let Tells = SumsUpOf n names in
+    subst (λ (order : List ℕ). Tells wanted order text) (unsifted_order Tells n wanted sizes log old new cell text wide fresh history built all unsifted)
+    (summary_same n names [] built.functions wanted (told_same Tells n wanted sizes log old new cell text wide fresh history built) built.note.order text built.tells)

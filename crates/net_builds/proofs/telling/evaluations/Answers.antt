@@ -3,7 +3,7 @@ use Rattle.std.proofs.lemmas.Grind.{common_steps}
 use Rattle.std.proofs.lemmas.List.Elements.{All-weaker}
 use Rattle.net_builds.specs.Standings.{IsLive}
 use Rattle.net_builds.proofs.Classed.{classed_asked}
-use Rattle.net_builds.proofs.Told.{asks_on, evaluations_more, held_asked}
+use Rattle.net_builds.proofs.TellingLemmas.{asks_on, evaluations_more, held_asked}
 use Rattle.net_builds.proofs.telling.evaluations.Goals as goal
 
 pub evaluate-requires-clause-may : goal.evaluate-requires-clause-may

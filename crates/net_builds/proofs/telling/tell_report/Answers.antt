@@ -5,7 +5,7 @@ use Rattle.net_reports.specs.declared.patterns.Evaluation.{Evaluation}
 use Rattle.net_builds.specs.Builds.{Reports}
 use Rattle.net_builds.specs.Standings.{IsLive}
 use Rattle.net_builds.proofs.Classed.{classed_listed}
-use Rattle.net_builds.proofs.Told.{held_listed, is_told, many_classes, reported, room_listed}
+use Rattle.net_builds.proofs.TellingLemmas.{held_listed, is_told, many_classes, reported, room_listed}
 use Rattle.net_builds.proofs.telling.tell_report.Goals as goal
 
 pub evaluations-requires-clause-may : goal.evaluations-requires-clause-may

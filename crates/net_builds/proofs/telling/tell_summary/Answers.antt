@@ -1,7 +1,7 @@
 use Rattle.std.proofs.Common.{[], List, ℕ}
 use Rattle.net_reports.specs.declared.classes.Class.{Class}
 use Rattle.net_builds.specs.Builds.{SumsUp}
-use Rattle.net_builds.proofs.Told.{asks_none, is_told, summed_up}
+use Rattle.net_builds.proofs.TellingLemmas.{asks_none, is_told, summed_up}
 use Rattle.net_builds.proofs.telling.tell_summary.Goals as goal
 
 pub returns-clause-told : goal.returns-clause-told

@@ -4,7 +4,7 @@ use Rattle.function_laws.specs.Values.{assignment_of}
 use Rattle.net_builds.specs.Standings.{IsLive}
 use Rattle.net_builds.specs.Tellings.{values_in}
 use Rattle.net_builds.proofs.Classed.{all_valued, bits_below, next_turned, next_valued}
-use Rattle.net_builds.proofs.Told.{asks_on, held_asked}
+use Rattle.net_builds.proofs.TellingLemmas.{asks_on, held_asked}
 use Rattle.net_builds.proofs.telling.values.Goals as goal
 
 pub class_value-value-requires-clause-held : goal.class_value-value-requires-clause-held

@@ -30,7 +30,7 @@ close-closed-requires g c =
     let is : IsFor c.args.job.now m = record { vars = ok.0; elements = ok.1; limit = c.in-Ok.ensures.limit; sessions = ok.2 ∙ c.len.ensures } in
     let new = c.play.new.sessions in
     let text = c.in_ok-text.text.items in
-    let p : PlaysIn m c.args.job.now.sections (opened m) new text = subst (λ (l : List Seen). PlaysIn m c.args.job.now.sections l new text) (c.deref_mut.ensures.value ∙ ok.3) c.in_ok-text.ensures in
+    let p : PlaysIn m c.args.job.now.sections (opened m) new text = subst (λ (l : List Seen). PlaysIn m c.args.job.now.sections l new text) (c.deref_mut.ensures.value ∙ ok.3) c.in_ok-text.ensures.played in
     subst (AreAll m) (sym (written_back c.args.job.now m c.requires.job is new c.in-Ok.opened.1.items text c.in-Ok.opened.1.len p ok.3 c.in-Ok.opened.1.ok.0)) (are_all c.args.job.now m c.requires.job is new text p)
 
 pub returns : goal.returns
@@ -40,7 +40,7 @@ returns g c =
     let is : IsFor c.args.job.now m = record { vars = ok.0; elements = ok.1; limit = c.in-Ok.ensures.limit; sessions = ok.2 ∙ c.len.ensures } in
     let new = c.play.new.sessions in
     let text = c.in_ok-text.text.items in
-    let p : PlaysIn m c.args.job.now.sections (opened m) new text = subst (λ (l : List Seen). PlaysIn m c.args.job.now.sections l new text) (c.deref_mut.ensures.value ∙ ok.3) c.in_ok-text.ensures in
+    let p : PlaysIn m c.args.job.now.sections (opened m) new text = subst (λ (l : List Seen). PlaysIn m c.args.job.now.sections l new text) (c.deref_mut.ensures.value ∙ ok.3) c.in_ok-text.ensures.played in
     let closed = c.close-closed.ensures in
     is_played c.args.job.now m c.requires.job is new text c.extend_from_slice.new.self.items c.close-closed.result.calls c.close-closed.result.left p
     (subst (λ (l : List Seen). IsClosed m l c.close-closed.result.calls c.close-closed.result.left) (written_back c.args.job.now m c.requires.job is new c.in-Ok.opened.1.items text c.in-Ok.opened.1.len p ok.3 c.in-Ok.opened.1.ok.0) closed.history)

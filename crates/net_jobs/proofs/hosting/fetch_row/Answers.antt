@@ -12,5 +12,5 @@ returns-clause-fetches g c =
     let old = c.args.session.now in
     let new = c.fetch-fetched.new.self in
     let fetched = c.fetch-fetched.result in
-    subst (λ (b : Bool). Fetches (standing_of old) (standing_of new) c.args.other fetched.value.0 b fetched.place) (sym c.was_posted-posted.ensures)
-    (fetches old new c.args.other fetched.value.0 _ fetched.place c.fetch-fetched.ensures.told c.requires.live)
+    subst (λ (b : Bool). Fetches c.args.cell (standing_of old) (standing_of new) c.args.other fetched.value.0 b fetched.place) (sym c.was_posted-posted.ensures)
+    (fetches old new c.args.cell c.args.other fetched.value.0 _ fetched.place c.fetch-fetched.ensures.told c.requires.live)

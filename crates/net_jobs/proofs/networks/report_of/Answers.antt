@@ -1,6 +1,8 @@
 use Rattle.std.proofs.Common.{◌∙◌, ◌≡◌, [], ◌∷◌, List, map, ap, subst, sym, length}
 use Rattle.dd_session.specs.Managing.{AreAll, IsHistoryOf, Seen, newcomer}
-use Rattle.net_builds.specs.Builds.{Builds, Reports}
+use Rattle.net_builds.specs.Builds.{AreUnsifted, Builds, Reports}
+use Rattle.net_reports.specs.Reports.{output_functions}
+use Rattle.net_jobs.specs.declared.networks.TheConstants.{OUTPUTS_CELL}
 use Rattle.net_jobs.specs.Hosts.{standing_of}
 use Rattle.net_jobs.proofs.BuiltHistories.{are_all, reported, written_back}
 use Rattle.net_jobs.proofs.networks.report_of.Goals as goal
@@ -12,10 +14,10 @@ close-closed-requires g c =
     let Tells = Reports net c.args.options.now.patterns in
     let new = c.build.new.sessions in
     let text = c.in_ok-text.text.items in
-    let built : Builds Tells net (map standing_of (newcomer m 0 ∷ [])) (map standing_of new) text =
-    subst (λ (l : List Seen). Builds Tells net (map standing_of l) (map standing_of new) text) (c.deref_mut.ensures.value ∙ c.in-Ok.ensures.sessions_are) c.in_ok-text.ensures.built in
-    subst (AreAll m) (sym (written_back m Tells net new text c.in_ok-text.ensures.own built c.in-Ok.sessions.items c.in-Ok.sessions.len c.in-Ok.ensures.sessions_are c.in-Ok.sessions.ok.0))
-    (are_all m Tells net new text c.in_ok-text.ensures.own built c.in-Ok.ensures.one)
+    let built : Builds Tells OUTPUTS_CELL (output_functions net) (map standing_of (newcomer m 0 ∷ [])) (map standing_of new) text =
+    subst (λ (l : List Seen). Builds Tells OUTPUTS_CELL (output_functions net) (map standing_of l) (map standing_of new) text) (c.deref_mut.ensures.value ∙ c.in-Ok.ensures.sessions_are) c.in_ok-text.ensures.built in
+    subst (AreAll m) (sym (written_back m Tells OUTPUTS_CELL (output_functions net) new text c.in_ok-text.ensures.own built c.in-Ok.sessions.items c.in-Ok.sessions.len c.in-Ok.ensures.sessions_are c.in-Ok.sessions.ok.0))
+    (are_all m Tells OUTPUTS_CELL (output_functions net) new text c.in_ok-text.ensures.own built c.in-Ok.ensures.one)
 
 pub returns-clause-report : goal.returns-clause-report
 returns-clause-report g c =
@@ -25,10 +27,13 @@ returns-clause-report g c =
     let Tells = Reports net patterns in
     let new = c.build.new.sessions in
     let text = c.in_ok-text.text.items in
-    let built : Builds Tells net (map standing_of (newcomer m 0 ∷ [])) (map standing_of new) text =
-    subst (λ (l : List Seen). Builds Tells net (map standing_of l) (map standing_of new) text) (c.deref_mut.ensures.value ∙ c.in-Ok.ensures.sessions_are) c.in_ok-text.ensures.built in
+    let built : Builds Tells OUTPUTS_CELL (output_functions net) (map standing_of (newcomer m 0 ∷ [])) (map standing_of new) text =
+    subst (λ (l : List Seen). Builds Tells OUTPUTS_CELL (output_functions net) (map standing_of l) (map standing_of new) text) (c.deref_mut.ensures.value ∙ c.in-Ok.ensures.sessions_are) c.in_ok-text.ensures.built in
+    let unsifted : AreUnsifted (map standing_of (newcomer m 0 ∷ [])) (map standing_of new) =
+    subst (λ (l : List Seen). AreUnsifted (map standing_of l) (map standing_of new)) (c.deref_mut.ensures.value ∙ c.in-Ok.ensures.sessions_are) c.in_ok-text.ensures.unsifted in
     let vars : m.vars ≡ length net.inputs = c.in-Ok.ensures.vars ∙ ap length c.inputs.ensures in
-    reported c.reports_are_true.ensures m net patterns new text c.close-closed.result.calls vars c.in_ok-text.ensures.own built
+    reported m net new text c.close-closed.result.calls vars c.in_ok-text.ensures.own unsifted
     (subst (λ (l : List Seen). IsHistoryOf m l c.close-closed.result.calls)
-    (written_back m Tells net new text c.in_ok-text.ensures.own built c.in-Ok.sessions.items c.in-Ok.sessions.len c.in-Ok.ensures.sessions_are c.in-Ok.sessions.ok.0)
+    (written_back m Tells OUTPUTS_CELL (output_functions net) new text c.in_ok-text.ensures.own built c.in-Ok.sessions.items c.in-Ok.sessions.len c.in-Ok.ensures.sessions_are c.in-Ok.sessions.ok.0)
     c.close-closed.ensures.history.history)
+    c.reports_are_true.ensures.unsifted patterns built

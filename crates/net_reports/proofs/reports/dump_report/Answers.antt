@@ -13,9 +13,10 @@ returns-clause-text c =
     c.put_roots.new.text.items c.put_rest.new.text.items c.requires c.len.ensures c.in_ok-text.ensures c.in_ok-put_roots.ensures c.in_ok-put_rest.ensures
 
 pub returns-clause-report : goal.returns-clause-report
-returns-clause-report c = λ classes values nodes.
+returns-clause-report c = λ orders classes values nodes.
     let dump = c.args.dump.now in
     record {
+      orders = orders;
       classes = c.args.classes.now;
       are_classes = classes;
       bytes = returns-clause-text c

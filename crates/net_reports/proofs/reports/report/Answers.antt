@@ -8,11 +8,12 @@ use Rattle.net_reports.proofs.reports.report.Goals as goal
 
 pub returns-clause-report : goal.returns-clause-report
 unfolding report_text
-returns-clause-report c = λ classes values nodes.
+returns-clause-report c = λ orders classes values nodes.
     let net = c.args.net.now in
     let text : c.put_rest.new.text.items ≡ report_text (length net.inputs) (output_names net) c.args.classes.now c.args.evaluations.now c.args.order.now c.args.nodes =
     grind (arith, common_steps) in
     record {
+      orders = orders;
       classes = c.args.classes.now;
       are_classes = classes;
       bytes = text

@@ -1,4 +1,4 @@
-use Rattle.std.proofs.Common.{arith, refl, ◌∙◌}
+use Rattle.std.proofs.Common.{arith, refl}
 use Rattle.function_laws.specs.declared.history.Call.TheVariants as calls
 use Rattle.function_laws.specs.declared.making.Making.TheVariants as makings
 use Rattle.function_laws.specs.declared.making.BddMaking.TheVariants as bdds
@@ -7,7 +7,7 @@ use Rattle.net_jobs.proofs.HostLaws.{denied, has_room, held_is_bdd, made, named_
 use Rattle.net_jobs.proofs.hosting.SessionHostHost.complement.Goals as goal
 
 pub not-requires : goal.not-requires
-not-requires g c = let s = c.args.session.now in record { own = c.requires.may.own; room = has_room s (omega (arith, c.requires.may.room)) c.ready.ensures; can = (held_is_bdd s c.args.f c.requires.held, tt) }
+not-requires g c = let s = c.args.session.now in record { own = c.requires.may.own.own; room = has_room s (omega (arith, c.requires.may.room)) c.ready.ensures; can = (held_is_bdd s c.args.f c.requires.held, tt) }
 
 pub returns-clause-made : goal.returns-clause-made
 returns-clause-made g c =
@@ -23,6 +23,6 @@ returns-clause-back g c =
     let new = c.not.new.self in
     let call = calls.Makes (makings.Bdd (bdds.Not c.args.f)) in
     record {
-      own = named_own old new call c.not.result (denied old new call c.not.result c.not.ensures.told) ∙ c.requires.may.own;
+      own = named_own old new call c.args.self.now.manager.now c.args.self.now.since c.not.result (denied old new call c.not.result c.not.ensures.told) c.requires.may.own;
       caused = named_caused old new call c.not.result (denied old new call c.not.result c.not.ensures.told) c.named.result c.named.ensures (λ limit in_use need tells. tells.0);
     }

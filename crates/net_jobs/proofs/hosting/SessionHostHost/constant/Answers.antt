@@ -1,4 +1,4 @@
-use Rattle.std.proofs.Common.{arith, refl, ◌∙◌}
+use Rattle.std.proofs.Common.{arith, refl}
 use Rattle.function_laws.specs.declared.history.Call.TheVariants as calls
 use Rattle.function_laws.specs.declared.making.Making.TheVariants as makings
 use Rattle.function_laws.specs.declared.making.BddMaking.TheVariants as bdds
@@ -7,10 +7,10 @@ use Rattle.net_jobs.proofs.HostLaws.{denied, has_room, made, named_caused, named
 use Rattle.net_jobs.proofs.hosting.SessionHostHost.constant.Goals as goal
 
 pub one-requires : goal.one-requires
-one-requires g c = record { own = c.requires.may.own; room = has_room c.args.session.now (omega (arith, c.requires.may.room)) c.ready.ensures; can = tt }
+one-requires g c = record { own = c.requires.may.own.own; room = has_room c.args.session.now (omega (arith, c.requires.may.room)) c.ready.ensures; can = tt }
 
 pub zero-requires : goal.zero-requires
-zero-requires g c = record { own = c.requires.may.own; room = has_room c.args.session.now (omega (arith, c.requires.may.room)) c.ready.ensures; can = tt }
+zero-requires g c = record { own = c.requires.may.own.own; room = has_room c.args.session.now (omega (arith, c.requires.may.room)) c.ready.ensures; can = tt }
 
 pub returns-then-value-clause-made : goal.returns-then-value-clause-made
 returns-then-value-clause-made g c =
@@ -24,7 +24,7 @@ returns-then-value-clause-back g c =
     let old = c.args.session.now in
     let new = c.one.new.self in
     record {
-      own = named_own old new (calls.Makes (makings.Bdd bdds.One)) c.one.result (denied old new (calls.Makes (makings.Bdd bdds.One)) c.one.result c.one.ensures.told) ∙ c.requires.may.own;
+      own = named_own old new (calls.Makes (makings.Bdd bdds.One)) c.args.self.now.manager.now c.args.self.now.since c.one.result (denied old new (calls.Makes (makings.Bdd bdds.One)) c.one.result c.one.ensures.told) c.requires.may.own;
       caused = named_caused old new (calls.Makes (makings.Bdd bdds.One)) c.one.result (denied old new (calls.Makes (makings.Bdd bdds.One)) c.one.result c.one.ensures.told) c.named.result c.named.ensures (λ limit in_use need tells. tells.0);
     }
 
@@ -40,6 +40,6 @@ returns-else-value-clause-back g c =
     let old = c.args.session.now in
     let new = c.zero.new.self in
     record {
-      own = named_own old new (calls.Makes (makings.Bdd bdds.Zero)) c.zero.result (denied old new (calls.Makes (makings.Bdd bdds.Zero)) c.zero.result c.zero.ensures.told) ∙ c.requires.may.own;
+      own = named_own old new (calls.Makes (makings.Bdd bdds.Zero)) c.args.self.now.manager.now c.args.self.now.since c.zero.result (denied old new (calls.Makes (makings.Bdd bdds.Zero)) c.zero.result c.zero.ensures.told) c.requires.may.own;
       caused = named_caused old new (calls.Makes (makings.Bdd bdds.Zero)) c.zero.result (denied old new (calls.Makes (makings.Bdd bdds.Zero)) c.zero.result c.zero.ensures.told) c.named-else-value.result c.named-else-value.ensures (λ limit in_use need tells. tells.0);
     }

@@ -1,4 +1,4 @@
-use Rattle.std.proofs.Common.{arith, refl, ◌∙◌}
+use Rattle.std.proofs.Common.{arith, refl}
 use Rattle.function_laws.specs.declared.history.Call.TheVariants as calls
 use Rattle.function_laws.specs.declared.making.Making.TheVariants as makings
 use Rattle.function_laws.specs.declared.making.BddMaking.TheVariants as bdds
@@ -8,7 +8,7 @@ use Rattle.net_jobs.proofs.hosting.SessionHostHost.disjunction.Goals as goal
 
 pub or-requires : goal.or-requires
 or-requires g c =
-    let s = c.args.session.now in record { own = c.requires.may.own; room = has_room s (omega (arith, c.requires.may.room)) c.ready.ensures; can = (held_is_bdd s c.args.f c.requires.first, (held_is_bdd s c.args.g c.requires.second, tt)) }
+    let s = c.args.session.now in record { own = c.requires.may.own.own; room = has_room s (omega (arith, c.requires.may.room)) c.ready.ensures; can = (held_is_bdd s c.args.f c.requires.first, (held_is_bdd s c.args.g c.requires.second, tt)) }
 
 pub returns-clause-made : goal.returns-clause-made
 returns-clause-made g c =
@@ -21,6 +21,6 @@ returns-clause-made g c =
 pub returns-clause-back : goal.returns-clause-back
 returns-clause-back g c =
     record {
-      own = named_own c.args.session.now c.or.new.self (calls.Makes (makings.Bdd (bdds.Or c.args.f c.args.g))) c.or.result c.or.ensures.told ∙ c.requires.may.own;
+      own = named_own c.args.session.now c.or.new.self (calls.Makes (makings.Bdd (bdds.Or c.args.f c.args.g))) c.args.self.now.manager.now c.args.self.now.since c.or.result c.or.ensures.told c.requires.may.own;
       caused = named_caused c.args.session.now c.or.new.self (calls.Makes (makings.Bdd (bdds.Or c.args.f c.args.g))) c.or.result c.or.ensures.told c.named.result c.named.ensures (λ limit in_use need tells. tells.0);
     }

@@ -1,4 +1,3 @@
-use Rattle.std.proofs.Common.{◌∙◌}
 use Rattle.net_jobs.proofs.HostLaws.{listed, listed_own, live_is_bdd}
 use Rattle.net_jobs.proofs.hosting.SessionHostHost.list.Goals as goal
 
@@ -6,7 +5,8 @@ pub list-requires-clause-live : goal.list-requires-clause-live
 list-requires-clause-live g c = λ k d below. live_is_bdd c.args.session.now _ (c.requires.held k d below)
 
 pub returns-clause-own : goal.returns-clause-own
-returns-clause-own g c = listed_own c.args.session.now c.list.new.self c.args.names.now c.list.result c.list.ensures.told ∙ c.requires.may.own
+returns-clause-own g c =
+    listed_own c.args.session.now c.list.new.self c.args.names.now c.list.result c.list.ensures.told c.args.self.now.manager.now c.args.self.now.since c.requires.may.own
 
 pub returns-clause-lists : goal.returns-clause-lists
 returns-clause-lists g c = listed c.args.session.now c.list.new.self c.args.names.now c.list.result c.list.ensures.told

@@ -1,4 +1,4 @@
-use Rattle.std.proofs.Common.{arith, refl, ◌∙◌}
+use Rattle.std.proofs.Common.{arith, refl}
 use Rattle.function_laws.specs.declared.history.Call.TheVariants as calls
 use Rattle.function_laws.specs.declared.making.Making.TheVariants as makings
 use Rattle.function_laws.specs.declared.making.BddMaking.TheVariants as bdds
@@ -7,7 +7,7 @@ use Rattle.net_jobs.proofs.HostLaws.{denied, has_room, made, named_caused, named
 use Rattle.net_jobs.proofs.hosting.SessionHostHost.projection.Goals as goal
 
 pub var-requires : goal.var-requires
-var-requires g c = record { own = c.requires.may.own; room = has_room c.args.session.now (omega (arith, c.requires.may.room)) c.ready.ensures; can = (c.requires.variable, tt) }
+var-requires g c = record { own = c.requires.may.own.own; room = has_room c.args.session.now (omega (arith, c.requires.may.room)) c.ready.ensures; can = (c.requires.variable, tt) }
 
 pub returns-clause-made : goal.returns-clause-made
 returns-clause-made g c =
@@ -23,6 +23,6 @@ returns-clause-back g c =
     let new = c.var.new.self in
     let call = calls.Makes (makings.Bdd (bdds.Var c.args.variable)) in
     record {
-      own = named_own old new call c.var.result (denied old new call c.var.result c.var.ensures.told) ∙ c.requires.may.own;
+      own = named_own old new call c.args.self.now.manager.now c.args.self.now.since c.var.result (denied old new call c.var.result c.var.ensures.told) c.requires.may.own;
       caused = named_caused old new call c.var.result (denied old new call c.var.result c.var.ensures.told) c.named.result c.named.ensures (λ limit in_use need tells. tells.0);
     }

@@ -1,5 +1,7 @@
 -- What is told of the functions of names.
 use Rattle.std.proofs.Common.{◌≡◌, ℕ, ◌+◌, ◌<◌, ◌^◌, Bool, List, [], ◌∷◌, ◌++◌, Some, length, get_or, map, take, refl, ap, ap₂, sym, ◌∙◌, subst, arith}
+use Rattle.std.specs.Prelude.{IsPermutation}
+use Rattle.std.specs.List.{range_with_len}
 use Rattle.std.proofs.lemmas.List.{length-map, map_more}
 use Rattle.std.proofs.lemmas.Simd.{map-map}
 use Rattle.function_laws.specs.declared.history.Function.TheVariants.{Bdd}
@@ -19,6 +21,7 @@ use Rattle.net_builds.specs.Standings.{Asks, HasRoom, IsLive, IsQuiet, Lists, St
 use Rattle.net_builds.specs.Tellings.{evaluation_in, value_in, values_in}
 use Rattle.net_builds.proofs.StandingLemmas.{gains_none, gains_then, live_list, still_live}
 use Rattle.net_builds.proofs.Mapped.{length_same, map_same}
+use Rattle.net_builds.proofs.OnceEach.{once_each}
 use Rattle.net_builds.proofs.SameReports.{assignment_below}
 
 pub asks_none : (a : Standing) → Asks a a
@@ -122,6 +125,12 @@ classes_told : (old mid : Standing) (names : List Name) (listing : Listing) (lis
 classes_told old mid names listing lists n classes vars are =
     subst (λ m. AreClasses m lists.functions classes) (lists.wide ∙ vars) are
 
+-- the order of a listing has each variable once
+once_listed : (old mid : Standing) (names : List Name) (listing : Listing) (lists : Lists old mid names listing) (n : ℕ) → old.vars ≡ n → IsPermutation (range_with_len 0 n) listing.order
+once_listed old mid names listing lists n vars =
+    let under = lists.is_listing.under in
+    once_each n listing.order (lists.wide ∙ vars) under.below under.once
+
 pub reported : (net : Net) (patterns : List (List Bool)) (old mid : Standing) (names : List Name) (listing : Listing) (lists : Lists old mid names listing)
     (classes : List Class) (nodes : ℕ) (text : List ℕ) → old.vars ≡ length net.inputs → AreClasses (length listing.order) lists.functions classes
     → nodes ≡ node_count listing.order lists.functions
@@ -134,6 +143,7 @@ reported net patterns old mid names listing lists classes nodes text vars are co
     let evaluations : map (evaluation_in mid names) patterns ≡ map (evaluation_at n lists.functions) patterns =
     evaluations_told mid names lists.functions (stands_in old mid names listing lists) patterns ∙ ap (λ m. map (evaluation_at m lists.functions) patterns) mid_vars in
     record {
+      orders = once_listed old mid names listing lists n vars;
       classes = classes;
       are_classes = classes_told old mid names listing lists n classes vars are;
       bytes = is ∙ ap (λ (cs : List Class). report_text n (output_names net) cs all order nodes) same_classes
@@ -150,6 +160,7 @@ pub summed_up : (net : Net) (old mid : Standing) (names : List Name) (listing : 
 summed_up net old mid names listing lists classes nodes text vars are count seen same_classes is =
     let n = length net.inputs in
     record {
+      orders = once_listed old mid names listing lists n vars;
       classes = classes;
       are_classes = classes_told old mid names listing lists n classes vars are;
       bytes = is ∙ ap (λ (cs : List Class). summary_text n (length net.outputs) (count_firsts cs) nodes) same_classes
