@@ -5,7 +5,7 @@ use mathlib.Core.Logic.{dite}
 use mathlib.Core.Option.{Option, none, some, some-injective, some-ne-none}
 use native.Mathlib.Decide.{ℕ_discrete, dec_lt}
 use lib.ListN.{get_elem?}
-use Rattle.edge_bits.specs.declared.limits.TheConstants.{CELLS, MOST_SESSIONS}
+use Rattle.edge_bits.specs.declared.limits.TheConstants.{CELLS}
 use Rattle.atomic_table.proofs.Lists.{at_snoc, set_else}
 use Rattle.function_laws.specs.declared.history.Name.{Name}
 use Rattle.function_laws.specs.declared.history.Function.{Function}
@@ -22,7 +22,7 @@ use Rattle.seat_guard.specs.declared.view.Gone.{Gone}
 use Rattle.seat_guard.specs.declared.view.Draws.{Draws}
 use Rattle.seat_guard.specs.declared.view.Leaving.{Leaving}
 use Rattle.seat_guard.specs.Known.{StandsIn, sizes_for}
-use Rattle.seat_guard.specs.Views.{Agrees, told_of, MayTell, stands_for, cell_at, blank, session_of, holding, letting_go, gone_of, with_gone, one_more, orders_of, note_of, noting}
+use Rattle.seat_guard.specs.Views.{Agrees, told_of, MayTell, stands_for, cell_at, blank, session_of, holding, letting_go, gone_of, with_gone, one_more, orders_of, noting}
 use Rattle.function_laws.specs.SessionEntries.{Each, entries_of, entry}
 use Rattle.function_laws.specs.Sizes.{Orders}
 use Rattle.function_laws.specs.EntryOrders.{EachWith, opening_orders, orders_from}

@@ -141,7 +141,7 @@ stand-after d x t plain allowed agrees same given stand = by x.change agrees.liv
     -- a row that was there
     old : (rows : List Row) → AgreesAt u.sizes (stands_for rows) (u.live d.session) → (row : Row) → IsNamed rows row → Was row → Is row
     old rows live row (g, is) was = same-by d.session row.name t u (becomes d.session row.name t x.call x.reply plain allowed) (at_sizes t.sizes row.held.function) (at_sizes u.sizes g) was (given row.name (at_sizes t.sizes row.held.function) was)
-            (live row.name ∙ ap (option_map (at_sizes u.sizes)) is)
+        (live row.name ∙ ap (option_map (at_sizes u.sizes)) is)
         ∙ ap (λ (z : Sizes). Some (at_sizes z row.held.function)) (sym same)
 
     by : (change : Change) → AgreesAt u.sizes (stands_for (rows_after change d.rows)) (u.live d.session) → Each Is (rows_after change d.rows)

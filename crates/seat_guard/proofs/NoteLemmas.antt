@@ -2,7 +2,7 @@
 use Rattle.std.proofs.Common.{◌≡◌, ℕ, List, [], ◌∷◌, ◌++◌, length, ap, sym, subst, ◌∙◌, arith, length-append}
 use Rattle.std.proofs.lemmas.List.{take-append-le, take_all}
 use Rattle.function_laws.specs.declared.history.Entry.{Entry}
-use Rattle.function_laws.specs.Tables.{Sizes, Table, opening}
+use Rattle.function_laws.specs.Tables.{Sizes, opening}
 use Rattle.function_laws.specs.Histories.{table_after}
 use Rattle.function_laws.specs.SessionEntries.{Each}
 use Rattle.function_laws.specs.EntryOrders.{opening_orders, orders_from}
