@@ -1,0 +1,8 @@
+pub mod OfDrafts
+pub mod PartBy
+pub mod Known
+pub mod Reaching
+pub mod Judging
+pub mod Numbered
+pub mod ByVerdict
+pub mod Telling

@@ -1,0 +1,4 @@
+pub mod Drafts
+pub mod Parts
+pub mod Entries
+pub mod Verdicts
