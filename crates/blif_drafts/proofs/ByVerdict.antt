@@ -44,7 +44,7 @@ use Rattle.blif_formals.proofs.Calling.{calls_agree}
 use Rattle.blif_formals.proofs.DefinedTwice.{twice_lines_agree}
 use Rattle.blif_formals.proofs.InLines.{lines_agree}
 use Rattle.blif_drafts.proofs.Judging.{AreTold, apart_models, graph, many_holds, met_model}
-use Rattle.blif_drafts.proofs.Numbered.{all_numbered, closed, lines_are, many_numbered, numbering}
+use Rattle.blif_drafts.proofs.Numbered.{all_numbered, lines_are, many_numbered, numbering}
 
 in_all : (P : ℕ → Type 0) (ns : List ℕ) (n : ℕ) → All P ns → is_in ns n ≡ true → P n
 in_all P [] n a e = absurd (false≢true e)

@@ -6,3 +6,8 @@ pub mod Judging
 pub mod Numbered
 pub mod ByVerdict
 pub mod Telling
+pub mod Lasting
+pub mod Marking
+pub mod LineByLine
+pub mod Refusing
+pub mod GoingOn

@@ -2,12 +2,30 @@
 //! into.
 #![tactic(auto)]
 
+ghost use Rattle.blif_drafts.specs.Lasting.{DraftsLast, LinesGoOn};
+
 mod drafts;
 mod entries;
+mod open_draft;
 mod parts;
+mod signals;
+mod stops;
 mod verdicts;
 
 pub use drafts::{Draft, DraftItem};
 pub use entries::models_in;
+pub use open_draft::{OpenDraft, heading_of};
 pub use parts::{Parts, parts_of};
+pub use stops::{LineStop, Refusal};
 pub use verdicts::{Judged, Verdict, judge};
+
+/// The lines of models rise where each line that is added stands below those before it.
+pub fn lines_go_on()
+    ensures { LinesGoOn }
+{}
+
+/// Drafts are of the same models where more names of models have numbers, where a cover has other rows, and where one more stands behind
+/// them.
+pub fn drafts_last()
+    ensures { DraftsLast }
+{}
