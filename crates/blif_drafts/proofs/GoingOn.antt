@@ -204,7 +204,7 @@ other_rows titles model cover rows one is =
       many = is.many ∙ ap (λ (ws : List Word). length (formal_inputs model ++ ws)) defines;
     }
 
-one_draft_more : (titles : List Word) (models : List Model) (model : Model) (all : List Draft) (draft : Draft) → AreDrafts titles models all → IsDraftOf titles model draft → AreDrafts titles (models ++ model ∷ []) (all ++ draft ∷ [])
+pub one_draft_more : (titles : List Word) (models : List Model) (model : Model) (all : List Draft) (draft : Draft) → AreDrafts titles models all → IsDraftOf titles model draft → AreDrafts titles (models ++ model ∷ []) (all ++ draft ∷ [])
 one_draft_more titles [] model [] draft a b = (b, tt)
 one_draft_more titles [] model (d ∷ all) draft a b = absurd a
 one_draft_more titles (m ∷ models) model [] draft a b = absurd a

@@ -11,3 +11,4 @@ pub mod Marking
 pub mod LineByLine
 pub mod Refusing
 pub mod GoingOn
+pub mod ManyOpen

@@ -5,3 +5,4 @@ pub mod Verdicts
 pub mod Signals
 pub mod OpenDrafts
 pub mod Lasting
+pub mod OpenModels
