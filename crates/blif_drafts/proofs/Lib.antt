@@ -12,3 +12,4 @@ pub mod LineByLine
 pub mod Refusing
 pub mod GoingOn
 pub mod ManyOpen
+pub mod NamesApart

@@ -6,3 +6,4 @@ pub mod Signals
 pub mod OpenDrafts
 pub mod Lasting
 pub mod OpenModels
+pub mod WholeNames

@@ -3,6 +3,7 @@
 #![tactic(auto)]
 
 ghost use Rattle.blif_drafts.specs.Lasting.{DraftsLast, LinesGoOn};
+ghost use Rattle.blif_drafts.specs.WholeNames.{WholeNamesApart};
 
 mod drafts;
 mod entries;
@@ -12,6 +13,7 @@ mod parts;
 mod signals;
 mod stops;
 mod verdicts;
+mod whole_names;
 
 pub use drafts::{Draft, DraftItem};
 pub use entries::models_in;
@@ -20,6 +22,7 @@ pub use open_models::OpenModels;
 pub use parts::{Parts, parts_of};
 pub use stops::{LineStop, Refusal};
 pub use verdicts::{Judged, Verdict, judge};
+pub use whole_names::whole_name;
 
 /// The lines of models rise where each line that is added stands below those before it.
 pub fn lines_go_on()
@@ -30,4 +33,9 @@ pub fn lines_go_on()
 /// them.
 pub fn drafts_last()
     ensures { DraftsLast }
+{}
+
+/// Where names of models have no `#`, different signals have different names in the whole.
+pub fn whole_names_are_apart()
+    ensures { WholeNamesApart }
 {}
