@@ -158,6 +158,25 @@ more_items item models model a =
       inputs = subst (AllBelow (suc line)) inputs (below_later line (suc line) up (input_lines (models ++ model ∷ [])) a.inputs);
     }
 
+more_rows : (line : ℕ) (cover : Cover) (rows : List Row) (models : List Model) (model : Model) → AreBelow line (models ++ with_item (covered cover) model ∷ []) → AreBelow line (models ++ with_item (covered (with_rows cover rows)) model ∷ [])
+more_rows line cover rows models model a =
+    let one = with_item (covered cover) model in
+    let other = with_item (covered (with_rows cover rows)) model in
+    let own : items_on one ≡ items_on other = map-append line_of model.items (covered cover ∷ []) ∙ sym (map-append line_of model.items (covered (with_rows cover rows) ∷ [])) in
+    let begins : map line_in (models ++ one ∷ []) ≡ map line_in (models ++ other ∷ []) = last_of line_in models one other refl in
+    let items : item_lines (models ++ one ∷ []) ≡ item_lines (models ++ other ∷ []) = last_all items_on models one other own in
+    let inputs : input_lines (models ++ one ∷ []) ≡ input_lines (models ++ other ∷ []) = last_all inputs_on models one other refl in
+    record {
+      rising = record {
+        begins = subst (RiseFrom 0) begins a.rising.begins;
+        items = subst (RiseFrom 0) items a.rising.items;
+        inputs = last_other InputsRise models one other (λ r. r) a.rising.inputs;
+      };
+      begins = subst (AllBelow line) begins a.begins;
+      items = subst (AllBelow line) items a.items;
+      inputs = subst (AllBelow line) inputs a.inputs;
+    }
+
 pub lines_go_on : LinesGoOn
 lines_go_on = record {
   none = no_models;
@@ -166,6 +185,7 @@ lines_go_on = record {
   inputs = more_inputs;
   outputs = more_outputs;
   item = more_items;
+  rows = more_rows;
 }
 
 -- other rows in the last cover

@@ -31,7 +31,11 @@ pub record AreBelow (line : ℕ) (models : List Model) : Type 0 where
   pub items : AllBelow line (item_lines models)
   pub inputs : AllBelow line (input_lines models)
 
--- one model more, or one line more in the last model
+-- the cover with other rows
+abbrev pub with_rows : Cover → List Row → Cover
+with_rows cover rows = record cover { rows = rows }
+
+-- one model more, or one line more in the last model, or other rows in its last cover
 pub record LinesGoOn : Type 0 where
   pub none : (line : ℕ) → AreBelow line []
   pub later : (line n : ℕ) (models : List Model) → line ≤ n → AreBelow line models → AreBelow n models
@@ -39,10 +43,7 @@ pub record LinesGoOn : Type 0 where
   pub inputs : (line : ℕ) (words : List Word) (models : List Model) (model : Model) → AreBelow line (models ++ model ∷ []) → AreBelow (suc line) (models ++ with_inputs line words model ∷ [])
   pub outputs : (line : ℕ) (words : List Word) (models : List Model) (model : Model) → AreBelow line (models ++ model ∷ []) → AreBelow line (models ++ with_outputs line words model ∷ [])
   pub item : (item : Item) (models : List Model) (model : Model) → AreBelow (line_of item) (models ++ model ∷ []) → AreBelow (suc (line_of item)) (models ++ with_item item model ∷ [])
-
--- the cover with other rows
-abbrev pub with_rows : Cover → List Row → Cover
-with_rows cover rows = record cover { rows = rows }
+  pub rows : (line : ℕ) (cover : Cover) (rows : List Row) (models : List Model) (model : Model) → AreBelow line (models ++ with_item (covered cover) model ∷ []) → AreBelow line (models ++ with_item (covered (with_rows cover rows)) model ∷ [])
 
 -- What drafts are of, they are of where more names of models have numbers; a draft is of its model with other rows in the last cover; and drafts go
 -- on with one that stands on later lines.

@@ -1,5 +1,6 @@
 mod Rows
 mod ModelRows
+pub mod ModelLines
 pub mod Values
 pub mod Arranging
 pub mod Completeness

@@ -13,3 +13,4 @@ pub mod Building
 pub mod Joined
 pub mod Bridges
 pub mod ModelTexts
+pub mod ModelLines

@@ -6,6 +6,7 @@ ghost use Rattle.blif_net.specs.Cycles.{CyclesAreFound};
 ghost use Rattle.blif_net.specs.Circuits.{at_start};
 ghost use Rattle.blif_net.specs.Drafts.{HasFaultIn, IsClosedFrom, IsDraftOf, IsNetFrom, stopped_at, uses_in};
 ghost use Rattle.blif_net.specs.Faults.{HasFault, last_number};
+ghost use Rattle.blif_net.specs.ModelLines.{DraftsFollow};
 ghost use Rattle.blif_net.specs.Networks.{IsBlifText};
 ghost use Rattle.blif_net.specs.Readings.{EachHasOne, NetOrFault, OneFault, OneNet};
 ghost use Rattle.blif_net.specs.Text.{Line};
@@ -113,4 +114,10 @@ pub fn cyclic_covers_are_found()
 /// inputs and gates before them, and each output is a signal of it.
 pub fn networks_are_bounded()
     ensures { NetworksAreBounded }
+{}
+
+/// Drafts of several models that take line by line what a text says are those of the models that it declares, and refuse a line exactly
+/// where it is faulty.
+pub fn drafts_follow_lines()
+    ensures { DraftsFollow }
 {}
