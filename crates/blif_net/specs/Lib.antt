@@ -14,3 +14,4 @@ pub mod Joined
 pub mod Bridges
 pub mod ModelTexts
 pub mod ModelLines
+pub mod ModelVerdicts
