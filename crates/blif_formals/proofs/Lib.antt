@@ -13,11 +13,3 @@ pub mod DefinedTwice
 pub mod Numbering
 pub mod InLines
 pub mod Entering
-pub mod Known
-pub mod PartBy
-pub mod OfDrafts
-pub mod Reaching
-pub mod Judging
-pub mod Numbered
-pub mod ByVerdict
-pub mod Telling

@@ -12,7 +12,3 @@ pub mod Twice
 pub mod Actuals
 pub mod Lines
 pub mod Instances
-pub mod Drafts
-pub mod Entries
-pub mod Parts
-pub mod Verdicts

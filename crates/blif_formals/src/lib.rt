@@ -17,36 +17,28 @@ mod actuals;
 mod calls;
 mod clashes;
 mod definitions;
-mod drafts;
-mod entries;
 mod formals;
 mod instances;
 mod interface;
 mod joining;
 mod parting;
-mod parts;
 mod reached;
 mod titles;
 mod twice;
-mod verdicts;
 mod words;
 
 pub use actuals::{actuals_in, joins_in};
 pub use calls::{Call, holds_by, nameless_line};
 pub use clashes::{Definition, clash_line};
 pub use definitions::add_definitions;
-pub use drafts::{Draft, DraftItem};
-pub use entries::models_in;
 pub use formals::{Callees, formal_line};
 pub use instances::instance_by;
 pub use interface::{Interface, Port, interface_of};
 pub use joining::joins_well;
 pub use parting::{is_misjoined, join_of};
-pub use parts::{Parts, parts_of};
 pub use reached::first_met;
 pub use titles::{Heading, Title, mistitled_line, titles_of};
 pub use twice::twice_line;
-pub use verdicts::{Judged, Verdict, judge};
 pub use words::Words;
 
 /// Whether an instance joins the formal names of its model well is the same by numbers and by names.

@@ -58,6 +58,14 @@ impl Words {
         }
     }
 
+    /// The word of a number.
+    pub fn word_at(&self, number: u32) -> &[u8]
+        requires { number < length self.now }
+        ensures { slice_get self.now number ≡ Some result.now }
+    {
+        self.index.as_slice()[number as usize].as_slice()
+    }
+
     /// Adds a word that is new. There are fewer than 2^32: for more there is no memory.
     fn add(&mut self, alloc: Global, word: &[u8]) -> Result<(), AllocError>
         requires { is_among self.old word.now ≡ false }

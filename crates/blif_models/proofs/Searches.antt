@@ -211,7 +211,7 @@ search_step holds from p met met' left left' s m held = record {
 
 -- where nothing is left, all that is reached was met
 
-closed_over : (holds : List (List ℕ)) (met : List Bool) → ((m c : ℕ) → is_met met m ≡ true → is_in (reads_of holds m) c ≡ true → is_met met c ≡ true) → (levels from m : ℕ) → is_met met from ≡ true → is_reached holds levels from m ≡ true → is_met met m ≡ true
+pub closed_over : (holds : List (List ℕ)) (met : List Bool) → ((m c : ℕ) → is_met met m ≡ true → is_in (reads_of holds m) c ≡ true → is_met met c ≡ true) → (levels from m : ℕ) → is_met met from ≡ true → is_reached holds levels from m ≡ true → is_met met m ≡ true
 unfolding is_reached
 closed_over holds met closed zero from m e f = subst (λ n. is_met met n ≡ true) (same_number from m f) e
 closed_over holds met closed (suc levels) from m e f =

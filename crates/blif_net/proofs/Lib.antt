@@ -1,5 +1,7 @@
 mod Rows
 mod ModelRows
+pub mod ModelLines
+pub mod ModelTold
 pub mod Values
 pub mod Arranging
 pub mod Completeness

@@ -13,3 +13,5 @@ pub mod Building
 pub mod Joined
 pub mod Bridges
 pub mod ModelTexts
+pub mod ModelLines
+pub mod ModelVerdicts

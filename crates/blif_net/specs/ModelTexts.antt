@@ -10,6 +10,8 @@ use Rattle.job_words.specs.Text.{is_among}
 use Rattle.blif_models.specs.Circuits.{Cover, some_again}
 use Rattle.blif_models.specs.Models.{Model, Item, covered, latched, held, Named, Latch, names_of, whole_items, circuit_from}
 use Rattle.blif_models.specs.ModelFaults.{least, model_lines, formal_lines, twice_lines, holding_lines, too_many_line, undefined_line, cyclic_line}
+use Rattle.blif_drafts.specs.OpenDrafts.{bare_model, first_word, named_at}
+use Rattle.blif_drafts.specs.Signals.{defined_by}
 use Rattle.blif_net.specs.declared.faults.FaultKind.{FaultKind}
 use Rattle.blif_net.specs.declared.faults.FaultKind.TheVariants as kinds
 use Rattle.blif_net.specs.Text.{Word, Line, joined_lines, words_of, is_allowed}
@@ -74,9 +76,6 @@ latch_of line (input ∷ output ∷ kind ∷ control ∷ []) = then_some (is_typ
 latch_of line (input ∷ output ∷ kind ∷ control ∷ init ∷ []) = then_some (is_type kind && is_init init) (latch_at line input output)
 latch_of line _ = None
 
-abbrev pub no_model : ℕ → Option Word → Model
-no_model line name = record { line = line; name = name; inputs = []; outputs = []; items = [] }
-
 -- What the lines so far leave to the next one: the models that are closed, the one that goes on and its open cover, whether a line had
 -- words, and whether `.end` came.
 pub record Context : Type 0 where
@@ -87,7 +86,7 @@ pub record Context : Type 0 where
   pub ended : Bool
 
 abbrev pub at_start : Context
-at_start = record { closed = []; current = no_model 0 None; cover = None; begun = false; ended = false }
+at_start = record { closed = []; current = bare_model 0 None; cover = None; begun = false; ended = false }
 
 abbrev pub with_item : Context → Item → Context
 with_item c item = record c { current = record c.current { items = c.current.items ++ item ∷ [] } }
@@ -100,21 +99,14 @@ with_cover c (Some cover) = with_item c (covered cover)
 abbrev pub close : Context → Context
 close c = record (with_cover c c.cover) { cover = None; begun = true }
 
-abbrev pub first_word : List Word → Option Word
-first_word [] = None
-first_word (word ∷ words) = Some word
-
 -- a `.model` begins a further model, unless it is the first line with words
 abbrev pub begin : Context → ℕ → List Word → Context
 begin c line words =
     record (close c) {
       closed = if c.begun then (close c).closed ++ (close c).current ∷ [] else c.closed;
-      current = no_model line (first_word words);
+      current = bare_model line (first_word words);
       ended = false;
     }
-
-abbrev pub named_at : ℕ → List Word → Named
-named_at line words = record { line = line; words = words }
 
 abbrev pub with_inputs : Context → Named → Context
 with_inputs c some = record c { current = record c.current { inputs = c.current.inputs ++ some ∷ [] } }
@@ -148,12 +140,6 @@ after_line c line = after_statement c line.number (said line)
 unfoldable pub behind : Context → List Line → Context
 behind c [] = c
 behind c (line ∷ lines) = behind (after_line c line) lines
-
--- the signals that an item defines on its own line
-abbrev pub defined_by : Item → List Word
-defined_by (covered cover) = cover.name ∷ []
-defined_by (latched one) = one.output ∷ []
-defined_by (held instance) = []
 
 -- the signals of the model so far: inputs, and what covers and latches define
 abbrev pub signals_in : Context → List Word

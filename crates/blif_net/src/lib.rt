@@ -14,4 +14,7 @@ mod text;
 
 pub use faults::{BlifError, BlifFault, FaultKind};
 pub use net::{Cover, Cube, Literal, Net, Output};
-pub use reader::{cyclic_covers_are_found, networks_are_bounded, read, texts_have_one_reading};
+pub use reader::{
+    cyclic_covers_are_found, drafts_follow_lines, networks_are_bounded, read,
+    texts_have_one_reading,
+};

@@ -6,6 +6,8 @@ ghost use Rattle.blif_net.specs.Cycles.{CyclesAreFound};
 ghost use Rattle.blif_net.specs.Circuits.{at_start};
 ghost use Rattle.blif_net.specs.Drafts.{HasFaultIn, IsClosedFrom, IsDraftOf, IsNetFrom, stopped_at, uses_in};
 ghost use Rattle.blif_net.specs.Faults.{HasFault, last_number};
+ghost use Rattle.blif_net.specs.ModelLines.{DraftsFollow};
+ghost use Rattle.blif_net.specs.ModelVerdicts.{VerdictsAreFaults};
 ghost use Rattle.blif_net.specs.Networks.{IsBlifText};
 ghost use Rattle.blif_net.specs.Readings.{EachHasOne, NetOrFault, OneFault, OneNet};
 ghost use Rattle.blif_net.specs.Text.{Line};
@@ -113,4 +115,11 @@ pub fn cyclic_covers_are_found()
 /// inputs and gates before them, and each output is a signal of it.
 pub fn networks_are_bounded()
     ensures { NetworksAreBounded }
+{}
+
+/// Drafts of several models that take line by line what a text says are those of the models that it declares, and refuse a line exactly
+/// where it is faulty; and where no line is, what is told of the models is the fault of the text, or leaves the fault of the whole.
+pub fn drafts_follow_lines()
+    ensures lines { DraftsFollow }
+    ensures verdicts { VerdictsAreFaults }
 {}

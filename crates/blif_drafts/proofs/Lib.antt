@@ -1,0 +1,15 @@
+pub mod OfDrafts
+pub mod PartBy
+pub mod Known
+pub mod Reaching
+pub mod Judging
+pub mod Numbered
+pub mod ByVerdict
+pub mod Telling
+pub mod Lasting
+pub mod Marking
+pub mod LineByLine
+pub mod Refusing
+pub mod GoingOn
+pub mod ManyOpen
+pub mod NamesApart

@@ -1,6 +1,0 @@
-use Rattle.std.proofs.Common.{◌≡◌, take}
-use Rattle.blif_formals.specs.Parts.{names_by}
-use Rattle.blif_formals.proofs.parts.names_by.Given as goal
-
-abbrev pub invariant-loop-one : goal.invariant-loop-one
-invariant-loop-one l = l.names ≡ names_by (take l.one-index l.ones)

@@ -1,0 +1,7 @@
+//! What is told of several models that are read line by line.
+#![tactic(auto)]
+
+#[cfg(test)]
+mod lines;
+#[cfg(test)]
+mod verdicts;
