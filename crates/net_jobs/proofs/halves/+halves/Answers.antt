@@ -43,6 +43,6 @@ parts-returns g t c =
     let halves = c.both_halves.ensures in
     record {
       said = both_play c.both_halves.result c.args.sections.now c.split_at.result.0.now c.split_at.result.1.now c.args.sessions.now c.split_at_mut-low.result.0.now _ c.split_at_mut-low.result.1.now _
-    (halves_are (length c.args.sessions.now / 2) c.args.sections.now c.split_at.result.0.now c.split_at.result.1.now s.front s.back) c.split_at_mut-low.ensures.value halves.said;
+          (halves_are (length c.args.sessions.now / 2) c.args.sections.now c.split_at.result.0.now c.split_at.result.1.now s.front s.back) c.split_at_mut-low.ensures.value halves.said;
       kept = both_kept c.args.sessions.now c.split_at_mut-low.result.0.now _ c.split_at_mut-low.result.1.now _ c.split_at_mut-low.ensures.value halves.kept.0 halves.kept.1;
     }

@@ -13,8 +13,8 @@ returns g c =
     let key : Said → ℕ = λ (line : Said). line.place in
     record {
       played = played c.written.result c.args.manager.now c.args.job.now.sections c.args.sessions.now c.parts.new.sessions c.in_ok-said.said.items c.sort_unstable_by_key.new.self.items c.requires.can c.requires.numbers
-    (subst (λ (sections : List (List Command)). AllPlay sections c.args.sessions.now c.parts.new.sessions c.in_ok-said.said.items) c.as_slice-sections.ensures c.in_ok-said.ensures.said)
-    sort.permutation (IsNonDecreasingBy-from_sort key _ (sort.sorted key (answers_always _ _ _ (λ f a r g h. search rules))))
-    (subst (λ (l : List Said). IfOk c.written.result (λ text. text.items ≡ flat_map (λ (line : Said). line.text.items) l)) c.deref.ensures.value c.written.ensures);
+          (subst (λ (sections : List (List Command)). AllPlay sections c.args.sessions.now c.parts.new.sessions c.in_ok-said.said.items) c.as_slice-sections.ensures c.in_ok-said.ensures.said)
+          sort.permutation (IsNonDecreasingBy-from_sort key _ (sort.sorted key (answers_always _ _ _ (λ f a r g h. search rules))))
+          (subst (λ (l : List Said). IfOk c.written.result (λ text. text.items ≡ flat_map (λ (line : Said). line.text.items) l)) c.deref.ensures.value c.written.ensures);
       kept = c.in_ok-said.ensures.kept;
     }

@@ -54,7 +54,7 @@ finish-place-requires-clause-step g c =
     let kind = c.kind-kind.ensures k live.1 in
     let long = walked_bits c.self.inside.pass.seat.table_id d e x t k c.args.bits.now (subst (λ (s : Seen). bits_of k s.manager ≤ length c.args.bits.now) (sym c.self.view_is) live.2) in
     let many : c.bits_read.result ≡ levels k (view_of x) = read_many k c.kind-kind.result _ _ c.bits_read.result c.bits_read.ensures kind c.requires.own ∙ ap (λ (s : Seen). bits_of k s.manager) (sym c.self.view_is)
-        ∙ sym (levels_managed c.self.inside.pass.seat.table_id d e x t k) in
+    ∙ sym (levels_managed c.self.inside.pass.seat.table_id d e x t k) in
     let at = assignment_of (take (levels k (view_of x)) c.args.bits.now) in
     let fit : SFits w64 c.walked-value.result = search rules in
     may_show e (requests.Eval c.args.f c.args.bits) (number_of k (values_at k (view_of x) c.edge-edge.result at)) (to_z w64 (of_z w64 c.walked-value.result))
