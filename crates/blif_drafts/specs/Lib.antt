@@ -7,3 +7,4 @@ pub mod OpenDrafts
 pub mod Lasting
 pub mod OpenModels
 pub mod WholeNames
+pub mod Latches

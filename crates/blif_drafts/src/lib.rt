@@ -7,6 +7,7 @@ ghost use Rattle.blif_drafts.specs.WholeNames.{WholeNamesApart};
 
 mod drafts;
 mod entries;
+mod latches;
 mod open_draft;
 mod open_models;
 mod parts;
@@ -17,6 +18,7 @@ mod whole_names;
 
 pub use drafts::{Draft, DraftItem};
 pub use entries::models_in;
+pub use latches::latch_in;
 pub use open_draft::{OpenDraft, heading_of};
 pub use open_models::OpenModels;
 pub use parts::{Parts, parts_of};

@@ -9,6 +9,7 @@ use Rattle.blif_models.specs.Circuits.{Cover, some_again}
 use Rattle.blif_models.specs.Models.{Latch, Model, Named, names_of}
 use Rattle.blif_drafts.specs.declared.open_models.OpenModels.{OpenModels}
 use Rattle.blif_drafts.specs.declared.stops.Refusal.TheVariants as refusals
+use Rattle.blif_drafts.specs.Latches.{latch_of}
 use Rattle.blif_drafts.specs.OpenDrafts.{bare_model, cover_refused, first_word, inputs_refused, latch_refused, outputs_refused}
 use Rattle.blif_drafts.specs.OpenModels.{AreOpen}
 use Rattle.blif_drafts.specs.Signals.{defined_by}
@@ -18,7 +19,7 @@ use Rattle.blif_net.specs.declared.faults.FaultKind.TheVariants as kinds
 use Rattle.blif_net.specs.Text.{Word}
 use Rattle.blif_net.specs.Circuits.{last_of, with_row, with_row_in}
 use Rattle.blif_net.specs.ModelLines.{AreLeftBy, DraftsFollow, kind_of}
-use Rattle.blif_net.specs.ModelTexts.{Context, close, inputs_fault, latch, latch_fault, latch_of, names_fault, open_fault, with_cover, with_latch}
+use Rattle.blif_net.specs.ModelTexts.{Context, close, inputs_fault, latch, latch_fault, names_fault, open_fault, with_cover, with_latch}
 
 -- a cover that is closed is no input and no output
 

@@ -5,6 +5,7 @@ use Rattle.blif_drafts.specs.declared.open_models.OpenModels.{OpenModels}
 use Rattle.blif_drafts.specs.declared.stops.LineStop.TheVariants as stops
 use Rattle.blif_drafts.specs.declared.stops.Refusal.{Refusal}
 use Rattle.blif_drafts.specs.declared.stops.Refusal.TheVariants as refusals
+use Rattle.blif_drafts.specs.Latches.{latch_of}
 use Rattle.blif_drafts.specs.OpenDrafts.{bare_model, cover_refused, first_word, inputs_refused, latch_refused, outputs_refused}
 use Rattle.blif_drafts.specs.OpenDrafts as drafts
 use Rattle.blif_drafts.specs.OpenModels.{AreOpen, BeginsFurther, BeginsMain, HoldsLine, StopsLine, TakesLine}
@@ -12,7 +13,7 @@ use Rattle.blif_net.specs.declared.faults.FaultKind.{FaultKind}
 use Rattle.blif_net.specs.declared.faults.FaultKind.TheVariants as kinds
 use Rattle.blif_net.specs.Text.{Word}
 use Rattle.blif_net.specs.Circuits.{front_of, last_of}
-use Rattle.blif_net.specs.ModelTexts.{Context, after_statement, at_start, close, ends, inputs, latch, latch_of, model, names, open_fault, outputs, row, subckt}
+use Rattle.blif_net.specs.ModelTexts.{Context, after_statement, at_start, close, ends, inputs, latch, model, names, open_fault, outputs, row, subckt}
 
 -- the kind of a fault by which a line is refused
 abbrev pub kind_of : Refusal → FaultKind

@@ -1,6 +1,6 @@
 -- What the lines of a text with several models say, what they leave, and the one fault of a text. `read` goes by Circuits and Faults,
 -- which know one model alone.
-use Rattle.std.specs.Prelude.{ℕ, ◌+◌, ◌==◌, nat_lt, Bool, true, false, not, ◌&&◌, List, [], ◌∷◌, ◌++◌, Option, Some, None, codes, length, slice_index, if◌then◌else◌}
+use Rattle.std.specs.Prelude.{ℕ, ◌+◌, ◌==◌, nat_lt, Bool, true, false, not, List, [], ◌∷◌, ◌++◌, Option, Some, None, codes, length, slice_index, if◌then◌else◌}
 use Rattle.std.specs.List.{list_all, flat_map}
 use Rattle.std.specs.Option.{option_map, option_or}
 use Rattle.std.specs.Bool.{then_some}
@@ -10,6 +10,7 @@ use Rattle.job_words.specs.Text.{is_among}
 use Rattle.blif_models.specs.Circuits.{Cover, some_again}
 use Rattle.blif_models.specs.Models.{Model, Item, covered, latched, held, Named, Latch, names_of, whole_items, circuit_from}
 use Rattle.blif_models.specs.ModelFaults.{least, model_lines, formal_lines, twice_lines, holding_lines, too_many_line, undefined_line, cyclic_line}
+use Rattle.blif_drafts.specs.Latches.{latch_of}
 use Rattle.blif_drafts.specs.OpenDrafts.{bare_model, first_word, named_at}
 use Rattle.blif_drafts.specs.Signals.{defined_by}
 use Rattle.blif_net.specs.declared.faults.FaultKind.{FaultKind}
@@ -57,24 +58,6 @@ statement_of (word ∷ words) = if slice_index word 0 == 46 then directive word 
 
 abbrev pub said : Line → Statement
 said line = statement_of (words_of line.bytes)
-
--- a latch's type, and its first value
-abbrev pub is_type : Word → Bool
-is_type word = is_among (codes "fe" ∷ codes "re" ∷ codes "ah" ∷ codes "al" ∷ codes "as" ∷ []) word
-
-abbrev pub is_init : Word → Bool
-is_init word = is_among (codes "0" ∷ codes "1" ∷ codes "2" ∷ codes "3" ∷ []) word
-
-abbrev pub latch_at : ℕ → Word → Word → Latch
-latch_at line input output = record { line = line; input = input; output = output }
-
--- `IN OUT [TYPE CONTROL] [INIT]`
-abbrev pub latch_of : ℕ → List Word → Option Latch
-latch_of line (input ∷ output ∷ []) = Some (latch_at line input output)
-latch_of line (input ∷ output ∷ init ∷ []) = then_some (is_init init) (latch_at line input output)
-latch_of line (input ∷ output ∷ kind ∷ control ∷ []) = then_some (is_type kind) (latch_at line input output)
-latch_of line (input ∷ output ∷ kind ∷ control ∷ init ∷ []) = then_some (is_type kind && is_init init) (latch_at line input output)
-latch_of line _ = None
 
 -- What the lines so far leave to the next one: the models that are closed, the one that goes on and its open cover, whether a line had
 -- words, and whether `.end` came.
