@@ -1,5 +1,5 @@
 -- What is judged of models by number is so by name.
-use Rattle.std.proofs.Common.{◌≡◌, ℕ, ◌==◌, ◌<◌, Bool, true, false, Bor, List, [], ◌∷◌, Option, Some, None, drop, get_or, length, map, refl, ap, sym, ◌∙◌, subst, ⊎_elim}
+use Rattle.std.proofs.Common.{◌≡◌, ℕ, ◌==◌, ◌<◌, Bool, true, false, Bor, List, [], ◌∷◌, Option, Some, None, drop, get_or, length, map, refl, ap, sym, ◌∙◌, subst, arith, ⊎_elim}
 use Rattle.std.specs.Prelude.{All, slice_get}
 use Rattle.std.proofs.lemmas.Bool.{false≢true}
 use Rattle.std.proofs.lemmas.List.Elements.{All-cons, All-head, All-nil, All-tail}
@@ -8,6 +8,7 @@ use Rattle.job_words.specs.Text.{Word}
 use Rattle.blif_order.specs.Orders.{is_in, reads_of}
 use Rattle.blif_order.proofs.Walks.{or_cases, same_number}
 use Rattle.blif_models.specs.declared.expanding.Outcome.{Outcome}
+use Rattle.blif_models.specs.declared.expanding.Outcome.TheVariants as outcomes
 use Rattle.blif_models.specs.declared.limits.Adding.{Adding}
 use Rattle.blif_models.specs.declared.numbered.NumberedModel.{NumberedModel}
 use Rattle.blif_models.specs.Additions.{AreRising, lines_of}
@@ -15,15 +16,17 @@ use Rattle.blif_models.specs.Agreement.{IsMain, NamedOutcomeIs}
 use Rattle.blif_models.specs.Expanding.{OutcomeIs}
 use Rattle.blif_models.specs.Graphs.{AreReached, is_met, is_reached}
 use Rattle.blif_models.specs.Kept.{reached_models}
-use Rattle.blif_models.specs.Layouts.{model_at}
+use Rattle.blif_models.specs.Layouts.{main_table, model_at}
 use Rattle.blif_models.specs.ModelFaults.{adding_inputs, formal_lines, least, model_lines, twice_lines}
 use Rattle.blif_models.specs.ModelGraphs.{IsGraph}
 use Rattle.blif_models.specs.Models.{Model, Use}
 use Rattle.blif_models.specs.Numberings.{IsNumbering, words_at}
 use Rattle.blif_models.specs.NumberedGraphs.{all_held}
+use Rattle.blif_models.specs.Unfinished.{AreMore}
 use Rattle.blif_models.proofs.Arranged.{reached_self}
 use Rattle.blif_models.proofs.HoldingThemselves.{agrees}
 use Rattle.blif_models.proofs.NumberedGraphs.{numbered_are_graphs}
+use Rattle.blif_models.proofs.KeptModels.{kept_many, kept_names}
 use Rattle.blif_models.proofs.Searches.{closed_over}
 use Rattle.blif_models.proofs.TurningLines.{some_model}
 use Rattle.blif_formals.specs.declared.calls.Call.{Call}
@@ -39,7 +42,7 @@ use Rattle.blif_drafts.specs.Entries.{AreModelsBy}
 use Rattle.blif_formals.specs.Formals.{IsFormalLine}
 use Rattle.blif_formals.specs.Lines.{HaveLines}
 use Rattle.blif_formals.specs.Twice.{AreDefining, clash_lines, input_definitions}
-use Rattle.blif_drafts.specs.Verdicts.{Comes, IsMisnaming, VerdictIs}
+use Rattle.blif_drafts.specs.Verdicts.{Comes, IsMisnaming, LaidOut, VerdictIs}
 use Rattle.blif_formals.proofs.Calling.{calls_agree}
 use Rattle.blif_formals.proofs.DefinedTwice.{twice_lines_agree}
 use Rattle.blif_formals.proofs.InLines.{lines_agree}
@@ -147,11 +150,28 @@ module _ (titles : List Word) (models : List Model) (callees : Callees) (heading
     pub outcome_is : (added : List Adding) (outcome : Outcome) → added ≡ map adding_inputs main.inputs → OutcomeIs (reached_models numbered 0) 0 added outcome → NamedOutcomeIs models callees.names.now main outcome
     outcome_is added outcome same is = lines_agree.outcome models callees.names.now numbered 0 main outcome is_main told.rising have_lines (subst (λ ones. OutcomeIs (reached_models numbered 0) 0 ones outcome) same is)
 
+    laid_out : (added : List Adding) (outcome : Outcome) → OutcomeIs (reached_models numbered 0) 0 added outcome → LaidOut callees.names.now outcome
+    laid_out added (outcomes.Turning line) is = tt
+    laid_out added (outcomes.TooMany line) is = tt
+    laid_out added (outcomes.Expanded whole) is =
+        let among = is_reached (all_held numbered) (length numbered) 0 in
+        let names : (m : ℕ) → m < length numbered → (model_at (reached_models numbered 0) m).names ≡ length (words_at callees.names.now m) = λ m lt. kept_names among 0 m numbered ∙ by.names m lt in
+        let first : 0 < length numbered = (let low = slice_get_within models 0 main at in omega (arith, low, many)) in
+        record {
+          within = is.1.within;
+          own_names = subst (λ n. AreMore (main_table 0 n) whole.spots.items) (names 0 first) is.1.own_names;
+          one_spot = is.1.one_spot;
+          named = λ i one there.
+              let in_it = is.1.named i one there in
+              let lt : one.model < length numbered = omega (arith, in_it.0, kept_many among 0 numbered) in
+              (omega (arith, lt, many, told.many_names), subst (λ n. one.name < n) (names one.model lt) in_it.1);
+        }
+
     pub comes : (added : List Adding) (verdict : Verdict) → added ≡ map adding_inputs main.inputs → IsMisnaming callees headings calls joined met None → Comes callees.interfaces.now inputs numbered met added verdict → VerdictIs models callees.names.now main verdict
     comes added (verdicts.Nameless line) same none is = absurd is
     comes added (verdicts.Misjoined line) same none is = absurd is
     comes added (verdicts.Twice line) same none is = (named_lines ∙ none.0, joined_lines None none.1, sym twice_told ∙ is)
-    comes added (verdicts.Comes outcome) same none is = (named_lines ∙ none.0, joined_lines None none.1, sym twice_told ∙ is.0, outcome_is added outcome same is.1)
+    comes added (verdicts.Comes outcome) same none is = (named_lines ∙ none.0, joined_lines None none.1, sym twice_told ∙ is.0, outcome_is added outcome same is.1, laid_out added outcome is.1)
 
   pub misnamed : (verdict : Verdict) → IsMisnaming callees headings calls joined met (Some verdict) → VerdictIs models callees.names.now main verdict
   misnamed (verdicts.Nameless line) is = named_lines ∙ is

@@ -1,14 +1,22 @@
 -- What is wrong with several models, or what the main one expands into.
-use Rattle.std.specs.Prelude.{◌≡◌, ℕ, Bool, true, List, Option, Some, None, drop, slice_get}
+use Rattle.std.specs.Prelude.{◌≡◌, ℕ, ◌<◌, Bool, true, List, Option, Some, None, All, drop, length, slice_get, vec_len}
 use Rattle.std.specs.Borrow.{Bor}
 use Rattle.job_words.specs.Text.{Word}
+use Rattle.blif_models.specs.declared.expanding.Outcome.{Outcome}
+use Rattle.blif_models.specs.declared.expanding.Outcome.TheVariants as outcomes
+use Rattle.blif_models.specs.declared.layout.Whole.{Whole}
 use Rattle.blif_models.specs.declared.limits.Adding.{Adding}
 use Rattle.blif_models.specs.declared.numbered.NumberedModel.{NumberedModel}
+use Rattle.blif_models.specs.declared.numbered.Spot.{Spot}
 use Rattle.blif_models.specs.Agreement.{NamedOutcomeIs}
 use Rattle.blif_models.specs.Expanding.{OutcomeIs}
 use Rattle.blif_models.specs.Kept.{reached_models}
 use Rattle.blif_models.specs.ModelFaults.{formal_lines, least, model_lines, twice_lines}
+use Rattle.blif_models.specs.Layouts.{main_table}
 use Rattle.blif_models.specs.Models.{Model}
+use Rattle.blif_models.specs.Numberings.{words_at}
+use Rattle.blif_models.specs.SpotsApart.{HaveOneSpot}
+use Rattle.blif_models.specs.Unfinished.{AreMore, LaidIs}
 use Rattle.blif_formals.specs.declared.calls.Call.{Call}
 use Rattle.blif_formals.specs.declared.clashes.Definition.{Definition}
 use Rattle.blif_drafts.specs.declared.drafts.Draft.{Draft}
@@ -24,6 +32,18 @@ use Rattle.blif_drafts.specs.Drafts.{AreDraftsOf}
 use Rattle.blif_formals.specs.Formals.{IsFormalLine}
 use Rattle.blif_formals.specs.Twice.{clash_lines}
 
+-- A whole is laid out in range: its numbers are those of spots, of which the main model's names have the first; and each spot is of a name of a
+-- model, no two of one name.
+pub record IsLaidOut (words : List (List Word)) (whole : Whole) : Type 0 where
+  pub within : All (LaidIs (vec_len whole.spots)) whole.laid.items
+  pub own_names : AreMore (main_table 0 (length (words_at words 0))) whole.spots.items
+  pub one_spot : HaveOneSpot whole.spots.items
+  pub named : (i : ℕ) (one : Spot) → slice_get whole.spots.items i ≡ Some one → (one.model < length words) × (one.name < length (words_at words one.model))
+
+abbrev pub LaidOut : List (List Word) → Outcome → Type 0
+LaidOut words (outcomes.Expanded whole) = IsLaidOut words whole
+LaidOut words _ = Unit {0}
+
 -- what comes of models, the main one first: each kind of fault at its first line, and only where none before it is, or what comes of the
 -- main one
 abbrev pub VerdictIs : List Model → List (List Word) → Model → Verdict → Type 0
@@ -32,6 +52,7 @@ VerdictIs models words main (verdicts.Misjoined line) = (least (model_lines mode
 VerdictIs models words main (verdicts.Twice line) = (least (model_lines models main (drop 1 models)) ≡ None) × (least (formal_lines models main) ≡ None) × (least (twice_lines models main) ≡ Some line)
 VerdictIs models words main (verdicts.Comes outcome) =
     (least (model_lines models main (drop 1 models)) ≡ None) × (least (formal_lines models main) ≡ None) × (least (twice_lines models main) ≡ None) × NamedOutcomeIs models words main outcome
+    × LaidOut words outcome
 
 -- what is judged of drafts is so of any models of which they are
 abbrev pub IsJudgedOf : List Word → List Draft → Judged → Type 0

@@ -18,8 +18,10 @@ use Rattle.std.proofs.lemmas.List.Elements.{All-cons, All-nil, All-push}
 use Rattle.std.proofs.lemmas.Option.{get_or_from_slice_get, slice_get_within}
 use Rattle.blif_models.specs.declared.numbered.Entry.{Entry}
 use Rattle.blif_models.specs.Layouts.{AreNumbered, Counted, EntryIs, IsTable, Placed, copies_in, laid_whole, laid_within, main_table, model_at, no_model, no_spot, numbered_cover, numbered_latch, placed_in, spot, spot_at, spots_of, up_to}
-use Rattle.blif_models.specs.Unfinished.{GoesOn, IsFrame, IsLayout, IsNext, IsStart, LaidIs, entries_left, onward, steps_left, unfinished}
-use Rattle.blif_models.proofs.LayoutSteps.{all_end, layout_cover, layout_latch, layout_left, layout_open, layout_skip, steps_done}
+use Rattle.blif_models.specs.Unfinished.{AreFresh, GoesOn, IsFrame, IsLayout, IsNext, IsStart, LaidIs, entries_left, onward, steps_left, unfinished}
+use Rattle.blif_models.specs.SpotsApart.{copies_over}
+use Rattle.blif_models.proofs.FreshSpots.{fresh_left, fresh_onward, fresh_open, under}
+use Rattle.blif_models.proofs.LayoutSteps.{all_end, layout_cover, layout_latch, layout_left, layout_open, layout_skip, next_entry, steps_done}
 
 pub number_is : (n : ℕ) → n ≡ 0 → (n == 0) ≡ true
 number_is n e = grind (arith, nat_tests)
@@ -35,7 +37,13 @@ layout_moved models counted rank levels whole n spots spots' placed placed' stac
     (subst (λ (xs : List Laid). IsLayout models counted rank levels whole spots' xs stack × (steps_left models levels stack < n)) (sym f)
     (subst (λ (xs : List Spot). IsLayout models counted rank levels whole xs placed stack × (steps_left models levels stack < n)) (sym e) h))
 
+fresh_moved : (models : List NumberedModel) (copies : List ℕ) (most : ℕ) (spots spots' : List Spot) (stack stack' : List Frame) → spots' ≡ spots → stack' ≡ stack → AreFresh models copies most spots stack → AreFresh models copies most spots' stack'
+fresh_moved models copies most spots spots' stack stack' e f h = subst (λ (xs : List Spot). AreFresh models copies most xs stack') (sym e) (subst (AreFresh models copies most spots) (sym f) h)
+
 module _ (models : List NumberedModel) (counted : Counted) (old new : Layout) (frame : Frame) where
+  next_copies : (entry : Entry) → IsNext models frame entry → copies_over counted.copies (entries_left models frame) ≡ copies_over counted.copies (entry ∷ drop (frame.next + 1) (model_at models frame.model).entries)
+  next_copies entry at = ap (copies_over counted.copies) (next_entry (model_at models frame.model).entries frame.next entry at)
+
   pub goes_skip : (instance : NumberedInstance) (behind : ℕ) → IsNext models frame (entries.Instance instance) → (get_or counted.signals instance.model 0 == 0) ≡ true → behind ≡ frame.copies + 1 + copies_in counted instance.model
       → new.spots.items ≡ old.spots.items → new.laid.items ≡ old.laid.items → new.stack.items ≡ old.stack.items ++ onward frame behind ∷ [] → GoesOn models counted old frame new
   goes_skip instance behind at none is e f g = record {
@@ -44,6 +52,10 @@ module _ (models : List NumberedModel) (counted : Counted) (old new : Layout) (f
         layout_moved models counted rank levels whole (steps_left models levels (old.stack.items ++ frame ∷ [])) old.spots.items new.spots.items old.laid.items new.laid.items
         (old.stack.items ++ onward frame (frame.copies + 1 + copies_in counted instance.model) ∷ []) new.stack.items e f (g ∙ ap (λ n. old.stack.items ++ onward frame n ∷ []) is)
         (layout_skip models counted rank levels whole old.spots.items old.laid.items old.stack.items frame instance ranks at h none);
+    fresh = λ most enough h.
+        let next = next_copies (entries.Instance instance) at in
+        fresh_moved models counted.copies most old.spots.items new.spots.items (old.stack.items ++ onward frame behind ∷ []) new.stack.items e g
+        (fresh_onward models counted.copies most old.spots.items old.stack.items frame h behind (omega (arith, is)) (omega (arith, is, next)));
   }
 
   pub goes_open : (instance : NumberedInstance) (behind copy : ℕ) (table : Vec ℕ Global) → IsNext models frame (entries.Instance instance) → (get_or counted.signals instance.model 0 == 0) ≡ false → instance.model < length models
@@ -58,6 +70,13 @@ module _ (models : List NumberedModel) (counted : Counted) (old new : Layout) (f
         (g ∙ (λ j. (old.stack.items ++ onward frame (is j) ∷ []) ++ record { model = instance.model; next = 0; copies = copy_is j; table = table } ∷ []))
         (layout_open models counted rank levels whole old.spots.items old.laid.items old.stack.items frame instance ranks at h new.spots.items table some within
         (subst (λ n. IsTable old.spots.items frame.table.items n instance.model instance.joins (model_at models instance.model).names new.spots.items table.items) copy_is t));
+    fresh = λ most enough h.
+        let next = next_copies (entries.Instance instance) at in
+        let child : Frame = record { model = instance.model; next = 0; copies = copy; table = table } in
+        let mid = fresh_onward models counted.copies most old.spots.items old.stack.items frame h behind (omega (arith, is)) (omega (arith, is, next)) in
+        fresh_moved models counted.copies most (old.spots.items ++ t.more) new.spots.items ((old.stack.items ++ onward frame behind ∷ []) ++ child ∷ []) new.stack.items t.grown g
+        (fresh_open models counted.copies most old.spots.items t.more old.stack.items (onward frame behind) child instance.model (model_at models instance.model).names within refl mid
+        (λ i one there. let low = under models counted.copies most old.spots.items old.stack.items frame h i one there in omega (arith, low, copy_is)) (omega (arith, enough instance.model, is, copy_is)) t.own);
   }
 
   pub goes_cover : (cover : NumberedCover) → IsNext models frame (entries.Cover cover) → All (λ n. n < length frame.table.items) cover.ins → cover.name < length frame.table.items
@@ -67,6 +86,10 @@ module _ (models : List NumberedModel) (counted : Counted) (old new : Layout) (f
     layout = λ rank levels whole ranks h.
         layout_moved models counted rank levels whole (steps_left models levels (old.stack.items ++ frame ∷ [])) old.spots.items new.spots.items (old.laid.items ++ laid.Cover (numbered_cover frame.table.items cover) frame.model frame.next ∷ []) new.laid.items
         (old.stack.items ++ onward frame frame.copies ∷ []) new.stack.items e f g (layout_cover models counted rank levels whole old.spots.items old.laid.items old.stack.items frame cover at ins name h);
+    fresh = λ most enough h.
+        let next = next_copies (entries.Cover cover) at in
+        fresh_moved models counted.copies most old.spots.items new.spots.items (old.stack.items ++ onward frame frame.copies ∷ []) new.stack.items e g
+        (fresh_onward models counted.copies most old.spots.items old.stack.items frame h frame.copies (omega arith) (omega (arith, next)));
   }
 
   pub goes_latch : (latch : NumberedLatch) → IsNext models frame (entries.Latch latch) → latch.input < length frame.table.items → latch.output < length frame.table.items
@@ -76,6 +99,10 @@ module _ (models : List NumberedModel) (counted : Counted) (old new : Layout) (f
     layout = λ rank levels whole ranks h.
         layout_moved models counted rank levels whole (steps_left models levels (old.stack.items ++ frame ∷ [])) old.spots.items new.spots.items (old.laid.items ++ laid.Latch (numbered_latch frame.table.items latch) ∷ []) new.laid.items
         (old.stack.items ++ onward frame frame.copies ∷ []) new.stack.items e f g (layout_latch models counted rank levels whole old.spots.items old.laid.items old.stack.items frame latch at input output h);
+    fresh = λ most enough h.
+        let next = next_copies (entries.Latch latch) at in
+        fresh_moved models counted.copies most old.spots.items new.spots.items (old.stack.items ++ onward frame frame.copies ∷ []) new.stack.items e g
+        (fresh_onward models counted.copies most old.spots.items old.stack.items frame h frame.copies (omega arith) (omega (arith, next)));
   }
 
   pub goes_back : entries_left models frame ≡ [] → new.spots.items ≡ old.spots.items → new.laid.items ≡ old.laid.items → new.stack.items ≡ old.stack.items → GoesOn models counted old frame new
@@ -84,6 +111,7 @@ module _ (models : List NumberedModel) (counted : Counted) (old new : Layout) (f
     layout = λ rank levels whole ranks h.
         layout_moved models counted rank levels whole (steps_left models levels (old.stack.items ++ frame ∷ [])) old.spots.items new.spots.items old.laid.items new.laid.items old.stack.items new.stack.items e f g
         (layout_left models counted rank levels whole old.spots.items old.laid.items old.stack.items frame none h, steps_done models levels old.stack.items frame);
+    fresh = λ most enough h. fresh_moved models counted.copies most old.spots.items new.spots.items old.stack.items new.stack.items e g (fresh_left models counted.copies most old.spots.items old.stack.items frame h);
   }
 
 pub table_moved : (old : List Spot) (outer outer' : List ℕ) (copy model : ℕ) (joins joins' : List NumberedJoin) (names names' : ℕ) (new new' : List Spot) (table : List ℕ) → outer ≡ outer' → joins ≡ joins' → names ≡ names' → new ≡ new'

@@ -2,6 +2,7 @@ pub mod PlainModels
 pub mod CappedSums
 pub mod Searches
 pub mod Counts
+pub mod FreshSpots
 pub mod Tables
 pub mod LayoutSteps
 pub mod GoingOn
@@ -18,3 +19,4 @@ pub mod Agreeing
 pub mod HoldingThemselves
 pub mod TurningLines
 pub mod KeptReached
+pub mod EnoughCopies

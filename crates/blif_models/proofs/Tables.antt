@@ -10,6 +10,7 @@ use Rattle.std.proofs.lemmas.List.Folds.{find-append}
 use Rattle.blif_order.proofs.Walks.{own, same_or_not}
 use Rattle.blif_models.specs.declared.numbered.NumberedJoin.{NumberedJoin}
 use Rattle.blif_models.specs.declared.numbered.Spot.{Spot}
+use Rattle.blif_models.proofs.FreshSpots.{none_own, own_more, own_wider}
 use Rattle.blif_models.specs.Layouts.{IsTable, joined_to, no_spot, spot, spot_at, spot_by, spot_within, spots_of, up_to}
 
 -- joins, one by one
@@ -106,6 +107,7 @@ pub table_begins : (old : List Spot) (outer : List ℕ) (copy model : ℕ) (join
 table_begins old outer copy model joins table none = record {
   more = [];
   grown = sym (append-nil old);
+  own = none_own copy model 0;
   many = ap length none;
   within = subst (λ (ns : List ℕ). All (λ n. n < length old) ns) (sym none) (λ i d lt. absurd (omega (arith, lt)));
   spots = ap (spots_of old) none;
@@ -125,6 +127,7 @@ pub table_joined : (old : List Spot) (outer : List ℕ) (copy model : ℕ) (join
 table_joined old outer copy model joins name number new table o a is t = record {
   more = t.more;
   grown = t.grown;
+  own = own_wider copy model name t.more t.own;
   many = omega (arith, length_push table number, t.many);
   within = All-push (λ n. n < length new) table number t.within (omega (arith, known.0, ap length t.grown, length-append old t.more));
   spots = map-append (spot_at new) table (number ∷ [])
@@ -149,6 +152,7 @@ pub table_new : (old : List Spot) (outer : List ℕ) (copy model : ℕ) (joins :
 table_new old outer copy model joins name new table is t = record {
   more = t.more ++ spot copy model name ∷ [];
   grown = ap (λ (xs : List Spot). xs ++ spot copy model name ∷ []) t.grown ∙ append_assoc old t.more (spot copy model name ∷ []);
+  own = own_more copy model name t.more t.own;
   many = omega (arith, length_push table (length new), t.many);
   within = All-push (λ n. n < length (new ++ spot copy model name ∷ [])) table (length new) (within_more new (spot copy model name ∷ []) table t.within) (omega (arith, length_push new (spot copy model name)));
   spots = map-append (spot_at (new ++ spot copy model name ∷ [])) table (length new ∷ [])

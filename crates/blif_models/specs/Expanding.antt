@@ -14,6 +14,7 @@ use Rattle.blif_models.specs.Graphs.{AreTotals, total_within}
 use Rattle.blif_models.specs.Layouts.{counted, laid_whole, main_table, model_at, placed_in}
 use Rattle.blif_models.specs.ModelFaults.{by_line, passing_line}
 use Rattle.blif_models.specs.NumberedGraphs.{all_held, copies_of, latches_of, signals_of}
+use Rattle.blif_models.specs.SpotsApart.{AreNames, HaveOneSpot}
 use Rattle.blif_models.specs.Unfinished.{AreMore, LaidIs}
 
 -- what a model has in all, through as many levels as there are models
@@ -46,6 +47,8 @@ pub record IsWholeOf (models : List NumberedModel) (main : ℕ) (whole : Whole) 
   pub whole_is : map (placed_in whole.spots.items) whole.laid.items ≡ laid_whole models (counted copies signals) (length models) main
   pub within : All (LaidIs (vec_len whole.spots)) whole.laid.items
   pub own_names : AreMore (main_table main (model_at models main).names) whole.spots.items
+  pub one_spot : HaveOneSpot whole.spots.items
+  pub named : AreNames models whole.spots.items
 
 -- each comes only where none before it does: a line by which the limits are passed, and a whole, where there is an order of all models
 abbrev pub OutcomeIs : List NumberedModel → ℕ → List Adding → Outcome → Type 0

@@ -137,10 +137,16 @@ IsRanked models rank = (m place : ℕ) (instance : NumberedInstance) → slice_g
 abbrev pub spots_of : List Spot → List ℕ → List Spot
 spots_of spots numbers = map (spot_at spots) numbers
 
--- The table of a copy was made: some spots were added, and the table's numbers are those of the copy's spots.
+-- These spots are of one copy and of names of its model below this number, no two of one name.
+pub record AreOwn (copy model names : ℕ) (spots : List Spot) : Type 0 where
+  pub each : (i : ℕ) (one : Spot) → slice_get spots i ≡ Some one → (one.copy ≡ copy) × (one.model ≡ model) × (one.name < names)
+  pub once : (i j : ℕ) (one other : Spot) → slice_get spots i ≡ Some one → slice_get spots j ≡ Some other → one.name ≡ other.name → i ≡ j
+
+-- The table of a copy was made: some spots were added, all its own, and the table's numbers are those of the copy's spots.
 pub record IsTable (old : List Spot) (outer : List ℕ) (copy model : ℕ) (joins : List NumberedJoin) (names : ℕ) (new : List Spot) (table : List ℕ) : Type 0 where
   pub more : List Spot
   pub grown : new ≡ old ++ more
+  pub own : AreOwn copy model names more
   pub many : length table ≡ names
   pub within : All (λ n. n < length new) table
   pub spots : spots_of new table ≡ table_within (spots_of old outer) copy model joins names

@@ -5,6 +5,7 @@ pub mod Plain
 pub mod Graphs
 pub mod ModelGraphs
 pub mod Layouts
+pub mod SpotsApart
 pub mod Unfinished
 pub mod Numberings
 pub mod Orderings

@@ -9,6 +9,7 @@ use Rattle.blif_models.specs.declared.numbered.Laid.{Laid}
 use Rattle.blif_models.specs.declared.numbered.Laid.TheVariants as laid
 use Rattle.blif_models.specs.declared.layout.Frame.{Frame}
 use Rattle.blif_models.specs.declared.layout.Layout.{Layout}
+use Rattle.blif_models.specs.SpotsApart.{AreEnough, AreNames, HaveOneSpot, copies_over}
 use Rattle.blif_models.specs.Layouts.{Counted, IsRanked, Placed, laid_within, model_at, placed_in, spots_of, up_to}
 
 -- The frame is a copy of a model, whose names have spots.
@@ -70,11 +71,29 @@ onward frame copies = record frame { next = frame.next + 1; copies = copies }
 abbrev pub AreMore : List Spot → List Spot → Type 0
 AreMore old new = (more : List Spot) × (new ≡ old ++ more)
 
+-- the copies before the next entry of the last frame, or this many
+abbrev pub top_copies : ℕ → List Frame → ℕ
+top_copies most [] = most
+top_copies most (frame ∷ frames) = top_copies frame.copies frames
+
+-- the copies that a frame still makes come before the next ones of the frame before it
+abbrev pub HaveRoom : List NumberedModel → List ℕ → ℕ → List Frame → Type 0
+HaveRoom models copies most [] = Unit {0}
+HaveRoom models copies most (frame ∷ frames) = (frame.copies + copies_over copies (entries_left models frame) ≤ most) × HaveRoom models copies frame.copies frames
+
+-- Copies that are still to come are new.
+pub record AreFresh (models : List NumberedModel) (copies : List ℕ) (most : ℕ) (spots : List Spot) (stack : List Frame) : Type 0 where
+  pub one_spot : HaveOneSpot spots
+  pub named : AreNames models spots
+  pub low : (i : ℕ) (one : Spot) → slice_get spots i ≡ Some one → one.copy ≤ top_copies most stack
+  pub room : HaveRoom models copies most stack
+
 -- A layout went on with the last frame of its stack, which had been taken off.
 pub record GoesOn (models : List NumberedModel) (counted : Counted) (old : Layout) (frame : Frame) (new : Layout) : Type 0 where
   pub spots : AreMore old.spots.items new.spots.items
   pub layout : (rank : ℕ → ℕ) (levels : ℕ) (whole : List Placed) → IsRanked models rank → IsLayout models counted rank levels whole old.spots.items old.laid.items (old.stack.items ++ frame ∷ [])
       → LayoutIs models counted rank levels whole new × (steps_left models levels new.stack.items < steps_left models levels (old.stack.items ++ frame ∷ []))
+  pub fresh : (most : ℕ) → AreEnough models counted.copies → AreFresh models counted.copies most old.spots.items (old.stack.items ++ frame ∷ []) → AreFresh models counted.copies most new.spots.items new.stack.items
 
 -- the entry stands next
 abbrev pub IsNext : List NumberedModel → Frame → Entry → Type 0

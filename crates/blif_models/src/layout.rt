@@ -2,6 +2,7 @@
 
 ghost use Rattle.std.specs.Prelude.{◌≡◌, ◌<◌, ◌≤◌, ◌+◌, ◌^◌, ◌++◌, ◌∷◌, [], All, IfOk, OnOk, get_or, length, map, vec_len, ℕ, None};
 ghost use Rattle.blif_models.specs.Layouts.{AreNumbered, EntryIs, IsRanked, IsTable, counted, joined_to, laid_whole, main_table, model_at, placed_in, numbered_cover, numbered_latch};
+ghost use Rattle.blif_models.specs.SpotsApart.{AreEnough, AreNames, HaveOneSpot};
 ghost use Rattle.blif_models.specs.Unfinished.{AreMore, GoesOn, IsFrame, IsNext, IsStart, LaidIs, onward};
 
 use crate::numbered::{
@@ -325,6 +326,7 @@ pub fn lay_out(
     ensures whole { IfOk result (λ whole. map (placed_in whole.spots.items) whole.laid.items ≡ laid_whole models.now (counted copies.now signals.now) (length models.now) main) }
     ensures within { IfOk result (λ whole. All (LaidIs (vec_len whole.spots)) whole.laid.items) }
     ensures main { IfOk result (λ whole. AreMore (main_table main (model_at models.now main).names) whole.spots.items) }
+    ensures apart { IfOk result (λ whole. AreEnough models.now copies.now → HaveOneSpot whole.spots.items × AreNames models.now whole.spots.items) }
 {
     let mut layout = start(alloc, main, models[main as usize].names)?;
     while let Some(frame) = layout.stack.pop() {

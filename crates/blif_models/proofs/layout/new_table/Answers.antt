@@ -1,9 +1,12 @@
 use Rattle.std.proofs.Common.{◌≡◌, ◌<◌, ◌+◌, List, Option, None, Some, ℕ, arith, length, ◌∙◌, ap, ◌++◌, ◌∷◌, []}
 use Rattle.blif_models.specs.declared.numbered.Spot.{Spot}
 use Rattle.blif_models.specs.Layouts.{joined_to, spot}
-use Rattle.blif_models.proofs.Tables.{moved, read_at, table_joined, table_new}
+use Rattle.blif_models.proofs.Tables.{moved, read_at, table_begins, table_joined, table_new}
 use Rattle.blif_models.proofs.layout.new_table.Goals as goal
 use Rattle.blif_models.proofs.layout.new_table.Goals.{in-Some+in_ok-push, in_default+in_ok-number+in_ok-push-2+in_ok-push-3}
+
+pub loop-name-init : goal.loop-name-init
+loop-name-init c = table_begins c.args.spots.now.items c.args.outer.now c.args.copy c.args.model c.args.joins.now c.in_ok-table.table.items c.in_ok-table.ensures.items
 
 pub loop-name-preserved : goal.loop-name-preserved
 loop-name-preserved c =
