@@ -1,4 +1,6 @@
+use Rattle.std.proofs.Common.{ap, arith}
+use Rattle.dd_session.specs.Sessions.{Managed}
 use Rattle.session_tests.proofs.calls.var.Goals as goal
 
 pub var-requires : goal.var-requires
-var-requires g c = record { own = c.requires.own; room = c.has_room.ensures; can = (rw c.requires.own c.requires.variable, tt) }
+var-requires g c = let vars = ap (λ (m : Managed). m.vars) c.requires.own in let below = c.requires.variable in record { own = c.requires.own; room = c.has_room.ensures; can = (omega (arith, vars, below), tt) }
