@@ -51,9 +51,10 @@ fn hand_outputs<R: Wait, H: Host>(
 }
 
 /// Builds a network, and hands its outputs over by a cell of the board: the report of its outputs, with their values at each pattern,
-/// under the order of the variables that the session noted last. Input i takes bit i of a pattern; inputs past its end are 0, and further bits have no effect. At first the session has one
-/// variable for each input, and no live row. Calls of other sessions may come between; where a fetch does not find its post for
-/// them, it waits for ever. An error is want of memory, or a call of the session that was refused.
+/// under the order of the variables that the session noted last. Input i takes bit i of a pattern; inputs past its end are 0, and
+/// further bits have no effect. At first the session has one variable for each input, and no live row. Calls of other sessions may come
+/// between; where a fetch does not find its post for them, it waits for ever. An error is want of memory, or a call of the session that
+/// was refused.
 pub fn build_report<R: Wait, H: Host>(
     rt: &R,
     alloc: Global,
@@ -77,8 +78,8 @@ pub fn build_report<R: Wait, H: Host>(
     Ok(text)
 }
 
-/// Builds a network: the summary of its outputs, under the order of the variables that the session noted last. What is asked of the session,
-/// the calls of others and the errors are as for a report.
+/// Builds a network: the summary of its outputs, under the order of the variables that the session noted last. What is asked of the
+/// session, the calls of others and the errors are as for a report.
 pub fn build_summary<R: Wait, H: Host>(
     rt: &R,
     alloc: Global,

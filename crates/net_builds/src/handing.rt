@@ -47,7 +47,8 @@ fn is_behind(earlier: &[Handover], next: &Handover) -> bool
     }
 }
 
-/// Hands over one name: posts it to the cell and fetches it from there. It waits for ever where the fetch finds nothing posted, or lies below the post.
+/// Hands over one name: posts it to the cell and fetches it from there. It waits for ever where the fetch finds nothing posted, or lies
+/// below the post.
 fn hand_one<R: Wait, H: Host>(
     rt: &R,
     host: &H,

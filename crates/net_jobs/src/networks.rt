@@ -31,8 +31,8 @@ pub const OUTPUTS_CELL: u32 = 0;
 /// Why a part has nothing to tell: want of memory, or a call of a session was refused for a full node table.
 pub type PartStop = HostRefusal<Full>;
 
-/// Builds a network by the one session of a manager, which has no live row: the report of its outputs, with their values at each
-/// pattern. The gate is passed as worker 0 before each output.
+/// Builds a network by the one session of a manager, which has no live row and knows of no variable that was added: the report of its
+/// outputs, with their values at each pattern. The gate is passed as worker 0 before each output.
 pub fn build<R: Wait, G: Gate>(
     rt: &R,
     alloc: Global,
@@ -90,8 +90,8 @@ fn made<R: RandomSource>(rt: &R, alloc: Global, bits: u32) -> Result<Net, Memory
     }
 }
 
-/// Builds the network that is made for so many bits by the one session of a manager, which has no live row and two variables for
-/// each bit: the summary of its outputs. The gate is passed as worker 0 before each output.
+/// Builds the network that is made for so many bits by the one session of a manager, which has no live row, knows of no variable that
+/// was added, and has two variables for each bit: the summary of its outputs. The gate is passed as worker 0 before each output.
 pub fn generate<R: Wait + RandomSource, G: Gate>(
     rt: &R,
     alloc: Global,
