@@ -1,28 +1,12 @@
 -- The internal indices by variable, as they are set and looked up.
-use Rattle.std.proofs.Common.{◌≡◌, ◌≢◌, ℕ, ◌+◌, ◌<◌, ◌≤◌, ◌==◌, Bool, true, false, List, Some, None, All, Contains, length, get_or, slice_set, sym, ◌∙◌, ap, subst, arith, refl, below_more, get_or-set_other, get_or-set_same, nat_lt, if◌then◌else◌}
+use Rattle.std.proofs.Common.{◌≡◌, ◌≢◌, ℕ, ◌+◌, ◌<◌, ◌≤◌, ◌==◌, Bool, true, false, List, Some, None, All, Contains, length, get_or, sym, ◌∙◌, ap, subst, arith, refl, nat_lt, if◌then◌else◌}
 use Rattle.std.specs.List.{position_or_len}
-use Rattle.std.specs.List.Sorted.{IsStrictlyIncreasing}
 use Rattle.std.specs.Option.{unwrap_or}
-use Rattle.std.proofs.lemmas.List.Kept.{AllPairs-from_increasing}
 use Rattle.std.proofs.lemmas.List.Sums.{fails_before_first, passes_at_first}
 use Rattle.std.proofs.lemmas.Bool.{eq-eqb, eqb-true}
 use Rattle.std.proofs.lemmas.Bool.Decides.{nat_tests}
 use Rattle.dddmp_text.specs.Ranks.{rank_of}
 use Rattle.diagram_dumps.specs.Dumps.{place_among}
-
--- the rank of one more id is set
-pub set_rank : (ids shown internals permids : List ℕ) (place rank : ℕ) → shown ≡ ids → IsStrictlyIncreasing ids → place < length ids
-    → get_or ids place 0 < length internals → rank ≡ rank_of permids place
-    → ((i : ℕ) → i < place → get_or internals (get_or ids i 0) 0 ≡ rank_of permids i)
-    → (i : ℕ) → i < place + 1 → get_or (slice_set internals (get_or shown place 0) rank) (get_or ids i 0) 0 ≡ rank_of permids i
-set_rank ids shown internals permids place rank e rises within room is so_far =
-    subst (λ (s : List ℕ). (i : ℕ) → i < place + 1 → get_or (slice_set internals (get_or s place 0) rank) (get_or ids i 0) 0 ≡ rank_of permids i) (sym e)
-    (below_more (λ i. get_or (slice_set internals (get_or ids place 0) rank) (get_or ids i 0) 0 ≡ rank_of permids i) place
-    (λ i h.
-    let lower : get_or ids i 0 < get_or ids place 0 = AllPairs-from_increasing ids rises i place 0 h within in
-    let other : get_or ids i 0 ≢ get_or ids place 0 = omega arith in
-    get_or-set_other internals (get_or ids place 0) (get_or ids i 0) rank 0 other ∙ so_far i h)
-    (get_or-set_same internals (get_or ids place 0) rank 0 room ∙ is))
 
 -- the first place of an id, or the number of the ids
 abbrev first_place : List ℕ → ℕ → ℕ

@@ -10,18 +10,18 @@ use Rattle.diagram_dumps.specs.Dumps.{place_among}
 use Rattle.dddmp_text.proofs.Counting.{count-more, count-most}
 use Rattle.dddmp_text.proofs.Lookups.{place_among-is}
 
-abbrev count : (ℕ → Bool) → ℕ → ℕ
+abbrev pub count : (ℕ → Bool) → ℕ → ℕ
 count p n = count_by p (range_with_len 0 n)
 
-count-suc : (p : ℕ → Bool) (n : ℕ) → count p (suc n) ≡ count p n + (if p n then 1 else 0)
+pub count-suc : (p : ℕ → Bool) (n : ℕ) → count p (suc n) ≡ count p n + (if p n then 1 else 0)
 count-suc p n = ap (count p) (sym (add-one n)) ∙ count-more p n
 
-bit-le : (a b : Bool) → (a ≡ true → b ≡ true) → (if a then 1 else 0) ≤ (if b then 1 else 0)
+pub bit-le : (a b : Bool) → (a ≡ true → b ≡ true) → (if a then 1 else 0) ≤ (if b then 1 else 0)
 bit-le false b h = omega arith
 bit-le true true h = omega arith
 bit-le true false h = let e : false ≡ true = h refl in absurd cc
 
-count-le : (p q : ℕ → Bool) (n : ℕ) → ((k : ℕ) → k < n → p k ≡ true → q k ≡ true) → count p n ≤ count q n
+pub count-le : (p q : ℕ → Bool) (n : ℕ) → ((k : ℕ) → k < n → p k ≡ true → q k ≡ true) → count p n ≤ count q n
 count-le p q zero h = omega arith
 count-le p q (suc n) h =
     let before : count p n ≤ count q n = count-le p q n (λ k below. let next : k < suc n = omega arith in h k next) in
@@ -50,7 +50,7 @@ count-lt p q (suc n) at h within fails passes = by_last (nat_lt at n) refl (λ l
         omega (arith, count-le p q n below, count-suc p n, count-suc q n, without, with)
 
 -- an entry and its place come before those of another
-abbrev before : ℕ → ℕ → ℕ → ℕ → Bool
+abbrev pub before : ℕ → ℕ → ℕ → ℕ → Bool
 before x i y j = nat_lt x y || (x == y && nat_lt i j)
 
 before-self : (x i : ℕ) → before x i x i ≡ false
@@ -59,7 +59,7 @@ before-self x i = grind (arith, nat_tests)
 before-trans : (x i y j z k : ℕ) → before x i y j ≡ true → before y j z k ≡ true → before x i z k ≡ true
 before-trans x i y j z k first second = grind (arith, nat_tests)
 
-before-total : (x i y j : ℕ) → i ≢ j → (before x i y j ≡ true) ⊎ (before y j x i ≡ true)
+pub before-total : (x i y j : ℕ) → i ≢ j → (before x i y j ≡ true) ⊎ (before y j x i ≡ true)
 before-total x i y j apart = by_tests (before x i y j) (before y j x i) refl refl
   where
     by_tests : (a b : Bool) → before x i y j ≡ a → before y j x i ≡ b → (before x i y j ≡ true) ⊎ (before y j x i ≡ true)
@@ -77,7 +77,7 @@ pub rank-below : (entries : List ℕ) (i : ℕ) → i < length entries → rank_
 rank-below entries i within =
     omega (arith, count-most (λ _. true) (length entries), count-lt (λ k. comes_before entries k i) (λ _. true) (length entries) i (λ _ _ _. refl) within (before-self (slice_index entries i) i) refl)
 
-rank-injective : (entries : List ℕ) (i j : ℕ) → i < length entries → j < length entries → rank_of entries i ≡ rank_of entries j → i ≡ j
+pub rank-injective : (entries : List ℕ) (i j : ℕ) → i < length entries → j < length entries → rank_of entries i ≡ rank_of entries j → i ≡ j
 rank-injective entries i j first second same = by_test (i == j) refl
   where
     by_test : (b : Bool) → (i == j) ≡ b → i ≡ j

@@ -1,5 +1,6 @@
 pub mod Fields
 pub mod Ranks
 pub mod Faults
+pub mod Reading
 pub mod Readings
 pub mod Written

@@ -2,45 +2,24 @@
 
 ghost use Rattle.std.specs.Prelude.{◌≡◌, ◌<◌, ◌++◌, ◌∷◌, [], All, Contains, OnOk, IfOk, length, map, string_bytes};
 ghost use Rattle.std.specs.Fmt.{decimal, signed_decimal};
-ghost use Rattle.dddmp_text.specs.Ranks.{comes_before, rank_of};
 ghost use Rattle.diagram_dumps.specs.WellMade.{IsWritable};
 ghost use Rattle.dddmp_text.specs.Written.{AreInternals, counts, header, item, node_item, node_items, written};
 
+use crate::sorting::places_by_rank;
 use diagram_dumps::Dump;
 use edge_bits::{Line, Memory};
 use std::alloc::{AllocError, Global};
-
-/// Whether the position at the first place comes before that at the second.
-fn comes_before(permids: &[u32], place: usize, other: usize) -> bool
-    requires place { place < length permids.now }
-    requires other { other < length permids.now }
-    ensures { result ≡ comes_before permids.now place other }
-{
-    permids[place] < permids[other] || (permids[place] == permids[other] && place < other)
-}
-
-/// The rank of a place among the positions.
-fn rank_of(permids: &[u32], place: usize) -> usize
-    requires { place < length permids.now }
-    ensures { result ≡ rank_of permids.now place }
-{
-    let mut rank = 0;
-    for other in 0..permids.len() {
-        if comes_before(permids, other, place) {
-            rank += 1;
-        }
-    }
-    rank
-}
 
 /// By variable, the internal index of the node lines of each id.
 fn internals_of(alloc: Global, dump: &Dump) -> Result<Vec<usize>, AllocError>
     requires { IsWritable dump.now }
     ensures { IfOk result (λ internals. AreInternals dump.now internals.items) }
 {
+    let places = places_by_rank(alloc, dump.permids.as_slice())?;
     let mut internals = vec![in alloc; 0usize; dump.nvars as usize]?;
-    for (place, id) in dump.ids.as_slice().iter().enumerate() {
-        internals[*id as usize] = rank_of(dump.permids.as_slice(), place);
+    for rank in 0..places.len() {
+        let place = places[rank] as usize;
+        internals[dump.ids.as_slice()[place] as usize] = rank;
     }
     Ok(internals)
 }

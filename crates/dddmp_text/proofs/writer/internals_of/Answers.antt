@@ -1,21 +1,35 @@
-use Rattle.std.proofs.Common.{◌<◌, ◌∙◌, ap, length, get_or, arith, ℕ, List}
+use Rattle.std.proofs.Common.{◌≡◌, ◌<◌, ◌∙◌, ap, subst, arith, List, ℕ, length, get_or}
+use Rattle.std.specs.Prelude.{slice_index}
+use Rattle.std.proofs.lemmas.Grind.{get_or_default_zero}
 use Rattle.std.proofs.lemmas.List.{length-set}
-use Rattle.dddmp_text.specs.Ranks.{rank_of}
-use Rattle.dddmp_text.proofs.Lookups.{looked_up, set_rank}
+use Rattle.dddmp_text.specs.Ranks.{AreByRank}
+use Rattle.dddmp_text.proofs.ByRank.{all_set, rank_set}
+use Rattle.dddmp_text.proofs.Lookups.{looked_up}
 use Rattle.dddmp_text.proofs.writer.internals_of.Goals as goal
 
-pub loop-place-preserved : goal.loop-place-preserved
-loop-place-preserved c =
-    let within : c.loop-place.place < length c.args.dump.now.ids = omega (arith, ap (λ (s : List ℕ). length s) c.as_slice-id-items.ensures) in
-    let small : get_or c.args.dump.now.ids c.loop-place.place 0 < c.args.dump.now.nvars = c.requires.below c.loop-place.place 0 within in
+pub loop-rank-preserved : goal.loop-rank-preserved
+loop-rank-preserved c =
+    let dump = c.args.dump.now in
+    let places = c.in_ok-places.places.items in
+    let rank = c.loop-rank.rank in
+    let by = subst (λ (permids : List ℕ). AreByRank permids places) c.as_slice.ensures c.in_ok-places.ensures.ranks in
+    let inside : rank < length places = omega (arith, c.loop-rank-test.true, c.len-rank-end.ensures) in
+    let below : rank < length dump.permids = omega (arith, inside, by.as_many) in
+    let place : c.index.result.now ≡ slice_index places rank = c.index.ensures ∙ get_or_default_zero places rank c.index.result.now inside in
+    let there : slice_index places rank < length dump.ids = omega (arith, by.within rank below, c.requires.as_many) in
+    let room : slice_index dump.ids (slice_index places rank) < length c.loop-rank.internals.items = omega (arith, c.requires.below (slice_index places rank) 0 there, c.loop-rank.invariant.long) in
     record {
-      long = length-set c.loop-place.internals.items _ _ ∙ c.loop-place.invariant.long;
-      so_far = set_rank c.args.dump.now.ids c.as_slice-id-items.result.now c.loop-place.internals.items c.args.dump.now.permids c.loop-place.place
-          c.rank_of.result c.as_slice-id-items.ensures c.requires.rises within (omega (arith, c.loop-place.invariant.long, small))
-          (c.rank_of.ensures ∙ ap (λ (s : List ℕ). rank_of s c.loop-place.place) c.as_slice.ensures) c.loop-place.invariant.so_far;
+      long = length-set c.loop-rank.internals.items _ _ ∙ c.loop-rank.invariant.long;
+      so_far = rank_set dump.ids c.as_slice-in-loop-rank.result.now dump.permids places c.loop-rank.internals.items rank c.index.result.now c.as_slice-in-loop-rank.ensures place by c.requires.rises
+          c.requires.as_many below room c.loop-rank.invariant.so_far;
     }
 
 pub returns : goal.returns
 returns c = λ var has.
-    looked_up c.args.dump.now.ids c.loop-place.internals.items c.args.dump.now.permids c.args.dump.now.nvars var c.loop-place.invariant.long c.requires.below
-    (λ i h. let below : i < c.loop-place.place = omega (arith, ap (λ (s : List ℕ). length s) c.as_slice-id-items.ensures) in c.loop-place.invariant.so_far i below) has
+    let dump = c.args.dump.now in
+    let places = c.in_ok-places.places.items in
+    let by = subst (λ (permids : List ℕ). AreByRank permids places) c.as_slice.ensures c.in_ok-places.ensures.ranks in
+    let long = c.len-rank-end.ensures in
+    looked_up dump.ids c.loop-rank.internals.items dump.permids dump.nvars var c.loop-rank.invariant.long c.requires.below
+    (λ i within. all_set dump.ids dump.permids places c.loop-rank.internals.items by
+    (λ r less. let below : r < c.loop-rank.rank = omega (arith, less, c.loop-rank-test.false, long, by.as_many) in c.loop-rank.invariant.so_far r below) i (omega (arith, within, c.requires.as_many))) has

@@ -1,9 +1,8 @@
 use Rattle.std.proofs.Common.{◌≡◌, ◌<◌, ℕ, get_or, length}
-use Rattle.dddmp_text.specs.Ranks.{rank_of}
 use Rattle.dddmp_text.proofs.writer.internals_of.Given as goal
 
-abbrev pub invariant-loop-place : goal.invariant-loop-place
-invariant-loop-place l = record {
+abbrev pub invariant-loop-rank : goal.invariant-loop-rank
+invariant-loop-rank l = record {
   long : length l.internals.items ≡ l.dump.nvars;
-  so_far : (i : ℕ) → i < l.place → get_or l.internals.items (get_or l.dump.ids i 0) 0 ≡ rank_of l.dump.permids i;
+  so_far : (r : ℕ) → r < l.rank → get_or l.internals.items (get_or l.dump.ids (get_or l.places.items r 0) 0) 0 ≡ r;
 }
