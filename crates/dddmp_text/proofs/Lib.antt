@@ -1,3 +1,4 @@
+mod Bounded
 mod ByRank
 mod Counting
 mod Decimals
@@ -12,6 +13,7 @@ mod OneReading
 mod Ranks
 mod ReadAgain
 mod ReadDumps
+mod ReadFaults
 mod Rows
 mod SmallNumbers
 mod Spelled

@@ -4,3 +4,4 @@ pub mod Faults
 pub mod Reading
 pub mod Readings
 pub mod Written
+pub mod Bounds

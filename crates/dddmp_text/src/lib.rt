@@ -1,6 +1,7 @@
 //! The texts of stored diagrams (DDDMP-2.0): what they say, their reader, and the text that is written for a dump.
 #![tactic(auto)]
 
+mod bounds;
 mod faults;
 mod fields;
 mod header;
@@ -11,6 +12,7 @@ mod readings;
 mod sorting;
 mod writer;
 
+pub use bounds::dumps_are_bounded;
 pub use diagram_dumps::{Dump, Line, Listing, node_count};
 pub use faults::{DddmpError, DddmpFault, FaultKind};
 pub use reader::read;
