@@ -1,5 +1,6 @@
 -- What a name of the fetching session stands for at the end of a history is what the posted name stands for.
-use Rattle.std.proofs.Common.{◌≡◌, ◌⊎◌, ℕ, ◌+◌, ◌<◌, ◌≤◌, Bool, true, false, List, [], ◌∷◌, ◌++◌, length, append_assoc, Option, Some, None, refl, ap, sym, subst, ◌∙◌, inl, inr, arith}
+use Rattle.std.proofs.Common.{◌≡◌, ◌⊎◌, ℕ, zero, suc, ◌+◌, ◌<◌, ◌≤◌, Bool, true, false, List, [], ◌∷◌, ◌++◌, length, take, append_assoc, Option, Some, None, refl, ap, ap₂, sym, subst, ◌∙◌, inl, inr, arith}
+use Rattle.std.proofs.Math.Seq.{take-append_seam}
 use Rattle.function_laws.specs.declared.history.Name.{Name}
 use Rattle.function_laws.specs.declared.history.Function.{Function}
 use Rattle.function_laws.specs.declared.history.Call.{Call}
@@ -76,17 +77,45 @@ posted-lives t s i from (o, is, replies) = by (t.live s from) (nat_lt i t.sizes.
     by None true live is = cc
     by None false live is = cc
 
+-- the front of a legal part up to a place has what stands below it
+pub has-front : (n p : ℕ) (t : Table) (log : List Entry) (e : Entry) → IsLegalFrom n t log → Has e log → e.place < n + p → Has e (take p log)
+has-front n zero t [] e legal has less = absurd has
+has-front n (suc p) t [] e legal has less = absurd has
+has-front n zero t (x ∷ log) e legal has less = absurd (let at = places n t (x ∷ log) e legal has in omega (arith, at.0, less))
+has-front n (suc p) t (x ∷ log) e legal (inl is) less = inl is
+has-front n (suc p) t (x ∷ log) e legal (inr has) less = inr (has-front (n + 1) p (after_entry t x) log e legal.2 has (omega (arith, less)))
+
+-- it is legal, and what it has the part has
+pub legal-front : (n p : ℕ) (t : Table) (log : List Entry) → IsLegalFrom n t log → IsLegalFrom n t (take p log)
+legal-front n zero t log legal = tt
+legal-front n (suc p) t [] legal = tt
+legal-front n (suc p) t (x ∷ log) legal = (legal.0, legal.1, legal-front (n + 1) p (after_entry t x) log legal.2)
+
+pub front-has : (p : ℕ) (log : List Entry) (e : Entry) → Has e (take p log) → Has e log
+front-has zero log e has = absurd has
+front-has (suc p) [] e has = absurd has
+front-has (suc p) (x ∷ log) e (inl is) = inl is
+front-has (suc p) (x ∷ log) e (inr has) = inr (front-has p log e has)
+
+pub take-front : (p q : ℕ) (log : List Entry) → p ≤ q → take p (take q log) ≡ take p log
+take-front zero q log le = refl
+take-front (suc p) zero log le = absurd (omega (arith, le))
+take-front (suc p) (suc q) [] le = refl
+take-front (suc p) (suc q) (x ∷ log) le = ap (λ (es : List Entry). x ∷ es) (take-front p q log (omega (arith, le)))
+
 -- A post and a later fetch of a legal history, with no post to the cell between them.
 module _ (sizes : Sizes) (log : List Entry) (legal : IsLegal sizes log) (plain : (e : Entry) → Has e log → is_numbered e.reply ≡ false) (i : ℕ) (post fetch : Entry) (from to : Name)
     (has_post : Has post log) (has_fetch : Has fetch log) (turn : post.place < fetch.place)
     (leaves : (e : Entry) → Has e log → post.place < e.place → e.place < fetch.place → LeavesCell i e)
     (post_call : post.call ≡ calls.Post i from) (post_reply : post.reply ≡ replies.Done)
-    (other : Name) (fetch_call : fetch.call ≡ calls.Fetch i other) (fetch_reply : fetch.reply ≡ replies.Fetched to true) (f g : Function)
-    (stands_from : (table_after (opening sizes) log).live post.session from ≡ Some f) (stands_to : (table_after (opening sizes) log).live fetch.session to ≡ Some g) where
+    (other : Name) (fetch_call : fetch.call ≡ calls.Fetch i other) (fetch_reply : fetch.reply ≡ replies.Fetched to true) (g : Function)
+    (stands_to : (table_after (opening sizes) log).live fetch.session to ≡ Some g) where
   one : (before : List Entry) × (rest : List Entry) × (log ≡ before ++ post ∷ rest) × (post.place ≡ 0 + length before)
   one = split 0 (opening sizes) log post legal has_post
 
-  law : (before rest between after : List Entry) → log ≡ before ++ post ∷ rest → rest ≡ between ++ fetch ∷ after → post.place ≡ length before → fetch.place ≡ length before + 1 + length between → f ≡ g
+  -- what the posted name stood for at the post's place
+  law : (before rest between after : List Entry) → log ≡ before ++ post ∷ rest → rest ≡ between ++ fetch ∷ after → post.place ≡ length before → fetch.place ≡ length before + 1 + length between
+      → (table_after (opening sizes) before).live post.session from ≡ Some g
   law before rest between after first second at_post at_fetch =
       let cut : log ≡ before ++ post ∷ (between ++ fetch ∷ after) = first ∙ ap (λ r. before ++ post ∷ r) second in
       let whole : IsLegalFrom 0 (opening sizes) (before ++ post ∷ (between ++ fetch ∷ after)) = subst (λ es. IsLegalFrom 0 (opening sizes) es) cut legal in
@@ -102,11 +131,6 @@ module _ (sizes : Sizes) (log : List Entry) (legal : IsLegal sizes log) (plain :
       handed_over 0 t i post fetch between from to (record { post_call = post_call; post_reply = post_reply; other = other; fetch_call = fetch_call; fetch_reply = fetch_reply }) leave at.1 in
       let lives = posted-lives t post.session i from (subst (λ (y : Call × Reply). IsAllowed t post.session y.0 y.1) (λ k. (post_call k, post_reply k)) from_post.1) in
       let h : Function = lives.0 in
-      let end : table_after (opening sizes) log ≡ table_after t (post ∷ (between ++ fetch ∷ after)) = ap (table_after (opening sizes)) cut ∙ table_after-append (opening sizes) before (post ∷ (between ++ fetch ∷ after)) in
-      let h_is_f : h ≡ f = stood post.session from sizes before (post ∷ (between ++ fetch ∷ after)) h f (legal-left 0 (opening sizes) before _ whole)
-      (each-of (λ (e : Entry). is_numbered e.reply ≡ false) before (λ e x. plain e (has e (has-left e before _ x)))) from_post
-      (each-of (λ (e : Entry). is_numbered e.reply ≡ false) (post ∷ (between ++ fetch ∷ after)) (λ e x. plain e (has e (has-right e before _ x))))
-      lives.1 (sym (ap (λ (w : Table). w.live post.session from) end) ∙ stands_from) in
       let front : List Entry = before ++ post ∷ (between ++ fetch ∷ []) in
       let regroup : before ++ post ∷ (between ++ fetch ∷ after) ≡ front ++ after =
       ap (λ xs. before ++ post ∷ xs) (sym (append_assoc between (fetch ∷ []) after)) ∙ sym (append_assoc before (post ∷ (between ++ fetch ∷ [])) after) in
@@ -119,14 +143,34 @@ module _ (sizes : Sizes) (log : List Entry) (legal : IsLegal sizes log) (plain :
       (each-of (λ (e : Entry). is_numbered e.reply ≡ false) front (λ e x. plain e (has_too e (has-left e front after x)))) (legal-right 0 (opening sizes) front after whole_too)
       (each-of (λ (e : Entry). is_numbered e.reply ≡ false) after (λ e x. plain e (has_too e (has-right e front after x))))
       (ap (λ (w : Table). w.live fetch.session to) table_front ∙ handed ∙ lives.1) (sym (ap (λ (w : Table). w.live fetch.session to) end_too) ∙ stands_to) in
-      sym h_is_f ∙ h_is_g
+      lives.1 ∙ ap Some h_is_g
 
-  -- the two names stand for one function at the end
-  pub handed-law : f ≡ g
-  handed-law =
+  stood-then : (table_after (opening sizes) one.0).live post.session from ≡ Some g
+  stood-then =
       let rest = one.1 in
       let cut_legal : IsLegalFrom 0 (opening sizes) (one.0 ++ post ∷ rest) = subst (λ es. IsLegalFrom 0 (opening sizes) es) one.2 legal in
       let later : Has fetch rest = later-part 0 (opening sizes) one.0 rest post fetch cut_legal (subst (λ es. Has fetch es) one.2 has_fetch) turn in
       let tail : IsLegalFrom (0 + length one.0 + 1) (after_entry (table_after (opening sizes) one.0) post) rest = (legal-right 0 (opening sizes) one.0 (post ∷ rest) cut_legal).2 in
       let two = split (0 + length one.0 + 1) (after_entry (table_after (opening sizes) one.0) post) rest fetch tail later in
       law one.0 rest two.0 two.1 one.2 two.2 (omega (arith, one.3)) (omega (arith, two.3))
+
+  -- what the posted name stood for at the post's place is what the fetched one stands for
+  pub handed-at : (f : Function) → (table_after (opening sizes) (take post.place log)).live post.session from ≡ Some f → f ≡ g
+  handed-at f stands =
+      let at : post.place ≡ length one.0 = omega (arith, one.3) in
+      let front : take post.place log ≡ one.0 = ap₂ take at one.2 ∙ take-append_seam one.0 (post ∷ one.1) in
+      let now : Some f ≡ Some g = sym stands ∙ ap (λ (es : List Entry). (table_after (opening sizes) es).live post.session from) front ∙ stood-then in
+      cc
+
+  -- and so is what it stands for at the end
+  pub handed-law : (f : Function) → (table_after (opening sizes) log).live post.session from ≡ Some f → f ≡ g
+  handed-law f stands_from =
+      let before = one.0 in
+      let rest : List Entry = post ∷ one.1 in
+      let whole : IsLegalFrom 0 (opening sizes) (before ++ rest) = subst (λ es. IsLegalFrom 0 (opening sizes) es) one.2 legal in
+      let end : table_after (opening sizes) log ≡ table_after (table_after (opening sizes) before) rest = ap (table_after (opening sizes)) one.2 ∙ table_after-append (opening sizes) before rest in
+      let has : (e : Entry) → Has e (before ++ rest) → Has e log = λ e h. subst (λ es. Has e es) (sym one.2) h in
+      sym (stood post.session from sizes before rest g f (legal-left 0 (opening sizes) before rest whole)
+      (each-of (λ (e : Entry). is_numbered e.reply ≡ false) before (λ e x. plain e (has e (has-left e before rest x)))) (legal-right 0 (opening sizes) before rest whole)
+      (each-of (λ (e : Entry). is_numbered e.reply ≡ false) rest (λ e x. plain e (has e (has-right e before rest x))))
+      stood-then (sym (ap (λ (w : Table). w.live post.session from) end) ∙ stands_from))

@@ -1,7 +1,9 @@
+pub mod BackLemmas
 pub mod Built
 pub mod Classed
 pub mod Contained
 pub mod HandedLaw
+pub mod HoldingLemmas
 pub mod InTurn
 pub mod Mapped
 pub mod NamesOnce

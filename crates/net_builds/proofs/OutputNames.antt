@@ -1,5 +1,6 @@
 -- Where the building of outputs begins, and the names of the outputs at its end.
-use Rattle.std.proofs.Common.{◌≡◌, ℕ, zero, suc, ◌<◌, List, [], ◌∷◌, length, map, get_or, replicate, refl, sym, ap, subst, ◌∙◌, arith, Option, Some, None, All}
+use Rattle.std.proofs.Common.{◌≡◌, ℕ, zero, suc, ◌<◌, List, [], ◌∷◌, ◌++◌, drop, take, length, map, get_or, replicate, refl, sym, ap, subst, ◌∙◌, arith, Option, Some, None, All}
+use Rattle.std.proofs.Math.Seq.{take-append_seam}
 use Rattle.std.proofs.lemmas.List.{length-replicate}
 use Rattle.std.proofs.lemmas.List.Elements.{All-map}
 use Rattle.std.proofs.lemmas.Option.{none-some}
@@ -8,10 +9,17 @@ use Rattle.blif_net.specs.declared.net.Output.{Output}
 use Rattle.blif_net.specs.Bounds.{IsBounded, signal_count}
 use Rattle.blif_net.specs.Networks.{signal_value}
 use Rattle.function_laws.specs.declared.history.Name.{Name}
-use Rattle.net_builds.specs.Building.{IsBuilt, row_at}
+use Rattle.function_laws.specs.declared.history.Entry.{Entry}
+use Rattle.net_builds.specs.declared.host.HostRefusal.{HostRefusal}
+use Rattle.net_builds.specs.declared.host.HostRefusal.TheVariants as stops
+use Rattle.net_builds.specs.Building.{IsBuilt, IsLeft, row_at}
+use Rattle.net_builds.specs.Holdings.{AreRising, LetsAllGo, names_in}
+use Rattle.net_builds.specs.Outputs.{IsUndone}
 use Rattle.net_builds.specs.Signals.{AllHold}
-use Rattle.net_builds.specs.Standings.{Holds, Standing}
+use Rattle.net_builds.specs.Standings.{HasRoom, Holds, IsLive, IsQuiet, Standing}
 use Rattle.net_builds.specs.Uses.{AreLastUses}
+use Rattle.net_builds.proofs.HoldingLemmas.{names_all, names_rise}
+use Rattle.net_builds.proofs.StandingLemmas.{caused_before, gains_none, gains_then, holds_live}
 
 none_at : (count signal : ℕ) → row_at (replicate count None) signal ≡ None
 none_at zero signal = refl
@@ -32,6 +40,7 @@ built_begun net last s rows is vars none =
       held = λ signal name at. absurd (none-some name (sym (no_row signal) ∙ at));
       rising = λ a b one other less at_a at_b. absurd (none-some one (sym (no_row a) ∙ at_a));
       few = omega (arith, none);
+      counted = omega (arith, none);
     }
 
 -- the outputs' signals are signals of the network
@@ -56,3 +65,33 @@ all_hold s net rows held [] (name ∷ names) long noted = absurd (omega (arith, 
 all_hold s net rows held (output ∷ outputs) [] long noted = absurd (omega (arith, long))
 all_hold s net rows held (output ∷ outputs) (name ∷ names) long noted =
     (held output.signal name (noted 0 0 name (omega arith)), all_hold s net rows held outputs names (omega (arith, long)) (λ i d e less. noted (suc i) d e (omega (arith, less))))
+
+-- what is live of signals that were built
+module _ (net : Net) (last : List ℕ) (next : ℕ) (s : Standing) (rows : List (Option Name)) (built : IsBuilt net last next s rows) where
+  pub built_live : All (IsLive s) (names_in rows)
+  built_live = names_all (IsLive s) rows (λ signal name at. holds_live s name (signal_value net signal) (built.held signal name at))
+
+  pub built_rising : AreRising (names_in rows)
+  built_rising = names_rise rows built.rising
+
+  pub built_room : IsBounded net → HasRoom s
+  built_room bounded = omega (arith, bounded.signals, built.few, built.within)
+
+-- a building that was refused, whose rows were let go
+pub undone : {F : Type 0} (tells : F → Entry → Type 0) (net : Net) (last : List ℕ) (old mid new : Standing) (rows : List (Option Name)) (refusal : HostRefusal F)
+    → IsLeft tells net last old mid rows refusal → LetsAllGo mid new (names_in rows) → IsUndone tells old new refusal
+unfolding gains_then
+undone tells net last old mid new rows refusal left gone = record {
+  works = gains_then IsQuiet old mid new left.builds.works gone.works;
+  caused = caused_before tells left.builds.works.gained gone.works.gained refusal left.caused;
+  none = omega (arith, gone.rows, left.builds.built.counted);
+}
+
+-- nothing was built
+pub undone_none : {F : Type 0} (tells : F → Entry → Type 0) (s : Standing) → s.rows ≡ 0 → IsUndone tells s s stops.Memory
+undone_none tells s none = record { works = gains_none IsQuiet s; caused = tt; none = none }
+
+-- a slice that was changed is all of the vector behind it
+pub written : {X : Type 0} (new shown items : List X) (len : ℕ) → length new ≡ length shown → shown ≡ items → len ≡ length items → take len (new ++ drop (length new) items) ≡ new
+written new shown items len same whole long =
+    ap (λ k. take k (new ++ drop (length new) items)) (long ∙ sym (same ∙ ap length whole)) ∙ take-append_seam new (drop (length new) items)

@@ -1,9 +1,11 @@
 -- Names that come in place of others.
-use Rattle.std.proofs.Common.{ℕ, ◌<◌, Bool, ◌∙◌, arith}
+use Rattle.std.proofs.Common.{◌≡◌, ℕ, ◌<◌, Bool, ◌∙◌, arith, refl, subst, sym}
+use Rattle.blif_net.specs.declared.net.Literal.{Literal}
+use Rattle.blif_net.specs.declared.net.Literal.TheVariants.{Any}
 use Rattle.function_laws.specs.declared.history.Name.{Name}
-use Rattle.net_builds.specs.Products.{Replaces}
-use Rattle.net_builds.specs.Standings.{LetsGo, Makes, Standing}
-use Rattle.net_builds.proofs.StandingLemmas.{gains_then, left_holds}
+use Rattle.net_builds.specs.Products.{Replaces, with_fit}
+use Rattle.net_builds.specs.Standings.{Holds, IsQuiet, LetsGo, Makes, Standing}
+use Rattle.net_builds.proofs.StandingLemmas.{gains_none, gains_then, left_holds}
 
 -- a row was made, and an earlier one let go
 pub makes_in_place : (old mid new : Standing) (gone name : Name) (f : ℕ → Bool) → gone.generation < old.adds → Makes old mid name f → LetsGo mid new gone → Replaces old new gone name f
@@ -23,4 +25,14 @@ makes_then old mid new gone name f g makes replaces = record {
   newer = omega (arith, makes.newer, replaces.newer);
   kept = λ other given. replaces.kept other (omega (arith, given, makes.works.more)) (λ e. absurd (omega (arith, e, given, makes.newer))) ∙ makes.kept other given;
   rows = omega (arith, makes.rows, replaces.rows);
+}
+
+-- a literal that asks nothing leaves the product as it is
+pub replaces_none : (s : Standing) (product : Name) (literal : Literal) (f p : ℕ → Bool) → literal ≡ Any → Holds s product p → Replaces s s product product (with_fit literal f p)
+replaces_none s product literal f p is holds = record {
+  works = gains_none IsQuiet s;
+  holds = subst (λ (l : Literal). Holds s product (with_fit l f p)) (sym is) holds;
+  newer = omega arith;
+  kept = λ other below apart. refl;
+  rows = omega arith;
 }

@@ -13,20 +13,78 @@ use Rattle.std.proofs.lemmas.Option.{get_or_from_slice_get, none-some, same_Some
 use Rattle.blif_net.specs.declared.net.Cover.{Cover}
 use Rattle.blif_net.proofs.Values.{gate_is}
 use Rattle.net_builds.proofs.UseLemmas.{reads_before}
+use Rattle.function_laws.specs.declared.history.Entry.{Entry}
 use Rattle.function_laws.specs.declared.history.Name.{Name}
-use Rattle.net_builds.specs.Building.{BuildsTo, IsBuilt, IsPlan, row_at}
+use Rattle.net_builds.specs.Building.{BuildsTo, IsBuilt, IsLeft, IsPlan, row_at}
 use Rattle.net_builds.specs.Signals.{HaveRows, HaveValues}
-use Rattle.net_builds.specs.Standings.{Holds, IsQuiet, LetsGo, Makes, Standing}
-use Rattle.net_builds.proofs.StandingLemmas.{gains_none, gains_then, holds_held, kept_holds, left_holds}
+use Rattle.net_builds.specs.declared.host.HostRefusal.{HostRefusal}
+use Rattle.net_builds.specs.Standings.{Holds, IsCaused, IsQuiet, KeepsAll, LetsGo, Makes, Standing, Works}
+use Rattle.net_builds.proofs.HoldingLemmas.{fewer_in, more_in}
+use Rattle.net_builds.proofs.StandingLemmas.{caused_behind, gains_none, gains_then, holds_held, kept_holds, left_holds, still_holds}
 
 -- nothing was to be done
 pub builds_none : (net : Net) (last : List ℕ) (next : ℕ) (s : Standing) (rows : List (Option Name)) → IsBuilt net last next s rows → BuildsTo net last next s s rows
 builds_none net last next s rows built = record { works = gains_none IsQuiet s; built = built }
 
+-- and the next signal is not used
+pub builds_unused : (net : Net) (last : List ℕ) (next : ℕ) (s : Standing) (rows : List (Option Name)) → next < signal_count net → slice_index last next ≡ 0 → IsBuilt net last next s rows
+    → BuildsTo net last (next + 1) s s rows
+builds_unused net last next s rows within unused built = record {
+  works = gains_none IsQuiet s;
+  built = record {
+    vars = built.vars;
+    long = built.long;
+    within = omega (arith, within);
+    there = λ signal below used. dite (ℕ_discrete signal next)
+        (λ e. absurd (omega (arith, used, unused, ap (slice_index last) e)))
+        (λ apart. built.there signal (omega (arith, below, apart)) (omega (arith, used)));
+    ahead = λ signal past. built.ahead signal (omega (arith, past));
+    held = built.held;
+    rising = built.rising;
+    few = omega (arith, built.few);
+    counted = built.counted;
+  };
+}
+
 -- more after some
 pub builds_more : (net : Net) (last : List ℕ) (a b : ℕ) (s t u : Standing) (between rows : List (Option Name))
     → BuildsTo net last a s t between → BuildsTo net last b t u rows → BuildsTo net last b s u rows
 builds_more net last a b s t u between rows first then = record { works = gains_then IsQuiet s t u first.works then.works; built = then.built }
+
+-- the next row was refused
+built_kept : (net : Net) (last : List ℕ) (next : ℕ) (s t : Standing) (rows : List (Option Name)) → IsBuilt net last next s rows → (works : Works s t) → KeepsAll s t → t.rows ≤ s.rows
+    → BuildsTo net last next s t rows
+built_kept net last next s t rows built works kept few = record {
+  works = works;
+  built = record {
+    vars = works.vars_are ∙ built.vars;
+    long = built.long;
+    within = built.within;
+    there = built.there;
+    ahead = built.ahead;
+    held = λ signal name at.
+        let holds = built.held signal name at in
+        still_holds s t name works.more (kept name holds.given) (signal_value net signal) works.vars_are holds;
+    rising = built.rising;
+    few = omega (arith, few, built.few);
+    counted = omega (arith, few, built.counted);
+  };
+}
+
+pub left_kept : {F : Type 0} (tells : F → Entry → Type 0) (net : Net) (last : List ℕ) (next : ℕ) (s t : Standing) (rows : List (Option Name)) (refusal : HostRefusal F) → IsBuilt net last next s rows
+    → (works : Works s t) → KeepsAll s t → t.rows ≤ s.rows → IsCaused tells works.gained refusal → IsLeft tells net last s t rows refusal
+left_kept tells net last next s t rows refusal built works kept few caused =
+    record { next = next; builds = record { works = works; built = (built_kept net last next s t rows built works kept few).built }; caused = caused }
+
+-- and so was a building behind another one
+pub left_more : {F : Type 0} (tells : F → Entry → Type 0) (net : Net) (last : List ℕ) (a : ℕ) (s t u : Standing) (between rows : List (Option Name)) (refusal : HostRefusal F)
+    → BuildsTo net last a s t between → IsLeft tells net last t u rows refusal → IsLeft tells net last s u rows refusal
+unfolding gains_then
+left_more tells net last a s t u between rows refusal first left = record {
+  next = left.next;
+  builds = record { works = gains_then IsQuiet s t u first.works left.builds.works; built = left.builds.built };
+  caused = caused_behind tells first.works.gained left.builds.works.gained refusal left.caused;
+}
 
 -- the next signal's row was made
 module _ (net : Net) (last : List ℕ) (next : ℕ) (s t : Standing) (rows : List (Option Name)) (name : Name) (f : ℕ → Bool) (within : next < signal_count net)
@@ -90,6 +148,7 @@ module _ (net : Net) (last : List ℕ) (next : ℕ) (s t : Standing) (rows : Lis
       held = held_more;
       rising = rising_more;
       few = omega (arith, makes.rows, built.few);
+      counted = omega (arith, makes.rows, built.counted, more_in rows next name (omega (arith, within, built.long)) (built.ahead next (omega arith)));
     };
   }
 
@@ -134,6 +193,7 @@ module _ (net : Net) (last : List ℕ) (next signal : ℕ) (s t : Standing) (row
           left_holds s t name one (signal_value net other) gone (apart_from other one was.0 was.1) (built.held other one was.1);
       rising = λ a b one other less at_a at_b. built.rising a b one other less (left a one at_a).1 (left b other at_b).1;
       few = omega (arith, gone.rows, built.few);
+      counted = omega (arith, gone.rows, built.counted, fewer_in rows signal name at);
     };
   }
 

@@ -1,13 +1,15 @@
 -- What the calls of a session leave, one after another.
 use Rattle.std.proofs.Common.{◌≡◌, ℕ, ◌≤◌, ◌^◌, Bool, List, [], ◌++◌, Some, refl, sym, ap, ◌∙◌, arith, append_assoc}
 use Rattle.std.proofs.lemmas.List.{append-nil}
-use Rattle.std.proofs.lemmas.List.Elements.{All-append, All-nil, All-weaker}
+use Rattle.std.proofs.lemmas.List.Elements.{All-append, All-nil, All-weaker, Contains-append_left, Contains-append_right}
 use Rattle.function_laws.specs.declared.history.Entry.{Entry}
 use Rattle.function_laws.specs.declared.history.Function.TheVariants.{Bdd}
 use Rattle.function_laws.specs.declared.history.Name.{Name}
 use Rattle.function_laws.specs.Lists.{list_of}
 use Rattle.function_laws.proofs.ListLemmas.{list_of-same}
-use Rattle.net_builds.specs.Standings.{Gains, Holds, IsHeld, IsLive, KeepsAll, LetsGo, Makes, Standing, values_of}
+use Rattle.net_builds.specs.declared.host.HostRefusal.{HostRefusal}
+use Rattle.net_builds.specs.declared.host.HostRefusal.TheVariants as stops
+use Rattle.net_builds.specs.Standings.{Gains, Holds, IsCaused, IsHeld, IsLive, KeepsAll, LetsGo, Makes, Note, Standing, values_of}
 
 -- no call
 pub gains_none : (P : Entry → Type 0) (s : Standing) → Gains P s s
@@ -19,10 +21,12 @@ gains_none P s = record {
   entries_are = sym (append-nil s.entries);
   each = All-nil P;
   more = omega arith;
+  behind = [];
+  placed_are = sym (append-nil s.placed);
 }
 
 -- some calls, and then others
-pub gains_then : (P : Entry → Type 0) (old mid new : Standing) → Gains P old mid → Gains P mid new → Gains P old new
+unfoldable pub gains_then : (P : Entry → Type 0) (old mid new : Standing) → Gains P old mid → Gains P mid new → Gains P old new
 gains_then P old mid new first second = record {
   vars_are = second.vars_are ∙ first.vars_are;
   number_is = second.number_is ∙ first.number_is;
@@ -31,6 +35,8 @@ gains_then P old mid new first second = record {
   entries_are = second.entries_are ∙ ap (λ (es : List Entry). es ++ second.gained) first.entries_are ∙ append_assoc old.entries first.gained second.gained;
   each = All-append P first.gained second.gained first.each second.each;
   more = omega (arith, first.more, second.more);
+  behind = first.behind ++ second.behind;
+  placed_are = second.placed_are ∙ ap (λ (notes : List Note). notes ++ second.behind) first.placed_are ∙ append_assoc old.placed first.behind second.behind;
 }
 
 -- less may be said of the entries
@@ -43,11 +49,26 @@ gains_weaker P Q old new weaker gains = record {
   entries_are = gains.entries_are;
   each = All-weaker P Q weaker gains.gained gains.each;
   more = gains.more;
+  behind = gains.behind;
+  placed_are = gains.placed_are;
 }
 
 -- all names are kept by the one and by the other
 pub keeps_then : (old mid new : Standing) → old.adds ≤ mid.adds → KeepsAll old mid → KeepsAll mid new → KeepsAll old new
 keeps_then old mid new more first second = λ other below. second other (omega (arith, more, below)) ∙ first other below
+
+-- a name that was given later was let go
+pub keeps_gone : (old mid new : Standing) (gone : Name) → old.adds ≤ mid.adds → old.adds ≤ gone.generation → KeepsAll old mid → LetsGo mid new gone → KeepsAll old new
+keeps_gone old mid new gone more newer kept goes = λ other below. goes.kept other (λ e. omega (arith, e, below, newer)) ∙ kept other below
+
+-- what tells of a refusal is among more entries
+pub caused_behind : {F : Type 0} (tells : F → Entry → Type 0) (before entries : List Entry) (refusal : HostRefusal F) → IsCaused tells entries refusal → IsCaused tells (before ++ entries) refusal
+caused_behind tells before entries stops.Memory caused = tt
+caused_behind tells before entries (stops.Full full) (e, among, told) = (e, Contains-append_right before entries e among, told)
+
+pub caused_before : {F : Type 0} (tells : F → Entry → Type 0) (entries after : List Entry) (refusal : HostRefusal F) → IsCaused tells entries refusal → IsCaused tells (entries ++ after) refusal
+caused_before tells entries after stops.Memory caused = tt
+caused_before tells entries after (stops.Full full) (e, among, told) = (e, Contains-append_left entries after e among, told)
 
 -- a name that stands for a function is held, and lives
 pub holds_held : (s : Standing) (name : Name) (f : ℕ → Bool) → Holds s name f → IsHeld s name

@@ -2,7 +2,8 @@
 use Rattle.std.proofs.Common.{◌≡◌, ℕ, ◌+◌, ◌<◌, ◌^◌, Bool, List, [], ◌∷◌, ◌++◌, Some, length, get_or, map, take, refl, ap, ap₂, sym, ◌∙◌, subst, arith}
 use Rattle.std.specs.Prelude.{IsPermutation}
 use Rattle.std.specs.List.{range_with_len}
-use Rattle.std.proofs.lemmas.List.{length-map, map_more}
+use Rattle.std.proofs.lemmas.List.{append-nil, length-map, map_more}
+use Rattle.std.proofs.lemmas.List.Elements.{All-nil}
 use Rattle.std.proofs.lemmas.Simd.{map-map}
 use Rattle.function_laws.specs.declared.history.Function.TheVariants.{Bdd}
 use Rattle.function_laws.specs.declared.history.Name.{Name}
@@ -16,7 +17,7 @@ use Rattle.net_reports.specs.Reports.{count_firsts, node_count, output_names, re
 use Rattle.net_reports.specs.declared.classes.Class.{Class}
 use Rattle.net_reports.specs.declared.patterns.Evaluation.{Evaluation}
 use Rattle.net_builds.specs.Builds.{Reports, SumsUp}
-use Rattle.net_builds.specs.Handings.{IsTold}
+use Rattle.net_builds.specs.Handings.{IsTold, Looks}
 use Rattle.net_builds.specs.Standings.{Asks, HasRoom, IsLive, IsQuiet, Lists, Standing, values_of}
 use Rattle.net_builds.specs.Tellings.{evaluation_in, value_in, values_in}
 use Rattle.net_builds.proofs.StandingLemmas.{gains_none, gains_then, live_list, still_live}
@@ -81,26 +82,49 @@ evaluations_told s names functions stand patterns =
 pub stands_in : (old mid : Standing) (names : List Name) (listing : Listing) (lists : Lists old mid names listing) → map mid.stands names ≡ map (values_of mid.vars) lists.functions
 stands_in old mid names listing lists = subst (λ (s : Standing). map s.stands names ≡ map (values_of s.vars) lists.functions) (sym lists.new_is) lists.stand
 
-stands_on : (mid new : Standing) (names : List Name) (functions : List (ℕ → Bool)) → Asks mid new → map mid.stands names ≡ map (values_of mid.vars) functions
-    → map new.stands names ≡ map (values_of new.vars) functions
-stands_on mid new names functions asks stand =
-    map_same new.stands mid.stands asks.kept names ∙ stand ∙ ap (λ vars. map (values_of vars) functions) (sym asks.works.vars_are)
+-- what tells something changes no name
+pub looks_none : (a : Standing) → Looks a a
+looks_none a = record {
+  vars_are = refl;
+  number_is = refl;
+  gained = [];
+  entries_are = sym (append-nil a.entries);
+  quiet = All-nil IsQuiet;
+  more = omega arith;
+  behind = [];
+  placed_are = sym (append-nil a.placed);
+  kept = λ other. refl;
+  rows = omega arith;
+}
+
+pub looks_same : (a b : Standing) → b ≡ a → Looks a b
+looks_same a b same = subst (Looks a) (sym same) (looks_none a)
+
+-- a listing, and then some calls that change nothing
+pub looks_listed : (old mid new : Standing) (names : List Name) (listing : Listing) → Lists old mid names listing → Asks mid new → Looks old new
+looks_listed old mid new names listing lists asks = record {
+  vars_are = asks.works.vars_are ∙ ap (λ (s : Standing). s.vars) lists.new_is;
+  number_is = asks.works.number_is ∙ ap (λ (s : Standing). s.number) lists.new_is;
+  gained = asks.works.gained;
+  entries_are = asks.works.entries_are ∙ ap (λ (s : Standing). s.entries ++ asks.works.gained) lists.new_is;
+  quiet = asks.works.each;
+  more = omega (arith, asks.works.more, ap (λ (s : Standing). s.adds) lists.new_is);
+  behind = asks.works.behind;
+  placed_are = asks.works.placed_are ∙ ap (λ (s : Standing). s.placed ++ asks.works.behind) lists.new_is;
+  kept = λ other. asks.kept other ∙ ap (λ (s : Standing). s.stands other) lists.new_is;
+  rows = omega (arith, asks.rows, ap (λ (s : Standing). s.rows) lists.new_is);
+}
 
 -- what is told of a listing, after some calls that change nothing
 pub is_told : (Tells : List (ℕ → Bool) → List ℕ → List ℕ → Type 0) (old mid new : Standing) (names : List Name) (listing : Listing) (text : List ℕ)
     (lists : Lists old mid names listing) → Asks mid new → Tells lists.functions listing.order text → IsTold Tells old new names text
 is_told Tells old mid new names listing text lists asks tells = record {
-  vars_are = asks.works.vars_are ∙ ap (λ (s : Standing). s.vars) lists.new_is;
-  number_is = asks.works.number_is ∙ ap (λ (s : Standing). s.number) lists.new_is;
-  note = record { place = lists.place; order = listing.order };
+  looks = looks_listed old mid new names listing lists asks;
+  note = record { place = lists.place; order = listing.order; stands = old.stands };
   notes_are = asks.works.notes_are ∙ ap (λ (s : Standing). s.notes) lists.new_is;
-  gained = asks.works.gained;
-  entries_are = asks.works.entries_are ∙ ap (λ (s : Standing). s.entries ++ asks.works.gained) lists.new_is;
-  quiet = asks.works.each;
-  more = omega (arith, asks.works.more, ap (λ (s : Standing). s.adds) lists.new_is);
-  kept = λ other. asks.kept other ∙ ap (λ (s : Standing). s.stands other) lists.new_is;
+  later = lists.later;
   functions = lists.functions;
-  stand = stands_on mid new names lists.functions asks (stands_in old mid names listing lists);
+  stand = lists.stand ∙ ap (λ n. map (values_of n) lists.functions) (sym (asks.works.vars_are ∙ ap (λ (s : Standing). s.vars) lists.new_is));
   tells = tells;
 }
 

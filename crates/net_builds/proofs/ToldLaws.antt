@@ -1,5 +1,5 @@
 -- What the first session told is true of the wanted functions.
-use Rattle.std.proofs.Common.{◌≡◌, ℕ, zero, suc, ◌+◌, ◌<◌, ◌≤◌, ◌==◌, ◌⊎◌, ◌^◌, Bool, true, false, cond, List, [], ◌∷◌, ◌++◌, length, map, take, refl, ap, sym, ◌∙◌, subst, arith, inl, inr, eq-eqb, All}
+use Rattle.std.proofs.Common.{◌≡◌, ℕ, zero, suc, ◌+◌, ◌<◌, ◌≤◌, ◌==◌, ◌⊎◌, ◌^◌, Bool, true, false, cond, Some, List, [], ◌∷◌, ◌++◌, length, map, take, refl, ap, sym, ◌∙◌, subst, arith, inl, inr, eq-eqb, All}
 use Rattle.std.specs.List.{Contains, range_with_len}
 use Rattle.std.proofs.lemmas.Bool.{cases_eq}
 use Rattle.std.proofs.lemmas.List.Elements.{All-cons, All-contains, All-head, All-nil, All-tail, Contains-push}
@@ -19,8 +19,8 @@ use Rattle.function_laws.specs.Tables.{Sizes, opening}
 use Rattle.function_laws.proofs.DistinctLemmas.{In}
 use Rattle.function_laws.proofs.ListLemmas.{same-list_of}
 use Rattle.net_builds.proofs.Contained.{all-has, has-contained}
-use Rattle.net_builds.proofs.HandedLaw.{Has, handed-law}
-use Rattle.net_builds.specs.Builds.{AllGain, AllHandedOver, AreUnsifted, Builds, IsDelivered, IsLegalHistoryOf}
+use Rattle.net_builds.proofs.HandedLaw.{Has, front-has, handed-at, has-front, legal-front, take-front}
+use Rattle.net_builds.specs.Builds.{AllGain, AllHandedOver, AreUnsifted, Builds, IsDelivered, IsLegalHistoryOf, IsNoted}
 use Rattle.net_builds.specs.Handings.{AreInTurn, IsKnown}
 use Rattle.net_builds.specs.Standings.{KeepsOrders, Note, Standing, values_of}
 use Rattle.net_builds.specs.declared.handing.Handover.{Handover}
@@ -51,12 +51,6 @@ has_own p (x ∷ log) e has = less (x.session == p) (has_own p log e) has
     less true deeper (inl is) = inl is
     less true deeper (inr later) = inr (deeper later)
     less false deeper later = inr (deeper later)
-
-has_take : (k : ℕ) (log : List Entry) (e : Entry) → Has e (take k log) → Has e log
-has_take zero log e has = absurd has
-has_take (suc k) [] e has = absurd has
-has_take (suc k) (x ∷ log) e (inl is) = inl is
-has_take (suc k) (x ∷ log) e (inr has) = inr (has_take k log e has)
 
 -- entries that leave the orders, one after another
 kept_orders : (log : List Entry) → ((e : Entry) → Has e log → KeepsOrders e) → (orders : Orders) → orders_from orders log ≡ orders
@@ -162,47 +156,64 @@ module _ (n : ℕ) (sizes : Sizes) (log : List Entry) (old new : List Standing) 
       let are : entries_of s.number log ≡ s.entries = All-contains (λ (x : Standing). entries_of x.number log ≡ x.entries) new s history.each among in
       has_own s.number log e (subst (λ es. Has e es) (sym are) (has-contained s.entries e has))
 
-  row_of : (s : Standing) → Contains new s → (name : Name) → (table_after (opening sizes) log).live s.number name ≡ s.stands name
-  row_of s among = All-contains (λ (x : Standing). (name : Name) → (table_after (opening sizes) log).live x.number name ≡ x.stands name) new s history.rows among
+  -- what a session noted, and what there was at the places of its calls
+  noted_of : (s : Standing) → Contains new s → (note : Note) → Contains s.notes note → IsNoted sizes log s.number note
+  noted_of s among note noted =
+      All-contains (IsNoted sizes log s.number) s.notes note (All-contains (λ (x : Standing). All (IsNoted sizes log x.number) x.notes) new s history.noted among) noted
+
+  placed_of : (s : Standing) → Contains new s → (note : Note) → Contains s.placed note → IsNoted sizes log s.number note
+  placed_of s among note placed =
+      All-contains (IsNoted sizes log s.number) s.placed note (All-contains (λ (x : Standing). All (IsNoted sizes log x.number) x.placed) new s history.placed among) placed
 
   wide_of : (s : Standing) → Contains new s → s.vars ≡ n
   wide_of s among = All-contains (λ (x : Standing). x.vars ≡ n) new s wide among
 
-  -- what the first session fetched is what was built
-  handed_same : (g : ℕ → Bool) (h : Handover) (giver : Standing) → In h handovers → Contains new giver → IsDelivered cell g giver first h
-      → (f : ℕ → Bool) → first.stands h.to ≡ values_of first.vars f → IsSame n f g
-  handed_same g h giver i among handed f stands =
-      let turn = turn_of 0 handovers h turns i in
-      let agreed : Bdd (list_of (2 ^ n) g) ≡ Bdd (list_of (2 ^ n) f) =
-      handed-law sizes log history.legal (λ e has. (known e has).0) cell
-      (entry h.post giver.number (calls.Post cell h.from) replies.Done) (entry h.fetch first.number (calls.Fetch cell h.other) (replies.Fetched h.to true)) h.from h.to
-      (entries_in giver among _ handed.passed.0) (entries_in first has_first _ handed.passed.1) turn.1
-      (λ e has after before. ((known e has).0, alone h i e has after before))
-      refl refl h.other refl refl (Bdd (list_of (2 ^ n) g)) (Bdd (list_of (2 ^ n) f))
-      (row_of giver among h.from ∙ handed.built.stands ∙ ap (λ m. values_of m g) (wide_of giver among))
-      (row_of first has_first h.to ∙ stands ∙ ap (λ m. values_of m f) (wide_of first has_first)) in
-      same_values n f g (sym agreed)
+  module _ (note : Note) (noted : Contains first.notes note) where
+    abbrev front : List Entry
+    front = take note.place log
 
-  all_same : (wanted : List (ℕ → Bool)) (hs : List Handover) (functions : List (ℕ → Bool)) → ((h : Handover) → In h hs → In h handovers)
-      → AllHandedOver cell wanted new first hs → map first.stands (map (λ (h : Handover). h.to) hs) ≡ map (values_of first.vars) functions
-      → AreSame n functions wanted
-  all_same [] [] [] among handed stand = tt
-  all_same [] [] (f ∷ functions) among handed stand = absurd (cc stand)
-  all_same [] (h ∷ hs) functions among handed stand = absurd handed
-  all_same (g ∷ wanted) [] functions among handed stand = absurd handed
-  all_same (g ∷ wanted) (h ∷ hs) [] among handed stand = absurd (cc stand)
-  all_same (g ∷ wanted) (h ∷ hs) (f ∷ functions) among handed stand =
-      let here : first.stands h.to ≡ values_of first.vars f = cc in
-      let later : map first.stands (map (λ (x : Handover). x.to) hs) ≡ map (values_of first.vars) functions = cc in (
-        handed_same g h handed.0.0 (among h (inl refl)) handed.0.1 handed.0.2 f here,
-        all_same wanted hs functions (λ x i. among x (inr i)) handed.1 later,
-      )
+    -- what the first session fetched is what was built
+    handed_same : (g : ℕ → Bool) (h : Handover) (giver : Standing) → In h handovers → Contains new giver → IsDelivered cell g giver first h → h.fetch < note.place
+        → (f : ℕ → Bool) → note.stands h.to ≡ values_of first.vars f → IsSame n f g
+    handed_same g h giver i among handed below f stands =
+        let turn = turn_of 0 handovers h turns i in
+        let post = entry h.post giver.number (calls.Post cell h.from) replies.Done in
+        let fetch = entry h.fetch first.number (calls.Fetch cell h.other) (replies.Fetched h.to true) in
+        let posting = handed.posting in
+        let at_post = placed_of giver among posting handed.among in
+        let back : (e : Entry) → Has e front → Has e log = front-has note.place log in
+        let stood : (table_after (opening sizes) (take h.post front)).live giver.number h.from ≡ Some (Bdd (list_of (2 ^ n) g)) =
+        ap (λ (es : List Entry). (table_after (opening sizes) es).live giver.number h.from) (take-front h.post note.place log (omega (arith, below, turn.1)) ∙ ap (λ p. take p log) (sym handed.at_post))
+        ∙ at_post.rows h.from ∙ handed.built ∙ ap (λ m. values_of m g) (wide_of giver among) in
+        let agreed : Bdd (list_of (2 ^ n) g) ≡ Bdd (list_of (2 ^ n) f) =
+        handed-at sizes front (legal-front 0 note.place (opening sizes) log history.legal) (λ e has. (known e (back e has)).0.plain) cell post fetch h.from h.to
+        (has-front 0 note.place (opening sizes) log post history.legal (entries_in giver among _ handed.passed.0) (omega (arith, below, turn.1)))
+        (has-front 0 note.place (opening sizes) log fetch history.legal (entries_in first has_first _ handed.passed.1) (omega (arith, below))) turn.1
+        (λ e has after before. ((known e (back e has)).0.plain, alone h i e (back e has) after before))
+        refl refl h.other refl refl (Bdd (list_of (2 ^ n) f))
+        ((noted_of first has_first note noted).rows h.to ∙ stands ∙ ap (λ m. values_of m f) (wide_of first has_first))
+        (Bdd (list_of (2 ^ n) g)) stood in
+        same_values n f g (sym agreed)
 
-  -- what it noted is the order that the entries below leave
-  noted_order : (note : Note) → Contains first.notes note → (orders_from (opening_orders sizes) (take note.place log)).variables ≡ note.order
-  noted_order note noted =
-      All-contains (λ (x : Note). (orders_from (opening_orders sizes) (take x.place log)).variables ≡ x.order) first.notes note
-      (All-contains (λ (s : Standing). All (λ (x : Note). (orders_from (opening_orders sizes) (take x.place log)).variables ≡ x.order) s.notes) new first history.noted has_first) noted
+    all_same : (wanted : List (ℕ → Bool)) (hs : List Handover) (functions : List (ℕ → Bool)) → ((h : Handover) → In h hs → In h handovers)
+        → AllHandedOver cell wanted new first hs → All (λ (h : Handover). h.fetch < note.place) hs
+        → map note.stands (map (λ (h : Handover). h.to) hs) ≡ map (values_of first.vars) functions
+        → AreSame n functions wanted
+    all_same [] [] [] among handed later stand = tt
+    all_same [] [] (f ∷ functions) among handed later stand = absurd (cc stand)
+    all_same [] (h ∷ hs) functions among handed later stand = absurd handed
+    all_same (g ∷ wanted) [] functions among handed later stand = absurd handed
+    all_same (g ∷ wanted) (h ∷ hs) [] among handed later stand = absurd (cc stand)
+    all_same (g ∷ wanted) (h ∷ hs) (f ∷ functions) among handed later stand =
+        let here : note.stands h.to ≡ values_of first.vars f = cc in
+        let rest : map note.stands (map (λ (x : Handover). x.to) hs) ≡ map (values_of first.vars) functions = cc in (
+          handed_same g h handed.0.0 (among h (inl refl)) handed.0.1 handed.0.2 (All-head (λ (x : Handover). x.fetch < note.place) h hs later) f here,
+          all_same wanted hs functions (λ x i. among x (inr i)) handed.1 (All-tail (λ (x : Handover). x.fetch < note.place) h hs later) rest,
+        )
+
+    -- what it noted is the order that the entries below leave
+    noted_order : (orders_from (opening_orders sizes) (take note.place log)).variables ≡ note.order
+    noted_order = (noted_of first has_first note noted).order_is
 
 module _ (Tells : List (ℕ → Bool) → List ℕ → List ℕ → Type 0) (n : ℕ) (wanted : List (ℕ → Bool)) (sizes : Sizes) (log : List Entry) (old new : List Standing) (cell : ℕ) (text : List ℕ)
     (wide : All (λ (s : Standing). s.vars ≡ n) new) (fresh : All (λ (s : Standing). s.entries ≡ []) old)
@@ -210,20 +221,21 @@ module _ (Tells : List (ℕ → Bool) → List ℕ → List ℕ → Type 0) (n :
   has_first : Contains new builds.first
   has_first = subst (λ (ss : List Standing). Contains ss builds.first) (sym builds.new_is) (0, omega arith, refl)
 
+  has_note : Contains builds.first.notes builds.note
+  has_note = subst (λ (notes : List Note). Contains notes builds.note) (sym builds.noted) (Contains-push builds.before.notes builds.note)
+
   -- the functions that were told of have the values of the wanted ones
   pub told_same : AreSame n builds.functions wanted
   told_same =
-      all_same n sizes log old new cell builds.handovers builds.first has_first wide fresh history builds.turns builds.gains wanted builds.handovers builds.functions
-      (λ h i. i) builds.handed builds.stand
+      all_same n sizes log old new cell builds.handovers builds.first has_first wide fresh history builds.turns builds.gains builds.note has_note wanted builds.handovers builds.functions
+      (λ h i. i) builds.handed builds.later builds.stand
 
   -- the order that was noted behind the earlier notes is that of the history
   pub told_order : (orders_from (opening_orders sizes) (take builds.note.place log)).variables ≡ builds.note.order
-  told_order =
-      noted_order n sizes log old new cell builds.handovers builds.first has_first wide fresh history builds.turns builds.gains builds.note
-      (subst (λ (notes : List Note). Contains notes builds.note) (sym builds.noted) (Contains-push builds.before.notes builds.note))
+  told_order = noted_order n sizes log old new cell builds.handovers builds.first has_first wide fresh history builds.turns builds.gains builds.note has_note
 
   -- and where none swapped or sifted, it is 0, 1, 2, ..
   pub unsifted_order : sizes.variables ≡ n → AreUnsifted old new → builds.note.order ≡ range_with_len 0 n
   unsifted_order all unsifted =
       let keep = all_of_history KeepsOrders sizes log new (unsifted_all old new unsifted fresh) history in
-      sym told_order ∙ ap (λ (o : Orders). o.variables) (kept_orders (take builds.note.place log) (λ e has. keep e (has_take builds.note.place log e has)) (opening_orders sizes)) ∙ ap (range_with_len 0) all
+      sym told_order ∙ ap (λ (o : Orders). o.variables) (kept_orders (take builds.note.place log) (λ e has. keep e (front-has builds.note.place log e has)) (opening_orders sizes)) ∙ ap (range_with_len 0) all

@@ -1,5 +1,5 @@
 -- A worked history: a second session builds the one output of a network, which is its one input, and hands it over to the first.
-use Rattle.std.proofs.Common.{◌≡◌, ℕ, zero, suc, true, false, cond, List, [], ◌∷◌, refl, ap, ◌∙◌, arith, inl, inr, ne_eqb, codes, sym, subst, take, true≢false}
+use Rattle.std.proofs.Common.{◌≡◌, ◌<◌, ℕ, zero, suc, true, false, cond, List, [], ◌∷◌, refl, ap, ◌∙◌, arith, inl, inr, ne_eqb, codes, sym, subst, take, true≢false}
 use Rattle.std.specs.Prelude.{Some, None, slice_get}
 use Rattle.std.specs.List.{All}
 use Rattle.std.specs.Fmt.{digits}
@@ -29,7 +29,7 @@ use Rattle.net_builds.proofs.HandedLaw.{Has}
 use Rattle.net_reports.specs.Classes.{AreClasses, Function as Values, IsClass}
 use Rattle.net_reports.specs.Reports.{output_functions, report_text}
 use Rattle.net_reports.specs.declared.classes.Class.{Class}
-use Rattle.net_builds.specs.Builds.{Builds, IsLegalHistoryOf, Reports}
+use Rattle.net_builds.specs.Builds.{Builds, IsLegalHistoryOf, IsNoted, Reports}
 use Rattle.net_builds.specs.Handings.{IsKnown}
 use Rattle.net_builds.specs.Handed.{IsPlain}
 use Rattle.net_builds.specs.Standings.{Note, Standing}
@@ -61,20 +61,24 @@ log = other ∷ built ∷ post ∷ fetch ∷ []
 
 -- a session before its first call, and after the calls of the history
 abbrev before : ℕ → Standing
-before s = record { vars = 1; number = s; adds = 0; rows = 0; stands = λ name. None; entries = []; notes = [] }
+before s = record { vars = 1; number = s; adds = 0; rows = 0; stands = λ name. None; entries = []; notes = []; placed = [] }
 
-abbrev after : ℕ → ℕ → List Entry → List Note → Standing
-after s adds entries notes =
-    record { vars = 1; number = s; adds = adds; rows = adds; stands = (table_after (opening sizes) log).live s; entries = entries; notes = notes }
+-- what the session notes at a place
+abbrev noted_at : ℕ → ℕ → Note
+noted_at s place = record { place = place; order = 0 ∷ []; stands = (table_after (opening sizes) (take place log)).live s }
+
+-- the names are let go at the end
+abbrev after : ℕ → ℕ → List Entry → List Note → List Note → Standing
+after s adds entries notes placed = record { vars = 1; number = s; adds = adds; rows = 0; stands = λ name. None; entries = entries; notes = notes; placed = placed }
 
 abbrev note : Note
-note = record { place = 4; order = 0 ∷ [] }
+note = noted_at 0 4
 
 abbrev first : Standing
-first = after 0 2 (other ∷ fetch ∷ []) (note ∷ [])
+first = after 0 2 (other ∷ fetch ∷ []) (note ∷ []) (noted_at 0 0 ∷ noted_at 0 3 ∷ [])
 
 abbrev second : Standing
-second = after 1 1 (built ∷ post ∷ []) []
+second = after 1 1 (built ∷ post ∷ []) [] (noted_at 1 1 ∷ noted_at 1 2 ∷ [])
 
 abbrev handover : Handover
 handover = record { from = name 0; to = name 1; other = name 0; post = 2; fetch = 3 }
@@ -114,8 +118,8 @@ no_other p none = none_of log p by
     by e (inr (inr (inr (inl is)))) same = none 0 first (omega arith) (ap (λ (x : Entry). x.session) is ∙ same)
     by e (inr (inr (inr (inr none)))) same = none
 
-abbrev Noted : Note → Type 0
-Noted one = (orders_from (opening_orders sizes) (take one.place log)).variables ≡ one.order
+right : (s place : ℕ) → (orders_from (opening_orders sizes) (take place log)).variables ≡ 0 ∷ [] → IsNoted sizes log s (noted_at s place)
+right s place order = record { order_is = order; rows = λ x. refl }
 
 -- the entries are a legal history of the two
 history : IsLegalHistoryOf sizes log (first ∷ second ∷ [])
@@ -123,14 +127,16 @@ history = record {
   legal = legal;
   carried = (tt, (tt, (tt, (tt, tt))));
   each = all_two (λ (s : Standing). entries_of s.number log ≡ s.entries) first second refl refl;
-  rows = all_two (λ (s : Standing). (x : Name) → (table_after (opening sizes) log).live s.number x ≡ s.stands x) first second (λ x. refl) (λ x. refl);
-  noted = all_two (λ (s : Standing). All Noted s.notes) first second (all_one Noted note refl) (λ k d inside. absurd (omega (arith, inside)));
+  noted = all_two (λ (s : Standing). All (IsNoted sizes log s.number) s.notes) first second (all_one (IsNoted sizes log 0) note (right 0 4 refl)) (λ k d inside. absurd (omega (arith, inside)));
+  placed = all_two (λ (s : Standing). All (IsNoted sizes log s.number) s.placed) first second
+      (all_two (IsNoted sizes log 0) (noted_at 0 0) (noted_at 0 3) (right 0 0 refl) (right 0 3 refl))
+      (all_two (IsNoted sizes log 1) (noted_at 1 1) (noted_at 1 2) (right 1 1 refl) (right 1 2 refl));
   no_other = no_other;
 }
 
 -- an entry that does not post to the cell is known
-quiet : (e : Entry) → IsPlain e → posts_to 0 e.call ≡ false → IsKnown 0 (handover ∷ []) e
-quiet e plain posts = (plain, λ is. absurd (true≢false (sym is ∙ posts)))
+quiet : (e : Entry) → IsPlain e → ((cell : ℕ) → posts_to cell e.call ≡ false) → IsKnown 0 (handover ∷ []) e
+quiet e plain posts = (record { plain = plain; elsewhere = λ cell apart. posts cell }, λ is. absurd (true≢false (sym is ∙ posts 0)))
 
 abbrev own_class : Class
 own_class = record { first = 0; complement = false }
@@ -160,19 +166,19 @@ told = record {
   first = first;
   rest = second ∷ [];
   new_is = refl;
-  handed = ((second, (1, omega arith, refl), record { built = record { stands = refl; given = omega arith }; passed = ((1, omega arith, refl), (1, omega arith, refl)) }), tt);
+  handed = ((second, (1, omega arith, refl), record { posting = noted_at 1 2; among = (1, omega arith, refl); at_post = refl; built = refl; passed = ((1, omega arith, refl), (1, omega arith, refl)) }), tt);
   turns = (omega arith, omega arith, tt);
   gains = (
     other ∷ fetch ∷ [],
     refl,
-    all_two (IsKnown 0 (handover ∷ [])) other fetch (quiet other refl refl) (quiet fetch refl refl),
+    all_two (IsKnown 0 (handover ∷ [])) other fetch (quiet other refl (λ cell. refl)) (quiet fetch refl (λ cell. refl)),
     refl,
     refl,
     (
       built ∷ post ∷ [],
       refl,
-      all_two (IsKnown 0 (handover ∷ [])) built post (quiet built refl refl)
-          (refl, λ posts. (0, omega arith, refl)),
+      all_two (IsKnown 0 (handover ∷ [])) built post (quiet built refl (λ cell. refl))
+          (record { plain = refl; elsewhere = λ cell apart. ne_eqb cell 0 apart }, λ posts. (0, omega arith, refl)),
       refl,
       refl,
       tt,
@@ -181,6 +187,7 @@ told = record {
   note = note;
   noted = refl;
   functions = projection 0 ∷ [];
+  later = all_one (λ (h : Handover). h.fetch < 4) handover (omega arith);
   stand = refl;
   tells = record { orders = IsPermutation-refl (0 ∷ []); classes = own_class ∷ []; are_classes = one_class; bytes = refl };
 }

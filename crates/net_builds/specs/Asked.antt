@@ -1,19 +1,37 @@
 -- What functions that call a manager ask of it and of a session, and what they leave. Each takes which sessions are the manager's.
-use Rattle.std.specs.Prelude.{◌≡◌, ℕ, ◌+◌, ◌≤◌, List, Option, Result, All, IfErr, length}
+use Rattle.std.specs.Prelude.{◌≡◌, ℕ, ◌+◌, ◌<◌, ◌≤◌, List, Option, Result, All, IfErr, length}
+use Rattle.function_laws.specs.declared.history.Entry.{Entry}
 use Rattle.blif_net.specs.declared.net.Net.{Net}
 use Rattle.blif_net.specs.Bounds.{IsBounded}
 use Rattle.edge_bits.specs.declared.limits.TheConstants.{MOST_ROWS}
 use Rattle.function_laws.specs.declared.history.Name.{Name}
 use Rattle.net_reports.specs.declared.classes.Class.{Class}
-use Rattle.net_builds.specs.Building.{IsBuilt, IsPlan}
+use Rattle.net_builds.specs.Building.{IsBuilt, IsLeft, IsPlan}
 use Rattle.net_builds.specs.declared.host.HostRefusal.{HostRefusal}
-use Rattle.net_builds.specs.Standings.{HasRoom, IsCaused, IsLive, Standing}
+use Rattle.net_builds.specs.Standings.{HasRoom, IsCaused, IsLive, KeepsAll, KeepsOthers, Standing, Works}
 use Rattle.net_builds.specs.Tellings.{AreClassed}
 
--- the session is the manager's still, and a refusal has its cause
-pub record ComesBack {M S F X : Type 0} (has : M → S → Type 0) (refused : S → F → Type 0) (manager : M) (session : S) (result : Result X (HostRefusal F)) : Type 0 where
-  pub own : has manager session
-  pub caused : IfErr result (IsCaused (refused session))
+-- What a call leaves that makes at most one row: the session is the manager's still, and each name that was given before stands for what it stood for. Where it was refused, there are no more rows than before, and one of its entries tells of that.
+pub record ComesBack {M S F X : Type 0} (has : M → S → Type 0) (standing : S → Standing) (tells : M → F → Entry → Type 0) (manager : M) (old new : S) (result : Result X (HostRefusal F)) : Type 0 where
+  pub own : has manager new
+  pub works : Works (standing old) (standing new)
+  pub kept : KeepsAll (standing old) (standing new)
+  pub few : (standing new).rows ≤ (standing old).rows + 1
+  pub rows : IfErr result (λ _. (standing new).rows ≤ (standing old).rows)
+  pub caused : IfErr result (IsCaused (tells manager) works.gained)
+
+-- The same of a function that takes a name over: where it was refused, it let that one go.
+pub record TakesOver {M S F X : Type 0} (has : M → S → Type 0) (standing : S → Standing) (tells : M → F → Entry → Type 0) (manager : M) (old new : S) (gone : Name) (result : Result X (HostRefusal F)) : Type 0 where
+  pub own : has manager new
+  pub works : Works (standing old) (standing new)
+  pub kept : KeepsOthers (standing old) (standing new) gone
+  pub rows : IfErr result (λ _. (standing new).rows + 1 ≤ (standing old).rows)
+  pub caused : IfErr result (IsCaused (tells manager) works.gained)
+
+-- What is left while a network's signals are built. Where that was refused, the rows tell how far it came.
+pub record StaysBuilt {M S F X : Type 0} (has : M → S → Type 0) (standing : S → Standing) (tells : M → F → Entry → Type 0) (manager : M) (net : Net) (last : List ℕ) (old new : S) (rows : List (Option Name)) (result : Result X (HostRefusal F)) : Type 0 where
+  pub own : has manager new
+  pub left : IfErr result (IsLeft (tells manager) net last (standing old) (standing new) rows)
 
 module _ {M S : Type 0} (has : M → S → Type 0) (standing : S → Standing) (manager : M) (session : S) where
   -- the session is one of the manager's, and may make so many more rows
@@ -33,6 +51,14 @@ module _ {M S : Type 0} (has : M → S → Type 0) (standing : S → Standing) (
     pub own : has manager session
     pub plan : IsPlan net last
     pub built : IsBuilt net last next (standing session) rows
+
+  -- the session has a name for each output of the network, and may hand over what these stand for and tell of it
+  pub record MayHandOver (net : Net) (names : List Name) : Type 0 where
+    pub own : has manager session
+    pub room : (standing session).rows + length names < MOST_ROWS
+    pub vars : (standing session).vars ≡ length net.inputs
+    pub held : All (IsLive (standing session)) names
+    pub many : length names ≡ length net.outputs
 
   -- the session has names of these classes, and may evaluate what they stand for
   pub record MayEvaluate (names : List Name) (classes : List Class) : Type 0 where

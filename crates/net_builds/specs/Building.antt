@@ -3,9 +3,12 @@ use Rattle.std.specs.Prelude.{◌≡◌, ℕ, ◌<◌, ◌≤◌, List, Option, 
 use Rattle.blif_net.specs.declared.net.Net.{Net}
 use Rattle.blif_net.specs.Bounds.{IsBounded, signal_count}
 use Rattle.blif_net.specs.Networks.{signal_value}
+use Rattle.function_laws.specs.declared.history.Entry.{Entry}
 use Rattle.function_laws.specs.declared.history.Name.{Name}
+use Rattle.net_builds.specs.declared.host.HostRefusal.{HostRefusal}
 use Rattle.net_builds.specs.declared.signals.Ledger.{Ledger}
-use Rattle.net_builds.specs.Standings.{Holds, Standing, Works}
+use Rattle.net_builds.specs.Holdings.{names_in}
+use Rattle.net_builds.specs.Standings.{Holds, IsCaused, Standing, Works}
 use Rattle.net_builds.specs.Uses.{AreLastUses, KnowsReads}
 
 -- the row of a signal, if it has one
@@ -29,11 +32,19 @@ pub record IsBuilt (net : Net) (last : List ℕ) (next : ℕ) (s : Standing) (ro
   pub held : (signal : ℕ) (name : Name) → row_at rows signal ≡ Some name → Holds s name (signal_value net signal)
   pub rising : (a b : ℕ) (one other : Name) → a < b → row_at rows a ≡ Some one → row_at rows b ≡ Some other → one.generation < other.generation
   pub few : s.rows ≤ next
+  -- and no further row is live
+  pub counted : s.rows ≤ length (names_in rows)
 
 -- the session worked, and the signals below the next one are built
 pub record BuildsTo (net : Net) (last : List ℕ) (next : ℕ) (old new : Standing) (rows : List (Option Name)) : Type 0 where
   pub works : Works old new
   pub built : IsBuilt net last next new rows
+
+-- The building was refused: signals below some one were built, and one of the entries tells of the refusal.
+pub record IsLeft {F : Type 0} (tells : F → Entry → Type 0) (net : Net) (last : List ℕ) (old new : Standing) (rows : List (Option Name)) (refusal : HostRefusal F) : Type 0 where
+  pub next : ℕ
+  pub builds : BuildsTo net last next old new rows
+  pub caused : IsCaused tells builds.works.gained refusal
 
 -- The memory of a building whose first call is not made: no signal has a row.
 pub record IsBegun (net : Net) (ledger : Ledger) : Type 0 where

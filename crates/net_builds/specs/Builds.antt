@@ -1,5 +1,5 @@
 -- What sessions build, hand over and report.
-use Rattle.std.specs.Prelude.{◌≡◌, ℕ, Bool, List, [], ◌∷◌, ◌++◌, All, Contains, drop, length, map, take}
+use Rattle.std.specs.Prelude.{◌≡◌, ℕ, ◌<◌, Bool, List, [], ◌∷◌, ◌++◌, All, Contains, drop, length, map, take}
 use Rattle.std.specs.List.{range_with_len}
 use Rattle.blif_net.specs.declared.net.Net.{Net}
 use Rattle.function_laws.specs.declared.history.Entry.{Entry}
@@ -11,12 +11,15 @@ use Rattle.function_laws.specs.SessionEntries.{entries_of}
 use Rattle.function_laws.specs.Tables.{Sizes, opening}
 use Rattle.net_reports.specs.Reports.{IsReport, IsSummary, output_names}
 use Rattle.net_builds.specs.Handings.{AreInTurn, IsKnown, IsPassed}
-use Rattle.net_builds.specs.Standings.{Holds, KeepsOrders, Note, Standing, values_of}
+use Rattle.net_builds.specs.Standings.{KeepsOrders, Note, Standing, values_of}
 use Rattle.net_builds.specs.declared.handing.Handover.{Handover}
 
--- A function went from the session that built it to the first one: the name that was posted to the cell stands for it, and a later fetch found that cell posted.
+-- A function went from the session that built it to the first one: at the post's place the name that was posted to the cell stood for it, and a later fetch found that cell posted.
 pub record IsDelivered (cell : ℕ) (f : ℕ → Bool) (giver first : Standing) (h : Handover) : Type 0 where
-  pub built : Holds giver h.from f
+  pub posting : Note
+  pub among : Contains giver.placed posting
+  pub at_post : posting.place ≡ h.post
+  pub built : posting.stands h.from ≡ values_of giver.vars f
   pub passed : IsPassed cell giver first h
 
 -- Each session gained entries that add no variable and no element, and those that post to the cell are of these handovers.
@@ -33,7 +36,7 @@ AllHandedOver cell (f ∷ wanted) sessions first (h ∷ hs) =
     ((giver : Standing) × Contains sessions giver × IsDelivered cell f giver first h) × AllHandedOver cell wanted sessions first hs
 AllHandedOver cell _ sessions first _ = ⊥
 
--- What is told of functions that the first session fetched, in place of the wanted ones, under the order that it noted last and behind its earlier notes.
+-- What is told of functions that the first session fetched, in place of the wanted ones, as they stood at the place of its last note, above all fetches: under the order that it noted there, behind its earlier notes.
 pub record Builds (Tells : List (ℕ → Bool) → List ℕ → List ℕ → Type 0) (cell : ℕ) (wanted : List (ℕ → Bool)) (old new : List Standing) (text : List ℕ) : Type 0 where
   pub handovers : List Handover
   pub before : Standing
@@ -48,7 +51,8 @@ pub record Builds (Tells : List (ℕ → Bool) → List ℕ → List ℕ → Typ
   pub note : Note
   pub noted : first.notes ≡ before.notes ++ note ∷ []
   pub functions : List (ℕ → Bool)
-  pub stand : map first.stands (map (λ h. h.to) handovers) ≡ map (values_of first.vars) functions
+  pub later : All (λ h. h.fetch < note.place) handovers
+  pub stand : map note.stands (map (λ h. h.to) handovers) ≡ map (values_of first.vars) functions
   pub tells : Tells functions note.order text
 
 -- a report of functions of n variables, which have these names, under the order, with their values at these patterns
@@ -66,14 +70,19 @@ Reports net patterns = ReportsOf (length net.inputs) (output_names net) patterns
 abbrev pub SumsUp : Net → List (ℕ → Bool) → List ℕ → List ℕ → Type 0
 SumsUp net = SumsUpOf (length net.inputs) (output_names net)
 
--- The entries are a legal history of these sessions, which had made no call: it leaves their names standing for what they do, and what they noted of the order is what the entries below its place leave.
+-- what the session noted at a place is what the entries below it leave: the order of the variables, and what its names stand for
+pub record IsNoted (sizes : Sizes) (log : List Entry) (session : ℕ) (note : Note) : Type 0 where
+  pub order_is : (orders_from (opening_orders sizes) (take note.place log)).variables ≡ note.order
+  pub rows : (name : Name) → (table_after (opening sizes) (take note.place log)).live session name ≡ note.stands name
+
+-- The entries are a legal history of these sessions, which had made no call, and what they noted, at their listings and at their calls, is what the entries below its place leave.
 pub record IsLegalHistoryOf (sizes : Sizes) (log : List Entry) (sessions : List Standing) : Type 0 where
   pub legal : IsLegal sizes log
   -- a sift's entry carries both orders, and functions of rows and cells, as the entries below it leave them
   pub carried : EachWith Carries (opening sizes) (opening_orders sizes) log
   pub each : All (λ (s : Standing). entries_of s.number log ≡ s.entries) sessions
-  pub rows : All (λ (s : Standing). (name : Name) → (table_after (opening sizes) log).live s.number name ≡ s.stands name) sessions
-  pub noted : All (λ (s : Standing). All (λ (note : Note). (orders_from (opening_orders sizes) (take note.place log)).variables ≡ note.order) s.notes) sessions
+  pub noted : All (λ (s : Standing). All (IsNoted sizes log s.number) s.notes) sessions
+  pub placed : All (λ (s : Standing). All (IsNoted sizes log s.number) s.placed) sessions
   pub no_other : (p : ℕ) → All (λ (s : Standing). s.number ≡ p → ⊥) sessions → entries_of p log ≡ []
 
 -- What was told is told of the wanted functions of n variables themselves, under the order that was noted; and this is the order that the entries below the note's place leave.

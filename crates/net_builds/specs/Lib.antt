@@ -1,4 +1,5 @@
 pub mod Standings
+pub mod Holdings
 pub mod Asked
 pub mod Signals
 pub mod Building

@@ -5,14 +5,14 @@ use Rattle.blif_net.specs.declared.net.Cube.{Cube}
 use Rattle.blif_net.specs.declared.net.Literal.{Literal}
 use Rattle.blif_net.specs.Networks.{fits, matches}
 use Rattle.function_laws.specs.declared.history.Name.{Name}
-use Rattle.net_builds.specs.Standings.{Holds, Standing, Works}
+use Rattle.net_builds.specs.Standings.{Holds, KeepsOthers, Standing, Works}
 
 -- The name stands for the function, in place of one that is gone, or of itself. Each other name that was given before stands for what it stood for.
 pub record Replaces (old new : Standing) (gone name : Name) (f : ℕ → Bool) : Type 0 where
   pub works : Works old new
   pub holds : Holds new name f
   pub newer : gone.generation ≤ name.generation
-  pub kept : (other : Name) → other.generation < old.adds → (other.generation ≡ gone.generation → ⊥) → new.stands other ≡ old.stands other
+  pub kept : KeepsOthers old new gone
   pub rows : new.rows ≤ old.rows
 
 -- whether the literal fits the value of f, and g is 1

@@ -1,5 +1,5 @@
 -- What is seen of a session that builds functions, and what its calls leave.
-use Rattle.std.specs.Prelude.{◌≡◌, ℕ, ◌+◌, ◌<◌, ◌≤◌, ◌^◌, Bool, false, List, [], ◌∷◌, ◌++◌, All, Option, Some, length, map}
+use Rattle.std.specs.Prelude.{◌≡◌, ℕ, ◌+◌, ◌<◌, ◌≤◌, ◌^◌, Bool, false, List, [], ◌∷◌, ◌++◌, All, Contains, Option, Some, length, map}
 use Rattle.diagram_dumps.specs.declared.listings.Listing.{Listing}
 use Rattle.diagram_dumps.specs.Listings.{IsListing}
 use Rattle.edge_bits.specs.declared.limits.TheConstants.{MOST_ROWS}
@@ -18,10 +18,11 @@ use Rattle.net_builds.specs.Handed.{IsPlain}
 use Rattle.net_builds.specs.declared.host.HostRefusal.{HostRefusal}
 use Rattle.net_builds.specs.declared.host.HostRefusal.TheVariants as stops
 
--- the order of the variables that a session noted, and the place in the history at which it did
+-- what a session noted, and the place in the history at which it did: the order of the variables, and what its names stood for
 pub record Note : Type 0 where
   pub place : ℕ
   pub order : List ℕ
+  pub stands : Name → Option Function
 
 -- What is seen of a session.
 pub record Standing : Type 0 where
@@ -37,8 +38,10 @@ pub record Standing : Type 0 where
   pub stands : Name → Option Function
   -- its calls, in its order
   pub entries : List Entry
-  -- what it noted of the order, the oldest first
+  -- what it noted at its listings, the oldest first
   pub notes : List Note
+  -- what there was at the places of its calls, the oldest first
+  pub placed : List Note
 
 -- the list of the values of a function of so many variables, as a row stands for it
 abbrev pub values_of : ℕ → (ℕ → Bool) → Option Function
@@ -79,6 +82,9 @@ pub record Gains (P : Entry → Type 0) (old new : Standing) : Type 0 where
   pub entries_are : new.entries ≡ old.entries ++ gained
   pub each : All P gained
   pub more : old.adds ≤ new.adds
+  -- and it has what there was at their places
+  pub behind : List Note
+  pub placed_are : new.placed ≡ old.placed ++ behind
 
 -- calls were made that add no variable and no element and post to no cell
 abbrev pub Works : Standing → Standing → Type 0
@@ -87,6 +93,10 @@ Works = Gains IsQuiet
 -- each name that was given before stands for what it stood for
 abbrev pub KeepsAll : Standing → Standing → Type 0
 KeepsAll old new = (other : Name) → other.generation < old.adds → new.stands other ≡ old.stands other
+
+-- and but for one name
+abbrev pub KeepsOthers : Standing → Standing → Name → Type 0
+KeepsOthers old new gone = (other : Name) → other.generation < old.adds → (other.generation ≡ gone.generation → ⊥) → new.stands other ≡ old.stands other
 
 -- the name is new, and stands for the function
 pub record Makes (old new : Standing) (name : Name) (f : ℕ → Bool) : Type 0 where
@@ -108,12 +118,12 @@ pub record Asks (old new : Standing) : Type 0 where
   pub kept : (other : Name) → new.stands other ≡ old.stands other
   pub rows : new.rows ≤ old.rows
 
--- a refusal has a call of the session behind it, or is want of memory
-abbrev pub IsCaused : {F : Type 0} → (F → Type 0) → HostRefusal F → Type 0
-IsCaused refused stops.Memory = Unit {0}
-IsCaused refused (stops.Full full) = refused full
+-- one of the entries tells of the refusal, or it is want of memory
+abbrev pub IsCaused : {F : Type 0} → (F → Entry → Type 0) → List Entry → HostRefusal F → Type 0
+IsCaused tells entries stops.Memory = Unit {0}
+IsCaused tells entries (stops.Full full) = (e : Entry) × Contains entries e × tells full e
 
--- the name was posted to the cell, at this place; that changed no row
+-- the name was posted to the cell, at this place, where each name stood for what it did before; that changed no row
 pub record Posts (cell : ℕ) (old new : Standing) (from : Name) (place : ℕ) : Type 0 where
   pub vars_are : new.vars ≡ old.vars
   pub number_is : new.number ≡ old.number
@@ -121,6 +131,10 @@ pub record Posts (cell : ℕ) (old new : Standing) (from : Name) (place : ℕ) :
   pub adds_are : new.adds ≡ old.adds
   pub rows : new.rows ≤ old.rows
   pub entries_are : new.entries ≡ old.entries ++ entry place old.number (calls.Post cell from) replies.Done ∷ []
+  pub note : Note
+  pub place_is : note.place ≡ place
+  pub stood : (other : Name) → note.stands other ≡ old.stands other
+  pub placed_are : new.placed ≡ old.placed ++ note ∷ []
   pub kept : (other : Name) → new.stands other ≡ old.stands other
 
 -- a name was fetched from the cell, which had a function of truth values posted or not
@@ -130,15 +144,18 @@ pub record Fetches (cell : ℕ) (old new : Standing) (kind to : Name) (posted : 
   pub notes_are : new.notes ≡ old.notes
   pub more : old.adds ≤ new.adds
   pub entries_are : new.entries ≡ old.entries ++ entry place old.number (calls.Fetch cell kind) (replies.Fetched to posted) ∷ []
+  pub behind : List Note
+  pub placed_are : new.placed ≡ old.placed ++ behind
   pub newer : old.adds ≤ to.generation
   pub held : IsLive new to
   pub kept : KeepsAll old new
   pub rows : new.rows ≤ old.rows + 1
 
--- The listing of what some names stand for, in their order. The session noted the order of the variables.
+-- The listing of what some names stand for, in their order. The session noted the order of the variables and what its names stand for, at a place above all its calls.
 pub record Lists (old new : Standing) (names : List Name) (listing : Listing) : Type 0 where
   pub place : ℕ
-  pub new_is : new ≡ record old { notes = old.notes ++ record { place = place; order = listing.order } ∷ [] }
+  pub new_is : new ≡ record old { notes = old.notes ++ record { place = place; order = listing.order; stands = old.stands } ∷ [] }
+  pub later : All (λ (e : Entry). e.place < place) old.entries
   pub functions : List (ℕ → Bool)
   pub stand : map old.stands names ≡ map (values_of old.vars) functions
   pub wide : length listing.order ≡ old.vars

@@ -1,13 +1,15 @@
 //! The handing over of built functions to the first session.
 
-ghost use Rattle.std.specs.Prelude.{◌≡◌, ◌<◌, [], ◌∷◌, ◌++◌, true, length, All, IfOk};
+ghost use Rattle.std.specs.Prelude.{◌≡◌, ◌<◌, ◌≤◌, ◌+◌, [], ◌∷◌, ◌++◌, true, length, vec_capacity, All, IfErr, IfOk};
 ghost use Rattle.edge_bits.specs.declared.limits.TheConstants.{CELLS};
-ghost use Rattle.net_builds.specs.Asked.{ComesBack, MayMakeRows};
-ghost use Rattle.net_builds.specs.Handings.{AreInTurn, HandsOver};
+ghost use Rattle.net_builds.specs.Asked.{MayMakeRows};
+ghost use Rattle.net_builds.specs.Handings.{AreInTurn, HandsOver, HandsSome, Returns};
 ghost use Rattle.net_builds.specs.Standings.{IsLive};
 
-use crate::host::{Host, HostRefusal};
+use crate::host::Host;
+use crate::letting::let_go_fetched;
 use crossbeam_utils::Backoff;
+use edge_bits::Memory;
 use function_laws::Name;
 use std::alloc::Global;
 use std::sync::Wait;
@@ -55,12 +57,13 @@ fn hand_one<R: Wait, H: Host>(
     session: &mut H::Session,
     cell: u32,
     name: Name,
-) -> Result<Handover, HostRefusal<H::Full>>
+) -> Result<Handover, Memory>
     requires may { MayMakeRows H.has H.standing host.now session.old 1 }
     requires cell { cell < CELLS }
     requires held { IsLive (H.standing session.old) name }
+    ensures own { H.has host.now session.new }
     ensures handed { IfOk result (λ handover. HandsOver cell (H.standing session.old) (H.standing session.new) (name ∷ []) (handover ∷ [])) }
-    ensures back { ComesBack H.has H.refused host.now session.new result }
+    ensures refused { IfErr result (λ _. Returns cell (H.standing session.old) (H.standing session.new)) }
 {
     let posted = host.post(session, cell, name);
     let fetched = host.fetch(session, cell, name)?;
@@ -75,8 +78,34 @@ fn hand_one<R: Wait, H: Host>(
     })
 }
 
+/// Hands over names one after another, and notes the handovers.
+fn hand_all<R: Wait, H: Host>(
+    rt: &R,
+    host: &H,
+    session: &mut H::Session,
+    cell: u32,
+    names: &[Name],
+    handovers: &mut Vec<Handover>,
+) -> Result<(), Memory>
+    requires may { MayMakeRows H.has H.standing host.now session.old (length names.now) }
+    requires cell { cell < CELLS }
+    requires held { All (IsLive (H.standing session.old)) names.now }
+    requires none { handovers.old.items ≡ [] }
+    requires room { length names.now ≤ vec_capacity handovers.old }
+    ensures own { H.has host.now session.new }
+    ensures handed { IfOk result (λ _. HandsOver cell (H.standing session.old) (H.standing session.new) names.now handovers.new.items) }
+    ensures refused { IfErr result (λ _. HandsSome cell (H.standing session.old) (H.standing session.new) names.now handovers.new.items) }
+{
+    for name in names {
+        let next = hand_one(rt, host, session, cell, *name)?;
+        wait_unless(rt, is_behind(handovers, &next));
+        handovers.push_reserved(next);
+    }
+    Ok(())
+}
+
 /// Hands over names one after another by a cell of the board: each is posted and fetched, the fetch above the post and below the next post. Where the
-/// places are not so, or a fetch finds nothing posted, it waits for ever.
+/// places are not so, or a fetch finds nothing posted, it waits for ever. Where memory is wanting, what was fetched is let go.
 pub fn hand_over<R: Wait, H: Host>(
     rt: &R,
     alloc: Global,
@@ -84,18 +113,20 @@ pub fn hand_over<R: Wait, H: Host>(
     session: &mut H::Session,
     cell: u32,
     names: &[Name],
-) -> Result<Vec<Handover>, HostRefusal<H::Full>>
-    requires may { MayMakeRows H.has H.standing host.now session.old (length names.now) }
+) -> Result<Vec<Handover>, Memory>
+    requires may { MayMakeRows H.has H.standing host.now session.old (length names.now + 1) }
     requires cell { cell < CELLS }
     requires held { All (IsLive (H.standing session.old)) names.now }
+    ensures own { H.has host.now session.new }
     ensures handed { IfOk result (λ handovers. HandsOver cell (H.standing session.old) (H.standing session.new) names.now handovers.items) }
-    ensures back { ComesBack H.has H.refused host.now session.new result }
+    ensures refused { IfErr result (λ _. Returns cell (H.standing session.old) (H.standing session.new)) }
 {
     let mut handovers = Vec::with_capacity(alloc, names.len())?;
-    for name in names {
-        let next = hand_one(rt, host, session, cell, *name)?;
-        wait_unless(rt, is_behind(&handovers, &next));
-        handovers.push(next)?;
+    match hand_all(rt, host, session, cell, names, &mut handovers) {
+        Ok(()) => Ok(handovers),
+        Err(Memory) => {
+            let_go_fetched(host, session, &handovers);
+            Err(Memory)
+        }
     }
-    Ok(handovers)
 }

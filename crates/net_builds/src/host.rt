@@ -56,8 +56,9 @@ pub struct Told<T> {
 /// A manager of functions. Its sessions hold functions under names, and each call of a session is an entry of the history. A
 /// session that has made all the calls that it may make waits for ever in place of a further one.
 pub trait Host {
-    ghost use Rattle.std.specs.Prelude.{◌≡◌, ◌<◌, ℕ, Bool, List, Some, IfOk, All, length};
+    ghost use Rattle.std.specs.Prelude.{◌≡◌, ◌<◌, ℕ, Bool, List, Some, IfErr, IfOk, All, length};
     ghost use Rattle.edge_bits.specs.declared.limits.TheConstants.{CELLS};
+    ghost use Rattle.function_laws.specs.declared.history.Entry.{Entry};
     ghost use Rattle.function_laws.specs.declared.history.Function.TheVariants.{Bdd};
     ghost use Rattle.function_laws.specs.Lists.{truth};
     ghost use Rattle.function_laws.specs.Values.{assignment_of, conjunction, constant, disjunction, negation, projection};
@@ -76,8 +77,8 @@ pub trait Host {
     /// The session is one of this manager, and what a host may say of it besides: each call leaves it so.
     ghost has: { Self → Self.Session → Type 0 };
 
-    /// Some call of the session was refused so.
-    ghost refused: { Self.Session → Self.Full → Type 0 };
+    /// The entry is of a call that was refused so.
+    ghost tells: { Self → Self.Full → Entry → Type 0 };
 
     /// Called with an output's number, from 0 on, before that output is built. It tells nothing and changes nothing.
     fn pass(&self, output: u32);
@@ -90,7 +91,7 @@ pub trait Host {
     ) -> Result<Name, HostRefusal<Self::Full>>
         requires may { MayMakeRows has standing self.now session.old 1 }
         ensures made { IfOk result (λ name. Makes (standing session.old) (standing session.new) name (constant value)) }
-        ensures back { ComesBack has refused self.now session.new result };
+        ensures back { ComesBack has standing tells self.now session.old session.new result };
 
     /// The projection of a variable, under a new name.
     fn projection(
@@ -101,7 +102,7 @@ pub trait Host {
         requires may { MayMakeRows has standing self.now session.old 1 }
         requires variable { variable < (standing session.old).vars }
         ensures made { IfOk result (λ name. Makes (standing session.old) (standing session.new) name (projection variable)) }
-        ensures back { ComesBack has refused self.now session.new result };
+        ensures back { ComesBack has standing tells self.now session.old session.new result };
 
     /// The complement of a function, under a new name.
     fn complement(
@@ -112,7 +113,7 @@ pub trait Host {
         requires may { MayMakeRows has standing self.now session.old 1 }
         requires held { IsHeld (standing session.old) f }
         ensures made { IfOk result (λ name. (a : ℕ → Bool) → Holds (standing session.old) f a → Makes (standing session.old) (standing session.new) name (negation a)) }
-        ensures back { ComesBack has refused self.now session.new result };
+        ensures back { ComesBack has standing tells self.now session.old session.new result };
 
     /// The conjunction of two functions, under a new name.
     fn conjunction(
@@ -125,7 +126,7 @@ pub trait Host {
         requires first { IsHeld (standing session.old) f }
         requires second { IsHeld (standing session.old) g }
         ensures made { IfOk result (λ name. (a b : ℕ → Bool) → Holds (standing session.old) f a → Holds (standing session.old) g b → Makes (standing session.old) (standing session.new) name (conjunction a b)) }
-        ensures back { ComesBack has refused self.now session.new result };
+        ensures back { ComesBack has standing tells self.now session.old session.new result };
 
     /// The disjunction of two functions, under a new name.
     fn disjunction(
@@ -138,12 +139,12 @@ pub trait Host {
         requires first { IsHeld (standing session.old) f }
         requires second { IsHeld (standing session.old) g }
         ensures made { IfOk result (λ name. (a b : ℕ → Bool) → Holds (standing session.old) f a → Holds (standing session.old) g b → Makes (standing session.old) (standing session.new) name (disjunction a b)) }
-        ensures back { ComesBack has refused self.now session.new result };
+        ensures back { ComesBack has standing tells self.now session.old session.new result };
 
     /// Lets a name go.
     fn let_go(&self, session: &mut Self::Session, f: Name)
         requires may { MayMakeRows has standing self.now session.old 1 }
-        requires held { IsHeld (standing session.old) f }
+        requires held { IsLive (standing session.old) f }
         ensures own { has self.now session.new }
         ensures gone { LetsGo (standing session.old) (standing session.new) f };
 
@@ -164,24 +165,27 @@ pub trait Host {
         ensures own { has self.now session.new }
         ensures posts { Posts cell (standing session.old) (standing session.new) f result.place };
 
-    /// The function in a cell of the board under a new name, or that of another name where the cell has none.
+    /// The function in a cell of the board under a new name, or that of another name where the cell has none. Want of memory
+    /// changes nothing.
     fn fetch(
         &self,
         session: &mut Self::Session,
         cell: u32,
         other: Name,
-    ) -> Result<Told<Taken>, HostRefusal<Self::Full>>
+    ) -> Result<Told<Taken>, Memory>
         requires may { MayMakeRows has standing self.now session.old 1 }
         requires cell { cell < CELLS }
         requires held { IsLive (standing session.old) other }
+        ensures own { has self.now session.new }
         ensures fetches { IfOk result (λ told. Fetches cell (standing session.old) (standing session.new) other told.value.name told.value.posted told.place) }
-        ensures back { ComesBack has refused self.now session.new result };
+        ensures same { IfErr result (λ _. standing session.new ≡ standing session.old) };
 
     /// The listing of some functions, under the order of the variables that the entries below some place leave. It is no call
-    /// of the history.
+    /// of the history. Want of memory changes nothing.
     fn list(&self, session: &mut Self::Session, names: &[Name]) -> Result<Listing, Memory>
         requires may { MayMakeRows has standing self.now session.old 1 }
         requires held { All (IsLive (standing session.old)) names.now }
         ensures own { has self.now session.new }
-        ensures lists { IfOk result (λ listing. Lists (standing session.old) (standing session.new) names.now listing) };
+        ensures lists { IfOk result (λ listing. Lists (standing session.old) (standing session.new) names.now listing) }
+        ensures same { IfErr result (λ _. standing session.new ≡ standing session.old) };
 }

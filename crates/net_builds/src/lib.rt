@@ -6,6 +6,7 @@ mod handing;
 mod handovers;
 mod host;
 mod laws;
+mod letting;
 mod products;
 mod rows;
 mod signals;

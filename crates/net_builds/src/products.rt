@@ -4,7 +4,7 @@ ghost use Rattle.std.specs.Prelude.{◌≡◌, ◌≢◌, ◌<◌, Some, ℕ, Bo
 ghost use Rattle.blif_net.specs.Networks.{cover_value};
 ghost use Rattle.blif_net.specs.declared.net.Literal.TheVariants.{Any};
 ghost use Rattle.function_laws.specs.Values.{conjunction, disjunction, negation};
-ghost use Rattle.net_builds.specs.Asked.{ComesBack, MayMakeRows};
+ghost use Rattle.net_builds.specs.Asked.{ComesBack, MayMakeRows, TakesOver};
 ghost use Rattle.net_builds.specs.Products.{Replaces, match_any, match_at, with_fit};
 ghost use Rattle.net_builds.specs.Signals.{HaveRows, HaveValues};
 ghost use Rattle.net_builds.specs.Standings.{Holds, IsHeld, Makes};
@@ -32,7 +32,7 @@ fn literal_at(literals: &[Literal], at: usize) -> Literal
     literals[at]
 }
 
-/// The product with the complement of a row.
+/// The product with the complement of a row. The complement is let go, also where the product is refused.
 fn with_complement<H: Host>(
     host: &H,
     session: &mut H::Session,
@@ -43,12 +43,12 @@ fn with_complement<H: Host>(
     requires row { IsHeld (H.standing session.old) row }
     requires product { IsHeld (H.standing session.old) product }
     ensures made { IfOk result (λ name. (f g : ℕ → Bool) → Holds (H.standing session.old) row f → Holds (H.standing session.old) product g → Makes (H.standing session.old) (H.standing session.new) name (conjunction (negation f) g)) }
-    ensures back { ComesBack H.has H.refused host.now session.new result }
+    ensures back { ComesBack H.has H.standing H.tells host.now session.old session.new result }
 {
     let factor = host.complement(session, row)?;
-    let name = host.conjunction(session, factor, product)?;
+    let made = host.conjunction(session, factor, product);
     host.let_go(session, factor);
-    Ok(name)
+    made
 }
 
 /// The product with a literal of this row in front, which asks something of it.
@@ -64,7 +64,7 @@ fn with_factor<H: Host>(
     requires product { IsHeld (H.standing session.old) product }
     requires asks { literal ≢ Any }
     ensures made { IfOk result (λ name. (f g : ℕ → Bool) → Holds (H.standing session.old) row f → Holds (H.standing session.old) product g → Makes (H.standing session.old) (H.standing session.new) name (with_fit literal f g)) }
-    ensures back { ComesBack H.has H.refused host.now session.new result }
+    ensures back { ComesBack H.has H.standing H.tells host.now session.old session.new result }
 {
     match literal {
         Literal::Zero => with_complement(host, session, row, product),
@@ -73,7 +73,8 @@ fn with_factor<H: Host>(
     }
 }
 
-/// The product with a literal of this row in front. The product is let go; where the literal asks nothing it stays as it is.
+/// The product with a literal of this row in front. The product is let go, also where that is refused; where the literal asks nothing it
+/// stays as it is.
 fn with_literal<H: Host>(
     host: &H,
     session: &mut H::Session,
@@ -85,14 +86,14 @@ fn with_literal<H: Host>(
     requires row { IsHeld (H.standing session.old) row }
     requires product { IsHeld (H.standing session.old) product }
     ensures made { IfOk result (λ name. (f g : ℕ → Bool) → Holds (H.standing session.old) row f → Holds (H.standing session.old) product g → Replaces (H.standing session.old) (H.standing session.new) product name (with_fit literal f g)) }
-    ensures back { ComesBack H.has H.refused host.now session.new result }
+    ensures over { TakesOver H.has H.standing H.tells host.now session.old session.new product result }
 {
     if literal == Literal::Any {
         return Ok(product);
     }
-    let name = with_factor(host, session, literal, row, product)?;
+    let made = with_factor(host, session, literal, row, product);
     host.let_go(session, product);
-    Ok(name)
+    made
 }
 
 /// The product of a row's literals, from the last on, under a new name.
@@ -106,7 +107,7 @@ fn product<H: Host>(
     requires may { MayMakeRows H.has H.standing host.now session.old 4 }
     requires rows { HaveRows (H.standing session.old) rows.now ins.now }
     ensures made { IfOk result (λ name. (values : ℕ → ℕ → Bool) → HaveValues (H.standing session.old) rows.now values ins.now → Makes (H.standing session.old) (H.standing session.new) name (match_at values ins.now literals.now)) }
-    ensures back { ComesBack H.has H.refused host.now session.new result }
+    ensures back { ComesBack H.has H.standing H.tells host.now session.old session.new result }
 {
     let mut product = host.constant(session, true)?;
     let mut at = literals.len().min(ins.len());
@@ -119,7 +120,28 @@ fn product<H: Host>(
     Ok(product)
 }
 
-/// The sum with the product of a row behind. The sum and the product are let go.
+/// The sum with the product of a row behind, under a new name. The product is let go, also where the sum is refused.
+fn added_product<H: Host>(
+    host: &H,
+    session: &mut H::Session,
+    cube: &Cube,
+    ins: &[u32],
+    rows: &[Option<Name>],
+    sum: Name,
+) -> Result<Name, HostRefusal<H::Full>>
+    requires may { MayMakeRows H.has H.standing host.now session.old 4 }
+    requires rows { HaveRows (H.standing session.old) rows.now ins.now }
+    requires sum { IsHeld (H.standing session.old) sum }
+    ensures made { IfOk result (λ name. (values : ℕ → ℕ → Bool) (f : ℕ → Bool) → HaveValues (H.standing session.old) rows.now values ins.now → Holds (H.standing session.old) sum f → Makes (H.standing session.old) (H.standing session.new) name (disjunction f (match_at values ins.now cube.now.literals))) }
+    ensures back { ComesBack H.has H.standing H.tells host.now session.old session.new result }
+{
+    let product = product(host, session, cube.literals.as_slice(), ins, rows)?;
+    let made = host.disjunction(session, sum, product);
+    host.let_go(session, product);
+    made
+}
+
+/// The sum with the product of a row behind. The sum is let go, also where that is refused.
 fn with_product<H: Host>(
     host: &H,
     session: &mut H::Session,
@@ -132,13 +154,11 @@ fn with_product<H: Host>(
     requires rows { HaveRows (H.standing session.old) rows.now ins.now }
     requires sum { IsHeld (H.standing session.old) sum }
     ensures made { IfOk result (λ name. (values : ℕ → ℕ → Bool) (f : ℕ → Bool) → HaveValues (H.standing session.old) rows.now values ins.now → Holds (H.standing session.old) sum f → Replaces (H.standing session.old) (H.standing session.new) sum name (disjunction f (match_at values ins.now cube.now.literals))) }
-    ensures back { ComesBack H.has H.refused host.now session.new result }
+    ensures over { TakesOver H.has H.standing H.tells host.now session.old session.new sum result }
 {
-    let product = product(host, session, cube.literals.as_slice(), ins, rows)?;
-    let name = host.disjunction(session, sum, product)?;
-    host.let_go(session, product);
+    let made = added_product(host, session, cube, ins, rows, sum);
     host.let_go(session, sum);
-    Ok(name)
+    made
 }
 
 /// The disjunction of a cover's rows, from the first on, under a new name.
@@ -152,7 +172,7 @@ fn sum<H: Host>(
     requires may { MayMakeRows H.has H.standing host.now session.old 5 }
     requires rows { HaveRows (H.standing session.old) rows.now ins.now }
     ensures made { IfOk result (λ name. (values : ℕ → ℕ → Bool) → HaveValues (H.standing session.old) rows.now values ins.now → Makes (H.standing session.old) (H.standing session.new) name (match_any values ins.now cubes.now)) }
-    ensures back { ComesBack H.has H.refused host.now session.new result }
+    ensures back { ComesBack H.has H.standing H.tells host.now session.old session.new result }
 {
     let mut sum = host.constant(session, false)?;
     for cube in cubes {
@@ -162,7 +182,8 @@ fn sum<H: Host>(
 }
 
 /// The function of a cover, under a new name: the disjunction of its rows from the first on, each the product of its literals from
-/// the last on, and the complement of that where the rows tell where the cover is 0.
+/// the last on, and the complement of that where the rows tell where the cover is 0. What is made on the way is let go, also where a call
+/// is refused.
 pub fn cover<H: Host>(
     host: &H,
     session: &mut H::Session,
@@ -172,7 +193,7 @@ pub fn cover<H: Host>(
     requires may { MayMakeRows H.has H.standing host.now session.old 5 }
     requires rows { HaveRows (H.standing session.old) rows.now gate.now.ins }
     ensures made { IfOk result (λ name. (values : ℕ → ℕ → Bool) → HaveValues (H.standing session.old) rows.now values gate.now.ins → Makes (H.standing session.old) (H.standing session.new) name (λ k. cover_value gate.now (λ signal. values signal k))) }
-    ensures back { ComesBack H.has H.refused host.now session.new result }
+    ensures back { ComesBack H.has H.standing H.tells host.now session.old session.new result }
 {
     let sum = sum(
         host,
@@ -184,7 +205,7 @@ pub fn cover<H: Host>(
     if gate.on {
         return Ok(sum);
     }
-    let name = host.complement(session, sum)?;
+    let made = host.complement(session, sum);
     host.let_go(session, sum);
-    Ok(name)
+    made
 }

@@ -3,7 +3,7 @@
 ghost use Rattle.std.specs.Prelude.{◌≡◌, ◌+◌, ◌<◌, ◌≤◌, ◌^◌, length, slice_index_or, All, IfOk, IsSome, ℕ, Some};
 ghost use Rattle.blif_net.specs.Bounds.{signal_count};
 ghost use Rattle.net_builds.specs.Building.{BuildsTo, row_at};
-ghost use Rattle.net_builds.specs.Asked.{ComesBack, HasBuilt};
+ghost use Rattle.net_builds.specs.Asked.{HasBuilt, StaysBuilt};
 
 use crate::host::{Host, HostRefusal};
 use crate::products::cover;
@@ -22,7 +22,7 @@ fn make_input<H: Host>(
     requires has { HasBuilt H.has H.standing host.now session.old net.now last.now signal rows.old }
     requires input { signal < length net.now.inputs }
     ensures built { IfOk result (λ _. BuildsTo net.now last.now (signal + 1) (H.standing session.old) (H.standing session.new) rows.new) }
-    ensures back { ComesBack H.has H.refused host.now session.new result }
+    ensures back { StaysBuilt H.has H.standing H.tells host.now net.now last.now session.old session.new rows.new result }
 {
     let place = signal as usize;
     if last[place] == 0 {
@@ -42,7 +42,7 @@ pub fn make_inputs<H: Host>(
 ) -> Result<(), HostRefusal<H::Full>>
     requires has { HasBuilt H.has H.standing host.now session.old net.now last.now 0 rows.old }
     ensures built { IfOk result (λ _. BuildsTo net.now last.now (length net.now.inputs) (H.standing session.old) (H.standing session.new) rows.new) }
-    ensures back { ComesBack H.has H.refused host.now session.new result }
+    ensures back { StaysBuilt H.has H.standing H.tells host.now net.now last.now session.old session.new rows.new result }
 {
     for signal in 0..net.inputs().len() {
         make_input(host, session, net, last, rows, signal as u32)?;
@@ -107,7 +107,7 @@ fn make_gate<H: Host>(
     requires gate { length net.now.inputs ≤ signal }
     requires within { signal < signal_count net.now }
     ensures built { IfOk result (λ _. BuildsTo net.now last.now (signal + 1) (H.standing session.old) (H.standing session.new) rows.new) }
-    ensures back { ComesBack H.has H.refused host.now session.new result }
+    ensures back { StaysBuilt H.has H.standing H.tells host.now net.now last.now session.old session.new rows.new result }
 {
     if last[signal] == 0 {
         return Ok(());
@@ -133,7 +133,7 @@ fn make_up_to<H: Host>(
     requires within { signal < signal_count net.now }
     ensures built { IfOk result (λ next. BuildsTo net.now last.now next (H.standing session.old) (H.standing session.new) rows.new) }
     ensures behind { IfOk result (λ next. (signal < next) × (first ≤ next)) }
-    ensures back { ComesBack H.has H.refused host.now session.new result }
+    ensures back { StaysBuilt H.has H.standing H.tells host.now net.now last.now session.old session.new rows.new result }
 {
     let mut next = first;
     while next <= signal as usize {
@@ -157,7 +157,7 @@ pub fn make_outputs<H: Host>(
     requires few { length own.now < 2 ^ 32 }
     ensures built { IfOk result (λ next. BuildsTo net.now last.now next (H.standing session.old) (H.standing session.new) rows.new) }
     ensures behind { IfOk result (λ next. All (λ signal. signal < next) own.now) }
-    ensures back { ComesBack H.has H.refused host.now session.new result }
+    ensures back { StaysBuilt H.has H.standing H.tells host.now net.now last.now session.old session.new rows.new result }
 {
     let mut next = net.inputs().len();
     for number in 0..own.len() {

@@ -1,14 +1,14 @@
 //! What is told of the functions of a network's outputs.
 
-ghost use Rattle.std.specs.Prelude.{◌≡◌, Bool, Some, length, map, slice_get, IfOk, OnOk};
+ghost use Rattle.std.specs.Prelude.{◌≡◌, Bool, Some, length, map, slice_get, IfOk};
 ghost use Rattle.function_laws.specs.Values.{assignment_of, differs};
 ghost use Rattle.net_builds.specs.Builds.{Reports, SumsUp};
-ghost use Rattle.net_builds.specs.Asked.{ComesBack, MayEvaluate, MayReport};
-ghost use Rattle.net_builds.specs.Handings.{IsTold};
+ghost use Rattle.net_builds.specs.Asked.{MayEvaluate, MayReport};
+ghost use Rattle.net_builds.specs.Handings.{IsTold, Looks};
 ghost use Rattle.net_builds.specs.Standings.{Asks, HasRoom, IsLive};
 ghost use Rattle.net_builds.specs.Tellings.{evaluation_in, value_in, values_in};
 
-use crate::host::{Host, HostRefusal};
+use crate::host::Host;
 use blif_net::Net;
 use edge_bits::{List, Memory};
 use function_laws::Name;
@@ -52,7 +52,7 @@ fn values<H: Host>(
     requires may { MayEvaluate H.has H.standing host.now session.old names.now classes.now }
     requires long { length bits.now ≡ (H.standing session.old).vars }
     ensures own { H.has host.now session.new }
-    ensures asks { OnOk result (Asks (H.standing session.old) (H.standing session.new)) }
+    ensures asks { Asks (H.standing session.old) (H.standing session.new) }
     ensures values { IfOk result (λ values. values ≡ values_in (H.standing session.old) names.now (assignment_of bits.now)) }
 {
     let mut values = List::new(alloc);
@@ -76,7 +76,7 @@ fn evaluate<H: Host>(
     requires may { MayEvaluate H.has H.standing host.now session.old names.now classes.now }
     requires vars { (H.standing session.old).vars ≡ inputs }
     ensures own { H.has host.now session.new }
-    ensures asks { OnOk result (Asks (H.standing session.old) (H.standing session.new)) }
+    ensures asks { Asks (H.standing session.old) (H.standing session.new) }
     ensures evaluation { IfOk result (λ evaluation. evaluation ≡ evaluation_in (H.standing session.old) names.now pattern.now) }
 {
     let bits = padded(alloc, inputs, pattern)?;
@@ -98,7 +98,7 @@ fn evaluations<H: Host>(
     requires may { MayEvaluate H.has H.standing host.now session.old names.now classes.now }
     requires vars { (H.standing session.old).vars ≡ inputs }
     ensures own { H.has host.now session.new }
-    ensures asks { OnOk result (Asks (H.standing session.old) (H.standing session.new)) }
+    ensures asks { Asks (H.standing session.old) (H.standing session.new) }
     ensures evaluations { IfOk result (λ evaluations. evaluations.items ≡ map (evaluation_in (H.standing session.old) names.now) patterns.now) }
 {
     let mut evaluations = Vec::new(alloc);
@@ -125,10 +125,11 @@ pub fn tell_report<H: Host>(
     net: &Net,
     names: &[Name],
     patterns: &[List<bool>],
-) -> Result<Vec<u8>, HostRefusal<H::Full>>
+) -> Result<Vec<u8>, Memory>
     requires may { MayReport H.has H.standing host.now session.old net.now names.now }
     ensures told { IfOk result (λ text. IsTold (Reports net.now patterns.now) (H.standing session.old) (H.standing session.new) names.now text.items) }
-    ensures back { ComesBack H.has H.refused host.now session.new result }
+    ensures own { H.has host.now session.new }
+    ensures looks { Looks (H.standing session.old) (H.standing session.new) }
 {
     let listing = host.list(session, names)?;
     let classes = classes_of(alloc, &listing)?;
@@ -147,10 +148,11 @@ pub fn tell_summary<H: Host>(
     session: &mut H::Session,
     net: &Net,
     names: &[Name],
-) -> Result<Vec<u8>, HostRefusal<H::Full>>
+) -> Result<Vec<u8>, Memory>
     requires may { MayReport H.has H.standing host.now session.old net.now names.now }
     ensures told { IfOk result (λ text. IsTold (SumsUp net.now) (H.standing session.old) (H.standing session.new) names.now text.items) }
-    ensures back { ComesBack H.has H.refused host.now session.new result }
+    ensures own { H.has host.now session.new }
+    ensures looks { Looks (H.standing session.old) (H.standing session.new) }
 {
     let listing = host.list(session, names)?;
     let classes = classes_of(alloc, &listing)?;

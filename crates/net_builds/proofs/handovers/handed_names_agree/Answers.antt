@@ -15,4 +15,4 @@ returns c = λ sizes log legal plain cell session other from to handed f g stand
     (entry handed.post session (calls.Post cell from) replies.Done) (entry handed.fetch other (calls.Fetch cell handed.kind) (replies.Fetched to true)) from to
     (has-contained log _ handed.posted) (has-contained log _ handed.fetched) handed.in_turn
     (λ e has after before. (plain_of e has, all-has (λ (x : Entry). handed.post < x.place → x.place < handed.fetch → posts_to cell x.call ≡ false) log handed.alone e has after before))
-    refl refl handed.kind refl refl f g stands_from stands_to
+    refl refl handed.kind refl refl g stands_to f stands_from

@@ -1,7 +1,9 @@
 use Rattle.std.proofs.Common.{◌≡◌, ◌-◌, true, arith, drop, get_or, subst, sym}
 use Rattle.function_laws.specs.Values.{constant}
+use Rattle.std.proofs.lemmas.Result.{err_from_is_err_and}
 use Rattle.net_builds.specs.Products.{match_at}
 use Rattle.net_builds.specs.Standings.{Makes}
+use Rattle.net_builds.proofs.BackLemmas.{comes_made, comes_over}
 use Rattle.net_builds.proofs.ProductLemmas.{matches_end, product_step}
 use Rattle.net_builds.proofs.RowLemmas.{row_holds, some_values}
 use Rattle.net_builds.proofs.StandingLemmas.{kept_holds, makes_same}
@@ -47,7 +49,7 @@ loop-at-preserved g c =
     record {
       asked = omega (arith, c.loop-at.invariant.asked);
       read = omega (arith, c.loop-at.invariant.read);
-      own = c.in_ok-product-2.ensures.back.own;
+      own = c.in_ok-product-2.ensures.over.own;
       up = λ values have.
           product_step _ _ _ c.args.rows.now c.args.ins.now c.args.literals.now values c.loop-at.at before c.loop-at.product c.in_ok-product-2.product c.row_of-row.result c.literal_at-literal.result
           (omega (arith, c.loop-at-test.true)) c.literal_at-literal.ensures (omega (arith, c.loop-at.invariant.read, c.loop-at-test.true)) c.row_of-row.ensures
@@ -60,3 +62,18 @@ returns-clause-made g c = λ values have.
     let now = g.H.Host.standing c.loop-at.session in
     let none : c.loop-at.at ≡ 0 = omega (arith, c.loop-at-test.false) in
     subst (λ at. Makes start now c.loop-at.product (match_at values (drop at c.args.ins.now) (drop at c.args.literals.now))) none (c.loop-at.invariant.up values have)
+
+pub returns-clause-back : goal.returns-clause-back
+returns-clause-back g c =
+    let some = some_values (g.H.Host.standing c.args.session.now) c.args.rows.now c.args.ins.now c.requires.rows in
+    let made = c.loop-at.invariant.up some.0 some.1 in
+    comes_made g.H.Host.has g.H.Host.standing g.H.Host.tells c.args.host.now c.args.session.now c.loop-at.session c.loop-at.product
+    (match_at some.0 (drop c.loop-at.at c.args.ins.now) (drop c.loop-at.at c.args.literals.now)) c.loop-at.product c.loop-at.invariant.own made
+
+pub returns-in_err-product-2-clause-back : goal.returns-in_err-product-2-clause-back
+returns-in_err-product-2-clause-back g c =
+    let some = some_values (g.H.Host.standing c.args.session.now) c.args.rows.now c.args.ins.now c.requires.rows in
+    let made = c.loop-at.invariant.up some.0 some.1 in
+    let p = err_from_is_err_and c.from_residual-in_err-product-2.result c.from_residual-in_err-product-2.ensures.1 in
+    rw (p.1, p.2) (comes_over g.H.Host.has g.H.Host.standing g.H.Host.tells c.args.host.now c.args.session.now c.loop-at.session c.with_literal.new.session c.loop-at.product
+    (match_at some.0 (drop c.loop-at.at c.args.ins.now) (drop c.loop-at.at c.args.literals.now)) c.in_err-product-2.field-0.0 made c.in_err-product-2.ensures.over)

@@ -5,9 +5,10 @@ use Rattle.std.proofs.lemmas.Option.{slice_get-get_or}
 use Rattle.blif_net.specs.declared.net.Cover.{Cover}
 use Rattle.blif_net.specs.Bounds.{signal_count}
 use Rattle.blif_net.specs.Networks.{cover_value, signal_value}
+use Rattle.std.proofs.lemmas.Result.{err_from_is_err_and}
 use Rattle.net_builds.specs.Building.{BuildsTo}
 use Rattle.net_builds.specs.Signals.{HaveValues}
-use Rattle.net_builds.proofs.SignalSteps.{builds_more, built_made, gate_rows, gate_value, gate_values, reads_signals}
+use Rattle.net_builds.proofs.SignalSteps.{builds_more, builds_unused, built_made, gate_rows, gate_value, gate_values, left_kept, reads_signals}
 use Rattle.net_builds.proofs.rows.make_gate.Given as given
 use Rattle.net_builds.proofs.rows.make_gate.Goals as goal
 use Rattle.net_builds.proofs.rows.make_gate.Goals.{After-index-gates-signal, After-as_slice}
@@ -70,3 +71,17 @@ returns-clause-built g c =
     builds_more c.args.net.now c.args.last.now (c.args.signal + 1) (c.args.signal + 1) (g.H.Host.standing c.args.session.now) (g.H.Host.standing c.cover.new.session)
     (g.H.Host.standing c.let_go_all_read.new.session) (set c.args.rows.now c.args.signal (Some c.in_ok-cover.field-0)) c.let_go_all_read.new.rows
     (made g (goal.at.returns-clause-built g c).After-as_slice (gate_at g (goal.at.returns-clause-built g c).After-index-gates-signal)) c.let_go_all_read.ensures.built
+
+pub returns-in_err-cover-clause-back : goal.returns-in_err-cover-clause-back
+returns-in_err-cover-clause-back g c =
+    let back = c.in_err-cover.ensures.back in
+    let p = err_from_is_err_and c.from_residual.result c.from_residual.ensures.1 in
+    rw (p.1, p.2) (record {
+      own = back.own;
+      left = left_kept (g.H.Host.tells c.args.host.now) c.args.net.now c.args.last.now c.args.signal (g.H.Host.standing c.args.session.now) (g.H.Host.standing c.cover.new.session) c.args.rows.now
+          c.in_err-cover.field-0.0 c.requires.has.built back.works back.kept back.rows back.caused;
+    })
+
+pub returns-then-last-signal-eq0-clause-built : goal.returns-then-last-signal-eq0-clause-built
+returns-then-last-signal-eq0-clause-built g c =
+    builds_unused c.args.net.now c.args.last.now c.args.signal (g.H.Host.standing c.args.session.now) c.args.rows.now c.requires.within (omega (arith, c.if-last-signal-eq0.true)) c.requires.has.built

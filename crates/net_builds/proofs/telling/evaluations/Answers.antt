@@ -1,9 +1,9 @@
-use Rattle.std.proofs.Common.{Bool, List, arith}
+use Rattle.std.proofs.Common.{Bool, List, arith, rules}
 use Rattle.std.proofs.lemmas.Grind.{common_steps}
 use Rattle.std.proofs.lemmas.List.Elements.{All-weaker}
 use Rattle.net_builds.specs.Standings.{IsLive}
 use Rattle.net_builds.proofs.Classed.{classed_asked}
-use Rattle.net_builds.proofs.TellingLemmas.{asks_on, evaluations_more, held_asked}
+use Rattle.net_builds.proofs.TellingLemmas.{asks_none, asks_on, evaluations_more, held_asked}
 use Rattle.net_builds.proofs.telling.evaluations.Goals as goal
 
 pub evaluate-requires-clause-may : goal.evaluate-requires-clause-may
@@ -36,3 +36,14 @@ loop-pattern-preserved g c =
 
 pub returns-clause-evaluations : goal.returns-clause-evaluations
 returns-clause-evaluations g c = grind (arith, common_steps)
+
+pub loop-pattern-init : goal.loop-pattern-init
+loop-pattern-init g c = record { own = c.requires.may.own; asks = asks_none (g.H.Host.standing c.args.session.now); evaluations = search rules }
+
+pub returns-in_err-evaluation-clause-asks : goal.returns-in_err-evaluation-clause-asks
+returns-in_err-evaluation-clause-asks g c =
+    asks_on (g.H.Host.standing c.args.session.now) (g.H.Host.standing c.loop-pattern.session) (g.H.Host.standing c.evaluate.new.session) c.loop-pattern.invariant.asks c.in_err-evaluation.ensures.asks
+
+pub returns-in_err-push-clause-asks : goal.returns-in_err-push-clause-asks
+returns-in_err-push-clause-asks g c =
+    asks_on (g.H.Host.standing c.args.session.now) (g.H.Host.standing c.loop-pattern.session) (g.H.Host.standing c.evaluate.new.session) c.loop-pattern.invariant.asks c.in_ok-evaluation.ensures.asks

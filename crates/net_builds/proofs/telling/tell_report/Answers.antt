@@ -5,7 +5,7 @@ use Rattle.net_reports.specs.declared.patterns.Evaluation.{Evaluation}
 use Rattle.net_builds.specs.Builds.{Reports}
 use Rattle.net_builds.specs.Standings.{IsLive}
 use Rattle.net_builds.proofs.Classed.{classed_listed}
-use Rattle.net_builds.proofs.TellingLemmas.{held_listed, is_told, many_classes, reported, room_listed}
+use Rattle.net_builds.proofs.TellingLemmas.{asks_none, held_listed, is_told, looks_listed, looks_same, many_classes, reported, room_listed}
 use Rattle.net_builds.proofs.telling.tell_report.Goals as goal
 
 pub evaluations-requires-clause-may : goal.evaluations-requires-clause-may
@@ -53,3 +53,26 @@ returns-clause-told g c =
     (c.in_ok-classes.ensures.by_function listing.order lists.functions lists.is_listing)
     (c.node_count-nodes.ensures (record { variables = listing.order; elements = [] }) lists.functions lists.is_listing) seen all order c.deref-2.ensures.value
     (c.deref-3.ensures.value ∙ c.in_ok-evaluations.ensures.evaluations) c.as_slice-order.ensures c.in_ok-text.ensures.text)
+
+pub returns-clause-looks : goal.returns-clause-looks
+returns-clause-looks g c =
+    looks_listed (g.H.Host.standing c.args.session.now) (g.H.Host.standing c.list.new.session) (g.H.Host.standing c.evaluations.new.session) c.args.names.now c.in_ok-listing.listing
+    c.in_ok-listing.ensures.lists c.in_ok-evaluations.ensures.asks
+
+pub returns-in_err-listing-clause-looks : goal.returns-in_err-listing-clause-looks
+returns-in_err-listing-clause-looks g c = looks_same (g.H.Host.standing c.args.session.now) (g.H.Host.standing c.list.new.session) c.in_err-listing.ensures.same
+
+pub returns-in_err-classes-clause-looks : goal.returns-in_err-classes-clause-looks
+returns-in_err-classes-clause-looks g c =
+    let mid = g.H.Host.standing c.list.new.session in
+    looks_listed (g.H.Host.standing c.args.session.now) mid mid c.args.names.now c.in_ok-listing.listing c.in_ok-listing.ensures.lists (asks_none mid)
+
+pub returns-in_err-evaluations-clause-looks : goal.returns-in_err-evaluations-clause-looks
+returns-in_err-evaluations-clause-looks g c =
+    looks_listed (g.H.Host.standing c.args.session.now) (g.H.Host.standing c.list.new.session) (g.H.Host.standing c.evaluations.new.session) c.args.names.now c.in_ok-listing.listing
+    c.in_ok-listing.ensures.lists c.in_err-evaluations.ensures.asks
+
+pub returns-in_err-text-clause-looks : goal.returns-in_err-text-clause-looks
+returns-in_err-text-clause-looks g c =
+    looks_listed (g.H.Host.standing c.args.session.now) (g.H.Host.standing c.list.new.session) (g.H.Host.standing c.evaluations.new.session) c.args.names.now c.in_ok-listing.listing
+    c.in_ok-listing.ensures.lists c.in_ok-evaluations.ensures.asks

@@ -1,7 +1,7 @@
 use Rattle.std.proofs.Common.{[], List, ℕ}
 use Rattle.net_reports.specs.declared.classes.Class.{Class}
 use Rattle.net_builds.specs.Builds.{SumsUp}
-use Rattle.net_builds.proofs.TellingLemmas.{asks_none, is_told, summed_up}
+use Rattle.net_builds.proofs.TellingLemmas.{asks_none, is_told, looks_listed, looks_same, summed_up}
 use Rattle.net_builds.proofs.telling.tell_summary.Goals as goal
 
 pub returns-clause-told : goal.returns-clause-told
@@ -19,3 +19,21 @@ returns-clause-told g c =
     (summed_up net old mid names listing lists classes c.node_count.result text c.requires.may.vars
     (c.in_ok-classes.ensures.by_function listing.order lists.functions lists.is_listing)
     (c.node_count.ensures (record { variables = listing.order; elements = [] }) lists.functions lists.is_listing) seen c.deref.ensures.value c.in_ok-text.ensures.text)
+
+pub returns-clause-looks : goal.returns-clause-looks
+returns-clause-looks g c =
+    let mid = g.H.Host.standing c.list.new.session in
+    looks_listed (g.H.Host.standing c.args.session.now) mid mid c.args.names.now c.in_ok-listing.listing c.in_ok-listing.ensures.lists (asks_none mid)
+
+pub returns-in_err-listing-clause-looks : goal.returns-in_err-listing-clause-looks
+returns-in_err-listing-clause-looks g c = looks_same (g.H.Host.standing c.args.session.now) (g.H.Host.standing c.list.new.session) c.in_err-listing.ensures.same
+
+pub returns-in_err-classes-clause-looks : goal.returns-in_err-classes-clause-looks
+returns-in_err-classes-clause-looks g c =
+    let mid = g.H.Host.standing c.list.new.session in
+    looks_listed (g.H.Host.standing c.args.session.now) mid mid c.args.names.now c.in_ok-listing.listing c.in_ok-listing.ensures.lists (asks_none mid)
+
+pub returns-in_err-text-clause-looks : goal.returns-in_err-text-clause-looks
+returns-in_err-text-clause-looks g c =
+    let mid = g.H.Host.standing c.list.new.session in
+    looks_listed (g.H.Host.standing c.args.session.now) mid mid c.args.names.now c.in_ok-listing.listing c.in_ok-listing.ensures.lists (asks_none mid)

@@ -4,7 +4,7 @@ use Rattle.function_laws.specs.Values.{assignment_of}
 use Rattle.net_builds.specs.Standings.{IsLive}
 use Rattle.net_builds.specs.Tellings.{values_in}
 use Rattle.net_builds.proofs.Classed.{all_valued, bits_below, next_turned, next_valued}
-use Rattle.net_builds.proofs.TellingLemmas.{asks_on, held_asked}
+use Rattle.net_builds.proofs.TellingLemmas.{asks_none, asks_on, held_asked}
 use Rattle.net_builds.proofs.telling.values.Goals as goal
 
 pub class_value-value-requires-clause-held : goal.class_value-value-requires-clause-held
@@ -51,3 +51,10 @@ returns-clause-values g c =
     let end = zip_end names classes c.loop-name.yielded c.into_iter-name-iterator.result c.loop-name.name-iterator c.next.new.self c.next.result (search rules) (search rules)
     c.loop-name.yielded_by c.in-None.is (search rules) in
     all_valued old names classes c.requires.may.classed (length c.loop-name.yielded) (assignment_of c.args.bits.now) end c.loop-name.values c.loop-name.invariant.values
+
+pub loop-name-init : goal.loop-name-init
+loop-name-init g c = record { own = c.requires.may.own; asks = asks_none (g.H.Host.standing c.args.session.now); values = search rules }
+
+pub returns-in_err-push-clause-asks : goal.returns-in_err-push-clause-asks
+returns-in_err-push-clause-asks g c =
+    asks_on (g.H.Host.standing c.args.session.now) (g.H.Host.standing c.loop-name.session) (g.H.Host.standing c.class_value-value.new.session) c.loop-name.invariant.asks c.class_value-value.ensures.asks
