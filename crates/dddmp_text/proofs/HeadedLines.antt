@@ -1,5 +1,5 @@
 -- A line before the nodes, by what its first word is.
-use Rattle.std.proofs.Common.{◌≡◌, ℕ, ◌==◌, Bool, true, false, not, ◌||◌, List, [], ◌∷◌, Option, Some, None, codes, length, refl, sym, ◌∙◌, ap, subst, if◌then◌else◌}
+use Rattle.std.proofs.Common.{◌≡◌, ◌==◌, Bool, true, false, not, ◌||◌, List, [], ◌∷◌, Option, None, codes, length, refl, sym, ◌∙◌, ap, subst, if◌then◌else◌}
 use Rattle.std.specs.Bool.{then_some}
 use Rattle.std.specs.Option.{option_or}
 use Rattle.std.specs.Str.{bytes_eq}
@@ -13,7 +13,7 @@ use Rattle.dddmp_text.specs.declared.fields.Field.TheVariants as fields
 use Rattle.dddmp_text.specs.declared.fields.Given.{Given}
 use Rattle.dddmp_text.specs.Fields.{all_fields, field_of, is_given, number, passed_words, whole_numbers}
 use Rattle.std.specs.List.{list_all, list_any}
-use Rattle.dddmp_text.specs.Faults.{Context, after_words, field_fault, heading, is_bad_root, is_other_count, listing, nodes_fault, with_field, words_fault}
+use Rattle.dddmp_text.specs.Faults.{Context, after_words, field_fault, heading, is_bad_root, listing, nodes_fault, with_field, words_fault}
 use Rattle.dddmp_text.specs.Reading.{HeadsOn, StopIs, has_bad_variable, is_any_other_count}
 
 clash : {A : Type 0} → true ≡ false → A

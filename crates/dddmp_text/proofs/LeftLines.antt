@@ -1,5 +1,5 @@
 -- The lines of a text, taken one after another.
-use Rattle.std.proofs.Common.{◌≡◌, ℕ, ◌+◌, Bool, true, false, List, [], ◌∷◌, Option, Some, None, refl, sym, ◌∙◌, ap, subst}
+use Rattle.std.proofs.Common.{◌≡◌, ℕ, ◌+◌, List, [], ◌∷◌, Option, Some, None, refl, sym, ◌∙◌, ap, subst}
 use Rattle.std.specs.Option.{option_map, option_or}
 use Rattle.job_words.specs.Text.{lines_of, split_words}
 use Rattle.edge_bits.specs.declared.edges.Line.{Line}

@@ -1,5 +1,5 @@
 -- A line behind `.nodes`, by what its first word is.
-use Rattle.std.proofs.Common.{◌≡◌, ℕ, ◌+◌, ◌-◌, ◌<◌, ◌≤◌, ◌==◌, nat_lt, Bool, true, false, not, ◌||◌, List, [], ◌∷◌, ◌++◌, Option, Some, None, codes, length, refl, sym, ◌∙◌, ap, subst, arith, if◌then◌else◌, slice_index}
+use Rattle.std.proofs.Common.{◌≡◌, ℕ, ◌+◌, ◌-◌, ◌<◌, ◌≤◌, ◌==◌, nat_lt, Bool, true, false, not, List, [], ◌∷◌, ◌++◌, Option, Some, None, codes, length, refl, sym, ◌∙◌, ap, subst, arith, if◌then◌else◌}
 use Rattle.std.specs.Bool.{then_some}
 use Rattle.std.specs.Option.{option_or}
 use Rattle.std.specs.Str.{bytes_eq}
@@ -15,8 +15,8 @@ use Rattle.dddmp_text.specs.declared.fields.Field.TheVariants as fields
 use Rattle.dddmp_text.specs.declared.fields.Given.{Given}
 use Rattle.dddmp_text.specs.declared.node_lines.Listed.{Listed}
 use Rattle.dddmp_text.specs.declared.node_lines.NodeWords.{NodeWords}
-use Rattle.dddmp_text.specs.Fields.{Fields, fields_of, is_node, is_terminal, number, numbers}
-use Rattle.dddmp_text.specs.Faults.{Context, after_words, ended, fields_fault, listing, next_index, node_of, with_node, words_fault}
+use Rattle.dddmp_text.specs.Fields.{Fields, fields_of, is_node, is_terminal, number}
+use Rattle.dddmp_text.specs.Faults.{Context, after_words, ended, fields_fault, listing, next_index, with_node, words_fault}
 use Rattle.dddmp_text.specs.Reading.{AreOfHeader, IsEmptyAtStart, ListsOn, StopIs, TakesNode, fields_fault_of, fields_in, has_count, is_ordered, line_fault, line_of, read_fault, with_id, with_line, words_in}
 
 clash : {A : Type 0} → true ≡ false → A

@@ -1,5 +1,5 @@
 -- What a header and the lines behind it give.
-use Rattle.std.proofs.Common.{◌≡◌, ℕ, ◌+◌, ◌<◌, ◌≤◌, ◌^◌, ◌==◌, nat_lt, Bool, true, false, not, ◌&&◌, ◌||◌, List, [], ◌∷◌, ◌++◌, ℤ, Some, None, min, length, map, nat_abs, refl, sym, ◌∙◌, ap, arith, eqb-true}
+use Rattle.std.proofs.Common.{◌≡◌, ℕ, ◌<◌, ◌≤◌, ◌^◌, ◌==◌, nat_lt, Bool, true, false, not, ◌&&◌, ◌||◌, List, ℤ, None, min, length, nat_abs, refl, sym, ◌∙◌, ap, arith, eqb-true}
 use Rattle.std.specs.Prelude.{slice_index}
 use Rattle.std.specs.Bool.{then_some}
 use Rattle.std.specs.Option.{option_or}
@@ -8,7 +8,7 @@ use Rattle.std.specs.Str.Parse.{digits_value}
 use Rattle.std.proofs.lemmas.Bool.Decides.{nat_tests}
 use Rattle.std.proofs.lemmas.List.{length-map}
 use Rattle.std.proofs.lemmas.List.Folds.{list_all-map}
-use Rattle.job_words.specs.Text.{Word, integer_value}
+use Rattle.job_words.specs.Text.{integer_value}
 use Rattle.edge_bits.specs.declared.edges.Line.{Line}
 use Rattle.edge_bits.specs.declared.limits.TheConstants.{MOST_VARIABLES}
 use Rattle.diagram_dumps.specs.declared.dump.Dump.{Dump}
@@ -18,7 +18,7 @@ use Rattle.dddmp_text.specs.declared.fields.Given.{Given}
 use Rattle.dddmp_text.specs.Fields.{Fields, is_node, number, numbers, whole_numbers}
 use Rattle.dddmp_text.specs.Faults.{Context, dump_in, ended, is_other_count, nodes_fault}
 use Rattle.dddmp_text.specs.Ranks.{AreVariables, variable_of}
-use Rattle.dddmp_text.specs.Reading.{AreOfHeader, has_bad_variable, is_any_other_count, is_ordered, line_of, read_fault}
+use Rattle.dddmp_text.specs.Reading.{AreOfHeader, has_bad_variable, is_ordered, line_of, read_fault}
 use Rattle.dddmp_text.proofs.HeadedLines.{counts-hold}
 
 less : (n m : ℕ) → n < m → nat_lt n m ≡ true

@@ -1,12 +1,12 @@
 -- Numbers below 2 ^ 31, as job_words reads them.
-use Rattle.std.proofs.Common.{◌≡◌, ℕ, suc, ◌+◌, ◌-◌, ◌<◌, ◌≤◌, ◌^◌, ◌==◌, nat_le, nat_lt, Bool, true, false, not, ◌&&◌, ◌||◌, List, [], ◌∷◌, ℤ, pos, negsuc, neg_ℤ, min, drop, length, nat_abs, refl, sym, ◌∙◌, ap, arith, if◌then◌else◌}
-use Rattle.std.specs.Prelude.{int_le, int_lt, slice_index}
+use Rattle.std.proofs.Common.{◌≡◌, ℕ, suc, ◌-◌, ◌<◌, ◌≤◌, ◌^◌, ◌==◌, nat_le, nat_lt, Bool, true, false, ◌&&◌, [], ◌∷◌, ℤ, pos, negsuc, neg_ℤ, min, drop, nat_abs, refl, sym, ◌∙◌, ap, arith, if◌then◌else◌}
+use Rattle.std.specs.Prelude.{int_le, int_lt}
 use Rattle.std.specs.Char.{is_ascii_digit}
 use Rattle.std.specs.List.{list_all}
 use Rattle.std.specs.Str.Parse.{digits_value}
 use Rattle.std.proofs.lemmas.Bool.Decides.{nat_tests}
 use Rattle.edge_bits.specs.Permanent.{least_value, value_end}
-use Rattle.job_words.specs.Text.{Word, integer_value, is_integer, is_negative, is_number, magnitude}
+use Rattle.job_words.specs.Text.{Word, integer_value, is_integer, is_negative, is_number}
 use Rattle.dddmp_text.specs.Fields.{is_small, is_small_integer}
 use Rattle.dddmp_text.proofs.Spelled.{and_first, and_second}
 

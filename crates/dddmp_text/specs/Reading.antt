@@ -1,5 +1,5 @@
 -- What the parts of the reader tell of the lines that they take.
-use Rattle.std.specs.Prelude.{◌≡◌, true, false, ℕ, ◌+◌, ◌<◌, ◌≤◌, ◌^◌, ◌==◌, nat_lt, nat_le, Bool, not, ◌&&◌, ◌||◌, List, [], ◌∷◌, ◌++◌, Option, Some, None, length, map, slice_index, nat_abs, if◌then◌else◌}
+use Rattle.std.specs.Prelude.{◌≡◌, true, false, ℕ, ◌<◌, ◌≤◌, ◌^◌, ◌==◌, nat_lt, nat_le, Bool, not, ◌&&◌, ◌||◌, List, [], ◌∷◌, ◌++◌, Option, Some, None, length, map, slice_index, nat_abs, if◌then◌else◌, MatchOption, ℤ}
 use Rattle.std.specs.Option.{option_map, option_or}
 use Rattle.std.specs.Str.Parse.{digits_value}
 use Rattle.std.specs.Bool.{then_some}
@@ -19,7 +19,8 @@ use Rattle.dddmp_text.specs.declared.node_lines.NodeWords.{NodeWords}
 use Rattle.edge_bits.specs.declared.limits.TheConstants.{MOST_VARIABLES}
 use Rattle.std.specs.List.{list_all}
 use Rattle.dddmp_text.specs.Fields.{Fields, fields_of, is_node, is_one_number, is_small, is_small_integer, is_terminal, number, numbers, value_or}
-use Rattle.dddmp_text.specs.Faults.{Context, after_words, behind, ended, fault_at, fault_of, faulty_line, heading, is_other_count, listing, nodes_fault, words_fault}
+use Rattle.diagram_dumps.specs.declared.dump.Dump.{Dump}
+use Rattle.dddmp_text.specs.Faults.{dump_in, Context, after_words, behind, ended, fault_at, fault_of, faulty_line, heading, is_other_count, listing, nodes_fault, words_fault}
 use Rattle.dddmp_text.specs.Ranks.{variable_of}
 
 -- the stop is want of memory, or this fault
@@ -41,9 +42,28 @@ abbrev pub stopped_at : ℕ → DddmpStop → DddmpError
 stopped_at line stops.Memory = errors.Memory
 stopped_at line (stops.Fault kind) = errors.Fault (fault_at line kind)
 
+-- the first fault of lines that are numbered from here on, behind a header, and what they leave
+abbrev pub fault_behind : List Given → ℕ → List ℕ → Option DddmpFault
+fault_behind given number rest = faulty_line number (listing given false []) (lines_of rest)
+
+abbrev pub left_behind : List Given → List ℕ → Context
+left_behind given rest = behind (listing given false []) (lines_of rest)
+
+-- the dump of a header and of faultless lines behind it
+abbrev pub IsDumpBehind : List Given → ℕ → List ℕ → Dump → Type 0
+IsDumpBehind given number rest dump = (fault_behind given number rest ≡ None) × (dump ≡ dump_in (left_behind given rest))
+
 -- a number below 2 ^ 31, with a sign or without
 abbrev pub is_form : Bool → Word → Bool
 is_form signed word = if signed then is_small_integer word else is_small word
+
+-- the value, where it has its form, and else none
+abbrev pub IsIf : Bool → ℤ → Option ℤ → Type 0
+IsIf form value found = MatchOption found (form ≡ false) (λ z. (form ≡ true) × (value ≡ z))
+
+-- the numbers, where they have their form, and else none
+abbrev pub AreIf : Bool → List ℤ → Option (List ℤ) → Type 0
+AreIf form numbers found = MatchOption found (form ≡ false) (λ told. (form ≡ true) × (told ≡ numbers))
 
 -- the words are one number, which is at most so much
 abbrev pub is_number_within : ℕ → List Word → Bool

@@ -1,11 +1,12 @@
 //! The fields of a header.
 
-ghost use Rattle.std.specs.Prelude.{◌≡◌, ◌<◌, ◌^◌, ◌∷◌, [], IfOk, MatchOption, map, pos, true, false};
+ghost use Rattle.std.specs.Prelude.{◌≡◌, ◌<◌, ◌^◌, ◌∷◌, [], IfOk, map, pos};
 ghost use Rattle.std.specs.List.{list_all};
 ghost use Rattle.std.specs.Str.{bytes_eq};
 ghost use Rattle.job_words.specs.Text.{integer_value, split_words};
-ghost use Rattle.dddmp_text.specs.Fields.{all_fields, field_of, has_form, is_given, is_one_number, is_one_word, number, numbers_of, same_field, whole_numbers, word_of};
-ghost use Rattle.dddmp_text.specs.Reading.{is_number_within};
+ghost use Rattle.dddmp_text.specs.Fields.{all_fields, field_of, has_form, is_given, is_one_number, is_one_word, number, numbers_of};
+ghost use Rattle.dddmp_text.specs.Fields.{same_field, whole_numbers, word_of};
+ghost use Rattle.dddmp_text.specs.Reading.{AreIf, is_number_within};
 
 use crate::numbers::{only_number, only_word, values_of};
 use edge_bits::List;
@@ -123,7 +124,7 @@ fn is_one_word(due: &[u8], line: &[u8]) -> bool
 
 /// No numbers, if the line has its form.
 fn none_if(alloc: Global, fits: bool) -> Option<List<i32>>
-    ensures { MatchOption result (fits ≡ false) (λ numbers. (fits ≡ true) × (numbers ≡ [])) }
+    ensures { AreIf fits [] result }
 {
     if fits { Some(List::new(alloc)) } else { None }
 }
@@ -140,7 +141,7 @@ fn one_of(alloc: Global, number: u32) -> Result<List<i32>, AllocError>
 
 /// The number of a line that has no other word.
 fn one_number(alloc: Global, line: &[u8]) -> Result<Option<List<i32>>, AllocError>
-    ensures { IfOk result (λ found. MatchOption found (is_one_number (split_words line.now) ≡ false) (λ numbers. (is_one_number (split_words line.now) ≡ true) × (numbers ≡ map integer_value (split_words line.now)))) }
+    ensures { IfOk result (AreIf (is_one_number (split_words line.now)) (map integer_value (split_words line.now))) }
 {
     match only_number(line) {
         Some(number) => Ok(Some(one_of(alloc, number)?)),
@@ -150,7 +151,7 @@ fn one_number(alloc: Global, line: &[u8]) -> Result<Option<List<i32>>, AllocErro
 
 /// The number of a line that has no other word, if it is at most so much.
 fn number_within(alloc: Global, most: u32, line: &[u8]) -> Result<Option<List<i32>>, AllocError>
-    ensures { IfOk result (λ found. MatchOption found (is_number_within most (split_words line.now) ≡ false) (λ numbers. (is_number_within most (split_words line.now) ≡ true) × (numbers ≡ map integer_value (split_words line.now)))) }
+    ensures { IfOk result (AreIf (is_number_within most (split_words line.now)) (map integer_value (split_words line.now))) }
 {
     let Some(number) = only_number(line) else {
         return Ok(None);
@@ -163,7 +164,7 @@ fn number_within(alloc: Global, most: u32, line: &[u8]) -> Result<Option<List<i3
 
 /// The numbers of a field, from what stands behind its word, if that has its form.
 pub fn numbers_of(alloc: Global, field: Field, line: &[u8]) -> Result<Option<List<i32>>, AllocError>
-    ensures { IfOk result (λ found. MatchOption found (has_form field (split_words line.now) ≡ false) (λ numbers. (has_form field (split_words line.now) ≡ true) × (numbers ≡ numbers_of field (split_words line.now)))) }
+    ensures { IfOk result (AreIf (has_form field (split_words line.now)) (numbers_of field (split_words line.now))) }
 {
     match field {
         Field::Ver => Ok(none_if(alloc, is_one_word(b"DDDMP-2.0".as_slice(), line))),

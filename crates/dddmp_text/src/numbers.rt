@@ -4,7 +4,7 @@ ghost use Rattle.std.specs.Prelude.{◌≡◌, ◌≤◌, ◌<◌, ◌^◌, ◌�
 ghost use Rattle.std.specs.List.{list_all};
 ghost use Rattle.job_words.specs.Text.{integer_value, is_integer, split_words};
 ghost use Rattle.dddmp_text.specs.Fields.{is_one_number, is_small};
-ghost use Rattle.dddmp_text.specs.Reading.{is_form};
+ghost use Rattle.dddmp_text.specs.Reading.{AreIf, IsIf, is_form};
 
 use edge_bits::List;
 use job_words::{first_word, integer_value, is_integer, is_number, number_value};
@@ -29,7 +29,7 @@ pub fn small(word: &[u8]) -> Option<u32>
 pub fn integer_below(word: &[u8], bound: u32) -> Option<i32>
     requires form { is_integer word.now ≡ true }
     requires bound { bound ≤ 2 ^ 31 }
-    ensures { MatchOption result (nat_lt (nat_abs (integer_value word.now)) bound ≡ false) (λ z. (nat_lt (nat_abs (integer_value word.now)) bound ≡ true) × (integer_value word.now ≡ z)) }
+    ensures { IsIf (nat_lt (nat_abs (integer_value word.now)) bound) (integer_value word.now) result }
 {
     let value = integer_value(word)?;
     if value.unsigned_abs() < u64::from(bound) {
@@ -41,7 +41,7 @@ pub fn integer_below(word: &[u8], bound: u32) -> Option<i32>
 
 /// The value of a number below 2^31, which may have a sign where it says so.
 fn value_of(word: &[u8], signed: bool) -> Option<i32>
-    ensures { MatchOption result (is_form signed word.now ≡ false) (λ z. (is_form signed word.now ≡ true) × (integer_value word.now ≡ z)) }
+    ensures { IsIf (is_form signed word.now) (integer_value word.now) result }
 {
     if !signed {
         let value = small(word)?;
@@ -56,7 +56,7 @@ fn value_of(word: &[u8], signed: bool) -> Option<i32>
 
 /// The values of the words of a line, if each is such a number.
 pub fn values_of(alloc: Global, line: &[u8], signed: bool) -> Result<Option<List<i32>>, AllocError>
-    ensures { IfOk result (λ found. MatchOption found (list_all (is_form signed) (split_words line.now) ≡ false) (λ values. (list_all (is_form signed) (split_words line.now) ≡ true) × (values ≡ map integer_value (split_words line.now)))) }
+    ensures { IfOk result (AreIf (list_all (is_form signed) (split_words line.now)) (map integer_value (split_words line.now))) }
 {
     let mut values = List::new(alloc);
     let mut rest = line;

@@ -2,11 +2,10 @@
 
 ghost use Rattle.std.specs.Prelude.{◌≡◌, ◌+◌, ◌<◌, ◌≤◌, ◌^◌, [], IfErr, IfOk, None, false, length, map, nat_abs};
 ghost use Rattle.job_words.specs.Text.{lines_of};
-ghost use Rattle.dddmp_text.specs.Fields.{number, numbers};
-ghost use Rattle.dddmp_text.specs.Faults.{IsDddmpText, at_start, behind, dump_in, ended, fault_of, faulty_line, listing, nodes_fault};
-ghost use Rattle.dddmp_text.specs.Reading.{AreLeft, AreOfHeader, ErrorIs, HasFault};
+ghost use Rattle.dddmp_text.specs.Faults.{IsDddmpText, at_start, ended, faulty_line, listing, nodes_fault};
+ghost use Rattle.dddmp_text.specs.Reading.{AreLeft, AreOfHeader, ErrorIs, HasFault, IsDumpBehind, fault_behind, left_behind};
 
-use crate::faults::{DddmpError, DddmpFault, DddmpStop, FaultKind};
+use crate::faults::{DddmpError, DddmpStop, FaultKind};
 use crate::fields::{Field, Given, number_in, numbers_in};
 use crate::header::take_header_line;
 use crate::node_lines::Listed;
@@ -57,9 +56,9 @@ fn read_header<'a>(alloc: Global, text: &'a [u8]) -> Result<Headed<'a>, DddmpErr
 fn read_nodes(alloc: Global, headed: &Headed, variables: &[u32]) -> Result<List<Line>, DddmpError>
     requires few { headed.now.number + length headed.now.rest.now < 2 ^ 64 }
     requires variables { AreOfHeader headed.now.given variables.now }
-    ensures faultless { IfOk result (λ nodes. faulty_line headed.now.number (listing headed.now.given false []) (lines_of headed.now.rest.now) ≡ None) }
-    ensures left { IfOk result (λ nodes. behind (listing headed.now.given false []) (lines_of headed.now.rest.now) ≡ ended headed.now.given nodes) }
-    ensures fault { IfErr result (ErrorIs (faulty_line headed.now.number (listing headed.now.given false []) (lines_of headed.now.rest.now))) }
+    ensures faultless { IfOk result (λ nodes. fault_behind headed.now.given headed.now.number headed.now.rest.now ≡ None) }
+    ensures left { IfOk result (λ nodes. left_behind headed.now.given headed.now.rest.now ≡ ended headed.now.given nodes) }
+    ensures fault { IfErr result (ErrorIs (fault_behind headed.now.given headed.now.number headed.now.rest.now)) }
 {
     let mut listed = Listed {
         started: false,
@@ -97,8 +96,8 @@ fn sizes_of(alloc: Global, numbers: &[i32]) -> Result<Vec<u32>, AllocError>
 fn read_dump(alloc: Global, headed: &Headed) -> Result<Dump, DddmpError>
     requires few { headed.now.number + length headed.now.rest.now < 2 ^ 64 }
     requires whole { nodes_fault headed.now.given ≡ None }
-    ensures dump { IfOk result (λ dump. (faulty_line headed.now.number (listing headed.now.given false []) (lines_of headed.now.rest.now) ≡ None) × (dump ≡ dump_in (behind (listing headed.now.given false []) (lines_of headed.now.rest.now)))) }
-    ensures fault { IfErr result (ErrorIs (faulty_line headed.now.number (listing headed.now.given false []) (lines_of headed.now.rest.now))) }
+    ensures dump { IfOk result (IsDumpBehind headed.now.given headed.now.number headed.now.rest.now) }
+    ensures fault { IfErr result (ErrorIs (fault_behind headed.now.given headed.now.number headed.now.rest.now)) }
 {
     let given = headed.given.as_slice();
     let ids = sizes_of(alloc, numbers_in(given, Field::Ids))?;

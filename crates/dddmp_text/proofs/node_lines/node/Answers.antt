@@ -1,7 +1,6 @@
-use Rattle.std.proofs.Common.{rules, ◌≡◌, ◌∙◌, ap, sym, arith, SFits, w32, to_z, of_z, ℤ, pos}
+use Rattle.std.proofs.Common.{rules, ◌∙◌, ap, sym, arith, SFits, w32, ℤ}
 use Rattle.std.specs.Prelude.{slice_index}
 use Rattle.std.proofs.lemmas.Int.{to_z-of_z}
-use Rattle.edge_bits.specs.declared.edges.Line.{Line}
 use Rattle.dddmp_text.specs.Reading.{fields_in}
 use Rattle.dddmp_text.proofs.ReadDumps.{node-read}
 use Rattle.dddmp_text.proofs.node_lines.node.Goals as goal

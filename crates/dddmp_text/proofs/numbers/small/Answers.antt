@@ -1,4 +1,4 @@
-use Rattle.std.proofs.Common.{◌∙◌, sym, arith}
+use Rattle.std.proofs.Common.{◌∙◌, sym}
 use Rattle.dddmp_text.proofs.SmallNumbers.{small-number}
 use Rattle.dddmp_text.proofs.numbers.small.Goals as goal
 

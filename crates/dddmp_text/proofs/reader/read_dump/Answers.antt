@@ -1,8 +1,7 @@
-use Rattle.std.proofs.Common.{◌≡◌, ◌∙◌, ap, sym, subst, arith, List, ℕ, length, map, nat_abs}
+use Rattle.std.proofs.Common.{◌∙◌, ap, sym, subst, List, ℕ, map, nat_abs}
 use Rattle.dddmp_text.specs.declared.fields.Field.TheVariants as fields
 use Rattle.dddmp_text.specs.declared.fields.Given.{Given}
-use Rattle.dddmp_text.specs.Fields.{numbers, whole_numbers}
-use Rattle.dddmp_text.specs.Ranks.{AreVariables}
+use Rattle.dddmp_text.specs.Fields.{whole_numbers}
 use Rattle.dddmp_text.specs.Reading.{AreOfHeader}
 use Rattle.dddmp_text.proofs.ReadDumps.{as-many, of-header}
 use Rattle.dddmp_text.proofs.reader.read_dump.Goals as goal

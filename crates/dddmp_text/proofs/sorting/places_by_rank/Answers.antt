@@ -1,8 +1,8 @@
-use Rattle.std.proofs.Common.{◌∙◌, ◌≡◌, ap, sym, subst, arith, List, ℕ, length, take, map}
+use Rattle.std.proofs.Common.{◌∙◌, ◌≡◌, ap, sym, subst, arith, List, ℕ, map}
 use Rattle.std.specs.List.Sorted.{IsPermutation}
 use Rattle.std.proofs.lemmas.List.{take_all}
 use Rattle.dddmp_text.specs.Ranks.{AreByRank}
-use Rattle.dddmp_text.proofs.ByRank.{Entry, by-rank, pairs}
+use Rattle.dddmp_text.proofs.ByRank.{Entry, by-rank}
 use Rattle.dddmp_text.proofs.sorting.places_by_rank.Goals as goal
 
 pub returns-clause-ranks : goal.returns-clause-ranks

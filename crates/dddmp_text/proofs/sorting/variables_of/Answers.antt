@@ -1,4 +1,4 @@
-use Rattle.std.proofs.Common.{◌∙◌, ap, arith, List, ℕ, map, take}
+use Rattle.std.proofs.Common.{◌∙◌, ap, arith, List, ℕ, map}
 use Rattle.std.specs.Prelude.{slice_index}
 use Rattle.std.proofs.lemmas.List.{take_all}
 use Rattle.dddmp_text.proofs.ByRank.{variables-by}
