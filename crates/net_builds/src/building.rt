@@ -113,8 +113,8 @@ fn summary_handed<R: Wait, H: Host>(
 /// Builds a network, and hands its outputs over by a cell of the board: the report of its outputs, with their values at each pattern,
 /// under the order of the variables that the session noted last. Input i takes bit i of a pattern; inputs past its end are 0, and
 /// further bits have no effect. At first the session has one variable for each input, and no live row, and it has none at the end,
-/// also where it was refused; the cell keeps what was posted. Calls of other sessions may come between; where a fetch does not find its
-/// post for them, it waits for ever. An error is want of memory, or a call that was refused for a full node table.
+/// also where it was refused; the cell keeps what was posted. Calls of other sessions may come between; where a fetch does not find
+/// its post for them, it waits for ever. An error is want of memory, or a call that was refused for a full node table.
 pub fn build_report<R: Wait, H: Host>(
     rt: &R,
     alloc: Global,

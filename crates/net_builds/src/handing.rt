@@ -104,8 +104,9 @@ fn hand_all<R: Wait, H: Host>(
     Ok(())
 }
 
-/// Hands over names one after another by a cell of the board: each is posted and fetched, the fetch above the post and below the next post. Where the
-/// places are not so, or a fetch finds nothing posted, it waits for ever. Where memory is wanting, what was fetched is let go.
+/// Hands over names one after another by a cell of the board: each is posted and fetched, the fetch above the post and below the next
+/// post. Where the places are not so, or a fetch finds nothing posted, it waits for ever. Where memory is wanting, what was fetched is
+/// let go.
 pub fn hand_over<R: Wait, H: Host>(
     rt: &R,
     alloc: Global,

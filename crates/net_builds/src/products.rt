@@ -73,8 +73,8 @@ fn with_factor<H: Host>(
     }
 }
 
-/// The product with a literal of this row in front. The product is let go, also where that is refused; where the literal asks nothing it
-/// stays as it is.
+/// The product with a literal of this row in front. The product is let go, also where that is refused; where the literal asks nothing
+/// it stays as it is.
 fn with_literal<H: Host>(
     host: &H,
     session: &mut H::Session,
@@ -182,8 +182,8 @@ fn sum<H: Host>(
 }
 
 /// The function of a cover, under a new name: the disjunction of its rows from the first on, each the product of its literals from
-/// the last on, and the complement of that where the rows tell where the cover is 0. What is made on the way is let go, also where a call
-/// is refused.
+/// the last on, and the complement of that where the rows tell where the cover is 0. What is made on the way is let go, also where a
+/// call is refused.
 pub fn cover<H: Host>(
     host: &H,
     session: &mut H::Session,

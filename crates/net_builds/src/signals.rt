@@ -134,7 +134,8 @@ fn build_all<H: Host>(
 }
 
 /// Builds the functions of the outputs, in the outputs' order. Only gates that some output needs are built, in the gates' order up to
-/// each output's own signal, and a signal's row is let go behind the last gate that reads it. Where that is refused, all rows are let go.
+/// each output's own signal, and a signal's row is let go behind the last gate that reads it. Where that is refused, all rows are let
+/// go.
 pub fn build_outputs<H: Host>(
     alloc: Global,
     host: &H,

@@ -1,24 +1,21 @@
 -- One session that built a network, in the history that the closing of its manager tells.
-use Rattle.std.proofs.Common.{◌≡◌, ◌⊎◌, Bool, Option, option_map, ℕ, zero, suc, ◌+◌, ◌*◌, Result, Ok, Err, IfErr, inr, List, [], ◌∷◌, ◌++◌, length, map, take, drop, All, Contains, refl, ap, sym, ◌∙◌, subst, arith}
+use Rattle.std.proofs.Common.{◌≡◌, ◌⊎◌, inl, inr, Bool, option_map, ℕ, zero, suc, ◌+◌, ◌*◌, List, [], ◌∷◌, ◌++◌, length, map, take, drop, get_or, All, refl, ap, sym, ◌∙◌, subst, arith}
 use Rattle.std.proofs.Math.Nat.{zero-add}
 use mathlib.Core.Option.{some}
 use lib.ListN.{get_elem?}
 use Rattle.std.proofs.Math.Seq.{take-append_seam}
-use Rattle.std.proofs.lemmas.List.Elements.{All-cons, All-head, All-nil}
+use Rattle.std.proofs.lemmas.List.Elements.{All-cons, All-head, All-nil, All-weaker}
 use Rattle.std.specs.Prelude.{slice_set}
 use Rattle.blif_net.specs.declared.net.Net.{Net}
 use Rattle.blif_net.specs.Networks.{IsBlifText}
 use Rattle.net_reports.specs.GenTexts.{gen_text}
 use Rattle.function_laws.specs.declared.history.Entry.{Entry}
-use Rattle.function_laws.specs.declared.history.Function.{Function}
-use Rattle.function_laws.specs.declared.history.Name.{Name}
-use Rattle.function_laws.specs.EntryOrders.{opening_orders, orders_from}
-use Rattle.function_laws.specs.Histories.{table_after}
 use Rattle.function_laws.specs.SessionEntries.{Each, entries_of}
 use Rattle.function_laws.specs.Sizes.{Orders}
-use Rattle.function_laws.specs.Tables.{Sizes, opening}
+use Rattle.function_laws.specs.Tables.{Sizes}
 use Rattle.function_laws.specs.Widening.{at_sizes}
 use Rattle.seat_guard.specs.declared.view.Noted.{Noted}
+use Rattle.seat_guard.specs.declared.view.Row.{Row}
 use Rattle.seat_guard.specs.Notes.{IsNotedIn}
 use Rattle.dd_session.specs.declared.answers.Full.{Full}
 use Rattle.dd_session.specs.Sessions.{variables_in}
@@ -28,26 +25,26 @@ use Rattle.net_builds.specs.declared.host.HostRefusal.{HostRefusal}
 use Rattle.net_builds.specs.declared.host.HostRefusal.TheVariants as stops
 use Rattle.net_builds.specs.Builds.{AllGain, AreUnsifted, Builds, Reports, SumsUp, UnsiftedReportsAreTrue, UnsiftedSummariesAreTrue}
 use Rattle.net_builds.specs.Builds as builds
-use Rattle.net_builds.specs.Standings.{IsCaused, Note, Standing}
+use Rattle.net_builds.specs.Outputs.{IsFullTold, IsRefused}
+use Rattle.net_builds.specs.Standings.{KeepsOrders, Standing}
 use Rattle.net_reports.specs.Reports.{IsReport, IsSummary, net_subject, output_functions, output_names}
 use Rattle.net_jobs.specs.Ends.{rising}
 use Rattle.net_jobs.specs.declared.networks.TheConstants.{OUTPUTS_CELL}
-use Rattle.net_jobs.specs.Hosts.{IsRefusedBy, standing_of}
+use Rattle.net_jobs.specs.Hosts.{IsUnsifted, TellsFullOf, note_of, standing_of}
 use Rattle.net_jobs.proofs.HostLaws.{none_gained}
-use Rattle.net_jobs.specs.Networks.{IsRefusedIn}
+use Rattle.net_jobs.specs.Networks.{IsFilledBy, IsFreshOf, IsRefusedIn}
 
--- what a note of the orders tells of the variables
-abbrev note_of : Noted → Note
-note_of noted = record { place = noted.place; order = noted.variable_order }
+-- what a session noted is right of the history
+noted_right : (sizes : Sizes) (log : List Entry) (session : ℕ) (note : Noted) → IsNotedIn sizes log session note → builds.IsNoted sizes log session (note_of note)
+noted_right sizes log session note is = record {
+  order_is = ap (λ (o : Orders). o.variables) is.orders_are;
+  rows = λ name. is.agrees.rows_are name ∙ ap (λ (z : Sizes). option_map (at_sizes z) (stands_for note.rows name)) is.agrees.sizes_are;
+}
 
--- a note is right of the history
-abbrev IsRight : Sizes → List Entry → Note → Type 0
-IsRight sizes log note = (orders_from (opening_orders sizes) (take note.place log)).variables ≡ note.order
-
-all_noted : (sizes : Sizes) (log : List Entry) (session : ℕ) (noted : List Noted) → Each (IsNotedIn sizes log session) noted → All (IsRight sizes log) (map note_of noted)
-all_noted sizes log session [] each = All-nil (IsRight sizes log)
+all_noted : (sizes : Sizes) (log : List Entry) (session : ℕ) (noted : List Noted) → Each (IsNotedIn sizes log session) noted → All (builds.IsNoted sizes log session) (map note_of noted)
+all_noted sizes log session [] each = All-nil (builds.IsNoted sizes log session)
 all_noted sizes log session (note ∷ noted) each =
-    All-cons (IsRight sizes log) (note_of note) (map note_of noted) (ap (λ (o : Orders). o.variables) each.0.orders_are) (all_noted sizes log session noted each.1)
+    All-cons (builds.IsNoted sizes log session) (note_of note) (map note_of noted) (noted_right sizes log session note each.0) (all_noted sizes log session noted each.1)
 
 -- of one session
 pub history_of : (m : Managed) (s : Seen) (n : ℕ) (h : IsHistoryOf m (s ∷ []) n) → builds.IsLegalHistoryOf (sizes_for m.vars m.elements) h.log (standing_of s ∷ [])
@@ -55,9 +52,8 @@ history_of m s n h = record {
   legal = h.legal;
   carried = h.carried;
   each = one (λ (t : Standing). entries_of t.number h.log ≡ t.entries) (h.each 0 s refl);
-  rows = one (λ (t : Standing). (name : Name) → (table_after (opening (sizes_for m.vars m.elements)) h.log).live t.number name ≡ t.stands name)
-      (λ name. h.rows 0 s refl name ∙ ap (λ (z : Sizes). option_map (at_sizes z) (stands_for s.rows name)) (h.fixed ∙ sym (h.known 0 s refl)));
-  noted = one (λ (t : Standing). All (IsRight (sizes_for m.vars m.elements) h.log) t.notes) (all_noted (sizes_for m.vars m.elements) h.log s.number s.noted (h.noted 0 s refl));
+  noted = one (λ (t : Standing). All (builds.IsNoted (sizes_for m.vars m.elements) h.log t.number) t.notes) (all_noted (sizes_for m.vars m.elements) h.log s.number s.noted (h.noted 0 s refl));
+  placed = one (λ (t : Standing). All (builds.IsNoted (sizes_for m.vars m.elements) h.log t.number) t.placed) (all_noted (sizes_for m.vars m.elements) h.log s.number s.placed (h.placed 0 s refl));
   no_other = λ p apart. h.no_other p (λ k t at is. only k t at p is (All-head (λ (t : Standing). t.number ≡ p → ⊥) (standing_of s) [] apart));
 }
   where
@@ -117,21 +113,49 @@ module _ (m : Managed) (Tells : List (ℕ → Bool) → List ℕ → List ℕ �
   none_before : All (λ (s : Standing). s.entries ≡ []) (map standing_of (newcomer m 0 ∷ []))
   none_before = All-cons (λ (t : Standing). t.entries ≡ []) (standing_of (newcomer m 0)) [] refl (All-nil (λ (t : Standing). t.entries ≡ []))
 
--- a call of one of the sessions was refused so
-pub refused_in : (sessions : List Seen) (s : Seen) → Contains sessions s → (stop : HostRefusal Full) → IsCaused (IsRefusedBy s) stop → IsRefusedIn sessions stop
-refused_in sessions s has stops.Memory caused = tt
-refused_in sessions s has (stops.Full full) caused = (s, has, caused)
+-- the one session of a manager that builds, as it was lent and as it is left
+none_rows : (rows : List Row) → length rows ≡ 0 → rows ≡ []
+none_rows [] none = refl
+none_rows (row ∷ rows) none = absurd (omega (arith, none))
 
-first_there : (sessions : List Seen) (s : Seen) → length sessions ≡ 1 → Contains (slice_set sessions 0 s) s
-first_there [] s one = absurd (let n = one in omega (arith, n))
-first_there (a ∷ rest) s one = (0, omega arith, refl)
+pub lent : (m : Managed) (n since : ℕ) (sessions : List Seen) (d e : Seen) → length sessions ≡ 1 → All (IsFreshOf m) sessions → since ≡ length (get_or sessions 0 e).entries → m.vars ≡ n
+    → IsUnsifted m since (get_or sessions 0 d) × (variables_in (get_or sessions 0 d) ≡ n) × (length (get_or sessions 0 d).rows ≡ 0)
+lent m n since [] d e one fresh calls vars = absurd (let k = one in omega (arith, k))
+lent m n since (a ∷ rest) d e one fresh calls vars =
+    let is : IsFreshOf m a = All-head (IsFreshOf m) a rest fresh in (
+      record { own = is.0; none_added = is.2; keeps = subst (λ k. All KeepsOrders (drop k a.entries)) (sym calls) (none_gained a.entries) },
+      known_vars m a n is.0 is.2 vars,
+      ap length is.1,
+    )
 
--- and so, where the first session of one was stopped
-pub refused_at_first : {X : Type 0} (bits : ℕ) (net : Net) → IsBlifText (gen_text bits) net → length net.inputs ≡ 2 * bits → (sessions : List Seen) (s : Seen) → length sessions ≡ 1 → (result : Result X (HostRefusal Full))
-    → IfErr result (IsCaused (IsRefusedBy s))
-    → IfErr result (λ stop. (stop ≡ stops.Memory) ⊎ ((made : Net) × IsBlifText (gen_text bits) made × (length made.inputs ≡ 2 * bits) × IsRefusedIn (slice_set sessions 0 s) stop))
-refused_at_first bits net text inputs sessions s one (Ok x) caused = tt
-refused_at_first bits net text inputs sessions s one (Err stop) caused = inr (net, text, inputs, refused_in (slice_set sessions 0 s) s (first_there sessions s one) stop caused)
+pub fresh_set : (m : Managed) (since : ℕ) (sessions : List Seen) (s : Seen) → length sessions ≡ 1 → IsUnsifted m since s → length s.rows ≡ 0 → All (IsFreshOf m) (slice_set sessions 0 s)
+fresh_set m since [] s one own none = absurd (let n = one in omega (arith, n))
+fresh_set m since (a ∷ []) s one own none = All-cons (IsFreshOf m) s [] (own.own, none_rows s.rows none, own.none_added) (All-nil (IsFreshOf m))
+fresh_set m since (a ∷ b ∷ rest) s one own none = absurd (let n = one in omega (arith, n))
+
+pub fresh_own : (m : Managed) (sessions : List Seen) → All (IsFreshOf m) sessions → All (λ (s : Seen). s.manager ≡ m) sessions
+fresh_own m sessions fresh = All-weaker (IsFreshOf m) (λ (s : Seen). s.manager ≡ m) (λ s is. is.0) sessions fresh
+
+pub refused_one : (cell : ℕ) (m : Managed) (sessions : List Seen) (s d : Seen) (refusal : HostRefusal Full) → length sessions ≡ 1
+    → IsRefused (TellsFullOf m) cell (standing_of (get_or sessions 0 d)) (standing_of s) refusal → IsRefusedIn cell m sessions (slice_set sessions 0 s) refusal
+refused_one cell m [] s d refusal one refused = absurd (let n = one in omega (arith, n))
+refused_one cell m (a ∷ []) s d refusal one refused = record { before = a; after = s; old_is = refl; new_is = refl; refused = refused }
+refused_one cell m (a ∷ b ∷ rest) s d refusal one refused = absurd (let n = one in omega (arith, n))
+
+-- a refusal of a part tells that all slots of the manager are in use
+pub filled : (cell : ℕ) (m : Managed) (old new : List Seen) (OfAll : ℕ → Type 0) (refusal : HostRefusal Full) → OfAll m.limit → IsRefusedIn cell m old new refusal → IsFilledBy OfAll refusal
+filled cell m old new OfAll refusal all is = by refusal is.refused.full
+  where
+    by : (stop : HostRefusal Full) → IsFullTold (TellsFullOf m) (standing_of is.before) (standing_of is.after) is.refused.gained stop → IsFilledBy OfAll stop
+    by stops.Memory told = tt
+    by (stops.Full full) (quiet, noted, (e, among, told)) = (m.limit, all, told.in_use, told.limit)
+
+-- and so of one that makes its network
+pub filled_made : (bits cell : ℕ) (m : Managed) (old new : List Seen) (OfAll : ℕ → Type 0) (refusal : HostRefusal Full)
+    → ((net : Net) → IsBlifText (gen_text bits) net → length net.inputs ≡ 2 * bits → OfAll m.limit)
+    → ((refusal ≡ stops.Memory) × (new ≡ old)) ⊎ ((net : Net) × IsBlifText (gen_text bits) net × (length net.inputs ≡ 2 * bits) × IsRefusedIn cell m old new refusal) → IsFilledBy OfAll refusal
+filled_made bits cell m old new OfAll refusal all (inl (memory, same)) = subst (IsFilledBy OfAll) (sym memory) tt
+filled_made bits cell m old new OfAll refusal all (inr (net, text, inputs, is)) = filled cell m old new OfAll refusal (all net text inputs) is
 
 -- sessions that gained nothing left the orders as they are
 pub unsifted_still : (sessions : List Standing) → AreUnsifted sessions sessions

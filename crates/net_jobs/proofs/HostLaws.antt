@@ -1,10 +1,9 @@
 -- What the calls of a session leave of it, as one that builds functions is seen.
-use Rattle.std.proofs.Common.{◌≡◌, ℕ, zero, suc, ◌<◌, ◌^◌, Bool, true, false, List, [], ◌∷◌, ◌++◌, ◌+◌, ℤ, pos, cond, ◌||◌, Option, Some, None, Result, Ok, Err, IfOk, IfErr, MatchResult, length, take_all, eq-eqb, refl, ap, ap₂, sym, subst, ◌∙◌, arith, All}
-use Rattle.std.specs.Prelude.{Contains}
+use Rattle.std.proofs.Common.{◌≡◌, ℕ, zero, suc, ◌<◌, ◌^◌, Bool, true, false, List, [], ◌∷◌, ◌++◌, ◌+◌, ℤ, pos, cond, ◌||◌, Option, option_map, Some, None, Result, Ok, Err, IfOk, IfErr, MatchResult, length, map, take_all, eq-eqb, refl, ap, ap₂, sym, subst, ◌∙◌, arith, All}
 use Rattle.std.proofs.Math.ListN.{drop}
 use Rattle.std.proofs.Math.Seq.{drop-append_seam}
 use Rattle.std.proofs.lemmas.List.{append-nil, map-append}
-use Rattle.std.proofs.lemmas.List.Elements.{All-append, All-cons, All-nil, Contains-append_right}
+use Rattle.std.proofs.lemmas.List.Elements.{All-append, All-cons, All-nil}
 use Rattle.diagram_dumps.specs.declared.listings.Listing.{Listing}
 use Rattle.edge_bits.specs.declared.limits.TheConstants.{MOST_ROWS}
 use Rattle.edge_bits.specs.declared.edges.Kind.{Kind}
@@ -20,6 +19,10 @@ use Rattle.function_laws.specs.declared.history.Function.{Function}
 use Rattle.function_laws.specs.declared.history.Function.TheVariants.{Bdd, Add, Zdd}
 use Rattle.function_laws.specs.declared.history.Name.{Name}
 use Rattle.function_laws.specs.declared.history.Reply.{Reply}
+use Rattle.function_laws.specs.Tables.{Sizes}
+use Rattle.function_laws.specs.Widening.{at_sizes}
+use Rattle.seat_guard.specs.declared.view.Row.{Row}
+use Rattle.seat_guard.specs.Views.{stands_for}
 use Rattle.function_laws.specs.declared.history.Reply.TheVariants as replies
 use Rattle.function_laws.specs.Handovers.{posts_to}
 use Rattle.function_laws.specs.Functions.{and_of, not_of, or_of}
@@ -36,10 +39,12 @@ use Rattle.dd_session.specs.declared.answers.Refusal.{Refusal}
 use Rattle.dd_session.specs.declared.answers.Refusal.TheVariants as refusals
 use Rattle.dd_session.specs.Listings.{IsListed}
 use Rattle.dd_session.specs.Sessions.{Called, Denies, HasRoom, IsAsBefore, IsLive as IsRow, IsLiveAs, Managed, Seen, kind_of, stands_now, variables_in}
-use Rattle.dd_session.proofs.SessionLaws.{dropped_stays, evaluated_as, live_now, made_as, now_live, posted_stays, table_of, valued_stays}
+use Rattle.dd_session.proofs.SessionLaws.{dropped_stays, evaluated_as, full_stays, live_now, made_as, posted_stays, table_of, valued_stays}
 use Rattle.net_builds.specs.declared.host.HostRefusal.{HostRefusal}
-use Rattle.net_builds.specs.Standings.{Asks, Fetches, IsCaused, IsHeld, IsLive, IsQuiet, KeepsOrders, LetsGo, Lists, Makes, Posts, Works, values_of}
-use Rattle.net_jobs.specs.Hosts.{IsRefusedBy, IsUnsifted, named_by, standing_of}
+use Rattle.net_builds.specs.Standings.{Asks, Fetches, IsHeld, IsLive, IsQuiet, KeepsOrders, LetsGo, Lists, Makes, Note, Posts, Standing, Works, values_of}
+use Rattle.net_builds.specs.Asked.{ComesBack}
+use Rattle.net_builds.proofs.StandingLemmas.{gains_none}
+use Rattle.net_jobs.specs.Hosts.{IsUnsifted, TellsFullOf, named_by, note_of, standing_of}
 use Rattle.net_jobs.proofs.CallLaws.{given}
 use Rattle.net_jobs.proofs.CoverLemmas.{name-apart}
 use Rattle.net_jobs.proofs.OutcomeKinds.{IsOfKind, fetch-kind, is_plain, kind_or}
@@ -65,6 +70,13 @@ has_room s rows calls = (rows, omega (arith, calls))
 variables_stay : (old new : Seen) (call : Call) (reply : Reply) (place : ℕ) → Called old new call reply place → variables_in new ≡ variables_in old
 variables_stay old new call reply place called = ap₂ (λ (n : ℕ) (m : Managed). n + m.vars) called.more_are.0 called.manager_is
 
+-- a call has what there was at its place
+placed_more : (old new : Seen) (call : Call) (reply : Reply) (place : ℕ) (called : Called old new call reply place) → (standing_of new).placed ≡ (standing_of old).placed ++ note_of called.note ∷ []
+placed_more old new call reply place called = ap (map note_of) called.placed_are ∙ map-append note_of old.placed (called.note ∷ [])
+
+stood_there : (old new : Seen) (call : Call) (reply : Reply) (place : ℕ) (called : Called old new call reply place) (name : Name) → (note_of called.note).stands name ≡ stands_now old name
+stood_there old new call reply place called name = ap₂ (λ (z : Sizes) (rows : List Row). option_map (at_sizes z) (stands_for rows name)) called.sizes_are called.rows_noted
+
 notes_kept : (old new : Seen) → new.noted ≡ old.noted → (standing_of new).notes ≡ (standing_of old).notes
 notes_kept old new is = λ i. (standing_of (record old { noted = is i })).notes
 
@@ -83,7 +95,18 @@ pub still_unsifted : (m : Managed) (since : ℕ) (old new : Seen) (call : Call) 
     → KeepsOrders (entry place old.number call reply) → IsUnsifted m since old → IsUnsifted m since new
 still_unsifted m since old new call reply place called keeps own = record {
   own = called.manager_is ∙ own.own;
+  none_added = called.more_are.0 ∙ own.none_added;
   keeps = subst (λ (es : List Entry). All KeepsOrders (drop since es)) (sym called.entries_are) (keeps_more since old.entries (entry place old.number call reply) keeps own.keeps);
+}
+
+-- the entry of a call that was refused, as all slots were in use
+pub told_full : (m : Managed) (old : Seen) (call : Call) (full : Full) → old.manager ≡ m → full.limit ≡ old.manager.limit → full.in_use ≡ old.manager.limit
+    → TellsFullOf m full (entry full.place old.number call (replies.Full full.in_use full.need))
+told_full m old call full own limit in_use = record {
+  place_is = refl;
+  reply_is = refl;
+  in_use = in_use ∙ ap (λ (x : Managed). x.limit) own;
+  limit = limit ∙ ap (λ (x : Managed). x.limit) own;
 }
 
 -- behind all of them there is none
@@ -102,6 +125,8 @@ module _ (old new : Seen) (call : Call) where
       entries_are = called.entries_are;
       each = All-cons IsQuiet (entry place old.number call reply) [] quiet (All-nil IsQuiet);
       more = omega (arith, called.adds_are);
+      behind = note_of called.note ∷ [];
+      placed_are = placed_more old new call reply place called;
     }
 
   -- a call that made a BDD
@@ -133,27 +158,52 @@ module _ (old new : Seen) (call : Call) where
         by (Ok placed) called = holds placed.value placed.place called
         by (Err refusal) denies = tt
 
-    -- where a refusal of the call tells that all slots were in use
-    pub named_caused : ((limit in_use need : ℕ) → TellsFull limit call in_use need → in_use ≡ limit) → IfErr result (IsCaused (IsRefusedBy new))
-    named_caused all = subst (λ r. IfErr r (IsCaused (IsRefusedBy new))) (sym is) (by told tells)
-      where
-        by : (told : Result (Placed Name) Refusal) → Tells told → IfErr (named_by told) (IsCaused (IsRefusedBy new))
-        by (Ok placed) called = tt
-        by (Err refusals.Memory) denies = tt
-        by (Err (refusals.Full full)) (called, limit, tells) = record {
-          call = call;
-          refused = subst (λ es. Contains es (entry full.place new.number call (replies.Full full.in_use full.need))) (sym called.entries_are)
-              (Contains-append_right old.entries (entry full.place old.number call (replies.Full full.in_use full.need) ∷ []) (entry full.place new.number call (replies.Full full.in_use full.need))
-              (0, omega arith, ap (λ n. entry full.place n call (replies.Full full.in_use full.need)) (sym called.number_is)));
-          in_use = all old.manager.limit full.in_use full.need tells ∙ ap (λ (m : Managed). m.limit) (sym called.manager_is);
-          limit = limit ∙ ap (λ (m : Managed). m.limit) (sym called.manager_is);
-        }
+    -- what it leaves, where a refusal tells that all slots were in use
+    module _ {M : Type 0} (has : M → Seen → Type 0) (tells_of : M → Full → Entry → Type 0) (manager : M) (own : has manager new) (plain : is_plain call ≡ true) (posts : (cell : ℕ) → posts_to cell call ≡ false)
+        (caused : (full : Full) → full.limit ≡ old.manager.limit → TellsFull old.manager.limit call full.in_use full.need → tells_of manager full (entry full.place old.number call (replies.Full full.in_use full.need))) where
+      abbrev Back : Result Name (HostRefusal Full) → Type 0
+      Back r = ComesBack has standing_of tells_of manager old new r
+
+      pub named_back : Back result
+      unfolding works
+      named_back = subst Back (sym is) (by told tells)
+        where
+          by : (told : Result (Placed Name) Refusal) → Tells told → Back (named_by told)
+          by (Ok placed) called =
+              let gave = given old new call (replies.Made placed.value) placed.place called placed.value plain refl in
+              record {
+                own = own;
+                works = works (replies.Made placed.value) placed.place called (record { plain = refl; posts = posts });
+                kept = λ other below. gave.others other (name-apart other placed.value (λ same. omega (arith, same, below, gave.generation)));
+                few = called.few;
+                rows = tt;
+                caused = tt;
+              }
+          by (Err refusals.Memory) denies =
+              let same : standing_of new ≡ standing_of old = ap standing_of denies.0 in
+              record {
+                own = own;
+                works = subst (Works (standing_of old)) (sym same) (gains_none IsQuiet (standing_of old));
+                kept = λ other below. ap (λ (t : Standing). t.stands other) same;
+                few = (let rows = ap (λ (t : Standing). t.rows) same in omega (arith, rows));
+                rows = (let rows = ap (λ (t : Standing). t.rows) same in omega (arith, rows));
+                caused = tt;
+              }
+          by (Err (refusals.Full full)) (called, limit, tells) = record {
+            own = own;
+            works = works (replies.Full full.in_use full.need) full.place called (record { plain = refl; posts = posts });
+            kept = λ other below. full_stays old new call full.in_use full.need full.place called other;
+            few = omega (arith, called.few);
+            rows = omega (arith, called.few);
+            caused = (entry full.place old.number call (replies.Full full.in_use full.need), (0, omega arith, refl), caused full limit tells);
+          }
 
   -- the session is still one of its manager, and left the orders as they are
   pub named_own : (m : Managed) (since : ℕ) (told : Result (Placed Name) Refusal) → Tells told → IsUnsifted m since old → IsUnsifted m since new
   named_own m since (Ok placed) called own = still_unsifted m since old new call (replies.Made placed.value) placed.place called (λ orders. refl) own
   named_own m since (Err refusals.Memory) denies own = record {
     own = ap (λ (s : Seen). s.manager) denies.0 ∙ own.own;
+    none_added = ap (λ (s : Seen). s.more_variables) denies.0 ∙ own.none_added;
     keeps = subst (λ (s : Seen). All KeepsOrders (drop since s.entries)) (sym denies.0) own.keeps;
   }
   named_own m since (Err (refusals.Full full)) denies own =
@@ -228,6 +278,10 @@ module _ (old new : Seen) where
     adds_are = omega (arith, called.adds_are);
     rows = omega (arith, called.few);
     entries_are = called.entries_are;
+    note = note_of called.note;
+    place_is = called.place_is;
+    stood = stood_there old new (calls.Post cell a) replies.Done place called;
+    placed_are = placed_more old new (calls.Post cell a) replies.Done place called;
     kept = posted_stays old new cell a place called;
   }
 
@@ -247,6 +301,8 @@ module _ (old new : Seen) where
         notes_are = notes_kept old new called.noted_are;
         more = omega (arith, called.adds_are);
         entries_are = called.entries_are;
+        behind = note_of called.note ∷ [];
+        placed_are = placed_more old new (calls.Fetch cell other) (replies.Fetched to posted) place called;
         newer = omega (arith, gave.generation);
         held = (bdd.0, gave.stands ∙ ap Some bdd.1, omega (arith, gave.generation, called.adds_are));
         kept = λ name below. gave.others name (name-apart name to (λ same. omega (arith, same, below, gave.generation)));
@@ -255,23 +311,28 @@ module _ (old new : Seen) where
 
   -- a fetch behind a reservation of rows
   pub fetched_unsifted : (m : Managed) (since cell place : ℕ) (other to : Name) (posted : Bool) → Fetches cell (standing_of old) (standing_of new) other to posted place → new.manager ≡ old.manager
-      → IsUnsifted m since old → IsUnsifted m since new
-  fetched_unsifted m since cell place other to posted fetched same own = record {
+      → new.more_variables ≡ old.more_variables → IsUnsifted m since old → IsUnsifted m since new
+  fetched_unsifted m since cell place other to posted fetched same more own = record {
     own = same ∙ own.own;
+    none_added = more ∙ own.none_added;
     keeps = subst (λ (es : List Entry). All KeepsOrders (drop since es)) (sym fetched.entries_are)
         (keeps_more since old.entries (entry place old.number (calls.Fetch cell other) (replies.Fetched to posted)) (λ orders. refl) own.keeps);
   }
 
   pub lists : (names : List Name) (listing : Listing) → IsListed old new names listing → Lists (standing_of old) (standing_of new) names listing
-  lists names listing is = record {
-    place = is.note.place;
-    new_is = ap standing_of is.new_is ∙ ap (λ notes. record (standing_of old) { notes = notes })
-        (map-append _ old.noted (is.note ∷ []) ∙ ap (λ order. (standing_of old).notes ++ record { place = is.note.place; order = order } ∷ []) (sym is.order_is));
-    functions = is.lists.functions;
-    stand = is.lists.stand;
-    wide = is.lists.wide;
-    is_listing = is.lists.is_listing;
-  }
+  lists names listing is =
+      let noted : note_of is.note ≡ record { place = is.note.place; order = listing.order; stands = stands_now old } =
+      λ i. record { place = is.note.place; order = sym is.order_is i; stands = λ name. option_map (at_sizes (is.sizes_are i)) (stands_for (is.rows_noted i) name) } in
+      record {
+        place = is.note.place;
+        new_is = ap standing_of is.new_is ∙ ap (λ (notes : List Note). record (standing_of old) { notes = notes })
+            (map-append note_of old.noted (is.note ∷ []) ∙ ap (λ (note : Note). (standing_of old).notes ++ note ∷ []) noted);
+        later = is.later;
+        functions = is.lists.functions;
+        stand = is.lists.stand;
+        wide = is.lists.wide;
+        is_listing = is.lists.is_listing;
+      }
 
   module _ (names : List Name) (result : Result Listing Memory) (told : MatchResult result (IsListed old new names) (λ _. IsAsBefore old new)) where
     pub listed : IfOk result (Lists (standing_of old) (standing_of new) names)
@@ -281,15 +342,25 @@ module _ (old new : Seen) where
         by (Ok listing) is = lists names listing is
         by (Err memory) is = tt
 
+    -- want of memory leaves what is seen
+    pub listed_same : IfErr result (λ _. standing_of new ≡ standing_of old)
+    listed_same = by result told
+      where
+        by : (result : Result Listing Memory) → MatchResult result (IsListed old new names) (λ _. IsAsBefore old new) → IfErr result (λ _. standing_of new ≡ standing_of old)
+        by (Ok listing) is = tt
+        by (Err memory) is = ap standing_of is.0
+
     pub listed_own : (m : Managed) (since : ℕ) → IsUnsifted m since old → IsUnsifted m since new
     listed_own m since own = by result told
       where
         by : (result : Result Listing Memory) → MatchResult result (IsListed old new names) (λ _. IsAsBefore old new) → IsUnsifted m since new
         by (Ok listing) is = record {
           own = ap (λ (s : Seen). s.manager) is.new_is ∙ own.own;
+          none_added = ap (λ (s : Seen). s.more_variables) is.new_is ∙ own.none_added;
           keeps = subst (λ (s : Seen). All KeepsOrders (drop since s.entries)) (sym is.new_is) own.keeps;
         }
         by (Err memory) is = record {
           own = ap (λ (s : Seen). s.manager) is.0 ∙ own.own;
+          none_added = ap (λ (s : Seen). s.more_variables) is.0 ∙ own.none_added;
           keeps = subst (λ (s : Seen). All KeepsOrders (drop since s.entries)) (sym is.0) own.keeps;
         }

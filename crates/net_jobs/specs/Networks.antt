@@ -1,10 +1,11 @@
 -- What comes of networks that are built.
-use Rattle.std.specs.Prelude.{◌≡◌, ℕ, ◌+◌, List, [], ◌∷◌, Contains}
+use Rattle.std.specs.Prelude.{◌≡◌, ℕ, ◌+◌, List, [], ◌∷◌}
 use Rattle.dd_session.specs.declared.answers.Full.{Full}
 use Rattle.dd_session.specs.Managing.{Managed, Seen, newcomer}
 use Rattle.net_builds.specs.declared.host.HostRefusal.{HostRefusal}
 use Rattle.net_builds.specs.declared.host.HostRefusal.TheVariants as stops
-use Rattle.net_jobs.specs.Hosts.{IsRefusedBy}
+use Rattle.net_builds.specs.Outputs.{IsRefused}
+use Rattle.net_jobs.specs.Hosts.{TellsFullOf, standing_of}
 
 -- a session of the manager that has no live row, and knows of no variable that was added
 abbrev pub IsFreshOf : Managed → Seen → Type 0
@@ -17,10 +18,13 @@ pub record IsOpenedFor (inputs limit : ℕ) (m : Managed) (sessions : List Seen)
   pub one : m.sessions ≡ 1
   pub sessions_are : sessions ≡ newcomer m 0 ∷ []
 
--- where it was not want of memory, a call of one of the sessions was refused so
-abbrev pub IsRefusedIn : List Seen → HostRefusal Full → Type 0
-IsRefusedIn sessions stops.Memory = Unit {0}
-IsRefusedIn sessions (stops.Full full) = (s : Seen) × Contains sessions s × IsRefusedBy s full
+-- A part was refused that builds by the one session of a manager: that one has no row, and where it was not want of memory, one of the calls that it made in the part was refused so.
+pub record IsRefusedIn (cell : ℕ) (m : Managed) (old new : List Seen) (refusal : HostRefusal Full) : Type 0 where
+  pub before : Seen
+  pub after : Seen
+  pub old_is : old ≡ before ∷ []
+  pub new_is : new ≡ after ∷ []
+  pub refused : IsRefused (TellsFullOf m) cell (standing_of before) (standing_of after) refusal
 
 -- where it was not want of memory, all of so many slots were in use
 abbrev pub IsFilledBy : (ℕ → Type 0) → HostRefusal Full → Type 0

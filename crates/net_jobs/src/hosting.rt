@@ -76,6 +76,7 @@ fn fetch_row<R: Wait>(
     requires spare { 1 ≤ session.old.spare }
     requires live { IsLive (standing_of session.old) other }
     ensures own { session.new.manager ≡ session.old.manager }
+    ensures none_added { session.new.more_variables ≡ session.old.more_variables }
     ensures fetches { Fetches cell (standing_of session.old) (standing_of session.new) other result.value.name result.value.posted result.place }
 {
     ready(rt, session);
@@ -90,7 +91,7 @@ fn fetch_row<R: Wait>(
 
 impl<'a, R: Wait, G: Gate> Host for SessionHost<'a, R, G> {
     ghost use Rattle.std.specs.Prelude.{◌≡◌};
-    ghost use Rattle.net_jobs.specs.Hosts.{IsRefusedBy, IsUnsifted, standing_of};
+    ghost use Rattle.net_jobs.specs.Hosts.{IsUnsifted, TellsFullOf, standing_of};
 
     type Session = Session;
 
@@ -100,7 +101,7 @@ impl<'a, R: Wait, G: Gate> Host for SessionHost<'a, R, G> {
 
     ghost has = { λ host s. IsUnsifted host.manager.now host.since s };
 
-    ghost refused = { λ s full. IsRefusedBy s full };
+    ghost tells = { λ host full e. TellsFullOf host.manager.now full e };
 
     fn pass(&self, output: u32) {
         self.gate.pass(self.worker, output);
@@ -164,15 +165,10 @@ impl<'a, R: Wait, G: Gate> Host for SessionHost<'a, R, G> {
         }
     }
 
-    fn fetch(
-        &self,
-        session: &mut Session,
-        cell: u32,
-        other: Name,
-    ) -> Result<Told<Taken>, HostRefusal<Full>> {
+    fn fetch(&self, session: &mut Session, cell: u32, other: Name) -> Result<Told<Taken>, Memory> {
         match session.reserve(1) {
             Ok(()) => Ok(fetch_row(self.rt, self.manager, session, cell, other)),
-            Err(Memory) => Err(HostRefusal::Memory),
+            Err(Memory) => Err(Memory),
         }
     }
 

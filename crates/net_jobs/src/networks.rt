@@ -32,7 +32,8 @@ pub const OUTPUTS_CELL: u32 = 0;
 pub type PartStop = HostRefusal<Full>;
 
 /// Builds a network by the one session of a manager, which has no live row and knows of no variable that was added: the report of its
-/// outputs, with their values at each pattern. The gate is passed as worker 0 before each output.
+/// outputs, with their values at each pattern. The gate is passed as worker 0 before each output. The session is left so, with no
+/// live row, also where it was refused; the cell of the outputs keeps what was posted last.
 pub fn build<R: Wait, G: Gate>(
     rt: &R,
     alloc: Global,
@@ -48,10 +49,10 @@ pub fn build<R: Wait, G: Gate>(
     requires vars { manager.now.vars ≡ length net.now.inputs }
     requires unsifted { options.now.sift ≡ false }
     requires unstored { options.now.store ≡ false }
-    ensures own { All (λ s. s.manager ≡ manager.now) sessions.new }
+    ensures fresh { All (IsFreshOf manager.now) sessions.new }
     ensures unsifted { AreUnsifted (map standing_of sessions.old) (map standing_of sessions.new) }
     ensures built { IfOk result (λ text. Builds (Reports net.now options.now.patterns) OUTPUTS_CELL (output_functions net.now) (map standing_of sessions.old) (map standing_of sessions.new) text.items) }
-    ensures full { IfErr result (IsRefusedIn sessions.new) }
+    ensures refused { IfErr result (IsRefusedIn OUTPUTS_CELL manager.now sessions.old sessions.new) }
 {
     let host = SessionHost {
         rt,
@@ -91,7 +92,8 @@ fn made<R: RandomSource>(rt: &R, alloc: Global, bits: u32) -> Result<Net, Memory
 }
 
 /// Builds the network that is made for so many bits by the one session of a manager, which has no live row, knows of no variable that
-/// was added, and has two variables for each bit: the summary of its outputs. The gate is passed as worker 0 before each output.
+/// was added, and has two variables for each bit: the summary of its outputs. The gate is passed as worker 0 before each output. What
+/// is left of the session and of the cell is as for a report.
 pub fn generate<R: Wait + RandomSource, G: Gate>(
     rt: &R,
     alloc: Global,
@@ -104,10 +106,10 @@ pub fn generate<R: Wait + RandomSource, G: Gate>(
     requires fresh { All (IsFreshOf manager.now) sessions.old }
     requires bits { bits ≤ MOST_BITS }
     requires vars { manager.now.vars ≡ 2 * bits }
-    ensures own { All (λ s. s.manager ≡ manager.now) sessions.new }
+    ensures fresh { All (IsFreshOf manager.now) sessions.new }
     ensures unsifted { AreUnsifted (map standing_of sessions.old) (map standing_of sessions.new) }
     ensures built { IfOk result (λ text. (net : NetOf) × IsBlifText (gen_text bits) net × (length net.inputs ≡ 2 * bits) × Builds (SumsUp net) OUTPUTS_CELL (output_functions net) (map standing_of sessions.old) (map standing_of sessions.new) text.items) }
-    ensures full { IfErr result (λ stop. (stop ≡ HostRefusal.Memory) ⊎ ((net : NetOf) × IsBlifText (gen_text bits) net × (length net.inputs ≡ 2 * bits) × IsRefusedIn sessions.new stop)) }
+    ensures refused { IfErr result (λ stop. ((stop ≡ HostRefusal.Memory) × (sessions.new ≡ sessions.old)) ⊎ ((net : NetOf) × IsBlifText (gen_text bits) net × (length net.inputs ≡ 2 * bits) × IsRefusedIn OUTPUTS_CELL manager.now sessions.old sessions.new stop)) }
 {
     let Ok(net) = made(rt, alloc, bits) else {
         return Err(PartStop::Memory);

@@ -1,10 +1,15 @@
-use Rattle.std.proofs.Common.{◌∙◌, ◌≡◌, [], ◌∷◌, List, map, subst, sym, length}
+use Rattle.std.proofs.Common.{◌∙◌, ◌≡◌, ◌+◌, arith, [], ◌∷◌, List, map, subst, sym, length}
+use Rattle.std.proofs.lemmas.Result.{err_from_is_err_and}
+use Rattle.blif_net.specs.declared.net.Net.{Net}
+use Rattle.blif_net.specs.Networks.{IsBlifText}
+use Rattle.edge_bits.specs.declared.limits.TheConstants.{USUAL_LIMIT}
+use Rattle.net_reports.specs.GenTexts.{gen_text}
 use Rattle.dd_session.specs.Managing.{AreAll, IsHistoryOf, Seen, newcomer}
 use Rattle.net_builds.specs.Builds.{AreUnsifted, Builds, SumsUp}
 use Rattle.net_reports.specs.Reports.{output_functions}
 use Rattle.net_jobs.specs.declared.networks.TheConstants.{OUTPUTS_CELL}
 use Rattle.net_jobs.specs.Hosts.{standing_of}
-use Rattle.net_jobs.proofs.BuiltHistories.{are_all, summed_up, written_back}
+use Rattle.net_jobs.proofs.BuiltHistories.{are_all, filled_made, fresh_own, summed_up, written_back}
 use Rattle.net_jobs.proofs.networks.summary_of.Goals as goal
 
 pub close-closed-requires : goal.close-closed-requires
@@ -16,8 +21,8 @@ close-closed-requires g c =
     let text = c.in_ok-text.text.items in
     let built : Builds (SumsUp net) OUTPUTS_CELL (output_functions net) (map standing_of (newcomer m 0 ∷ [])) (map standing_of new) text =
     subst (λ (l : List Seen). Builds (SumsUp net) OUTPUTS_CELL (output_functions net) (map standing_of l) (map standing_of new) text) (c.deref_mut.ensures.value ∙ c.in-Ok.ensures.sessions_are) told.3 in
-    subst (AreAll m) (sym (written_back m (SumsUp net) OUTPUTS_CELL (output_functions net) new text c.in_ok-text.ensures.own built c.in-Ok.sessions.items c.in-Ok.sessions.len c.in-Ok.ensures.sessions_are c.in-Ok.sessions.ok.0))
-    (are_all m (SumsUp net) OUTPUTS_CELL (output_functions net) new text c.in_ok-text.ensures.own built c.in-Ok.ensures.one)
+    subst (AreAll m) (sym (written_back m (SumsUp net) OUTPUTS_CELL (output_functions net) new text (fresh_own m new c.in_ok-text.ensures.fresh) built c.in-Ok.sessions.items c.in-Ok.sessions.len c.in-Ok.ensures.sessions_are c.in-Ok.sessions.ok.0))
+    (are_all m (SumsUp net) OUTPUTS_CELL (output_functions net) new text (fresh_own m new c.in_ok-text.ensures.fresh) built c.in-Ok.ensures.one)
 
 pub returns-clause-summary : goal.returns-clause-summary
 returns-clause-summary g c =
@@ -33,9 +38,18 @@ returns-clause-summary g c =
     let vars : m.vars ≡ length net.inputs = c.in-Ok.ensures.vars ∙ sym told.2 in (
       net,
       told.1,
-      summed_up m net new text c.close-closed.result.calls vars c.in_ok-text.ensures.own unsifted
+      summed_up m net new text c.close-closed.result.calls vars (fresh_own m new c.in_ok-text.ensures.fresh) unsifted
           (subst (λ (l : List Seen). IsHistoryOf m l c.close-closed.result.calls)
-          (written_back m (SumsUp net) OUTPUTS_CELL (output_functions net) new text c.in_ok-text.ensures.own built c.in-Ok.sessions.items c.in-Ok.sessions.len c.in-Ok.ensures.sessions_are c.in-Ok.sessions.ok.0)
+          (written_back m (SumsUp net) OUTPUTS_CELL (output_functions net) new text (fresh_own m new c.in_ok-text.ensures.fresh) built c.in-Ok.sessions.items c.in-Ok.sessions.len c.in-Ok.ensures.sessions_are c.in-Ok.sessions.ok.0)
           c.close-closed.ensures.history.history)
           c.summaries_are_true.ensures.unsifted built,
     )
+
+pub returns-in_err-text-clause-full : goal.returns-in_err-text-clause-full
+returns-in_err-text-clause-full g c =
+    let m = c.in-Ok.manager in
+    let bits = c.args.bits in
+    let p = err_from_is_err_and c.from_residual.result c.from_residual.ensures.1 in
+    rw (p.1, p.2) (filled_made bits OUTPUTS_CELL m c.deref_mut.result.now c.generate.new.sessions
+    (λ slots. (net : Net) × IsBlifText (gen_text bits) net × (slots ≡ 5 + length net.inputs + USUAL_LIMIT)) c.in_err-text.field-0.0
+    (λ net text inputs. (net, text, omega (arith, c.in-Ok.ensures.limit_is, inputs))) c.in_err-text.ensures.refused)

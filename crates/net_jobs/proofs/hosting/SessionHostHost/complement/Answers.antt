@@ -3,7 +3,7 @@ use Rattle.function_laws.specs.declared.history.Call.TheVariants as calls
 use Rattle.function_laws.specs.declared.making.Making.TheVariants as makings
 use Rattle.function_laws.specs.declared.making.BddMaking.TheVariants as bdds
 use Rattle.function_laws.specs.Values.{negation}
-use Rattle.net_jobs.proofs.HostLaws.{denied, has_room, held_is_bdd, made, named_caused, named_ok, named_own, outcome-complement}
+use Rattle.net_jobs.proofs.HostLaws.{denied, has_room, held_is_bdd, made, named_back, named_ok, named_own, outcome-complement, told_full}
 use Rattle.net_jobs.proofs.hosting.SessionHostHost.complement.Goals as goal
 
 pub not-requires : goal.not-requires
@@ -22,7 +22,7 @@ returns-clause-back g c =
     let old = c.args.session.now in
     let new = c.not.new.self in
     let call = calls.Makes (makings.Bdd (bdds.Not c.args.f)) in
-    record {
-      own = named_own old new call c.args.self.now.manager.now c.args.self.now.since c.not.result (denied old new call c.not.result c.not.ensures.told) c.requires.may.own;
-      caused = named_caused old new call c.not.result (denied old new call c.not.result c.not.ensures.told) c.named.result c.named.ensures (λ limit in_use need tells. tells.0);
-    }
+    let m = c.args.self.now.manager.now in
+    named_back old new call c.not.result (denied old new call c.not.result c.not.ensures.told) c.named.result c.named.ensures _ _ c.args.self.now
+    (named_own old new call m c.args.self.now.since c.not.result (denied old new call c.not.result c.not.ensures.told) c.requires.may.own) refl (λ cell. refl)
+    (λ full limit tells. told_full m old call full c.requires.may.own.own limit tells.0)

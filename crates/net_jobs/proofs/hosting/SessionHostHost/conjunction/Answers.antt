@@ -3,7 +3,7 @@ use Rattle.function_laws.specs.declared.history.Call.TheVariants as calls
 use Rattle.function_laws.specs.declared.making.Making.TheVariants as makings
 use Rattle.function_laws.specs.declared.making.BddMaking.TheVariants as bdds
 use Rattle.function_laws.specs.Values.{conjunction}
-use Rattle.net_jobs.proofs.HostLaws.{has_room, held_is_bdd, made, named_caused, named_ok, named_own, outcome-conjunction}
+use Rattle.net_jobs.proofs.HostLaws.{has_room, held_is_bdd, made, named_back, named_ok, named_own, outcome-conjunction, told_full}
 use Rattle.net_jobs.proofs.hosting.SessionHostHost.conjunction.Goals as goal
 
 pub and-requires : goal.and-requires
@@ -20,7 +20,10 @@ returns-clause-made g c =
 
 pub returns-clause-back : goal.returns-clause-back
 returns-clause-back g c =
-    record {
-      own = named_own c.args.session.now c.and.new.self (calls.Makes (makings.Bdd (bdds.And c.args.f c.args.g))) c.args.self.now.manager.now c.args.self.now.since c.and.result c.and.ensures.told c.requires.may.own;
-      caused = named_caused c.args.session.now c.and.new.self (calls.Makes (makings.Bdd (bdds.And c.args.f c.args.g))) c.and.result c.and.ensures.told c.named.result c.named.ensures (λ limit in_use need tells. tells.0);
-    }
+    let old = c.args.session.now in
+    let new = c.and.new.self in
+    let call = calls.Makes (makings.Bdd (bdds.And c.args.f c.args.g)) in
+    let m = c.args.self.now.manager.now in
+    named_back old new call c.and.result c.and.ensures.told c.named.result c.named.ensures _ _ c.args.self.now
+    (named_own old new call m c.args.self.now.since c.and.result c.and.ensures.told c.requires.may.own) refl (λ cell. refl)
+    (λ full limit tells. told_full m old call full c.requires.may.own.own limit tells.0)

@@ -3,7 +3,7 @@ use Rattle.function_laws.specs.declared.history.Call.TheVariants as calls
 use Rattle.function_laws.specs.declared.making.Making.TheVariants as makings
 use Rattle.function_laws.specs.declared.making.BddMaking.TheVariants as bdds
 use Rattle.function_laws.specs.Values.{constant as constantly}
-use Rattle.net_jobs.proofs.HostLaws.{denied, has_room, made, named_caused, named_ok, named_own, outcome-one, outcome-zero}
+use Rattle.net_jobs.proofs.HostLaws.{denied, has_room, made, named_back, named_ok, named_own, outcome-one, outcome-zero, told_full}
 use Rattle.net_jobs.proofs.hosting.SessionHostHost.constant.Goals as goal
 
 pub one-requires : goal.one-requires
@@ -23,10 +23,11 @@ pub returns-then-value-clause-back : goal.returns-then-value-clause-back
 returns-then-value-clause-back g c =
     let old = c.args.session.now in
     let new = c.one.new.self in
-    record {
-      own = named_own old new (calls.Makes (makings.Bdd bdds.One)) c.args.self.now.manager.now c.args.self.now.since c.one.result (denied old new (calls.Makes (makings.Bdd bdds.One)) c.one.result c.one.ensures.told) c.requires.may.own;
-      caused = named_caused old new (calls.Makes (makings.Bdd bdds.One)) c.one.result (denied old new (calls.Makes (makings.Bdd bdds.One)) c.one.result c.one.ensures.told) c.named.result c.named.ensures (λ limit in_use need tells. tells.0);
-    }
+    let call = calls.Makes (makings.Bdd bdds.One) in
+    let m = c.args.self.now.manager.now in
+    named_back old new call c.one.result (denied old new call c.one.result c.one.ensures.told) c.named.result c.named.ensures _ _ c.args.self.now
+    (named_own old new call m c.args.self.now.since c.one.result (denied old new call c.one.result c.one.ensures.told) c.requires.may.own) refl (λ cell. refl)
+    (λ full limit tells. told_full m old call full c.requires.may.own.own limit tells.0)
 
 pub returns-else-value-clause-made : goal.returns-else-value-clause-made
 returns-else-value-clause-made g c =
@@ -39,7 +40,8 @@ pub returns-else-value-clause-back : goal.returns-else-value-clause-back
 returns-else-value-clause-back g c =
     let old = c.args.session.now in
     let new = c.zero.new.self in
-    record {
-      own = named_own old new (calls.Makes (makings.Bdd bdds.Zero)) c.args.self.now.manager.now c.args.self.now.since c.zero.result (denied old new (calls.Makes (makings.Bdd bdds.Zero)) c.zero.result c.zero.ensures.told) c.requires.may.own;
-      caused = named_caused old new (calls.Makes (makings.Bdd bdds.Zero)) c.zero.result (denied old new (calls.Makes (makings.Bdd bdds.Zero)) c.zero.result c.zero.ensures.told) c.named-else-value.result c.named-else-value.ensures (λ limit in_use need tells. tells.0);
-    }
+    let call = calls.Makes (makings.Bdd bdds.Zero) in
+    let m = c.args.self.now.manager.now in
+    named_back old new call c.zero.result (denied old new call c.zero.result c.zero.ensures.told) c.named-else-value.result c.named-else-value.ensures _ _ c.args.self.now
+    (named_own old new call m c.args.self.now.since c.zero.result (denied old new call c.zero.result c.zero.ensures.told) c.requires.may.own) refl (λ cell. refl)
+    (λ full limit tells. told_full m old call full c.requires.may.own.own limit tells.0)

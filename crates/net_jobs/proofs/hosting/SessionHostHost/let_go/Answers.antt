@@ -1,11 +1,11 @@
 use Rattle.std.proofs.Common.{refl}
 use Rattle.function_laws.specs.declared.history.Call.TheVariants as calls
 use Rattle.function_laws.specs.declared.history.Reply.TheVariants as replies
-use Rattle.net_jobs.proofs.HostLaws.{held_is_row, lets_go, still_unsifted}
+use Rattle.net_jobs.proofs.HostLaws.{lets_go, live_is_row, still_unsifted}
 use Rattle.net_jobs.proofs.hosting.SessionHostHost.let_go.Goals as goal
 
 pub drop_row-placed-requires-clause-live : goal.drop_row-placed-requires-clause-live
-drop_row-placed-requires-clause-live g c = held_is_row c.args.session.now c.args.f c.requires.held
+drop_row-placed-requires-clause-live g c = live_is_row c.args.session.now c.args.f c.requires.held
 
 pub returns-clause-own : goal.returns-clause-own
 returns-clause-own g c =

@@ -1,4 +1,4 @@
-use Rattle.net_jobs.proofs.HostLaws.{listed, listed_own, live_is_bdd}
+use Rattle.net_jobs.proofs.HostLaws.{listed, listed_own, listed_same, live_is_bdd}
 use Rattle.net_jobs.proofs.hosting.SessionHostHost.list.Goals as goal
 
 pub list-requires-clause-live : goal.list-requires-clause-live
@@ -10,3 +10,6 @@ returns-clause-own g c =
 
 pub returns-clause-lists : goal.returns-clause-lists
 returns-clause-lists g c = listed c.args.session.now c.list.new.self c.args.names.now c.list.result c.list.ensures.told
+
+pub returns-clause-same : goal.returns-clause-same
+returns-clause-same g c = listed_same c.args.session.now c.list.new.self c.args.names.now c.list.result c.list.ensures.told

@@ -3,7 +3,7 @@ use Rattle.function_laws.specs.declared.history.Call.TheVariants as calls
 use Rattle.function_laws.specs.declared.making.Making.TheVariants as makings
 use Rattle.function_laws.specs.declared.making.BddMaking.TheVariants as bdds
 use Rattle.function_laws.specs.Values.{projection}
-use Rattle.net_jobs.proofs.HostLaws.{denied, has_room, made, named_caused, named_ok, named_own, outcome-projection}
+use Rattle.net_jobs.proofs.HostLaws.{denied, has_room, made, named_back, named_ok, named_own, outcome-projection, told_full}
 use Rattle.net_jobs.proofs.hosting.SessionHostHost.projection.Goals as goal
 
 pub var-requires : goal.var-requires
@@ -22,7 +22,7 @@ returns-clause-back g c =
     let old = c.args.session.now in
     let new = c.var.new.self in
     let call = calls.Makes (makings.Bdd (bdds.Var c.args.variable)) in
-    record {
-      own = named_own old new call c.args.self.now.manager.now c.args.self.now.since c.var.result (denied old new call c.var.result c.var.ensures.told) c.requires.may.own;
-      caused = named_caused old new call c.var.result (denied old new call c.var.result c.var.ensures.told) c.named.result c.named.ensures (λ limit in_use need tells. tells.0);
-    }
+    let m = c.args.self.now.manager.now in
+    named_back old new call c.var.result (denied old new call c.var.result c.var.ensures.told) c.named.result c.named.ensures _ _ c.args.self.now
+    (named_own old new call m c.args.self.now.since c.var.result (denied old new call c.var.result c.var.ensures.told) c.requires.may.own) refl (λ cell. refl)
+    (λ full limit tells. told_full m old call full c.requires.may.own.own limit tells.0)
