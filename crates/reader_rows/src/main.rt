@@ -5,6 +5,7 @@
 //! told as the words of a command line. Behind the files it reads the generated networks, and writes the text of a stored diagram.
 #![tactic(auto)]
 
+mod dumps;
 mod generated;
 mod orders;
 mod rows;

@@ -1,10 +1,10 @@
 //! The rows of a file.
 //!
 //! A row is the text of a network, and what has to be read of it; or what is known of its outputs as well, and what has to be written
-//! of it. Each line begins with a word, and a blank:
+//! of it; or the text of a stored diagram, and what has to be read of that. Each line begins with a word, and a blank:
 //!
-//! - `row NAME` begins a row.
-//! - `> LINE` is a line of the network's text.
+//! - `row NAME` begins a row, and `dump NAME` one of a stored diagram.
+//! - `> LINE` is a line of the text.
 //! - `! FAULT` says that the text has this fault, as `4 mixed`.
 //! - `nodes NUMBER` says that a report has to be written, of so many nodes.
 //! - `class FIRST SIGN` is the class of the next output: the first output that is equal to it up to complement, and `-` where it
@@ -13,7 +13,8 @@
 //! - `order VARIABLE ..` are the variables from the top.
 //! - `< LINE` is a line of the report and of the summary behind it; or, where none has to be written, of the network that has to be
 //!   read: `inputs` and their names; for each gate, in some order of them, `gate`, the signals that it reads, `on` or `off`, and `|`
-//!   with its word for each row; for each output `output`, its name and its signal.
+//!   with its word for each row; for each output `output`, its name and its signal. Of a stored diagram they are `variables` and how
+//!   many; `ids`; `permids`; for each node `node`, its variable, its then and its else child; `roots`.
 //!
 //! In a LINE `%HH` stands for the byte of these two digits, and a `%` at its end drops its line feed. Other lines say nothing.
 
@@ -21,10 +22,18 @@ use edge_bits::List;
 use net_reports::{Class, Evaluation};
 use std::alloc::{AllocError, Global};
 
-/// A network's text, what is known of its outputs, and what is due.
+/// What a text is that of.
+#[derive(Clone, Copy, PartialEq, Eq)]
+pub enum Subject {
+    Network,
+    StoredDiagram,
+}
+
+/// A text, what is known of the network's outputs, and what is due.
 #[derive(Drop)]
 pub struct Row {
     pub name: String,
+    pub subject: Subject,
     pub text: Vec<u8>,
     pub classes: Vec<Class>,
     pub evaluations: Vec<Evaluation>,
@@ -85,9 +94,10 @@ fn bits_of(alloc: Global, word: &str) -> Result<List<bool>, AllocError> {
 
 impl Row {
     /// A row of which only the name is said.
-    fn new(alloc: Global, name: &str) -> Result<Row, AllocError> {
+    fn new(alloc: Global, name: &str, subject: Subject) -> Result<Row, AllocError> {
         Ok(Row {
             name: name.to_string(alloc)?,
+            subject,
             text: Vec::new(alloc),
             classes: Vec::new(alloc),
             evaluations: Vec::new(alloc),
@@ -150,11 +160,20 @@ impl Row {
     }
 }
 
+/// What a row is about that begins with the word.
+fn subject_of(word: &str) -> Option<Subject> {
+    match word {
+        "row" => Some(Subject::Network),
+        "dump" => Some(Subject::StoredDiagram),
+        _ => None,
+    }
+}
+
 /// Begins the row that a line names, or takes what a line says of the last one.
 fn add_to(rows: &mut Vec<Row>, alloc: Global, line: &str) -> Result<(), AllocError> {
     let (word, rest) = line.split_once(' ').unwrap_or((line, ""));
-    if word == "row" {
-        let row = Row::new(alloc, rest)?;
+    if let Some(subject) = subject_of(word) {
+        let row = Row::new(alloc, rest, subject)?;
         rows.push(row)?;
     } else if let Some(row) = rows.last_mut() {
         row.say(alloc, word, rest)?;

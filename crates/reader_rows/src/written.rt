@@ -1,6 +1,7 @@
 //! What comes of a row.
 
-use crate::rows::Row;
+use crate::dumps;
+use crate::rows::{Row, Subject};
 use crate::told::told;
 use blif_net::{BlifError, Net, read};
 use edge_bits::Memory;
@@ -53,11 +54,18 @@ fn written_of(alloc: Global, read: &Result<Net, BlifError>, row: &Row) -> Result
     }
 }
 
-/// What is due of a row's network, or why it was not read.
+/// What is due of a row's text, or why it was not read.
 pub fn written<R: AllocGlobal + RandomSource>(rt: &R, row: &Row) -> io::Result<Vec<u8>> {
     let alloc = rt.alloc();
-    let keys = RandomState::new(rt)?;
-    match written_of(alloc, &read(alloc, keys, row.text.as_slice()), row) {
+    let text = row.text.as_slice();
+    let told = match row.subject {
+        Subject::Network => {
+            let keys = RandomState::new(rt)?;
+            written_of(alloc, &read(alloc, keys, text), row)
+        }
+        Subject::StoredDiagram => dumps::told(alloc, text),
+    };
+    match told {
         Ok(text) => Ok(text),
         Err(Memory) => Ok(Vec::from_slice(alloc, b"memory\n")?),
     }
