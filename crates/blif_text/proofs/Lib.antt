@@ -1,3 +1,4 @@
 pub mod Split
 pub mod Joining
 pub mod Keeping
+mod Marks
