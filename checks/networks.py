@@ -100,9 +100,9 @@ def report(text, patterns):
     return "".join(line + "\n" for line in lines)
 
 
-def made(rng):
-    """A network of a few gates over a few inputs, in any order of its covers."""
-    inputs = [f"i{k}" for k in range(rng.randint(1, 6))]
+def made(rng, most=6):
+    """A network of a few gates over a few inputs, at most so many, in any order of its covers."""
+    inputs = [f"i{k}" for k in range(rng.randint(1, most))]
     signals, covers = list(inputs), []
     for k in range(rng.randint(1, 9)):
         ins = [rng.choice(signals) for _ in range(rng.randint(0, 4))]

@@ -1,5 +1,5 @@
 -- What a function leaves that makes a row, from what the calls in it leave.
-use Rattle.std.proofs.Common.{◌≡◌, ℕ, ◌+◌, ◌≤◌, ◌++◌, Bool, List, Result, Ok, Err, IfErr, IfOk, ◌∙◌, arith}
+use Rattle.std.proofs.Common.{ℕ, ◌+◌, ◌≤◌, ◌++◌, Bool, Result, Ok, Err, IfErr, IfOk, ◌∙◌, arith}
 use Rattle.function_laws.specs.declared.history.Entry.{Entry}
 use Rattle.function_laws.specs.declared.history.Name.{Name}
 use Rattle.net_builds.specs.declared.host.HostRefusal.{HostRefusal}
@@ -70,3 +70,7 @@ module _ {M S F : Type 0} (has : M → S → Type 0) (standing : S → Standing)
   pub comes_made : {X : Type 0} (old new : S) (name : Name) (f : ℕ → Bool) (x : X) → has manager new → Makes (standing old) (standing new) name f
       → ComesBack {X = X} has standing tells manager old new (Ok x)
   comes_made old new name f x own makes = record { own = own; works = makes.works; kept = makes.kept; few = makes.rows; rows = tt; caused = tt }
+
+  -- nothing was called
+  pub comes_none : {X : Type 0} (s : S) (x : X) → has manager s → ComesBack {X = X} has standing tells manager s s (Ok x)
+  comes_none s x own = record { own = own; works = gains_none IsQuiet (standing s); kept = λ other below i. (standing s).stands other; few = omega arith; rows = tt; caused = tt }

@@ -12,7 +12,7 @@ use Rattle.blif_net.specs.Bounds.{IsBounded, signal_count}
 use Rattle.blif_net.specs.Networks.{signal_value}
 use Rattle.net_reports.specs.Reports.{output_functions}
 use Rattle.net_builds.specs.Builds.{AllHandedOver, Builds}
-use Rattle.net_builds.specs.Handings.{HandsAndTells, HandsOver, IsKnown, IsPassed, IsPosted, IsTold, IsWithin, Returns}
+use Rattle.net_builds.specs.Handings.{HandsAndTells, IsKnown, IsPassed, IsPosted, IsWithin, Returns}
 use Rattle.net_builds.specs.Holdings.{LetsAllGo, names_in}
 use Rattle.net_builds.specs.Outputs.{IsFullTold, IsRefused, IsUndone}
 use Rattle.net_builds.specs.Signals.{AllHold, BuildsAll}
@@ -30,7 +30,7 @@ all_held s [] (name ∷ names) hold = absurd hold
 all_held s (f ∷ wanted) [] hold = absurd hold
 all_held s (f ∷ wanted) (name ∷ names) hold = All-cons (IsLive s) name names (holds_live s name f hold.0) (all_held s wanted names hold.1)
 
-as_many_held : (s : Standing) (wanted : List (ℕ → Bool)) (names : List Name) → AllHold s wanted names → length names ≡ length wanted
+pub as_many_held : (s : Standing) (wanted : List (ℕ → Bool)) (names : List Name) → AllHold s wanted names → length names ≡ length wanted
 as_many_held s [] [] hold = refl
 as_many_held s [] (name ∷ names) hold = absurd hold
 as_many_held s (f ∷ wanted) [] hold = absurd hold

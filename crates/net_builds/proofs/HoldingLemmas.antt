@@ -1,7 +1,6 @@
 -- Names that are held, and let go one after another.
 use Rattle.std.proofs.Common.{◌≡◌, ℕ, zero, suc, ◌+◌, ◌<◌, ◌≤◌, List, [], ◌∷◌, ◌++◌, length, get_or, map, replicate, take, Option, Some, None, All, refl, ap, sym, subst, ◌∙◌, length-append, arith}
 use Rattle.std.proofs.Math.ListN.{set}
-use Rattle.std.proofs.lemmas.List.{take_more}
 use Rattle.std.proofs.lemmas.List.Elements.{All-append, All-cons, All-head, All-nil, All-tail, All-weaker}
 use Rattle.std.proofs.lemmas.Option.{none-some, same_Some}
 use Rattle.function_laws.specs.declared.history.Name.{Name}
@@ -88,7 +87,16 @@ row_apart (Some other ∷ rows) (suc i) name rising at =
     (λ e. let less = row_among (λ (x : Name). other.generation < x.generation) rows i name rising.0 at in omega (arith, e, less))
     (row_apart rows i name rising.1 at)
 
--- and so of handovers
+-- and so of names one behind another
+pub name_apart : (names : List Name) (i : ℕ) (d : Name) → i < length names → AreRising names → All (IsApart (get_or names i d)) (take i names)
+name_apart [] i d within rising = absurd (omega (arith, within))
+name_apart (x ∷ names) zero d within rising = All-nil (IsApart x)
+name_apart (x ∷ names) (suc i) d within rising =
+    All-cons (IsApart (get_or names i d)) x (take i names)
+    (λ e. let less = rising.0 i d (omega (arith, within)) in omega (arith, e, less))
+    (name_apart names i d (omega (arith, within)) rising.1)
+
+-- and of handovers
 abbrev to_of : Handover → Name
 to_of h = h.to
 

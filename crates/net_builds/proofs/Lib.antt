@@ -5,6 +5,7 @@ pub mod Contained
 pub mod HandedLaw
 pub mod HoldingLemmas
 pub mod InTurn
+pub mod LoadLemmas
 pub mod Mapped
 pub mod NamesOnce
 pub mod OnceEach
@@ -15,6 +16,7 @@ pub mod ReplaceLemmas
 pub mod RowLemmas
 pub mod SameReports
 pub mod SignalSteps
+pub mod StackLemmas
 pub mod StandingLemmas
 pub mod TellingLemmas
 pub mod ToldLaws

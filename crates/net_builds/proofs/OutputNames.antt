@@ -21,7 +21,7 @@ use Rattle.net_builds.specs.Uses.{AreLastUses}
 use Rattle.net_builds.proofs.HoldingLemmas.{names_all, names_rise}
 use Rattle.net_builds.proofs.StandingLemmas.{caused_before, gains_none, gains_then, holds_live}
 
-none_at : (count signal : ℕ) → row_at (replicate count None) signal ≡ None
+pub none_at : (count signal : ℕ) → row_at (replicate count None) signal ≡ None
 none_at zero signal = refl
 none_at (suc count) zero = refl
 none_at (suc count) (suc signal) = none_at count signal

@@ -8,7 +8,7 @@ use Rattle.function_laws.specs.declared.history.Entry.{Entry}
 use Rattle.function_laws.specs.declared.history.Name.{Name}
 use Rattle.function_laws.specs.declared.history.Reply.TheVariants as replies
 use Rattle.function_laws.specs.SessionEntries.{entry}
-use Rattle.net_builds.specs.Handings.{AreInTurn, HandsOver, HandsSome, IsKnown, IsPassed, IsPosted, IsWithin, Looks, Returns}
+use Rattle.net_builds.specs.Handings.{AreInTurn, HandsOver, IsKnown, IsPassed, IsPosted, IsWithin, Looks, Returns}
 use Rattle.net_builds.specs.Holdings.{AreRising, LetsAllGo}
 use Rattle.net_builds.specs.Standings.{Fetches, IsLive, IsQuiet, Note, Posts, Standing}
 use Rattle.net_builds.specs.declared.handing.Handover.{Handover}

@@ -14,7 +14,12 @@ use Rattle.net_reports.specs.declared.patterns.Evaluation.{Evaluation}
 use Rattle.diagram_dumps.specs.Agreement.{AreSame}
 use Rattle.diagram_dumps.proofs.Sameness.{size_same}
 use Rattle.net_reports.proofs.SameClasses.{classes_same}
-use Rattle.net_builds.specs.Builds.{ReportsOf, SumsUpOf}
+use Rattle.diagram_dumps.specs.Dumps.{root_value}
+use Rattle.diagram_dumps.specs.Listings.{IsListing, dump_of}
+use Rattle.diagram_dumps.specs.declared.listings.Listing.{Listing}
+use Rattle.net_builds.specs.Builds.{TellingOf}
+use Rattle.net_builds.specs.declared.telling.Telling.{Telling}
+use Rattle.net_builds.specs.declared.telling.Telling.TheVariants.{Report, Stored, Summary}
 
 -- a pattern's assignment
 pub assignment_below : (n : ℕ) (pattern : List Bool) → assignment n pattern < 2 ^ n
@@ -55,9 +60,29 @@ nodes_same n order once fs gs same =
     size_same (record { variables = order; elements = [] }) (λ v i. omega (arith, in_all n order below v i, wide)) fs gs
     (subst (λ m. AreSame m fs gs) (sym wide) same)
 
-module _ (n : ℕ) (names : List (List ℕ)) (patterns : List (List Bool)) (fs gs : List Function) (same : AreSame n fs gs) (order text : List ℕ) where
-  pub report_same : ReportsOf n names patterns fs order text → ReportsOf n names patterns gs order text
-  report_same is = record {
+-- a listing of functions is one of those that have their values
+same_on : (n : ℕ) (fs gs hs : List Function) → AreSame n fs gs → AreSame n gs hs → AreSame n fs hs
+same_on n [] [] [] first second = tt
+same_on n [] [] (h ∷ hs) first second = absurd second
+same_on n [] (g ∷ gs) hs first second = absurd first
+same_on n (f ∷ fs) [] hs first second = absurd first
+same_on n (f ∷ fs) (g ∷ gs) [] first second = absurd second
+same_on n (f ∷ fs) (g ∷ gs) (h ∷ hs) first second = (λ k below. first.0 k below ∙ second.0 k below, same_on n fs gs hs first.1 second.1)
+
+listed_same : (n : ℕ) (order : List ℕ) (fs gs : List Function) (listing : Listing) → length order ≡ n → AreSame n fs gs → IsListing order fs listing → IsListing order gs listing
+listed_same n order fs gs listing wide same is = record {
+  order_is = is.order_is;
+  writable = is.writable;
+  under = is.under;
+  roots = same_on (length order) (map (root_value (dump_of listing)) listing.roots) fs gs is.roots (subst (λ m. AreSame m fs gs) (sym wide) same);
+  few_variables = is.few_variables;
+  few_lines = is.few_lines;
+}
+
+-- and so is what is due of functions
+module _ (n : ℕ) (names : List (List ℕ)) (patterns : List (List Bool)) (fs gs : List Function) (same : AreSame n fs gs) (order : List ℕ) where
+  pub report_same : (text : List ℕ) → TellingOf n names patterns Report fs order text → TellingOf n names patterns Report gs order text
+  report_same text is = record {
     orders = is.orders;
     classes = is.classes;
     are_classes = classes_same n fs gs same is.classes is.are_classes;
@@ -66,8 +91,22 @@ module _ (n : ℕ) (names : List (List ℕ)) (patterns : List (List Bool)) (fs g
         ∙ ap (report_text n names is.classes (map (evaluation_at n gs) patterns) order) (nodes_same n order is.orders fs gs same);
   }
 
-  pub summary_same : SumsUpOf n names fs order text → SumsUpOf n names gs order text
-  summary_same is = record {
+  pub telling_same : (text : List ℕ) (telling : Telling) → TellingOf n names patterns telling fs order text → TellingOf n names patterns telling gs order text
+  telling_same text Report is = report_same text is
+  telling_same text Stored is =
+      let wide : length order ≡ n = length_permutation (range_with_len 0 n) order is.reports.orders ∙ length-range_with_len 0 n in
+      record {
+        report = is.report;
+        behind = is.behind;
+        text_is = is.text_is;
+        reports = report_same is.report is.reports;
+        stored = record {
+          listing = is.stored.listing;
+          listed = listed_same n order fs gs is.stored.listing wide same is.stored.listed;
+          bytes = is.stored.bytes;
+        };
+      }
+  telling_same text Summary is = record {
     orders = is.orders;
     classes = is.classes;
     are_classes = classes_same n fs gs same is.classes is.are_classes;

@@ -3,7 +3,7 @@ use Rattle.std.proofs.Common.{◌≡◌, ℕ, ◌+◌, ◌<◌, ◌^◌, Bool, L
 use Rattle.std.specs.Prelude.{IsPermutation}
 use Rattle.std.specs.List.{range_with_len}
 use Rattle.std.proofs.lemmas.List.{append-nil, length-map, map_more}
-use Rattle.std.proofs.lemmas.List.Elements.{All-nil}
+use Rattle.std.proofs.lemmas.List.Elements.{All-nil, All-weaker}
 use Rattle.std.proofs.lemmas.Simd.{map-map}
 use Rattle.function_laws.specs.declared.history.Function.TheVariants.{Bdd}
 use Rattle.function_laws.specs.declared.history.Name.{Name}
@@ -16,9 +16,11 @@ use Rattle.net_reports.specs.Evaluations.{assignment, evaluation_at, values_at}
 use Rattle.net_reports.specs.Reports.{count_firsts, node_count, output_names, report_text, summary_text}
 use Rattle.net_reports.specs.declared.classes.Class.{Class}
 use Rattle.net_reports.specs.declared.patterns.Evaluation.{Evaluation}
-use Rattle.net_builds.specs.Builds.{Reports, SumsUp}
+use Rattle.net_builds.specs.Asked.{MayReport}
+use Rattle.net_builds.specs.Builds.{TellingOf, TellsOf}
 use Rattle.net_builds.specs.Handings.{IsTold, Looks}
 use Rattle.net_builds.specs.Standings.{Asks, HasRoom, IsLive, IsQuiet, Lists, Standing, values_of}
+use Rattle.net_builds.specs.declared.telling.Telling.TheVariants.{Report, Summary}
 use Rattle.net_builds.specs.Tellings.{evaluation_in, value_in, values_in}
 use Rattle.net_builds.proofs.StandingLemmas.{gains_none, gains_then, live_list, still_live}
 use Rattle.net_builds.proofs.Mapped.{length_same, map_same}
@@ -123,6 +125,7 @@ is_told Tells old mid new names listing text lists asks tells = record {
   note = record { place = lists.place; order = listing.order; stands = old.stands };
   notes_are = asks.works.notes_are ∙ ap (λ (s : Standing). s.notes) lists.new_is;
   later = lists.later;
+  stood = λ other. refl;
   functions = lists.functions;
   stand = lists.stand ∙ ap (λ n. map (values_of n) lists.functions) (sym (asks.works.vars_are ∙ ap (λ (s : Standing). s.vars) lists.new_is));
   tells = tells;
@@ -155,33 +158,33 @@ once_listed old mid names listing lists n vars =
     let under = lists.is_listing.under in
     once_each n listing.order (lists.wide ∙ vars) under.below under.once
 
-pub reported : (net : Net) (patterns : List (List Bool)) (old mid : Standing) (names : List Name) (listing : Listing) (lists : Lists old mid names listing)
-    (classes : List Class) (nodes : ℕ) (text : List ℕ) → old.vars ≡ length net.inputs → AreClasses (length listing.order) lists.functions classes
+-- the report of a listing of n variables whose functions have these names
+pub reported : (n : ℕ) (outputs : List (List ℕ)) (patterns : List (List Bool)) (old mid : Standing) (names : List Name) (listing : Listing) (lists : Lists old mid names listing)
+    (classes : List Class) (nodes : ℕ) (text : List ℕ) → mid.vars ≡ n → AreClasses (length listing.order) lists.functions classes
     → nodes ≡ node_count listing.order lists.functions
     → (seen : List Class) (all : List Evaluation) (order : List ℕ) → seen ≡ classes → all ≡ map (evaluation_in mid names) patterns → order ≡ listing.order
-    → text ≡ report_text (length net.inputs) (output_names net) seen all order nodes
-    → Reports net patterns lists.functions listing.order text
-reported net patterns old mid names listing lists classes nodes text vars are count seen all order same_classes same_evaluations same_order is =
-    let n = length net.inputs in
-    let mid_vars : mid.vars ≡ n = ap (λ (s : Standing). s.vars) lists.new_is ∙ vars in
+    → text ≡ report_text n outputs seen all order nodes
+    → TellingOf n outputs patterns Report lists.functions listing.order text
+reported n outputs patterns old mid names listing lists classes nodes text mid_vars are count seen all order same_classes same_evaluations same_order is =
+    let vars : old.vars ≡ n = sym (ap (λ (s : Standing). s.vars) lists.new_is) ∙ mid_vars in
     let evaluations : map (evaluation_in mid names) patterns ≡ map (evaluation_at n lists.functions) patterns =
     evaluations_told mid names lists.functions (stands_in old mid names listing lists) patterns ∙ ap (λ m. map (evaluation_at m lists.functions) patterns) mid_vars in
     record {
       orders = once_listed old mid names listing lists n vars;
       classes = classes;
       are_classes = classes_told old mid names listing lists n classes vars are;
-      bytes = is ∙ ap (λ (cs : List Class). report_text n (output_names net) cs all order nodes) same_classes
-          ∙ ap (λ (es : List Evaluation). report_text n (output_names net) classes es order nodes) (same_evaluations ∙ evaluations)
-          ∙ ap (λ (vs : List ℕ). report_text n (output_names net) classes (map (evaluation_at n lists.functions) patterns) vs nodes) same_order
-          ∙ ap (λ m. report_text n (output_names net) classes (map (evaluation_at n lists.functions) patterns) listing.order m) count;
+      bytes = is ∙ ap (λ (cs : List Class). report_text n outputs cs all order nodes) same_classes
+          ∙ ap (λ (es : List Evaluation). report_text n outputs classes es order nodes) (same_evaluations ∙ evaluations)
+          ∙ ap (λ (vs : List ℕ). report_text n outputs classes (map (evaluation_at n lists.functions) patterns) vs nodes) same_order
+          ∙ ap (λ m. report_text n outputs classes (map (evaluation_at n lists.functions) patterns) listing.order m) count;
     }
 
-pub summed_up : (net : Net) (old mid : Standing) (names : List Name) (listing : Listing) (lists : Lists old mid names listing)
+pub summed_up : (net : Net) (patterns : List (List Bool)) (old mid : Standing) (names : List Name) (listing : Listing) (lists : Lists old mid names listing)
     (classes : List Class) (nodes : ℕ) (text : List ℕ) → old.vars ≡ length net.inputs → AreClasses (length listing.order) lists.functions classes
     → nodes ≡ node_count listing.order lists.functions
     → (seen : List Class) → seen ≡ classes → text ≡ summary_text (length net.inputs) (length net.outputs) (count_firsts seen) nodes
-    → SumsUp net lists.functions listing.order text
-summed_up net old mid names listing lists classes nodes text vars are count seen same_classes is =
+    → TellsOf net patterns Summary lists.functions listing.order text
+summed_up net patterns old mid names listing lists classes nodes text vars are count seen same_classes is =
     let n = length net.inputs in
     record {
       orders = once_listed old mid names listing lists n vars;
@@ -191,3 +194,14 @@ summed_up net old mid names listing lists classes nodes text vars are count seen
           ∙ ap (λ m. summary_text n m (count_firsts classes) nodes) (sym (length-map net.outputs (λ output. output.name)))
           ∙ ap (λ m. summary_text n (length (output_names net)) (count_firsts classes) m) count;
     }
+
+-- what is listed may be told of
+pub may_tell : {M S : Type 0} (has : M → S → Type 0) (standing : S → Standing) (manager : M) (a b : S) (n many : ℕ) (names : List Name) (listing : Listing) → has manager b
+    → Lists (standing a) (standing b) names listing → MayReport has standing manager a n many names → MayReport has standing manager b n many names
+may_tell has standing manager a b n many names listing own lists may = record {
+  own = own;
+  room = room_listed (standing a) (standing b) names listing lists may.room;
+  vars = ap (λ (s : Standing). s.vars) lists.new_is ∙ may.vars;
+  held = All-weaker (IsLive (standing a)) (IsLive (standing b)) (held_listed (standing a) (standing b) names listing lists) names may.held;
+  many_are = may.many_are;
+}

@@ -1,11 +1,13 @@
 -- What the first session told is true of the wanted functions.
-use Rattle.std.proofs.Common.{◌≡◌, ℕ, zero, suc, ◌+◌, ◌<◌, ◌≤◌, ◌==◌, ◌⊎◌, ◌^◌, Bool, true, false, cond, Some, List, [], ◌∷◌, ◌++◌, length, map, take, refl, ap, sym, ◌∙◌, subst, arith, inl, inr, eq-eqb, All}
+use Rattle.std.proofs.Common.{◌≡◌, ℕ, zero, suc, ◌+◌, ◌<◌, ◌≤◌, ◌==◌, ◌⊎◌, ◌^◌, Bool, true, false, cond, Option, Some, List, [], ◌∷◌, ◌++◌, length, map, take, refl, ap, sym, ◌∙◌, subst, arith, inl, inr, eq-eqb, All}
 use Rattle.std.specs.List.{Contains, range_with_len}
 use Rattle.std.proofs.lemmas.Bool.{cases_eq}
 use Rattle.std.proofs.lemmas.List.Elements.{All-cons, All-contains, All-head, All-nil, All-tail, Contains-push}
+use Rattle.std.proofs.lemmas.Option.{same_Some}
 use Rattle.std.proofs.Math.ListN.{drop}
 use Rattle.function_laws.specs.declared.history.Call.TheVariants as calls
 use Rattle.function_laws.specs.declared.history.Entry.{Entry}
+use Rattle.function_laws.specs.declared.history.Function.{Function}
 use Rattle.function_laws.specs.declared.history.Function.TheVariants.{Bdd}
 use Rattle.function_laws.specs.declared.history.Name.{Name}
 use Rattle.function_laws.specs.declared.history.Reply.TheVariants as replies
@@ -239,3 +241,28 @@ module _ (Tells : List (ℕ → Bool) → List ℕ → List ℕ → Type 0) (n :
   unsifted_order all unsifted =
       let keep = all_of_history KeepsOrders sizes log new (unsifted_all old new unsifted fresh) history in
       sym told_order ∙ ap (λ (o : Orders). o.variables) (kept_orders (take builds.note.place log) (λ e has. keep e (front-has builds.note.place log e has)) (opening_orders sizes)) ∙ ap (range_with_len 0) all
+
+-- what one session noted that had made no call, where it neither swapped nor sifted, is the order 0, 1, 2, ..
+pub rising_order : (n : ℕ) (sizes : Sizes) (log : List Entry) (old new : Standing) (note : Note) → sizes.variables ≡ n → old.entries ≡ [] → AreUnsifted (old ∷ []) (new ∷ [])
+    → IsLegalHistoryOf sizes log (new ∷ []) → Contains new.notes note → note.order ≡ range_with_len 0 n
+rising_order n sizes log old new note all fresh unsifted history among =
+    let none : All (λ (s : Standing). s.entries ≡ []) (old ∷ []) = All-cons (λ (s : Standing). s.entries ≡ []) old [] fresh (All-nil (λ (s : Standing). s.entries ≡ [])) in
+    let keep = all_of_history KeepsOrders sizes log (new ∷ []) (unsifted_all (old ∷ []) (new ∷ []) unsifted none) history in
+    let notes = All-head (λ (s : Standing). All (IsNoted sizes log s.number) s.notes) new [] history.noted in
+    let noted = All-contains (IsNoted sizes log new.number) new.notes note notes among in
+    sym noted.order_is ∙ ap (λ (o : Orders). o.variables) (kept_orders (take note.place log) (λ e has. keep e (front-has note.place log e has)) (opening_orders sizes)) ∙ ap (range_with_len 0) all
+
+-- functions that names stand for have the values of others that they stand for
+pub stand_same : (n : ℕ) (stands : Name → Option Function) (names : List Name) (fs gs : List (ℕ → Bool)) → map stands names ≡ map (values_of n) fs → map stands names ≡ map (values_of n) gs → AreSame n fs gs
+stand_same n stands [] [] [] first second = tt
+stand_same n stands [] [] (g ∷ gs) first second = absurd (cc second)
+stand_same n stands [] (f ∷ fs) gs first second = absurd (cc first)
+stand_same n stands (name ∷ names) [] gs first second = absurd (cc first)
+stand_same n stands (name ∷ names) (f ∷ fs) [] first second = absurd (cc second)
+stand_same n stands (name ∷ names) (f ∷ fs) (g ∷ gs) first second =
+    let one : stands name ≡ values_of n f = cc in
+    let other : stands name ≡ values_of n g = cc in
+    let rest : map stands names ≡ map (values_of n) fs = cc in
+    let others : map stands names ≡ map (values_of n) gs = cc in
+    let same : Bdd (list_of (2 ^ n) f) ≡ Bdd (list_of (2 ^ n) g) = same_Some (Bdd (list_of (2 ^ n) f)) (Bdd (list_of (2 ^ n) g)) (sym one ∙ other) in
+    (same_values n f g same, stand_same n stands names fs gs rest others)

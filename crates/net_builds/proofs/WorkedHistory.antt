@@ -29,7 +29,8 @@ use Rattle.net_builds.proofs.HandedLaw.{Has}
 use Rattle.net_reports.specs.Classes.{AreClasses, Function as Values, IsClass}
 use Rattle.net_reports.specs.Reports.{output_functions, report_text}
 use Rattle.net_reports.specs.declared.classes.Class.{Class}
-use Rattle.net_builds.specs.Builds.{Builds, IsLegalHistoryOf, IsNoted, Reports}
+use Rattle.net_builds.specs.Builds.{Builds, IsLegalHistoryOf, IsNoted, TellsOf}
+use Rattle.net_builds.specs.declared.telling.Telling.TheVariants.{Report}
 use Rattle.net_builds.specs.Handings.{IsKnown}
 use Rattle.net_builds.specs.Handed.{IsPlain}
 use Rattle.net_builds.specs.Standings.{Note, Standing}
@@ -156,7 +157,7 @@ one_class = record { as_many = refl; each = each }
     each (suc i) class at = absurd (let less = slice_get_within (own_class ∷ []) (suc i) class at in omega (arith, less))
 
 -- the two built the output and told of it
-told : Builds (Reports net []) 0 (output_functions net) (before 0 ∷ before 1 ∷ []) (first ∷ second ∷ []) (codes "inputs 1\noutputs 1\nout 0 f 0 +\norder 0\nnodes 2\n")
+told : Builds (TellsOf net [] Report) 0 (output_functions net) (before 0 ∷ before 1 ∷ []) (first ∷ second ∷ []) (codes "inputs 1\noutputs 1\nout 0 f 0 +\norder 0\nnodes 2\n")
 unfolding list_of value_within report_text digits all_below all_parts distinct parts set_bit
 told = record {
   handovers = handover ∷ [];

@@ -67,10 +67,10 @@ module _ {M S : Type 0} (has : M → S → Type 0) (standing : S → Standing) (
     pub held : All (IsLive (standing session)) names
     pub classed : AreClassed (standing session) names classes
 
-  -- the session has a name for each output of the network, and may tell of what these stand for
-  pub record MayReport (net : Net) (names : List Name) : Type 0 where
+  -- the session has as many names as are told of, and as many variables, and may tell of what these stand for
+  pub record MayReport (n many : ℕ) (names : List Name) : Type 0 where
     pub own : has manager session
     pub room : HasRoom (standing session)
-    pub vars : (standing session).vars ≡ length net.inputs
+    pub vars : (standing session).vars ≡ n
     pub held : All (IsLive (standing session)) names
-    pub many : length names ≡ length net.outputs
+    pub many_are : length names ≡ many

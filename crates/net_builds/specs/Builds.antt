@@ -9,10 +9,14 @@ use Rattle.function_laws.specs.Histories.{IsLegal, table_after}
 use Rattle.function_laws.specs.SiftEntries.{Carries}
 use Rattle.function_laws.specs.SessionEntries.{entries_of}
 use Rattle.function_laws.specs.Tables.{Sizes, opening}
-use Rattle.net_reports.specs.Reports.{IsReport, IsSummary, output_names}
+use Rattle.net_reports.specs.Reports.{IsReport, IsStored, IsSummary, Subject, output_names, root_names}
 use Rattle.net_builds.specs.Handings.{AreInTurn, IsKnown, IsPassed}
 use Rattle.net_builds.specs.Standings.{KeepsOrders, Note, Standing, values_of}
 use Rattle.net_builds.specs.declared.handing.Handover.{Handover}
+use Rattle.net_builds.specs.declared.telling.Reported.{Reported}
+use Rattle.net_builds.specs.declared.telling.Reported.TheVariants.{Diagram, Network}
+use Rattle.net_builds.specs.declared.telling.Telling.{Telling}
+use Rattle.net_builds.specs.declared.telling.Telling.TheVariants.{Report, Stored, Summary}
 
 -- A function went from the session that built it to the first one: at the post's place the name that was posted to the cell stood for it, and a later fetch found that cell posted.
 pub record IsDelivered (cell : ℕ) (f : ℕ → Bool) (giver first : Standing) (h : Handover) : Type 0 where
@@ -55,20 +59,36 @@ pub record Builds (Tells : List (ℕ → Bool) → List ℕ → List ℕ → Typ
   pub stand : map note.stands (map (λ h. h.to) handovers) ≡ map (values_of first.vars) functions
   pub tells : Tells functions note.order text
 
--- a report of functions of n variables, which have these names, under the order, with their values at these patterns
-abbrev pub ReportsOf : ℕ → List (List ℕ) → List (List Bool) → List (ℕ → Bool) → List ℕ → List ℕ → Type 0
-ReportsOf n names patterns functions order text = IsReport (record { n = n; names = names; functions = functions; order = order; patterns = patterns }) text
+-- The text is a report of this subject, and behind it that of a stored diagram of the subject's functions under its order.
+pub record IsStoredReport (subject : Subject) (text : List ℕ) : Type 0 where
+  pub report : List ℕ
+  pub behind : List ℕ
+  pub text_is : text ≡ report ++ behind
+  pub reports : IsReport subject report
+  pub stored : IsStored subject behind
 
--- and a summary
-abbrev pub SumsUpOf : ℕ → List (List ℕ) → List (ℕ → Bool) → List ℕ → List ℕ → Type 0
-SumsUpOf n names functions order text = IsSummary (record { n = n; names = names; functions = functions; order = order; patterns = [] }) text
+-- what is due of a subject
+abbrev pub IsAs : Telling → Subject → List ℕ → Type 0
+IsAs Report = IsReport
+IsAs Stored = IsStoredReport
+IsAs Summary = IsSummary
 
--- those of a network, with its outputs' functions or others in their place
-abbrev pub Reports : Net → List (List Bool) → List (ℕ → Bool) → List ℕ → List ℕ → Type 0
-Reports net patterns = ReportsOf (length net.inputs) (output_names net) patterns
+-- of functions of n variables, which have these names, under the order, with their values at these patterns
+abbrev pub TellingOf : ℕ → List (List ℕ) → List (List Bool) → Telling → List (ℕ → Bool) → List ℕ → List ℕ → Type 0
+TellingOf n names patterns telling functions order text = IsAs telling (record { n = n; names = names; functions = functions; order = order; patterns = patterns }) text
 
-abbrev pub SumsUp : Net → List (ℕ → Bool) → List ℕ → List ℕ → Type 0
-SumsUp net = SumsUpOf (length net.inputs) (output_names net)
+-- of a network, with its outputs' functions or others in their place
+abbrev pub TellsOf : Net → List (List Bool) → Telling → List (ℕ → Bool) → List ℕ → List ℕ → Type 0
+TellsOf net = TellingOf (length net.inputs) (output_names net)
+
+-- the variables and the names of what is reported
+abbrev pub inputs_of : Reported → ℕ
+inputs_of (Network net) = length net.now.inputs
+inputs_of (Diagram dump) = dump.now.nvars
+
+abbrev pub names_of : Reported → List (List ℕ)
+names_of (Network net) = output_names net.now
+names_of (Diagram dump) = root_names (length dump.now.roots)
 
 -- what the session noted at a place is what the entries below it leave: the order of the variables, and what its names stand for
 pub record IsNoted (sizes : Sizes) (log : List Entry) (session : ℕ) (note : Note) : Type 0 where
@@ -104,16 +124,9 @@ ToldUnsifted Tells n wanted = (sizes : Sizes) (log : List Entry) (old new : List
     → sizes.variables ≡ n → All (λ (s : Standing). s.vars ≡ n) new → All (λ (s : Standing). s.entries ≡ []) old → AreUnsifted old new
     → IsLegalHistoryOf sizes log new → Builds Tells cell wanted old new text → Tells wanted (range_with_len 0 n) text
 
--- a report that was told of fetched functions is one of the wanted functions
-abbrev pub ReportsAreTrue : Type 0
-ReportsAreTrue = (n : ℕ) (names : List (List ℕ)) (patterns : List (List Bool)) (wanted : List (ℕ → Bool)) → ToldTrue (ReportsOf n names patterns) n wanted
+-- what was told of fetched functions is told of the wanted functions
+abbrev pub TellingsAreTrue : Type 0
+TellingsAreTrue = (n : ℕ) (names : List (List ℕ)) (patterns : List (List Bool)) (telling : Telling) (wanted : List (ℕ → Bool)) → ToldTrue (TellingOf n names patterns telling) n wanted
 
-abbrev pub UnsiftedReportsAreTrue : Type 0
-UnsiftedReportsAreTrue = (n : ℕ) (names : List (List ℕ)) (patterns : List (List Bool)) (wanted : List (ℕ → Bool)) → ToldUnsifted (ReportsOf n names patterns) n wanted
-
--- and so is a summary
-abbrev pub SummariesAreTrue : Type 0
-SummariesAreTrue = (n : ℕ) (names : List (List ℕ)) (wanted : List (ℕ → Bool)) → ToldTrue (SumsUpOf n names) n wanted
-
-abbrev pub UnsiftedSummariesAreTrue : Type 0
-UnsiftedSummariesAreTrue = (n : ℕ) (names : List (List ℕ)) (wanted : List (ℕ → Bool)) → ToldUnsifted (SumsUpOf n names) n wanted
+abbrev pub UnsiftedTellingsAreTrue : Type 0
+UnsiftedTellingsAreTrue = (n : ℕ) (names : List (List ℕ)) (patterns : List (List Bool)) (telling : Telling) (wanted : List (ℕ → Bool)) → ToldUnsifted (TellingOf n names patterns telling) n wanted

@@ -79,12 +79,13 @@ pub record Looks (old new : Standing) : Type 0 where
   pub kept : (other : Name) → new.stands other ≡ old.stands other
   pub rows : new.rows ≤ old.rows
 
--- What is told of the functions that some names stood for at the place of a note, which lies above the session's calls so far: under the order that was noted there, behind its earlier notes.
+-- What is told of the functions that some names stood for at the place of a note, which lies above the session's calls so far: under the order that was noted there, behind its earlier notes. Each name stood for what it did before.
 pub record IsTold (Tells : List (ℕ → Bool) → List ℕ → List ℕ → Type 0) (old new : Standing) (names : List Name) (text : List ℕ) : Type 0 where
   pub looks : Looks old new
   pub note : Note
   pub notes_are : new.notes ≡ old.notes ++ note ∷ []
   pub later : All (λ (e : Entry). e.place < note.place) old.entries
+  pub stood : (other : Name) → note.stands other ≡ old.stands other
   pub functions : List (ℕ → Bool)
   pub stand : map note.stands names ≡ map (values_of new.vars) functions
   pub tells : Tells functions note.order text

@@ -1,5 +1,5 @@
 -- Names that a session holds, and what it leaves as it lets them go.
-use Rattle.std.specs.Prelude.{◌≡◌, ℕ, ◌+◌, ◌<◌, List, [], ◌∷◌, All, Option, Some, None, length}
+use Rattle.std.specs.Prelude.{◌≡◌, ◌+◌, ◌<◌, List, [], ◌∷◌, All, Option, Some, None, length}
 use Rattle.function_laws.specs.declared.history.Name.{Name}
 use Rattle.net_builds.specs.Standings.{HasRoom, IsLive, Standing, Works}
 

@@ -10,3 +10,4 @@ pub mod Tellings
 pub mod Builds
 pub mod Uses
 pub mod Handed
+pub mod Loads

@@ -1,5 +1,5 @@
 -- The functions that are made for a cover, and the names that come in place of others.
-use Rattle.std.specs.Prelude.{◌≡◌, ℕ, ◌<◌, ◌≤◌, Bool, ◌&&◌, List}
+use Rattle.std.specs.Prelude.{ℕ, ◌≤◌, Bool, ◌&&◌, List}
 use Rattle.std.specs.List.{list_any}
 use Rattle.blif_net.specs.declared.net.Cube.{Cube}
 use Rattle.blif_net.specs.declared.net.Literal.{Literal}

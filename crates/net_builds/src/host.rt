@@ -61,7 +61,7 @@ pub trait Host {
     ghost use Rattle.function_laws.specs.declared.history.Entry.{Entry};
     ghost use Rattle.function_laws.specs.declared.history.Function.TheVariants.{Bdd};
     ghost use Rattle.function_laws.specs.Lists.{truth};
-    ghost use Rattle.function_laws.specs.Values.{assignment_of, conjunction, constant, disjunction, negation, projection};
+    ghost use Rattle.function_laws.specs.Values.{assignment_of, conjunction, constant, disjunction, if_then_else, negation, projection};
     ghost use Rattle.net_builds.specs.Asked.{ComesBack, MayMakeRows};
     ghost use Rattle.net_builds.specs.Standings.{Asks, Fetches, Holds, IsHeld, IsLive, LetsGo, Lists, Makes, Posts, Standing};
 
@@ -139,6 +139,21 @@ pub trait Host {
         requires first { IsHeld (standing session.old) f }
         requires second { IsHeld (standing session.old) g }
         ensures made { IfOk result (λ name. (a b : ℕ → Bool) → Holds (standing session.old) f a → Holds (standing session.old) g b → Makes (standing session.old) (standing session.new) name (disjunction a b)) }
+        ensures back { ComesBack has standing tells self.now session.old session.new result };
+
+    /// The function that is the second where the first is 1, and elsewhere the third, under a new name.
+    fn choice(
+        &self,
+        session: &mut Self::Session,
+        f: Name,
+        g: Name,
+        h: Name,
+    ) -> Result<Name, HostRefusal<Self::Full>>
+        requires may { MayMakeRows has standing self.now session.old 1 }
+        requires first { IsHeld (standing session.old) f }
+        requires second { IsHeld (standing session.old) g }
+        requires third { IsHeld (standing session.old) h }
+        ensures made { IfOk result (λ name. (a b c : ℕ → Bool) → Holds (standing session.old) f a → Holds (standing session.old) g b → Holds (standing session.old) h c → Makes (standing session.old) (standing session.new) name (if_then_else a b c)) }
         ensures back { ComesBack has standing tells self.now session.old session.new result };
 
     /// Lets a name go.

@@ -1,18 +1,19 @@
 //! What is told of functions that were built is true of them, in any legal history of the sessions that built them.
 
-ghost use Rattle.net_builds.specs.Builds.{ReportsAreTrue, SummariesAreTrue, UnsiftedReportsAreTrue, UnsiftedSummariesAreTrue};
+ghost use Rattle.net_builds.specs.Builds.{TellingsAreTrue, UnsiftedTellingsAreTrue};
+ghost use Rattle.net_builds.specs.Loads.{LoadsAreTrue};
 
 /// In a legal history of some sessions that had made no call before: where they built the wanted functions, handed each of them over
-/// to the first one, and that one told a report of what it had fetched, the text is a report of the wanted functions themselves, under
-/// the order that it noted then, which is the one that the entries below that place leave. Where no session swapped levels or sifted,
-/// this is the order 0, 1, 2, ..
-pub fn reports_are_true()
-    ensures told { ReportsAreTrue }
-    ensures unsifted { UnsiftedReportsAreTrue }
+/// to the first one, and that one told a report of what it had fetched, with a stored diagram or without, or a summary, it is told of
+/// the wanted functions themselves, under the order that it noted then, which is the one that the entries below that place leave. Where
+/// no session swapped levels or sifted, this is the order 0, 1, 2, ..
+pub fn tellings_are_true()
+    ensures told { TellingsAreTrue }
+    ensures unsifted { UnsiftedTellingsAreTrue }
 {}
 
-/// The same of a summary.
-pub fn summaries_are_true()
-    ensures told { SummariesAreTrue }
-    ensures unsifted { UnsiftedSummariesAreTrue }
+/// In a legal history of a session that had made no call before, and that made a stored diagram and told its report, without a swap or
+/// a sift: the text is the report of the diagram's roots under the order 0, 1, 2, ..
+pub fn loads_are_true()
+    ensures { LoadsAreTrue }
 {}

@@ -31,3 +31,14 @@ pub fn let_go_fetched<H: Host>(host: &H, session: &mut H::Session, handovers: &[
         host.let_go(session, handover.to);
     }
 }
+
+/// Lets names go.
+pub fn let_go_names<H: Host>(host: &H, session: &mut H::Session, names: &[Name])
+    requires may { MayLetAllGo H.has H.standing host.now session.old names.now }
+    ensures own { H.has host.now session.new }
+    ensures gone { LetsAllGo (H.standing session.old) (H.standing session.new) names.now }
+{
+    for name in names {
+        host.let_go(session, *name);
+    }
+}

@@ -1,19 +1,41 @@
-//! What is told of the functions of a network's outputs.
+//! What is told of the functions of a network's outputs, and of a stored diagram's roots.
 
-ghost use Rattle.std.specs.Prelude.{◌≡◌, Bool, Some, length, map, slice_get, IfOk};
+ghost use Rattle.std.specs.Prelude.{◌≡◌, Bool, List as ListOf, Some, length, map, slice_get, IfOk};
 ghost use Rattle.function_laws.specs.Values.{assignment_of, differs};
-ghost use Rattle.net_builds.specs.Builds.{Reports, SumsUp};
+ghost use Rattle.net_reports.specs.Reports.{report_text};
+ghost use Rattle.net_builds.specs.Builds.{TellingOf, TellsOf, inputs_of, names_of};
 ghost use Rattle.net_builds.specs.Asked.{MayEvaluate, MayReport};
 ghost use Rattle.net_builds.specs.Handings.{IsTold, Looks};
-ghost use Rattle.net_builds.specs.Standings.{Asks, HasRoom, IsLive};
+ghost use Rattle.net_builds.specs.Standings.{Asks, HasRoom, IsLive, Lists, Standing};
+ghost use Rattle.net_builds.specs.declared.telling.Telling.TheVariants.{Report, Stored, Summary};
 ghost use Rattle.net_builds.specs.Tellings.{evaluation_in, value_in, values_in};
 
 use crate::host::Host;
 use blif_net::Net;
+use diagram_dumps::{Dump, Listing};
 use edge_bits::{List, Memory};
 use function_laws::Name;
-use net_reports::{Class, Evaluation, classes_of, padded, report, summary};
+use net_reports::{Class, Evaluation, classes_of, dump_report, padded, report, stored, summary};
 use std::alloc::Global;
+
+/// What is told of the functions of a network's outputs.
+#[derive(Debug, Clone, Copy, PartialEq, Eq)]
+pub enum Telling {
+    /// Their report, with their values at some patterns. Input i takes bit i of a pattern; inputs past its end are 0, and further
+    /// bits have no effect.
+    Report,
+    /// The same report, and behind it the text of the stored diagram of these functions.
+    Stored,
+    /// How many inputs, outputs, classes of outputs and nodes there are.
+    Summary,
+}
+
+/// What a report is of: the outputs of a network, or the roots of a stored diagram.
+#[derive(Clone, Copy)]
+pub enum Reported<'a> {
+    Network(&'a Net),
+    Diagram(&'a Dump),
+}
 
 /// The value of a name's function at an assignment, from the values of earlier names: that of the first of its class, turned where it
 /// is the complement of that; the host is asked where the name is itself the first.
@@ -117,40 +139,114 @@ fn evaluations<H: Host>(
     Ok(evaluations)
 }
 
-/// The report of a network whose outputs' functions have these names, with the outputs' values at each pattern.
+/// How many inputs there are.
+fn inputs(reported: &Reported) -> usize
+    ensures { result ≡ inputs_of reported.now }
+{
+    match reported {
+        Reported::Network(net) => net.inputs().len(),
+        Reported::Diagram(dump) => dump.nvars as usize,
+    }
+}
+
+/// The text of a report, of its classes, its evaluations, an order and the number of nodes.
+fn text_of(
+    alloc: Global,
+    reported: &Reported,
+    classes: &[Class],
+    evaluations: &[Evaluation],
+    order: &[u32],
+    nodes: usize,
+) -> Result<Vec<u8>, Memory>
+    requires { length classes.now ≡ length (names_of reported.now) }
+    ensures { IfOk result (λ text. text.items ≡ report_text (inputs_of reported.now) (names_of reported.now) classes.now evaluations.now order.now nodes) }
+{
+    match reported {
+        Reported::Network(net) => report(alloc, net, classes, evaluations, order, nodes),
+        Reported::Diagram(dump) => dump_report(alloc, dump, classes, evaluations, order, nodes),
+    }
+}
+
+/// The report of functions that were listed, and have these names, with their values at each pattern.
+fn report_listed<H: Host>(
+    alloc: Global,
+    host: &H,
+    session: &mut H::Session,
+    reported: &Reported,
+    names: &[Name],
+    listing: &Listing,
+    patterns: &[List<bool>],
+) -> Result<Vec<u8>, Memory>
+    requires may { MayReport H.has H.standing host.now session.old (inputs_of reported.now) (length (names_of reported.now)) names.now }
+    requires listed { (before : Standing) × Lists before (H.standing session.old) names.now listing.now }
+    ensures own { H.has host.now session.new }
+    ensures asks { Asks (H.standing session.old) (H.standing session.new) }
+    ensures report { IfOk result (λ text. (before : Standing) (lists : Lists before (H.standing session.old) names.now listing.now) → TellingOf (inputs_of reported.now) (names_of reported.now) patterns.now Report lists.functions listing.now.order text.items) }
+{
+    let classes = classes_of(alloc, listing)?;
+    let evaluations = evaluations(
+        alloc,
+        host,
+        session,
+        names,
+        &classes,
+        inputs(reported),
+        patterns,
+    )?;
+    let nodes = listing.node_count();
+    let order = listing.order.as_slice();
+    text_of(alloc, reported, &classes, &evaluations, order, nodes)
+}
+
+/// The report of the functions that have these names, with their values at each pattern.
 pub fn tell_report<H: Host>(
     alloc: Global,
     host: &H,
     session: &mut H::Session,
-    net: &Net,
+    reported: &Reported,
     names: &[Name],
     patterns: &[List<bool>],
 ) -> Result<Vec<u8>, Memory>
-    requires may { MayReport H.has H.standing host.now session.old net.now names.now }
-    ensures told { IfOk result (λ text. IsTold (Reports net.now patterns.now) (H.standing session.old) (H.standing session.new) names.now text.items) }
+    requires may { MayReport H.has H.standing host.now session.old (inputs_of reported.now) (length (names_of reported.now)) names.now }
+    ensures told { IfOk result (λ text. IsTold (TellingOf (inputs_of reported.now) (names_of reported.now) patterns.now Report) (H.standing session.old) (H.standing session.new) names.now text.items) }
     ensures own { H.has host.now session.new }
     ensures looks { Looks (H.standing session.old) (H.standing session.new) }
 {
     let listing = host.list(session, names)?;
-    let classes = classes_of(alloc, &listing)?;
-    let inputs = net.inputs().len();
-    let evaluations = evaluations(alloc, host, session, names, &classes, inputs, patterns)?;
-    let nodes = listing.node_count();
-    let order = listing.order.as_slice();
-    let text = report(alloc, net, &classes, &evaluations, order, nodes)?;
+    report_listed(alloc, host, session, reported, names, &listing, patterns)
+}
+
+/// The same report, and behind it the text of the stored diagram that was listed for it.
+pub fn tell_stored<H: Host>(
+    alloc: Global,
+    host: &H,
+    session: &mut H::Session,
+    reported: &Reported,
+    names: &[Name],
+    patterns: &[List<bool>],
+) -> Result<Vec<u8>, Memory>
+    requires may { MayReport H.has H.standing host.now session.old (inputs_of reported.now) (length (names_of reported.now)) names.now }
+    ensures told { IfOk result (λ text. IsTold (TellingOf (inputs_of reported.now) (names_of reported.now) patterns.now Stored) (H.standing session.old) (H.standing session.new) names.now text.items) }
+    ensures own { H.has host.now session.new }
+    ensures looks { Looks (H.standing session.old) (H.standing session.new) }
+{
+    let listing = host.list(session, names)?;
+    let mut text = report_listed(alloc, host, session, reported, names, &listing, patterns)?;
+    let behind = stored(alloc, listing)?;
+    text.extend_from_slice(&behind)?;
     Ok(text)
 }
 
 /// The summary of a network whose outputs' functions have these names.
-pub fn tell_summary<H: Host>(
+fn tell_summary<H: Host>(
     alloc: Global,
     host: &H,
     session: &mut H::Session,
     net: &Net,
     names: &[Name],
 ) -> Result<Vec<u8>, Memory>
-    requires may { MayReport H.has H.standing host.now session.old net.now names.now }
-    ensures told { IfOk result (λ text. IsTold (SumsUp net.now) (H.standing session.old) (H.standing session.new) names.now text.items) }
+    requires may { MayReport H.has H.standing host.now session.old (length net.now.inputs) (length net.now.outputs) names.now }
+    ensures told { IfOk result (λ text. (patterns : ListOf (ListOf Bool)) → IsTold (TellsOf net.now patterns Summary) (H.standing session.old) (H.standing session.new) names.now text.items) }
     ensures own { H.has host.now session.new }
     ensures looks { Looks (H.standing session.old) (H.standing session.new) }
 {
@@ -158,4 +254,27 @@ pub fn tell_summary<H: Host>(
     let classes = classes_of(alloc, &listing)?;
     let text = summary(alloc, net, &classes, listing.node_count())?;
     Ok(text)
+}
+
+/// What is due of a network whose outputs' functions have these names.
+pub fn tell<H: Host>(
+    alloc: Global,
+    host: &H,
+    session: &mut H::Session,
+    net: &Net,
+    names: &[Name],
+    telling: Telling,
+    patterns: &[List<bool>],
+) -> Result<Vec<u8>, Memory>
+    requires may { MayReport H.has H.standing host.now session.old (length net.now.inputs) (length net.now.outputs) names.now }
+    ensures told { IfOk result (λ text. IsTold (TellsOf net.now patterns.now telling) (H.standing session.old) (H.standing session.new) names.now text.items) }
+    ensures own { H.has host.now session.new }
+    ensures looks { Looks (H.standing session.old) (H.standing session.new) }
+{
+    let reported = &Reported::Network(net);
+    match telling {
+        Telling::Report => tell_report(alloc, host, session, reported, names, patterns),
+        Telling::Stored => tell_stored(alloc, host, session, reported, names, patterns),
+        Telling::Summary => tell_summary(alloc, host, session, net, names),
+    }
 }

@@ -8,6 +8,8 @@ use Rattle.std.proofs.lemmas.List.Elements.{All-cons, All-head, All-nil, All-wea
 use Rattle.std.specs.Prelude.{slice_set}
 use Rattle.blif_net.specs.declared.net.Net.{Net}
 use Rattle.blif_net.specs.Networks.{IsBlifText}
+use Rattle.std.specs.List.{range_with_len}
+use Rattle.diagram_dumps.specs.declared.dump.Dump.{Dump}
 use Rattle.net_reports.specs.GenTexts.{gen_text}
 use Rattle.function_laws.specs.declared.history.Entry.{Entry}
 use Rattle.function_laws.specs.SessionEntries.{Each, entries_of}
@@ -23,16 +25,18 @@ use Rattle.dd_session.specs.Managing.{AreAll, IsHistoryOf, Managed, Seen, newcom
 use Rattle.net_builds.specs.declared.handing.Handover.{Handover}
 use Rattle.net_builds.specs.declared.host.HostRefusal.{HostRefusal}
 use Rattle.net_builds.specs.declared.host.HostRefusal.TheVariants as stops
-use Rattle.net_builds.specs.Builds.{AllGain, AreUnsifted, Builds, Reports, SumsUp, UnsiftedReportsAreTrue, UnsiftedSummariesAreTrue}
+use Rattle.net_builds.specs.Builds.{AllGain, AreUnsifted, Builds, IsAs, TellsOf, UnsiftedTellingsAreTrue}
 use Rattle.net_builds.specs.Builds as builds
+use Rattle.net_builds.specs.Loads.{Loads, LoadsAreTrue}
+use Rattle.net_builds.specs.declared.telling.Telling.{Telling}
 use Rattle.net_builds.specs.Outputs.{IsFullTold, IsRefused}
 use Rattle.net_builds.specs.Standings.{KeepsOrders, Standing}
-use Rattle.net_reports.specs.Reports.{IsReport, IsSummary, net_subject, output_functions, output_names}
+use Rattle.net_reports.specs.Reports.{IsReport, dump_subject, net_subject, output_functions, output_names}
 use Rattle.net_jobs.specs.Ends.{rising}
 use Rattle.net_jobs.specs.declared.networks.TheConstants.{OUTPUTS_CELL}
 use Rattle.net_jobs.specs.Hosts.{IsUnsifted, TellsFullOf, note_of, standing_of}
 use Rattle.net_jobs.proofs.HostLaws.{none_gained}
-use Rattle.net_jobs.specs.Networks.{IsFilledBy, IsFreshOf, IsRefusedIn}
+use Rattle.net_jobs.specs.Networks.{IsFilledBy, IsFreshOf, IsLoadedIn, IsRefusedIn}
 
 -- what a session noted is right of the history
 noted_right : (sizes : Sizes) (log : List Entry) (session : ℕ) (note : Noted) → IsNotedIn sizes log session note → builds.IsNoted sizes log session (note_of note)
@@ -81,37 +85,59 @@ one_more cell handovers a [] gains = absurd gains
 one_more cell handovers a (s ∷ []) gains = (s, refl, gains.4, gains.3)
 one_more cell handovers a (s ∷ t ∷ rest) gains = absurd gains.5
 
-module _ (m : Managed) (Tells : List (ℕ → Bool) → List ℕ → List ℕ → Type 0) (cell : ℕ) (wanted : List (ℕ → Bool)) (new : List Seen) (text : List ℕ) (own : All (λ (s : Seen). s.manager ≡ m) new)
-    (built : Builds Tells cell wanted (map standing_of (newcomer m 0 ∷ [])) (map standing_of new) text) where
-  abbrev only : (s : Seen) × (new ≡ s ∷ []) × (s.number ≡ 0) × (variables_in s ≡ (standing_of (newcomer m 0)).vars)
-  only = one_more cell built.handovers (standing_of (newcomer m 0)) new built.gains
+-- the one session of a manager behind its part
+pub record IsOnly (m : Managed) (new : List Seen) : Type 0 where
+  pub only : Seen
+  pub new_is : new ≡ only ∷ []
+  pub number_is : only.number ≡ 0
+  pub vars_are : variables_in only ≡ (standing_of (newcomer m 0)).vars
 
+pub built_only : (m : Managed) (Tells : List (ℕ → Bool) → List ℕ → List ℕ → Type 0) (cell : ℕ) (wanted : List (ℕ → Bool)) (new : List Seen) (text : List ℕ)
+    → Builds Tells cell wanted (map standing_of (newcomer m 0 ∷ [])) (map standing_of new) text → IsOnly m new
+built_only m Tells cell wanted new text built =
+    let one = one_more cell built.handovers (standing_of (newcomer m 0)) new built.gains in
+    record { only = one.0; new_is = one.1; number_is = one.2; vars_are = one.3 }
+
+pub loaded_only : (m : Managed) (dump : Dump) (patterns : List (List Bool)) (old new : List Seen) (text : List ℕ) → old ≡ newcomer m 0 ∷ [] → IsLoadedIn dump patterns old new text → IsOnly m new
+loaded_only m dump patterns old new text is loaded =
+    let same : loaded.before ≡ newcomer m 0 = head_is (sym loaded.old_is ∙ is) in
+    record {
+      only = loaded.after;
+      new_is = loaded.new_is;
+      number_is = loaded.loads.number_is ∙ ap (λ (s : Seen). s.number) same;
+      vars_are = loaded.loads.vars_are ∙ ap variables_in same;
+    }
+  where
+    head_is : {a b : Seen} → a ∷ [] ≡ b ∷ [] → a ≡ b
+    head_is e = cc
+
+module _ (m : Managed) (new : List Seen) (one : IsOnly m new) where
   -- it is all sessions of its manager
-  pub are_all : m.sessions ≡ 1 → AreAll m new
-  are_all one = record {
+  pub are_all : All (λ (s : Seen). s.manager ≡ m) new → m.sessions ≡ 1 → AreAll m new
+  are_all own alone = record {
     own = own;
-    as_many = ap length only.1 ∙ sym one;
-    covered = λ p less. (0, only.0, ap (λ xs. get_elem? xs 0) only.1, only.2 ∙ (let n = one in omega (arith, n, less)));
+    as_many = ap length one.new_is ∙ sym alone;
+    covered = λ p less. (0, one.only, ap (λ xs. get_elem? xs 0) one.new_is, one.number_is ∙ (let n = alone in omega (arith, n, less)));
   }
 
   -- the slice that was lent has it
   pub written_back : (items : List Seen) (n : ℕ) → items ≡ newcomer m 0 ∷ [] → n ≡ length items → take n (new ++ drop (length new) items) ≡ new
   written_back items n at long =
-      let many = ap length only.1 in
+      let many = ap length one.new_is in
       let same = ap (length {A = Seen}) at in ap (λ k. take k (new ++ drop (length new) items)) (omega (arith, long, many, same)) ∙ take-append_seam new (drop (length new) items)
 
   history : (n : ℕ) (h : IsHistoryOf m new n) → (log : List Entry) × builds.IsLegalHistoryOf (sizes_for m.vars m.elements) log (map standing_of new)
   history n h =
-      let one : IsHistoryOf m (only.0 ∷ []) n = subst (λ (xs : List Seen). IsHistoryOf m xs n) only.1 h in
-      (one.log, subst (λ (xs : List Seen). builds.IsLegalHistoryOf (sizes_for m.vars m.elements) one.log (map standing_of xs)) (sym only.1) (history_of m only.0 n one))
+      let alone : IsHistoryOf m (one.only ∷ []) n = subst (λ (xs : List Seen). IsHistoryOf m xs n) one.new_is h in
+      (alone.log, subst (λ (xs : List Seen). builds.IsLegalHistoryOf (sizes_for m.vars m.elements) alone.log (map standing_of xs)) (sym one.new_is) (history_of m one.only n alone))
 
   vars_are : (n : ℕ) → m.vars ≡ n → All (λ (s : Standing). s.vars ≡ n) (map standing_of new)
   vars_are n vars =
-      subst (λ (xs : List Seen). All (λ (s : Standing). s.vars ≡ n) (map standing_of xs)) (sym only.1)
-      (All-cons (λ (t : Standing). t.vars ≡ n) (standing_of only.0) [] (only.3 ∙ zero-add m.vars ∙ vars) (All-nil (λ (t : Standing). t.vars ≡ n)))
+      subst (λ (xs : List Seen). All (λ (s : Standing). s.vars ≡ n) (map standing_of xs)) (sym one.new_is)
+      (All-cons (λ (t : Standing). t.vars ≡ n) (standing_of one.only) [] (one.vars_are ∙ zero-add m.vars ∙ vars) (All-nil (λ (t : Standing). t.vars ≡ n)))
 
-  none_before : All (λ (s : Standing). s.entries ≡ []) (map standing_of (newcomer m 0 ∷ []))
-  none_before = All-cons (λ (t : Standing). t.entries ≡ []) (standing_of (newcomer m 0)) [] refl (All-nil (λ (t : Standing). t.entries ≡ []))
+none_before : (m : Managed) → All (λ (s : Standing). s.entries ≡ []) (map standing_of (newcomer m 0 ∷ []))
+none_before m = All-cons (λ (t : Standing). t.entries ≡ []) (standing_of (newcomer m 0)) [] refl (All-nil (λ (t : Standing). t.entries ≡ []))
 
 -- the one session of a manager that builds, as it was lent and as it is left
 none_rows : (rows : List Row) → length rows ≡ 0 → rows ≡ []
@@ -162,24 +188,37 @@ pub unsifted_still : (sessions : List Standing) → AreUnsifted sessions session
 unsifted_still [] = tt
 unsifted_still (s ∷ sessions) = (none_gained s.entries, unsifted_still sessions)
 
-module _ (m : Managed) (net : Net) (new : List Seen) (text : List ℕ) (n : ℕ) (vars : m.vars ≡ length net.inputs) (own : All (λ (s : Seen). s.manager ≡ m) new)
-    (unsifted : AreUnsifted (map standing_of (newcomer m 0 ∷ [])) (map standing_of new)) (h : IsHistoryOf m new n) where
-  abbrev wanted_here : List (ℕ → Bool)
-  wanted_here = output_functions net
+-- what a part tells by one session is told of the wanted functions, under the order 0, 1, 2, ..
+pub told_of : UnsiftedTellingsAreTrue → (m : Managed) (net : Net) (new : List Seen) (text : List ℕ) (n : ℕ) → m.vars ≡ length net.inputs
+    → AreUnsifted (map standing_of (newcomer m 0 ∷ [])) (map standing_of new) → IsHistoryOf m new n → (telling : Telling) (patterns : List (List Bool))
+    → Builds (TellsOf net patterns telling) OUTPUTS_CELL (output_functions net) (map standing_of (newcomer m 0 ∷ [])) (map standing_of new) text
+    → IsAs telling (net_subject net (rising net) patterns) text
+told_of law m net new text n vars unsifted h telling patterns built =
+    let one = built_only m (TellsOf net patterns telling) OUTPUTS_CELL (output_functions net) new text built in
+    let is = history m new one n h in
+    law (length net.inputs) (output_names net) patterns telling (output_functions net) (sizes_for m.vars m.elements) is.0 (map standing_of (newcomer m 0 ∷ [])) (map standing_of new) OUTPUTS_CELL text vars
+    (vars_are m new one (length net.inputs) vars) (none_before m) unsifted is.1 built
 
-  abbrev old_here : List Standing
-  old_here = map standing_of (newcomer m 0 ∷ [])
+-- and so of a stored diagram
+pub loaded_as : LoadsAreTrue → (m : Managed) (dump : Dump) (patterns : List (List Bool)) (old new : List Seen) (text : List ℕ) (n : ℕ) → m.vars ≡ dump.nvars → old ≡ newcomer m 0 ∷ []
+    → AreUnsifted (map standing_of old) (map standing_of new) → IsHistoryOf m new n → IsLoadedIn dump patterns old new text
+    → IsReport (dump_subject dump (range_with_len 0 dump.nvars) patterns) text
+loaded_as law m dump patterns old new text n vars is unsifted h loaded =
+    let one = loaded_only m dump patterns old new text is loaded in
+    let legal = history m new one n h in
+    let fresh : (standing_of loaded.before).entries ≡ [] = subst (λ (s : Seen). (standing_of s).entries ≡ []) (sym (head_is (sym loaded.old_is ∙ is))) refl in
+    law dump patterns (sizes_for m.vars m.elements) legal.0 (standing_of loaded.before) (standing_of loaded.after) text vars fresh
+    (subst (λ (xs : List Seen). AreUnsifted (map standing_of xs) (standing_of loaded.after ∷ [])) loaded.old_is
+    (subst (λ (xs : List Seen). AreUnsifted (map standing_of old) (map standing_of xs)) loaded.new_is unsifted))
+    (subst (λ (xs : List Seen). builds.IsLegalHistoryOf (sizes_for m.vars m.elements) legal.0 (map standing_of xs)) loaded.new_is legal.1)
+    loaded.loads
+  where
+    head_is : {a b : Seen} → a ∷ [] ≡ b ∷ [] → a ≡ b
+    head_is e = cc
 
-  pub reported : UnsiftedReportsAreTrue → (patterns : List (List Bool)) → Builds (Reports net patterns) OUTPUTS_CELL wanted_here old_here (map standing_of new) text
-      → IsReport (net_subject net (rising net) patterns) text
-  reported law patterns built =
-      let Tells = Reports net patterns in
-      let is = history m Tells OUTPUTS_CELL wanted_here new text own built n h in
-      law (length net.inputs) (output_names net) patterns wanted_here (sizes_for m.vars m.elements) is.0 old_here (map standing_of new) OUTPUTS_CELL text vars
-      (vars_are m Tells OUTPUTS_CELL wanted_here new text own built (length net.inputs) vars) (none_before m Tells OUTPUTS_CELL wanted_here new text own built) unsifted is.1 built
-
-  pub summed_up : UnsiftedSummariesAreTrue → Builds (SumsUp net) OUTPUTS_CELL wanted_here old_here (map standing_of new) text → IsSummary (net_subject net (rising net) []) text
-  summed_up law built =
-      let is = history m (SumsUp net) OUTPUTS_CELL wanted_here new text own built n h in
-      law (length net.inputs) (output_names net) wanted_here (sizes_for m.vars m.elements) is.0 old_here (map standing_of new) OUTPUTS_CELL text vars
-      (vars_are m (SumsUp net) OUTPUTS_CELL wanted_here new text own built (length net.inputs) vars) (none_before m (SumsUp net) OUTPUTS_CELL wanted_here new text own built) unsifted is.1 built
+-- the slice that was lent to a part
+pub loaded_one : (dump : Dump) (patterns : List (List Bool)) (sessions : List Seen) (s d : Seen) (text : List ℕ) → length sessions ≡ 1
+    → Loads dump patterns (standing_of (get_or sessions 0 d)) (standing_of s) text → IsLoadedIn dump patterns sessions (slice_set sessions 0 s) text
+loaded_one dump patterns [] s d text one loads = absurd (let n = one in omega (arith, n))
+loaded_one dump patterns (a ∷ []) s d text one loads = record { before = a; after = s; old_is = refl; new_is = refl; loads = loads }
+loaded_one dump patterns (a ∷ b ∷ rest) s d text one loads = absurd (let n = one in omega (arith, n))

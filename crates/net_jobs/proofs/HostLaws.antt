@@ -25,13 +25,13 @@ use Rattle.seat_guard.specs.declared.view.Row.{Row}
 use Rattle.seat_guard.specs.Views.{stands_for}
 use Rattle.function_laws.specs.declared.history.Reply.TheVariants as replies
 use Rattle.function_laws.specs.Handovers.{posts_to}
-use Rattle.function_laws.specs.Functions.{and_of, not_of, or_of}
+use Rattle.function_laws.specs.Functions.{and_of, ite_of, not_of, or_of}
 use Rattle.function_laws.specs.Lists.{list_of, truth}
 use Rattle.function_laws.specs.SessionEntries.{entry}
-use Rattle.function_laws.specs.Outcomes.{as_bdd, makes, with_one, with_two}
+use Rattle.function_laws.specs.Outcomes.{as_bdd, makes, with_one, with_three, with_two}
 use Rattle.function_laws.specs.Steps.{TellsFull, outcome}
-use Rattle.function_laws.specs.Values.{assignment_of, conjunction, constant, disjunction, negation, projection}
-use Rattle.function_laws.proofs.BridgeLemmas.{and_of-list_of, not_of-list_of, place_two-list_of}
+use Rattle.function_laws.specs.Values.{assignment_of, conjunction, constant, disjunction, if_then_else, negation, projection}
+use Rattle.function_laws.proofs.BridgeLemmas.{and_of-list_of, ite_of-list_of, not_of-list_of, place_two-list_of}
 use Rattle.function_laws.proofs.StepLemmas.{outcome-var}
 use Rattle.dd_session.specs.declared.answers.Full.{Full}
 use Rattle.dd_session.specs.declared.answers.Placed.{Placed}
@@ -249,6 +249,14 @@ module _ (s : Seen) (board : ℕ → Option Function) where
     outcome-disjunction =
         ap₂ (λ o p. with_two (as_bdd o) (as_bdd p) (λ x y. makes (Bdd (or_of x y)))) (in_table a (Bdd (list_of size f)) first) (in_table b (Bdd (list_of size g)) second)
         ∙ ap (λ x. Some (makes (Bdd x))) (place_two-list_of (λ x y. x || y) size f g)
+
+  module _ (a b c : Name) (f g h : ℕ → Bool) (first : Stands a f) (second : Stands b g) (third : Stands c h) where
+    pub outcome-choice : outcome (table_of s board) s.number (calls.Makes (makings.Bdd (bdds.Ite a b c))) ≡ Some (makes (Bdd (list_of size (if_then_else f g h))))
+    outcome-choice =
+        ap₂ (λ o p. with_three (as_bdd o) (as_bdd p) (as_bdd ((table_of s board).live s.number c)) (λ x y z. makes (Bdd (ite_of x y z))))
+        (in_table a (Bdd (list_of size f)) first) (in_table b (Bdd (list_of size g)) second)
+        ∙ ap (λ o. with_one (as_bdd o) (λ z. makes (Bdd (ite_of (list_of size f) (list_of size g) z)))) (in_table c (Bdd (list_of size h)) third)
+        ∙ ap (λ x. Some (makes (Bdd x))) (ite_of-list_of size f g h)
 
 module _ (old new : Seen) where
   pub lets_go : (a : Name) (place : ℕ) → Called old new (calls.DropRow a) replies.Done place → length new.rows + 1 ≡ length old.rows → LetsGo (standing_of old) (standing_of new) a

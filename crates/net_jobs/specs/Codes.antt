@@ -11,5 +11,6 @@ code_of status.Full = 4
 code_of status.Memory = 5
 code_of status.ReadFault = 6
 code_of status.WriteFault = 7
+code_of status.Dddmp = 8
 code_of status.Job = 9
 code_of status.TooLong = 10

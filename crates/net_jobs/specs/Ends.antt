@@ -14,6 +14,11 @@ use Rattle.command_words.specs.declared.order.Options.{Options}
 use Rattle.command_words.specs.declared.order.Order.{Order}
 use Rattle.command_words.specs.declared.order.Order.TheVariants.{Play, Build, Load, Gen}
 use Rattle.command_words.specs.Orders.{is_play, order_of}
+use Rattle.dddmp_text.specs.declared.faults.DddmpFault.{DddmpFault}
+use Rattle.dddmp_text.specs.declared.faults.FaultKind.{FaultKind as DddmpKind}
+use Rattle.dddmp_text.specs.declared.faults.FaultKind.TheVariants as dddmp_kinds
+use Rattle.dddmp_text.specs.Faults.{IsDddmpText, fault_of as diagram_fault_of}
+use Rattle.diagram_dumps.specs.declared.dump.Dump.{Dump}
 use Rattle.job_text.specs.declared.job.Job.{Job}
 use Rattle.job_text.specs.declared.faults.JobFault.{JobFault}
 use Rattle.job_text.specs.declared.faults.FaultKind.{FaultKind}
@@ -23,15 +28,18 @@ use Rattle.job_text.specs.Faults.{IsFaultText}
 use Rattle.job_text.specs.Histories.{IsPlayed}
 use Rattle.byte_streams.specs.Causes.{FaultsRose}
 use Rattle.net_reports.specs.GenTexts.{gen_text}
-use Rattle.net_reports.specs.Reports.{IsReport, IsSummary, net_subject}
+use Rattle.net_builds.specs.Builds.{IsAs}
+use Rattle.net_builds.specs.declared.telling.Telling.{Telling}
+use Rattle.net_builds.specs.declared.telling.Telling.TheVariants.{Report, Stored}
+use Rattle.net_reports.specs.Reports.{IsReport, IsSummary, dump_subject, net_subject}
 use Rattle.net_jobs.specs.declared.status.Status.{Status}
 use Rattle.net_jobs.specs.declared.status.Status.TheVariants as status
 
--- the commands that run: `play`, and `build` and `gen` with one worker, without a sift and without a stored text behind the report
+-- the commands that run: `play`, `load`, and `build` and `gen` with one worker, without a sift
 abbrev pub runs : Order → Bool
 runs Play = true
-runs (Build workers limit options) = (workers == 1) && not options.sift && not options.store
-runs (Load patterns) = false
+runs (Build workers limit options) = (workers == 1) && not options.sift
+runs (Load patterns) = true
 runs (Gen workers bits) = workers == 1
 
 abbrev pub if_it_runs : Order → Option Order
@@ -78,6 +86,20 @@ blif_word blif_kinds.NoOutputs = codes "no-outputs"
 abbrev pub blif_line : BlifFault → List ℕ
 blif_line fault = codes "fault: blif " ++ decimal fault.line ++ codes " " ++ blif_word fault.what ++ codes "\n"
 
+-- the name of a kind of fault of a stored diagram's text
+abbrev pub dddmp_word : DddmpKind → List ℕ
+dddmp_word dddmp_kinds.Header = codes "header"
+dddmp_word dddmp_kinds.Missing = codes "missing"
+dddmp_word dddmp_kinds.Count = codes "count"
+dddmp_word dddmp_kinds.Node = codes "node"
+dddmp_word dddmp_kinds.Order = codes "order"
+dddmp_word dddmp_kinds.Variable = codes "variable"
+dddmp_word dddmp_kinds.Root = codes "root"
+dddmp_word dddmp_kinds.End = codes "end"
+
+abbrev pub dddmp_line : DddmpFault → List ℕ
+dddmp_line fault = codes "fault: dddmp " ++ decimal fault.line ++ codes " " ++ dddmp_word fault.what ++ codes "\n"
+
 -- so many slots are in use, of so many
 abbrev pub full_line : ℕ → ℕ → List ℕ
 full_line in_use limit = codes "fault: full " ++ decimal in_use ++ codes " of " ++ decimal limit ++ codes "\n"
@@ -94,23 +116,29 @@ Reads (Some (Gen workers bits)) = ⊥
 abbrev pub rising : Net → List ℕ
 rising net = range_with_len 0 (length net.inputs)
 
--- What a command tells: `play` the history of the job that it read, `build` the report of the network that it read, `gen` the summary of the network that is made. The source had `left` left when the run began and has `rest` left.
+-- what `build` tells: the report, and behind it the stored diagram of the outputs where that is asked for
+abbrev pub telling_of : Options → Telling
+telling_of options = if options.store then Stored else Report
+
+-- What a command tells: `play` the history of the job that it read, `build` what is due of the network that it read, `load` the report of the stored diagram that it read, `gen` the summary of the network that is made. The source had `left` left when the run began and has `rest` left.
 abbrev pub IsDone : Option Order → Option (List ℕ) → Option (List ℕ) → List ℕ → Type 0
 IsDone None left rest text = ⊥
 IsDone (Some Play) left rest text = (bytes : List ℕ) × (job : Job) × IsWhole left rest bytes × IsJobText bytes job × IsPlayed job text
 IsDone (Some (Build workers limit options)) left rest text =
-    (bytes : List ℕ) × (net : Net) × IsWhole left rest bytes × IsBlifText bytes net × IsReport (net_subject net (rising net) options.patterns) text
-IsDone (Some (Load patterns)) left rest text = ⊥
+    (bytes : List ℕ) × (net : Net) × IsWhole left rest bytes × IsBlifText bytes net × IsAs (telling_of options) (net_subject net (rising net) options.patterns) text
+IsDone (Some (Load patterns)) left rest text =
+    (bytes : List ℕ) × (dump : Dump) × IsWhole left rest bytes × IsDddmpText bytes dump × IsReport (dump_subject dump (range_with_len 0 dump.nvars) patterns) text
 IsDone (Some (Gen workers bits)) left rest text =
     (rest ≡ left) × (net : Net) × IsBlifText (gen_text bits) net × IsSummary (net_subject net (rising net) []) text
 
--- What is told of a full manager: 5 slots, one for each input and the limit are in use, of as many.
+-- What is told of a full manager: 5 slots, one for each variable and the limit are in use, of as many.
 abbrev pub IsFilled : Option Order → Option (List ℕ) → Option (List ℕ) → List ℕ → Type 0
 IsFilled None left rest text = ⊥
 IsFilled (Some Play) left rest text = ⊥
 IsFilled (Some (Build workers limit options)) left rest text =
     (bytes : List ℕ) × (net : Net) × IsWhole left rest bytes × IsBlifText bytes net × (text ≡ full_line (5 + length net.inputs + limit) (5 + length net.inputs + limit))
-IsFilled (Some (Load patterns)) left rest text = ⊥
+IsFilled (Some (Load patterns)) left rest text =
+    (bytes : List ℕ) × (dump : Dump) × IsWhole left rest bytes × IsDddmpText bytes dump × (text ≡ full_line (5 + dump.nvars + USUAL_LIMIT) (5 + dump.nvars + USUAL_LIMIT))
 IsFilled (Some (Gen workers bits)) left rest text =
     (rest ≡ left) × (net : Net) × IsBlifText (gen_text bits) net × (text ≡ full_line (5 + length net.inputs + USUAL_LIMIT) (5 + length net.inputs + USUAL_LIMIT))
 
@@ -119,6 +147,12 @@ abbrev pub IsFaulty : Option Order → Option (List ℕ) → Option (List ℕ) �
 IsFaulty (Some (Build workers limit options)) left rest text =
     (bytes : List ℕ) × (fault : BlifFault) × IsWhole left rest bytes × (fault_of bytes ≡ Some fault) × (text ≡ blif_line fault)
 IsFaulty _ left rest text = ⊥
+
+-- a fault of the text of a stored diagram that was to be loaded
+abbrev pub IsFaultyDiagram : Option Order → Option (List ℕ) → Option (List ℕ) → List ℕ → Type 0
+IsFaultyDiagram (Some (Load patterns)) left rest text =
+    (bytes : List ℕ) × (fault : DddmpFault) × IsWhole left rest bytes × (diagram_fault_of bytes ≡ Some fault) × (text ≡ dddmp_line fault)
+IsFaultyDiagram _ left rest text = ⊥
 
 -- What there is to tell: a status with its cause, and its text. The source had `left` left when the run began and has `rest`
 -- left; `failed` says that its count of faults rose. Want of memory alone has no cause. A failing sink is told of by itself.
@@ -130,6 +164,7 @@ Due order left rest failed status.Full text = IsFilled order left rest text
 Due order left rest failed status.Memory text = text ≡ codes "fault: memory\n"
 Due order left rest failed status.ReadFault text = Reads order × failed × (text ≡ codes "fault: read\n")
 Due order left rest failed status.WriteFault text = ⊥
+Due order left rest failed status.Dddmp text = IsFaultyDiagram order left rest text
 Due order left rest failed status.Job text =
     (order ≡ Some Play) × (bytes : List ℕ) × (fault : JobFault) × IsWhole left rest bytes × IsFaultText bytes fault.line fault.what × (text ≡ fault_line fault)
 Due order left rest failed status.TooLong text =
@@ -143,11 +178,17 @@ IsComplete = (bytes : List ℕ) (job : Job) (rest : Option (List ℕ)) (before n
     → Due (Some Play) (Some bytes) rest (FaultsRose before now) ended text → (ended ≡ status.Ok) ⊎ (ended ≡ status.Memory)
 
 -- Where the words ask for a network to be built, the source tells what it has left, which is the text of one and not too long, and
--- its count of faults did not rise, there is the report to tell, that the manager is full, or want of memory.
+-- its count of faults did not rise, there is what is due to tell, that the manager is full, or want of memory.
 abbrev pub IsCompleteForBuilds : Type 0
 IsCompleteForBuilds = (workers limit : ℕ) (options : Options) (bytes : List ℕ) (net : Net) (rest : Option (List ℕ)) (before now : ℕ) (ended : Status) (text : List ℕ)
     → IsBlifText bytes net → length bytes ≤ LONGEST_TEXT → (FaultsRose before now → ⊥)
     → Due (Some (Build workers limit options)) (Some bytes) rest (FaultsRose before now) ended text → (ended ≡ status.Ok) ⊎ ((ended ≡ status.Full) ⊎ (ended ≡ status.Memory))
+
+-- So it is where they ask for a stored diagram to be loaded.
+abbrev pub IsCompleteForLoads : Type 0
+IsCompleteForLoads = (patterns : List (List Bool)) (bytes : List ℕ) (dump : Dump) (rest : Option (List ℕ)) (before now : ℕ) (ended : Status) (text : List ℕ)
+    → IsDddmpText bytes dump → length bytes ≤ LONGEST_TEXT → (FaultsRose before now → ⊥)
+    → Due (Some (Load patterns)) (Some bytes) rest (FaultsRose before now) ended text → (ended ≡ status.Ok) ⊎ ((ended ≡ status.Full) ⊎ (ended ≡ status.Memory))
 
 -- Where they ask for a network that is made, whatever the source has left and whether or not it fails, there is the summary to
 -- tell, that the manager is full, or want of memory.

@@ -1,9 +1,11 @@
--- What comes of networks that are built.
-use Rattle.std.specs.Prelude.{◌≡◌, ℕ, ◌+◌, List, [], ◌∷◌}
+-- What comes of networks that are built, and of stored diagrams that are made.
+use Rattle.std.specs.Prelude.{◌≡◌, ℕ, ◌+◌, Bool, List, [], ◌∷◌}
 use Rattle.dd_session.specs.declared.answers.Full.{Full}
 use Rattle.dd_session.specs.Managing.{Managed, Seen, newcomer}
 use Rattle.net_builds.specs.declared.host.HostRefusal.{HostRefusal}
 use Rattle.net_builds.specs.declared.host.HostRefusal.TheVariants as stops
+use Rattle.diagram_dumps.specs.declared.dump.Dump.{Dump}
+use Rattle.net_builds.specs.Loads.{Loads}
 use Rattle.net_builds.specs.Outputs.{IsRefused}
 use Rattle.net_jobs.specs.Hosts.{TellsFullOf, standing_of}
 
@@ -25,6 +27,14 @@ pub record IsRefusedIn (cell : ℕ) (m : Managed) (old new : List Seen) (refusal
   pub old_is : old ≡ before ∷ []
   pub new_is : new ≡ after ∷ []
   pub refused : IsRefused (TellsFullOf m) cell (standing_of before) (standing_of after) refusal
+
+-- A stored diagram was made and told of by the one session of a manager.
+pub record IsLoadedIn (dump : Dump) (patterns : List (List Bool)) (old new : List Seen) (text : List ℕ) : Type 0 where
+  pub before : Seen
+  pub after : Seen
+  pub old_is : old ≡ before ∷ []
+  pub new_is : new ≡ after ∷ []
+  pub loads : Loads dump patterns (standing_of before) (standing_of after) text
 
 -- where it was not want of memory, all of so many slots were in use
 abbrev pub IsFilledBy : (ℕ → Type 0) → HostRefusal Full → Type 0

@@ -7,7 +7,7 @@ use Rattle.net_jobs.specs.declared.status.Status.TheVariants as status
 use Rattle.dd_session.specs.declared.answers.Full.{Full}
 use Rattle.net_builds.specs.declared.host.HostRefusal.{HostRefusal}
 use Rattle.net_builds.specs.declared.host.HostRefusal.TheVariants as stops
-use Rattle.net_jobs.specs.Ends.{blif_line, fault_line, full_line}
+use Rattle.net_jobs.specs.Ends.{blif_line, dddmp_line, fault_line, full_line}
 
 abbrev pub status_of : RunRefusal → Status
 status_of refusal.Usage = status.Usage
@@ -16,6 +16,7 @@ status_of refusal.Read = status.ReadFault
 status_of refusal.TooLong = status.TooLong
 status_of (refusal.Job fault) = status.Job
 status_of (refusal.Blif fault) = status.Blif
+status_of (refusal.Dddmp fault) = status.Dddmp
 status_of (refusal.Full full) = status.Full
 
 abbrev pub refusal_line : RunRefusal → List ℕ
@@ -25,6 +26,7 @@ refusal_line refusal.Read = codes "fault: read\n"
 refusal_line refusal.TooLong = codes "fault: too long\n"
 refusal_line (refusal.Job fault) = fault_line fault
 refusal_line (refusal.Blif fault) = blif_line fault
+refusal_line (refusal.Dddmp fault) = dddmp_line fault
 refusal_line (refusal.Full full) = full_line full.in_use full.limit
 
 -- what a part's stop is told as

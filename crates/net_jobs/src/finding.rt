@@ -3,7 +3,7 @@
 ghost use Rattle.std.specs.Prelude.{◌≡◌, ◌<◌, ◌≤◌, ◌^◌, All, length, false, ℕ, List as ListOf, Option, Some, IfOk, IfErr, string_bytes};
 ghost use Rattle.edge_bits.specs.declared.limits.TheConstants.{MOST_BITS, MOST_LIMIT, MOST_ROWS};
 ghost use Rattle.command_words.specs.declared.order.Order.{Order};
-ghost use Rattle.command_words.specs.declared.order.Order.TheVariants.{Build, Gen, Play};
+ghost use Rattle.command_words.specs.declared.order.Order.TheVariants.{Build, Gen, Load, Play};
 ghost use Rattle.job_text.specs.Grammar.{IsJob};
 ghost use Rattle.job_text.specs.Histories.{IsPlayed, left_text};
 ghost use Rattle.byte_streams.specs.Causes.{FaultsRose};
@@ -11,6 +11,7 @@ ghost use Rattle.net_jobs.specs.Ends.{Due, IsWhole, Reads};
 ghost use Rattle.net_jobs.specs.Refusals.{part_refusal, refusal_line, status_of};
 ghost use Rattle.net_jobs.specs.declared.status.Status.{Status};
 
+use crate::diagrams::diagram_report;
 use crate::gate::Gate;
 use crate::networks::{PartStop, report_of, summary_of};
 use crate::playing::play;
@@ -19,6 +20,7 @@ use blif_net::{BlifError, networks_are_bounded, read};
 use byte_streams::{ReadStop, Source, read_to_end};
 use command_words::Options;
 use dd_session::{Config, Manager, OpenFault};
+use dddmp_text::{DddmpError, dumps_are_bounded, read as read_diagram};
 use edge_bits::{LONGEST_TEXT, Memory};
 use job_text::{Job, JobError, parse};
 use std::alloc::{AllocError, Global};
@@ -110,7 +112,7 @@ fn refusal_of(stop: PartStop) -> RunRefusal
     }
 }
 
-/// The report of the network that the source holds, whatever the number of workers.
+/// What is due of the network that the source holds, whatever the number of workers.
 pub fn build_source<R: Wait + RandomSource, S: Source, G: Gate>(
     rt: &R,
     alloc: Global,
@@ -121,7 +123,6 @@ pub fn build_source<R: Wait + RandomSource, S: Source, G: Gate>(
 ) -> Result<Vec<u8>, RunRefusal>
     requires limit { limit ≤ MOST_LIMIT }
     requires unsifted { options.now.sift ≡ false }
-    requires unstored { options.now.store ≡ false }
     ensures text { IfOk result (λ text. (workers : ℕ) → Due (Some (Build workers limit options.now)) (S.left source.old) (S.left source.new)
         (FaultsRose (S.faults source.old) (S.faults source.new)) Status.Ok text.items) }
     ensures refusal { IfErr result (λ refusal. (workers : ℕ) → Due (Some (Build workers limit options.now)) (S.left source.old) (S.left source.new)
@@ -139,6 +140,32 @@ pub fn build_source<R: Wait + RandomSource, S: Source, G: Gate>(
     };
     networks_are_bounded();
     match report_of(rt, alloc, &net, limit, options, gate) {
+        Ok(text) => Ok(text),
+        Err(stop) => Err(refusal_of(stop)),
+    }
+}
+
+/// The report of the stored diagram that the source holds.
+pub fn load_source<R: Wait, S: Source, G: Gate>(
+    rt: &R,
+    alloc: Global,
+    options: &Options,
+    source: &mut S,
+    gate: &G,
+) -> Result<Vec<u8>, RunRefusal>
+    ensures text { IfOk result (λ text. Due (Some (Load options.now.patterns)) (S.left source.old) (S.left source.new)
+        (FaultsRose (S.faults source.old) (S.faults source.new)) Status.Ok text.items) }
+    ensures refusal { IfErr result (λ refusal. Due (Some (Load options.now.patterns)) (S.left source.old) (S.left source.new)
+        (FaultsRose (S.faults source.old) (S.faults source.new)) (status_of refusal) (refusal_line refusal)) }
+{
+    let text = whole_text(alloc, source)?;
+    let dump = match read_diagram(alloc, &text) {
+        Ok(dump) => dump,
+        Err(DddmpError::Memory) => return Err(RunRefusal::Memory),
+        Err(DddmpError::Fault(fault)) => return Err(RunRefusal::Dddmp(fault)),
+    };
+    dumps_are_bounded();
+    match diagram_report(rt, alloc, &dump, options, gate) {
         Ok(text) => Ok(text),
         Err(stop) => Err(refusal_of(stop)),
     }

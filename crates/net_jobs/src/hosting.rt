@@ -146,6 +146,17 @@ impl<'a, R: Wait, G: Gate> Host for SessionHost<'a, R, G> {
         named(session.or(self.rt, self.manager, f, g))
     }
 
+    fn choice(
+        &self,
+        session: &mut Session,
+        f: Name,
+        g: Name,
+        h: Name,
+    ) -> Result<Name, HostRefusal<Full>> {
+        ready(self.rt, session);
+        named(session.ite(self.rt, self.manager, f, g, h))
+    }
+
     fn let_go(&self, session: &mut Session, f: Name) {
         ready(self.rt, session);
         let _placed = session.drop_row(self.rt, self.manager, f);

@@ -2,6 +2,7 @@
 #![tactic(auto)]
 
 mod answering;
+mod diagrams;
 mod evaluation;
 mod finding;
 mod gate;
@@ -19,6 +20,7 @@ mod top;
 
 pub use byte_streams::{Bytes, Discard, Failed, Pieces, Sink, Source, SureBytes};
 pub use command_words::Options;
+pub use diagrams::load;
 pub use gate::{Gate, Open};
 pub use hosting::SessionHost;
 pub use net_reports::gen_text;
@@ -27,5 +29,6 @@ pub use playing::play;
 pub use said::Said;
 pub use status::Status;
 pub use top::{
-    builds_are_complete, made_networks_are_complete, plays_are_complete, refuse_memory, run,
+    builds_are_complete, loads_are_complete, made_networks_are_complete, plays_are_complete,
+    refuse_memory, run,
 };

@@ -5,10 +5,11 @@ ghost use Rattle.edge_bits.specs.declared.limits.TheConstants.{MOST_BITS, MOST_L
 ghost use Rattle.blif_net.specs.Bounds.{IsBounded};
 ghost use Rattle.blif_net.specs.declared.net.Net.{Net as NetOf};
 ghost use Rattle.blif_net.specs.Networks.{IsBlifText};
-ghost use Rattle.net_builds.specs.Builds.{AreUnsifted, Builds, Reports, SumsUp};
+ghost use Rattle.net_builds.specs.Builds.{AreUnsifted, Builds, IsAs, TellsOf};
+ghost use Rattle.net_builds.specs.declared.telling.Telling.TheVariants.{Summary};
 ghost use Rattle.net_reports.specs.GenTexts.{gen_text};
-ghost use Rattle.net_reports.specs.Reports.{IsReport, IsSummary, net_subject, output_functions};
-ghost use Rattle.net_jobs.specs.Ends.{rising};
+ghost use Rattle.net_reports.specs.Reports.{IsSummary, net_subject, output_functions};
+ghost use Rattle.net_jobs.specs.Ends.{rising, telling_of};
 ghost use Rattle.net_jobs.specs.Hosts.{standing_of};
 ghost use Rattle.net_jobs.specs.Networks.{IsFilledBy, IsFreshOf, IsOpenedFor, IsRefusedIn};
 
@@ -17,8 +18,8 @@ use crate::hosting::SessionHost;
 use blif_net::{BlifError, Net, networks_are_bounded, read, texts_have_one_reading};
 use command_words::Options;
 use dd_session::{Config, Full, Manager, OpenFault, Session};
-use edge_bits::{Memory, USUAL_LIMIT};
-use net_builds::{HostRefusal, build_report, build_summary, reports_are_true, summaries_are_true};
+use edge_bits::{List, Memory, USUAL_LIMIT};
+use net_builds::{HostRefusal, Telling, build_network, tellings_are_true};
 use net_reports::gen_text;
 use std::alloc::Global;
 use std::hash::RandomState;
@@ -31,8 +32,19 @@ pub const OUTPUTS_CELL: u32 = 0;
 /// Why a part has nothing to tell: want of memory, or a call of a session was refused for a full node table.
 pub type PartStop = HostRefusal<Full>;
 
+/// What is told of a network that is built.
+fn telling_of(options: &Options) -> Telling
+    ensures { result ≡ telling_of options.now }
+{
+    if options.store {
+        Telling::Stored
+    } else {
+        Telling::Report
+    }
+}
+
 /// Builds a network by the one session of a manager, which has no live row and knows of no variable that was added: the report of its
-/// outputs, with their values at each pattern. The gate is passed as worker 0 before each output. The session is left so, with no
+/// outputs, with their values at each pattern, and behind it the stored diagram of the outputs where the options ask for it. The gate is passed as worker 0 before each output. The session is left so, with no
 /// live row, also where it was refused; the cell of the outputs keeps what was posted last.
 pub fn build<R: Wait, G: Gate>(
     rt: &R,
@@ -48,10 +60,9 @@ pub fn build<R: Wait, G: Gate>(
     requires bounded { IsBounded net.now }
     requires vars { manager.now.vars ≡ length net.now.inputs }
     requires unsifted { options.now.sift ≡ false }
-    requires unstored { options.now.store ≡ false }
     ensures fresh { All (IsFreshOf manager.now) sessions.new }
     ensures unsifted { AreUnsifted (map standing_of sessions.old) (map standing_of sessions.new) }
-    ensures built { IfOk result (λ text. Builds (Reports net.now options.now.patterns) OUTPUTS_CELL (output_functions net.now) (map standing_of sessions.old) (map standing_of sessions.new) text.items) }
+    ensures built { IfOk result (λ text. Builds (TellsOf net.now options.now.patterns (telling_of options.now)) OUTPUTS_CELL (output_functions net.now) (map standing_of sessions.old) (map standing_of sessions.new) text.items) }
     ensures refused { IfErr result (IsRefusedIn OUTPUTS_CELL manager.now sessions.old sessions.new) }
 {
     let host = SessionHost {
@@ -61,15 +72,15 @@ pub fn build<R: Wait, G: Gate>(
         worker: 0,
         since: sessions[0].calls(),
     };
-    let patterns = options.patterns.as_slice();
-    build_report(
+    build_network(
         rt,
         alloc,
         &host,
         &mut sessions[0],
         OUTPUTS_CELL,
         net,
-        patterns,
+        telling_of(options),
+        options.patterns.as_slice(),
     )
 }
 
@@ -108,7 +119,7 @@ pub fn generate<R: Wait + RandomSource, G: Gate>(
     requires vars { manager.now.vars ≡ 2 * bits }
     ensures fresh { All (IsFreshOf manager.now) sessions.new }
     ensures unsifted { AreUnsifted (map standing_of sessions.old) (map standing_of sessions.new) }
-    ensures built { IfOk result (λ text. (net : NetOf) × IsBlifText (gen_text bits) net × (length net.inputs ≡ 2 * bits) × Builds (SumsUp net) OUTPUTS_CELL (output_functions net) (map standing_of sessions.old) (map standing_of sessions.new) text.items) }
+    ensures built { IfOk result (λ text. (net : NetOf) × IsBlifText (gen_text bits) net × (length net.inputs ≡ 2 * bits) × Builds (TellsOf net [] Summary) OUTPUTS_CELL (output_functions net) (map standing_of sessions.old) (map standing_of sessions.new) text.items) }
     ensures refused { IfErr result (λ stop. ((stop ≡ HostRefusal.Memory) × (sessions.new ≡ sessions.old)) ⊎ ((net : NetOf) × IsBlifText (gen_text bits) net × (length net.inputs ≡ 2 * bits) × IsRefusedIn OUTPUTS_CELL manager.now sessions.old sessions.new stop)) }
 {
     let Ok(net) = made(rt, alloc, bits) else {
@@ -122,11 +133,21 @@ pub fn generate<R: Wait + RandomSource, G: Gate>(
         worker: 0,
         since: sessions[0].calls(),
     };
-    build_summary(rt, alloc, &host, &mut sessions[0], OUTPUTS_CELL, &net)
+    let none: [List<bool>; 0] = [];
+    build_network(
+        rt,
+        alloc,
+        &host,
+        &mut sessions[0],
+        OUTPUTS_CELL,
+        &net,
+        Telling::Summary,
+        none.as_slice(),
+    )
 }
 
 /// A manager with one session, for so many inputs and so many slots beyond the permanent ones.
-fn opened(alloc: Global, inputs: u32, limit: u32) -> Result<(Manager, Vec<Session>), Memory>
+pub fn opened(alloc: Global, inputs: u32, limit: u32) -> Result<(Manager, Vec<Session>), Memory>
     requires inputs { inputs ≤ MOST_VARIABLES }
     requires limit { limit ≤ MOST_LIMIT }
     ensures { IfOk result (λ r. IsOpenedFor inputs limit r.0 r.1.items) }
@@ -143,7 +164,7 @@ fn opened(alloc: Global, inputs: u32, limit: u32) -> Result<(Manager, Vec<Sessio
     }
 }
 
-/// The report of a network, built in a manager of its own with so many slots beyond the permanent ones. A call bound to
+/// What is due of a network, built in a manager of its own with so many slots beyond the permanent ones. A call bound to
 /// nothing is there for what it tells.
 pub fn report_of<R: Wait, G: Gate>(
     rt: &R,
@@ -156,8 +177,7 @@ pub fn report_of<R: Wait, G: Gate>(
     requires bounded { IsBounded net.now }
     requires limit { limit ≤ MOST_LIMIT }
     requires unsifted { options.now.sift ≡ false }
-    requires unstored { options.now.store ≡ false }
-    ensures report { IfOk result (λ text. IsReport (net_subject net.now (rising net.now) options.now.patterns) text.items) }
+    ensures report { IfOk result (λ text. IsAs (telling_of options.now) (net_subject net.now (rising net.now) options.now.patterns) text.items) }
     ensures full { IfErr result (IsFilledBy (λ slots. slots ≡ 5 + length net.now.inputs + limit)) }
 {
     let Ok((manager, mut sessions)) = opened(alloc, net.inputs().len() as u32, limit) else {
@@ -165,7 +185,7 @@ pub fn report_of<R: Wait, G: Gate>(
     };
     let text = build(rt, alloc, &manager, &mut sessions, net, options, gate)?;
     let _closed = manager.close(rt, sessions);
-    reports_are_true();
+    tellings_are_true();
     Ok(text)
 }
 
@@ -185,6 +205,6 @@ pub fn summary_of<R: Wait + RandomSource, G: Gate>(
     };
     let text = generate(rt, alloc, &manager, &mut sessions, bits, gate)?;
     let _closed = manager.close(rt, sessions);
-    summaries_are_true();
+    tellings_are_true();
     Ok(text)
 }

@@ -2,12 +2,13 @@
 
 ghost use Rattle.std.specs.Prelude.{◌≡◌, ◌++◌, codes, IfOk, string_bytes};
 ghost use Rattle.std.specs.Fmt.{decimal};
-ghost use Rattle.net_jobs.specs.Ends.{blif_word, kind_word};
+ghost use Rattle.net_jobs.specs.Ends.{blif_word, dddmp_word, kind_word};
 ghost use Rattle.net_jobs.specs.Refusals.{refusal_line, status_of};
 
 use crate::status::Status;
 use blif_net::{BlifFault, FaultKind as BlifKind};
 use dd_session::Full;
+use dddmp_text::{DddmpFault, FaultKind as DddmpKind};
 use job_text::{FaultKind, JobFault};
 use std::alloc::{AllocError, Global};
 
@@ -20,6 +21,7 @@ pub enum RunRefusal {
     TooLong,
     Job(JobFault),
     Blif(BlifFault),
+    Dddmp(DddmpFault),
     Full(Full),
 }
 
@@ -35,6 +37,7 @@ impl RunRefusal {
             RunRefusal::TooLong => Status::TooLong,
             RunRefusal::Job(_) => Status::Job,
             RunRefusal::Blif(_) => Status::Blif,
+            RunRefusal::Dddmp(_) => Status::Dddmp,
             RunRefusal::Full(_) => Status::Full,
         }
     }
@@ -50,6 +53,7 @@ impl RunRefusal {
             RunRefusal::TooLong => String::from_str(alloc, "fault: too long\n"),
             RunRefusal::Job(fault) => job_line(alloc, fault.line, kind_name(fault.what)),
             RunRefusal::Blif(fault) => blif_line(alloc, fault.line, blif_name(fault.what)),
+            RunRefusal::Dddmp(fault) => dddmp_line(alloc, fault.line, dddmp_name(fault.what)),
             RunRefusal::Full(full) => full_line(alloc, full.in_use, full.limit),
         }
     }
@@ -98,6 +102,29 @@ fn blif_line(alloc: Global, line: u64, kind: &str) -> Result<String, AllocError>
     ensures { IfOk result (λ text. string_bytes text ≡ codes "fault: blif " ++ decimal line ++ codes " " ++ kind.now ++ codes "\n") }
 {
     format!(in alloc; "fault: blif {line} {kind}\n")
+}
+
+/// The name of a kind of fault of a stored diagram's text.
+fn dddmp_name(kind: DddmpKind) -> &'static str
+    ensures { result.now ≡ dddmp_word kind }
+{
+    match kind {
+        DddmpKind::Header => "header",
+        DddmpKind::Missing => "missing",
+        DddmpKind::Count => "count",
+        DddmpKind::Variable => "variable",
+        DddmpKind::Root => "root",
+        DddmpKind::Node => "node",
+        DddmpKind::Order => "order",
+        DddmpKind::End => "end",
+    }
+}
+
+/// The line of a faulty stored diagram's text.
+fn dddmp_line(alloc: Global, line: u64, kind: &str) -> Result<String, AllocError>
+    ensures { IfOk result (λ text. string_bytes text ≡ codes "fault: dddmp " ++ decimal line ++ codes " " ++ kind.now ++ codes "\n") }
+{
+    format!(in alloc; "fault: dddmp {line} {kind}\n")
 }
 
 /// The line of a full manager.

@@ -20,6 +20,8 @@ pub enum Status {
     ReadFault,
     /// A write failed.
     WriteFault,
+    /// The text is not that of a stored diagram.
+    Dddmp,
     /// The text is not that of a job.
     Job,
     /// More bytes came than are read.
@@ -39,6 +41,7 @@ impl Status {
             Status::Memory => 5,
             Status::ReadFault => 6,
             Status::WriteFault => 7,
+            Status::Dddmp => 8,
             Status::Job => 9,
             Status::TooLong => 10,
         }

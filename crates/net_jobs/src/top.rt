@@ -5,17 +5,17 @@ ghost use Rattle.std.specs.Io.KnownBytes.{Appends};
 ghost use Rattle.command_words.specs.declared.order.Order.TheVariants.{Gen};
 ghost use Rattle.command_words.specs.Orders.{IsInRange};
 ghost use Rattle.byte_streams.specs.Causes.{FaultsRose, AppendsFront};
-ghost use Rattle.net_jobs.specs.Ends.{Due, IsComplete, IsCompleteForBuilds, IsCompleteForMade, PlaysAlone, asked_of, runs};
+ghost use Rattle.net_jobs.specs.Ends.{Due, IsComplete, IsCompleteForBuilds, IsCompleteForLoads, IsCompleteForMade, PlaysAlone, asked_of, runs};
 ghost use Rattle.net_jobs.specs.Refusals.{refusal_line, status_of};
 ghost use Rattle.net_jobs.specs.declared.status.Status.{Status};
 ghost use Rattle.net_jobs.specs.declared.status.Status.TheVariants.{Memory as WantOfMemory, WriteFault};
 
-use crate::finding::{build_source, made_summary, play_source};
+use crate::finding::{build_source, load_source, made_summary, play_source};
 use crate::gate::Gate;
 use crate::refusal::RunRefusal;
 use crate::status::Status;
 use byte_streams::{Sink, Source, write_to_end};
-use command_words::{Order, read_words};
+use command_words::{Options, Order, read_words};
 use edge_bits::Memory;
 use std::alloc::Global;
 use std::random::RandomSource;
@@ -32,8 +32,8 @@ fn runs(order: &Order) -> bool
             workers,
             options,
             ..
-        } => *workers == 1 && !options.sift && !options.store,
-        Order::Load { .. } => false,
+        } => *workers == 1 && !options.sift,
+        Order::Load { .. } => true,
         Order::Gen { workers, .. } => *workers == 1,
     }
 }
@@ -78,7 +78,14 @@ fn find<R: Threads + Wait + Sync + RandomSource, S: Source, G: Gate>(
             build_source(rt, alloc, limit, &options, source, gate)
         }
         Ok(Some(Order::Gen { bits, .. })) => made_summary(rt, alloc, bits, gate),
-        Ok(Some(Order::Load { .. })) => unreachable!(),
+        Ok(Some(Order::Load { patterns })) => {
+            let options = Options {
+                sift: false,
+                store: false,
+                patterns,
+            };
+            load_source(rt, alloc, &options, source, gate)
+        }
         Ok(None) => Err(RunRefusal::Usage),
         Err(Memory) => Err(RunRefusal::Memory),
     }
@@ -106,8 +113,9 @@ pub fn refuse_memory<K: Sink>(sink: &mut K) -> Status
 
 /// Runs the command that the words ask for, from the source to the sink. The words are those after the program's name.
 ///
-/// `play` reads the text of a job and writes the text of its history. `build` reads a network and writes its report. `gen` makes a
-/// network and writes its summary. The checks come in this order: words, reading, length, format, work, writing; a refused run
+/// `play` reads the text of a job and writes the text of its history. `build` reads a network and writes its report, with `--store` the
+/// stored diagram of its outputs behind it. `load` reads a stored diagram and writes its report. `gen` makes a network and writes its
+/// summary. The checks come in this order: words, reading, length, format, work, writing; a refused run
 /// writes its one line alone.
 #[tactic(auto, using(crate::proofs::WordLemmas::plays_alone))]
 pub fn run<R: Threads + Wait + Sync + RandomSource, S: Source, K: Sink, G: Gate>(
@@ -152,10 +160,16 @@ pub fn plays_are_complete()
     ensures { IsComplete }
 {}
 
-/// Where the text is that of a network and nothing failed, a run of `build` tells its report, that the manager is full, or want of
-/// memory.
+/// Where the text is that of a network and nothing failed, a run of `build` tells what is due of it, that the manager is full, or want
+/// of memory.
 pub fn builds_are_complete()
     ensures { IsCompleteForBuilds }
+{}
+
+/// Where the text is that of a stored diagram and nothing failed, a run of `load` tells its report, that the manager is full, or want of
+/// memory.
+pub fn loads_are_complete()
+    ensures { IsCompleteForLoads }
 {}
 
 /// A run of `gen` tells the summary, that the manager is full, or want of memory, whatever becomes of the source.

@@ -1,6 +1,7 @@
 use Rattle.std.proofs.Common.{[], List, ℕ}
 use Rattle.net_reports.specs.declared.classes.Class.{Class}
-use Rattle.net_builds.specs.Builds.{SumsUp}
+use Rattle.net_builds.specs.Builds.{TellsOf}
+use Rattle.net_builds.specs.declared.telling.Telling.TheVariants.{Summary}
 use Rattle.net_builds.proofs.TellingLemmas.{asks_none, is_told, looks_listed, looks_same, summed_up}
 use Rattle.net_builds.proofs.telling.tell_summary.Goals as goal
 
@@ -15,8 +16,8 @@ returns-clause-told g c =
     let classes : List Class = c.in_ok-classes.classes.items in
     let seen : List Class = c.deref.result.now in
     let text : List ℕ = c.in_ok-text.text.items in
-    is_told (SumsUp net) old mid mid names listing text lists (asks_none mid)
-    (summed_up net old mid names listing lists classes c.node_count.result text c.requires.may.vars
+    λ patterns. is_told (TellsOf net patterns Summary) old mid mid names listing text lists (asks_none mid)
+    (summed_up net patterns old mid names listing lists classes c.node_count.result text c.requires.may.vars
     (c.in_ok-classes.ensures.by_function listing.order lists.functions lists.is_listing)
     (c.node_count.ensures (record { variables = listing.order; elements = [] }) lists.functions lists.is_listing) seen c.deref.ensures.value c.in_ok-text.ensures.text)
 
