@@ -108,6 +108,7 @@ module _ (d e : Draws) (x : Shared) (took : Took d e x) where
     has = has_rows table d spare x (stands_taken d e x took);
     same = refl;
     found = sym found;
+    limit_is = ap (λ (p : ℕ × ℕ × ℕ). p.2) (stands_taken d e x took).counts_are;
     is_sifted = sifted_beside order blocks (content_view x.store) (content_view y.store) sifted is;
     variables_are = refl;
     elements_are = refl;

@@ -33,6 +33,8 @@ pub record IsSiftTold (order : Order) (blocks : List Block) (old new : Seen) (to
   pub has : HasRows seen old
   pub same : seen.content ≡ before.function
   pub found : functions_below (whole_of seen) before.function before.limit ≡ new.found
+  -- it has as many slots as the manager was opened with
+  pub limit_is : before.limit ≡ old.manager.limit
   pub is_sifted : IsSifted ZeroStays order blocks before after sifted
   -- the entry has both orders at the start, the functions of the slots whose count was read as above 0, and the order that was left
   pub variables_are : told.variables ≡ before.orders.variables
