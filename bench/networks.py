@@ -137,4 +137,5 @@ def main():
         line(name, ours, other, others)
 
 
-main()
+if __name__ == "__main__":
+    main()

@@ -5,12 +5,17 @@ usage: networks.py PROGRAM
 
 Each network here is a text of the Berkeley Logic Interchange Format with a few inputs, and the words behind `build`. Its outputs
 are evaluated at each assignment of the inputs; classes, values and the number of nodes are counted from these tables, where no
-node occurs: the nodes are the distinct functions, up to complement, among the cofactors by the first inputs. A comment of an example
-that begins with `out`, `eval` or `nodes` is a line of its report. The networks of `gen` have known summaries.
+node occurs: the nodes are the distinct functions, up to complement, among the cofactors by the first inputs of the order. Some are
+built by three workers, and some are sifted: the order is then reckoned by the rule of sifting over the tables. A comment of an
+example that begins with `out`, `eval` or `nodes` is a line of its report. The networks of `gen` have known summaries.
 """
 import random
 import subprocess
 import sys
+
+from sifts import Store, parts
+
+USUAL_LIMIT = 262144
 
 
 def read(text):
@@ -61,30 +66,34 @@ def values_of(table, size):
     return tuple(table >> k & 1 for k in range(size))
 
 
-def up_to_complement(values):
-    return values if values[0] == 0 else tuple(1 - v for v in values)
+def nodes(functions, order):
+    """The number of distinct cofactors by the first inputs of the order, up to complement."""
+    return len(set().union(*(parts("b", values, order) for values in functions)))
 
 
-def nodes(functions):
-    """The number of distinct cofactors by the first inputs, up to complement."""
-    whole = len(functions[0])
-    found = set()
-    for values in functions:
-        level = {values}
-        while level:
-            found |= {up_to_complement(widened(v, whole)) for v in level}
-            # Input 0 is bit 0 of an assignment, so that its cofactors are the values at every other one.
-            level = {v[b::2] for v in level if len(v) > 1 for b in (0, 1)}
-    return len(found)
+class Outputs(Store):
+    """The functions of a network's outputs, with the sizes of the orders that were met."""
+
+    def __init__(self, n, functions):
+        super().__init__(n, 0, [("b", values) for values in functions])
+        self.known = {}
+
+    def sizes(self, orders, which):
+        key = tuple(orders[0])
+        if key not in self.known:
+            self.known[key] = super().sizes(orders, which)
+        return self.known[key]
 
 
-def widened(values, whole):
-    """The values of a function of the last inputs at each assignment of all."""
-    step = whole // len(values)
-    return tuple(values[k // step] for k in range(whole))
+def order_of(n, functions, sifts):
+    """The order of the inputs, or the one that a sift leaves."""
+    order = list(range(n))
+    if not sifts:
+        return order
+    return Outputs(n, functions).sift([order, []], 0, 5 + n + USUAL_LIMIT)[0]
 
 
-def report(text, patterns):
+def report(text, patterns, sifts=False):
     inputs, outputs, covers = read(text)
     table, size, every = tables(inputs, covers)
     functions = [table(name) for name in outputs]
@@ -95,8 +104,10 @@ def report(text, patterns):
     for pattern in patterns:
         at = sum(1 << i for i, bit in enumerate(pattern[: len(inputs)]) if bit == "1")
         lines.append(f"eval {pattern} -> " + "".join(str(f >> at & 1) for f in functions))
-    lines.append(" ".join(["order"] + [str(i) for i in range(len(inputs))]))
-    lines.append(f"nodes {nodes([values_of(f, size) for f in functions])}")
+    values = [values_of(f, size) for f in functions]
+    order = order_of(len(inputs), values, sifts)
+    lines.append(" ".join(["order"] + [str(i) for i in order]))
+    lines.append(f"nodes {nodes(values, order)}")
     return "".join(line + "\n" for line in lines)
 
 
@@ -113,6 +124,21 @@ def made(rng, most=6):
     rng.shuffle(covers)
     outputs = [rng.choice(signals) for _ in range(rng.randint(1, 6))]
     return f".model m\n.inputs {' '.join(inputs)}\n.outputs {' '.join(outputs)}\n" + "".join(covers) + ".end\n"
+
+
+def crossed(rng):
+    """A network of a few sums of products of pairs of inputs, which stand far from each other: an order where they do not has fewer nodes."""
+    inputs = [f"i{k}" for k in range(rng.randint(4, 6))]
+    covers, outputs = [], [f"f{k}" for k in range(rng.randint(1, 2))]
+    for output in outputs:
+        rows = []
+        for _ in range(rng.randint(2, 3)):
+            row = ["-"] * len(inputs)
+            for k in rng.sample(range(len(inputs)), 2):
+                row[k] = rng.choice("01")
+            rows.append("".join(row) + " 1\n")
+        covers.append(f".names {' '.join(inputs)} {output}\n" + "".join(rows))
+    return f".inputs {' '.join(inputs)}\n.outputs {' '.join(outputs)}\n" + "".join(covers) + ".end\n"
 
 
 def generated(program):
@@ -159,16 +185,19 @@ def main():
     ]:
         with open(f"examples/{name}.blif") as file:
             text = file.read()
-        jobs.append((name, text, patterns, said(text)))
-    jobs += [(f"{first} and {second}", in_one_text(first, second), [], lines) for first, second, lines in pairs()]
+        jobs.append((name, text, [], patterns, said(text)))
+    jobs += [(f"{first} and {second}", in_one_text(first, second), [], [], lines) for first, second, lines in pairs()]
     rng = random.Random(2026)
-    for k in range(300):
-        patterns = ["".join(rng.choice("01") for _ in range(rng.randint(1, 8))) for _ in range(rng.randint(0, 3))]
-        jobs.append((f"network {k}", made(rng), patterns, []))
-    faults = generated(program)
-    for name, text, patterns, lines in jobs:
-        ran = subprocess.run([program, "build", *patterns], input=text.encode(), capture_output=True, timeout=60)
-        due = report(text, patterns)
+    for kind, options in [("", []), ("by three workers ", ["--workers", "3"]), ("sifted ", ["--sift"])]:
+        for k in range(300):
+            patterns = ["".join(rng.choice("01") for _ in range(rng.randint(1, 8))) for _ in range(rng.randint(0, 3))]
+            text = crossed(rng) if "--sift" in options and k % 2 else made(rng)
+            jobs.append((f"network {kind}{k}", text, options, patterns, []))
+    faults, moved = generated(program), 0
+    for name, text, options, patterns, lines in jobs:
+        ran = subprocess.run([program, "build", *options, *patterns], input=text.encode(), capture_output=True, timeout=60)
+        due = report(text, patterns, "--sift" in options)
+        moved += due.split("\n")[-3] != " ".join(["order"] + [str(i) for i in range(len(read(text)[0]))])
         missing = [line for line in lines if line not in due.split("\n")]
         if missing:
             faults += 1
@@ -176,8 +205,8 @@ def main():
         if ran.returncode != 0 or ran.stderr or ran.stdout.decode() != due:
             faults += 1
             print(f"NOT AS DUE {name}: status {ran.returncode}\n{text}\ncame\n{ran.stdout.decode()}\ndue\n{due}")
-    print(f"{len(jobs)} networks judged and 256 made, {faults} faults")
-    return 1 if faults else 0
+    print(f"{len(jobs)} networks judged, {moved} of them in another order, and 256 made, {faults} faults")
+    return faults > 0 or moved == 0
 
 
 if __name__ == "__main__":

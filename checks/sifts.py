@@ -222,4 +222,5 @@ def main(program):
     return faults > 0 or plays < JOBS or 0 in corners_met.values()
 
 
-sys.exit(main(*sys.argv[1:]))
+if __name__ == "__main__":
+    sys.exit(main(*sys.argv[1:]))

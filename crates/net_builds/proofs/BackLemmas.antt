@@ -12,6 +12,10 @@ pub ok_weaker : {X E : Type 0} (P Q : X → Type 0) → ((x : X) → P x → Q x
 ok_weaker P Q weaker (Ok x) holds = weaker x holds
 ok_weaker P Q weaker (Err e) holds = tt
 
+pub ok_both : {X E : Type 0} (P Q R : X → Type 0) → ((x : X) → P x → Q x → R x) → (result : Result X E) → IfOk result P → IfOk result Q → IfOk result R
+ok_both P Q R both (Ok x) first second = both x first second
+ok_both P Q R both (Err e) first second = tt
+
 pub err_weaker : {X E : Type 0} (P Q : E → Type 0) → ((e : E) → P e → Q e) → (result : Result X E) → IfErr result P → IfErr result Q
 err_weaker P Q weaker (Ok x) holds = tt
 err_weaker P Q weaker (Err e) holds = weaker e holds

@@ -5,7 +5,7 @@ use Rattle.std.proofs.lemmas.List.Elements.{All-contains}
 use Rattle.function_laws.specs.declared.history.Entry.{Entry}
 use Rattle.net_builds.proofs.HandedLaw.{Has}
 
-has-at : (es : List Entry) (k : ℕ) (d : Entry) → k < length es → Has (get_or es k d) es
+pub has-at : (es : List Entry) (k : ℕ) (d : Entry) → k < length es → Has (get_or es k d) es
 has-at [] k d less = absurd (omega (arith, less))
 has-at (e ∷ es) zero d less = inl refl
 has-at (e ∷ es) (suc k) d less = inr (has-at es k d (omega (arith, less)))

@@ -34,7 +34,7 @@ has-right e [] ys has = has
 has-right e (x ∷ xs) ys has = inr (has-right e xs ys has)
 
 -- an entry of a legal history stands at its place
-split : (n : ℕ) (t : Table) (log : List Entry) (e : Entry) → IsLegalFrom n t log → Has e log → (before : List Entry) × (rest : List Entry) × (log ≡ before ++ e ∷ rest) × (e.place ≡ n + length before)
+pub split : (n : ℕ) (t : Table) (log : List Entry) (e : Entry) → IsLegalFrom n t log → Has e log → (before : List Entry) × (rest : List Entry) × (log ≡ before ++ e ∷ rest) × (e.place ≡ n + length before)
 split n t [] e legal has = absurd has
 split n t (x ∷ xs) e legal (inl is) = ([], xs, ap (λ y. y ∷ xs) is, ap (λ (y : Entry). y.place) (sym is) ∙ legal.0 ∙ omega arith)
 split n t (x ∷ xs) e legal (inr has) =
@@ -42,7 +42,7 @@ split n t (x ∷ xs) e legal (inr has) =
     (x ∷ inner.0, inner.1, ap (λ ys. x ∷ ys) inner.2, inner.3 ∙ omega arith)
 
 -- the places of a legal part
-places : (n : ℕ) (t : Table) (es : List Entry) (e : Entry) → IsLegalFrom n t es → Has e es → (n ≤ e.place) × (e.place < n + length es)
+pub places : (n : ℕ) (t : Table) (es : List Entry) (e : Entry) → IsLegalFrom n t es → Has e es → (n ≤ e.place) × (e.place < n + length es)
 places n t [] e legal has = absurd has
 places n t (x ∷ xs) e legal (inl is) = let at : e.place ≡ n = ap (λ (y : Entry). y.place) (sym is) ∙ legal.0 in (omega (arith, at), omega (arith, at))
 places n t (x ∷ xs) e legal (inr has) = let inner = places (n + 1) (after_entry t x) xs e legal.2 has in (omega (arith, inner.0), omega (arith, inner.1))

@@ -3,7 +3,9 @@ use Rattle.std.proofs.Common.{◌≡◌, ℕ, zero, suc, ◌+◌, ◌<◌, ◌�
 use Rattle.std.proofs.Math.ListN.{set}
 use Rattle.std.proofs.lemmas.List.Elements.{All-append, All-cons, All-head, All-nil, All-tail, All-weaker}
 use Rattle.std.proofs.lemmas.Option.{none-some, same_Some}
+use Rattle.function_laws.specs.declared.history.Entry.{Entry}
 use Rattle.function_laws.specs.declared.history.Name.{Name}
+use Rattle.function_laws.specs.declared.history.Reply.TheVariants as replies
 use Rattle.net_builds.specs.declared.handing.Handover.{Handover}
 use Rattle.net_builds.specs.Building.{row_at}
 use Rattle.net_builds.specs.Holdings.{AreRising, LetsAllGo, names_in}
@@ -130,11 +132,14 @@ rising_append bound (x ∷ xs) ys first second below above = (
 
 -- none was let go, and one more
 pub goes_none : (s : Standing) → LetsAllGo s s []
-goes_none s = record { works = gains_none IsQuiet s; kept = λ other apart. refl; rows = omega arith }
+unfolding gains_none
+goes_none s = record { works = gains_none IsQuiet s; done = All-nil (λ (e : Entry). e.reply ≡ replies.Done); kept = λ other apart. refl; rows = omega arith }
 
 pub goes_more : (start now new : Standing) (done : List Name) (name : Name) → LetsAllGo start now done → LetsGo now new name → LetsAllGo start new (done ++ name ∷ [])
+unfolding gains_then
 goes_more start now new done name all goes = record {
   works = gains_then IsQuiet start now new all.works goes.works;
+  done = All-append (λ (e : Entry). e.reply ≡ replies.Done) all.works.gained goes.works.gained all.done goes.done;
   kept = λ other apart. goes.kept other (last other done apart) ∙ all.kept other (front other done apart);
   rows = omega (arith, all.rows, goes.rows, length-append done (name ∷ []));
 }

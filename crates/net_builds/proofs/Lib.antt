@@ -2,6 +2,10 @@ pub mod BackLemmas
 pub mod Built
 pub mod Classed
 pub mod Contained
+pub mod Finishing
+pub mod Gathered
+pub mod Gathering
+pub mod Going
 pub mod HandedLaw
 pub mod HoldingLemmas
 pub mod InTurn
@@ -10,15 +14,25 @@ pub mod Mapped
 pub mod NamesOnce
 pub mod OnceEach
 pub mod OutputNames
+pub mod Pairs
 pub mod Passing
 pub mod ProductLemmas
 pub mod ReplaceLemmas
 pub mod RowLemmas
 pub mod SameReports
+pub mod ShareLemmas
+pub mod Slices
+pub mod SiftSteps
+pub mod SiftedAlike
+pub mod SiftedLaws
+pub mod SiftedRows
 pub mod SignalSteps
 pub mod StackLemmas
 pub mod StandingLemmas
+pub mod Stops
 pub mod TellingLemmas
+pub mod Turns
 pub mod ToldLaws
 pub mod UseLemmas
 mod WorkedHistory
+mod WorkedSift

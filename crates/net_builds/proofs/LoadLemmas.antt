@@ -1,19 +1,20 @@
 -- What is left where a stored diagram was made and told of.
-use Rattle.std.proofs.Common.{◌≡◌, ℕ, Bool, List, [], ◌∷◌, ◌++◌, Result, IfErr, IfOk, length, map, append_assoc, ap, sym, ◌∙◌, arith, All}
+use Rattle.std.proofs.Common.{◌≡◌, ℕ, Bool, List, [], ◌∷◌, ◌++◌, Result, IfErr, IfOk, length, map, drop, append_assoc, append-nil, ap, sym, subst, ◌∙◌, arith, All}
 use Rattle.std.specs.Global.{Vec}
-use Rattle.std.proofs.lemmas.List.Elements.{All-append, All-weaker, Contains-append_left}
+use Rattle.std.proofs.Math.Seq.{drop-append_seam}
+use Rattle.std.proofs.lemmas.List.Elements.{All-append, All-nil, All-weaker, Contains-append_left}
 use Rattle.diagram_dumps.specs.declared.dump.Dump.{Dump}
 use Rattle.function_laws.specs.declared.history.Entry.{Entry}
 use Rattle.function_laws.specs.declared.history.Name.{Name}
 use Rattle.net_reports.specs.Reports.{root_names}
 use Rattle.net_reports.specs.RootClasses.{root_functions}
-use Rattle.net_builds.specs.Builds.{TellingOf}
+use Rattle.net_builds.specs.Builds.{AreUnsifted, TellingOf}
 use Rattle.net_builds.specs.Handings.{IsTold, IsWithin, Looks}
 use Rattle.net_builds.specs.Holdings.{LetsAllGo}
 use Rattle.net_builds.specs.Loads.{IsReportNoted, IsStack, Loads, LoadsUp}
 use Rattle.net_builds.specs.Outputs.{IsFullTold, IsRefused}
 use Rattle.net_builds.specs.Signals.{AllHold}
-use Rattle.net_builds.specs.Standings.{HasRoom, IsQuiet, Note, Standing, Works, values_of}
+use Rattle.net_builds.specs.Standings.{HasRoom, IsQuiet, KeepsOrders, Note, Standing, Works, values_of}
 use Rattle.net_builds.specs.declared.host.HostRefusal.{HostRefusal}
 use Rattle.net_builds.specs.declared.host.HostRefusal.TheVariants as stops
 use Rattle.net_builds.specs.declared.telling.Telling.TheVariants.{Report}
@@ -23,6 +24,14 @@ use Rattle.net_builds.proofs.Passing.{quiet_within}
 use Rattle.net_builds.proofs.SameReports.{report_same}
 use Rattle.net_builds.proofs.StackLemmas.{all_stand, stack_same}
 use Rattle.net_builds.proofs.ToldLaws.{stand_same}
+
+-- a session that gained calls which swap and sift nothing left the orders as they are
+pub unsifted_gained : (old new : Standing) (gained : List Entry) → new.entries ≡ old.entries ++ gained → All IsQuiet gained → AreUnsifted (old ∷ []) (new ∷ [])
+unsifted_gained old new gained is quiet =
+    (subst (All KeepsOrders) (sym (ap (drop (length old.entries)) is ∙ drop-append_seam old.entries gained)) (All-weaker IsQuiet KeepsOrders (λ e q. q.keeps) gained quiet), tt)
+
+pub unsifted_still : (s : Standing) → AreUnsifted (s ∷ []) (s ∷ [])
+unsifted_still s = unsifted_gained s s [] (sym (append-nil s.entries)) (All-nil IsQuiet)
 
 module _ {F : Type 0} (tells : F → Entry → Type 0) (dump : Dump) (patterns : List (List Bool)) where
   -- the diagram was made, and told of or not
@@ -87,6 +96,9 @@ module _ {F : Type 0} (tells : F → Entry → Type 0) (dump : Dump) (patterns :
 
     pub loads_none : new.rows ≡ 0
     loads_none = omega (arith, gone.rows, loads.stack.counted)
+
+    pub loads_unsifted : AreUnsifted (old ∷ []) (new ∷ [])
+    loads_unsifted = unsifted_gained old new all all_gained all_quiet
 
     pub loads_refused : IfErr result (λ refusal. (cell : ℕ) → IsRefused tells cell old new refusal)
     loads_refused = err_weaker (IsFullTold tells old late loads.gained) (λ refusal. (cell : ℕ) → IsRefused tells cell old new refusal)

@@ -12,7 +12,7 @@ use Rattle.net_builds.specs.declared.host.HostRefusal.TheVariants as stops
 use Rattle.net_builds.specs.Standings.{Gains, Holds, IsCaused, IsHeld, IsLive, KeepsAll, LetsGo, Makes, Note, Standing, values_of}
 
 -- no call
-pub gains_none : (P : Entry → Type 0) (s : Standing) → Gains P s s
+unfoldable pub gains_none : (P : Entry → Type 0) (s : Standing) → Gains P s s
 gains_none P s = record {
   vars_are = refl;
   number_is = refl;

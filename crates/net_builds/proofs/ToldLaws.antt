@@ -28,13 +28,13 @@ use Rattle.net_builds.specs.Standings.{KeepsOrders, Note, Standing, values_of}
 use Rattle.net_builds.specs.declared.handing.Handover.{Handover}
 use Rattle.diagram_dumps.specs.Agreement.{AreSame, IsSame}
 
-contains_in : {X : Type 0} (xs : List X) (x : X) → Contains xs x → In x xs
+pub contains_in : {X : Type 0} (xs : List X) (x : X) → Contains xs x → In x xs
 contains_in [] x (k, inside, is) = absurd (omega (arith, inside))
 contains_in (y ∷ ys) x (zero, inside, is) = inl (sym is)
 contains_in (y ∷ ys) x (suc k, inside, is) = inr (contains_in ys x (k, omega (arith, inside), is))
 
 -- an entry is one of its session's, and those of a session are entries of the history
-own_has : (log : List Entry) (e : Entry) → Has e log → Has e (entries_of e.session log)
+pub own_has : (log : List Entry) (e : Entry) → Has e log → Has e (entries_of e.session log)
 own_has [] e has = absurd has
 own_has (x ∷ log) e (inl is) =
     let here : (x.session == e.session) ≡ true = eq-eqb x.session e.session (ap (λ (y : Entry). y.session) is) in
@@ -45,7 +45,7 @@ own_has (x ∷ log) e (inr has) = more (x.session == e.session) (own_has log e h
     more true later = inr later
     more false later = later
 
-has_own : (p : ℕ) (log : List Entry) (e : Entry) → Has e (entries_of p log) → Has e log
+pub has_own : (p : ℕ) (log : List Entry) (e : Entry) → Has e (entries_of p log) → Has e log
 has_own p [] e has = absurd has
 has_own p (x ∷ log) e has = less (x.session == p) (has_own p log e) has
   where
@@ -55,13 +55,13 @@ has_own p (x ∷ log) e has = less (x.session == p) (has_own p log e) has
     less false deeper later = inr (deeper later)
 
 -- entries that leave the orders, one after another
-kept_orders : (log : List Entry) → ((e : Entry) → Has e log → KeepsOrders e) → (orders : Orders) → orders_from orders log ≡ orders
+pub kept_orders : (log : List Entry) → ((e : Entry) → Has e log → KeepsOrders e) → (orders : Orders) → orders_from orders log ≡ orders
 kept_orders [] keep orders = refl
 kept_orders (x ∷ log) keep orders =
     ap (λ (o : Orders). orders_from o log) (keep x (inl refl) orders) ∙ kept_orders log (λ e has. keep e (inr has)) orders
 
 -- the session's entries are such
-abbrev AllOf : (Entry → Type 0) → Standing → Type 0
+abbrev pub AllOf : (Entry → Type 0) → Standing → Type 0
 AllOf P s = All P s.entries
 
 -- what sessions gained that had made no call is all that they did
@@ -76,7 +76,7 @@ gained_all cell handovers (a ∷ old) (b ∷ new) (gained, are, known, vars, num
     (subst (All (IsKnown cell handovers)) (sym (are ∙ ap (λ (es : List Entry). es ++ gained) none)) known)
     (gained_all cell handovers old new rest (All-tail (λ (s : Standing). s.entries ≡ []) a old fresh))
 
-unsifted_all : (old new : List Standing) → AreUnsifted old new → All (λ (s : Standing). s.entries ≡ []) old → All (AllOf KeepsOrders) new
+pub unsifted_all : (old new : List Standing) → AreUnsifted old new → All (λ (s : Standing). s.entries ≡ []) old → All (AllOf KeepsOrders) new
 unsifted_all [] [] unsifted fresh = All-nil (AllOf KeepsOrders)
 unsifted_all [] (b ∷ new) unsifted fresh = absurd unsifted
 unsifted_all (a ∷ old) [] unsifted fresh = absurd unsifted
@@ -101,7 +101,7 @@ owner P log p (b ∷ new) all each = elim (cases_eq b.number p) [
 ]
 
 -- and so are those of the history
-all_of_history : (P : Entry → Type 0) (sizes : Sizes) (log : List Entry) (new : List Standing) → All (AllOf P) new → IsLegalHistoryOf sizes log new → (e : Entry) → Has e log → P e
+pub all_of_history : (P : Entry → Type 0) (sizes : Sizes) (log : List Entry) (new : List Standing) → All (AllOf P) new → IsLegalHistoryOf sizes log new → (e : Entry) → Has e log → P e
 all_of_history P sizes log new all history e has = elim (owner P log e.session new all history.each) [
   | inl all ↦ all e (own_has log e has)
   | inr none ↦ absurd (subst (λ es. Has e es) (history.no_other e.session none) (own_has log e has))
@@ -126,7 +126,7 @@ none_between low (x ∷ hs) h other turns (inr i) (inl other_is) after before =
     let later = turn_of (x.fetch + 1) hs h turns.2 i in omega (arith, after, later.0, turns.1, ap (λ (y : Handover). y.post) other_is)
 none_between low (x ∷ hs) h other turns (inr i) (inr j) after before = none_between (x.fetch + 1) hs h other turns.2 i j after before
 
-posted_by : (hs : List Handover) (place : ℕ) → In place (map (λ (h : Handover). h.post) hs) → (h : Handover) × In h hs × (h.post ≡ place)
+pub posted_by : (hs : List Handover) (place : ℕ) → In place (map (λ (h : Handover). h.post) hs) → (h : Handover) × In h hs × (h.post ≡ place)
 posted_by [] place i = absurd i
 posted_by (h ∷ hs) place (inl is) = (h, inl refl, sym is)
 posted_by (h ∷ hs) place (inr i) = let later = posted_by hs place i in (later.0, inr later.1, later.2)
@@ -140,7 +140,7 @@ same_values n f g is =
 module _ (n : ℕ) (sizes : Sizes) (log : List Entry) (old new : List Standing) (cell : ℕ) (handovers : List Handover) (first : Standing) (has_first : Contains new first)
     (wide : All (λ (s : Standing). s.vars ≡ n) new) (fresh : All (λ (s : Standing). s.entries ≡ []) old) (history : IsLegalHistoryOf sizes log new)
     (turns : AreInTurn 0 handovers) (gains : AllGain cell handovers old new) where
-  known : (e : Entry) → Has e log → IsKnown cell handovers e
+  pub known : (e : Entry) → Has e log → IsKnown cell handovers e
   known = all_of_history (IsKnown cell handovers) sizes log new (gained_all cell handovers old new gains fresh) history
 
   -- between a post and its fetch none posts to the cell
@@ -153,7 +153,7 @@ module _ (n : ℕ) (sizes : Sizes) (log : List Entry) (old new : List Standing) 
           let one = posted_by handovers e.place (contains_in (map (λ (x : Handover). x.post) handovers) e.place ((known e has).1 is)) in
           absurd (none_between 0 handovers h one.0 turns i one.1 (omega (arith, after, one.2)) (omega (arith, before, one.2)))
 
-  entries_in : (s : Standing) → Contains new s → (e : Entry) → Contains s.entries e → Has e log
+  pub entries_in : (s : Standing) → Contains new s → (e : Entry) → Contains s.entries e → Has e log
   entries_in s among e has =
       let are : entries_of s.number log ≡ s.entries = All-contains (λ (x : Standing). entries_of x.number log ≡ x.entries) new s history.each among in
       has_own s.number log e (subst (λ es. Has e es) (sym are) (has-contained s.entries e has))
@@ -163,11 +163,11 @@ module _ (n : ℕ) (sizes : Sizes) (log : List Entry) (old new : List Standing) 
   noted_of s among note noted =
       All-contains (IsNoted sizes log s.number) s.notes note (All-contains (λ (x : Standing). All (IsNoted sizes log x.number) x.notes) new s history.noted among) noted
 
-  placed_of : (s : Standing) → Contains new s → (note : Note) → Contains s.placed note → IsNoted sizes log s.number note
+  pub placed_of : (s : Standing) → Contains new s → (note : Note) → Contains s.placed note → IsNoted sizes log s.number note
   placed_of s among note placed =
       All-contains (IsNoted sizes log s.number) s.placed note (All-contains (λ (x : Standing). All (IsNoted sizes log x.number) x.placed) new s history.placed among) placed
 
-  wide_of : (s : Standing) → Contains new s → s.vars ≡ n
+  pub wide_of : (s : Standing) → Contains new s → s.vars ≡ n
   wide_of s among = All-contains (λ (x : Standing). x.vars ≡ n) new s wide among
 
   module _ (note : Note) (noted : Contains first.notes note) where
@@ -220,7 +220,7 @@ module _ (n : ℕ) (sizes : Sizes) (log : List Entry) (old new : List Standing) 
 module _ (Tells : List (ℕ → Bool) → List ℕ → List ℕ → Type 0) (n : ℕ) (wanted : List (ℕ → Bool)) (sizes : Sizes) (log : List Entry) (old new : List Standing) (cell : ℕ) (text : List ℕ)
     (wide : All (λ (s : Standing). s.vars ≡ n) new) (fresh : All (λ (s : Standing). s.entries ≡ []) old)
     (history : IsLegalHistoryOf sizes log new) (builds : Builds Tells cell wanted old new text) where
-  has_first : Contains new builds.first
+  pub has_first : Contains new builds.first
   has_first = subst (λ (ss : List Standing). Contains ss builds.first) (sym builds.new_is) (0, omega arith, refl)
 
   has_note : Contains builds.first.notes builds.note

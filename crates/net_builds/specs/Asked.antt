@@ -1,12 +1,12 @@
 -- What functions that call a manager ask of it and of a session, and what they leave. Each takes which sessions are the manager's.
-use Rattle.std.specs.Prelude.{◌≡◌, ℕ, ◌+◌, ◌<◌, ◌≤◌, List, Option, Result, All, IfErr, length}
+use Rattle.std.specs.Prelude.{◌≡◌, ℕ, ◌+◌, ◌≤◌, List, Option, Result, All, IfErr, length}
 use Rattle.function_laws.specs.declared.history.Entry.{Entry}
 use Rattle.blif_net.specs.declared.net.Net.{Net}
-use Rattle.blif_net.specs.Bounds.{IsBounded}
+use Rattle.blif_net.specs.Bounds.{IsBounded, signal_count}
 use Rattle.edge_bits.specs.declared.limits.TheConstants.{MOST_ROWS}
 use Rattle.function_laws.specs.declared.history.Name.{Name}
 use Rattle.net_reports.specs.declared.classes.Class.{Class}
-use Rattle.net_builds.specs.Building.{IsBuilt, IsLeft, IsPlan}
+use Rattle.net_builds.specs.Building.{IsBuilt, IsLeft, IsPlan, ended}
 use Rattle.net_builds.specs.declared.host.HostRefusal.{HostRefusal}
 use Rattle.net_builds.specs.Standings.{HasRoom, IsCaused, IsLive, KeepsAll, KeepsOthers, Standing, Works}
 use Rattle.net_builds.specs.Tellings.{AreClassed}
@@ -52,13 +52,12 @@ module _ {M S : Type 0} (has : M → S → Type 0) (standing : S → Standing) (
     pub plan : IsPlan net last
     pub built : IsBuilt net last next (standing session) rows
 
-  -- the session has a name for each output of the network, and may hand over what these stand for and tell of it
-  pub record MayHandOver (net : Net) (names : List Name) : Type 0 where
+  -- the session has built the network's signals below the next one, of which those matter that are used to the end
+  pub record HasEnded (net : Net) (last : List ℕ) (next : ℕ) (rows : List (Option Name)) : Type 0 where
     pub own : has manager session
-    pub room : (standing session).rows + length names < MOST_ROWS
-    pub vars : (standing session).vars ≡ length net.inputs
-    pub held : All (IsLive (standing session)) names
-    pub many : length names ≡ length net.outputs
+    pub bounded : IsBounded net
+    pub long : length last ≡ signal_count net
+    pub built : IsBuilt net (ended last) next (standing session) rows
 
   -- the session has names of these classes, and may evaluate what they stand for
   pub record MayEvaluate (names : List Name) (classes : List Class) : Type 0 where

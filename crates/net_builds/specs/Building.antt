@@ -1,5 +1,5 @@
 -- The functions of a network's signals while they are built, in the order of the signals.
-use Rattle.std.specs.Prelude.{◌≡◌, ℕ, ◌<◌, ◌≤◌, List, Option, Some, None, length, map, replicate, slice_index, slice_index_or}
+use Rattle.std.specs.Prelude.{◌≡◌, ℕ, ◌<◌, ◌≤◌, nat_le, List, [], ◌∷◌, Option, Some, None, length, replicate, slice_index, slice_index_or, if◌then◌else◌}
 use Rattle.blif_net.specs.declared.net.Net.{Net}
 use Rattle.blif_net.specs.Bounds.{IsBounded, signal_count}
 use Rattle.blif_net.specs.Networks.{signal_value}
@@ -7,6 +7,7 @@ use Rattle.function_laws.specs.declared.history.Entry.{Entry}
 use Rattle.function_laws.specs.declared.history.Name.{Name}
 use Rattle.net_builds.specs.declared.host.HostRefusal.{HostRefusal}
 use Rattle.net_builds.specs.declared.signals.Ledger.{Ledger}
+use Rattle.net_builds.specs.declared.uses.TheConstants.{TO_THE_END}
 use Rattle.net_builds.specs.Holdings.{names_in}
 use Rattle.net_builds.specs.Standings.{Holds, IsCaused, Standing, Works}
 use Rattle.net_builds.specs.Uses.{AreLastUses, KnowsReads}
@@ -35,6 +36,20 @@ pub record IsBuilt (net : Net) (last : List ℕ) (next : ℕ) (s : Standing) (ro
   -- and no further row is live
   pub counted : s.rows ≤ length (names_in rows)
 
+-- up to which gate a signal is used, where that is to the end; else it counts as not used
+abbrev pub ended : List ℕ → List ℕ
+ended [] = []
+ended (u ∷ us) = (if nat_le TO_THE_END u then u else 0) ∷ ended us
+
+-- rows are of signals that are used to the end
+abbrev pub AreEnded : List ℕ → List (Option Name) → Type 0
+AreEnded last rows = (signal : ℕ) (name : Name) → row_at rows signal ≡ Some name → TO_THE_END ≤ slice_index last signal
+
+-- and so of one signal, where each row was there before
+pub record IsEndedAt (last : List ℕ) (signal : ℕ) (old new : List (Option Name)) : Type 0 where
+  pub here : (name : Name) → row_at new signal ≡ Some name → TO_THE_END ≤ slice_index last signal
+  pub others : (other : ℕ) (name : Name) → row_at new other ≡ Some name → row_at old other ≡ Some name
+
 -- the session worked, and the signals below the next one are built
 pub record BuildsTo (net : Net) (last : List ℕ) (next : ℕ) (old new : Standing) (rows : List (Option Name)) : Type 0 where
   pub works : Works old new
@@ -47,8 +62,8 @@ pub record IsLeft {F : Type 0} (tells : F → Entry → Type 0) (net : Net) (las
   pub caused : IsCaused tells builds.works.gained refusal
 
 -- The memory of a building whose first call is not made: no signal has a row.
-pub record IsBegun (net : Net) (ledger : Ledger) : Type 0 where
-  pub own : ledger.own.items ≡ map (λ output. output.signal) net.outputs
+pub record IsBegun (net : Net) (own : List ℕ) (ledger : Ledger) : Type 0 where
+  pub own_is : ledger.own.items ≡ own
   pub last : AreLastUses net ledger.own.items ledger.last.items
   pub rows : ledger.rows.items ≡ replicate (signal_count net) None
-  pub names : length ledger.names.items ≡ length net.outputs
+  pub names : length ledger.names.items ≡ length own

@@ -1,5 +1,5 @@
 -- What sessions build, hand over and report.
-use Rattle.std.specs.Prelude.{◌≡◌, ℕ, ◌<◌, Bool, List, [], ◌∷◌, ◌++◌, All, Contains, drop, length, map, take}
+use Rattle.std.specs.Prelude.{◌≡◌, ℕ, ◌<◌, Bool, List, [], ◌∷◌, ◌++◌, All, drop, length, map, take}
 use Rattle.std.specs.List.{range_with_len}
 use Rattle.blif_net.specs.declared.net.Net.{Net}
 use Rattle.function_laws.specs.declared.history.Entry.{Entry}
@@ -10,7 +10,8 @@ use Rattle.function_laws.specs.SiftEntries.{Carries}
 use Rattle.function_laws.specs.SessionEntries.{entries_of}
 use Rattle.function_laws.specs.Tables.{Sizes, opening}
 use Rattle.net_reports.specs.Reports.{IsReport, IsStored, IsSummary, Subject, output_names, root_names}
-use Rattle.net_builds.specs.Handings.{AreInTurn, IsKnown, IsPassed}
+pub use Rattle.net_builds.specs.Handings.{AllHandedOver, IsDelivered}
+use Rattle.net_builds.specs.Handings.{AreInTurn, IsKnown}
 use Rattle.net_builds.specs.Standings.{KeepsOrders, Note, Standing, values_of}
 use Rattle.net_builds.specs.declared.handing.Handover.{Handover}
 use Rattle.net_builds.specs.declared.telling.Reported.{Reported}
@@ -18,27 +19,12 @@ use Rattle.net_builds.specs.declared.telling.Reported.TheVariants.{Diagram, Netw
 use Rattle.net_builds.specs.declared.telling.Telling.{Telling}
 use Rattle.net_builds.specs.declared.telling.Telling.TheVariants.{Report, Stored, Summary}
 
--- A function went from the session that built it to the first one: at the post's place the name that was posted to the cell stood for it, and a later fetch found that cell posted.
-pub record IsDelivered (cell : ℕ) (f : ℕ → Bool) (giver first : Standing) (h : Handover) : Type 0 where
-  pub posting : Note
-  pub among : Contains giver.placed posting
-  pub at_post : posting.place ≡ h.post
-  pub built : posting.stands h.from ≡ values_of giver.vars f
-  pub passed : IsPassed cell giver first h
-
 -- Each session gained entries that add no variable and no element, and those that post to the cell are of these handovers.
 abbrev pub AllGain : ℕ → List Handover → List Standing → List Standing → Type 0
 AllGain cell handovers [] [] = Unit {0}
 AllGain cell handovers (a ∷ old) (b ∷ new) =
     (gained : List Entry) × (b.entries ≡ a.entries ++ gained) × All (IsKnown cell handovers) gained × (b.vars ≡ a.vars) × (b.number ≡ a.number) × AllGain cell handovers old new
 AllGain cell handovers _ _ = ⊥
-
--- The wanted functions in turn were built by some sessions, each by one of them, and handed over to the first.
-abbrev pub AllHandedOver : ℕ → List (ℕ → Bool) → List Standing → Standing → List Handover → Type 0
-AllHandedOver cell [] sessions first [] = Unit {0}
-AllHandedOver cell (f ∷ wanted) sessions first (h ∷ hs) =
-    ((giver : Standing) × Contains sessions giver × IsDelivered cell f giver first h) × AllHandedOver cell wanted sessions first hs
-AllHandedOver cell _ sessions first _ = ⊥
 
 -- What is told of functions that the first session fetched, in place of the wanted ones, as they stood at the place of its last note, above all fetches: under the order that it noted there, behind its earlier notes.
 pub record Builds (Tells : List (ℕ → Bool) → List ℕ → List ℕ → Type 0) (cell : ℕ) (wanted : List (ℕ → Bool)) (old new : List Standing) (text : List ℕ) : Type 0 where

@@ -1,6 +1,9 @@
 -- Names that a session holds, and what it leaves as it lets them go.
-use Rattle.std.specs.Prelude.{◌≡◌, ◌+◌, ◌<◌, List, [], ◌∷◌, All, Option, Some, None, length}
+use Rattle.std.specs.Prelude.{◌≡◌, ◌+◌, ◌<◌, ◌≤◌, List, [], ◌∷◌, All, Contains, Option, Some, None, length}
+use Rattle.function_laws.specs.declared.history.Entry.{Entry}
+use Rattle.function_laws.specs.declared.history.Function.{Function}
 use Rattle.function_laws.specs.declared.history.Name.{Name}
+use Rattle.function_laws.specs.declared.history.Reply.TheVariants as replies
 use Rattle.net_builds.specs.Standings.{HasRoom, IsLive, Standing, Works}
 
 -- the names of the rows that are there
@@ -21,8 +24,13 @@ pub record MayLetAllGo {M S : Type 0} (has : M → S → Type 0) (standing : S �
   pub live : All (IsLive (standing session)) names
   pub rising : AreRising names
 
--- The names were let go, and each other one stands for what it stood for.
+-- no more rows are live than these names, if they are live and as many: what stands for anything is one of them
+abbrev pub IsCounted : Standing → Type 0
+IsCounted s = (names : List Name) → AreRising names → All (IsLive s) names → s.rows ≤ length names → (name : Name) (f : Function) → s.stands name ≡ Some f → Contains names name
+
+-- The names were let go, by calls that were answered Done, and each other one stands for what it stood for.
 pub record LetsAllGo (old new : Standing) (gone : List Name) : Type 0 where
   pub works : Works old new
+  pub done : All (λ (e : Entry). e.reply ≡ replies.Done) works.gained
   pub kept : (other : Name) → All (λ (name : Name). other.generation ≡ name.generation → ⊥) gone → new.stands other ≡ old.stands other
   pub rows : new.rows + length gone ≡ old.rows

@@ -6,8 +6,10 @@ pub mod Building
 pub mod Products
 pub mod Handings
 pub mod Outputs
+pub mod Shares
 pub mod Tellings
 pub mod Builds
+pub mod Sifting
 pub mod Uses
 pub mod Handed
 pub mod Loads

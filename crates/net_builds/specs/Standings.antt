@@ -6,14 +6,19 @@ use Rattle.edge_bits.specs.declared.limits.TheConstants.{MOST_ROWS}
 use Rattle.function_laws.specs.declared.history.Call.TheVariants as calls
 use Rattle.function_laws.specs.declared.history.Entry.{Entry}
 use Rattle.function_laws.specs.declared.history.Function.{Function}
-use Rattle.function_laws.specs.declared.history.Function.TheVariants.{Bdd}
+use Rattle.function_laws.specs.declared.history.Function.TheVariants.{Add, Bdd, Zdd}
 use Rattle.function_laws.specs.declared.history.Name.{Name}
 use Rattle.function_laws.specs.declared.history.Reply.TheVariants as replies
+use Rattle.function_laws.specs.declared.history.Sifting.{Sifting}
+use Rattle.function_laws.specs.declared.orders.Order.TheVariants.{Variables}
 use Rattle.function_laws.specs.EntryOrders.{orders_after}
 use Rattle.function_laws.specs.Handovers.{posts_to}
+use Rattle.function_laws.specs.Kinds.{AddFunction, BddFunction, Denoted, ZddFamily}
 use Rattle.function_laws.specs.Lists.{list_of}
 use Rattle.function_laws.specs.SessionEntries.{entry}
+use Rattle.function_laws.specs.SiftedOrders.{sifted}
 use Rattle.function_laws.specs.Sizes.{Orders}
+use Rattle.sift_laws.specs.Alike.{whole_block}
 use Rattle.net_builds.specs.Handed.{IsPlain}
 use Rattle.net_builds.specs.declared.host.HostRefusal.{HostRefusal}
 use Rattle.net_builds.specs.declared.host.HostRefusal.TheVariants as stops
@@ -64,14 +69,15 @@ IsLive s name = (f : List Bool) × (s.stands name ≡ Some (Bdd f)) × (name.gen
 abbrev pub HasRoom : Standing → Type 0
 HasRoom s = s.rows < MOST_ROWS
 
--- the entry adds no variable and no element, and posts to no cell
-pub record IsQuiet (e : Entry) : Type 0 where
-  pub plain : IsPlain e
-  pub posts : (cell : ℕ) → posts_to cell e.call ≡ false
-
 -- the entry leaves both orders as they are: it swaps no levels and sifts nothing
 abbrev pub KeepsOrders : Entry → Type 0
 KeepsOrders e = (orders : Orders) → orders_after orders e.call e.reply ≡ orders
+
+-- the entry adds no variable and no element, posts to no cell, and leaves both orders as they are
+pub record IsQuiet (e : Entry) : Type 0 where
+  pub plain : IsPlain e
+  pub posts : (cell : ℕ) → posts_to cell e.call ≡ false
+  pub keeps : KeepsOrders e
 
 -- Some calls were made, each of which is such an entry. The session gave no name twice, and noted nothing.
 pub record Gains (P : Entry → Type 0) (old new : Standing) : Type 0 where
@@ -106,9 +112,10 @@ pub record Makes (old new : Standing) (name : Name) (f : ℕ → Bool) : Type 0 
   pub kept : KeepsAll old new
   pub rows : new.rows ≤ old.rows + 1
 
--- the name was let go, and each other one stands for what it stood for
+-- the name was let go, by calls that were answered Done, and each other one stands for what it stood for
 pub record LetsGo (old new : Standing) (gone : Name) : Type 0 where
   pub works : Works old new
+  pub done : All (λ (e : Entry). e.reply ≡ replies.Done) works.gained
   pub kept : (other : Name) → (other.generation ≡ gone.generation → ⊥) → new.stands other ≡ old.stands other
   pub rows : new.rows + 1 ≡ old.rows
 
@@ -123,7 +130,7 @@ abbrev pub IsCaused : {F : Type 0} → (F → Entry → Type 0) → List Entry �
 IsCaused tells entries stops.Memory = Unit {0}
 IsCaused tells entries (stops.Full full) = (e : Entry) × Contains entries e × tells full e
 
--- the name was posted to the cell, at this place, where each name stood for what it did before; that changed no row
+-- the name was posted to the cell, at this place, above all calls so far, where each name stood for what it did before; that changed no row
 pub record Posts (cell : ℕ) (old new : Standing) (from : Name) (place : ℕ) : Type 0 where
   pub vars_are : new.vars ≡ old.vars
   pub number_is : new.number ≡ old.number
@@ -131,6 +138,7 @@ pub record Posts (cell : ℕ) (old new : Standing) (from : Name) (place : ℕ) :
   pub adds_are : new.adds ≡ old.adds
   pub rows : new.rows ≤ old.rows
   pub entries_are : new.entries ≡ old.entries ++ entry place old.number (calls.Post cell from) replies.Done ∷ []
+  pub later : All (λ (e : Entry). e.place < place) old.entries
   pub note : Note
   pub place_is : note.place ≡ place
   pub stood : (other : Name) → note.stands other ≡ old.stands other
@@ -150,6 +158,36 @@ pub record Fetches (cell : ℕ) (old new : Standing) (kind to : Name) (posted : 
   pub held : IsLive new to
   pub kept : KeepsAll old new
   pub rows : new.rows ≤ old.rows + 1
+
+-- what a slot denotes, of n variables and m elements, as a whole list
+abbrev pub whole_in : ℕ → ℕ → Denoted → Function
+whole_in n m (BddFunction f) = Bdd (list_of (2 ^ n) f)
+whole_in n m (AddFunction f) = Add (list_of (2 ^ n) f)
+whole_in n m (ZddFamily p) = Zdd (list_of (2 ^ m) p)
+
+-- What a sift told of n variables, in one default block and by this limit: the order that is left is that of the definition for the functions that were pinned.
+pub record IsSiftedBy (limit n : ℕ) (told : Sifting) : Type 0 where
+  pub elements : ℕ
+  pub pinned : List Denoted
+  pub functions_are : told.functions ≡ map (whole_in n elements) pinned
+  pub order_is : told.order ≡ (sifted (record { variables = told.variables; elements = told.elements }) Variables (whole_block n) limit pinned).order
+
+-- The variables were sifted at this place, above all calls so far, where each name stood for what it did before; that changed no row.
+pub record Sifts (limit : ℕ) (old new : Standing) (place : ℕ) : Type 0 where
+  pub vars_are : new.vars ≡ old.vars
+  pub number_is : new.number ≡ old.number
+  pub notes_are : new.notes ≡ old.notes
+  pub adds_are : new.adds ≡ old.adds
+  pub rows : new.rows ≤ old.rows
+  pub told : Sifting
+  pub sift : IsSiftedBy limit old.vars told
+  pub entries_are : new.entries ≡ old.entries ++ entry place old.number (calls.Sift told) replies.Done ∷ []
+  pub later : All (λ (e : Entry). e.place < place) old.entries
+  pub note : Note
+  pub place_is : note.place ≡ place
+  pub stood : (other : Name) → note.stands other ≡ old.stands other
+  pub placed_are : new.placed ≡ old.placed ++ note ∷ []
+  pub kept : (other : Name) → new.stands other ≡ old.stands other
 
 -- The listing of what some names stand for, in their order. The session noted the order of the variables and what its names stand for, at a place above all its calls.
 pub record Lists (old new : Standing) (names : List Name) (listing : Listing) : Type 0 where

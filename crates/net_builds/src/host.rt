@@ -6,7 +6,7 @@ ghost use Rattle.net_builds.specs.declared.host.HostRefusal.TheVariants as refus
 use diagram_dumps::Listing;
 use edge_bits::Memory;
 use function_laws::Name;
-use std::alloc::{AllocError, AllocFailed};
+use std::alloc::{AllocError, AllocFailed, Global};
 
 /// Why a session was refused: want of memory, or no slot was free for a node.
 #[derive(Debug, Clone, Copy, PartialEq, Eq, Drop)]
@@ -63,13 +63,14 @@ pub trait Host {
     ghost use Rattle.function_laws.specs.Lists.{truth};
     ghost use Rattle.function_laws.specs.Values.{assignment_of, conjunction, constant, disjunction, if_then_else, negation, projection};
     ghost use Rattle.net_builds.specs.Asked.{ComesBack, MayMakeRows};
-    ghost use Rattle.net_builds.specs.Standings.{Asks, Fetches, Holds, IsHeld, IsLive, LetsGo, Lists, Makes, Posts, Standing};
+    ghost use Rattle.net_builds.specs.Holdings.{IsCounted};
+    ghost use Rattle.net_builds.specs.Standings.{Asks, Fetches, Holds, IsHeld, IsLive, LetsGo, Lists, Makes, Posts, Sifts, Standing};
 
     /// Whose calls they are.
     type Session;
 
     /// What tells of a refused call.
-    type Full;
+    type Full: Copy;
 
     /// What is seen of a session.
     ghost standing: { Self.Session → Standing };
@@ -79,6 +80,9 @@ pub trait Host {
 
     /// The entry is of a call that was refused so.
     ghost tells: { Self → Self.Full → Entry → Type 0 };
+
+    /// How many slots there are, by which a sift goes.
+    ghost limit: { Self → ℕ };
 
     /// Called with an output's number, from 0 on, before that output is built. It tells nothing and changes nothing.
     fn pass(&self, output: u32);
@@ -193,6 +197,16 @@ pub trait Host {
         requires held { IsLive (standing session.old) other }
         ensures own { has self.now session.new }
         ensures fetches { IfOk result (λ told. Fetches cell (standing session.old) (standing session.new) other told.value.name told.value.posted told.place) }
+        ensures same { IfErr result (λ _. standing session.new ≡ standing session.old) };
+
+    /// Sifts the variables in one default block (Rudell 1993), for the functions that rows and cells hold. It changes no function, and no
+    /// row. Want of memory changes nothing.
+    fn sift(&self, alloc: Global, session: &mut Self::Session, variables: u32) -> Result<(), Memory>
+        requires may { MayMakeRows has standing self.now session.old 1 }
+        requires variables { variables ≡ (standing session.old).vars }
+        ensures own { has self.now session.new }
+        ensures sifts { IfOk result (λ _. (place : ℕ) × Sifts (limit self.now) (standing session.old) (standing session.new) place) }
+        ensures counted { IsCounted (standing session.old) }
         ensures same { IfErr result (λ _. standing session.new ≡ standing session.old) };
 
     /// The listing of some functions, under the order of the variables that the entries below some place leave. It is no call

@@ -1,7 +1,8 @@
 //! A stored diagram made by one session, and told of.
 
-ghost use Rattle.std.specs.Prelude.{◌≡◌, ◌+◌, ◌*◌, ◌≤◌, length, replicate, IfErr, IfOk, None, ℕ};
+ghost use Rattle.std.specs.Prelude.{◌≡◌, ◌+◌, ◌*◌, ◌≤◌, [], ◌∷◌, length, replicate, IfErr, IfOk, None, ℕ};
 ghost use Rattle.edge_bits.specs.declared.limits.TheConstants.{MOST_ROWS};
+ghost use Rattle.net_builds.specs.Builds.{AreUnsifted};
 ghost use Rattle.net_builds.specs.Loads.{IsRoomFor, Loads, LoadsUp, MayLoad};
 ghost use Rattle.net_builds.specs.Outputs.{IsRefused};
 
@@ -75,8 +76,8 @@ fn made_and_told<H: Host>(
 /// Makes a stored diagram, each line by one choice of its children in the order of the lines, and tells the report of its roots, with
 /// their values at each pattern, under the order of the variables that the session noted last. A root takes the row of its line; the
 /// complement of a line is made once. At first the session has one variable for each of the diagram's, and no live row, and it has
-/// none at the end, also where it was refused. It posts nothing. An error is want of memory, or a call that was refused for a full node
-/// table.
+/// none at the end, also where it was refused. It posts nothing, and leaves the orders as they are. An error is want of memory, or a call
+/// that was refused for a full node table.
 pub fn load_report<H: Host>(
     alloc: Global,
     host: &H,
@@ -87,6 +88,7 @@ pub fn load_report<H: Host>(
     requires may { MayLoad H.has H.standing host.now session.old dump.now }
     ensures own { H.has host.now session.new }
     ensures none { (H.standing session.new).rows ≡ 0 }
+    ensures unsifted { AreUnsifted (H.standing session.old ∷ []) (H.standing session.new ∷ []) }
     ensures loads { IfOk result (λ text. Loads dump.now patterns.now (H.standing session.old) (H.standing session.new) text.items) }
     ensures refused { IfErr result (λ refusal. (cell : ℕ) → IsRefused (H.tells host.now) cell (H.standing session.old) (H.standing session.new) refusal) }
 {

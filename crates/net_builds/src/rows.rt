@@ -2,11 +2,14 @@
 
 ghost use Rattle.std.specs.Prelude.{◌≡◌, ◌+◌, ◌<◌, ◌≤◌, ◌^◌, length, slice_index_or, All, IfOk, IsSome, ℕ, Some};
 ghost use Rattle.blif_net.specs.Bounds.{signal_count};
-ghost use Rattle.net_builds.specs.Building.{BuildsTo, row_at};
-ghost use Rattle.net_builds.specs.Asked.{HasBuilt, StaysBuilt};
+ghost use Rattle.edge_bits.specs.declared.limits.TheConstants.{MOST_SESSIONS};
+ghost use Rattle.net_builds.specs.Building.{AreEnded, BuildsTo, IsEndedAt, ended, row_at};
+ghost use Rattle.net_builds.specs.Asked.{HasBuilt, HasEnded, StaysBuilt};
 
 use crate::host::{Host, HostRefusal};
 use crate::products::cover;
+use crate::uses::TO_THE_END;
+use crate::worker::Worker;
 use blif_net::Net;
 use function_laws::Name;
 
@@ -143,28 +146,76 @@ fn make_up_to<H: Host>(
     Ok(next)
 }
 
-/// Makes the rows of these outputs' signals, one after another. Tells which gate is the next one.
+/// Makes the rows of the signals of the worker's outputs, one after another. Tells which gate is the next one.
 pub fn make_outputs<H: Host>(
     host: &H,
     session: &mut H::Session,
     net: &Net,
+    worker: Worker,
     last: &[u32],
     rows: &mut [Option<Name>],
     own: &[u32],
 ) -> Result<usize, HostRefusal<H::Full>>
     requires has { HasBuilt H.has H.standing host.now session.old net.now last.now (length net.now.inputs) rows.old }
     requires within { All (λ signal. signal < signal_count net.now) own.now }
-    requires few { length own.now < 2 ^ 32 }
+    requires few { length own.now < 2 ^ 24 }
+    requires workers { (worker.number < worker.of) × (worker.of ≤ MOST_SESSIONS) }
     ensures built { IfOk result (λ next. BuildsTo net.now last.now next (H.standing session.old) (H.standing session.new) rows.new) }
     ensures behind { IfOk result (λ next. All (λ signal. signal < next) own.now) }
     ensures back { StaysBuilt H.has H.standing H.tells host.now net.now last.now session.old session.new rows.new result }
 {
     let mut next = net.inputs().len();
+    let mut output = worker.number as usize;
     for number in 0..own.len() {
-        host.pass(number as u32);
+        host.pass(output as u32);
         next = make_up_to(host, session, net, last, rows, next, own[number])?;
+        output += worker.of as usize;
     }
     Ok(next)
+}
+
+/// Lets the row of a signal go that is not used to the end.
+fn let_go_unless_ended<H: Host>(
+    host: &H,
+    session: &mut H::Session,
+    net: &Net,
+    last: &[u32],
+    rows: &mut [Option<Name>],
+    next: usize,
+    signal: usize,
+)
+    requires has { HasEnded H.has H.standing host.now session.old net.now last.now next rows.old }
+    requires within { signal < signal_count net.now }
+    ensures own { H.has host.now session.new }
+    ensures built { BuildsTo net.now (ended last.now) next (H.standing session.old) (H.standing session.new) rows.new }
+    ensures gone { IsEndedAt last.now signal rows.old rows.new }
+{
+    if last[signal] == TO_THE_END {
+        return;
+    }
+    if let Some(name) = rows[signal] {
+        host.let_go(session, name);
+        rows[signal] = None;
+    }
+}
+
+/// Lets the rows go that are not of outputs, behind the last gate that was made.
+pub fn let_go_ended<H: Host>(
+    host: &H,
+    session: &mut H::Session,
+    net: &Net,
+    last: &[u32],
+    rows: &mut [Option<Name>],
+    next: usize,
+)
+    requires has { HasBuilt H.has H.standing host.now session.old net.now last.now next rows.old }
+    ensures own { H.has host.now session.new }
+    ensures built { BuildsTo net.now (ended last.now) next (H.standing session.old) (H.standing session.new) rows.new }
+    ensures gone { AreEnded last.now rows.new }
+{
+    for signal in 0..last.len() {
+        let_go_unless_ended(host, session, net, last, rows, next, signal);
+    }
 }
 
 /// Notes the names of these signals' rows, one after another.

@@ -1,9 +1,7 @@
 -- What the calls of a session leave of it, as one that builds functions is seen.
-use Rattle.std.proofs.Common.{◌≡◌, ℕ, zero, suc, ◌<◌, ◌^◌, Bool, true, false, List, [], ◌∷◌, ◌++◌, ◌+◌, ℤ, pos, cond, ◌||◌, Option, option_map, Some, None, Result, Ok, Err, IfOk, IfErr, MatchResult, length, map, take_all, eq-eqb, refl, ap, ap₂, sym, subst, ◌∙◌, arith, All}
-use Rattle.std.proofs.Math.ListN.{drop}
-use Rattle.std.proofs.Math.Seq.{drop-append_seam}
-use Rattle.std.proofs.lemmas.List.{append-nil, map-append}
-use Rattle.std.proofs.lemmas.List.Elements.{All-append, All-cons, All-nil}
+use Rattle.std.proofs.Common.{◌≡◌, ℕ, ◌<◌, ◌^◌, Bool, true, false, List, [], ◌∷◌, ◌++◌, ◌+◌, ℤ, pos, cond, ◌||◌, Option, option_map, Some, None, Result, Ok, Err, IfOk, IfErr, MatchResult, length, map, take_all, eq-eqb, refl, ap, ap₂, sym, subst, ◌∙◌, arith}
+use Rattle.std.proofs.lemmas.List.{map-append}
+use Rattle.std.proofs.lemmas.List.Elements.{All-cons, All-nil}
 use Rattle.diagram_dumps.specs.declared.listings.Listing.{Listing}
 use Rattle.edge_bits.specs.declared.limits.TheConstants.{MOST_ROWS}
 use Rattle.edge_bits.specs.declared.edges.Kind.{Kind}
@@ -33,6 +31,16 @@ use Rattle.function_laws.specs.Steps.{TellsFull, outcome}
 use Rattle.function_laws.specs.Values.{assignment_of, conjunction, constant, disjunction, if_then_else, negation, projection}
 use Rattle.function_laws.proofs.BridgeLemmas.{and_of-list_of, ite_of-list_of, not_of-list_of, place_two-list_of}
 use Rattle.function_laws.proofs.StepLemmas.{outcome-var}
+use Rattle.function_laws.specs.declared.orders.Order.TheVariants.{Variables}
+use Rattle.function_laws.specs.Kinds.{Denoted, BddFunction, AddFunction, ZddFamily}
+use Rattle.function_laws.specs.SiftedOrders.{sifted}
+use Rattle.function_laws.specs.Sizes.{Orders}
+use Rattle.node_store.specs.Sweeps.{root_functions}
+use Rattle.group_sift.specs.declared.sifting.Sifted.{Sifted}
+use Rattle.group_sift.specs.Turns.{one_block}
+use Rattle.sift_laws.specs.Alike.{whole_block}
+use Rattle.shared_store.specs.Sharing as store
+use Rattle.dd_session.specs.Siftings.{SiftsLevels}
 use Rattle.dd_session.specs.declared.answers.Full.{Full}
 use Rattle.dd_session.specs.declared.answers.Placed.{Placed}
 use Rattle.dd_session.specs.declared.answers.Refusal.{Refusal}
@@ -41,11 +49,11 @@ use Rattle.dd_session.specs.Listings.{IsListed}
 use Rattle.dd_session.specs.Sessions.{Called, Denies, HasRoom, IsAsBefore, IsLive as IsRow, IsLiveAs, Managed, Seen, kind_of, stands_now, variables_in}
 use Rattle.dd_session.proofs.SessionLaws.{dropped_stays, evaluated_as, full_stays, live_now, made_as, posted_stays, table_of, valued_stays}
 use Rattle.net_builds.specs.declared.host.HostRefusal.{HostRefusal}
-use Rattle.net_builds.specs.Standings.{Asks, Fetches, IsHeld, IsLive, IsQuiet, KeepsOrders, LetsGo, Lists, Makes, Note, Posts, Standing, Works, values_of}
+use Rattle.net_builds.specs.Standings.{Asks, Fetches, IsHeld, IsLive, IsQuiet, LetsGo, Lists, Makes, Note, Posts, Sifts, Standing, Works, values_of, whole_in}
 use Rattle.net_builds.specs.Asked.{ComesBack}
 use Rattle.net_builds.proofs.StandingLemmas.{gains_none}
-use Rattle.net_jobs.specs.Hosts.{IsUnsifted, TellsFullOf, named_by, note_of, standing_of}
-use Rattle.net_jobs.proofs.CallLaws.{given}
+use Rattle.net_jobs.specs.Hosts.{IsSessionOf, TellsFullOf, named_by, note_of, standing_of}
+use Rattle.net_jobs.proofs.CallLaws.{given, left}
 use Rattle.net_jobs.proofs.CoverLemmas.{name-apart}
 use Rattle.net_jobs.proofs.OutcomeKinds.{IsOfKind, fetch-kind, is_plain, kind_or}
 
@@ -80,23 +88,11 @@ stood_there old new call reply place called name = ap₂ (λ (z : Sizes) (rows :
 notes_kept : (old new : Seen) → new.noted ≡ old.noted → (standing_of new).notes ≡ (standing_of old).notes
 notes_kept old new is = λ i. (standing_of (record old { noted = is i })).notes
 
--- one entry more, which leaves the orders as they are
-keeps_more : (since : ℕ) (es : List Entry) (e : Entry) → KeepsOrders e → All KeepsOrders (drop since es) → All KeepsOrders (drop since (es ++ e ∷ []))
-keeps_more zero es e keeps all = All-append KeepsOrders es (e ∷ []) all (All-cons KeepsOrders e [] keeps (All-nil KeepsOrders))
-keeps_more (suc since) [] e keeps all = none since
-  where
-    none : (k : ℕ) → All KeepsOrders (drop k [])
-    none zero = All-nil KeepsOrders
-    none (suc k) = All-nil KeepsOrders
-keeps_more (suc since) (x ∷ es) e keeps all = keeps_more since es e keeps all
-
--- and so a call more
-pub still_unsifted : (m : Managed) (since : ℕ) (old new : Seen) (call : Call) (reply : Reply) (place : ℕ) → Called old new call reply place
-    → KeepsOrders (entry place old.number call reply) → IsUnsifted m since old → IsUnsifted m since new
-still_unsifted m since old new call reply place called keeps own = record {
+-- and is of its manager still
+pub still_own : (m : Managed) (old new : Seen) (call : Call) (reply : Reply) (place : ℕ) → Called old new call reply place → IsSessionOf m old → IsSessionOf m new
+still_own m old new call reply place called own = record {
   own = called.manager_is ∙ own.own;
   none_added = called.more_are.0 ∙ own.none_added;
-  keeps = subst (λ (es : List Entry). All KeepsOrders (drop since es)) (sym called.entries_are) (keeps_more since old.entries (entry place old.number call reply) keeps own.keeps);
 }
 
 -- the entry of a call that was refused, as all slots were in use
@@ -108,10 +104,6 @@ told_full m old call full own limit in_use = record {
   in_use = in_use ∙ ap (λ (x : Managed). x.limit) own;
   limit = limit ∙ ap (λ (x : Managed). x.limit) own;
 }
-
--- behind all of them there is none
-pub none_gained : (es : List Entry) → All KeepsOrders (drop (length es) es)
-none_gained es = subst (λ (xs : List Entry). All KeepsOrders (drop (length es) xs)) (append-nil es) (subst (All KeepsOrders) (sym (drop-append_seam es [])) (All-nil KeepsOrders))
 
 module _ (old new : Seen) (call : Call) where
   -- a call that neither posts nor adds a variable
@@ -135,7 +127,7 @@ module _ (old new : Seen) (call : Call) where
     made f is =
         let gave = given old new call (replies.Made name) place called name plain refl in
         record {
-          works = works (replies.Made name) place called (record { plain = refl; posts = posts });
+          works = works (replies.Made name) place called (record { plain = refl; posts = posts; keeps = λ orders. refl });
           holds = record {
             stands = made_as old new call name place called (Bdd (list_of (2 ^ variables_in old) f)) is ∙ ap (λ n. values_of n f) (sym (variables_stay old new call (replies.Made name) place called));
             given = omega (arith, gave.generation, called.adds_are);
@@ -173,7 +165,7 @@ module _ (old new : Seen) (call : Call) where
               let gave = given old new call (replies.Made placed.value) placed.place called placed.value plain refl in
               record {
                 own = own;
-                works = works (replies.Made placed.value) placed.place called (record { plain = refl; posts = posts });
+                works = works (replies.Made placed.value) placed.place called (record { plain = refl; posts = posts; keeps = λ orders. refl });
                 kept = λ other below. gave.others other (name-apart other placed.value (λ same. omega (arith, same, below, gave.generation)));
                 few = called.few;
                 rows = tt;
@@ -191,23 +183,21 @@ module _ (old new : Seen) (call : Call) where
               }
           by (Err (refusals.Full full)) (called, limit, tells) = record {
             own = own;
-            works = works (replies.Full full.in_use full.need) full.place called (record { plain = refl; posts = posts });
+            works = works (replies.Full full.in_use full.need) full.place called (record { plain = refl; posts = posts; keeps = λ orders. refl });
             kept = λ other below. full_stays old new call full.in_use full.need full.place called other;
             few = omega (arith, called.few);
             rows = omega (arith, called.few);
             caused = (entry full.place old.number call (replies.Full full.in_use full.need), (0, omega arith, refl), caused full limit tells);
           }
 
-  -- the session is still one of its manager, and left the orders as they are
-  pub named_own : (m : Managed) (since : ℕ) (told : Result (Placed Name) Refusal) → Tells told → IsUnsifted m since old → IsUnsifted m since new
-  named_own m since (Ok placed) called own = still_unsifted m since old new call (replies.Made placed.value) placed.place called (λ orders. refl) own
-  named_own m since (Err refusals.Memory) denies own = record {
+  -- the session is still one of its manager
+  pub named_own : (m : Managed) (told : Result (Placed Name) Refusal) → Tells told → IsSessionOf m old → IsSessionOf m new
+  named_own m (Ok placed) called own = still_own m old new call (replies.Made placed.value) placed.place called own
+  named_own m (Err refusals.Memory) denies own = record {
     own = ap (λ (s : Seen). s.manager) denies.0 ∙ own.own;
     none_added = ap (λ (s : Seen). s.more_variables) denies.0 ∙ own.none_added;
-    keeps = subst (λ (s : Seen). All KeepsOrders (drop since s.entries)) (sym denies.0) own.keeps;
   }
-  named_own m since (Err (refusals.Full full)) denies own =
-      still_unsifted m since old new call (replies.Full full.in_use full.need) full.place denies.0 (λ orders. refl) own
+  named_own m (Err (refusals.Full full)) denies own = still_own m old new call (replies.Full full.in_use full.need) full.place denies.0 own
 
   -- a call that is refused for want of memory alone
   pub denied : (told : Result (Placed Name) Refusal)
@@ -258,10 +248,18 @@ module _ (s : Seen) (board : ℕ → Option Function) where
         ∙ ap (λ o. with_one (as_bdd o) (λ z. makes (Bdd (ite_of (list_of size f) (list_of size g) z)))) (in_table c (Bdd (list_of size h)) third)
         ∙ ap (λ x. Some (makes (Bdd x))) (ite_of-list_of size f g h)
 
+-- what a slot denotes, as a whole list
+whole_same : (n m : ℕ) (f : Denoted) → store.whole_in n m f ≡ whole_in n m f
+whole_same n m (BddFunction f) = refl
+whole_same n m (AddFunction f) = refl
+whole_same n m (ZddFamily p) = refl
+
 module _ (old new : Seen) where
   pub lets_go : (a : Name) (place : ℕ) → Called old new (calls.DropRow a) replies.Done place → length new.rows + 1 ≡ length old.rows → LetsGo (standing_of old) (standing_of new) a
+  unfolding works
   lets_go a place called fewer = record {
-    works = works old new (calls.DropRow a) replies.Done place called (record { plain = refl; posts = λ cell. refl });
+    works = works old new (calls.DropRow a) replies.Done place called (record { plain = refl; posts = λ cell. refl; keeps = λ orders. refl });
+    done = All-cons (λ (e : Entry). e.reply ≡ replies.Done) (entry place old.number (calls.DropRow a) replies.Done) [] refl (All-nil (λ (e : Entry). e.reply ≡ replies.Done));
     kept = λ other apart. dropped_stays old new a place called other (name-apart other a apart);
     rows = fewer;
   }
@@ -270,7 +268,7 @@ module _ (old new : Seen) where
   module _ (a : Name) (bits : List Bool) (told : ℤ) (place : ℕ) (called : Called old new (calls.Eval a bits) (replies.Value told) place) where
     pub asks : Asks (standing_of old) (standing_of new)
     asks = record {
-      works = works old new (calls.Eval a bits) (replies.Value told) place called (record { plain = refl; posts = λ cell. refl });
+      works = works old new (calls.Eval a bits) (replies.Value told) place called (record { plain = refl; posts = λ cell. refl; keeps = λ orders. refl });
       kept = valued_stays old new (calls.Eval a bits) told place called;
       rows = omega (arith, called.few);
     }
@@ -286,6 +284,7 @@ module _ (old new : Seen) where
     adds_are = omega (arith, called.adds_are);
     rows = omega (arith, called.few);
     entries_are = called.entries_are;
+    later = called.later;
     note = note_of called.note;
     place_is = called.place_is;
     stood = stood_there old new (calls.Post cell a) replies.Done place called;
@@ -317,15 +316,35 @@ module _ (old new : Seen) where
         rows = called.few;
       }
 
-  -- a fetch behind a reservation of rows
-  pub fetched_unsifted : (m : Managed) (since cell place : ℕ) (other to : Name) (posted : Bool) → Fetches cell (standing_of old) (standing_of new) other to posted place → new.manager ≡ old.manager
-      → new.more_variables ≡ old.more_variables → IsUnsifted m since old → IsUnsifted m since new
-  fetched_unsifted m since cell place other to posted fetched same more own = record {
-    own = same ∙ own.own;
-    none_added = more ∙ own.none_added;
-    keeps = subst (λ (es : List Entry). All KeepsOrders (drop since es)) (sym fetched.entries_are)
-        (keeps_more since old.entries (entry place old.number (calls.Fetch cell other) (replies.Fetched to posted)) (λ orders. refl) own.keeps);
-  }
+  -- a sift of the variables
+  pub sifts : (limit : ℕ) (result : Placed Sifted) → SiftsLevels Variables (one_block (variables_in old)) old new result → limit ≡ old.manager.limit → Sifts limit (standing_of old) (standing_of new) result.place
+  sifts limit result is limit_is =
+      let called = is.told in
+      let told = is.sifting in
+      let sift = is.sift in
+      record {
+        vars_are = variables_stay old new (calls.Sift told) replies.Done result.place called;
+        number_is = called.number_is;
+        notes_are = notes_kept old new called.noted_are;
+        adds_are = omega (arith, called.adds_are);
+        rows = omega (arith, called.few);
+        told = told;
+        sift = record {
+          elements = sift.seen.elements;
+          pinned = root_functions sift.before sift.is_sifted.is_root;
+          functions_are = sift.functions_are ∙ (λ i. map (λ f. whole_same sift.seen.vars sift.seen.elements f i) (root_functions sift.before sift.is_sifted.is_root))
+              ∙ ap (λ n. map (whole_in n sift.seen.elements) (root_functions sift.before sift.is_sifted.is_root)) sift.has.vars;
+          order_is = sift.order_is ∙ ap (λ (o : Orders). o.variables) sift.is_sifted.orders
+              ∙ (λ i. (sifted (record { variables = sym sift.variables_are i; elements = sym sift.elements_are i }) Variables (whole_block (variables_in old)) ((sift.limit_is ∙ sym limit_is) i) (root_functions sift.before sift.is_sifted.is_root)).order);
+        };
+        entries_are = called.entries_are;
+        later = called.later;
+        note = note_of called.note;
+        place_is = called.place_is;
+        stood = stood_there old new (calls.Sift told) replies.Done result.place called;
+        placed_are = placed_more old new (calls.Sift told) replies.Done result.place called;
+        kept = left old new (calls.Sift told) replies.Done result.place called refl;
+      }
 
   pub lists : (names : List Name) (listing : Listing) → IsListed old new names listing → Lists (standing_of old) (standing_of new) names listing
   lists names listing is =
@@ -358,17 +377,15 @@ module _ (old new : Seen) where
         by (Ok listing) is = tt
         by (Err memory) is = ap standing_of is.0
 
-    pub listed_own : (m : Managed) (since : ℕ) → IsUnsifted m since old → IsUnsifted m since new
-    listed_own m since own = by result told
+    pub listed_own : (m : Managed) → IsSessionOf m old → IsSessionOf m new
+    listed_own m own = by result told
       where
-        by : (result : Result Listing Memory) → MatchResult result (IsListed old new names) (λ _. IsAsBefore old new) → IsUnsifted m since new
+        by : (result : Result Listing Memory) → MatchResult result (IsListed old new names) (λ _. IsAsBefore old new) → IsSessionOf m new
         by (Ok listing) is = record {
           own = ap (λ (s : Seen). s.manager) is.new_is ∙ own.own;
           none_added = ap (λ (s : Seen). s.more_variables) is.new_is ∙ own.none_added;
-          keeps = subst (λ (s : Seen). All KeepsOrders (drop since s.entries)) (sym is.new_is) own.keeps;
         }
         by (Err memory) is = record {
           own = ap (λ (s : Seen). s.manager) is.0 ∙ own.own;
           none_added = ap (λ (s : Seen). s.more_variables) is.0 ∙ own.none_added;
-          keeps = subst (λ (s : Seen). All KeepsOrders (drop since s.entries)) (sym is.0) own.keeps;
         }

@@ -1,8 +1,10 @@
+pub mod Alone
 pub mod AnswerLaws
 pub mod BuiltHistories
 pub mod CallLaws
 pub mod CanLemmas
 pub mod CompleteLemmas
+pub mod Counted
 pub mod CoverLemmas
 pub mod DropLemmas
 pub mod EndLemmas
@@ -16,6 +18,7 @@ pub mod LoopLemmas
 pub mod Opening
 pub mod OrderLemmas
 pub mod OutcomeKinds
+pub mod Sharing
 pub mod SiftLemmas
 pub mod SizeLemmas
 pub mod Sorting

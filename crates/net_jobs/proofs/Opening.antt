@@ -2,7 +2,6 @@
 use Rattle.std.proofs.Common.{◌≡◌, ℕ, zero, suc, ◌+◌, ◌<◌, ◌≤◌, List, [], ◌∷◌, ◌++◌, length, take, drop, All, refl, ap, ap₂, sym, subst, ◌∙◌, arith}
 use mathlib.Core.Option.{some}
 use lib.ListN.{get_elem?}
-use Rattle.std.proofs.Math.Seq.{take-append_seam}
 use Rattle.std.proofs.lemmas.List.{append_assoc, append-nil}
 use Rattle.std.proofs.lemmas.List.Elements.{All-cons, All-head, All-nil, All-tail}
 use Rattle.edge_bits.specs.declared.limits.TheConstants.{MOST_ROWS, MOST_SESSIONS}
@@ -16,6 +15,7 @@ use Rattle.dd_session.specs.Managing.{AreAll, IsClosed, Managed, Seen, newcomer,
 use Rattle.net_jobs.specs.Plays.{AllCan, AllGain, AreNumbered, PlaysIn}
 use Rattle.net_jobs.specs.Sections.{counts_of}
 use Rattle.net_jobs.proofs.History.{AreFresh, found, is_history}
+use Rattle.net_jobs.proofs.ListLemmas.{taken_back}
 
 -- sessions from number k on, as they are opened
 abbrev from : Managed → ℕ → ℕ → List Seen
@@ -32,6 +32,21 @@ newcomers_from m k (suc n) = sym (append_assoc (newcomers m k) (newcomer m k ∷
 opened_from : (m : Managed) → from m 0 m.sessions ≡ opened m
 opened_from m = newcomers_from m 0 m.sessions ∙ so_many m (m.sessions + 0) m.sessions (omega arith)
 
+numbered_from : (m : Managed) (k n : ℕ) → AreNumbered k (from m k n)
+numbered_from m k zero = tt
+numbered_from m k (suc n) = (refl, numbered_from m (suc k) n)
+
+long_from : (m : Managed) (k n : ℕ) → length (from m k n) ≡ n
+long_from m k zero = refl
+long_from m k (suc n) = ap suc (long_from m (suc k) n)
+
+-- as many sessions as the manager is opened with, with the numbers from 0 on
+pub opened_many : (m : Managed) → length (opened m) ≡ m.sessions
+opened_many m = ap (length {A = Seen}) (sym (opened_from m)) ∙ long_from m 0 m.sessions
+
+pub opened_numbered : (m : Managed) → AreNumbered 0 (opened m)
+opened_numbered m = subst (AreNumbered 0) (opened_from m) (numbered_from m 0 m.sessions)
+
 can_from : (m : Managed) (k : ℕ) (sections : List (List Command)) → All (CommandsSay (counts_of m) []) sections → All (λ (commands : List Command). length commands < MOST_ROWS) sections → AllCan m sections (from m k (length sections))
 can_from m k [] say few = tt
 can_from m k (c ∷ sections) say few = (
@@ -44,14 +59,6 @@ can_from m k (c ∷ sections) say few = (
   },
   can_from m (suc k) sections (All-tail (CommandsSay (counts_of m) []) c sections say) (All-tail (λ (commands : List Command). length commands < MOST_ROWS) c sections few),
 )
-
-numbered_from : (m : Managed) (k n : ℕ) → AreNumbered k (from m k n)
-numbered_from m k zero = tt
-numbered_from m k (suc n) = (refl, numbered_from m (suc k) n)
-
-long_from : (m : Managed) (k n : ℕ) → length (from m k n) ≡ n
-long_from m k zero = refl
-long_from m k (suc n) = ap suc (long_from m (suc k) n)
 
 fresh_from : (m : Managed) (k n j : ℕ) (a : Seen) → get_elem? (from m k n) j ≡ some a → (a.entries ≡ []) × (a.adds ≡ 0)
 fresh_from m k zero zero a at = absurd (none_at at)
@@ -116,9 +123,7 @@ module _ (job : Job) (m : Managed) (is_job : IsJob job) (is : IsFor job m) where
 
   -- the slice that was lent has all sessions
   pub written_back : (new items : List Seen) (text : List ℕ) (n : ℕ) → PlaysIn m job.sections (opened m) new text → items ≡ opened m → n ≡ length items → take n (new ++ drop (length new) items) ≡ new
-  written_back new items text n p at long =
-      let many = as_many new text p in
-      let same = ap (length {A = Seen}) at in ap (λ k. take k (new ++ drop (length new) items)) (omega (arith, long, many, same)) ∙ take-append_seam new (drop (length new) items)
+  written_back new items text n p at long = taken_back new items n (as_many new text p ∙ sym (ap (length {A = Seen}) at)) long
 
   -- they are all sessions of the manager
   pub are_all : (new : List Seen) (text : List ℕ) → PlaysIn m job.sections (opened m) new text → AreAll m new

@@ -1,25 +1,20 @@
 -- The words that ask for a job to be played are `play` alone.
-use Rattle.std.proofs.Common.{◌≡◌, Bool, true, false, List, ℕ, Option, Some, None, Result, Ok, Err, IfOk, IfSome, option_and_then, if◌then◌else◌, refl}
+use Rattle.std.proofs.Common.{◌≡◌, Bool, true, false, List, ℕ, Option, Some, None, Result, Ok, Err, IfOk, IfSome, if◌then◌else◌, refl}
 use Rattle.command_words.specs.declared.order.Order.{Order}
 use Rattle.command_words.specs.declared.order.Order.TheVariants.{Play, Build, Load, Gen}
 use Rattle.command_words.specs.Orders.{is_play, order_of, table_order}
 use Rattle.command_words.proofs.Alone.{HasOptions, of_table}
-use Rattle.net_jobs.specs.Ends.{PlaysAlone, asked_of, if_it_runs}
+use Rattle.net_jobs.specs.Ends.{PlaysAlone}
 
 -- what has options is another command
-asks_for : (b : Bool) (o : Order) → HasOptions o → (if b then Some o else None) ≡ Some Play → ⊥
-asks_for false o has is = cc
-asks_for true Play has is = absurd has
-asks_for true (Build workers limit options) has is = cc
-asks_for true (Load patterns) has is = cc
-asks_for true (Gen workers bits) has is = cc
-
-is_other : (o : Option Order) → IfSome o HasOptions → option_and_then if_it_runs o ≡ Some Play → ⊥
+is_other : (o : Option Order) → IfSome o HasOptions → o ≡ Some Play → ⊥
 is_other None has is = cc
-is_other (Some o) has is = asks_for _ o has is
+is_other (Some Play) has is = absurd has
+is_other (Some (Build workers limit options)) has is = cc
+is_other (Some (Load patterns)) has is = cc
+is_other (Some (Gen workers bits)) has is = cc
 
-by_test : (b : Bool) (o : Option Order) → IfSome o HasOptions
-    → (b ≡ true → option_and_then if_it_runs (if b then Some Play else o) ≡ Some Play) × (b ≡ false → option_and_then if_it_runs (if b then Some Play else o) ≡ Some Play → ⊥)
+by_test : (b : Bool) (o : Option Order) → IfSome o HasOptions → (b ≡ true → (if b then Some Play else o) ≡ Some Play) × (b ≡ false → (if b then Some Play else o) ≡ Some Play → ⊥)
 by_test true o has = (λ _. refl, λ no _. absurd (apart no))
   where
     apart : true ≡ false → ⊥
@@ -30,7 +25,7 @@ by_test false o has = (λ no. absurd (apart no), λ _ is. is_other o has is)
     apart e = cc
 
 pub plays_alone : (words : List (List ℕ)) → PlaysAlone words
-unfolding asked_of order_of
+unfolding order_of
 plays_alone words = by_test (is_play words) (table_order words) (of_table words)
 
 -- what holds of an answer in one form holds of it in another

@@ -1,5 +1,5 @@
 -- How a run may end: each status with its cause, and the text that is told.
-use Rattle.std.specs.Prelude.{◌≡◌, ℕ, ◌+◌, ◌==◌, ◌≤◌, ◌⊎◌, ◌&&◌, Bool, true, false, not, List, [], ◌++◌, Option, Some, None, length, codes, option_and_then, if◌then◌else◌}
+use Rattle.std.specs.Prelude.{◌≡◌, ℕ, ◌+◌, ◌≤◌, ◌⊎◌, Bool, true, false, List, [], ◌++◌, Option, Some, None, length, codes, if◌then◌else◌}
 use Rattle.std.specs.Io.KnownBytes.{Consumes, IsAtEnd}
 use Rattle.std.specs.Fmt.{decimal}
 use Rattle.std.specs.List.{range_with_len}
@@ -29,29 +29,16 @@ use Rattle.job_text.specs.Histories.{IsPlayed}
 use Rattle.byte_streams.specs.Causes.{FaultsRose}
 use Rattle.net_reports.specs.GenTexts.{gen_text}
 use Rattle.net_builds.specs.Builds.{IsAs}
+use Rattle.net_builds.specs.Sifting.{sifted_order}
 use Rattle.net_builds.specs.declared.telling.Telling.{Telling}
 use Rattle.net_builds.specs.declared.telling.Telling.TheVariants.{Report, Stored}
-use Rattle.net_reports.specs.Reports.{IsReport, IsSummary, dump_subject, net_subject}
+use Rattle.net_reports.specs.Reports.{IsReport, IsSummary, dump_subject, net_subject, output_functions}
 use Rattle.net_jobs.specs.declared.status.Status.{Status}
 use Rattle.net_jobs.specs.declared.status.Status.TheVariants as status
 
--- the commands that run: `play`, `load`, and `build` and `gen` with one worker, without a sift
-abbrev pub runs : Order → Bool
-runs Play = true
-runs (Build workers limit options) = (workers == 1) && not options.sift
-runs (Load patterns) = true
-runs (Gen workers bits) = workers == 1
-
-abbrev pub if_it_runs : Order → Option Order
-if_it_runs order = if runs order then Some order else None
-
--- What the words ask for, of the commands that run. What asks for another command is no command yet.
-unfoldable pub asked_of : List (List ℕ) → Option Order
-asked_of words = option_and_then if_it_runs (order_of words)
-
 -- `play` is asked for by the word `play` alone, and by no other words
 abbrev pub PlaysAlone : List (List ℕ) → Type 0
-PlaysAlone words = (is_play words ≡ true → asked_of words ≡ Some Play) × (is_play words ≡ false → asked_of words ≡ Some Play → ⊥)
+PlaysAlone words = (is_play words ≡ true → order_of words ≡ Some Play) × (is_play words ≡ false → order_of words ≡ Some Play → ⊥)
 
 -- These bytes are all of the input, as far as the source tells: it had them left, is at its end, and they are not too many.
 pub record IsWhole (left rest : Option (List ℕ)) (bytes : List ℕ) : Type 0 where
@@ -116,16 +103,21 @@ Reads (Some (Gen workers bits)) = ⊥
 abbrev pub rising : Net → List ℕ
 rising net = range_with_len 0 (length net.inputs)
 
+-- In which order `build` has the variables of a network where it tells of the outputs: that of the inputs; or, where a sift is asked for, the one that a sift leaves for the outputs' functions over one default block, in a store of so many slots beyond the permanent ones.
+abbrev pub order_for : Net → ℕ → Options → List ℕ
+order_for net limit options =
+    if options.sift then sifted_order (5 + length net.inputs + limit) (length net.inputs) (output_functions net) else rising net
+
 -- what `build` tells: the report, and behind it the stored diagram of the outputs where that is asked for
 abbrev pub telling_of : Options → Telling
 telling_of options = if options.store then Stored else Report
 
--- What a command tells: `play` the history of the job that it read, `build` what is due of the network that it read, `load` the report of the stored diagram that it read, `gen` the summary of the network that is made. The source had `left` left when the run began and has `rest` left.
+-- What a command tells, whatever the number of workers: `play` the history of the job that it read, `build` what is due of the network that it read, `load` the report of the stored diagram that it read, `gen` the summary of the network that is made. The source had `left` left when the run began and has `rest` left.
 abbrev pub IsDone : Option Order → Option (List ℕ) → Option (List ℕ) → List ℕ → Type 0
 IsDone None left rest text = ⊥
 IsDone (Some Play) left rest text = (bytes : List ℕ) × (job : Job) × IsWhole left rest bytes × IsJobText bytes job × IsPlayed job text
 IsDone (Some (Build workers limit options)) left rest text =
-    (bytes : List ℕ) × (net : Net) × IsWhole left rest bytes × IsBlifText bytes net × IsAs (telling_of options) (net_subject net (rising net) options.patterns) text
+    (bytes : List ℕ) × (net : Net) × IsWhole left rest bytes × IsBlifText bytes net × IsAs (telling_of options) (net_subject net (order_for net limit options) options.patterns) text
 IsDone (Some (Load patterns)) left rest text =
     (bytes : List ℕ) × (dump : Dump) × IsWhole left rest bytes × IsDddmpText bytes dump × IsReport (dump_subject dump (range_with_len 0 dump.nvars) patterns) text
 IsDone (Some (Gen workers bits)) left rest text =

@@ -1,5 +1,5 @@
 -- The sessions of a manager, as those that build functions of networks.
-use Rattle.std.specs.Prelude.{◌≡◌, ℕ, All, Result, Ok, Err, drop, length, map, option_map}
+use Rattle.std.specs.Prelude.{◌≡◌, Result, Ok, Err, length, map, option_map}
 use Rattle.dd_session.specs.declared.answers.Full.{Full}
 use Rattle.dd_session.specs.declared.answers.Placed.{Placed}
 use Rattle.dd_session.specs.declared.answers.Refusal.{Refusal}
@@ -13,7 +13,7 @@ use Rattle.seat_guard.specs.declared.view.Noted.{Noted}
 use Rattle.seat_guard.specs.Views.{stands_for}
 use Rattle.net_builds.specs.declared.host.HostRefusal.{HostRefusal}
 use Rattle.net_builds.specs.declared.host.HostRefusal.TheVariants as stops
-use Rattle.net_builds.specs.Standings.{KeepsOrders, Note, Standing}
+use Rattle.net_builds.specs.Standings.{Note, Standing}
 
 -- what a session noted at a place, as one that builds functions: the order of the variables, and what its names stood for
 abbrev pub note_of : Noted → Note
@@ -36,11 +36,10 @@ standing_of s = record {
   placed = map note_of s.placed;
 }
 
--- the session is one of the manager and knows of no variable that was added, and its calls behind the first so many leave the orders as they are
-pub record IsUnsifted (manager : Managed) (since : ℕ) (s : Seen) : Type 0 where
+-- the session is one of the manager's, and knows of no variable that was added
+pub record IsSessionOf (manager : Managed) (s : Seen) : Type 0 where
   pub own : s.manager ≡ manager
   pub none_added : s.more_variables ≡ 0
-  pub keeps : All KeepsOrders (drop since s.entries)
 
 -- the entry is of a call that was refused so, as each slot of the manager was in use
 pub record TellsFullOf (manager : Managed) (full : Full) (e : Entry) : Type 0 where

@@ -6,3 +6,4 @@ pub mod Plays
 pub mod Refusals
 pub mod Saying
 pub mod Sections
+pub mod Workers

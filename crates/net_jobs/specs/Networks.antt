@@ -1,7 +1,7 @@
 -- What comes of networks that are built, and of stored diagrams that are made.
 use Rattle.std.specs.Prelude.{◌≡◌, ℕ, ◌+◌, Bool, List, [], ◌∷◌}
 use Rattle.dd_session.specs.declared.answers.Full.{Full}
-use Rattle.dd_session.specs.Managing.{Managed, Seen, newcomer}
+use Rattle.dd_session.specs.Managing.{Managed, Seen, opened}
 use Rattle.net_builds.specs.declared.host.HostRefusal.{HostRefusal}
 use Rattle.net_builds.specs.declared.host.HostRefusal.TheVariants as stops
 use Rattle.diagram_dumps.specs.declared.dump.Dump.{Dump}
@@ -13,14 +13,15 @@ use Rattle.net_jobs.specs.Hosts.{TellsFullOf, standing_of}
 abbrev pub IsFreshOf : Managed → Seen → Type 0
 IsFreshOf m s = (s.manager ≡ m) × (s.rows ≡ []) × (s.more_variables ≡ 0)
 
--- a manager for so many inputs, and its one session
-pub record IsOpenedFor (inputs limit : ℕ) (m : Managed) (sessions : List Seen) : Type 0 where
+-- a manager for so many inputs and workers, and its sessions, one for each worker
+pub record IsOpenedFor (inputs limit workers : ℕ) (m : Managed) (sessions : List Seen) : Type 0 where
   pub vars : m.vars ≡ inputs
+  pub none : m.elements ≡ 0
   pub limit_is : m.limit ≡ 5 + inputs + limit
-  pub one : m.sessions ≡ 1
-  pub sessions_are : sessions ≡ newcomer m 0 ∷ []
+  pub as_many : m.sessions ≡ workers
+  pub sessions_are : sessions ≡ opened m
 
--- A part was refused that builds by the one session of a manager: that one has no row, and where it was not want of memory, one of the calls that it made in the part was refused so.
+-- A part was refused that makes a diagram by the one session of a manager: that one has no row, and where it was not want of memory, one of the calls that it made in the part was refused so.
 pub record IsRefusedIn (cell : ℕ) (m : Managed) (old new : List Seen) (refusal : HostRefusal Full) : Type 0 where
   pub before : Seen
   pub after : Seen

@@ -47,7 +47,6 @@ pub fn load<R: Wait, G: Gate>(
         manager,
         gate,
         worker: 0,
-        since: sessions[0].calls(),
     };
     let patterns = options.patterns.as_slice();
     load_report(alloc, &host, &mut sessions[0], dump, patterns)
@@ -66,7 +65,7 @@ pub fn diagram_report<R: Wait, G: Gate>(
     ensures report { IfOk result (λ text. IsReport (dump_subject dump.now (range_with_len 0 dump.now.nvars) options.now.patterns) text.items) }
     ensures full { IfErr result (IsFilledBy (λ slots. slots ≡ 5 + dump.now.nvars + USUAL_LIMIT)) }
 {
-    let Ok((manager, mut sessions)) = opened(alloc, dump.nvars, USUAL_LIMIT) else {
+    let Ok((manager, mut sessions)) = opened(alloc, dump.nvars, USUAL_LIMIT, 1) else {
         return Err(PartStop::Memory);
     };
     let text = load(rt, alloc, &manager, &mut sessions, dump, options, gate)?;

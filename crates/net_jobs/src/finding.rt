@@ -1,7 +1,7 @@
 //! What the commands tell: of what the source holds, or of a network that is made.
 
-ghost use Rattle.std.specs.Prelude.{◌≡◌, ◌<◌, ◌≤◌, ◌^◌, All, length, false, ℕ, List as ListOf, Option, Some, IfOk, IfErr, string_bytes};
-ghost use Rattle.edge_bits.specs.declared.limits.TheConstants.{MOST_BITS, MOST_LIMIT, MOST_ROWS};
+ghost use Rattle.std.specs.Prelude.{◌≡◌, ◌<◌, ◌≤◌, ◌^◌, All, length, ℕ, List as ListOf, Option, Some, IfOk, IfErr, string_bytes};
+ghost use Rattle.edge_bits.specs.declared.limits.TheConstants.{MOST_BITS, MOST_LIMIT, MOST_ROWS, MOST_SESSIONS};
 ghost use Rattle.command_words.specs.declared.order.Order.{Order};
 ghost use Rattle.command_words.specs.declared.order.Order.TheVariants.{Build, Gen, Load, Play};
 ghost use Rattle.job_text.specs.Grammar.{IsJob};
@@ -112,20 +112,21 @@ fn refusal_of(stop: PartStop) -> RunRefusal
     }
 }
 
-/// What is due of the network that the source holds, whatever the number of workers.
-pub fn build_source<R: Wait + RandomSource, S: Source, G: Gate>(
+/// What is due of the network that the source holds, built by so many workers.
+pub fn build_source<R: Threads + Wait + Sync + RandomSource, S: Source, G: Gate>(
     rt: &R,
     alloc: Global,
+    workers: u32,
     limit: u32,
     options: &Options,
     source: &mut S,
     gate: &G,
 ) -> Result<Vec<u8>, RunRefusal>
+    requires workers { (1 ≤ workers) × (workers ≤ MOST_SESSIONS) }
     requires limit { limit ≤ MOST_LIMIT }
-    requires unsifted { options.now.sift ≡ false }
-    ensures text { IfOk result (λ text. (workers : ℕ) → Due (Some (Build workers limit options.now)) (S.left source.old) (S.left source.new)
+    ensures text { IfOk result (λ text. Due (Some (Build workers limit options.now)) (S.left source.old) (S.left source.new)
         (FaultsRose (S.faults source.old) (S.faults source.new)) Status.Ok text.items) }
-    ensures refusal { IfErr result (λ refusal. (workers : ℕ) → Due (Some (Build workers limit options.now)) (S.left source.old) (S.left source.new)
+    ensures refusal { IfErr result (λ refusal. Due (Some (Build workers limit options.now)) (S.left source.old) (S.left source.new)
         (FaultsRose (S.faults source.old) (S.faults source.new)) (status_of refusal) (refusal_line refusal)) }
 {
     let text = whole_text(alloc, source)?;
@@ -139,7 +140,7 @@ pub fn build_source<R: Wait + RandomSource, S: Source, G: Gate>(
         Err(BlifError::Fault(fault)) => return Err(RunRefusal::Blif(fault)),
     };
     networks_are_bounded();
-    match report_of(rt, alloc, &net, limit, options, gate) {
+    match report_of(rt, alloc, &net, workers, limit, options, gate) {
         Ok(text) => Ok(text),
         Err(stop) => Err(refusal_of(stop)),
     }
@@ -171,18 +172,20 @@ pub fn load_source<R: Wait, S: Source, G: Gate>(
     }
 }
 
-/// The summary of the network that is made for so many bits, whatever the number of workers. No source is read.
-pub fn made_summary<R: Wait + RandomSource, G: Gate>(
+/// The summary of the network that is made for so many bits, built by so many workers. No source is read.
+pub fn made_summary<R: Threads + Wait + Sync + RandomSource, G: Gate>(
     rt: &R,
     alloc: Global,
+    workers: u32,
     bits: u32,
     gate: &G,
 ) -> Result<Vec<u8>, RunRefusal>
-    requires { bits ≤ MOST_BITS }
-    ensures text { IfOk result (λ text. (workers before now : ℕ) (left : Option (ListOf ℕ)) → Due (Some (Gen workers bits)) left left (FaultsRose before now) Status.Ok text.items) }
-    ensures refusal { IfErr result (λ refusal. (workers before now : ℕ) (left : Option (ListOf ℕ)) → Due (Some (Gen workers bits)) left left (FaultsRose before now) (status_of refusal) (refusal_line refusal)) }
+    requires workers { (1 ≤ workers) × (workers ≤ MOST_SESSIONS) }
+    requires bits { bits ≤ MOST_BITS }
+    ensures text { IfOk result (λ text. (before now : ℕ) (left : Option (ListOf ℕ)) → Due (Some (Gen workers bits)) left left (FaultsRose before now) Status.Ok text.items) }
+    ensures refusal { IfErr result (λ refusal. (before now : ℕ) (left : Option (ListOf ℕ)) → Due (Some (Gen workers bits)) left left (FaultsRose before now) (status_of refusal) (refusal_line refusal)) }
 {
-    match summary_of(rt, alloc, bits, gate) {
+    match summary_of(rt, alloc, workers, bits, gate) {
         Ok(text) => Ok(text),
         Err(stop) => Err(refusal_of(stop)),
     }

@@ -9,22 +9,21 @@ ghost use Rattle.net_jobs.specs.Hosts.{named_by, standing_of};
 use crate::evaluation::evaluate;
 use crate::gate::Gate;
 use crossbeam_utils::Backoff;
-use dd_session::{Fetched, Full, Manager, Placed, Refusal, Session};
+use dd_session::{Blocks, Fetched, Full, Manager, Placed, Refusal, Session};
 use diagram_dumps::Listing;
 use edge_bits::Memory;
 use function_laws::Name;
 use net_builds::{Host, HostRefusal, Taken, Told};
+use std::alloc::Global;
 use std::sync::Wait;
 
-/// A manager whose sessions build functions. The gate is passed before each output, with the number of the worker. `since` is how
-/// many calls its session has made: those behind them swap no levels and sift nothing.
+/// A manager whose sessions build functions. The gate is passed before each output, with the number of the worker.
 #[derive(Drop)]
 pub struct SessionHost<'a, R, G> {
     pub rt: &'a R,
     pub manager: &'a Manager,
     pub gate: &'a G,
     pub worker: u32,
-    pub since: u64,
 }
 
 /// Waits for ever where the session has made all the calls that it may make.
@@ -91,7 +90,7 @@ fn fetch_row<R: Wait>(
 
 impl<'a, R: Wait, G: Gate> Host for SessionHost<'a, R, G> {
     ghost use Rattle.std.specs.Prelude.{◌≡◌};
-    ghost use Rattle.net_jobs.specs.Hosts.{IsUnsifted, TellsFullOf, standing_of};
+    ghost use Rattle.net_jobs.specs.Hosts.{IsSessionOf, TellsFullOf, standing_of};
 
     type Session = Session;
 
@@ -99,9 +98,11 @@ impl<'a, R: Wait, G: Gate> Host for SessionHost<'a, R, G> {
 
     ghost standing = { λ s. standing_of s };
 
-    ghost has = { λ host s. IsUnsifted host.manager.now host.since s };
+    ghost has = { λ host s. IsSessionOf host.manager.now s };
 
     ghost tells = { λ host full e. TellsFullOf host.manager.now full e };
+
+    ghost limit = { λ host. host.manager.now.limit };
 
     fn pass(&self, output: u32) {
         self.gate.pass(self.worker, output);
@@ -181,6 +182,13 @@ impl<'a, R: Wait, G: Gate> Host for SessionHost<'a, R, G> {
             Ok(()) => Ok(fetch_row(self.rt, self.manager, session, cell, other)),
             Err(Memory) => Err(Memory),
         }
+    }
+
+    fn sift(&self, alloc: Global, session: &mut Session, variables: u32) -> Result<(), Memory> {
+        let mut blocks = Blocks::one(alloc, variables)?;
+        ready(self.rt, session);
+        let _sifted = session.sift(self.rt, self.manager, &mut blocks);
+        Ok(())
     }
 
     fn list(&self, session: &mut Session, names: &[Name]) -> Result<Listing, Memory> {

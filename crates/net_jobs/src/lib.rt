@@ -17,6 +17,7 @@ mod said;
 mod section;
 mod status;
 mod top;
+mod workers;
 
 pub use byte_streams::{Bytes, Discard, Failed, Pieces, Sink, Source, SureBytes};
 pub use command_words::Options;

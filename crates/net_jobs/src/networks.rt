@@ -1,30 +1,36 @@
 //! Networks that are built by the sessions of a manager, and what is told of them.
 
-ghost use Rattle.std.specs.Prelude.{◌≡◌, ◌⊎◌, ◌+◌, ◌*◌, ◌≤◌, [], false, length, map, All, IfErr, IfOk};
-ghost use Rattle.edge_bits.specs.declared.limits.TheConstants.{MOST_BITS, MOST_LIMIT, MOST_VARIABLES};
+ghost use Rattle.std.specs.Prelude.{◌≡◌, ◌⊎◌, ◌+◌, ◌*◌, ◌≤◌, [], false, true, length, map, All, IfErr, IfOk};
+ghost use Rattle.edge_bits.specs.declared.limits.TheConstants.{MOST_BITS, MOST_LIMIT, MOST_SESSIONS, MOST_VARIABLES};
 ghost use Rattle.blif_net.specs.Bounds.{IsBounded};
 ghost use Rattle.blif_net.specs.declared.net.Net.{Net as NetOf};
 ghost use Rattle.blif_net.specs.Networks.{IsBlifText};
 ghost use Rattle.net_builds.specs.Builds.{AreUnsifted, Builds, IsAs, TellsOf};
+ghost use Rattle.net_builds.specs.Outputs.{AreRefused};
+ghost use Rattle.net_builds.specs.Sifting.{BuildsSifted};
 ghost use Rattle.net_builds.specs.declared.telling.Telling.TheVariants.{Summary};
 ghost use Rattle.net_reports.specs.GenTexts.{gen_text};
 ghost use Rattle.net_reports.specs.Reports.{IsSummary, net_subject, output_functions};
-ghost use Rattle.net_jobs.specs.Ends.{rising, telling_of};
-ghost use Rattle.net_jobs.specs.Hosts.{standing_of};
-ghost use Rattle.net_jobs.specs.Networks.{IsFilledBy, IsFreshOf, IsOpenedFor, IsRefusedIn};
+ghost use Rattle.net_jobs.specs.Ends.{order_for, rising, telling_of};
+ghost use Rattle.net_jobs.specs.Hosts.{TellsFullOf, standing_of};
+ghost use Rattle.net_jobs.specs.Networks.{IsFilledBy, IsFreshOf, IsOpenedFor};
 
 use crate::gate::Gate;
 use crate::hosting::SessionHost;
+use crate::workers::built_shares;
 use blif_net::{BlifError, Net, networks_are_bounded, read, texts_have_one_reading};
 use command_words::Options;
 use dd_session::{Config, Full, Manager, OpenFault, Session};
 use edge_bits::{List, Memory, USUAL_LIMIT};
-use net_builds::{HostRefusal, Telling, build_network, tellings_are_true};
+use net_builds::{
+    HostRefusal, Telling, finish_network, sifted_tellings_are_true, tellings_are_true,
+};
 use net_reports::gen_text;
 use std::alloc::Global;
 use std::hash::RandomState;
 use std::random::RandomSource;
 use std::sync::Wait;
+use std::thread::Threads;
 
 /// The cell of the board by which outputs are handed over.
 pub const OUTPUTS_CELL: u32 = 0;
@@ -43,10 +49,57 @@ fn telling_of(options: &Options) -> Telling
     }
 }
 
-/// Builds a network by the one session of a manager, which has no live row and knows of no variable that was added: the report of its
-/// outputs, with their values at each pattern, and behind it the stored diagram of the outputs where the options ask for it. The gate is passed as worker 0 before each output. The session is left so, with no
-/// live row, also where it was refused; the cell of the outputs keeps what was posted last.
-pub fn build<R: Wait, G: Gate>(
+/// Builds a network by the sessions of a manager, each of which is a worker's in a thread of its own, and tells what is due of it by the
+/// first one, which sifts the variables before, if that is asked for.
+fn built_and_told<R: Threads + Wait + Sync, G: Gate>(
+    rt: &R,
+    alloc: Global,
+    manager: &Manager,
+    sessions: &mut [Session],
+    net: &Net,
+    sifts: bool,
+    telling: Telling,
+    patterns: &[List<bool>],
+    gate: &G,
+) -> Result<Vec<u8>, PartStop>
+    requires some { (1 ≤ length sessions.old) × (length sessions.old ≤ MOST_SESSIONS) }
+    requires fresh { All (IsFreshOf manager.now) sessions.old }
+    requires bounded { IsBounded net.now }
+    requires vars { manager.now.vars ≡ length net.now.inputs }
+    ensures fresh { All (IsFreshOf manager.now) sessions.new }
+    ensures built { IfOk result (λ text. Builds (TellsOf net.now patterns.now telling) OUTPUTS_CELL (output_functions net.now) (map standing_of sessions.old) (map standing_of sessions.new) text.items) }
+    ensures sifted { sifts ≡ true → IfOk result (λ text. BuildsSifted (TellsOf net.now patterns.now telling) manager.now.limit OUTPUTS_CELL (output_functions net.now) (map standing_of sessions.old) (map standing_of sessions.new) text.items) }
+    ensures unsifted { sifts ≡ false → AreUnsifted (map standing_of sessions.old) (map standing_of sessions.new) }
+    ensures refused { IfErr result (AreRefused (TellsFullOf manager.now) OUTPUTS_CELL sifts (map standing_of sessions.old) (map standing_of sessions.new)) }
+{
+    let shares = built_shares(rt, alloc, manager, sessions, net, gate)?;
+    let host = SessionHost {
+        rt,
+        manager,
+        gate,
+        worker: 0,
+    };
+    finish_network(
+        rt,
+        alloc,
+        &host,
+        sessions,
+        OUTPUTS_CELL,
+        net,
+        &shares,
+        sifts,
+        telling,
+        patterns,
+    )
+}
+
+/// Builds a network by the sessions of a manager, 1 to 64 of them, which have no live row and know of no variable that was added: the
+/// report of its outputs, with their values at each pattern, and behind it the stored diagram of the outputs where the options ask for it.
+/// Session k is worker k of as many, in a thread of its own: it passes the gate as such before each of its outputs, with the output's
+/// number. Where the options ask for a sift, the first session sifts the variables once, over one block, when it has all outputs; the
+/// report and the diagram are under the order that this leaves. The sessions are left as they came, with no live row, also where one was
+/// refused; the cell of the outputs keeps what was posted last.
+pub fn build<R: Threads + Wait + Sync, G: Gate>(
     rt: &R,
     alloc: Global,
     manager: &Manager,
@@ -55,32 +108,28 @@ pub fn build<R: Wait, G: Gate>(
     options: &Options,
     gate: &G,
 ) -> Result<Vec<u8>, PartStop>
-    requires one { length sessions.old ≡ 1 }
+    requires some { (1 ≤ length sessions.old) × (length sessions.old ≤ MOST_SESSIONS) }
     requires fresh { All (IsFreshOf manager.now) sessions.old }
     requires bounded { IsBounded net.now }
     requires vars { manager.now.vars ≡ length net.now.inputs }
-    requires unsifted { options.now.sift ≡ false }
     ensures fresh { All (IsFreshOf manager.now) sessions.new }
-    ensures unsifted { AreUnsifted (map standing_of sessions.old) (map standing_of sessions.new) }
     ensures built { IfOk result (λ text. Builds (TellsOf net.now options.now.patterns (telling_of options.now)) OUTPUTS_CELL (output_functions net.now) (map standing_of sessions.old) (map standing_of sessions.new) text.items) }
-    ensures refused { IfErr result (IsRefusedIn OUTPUTS_CELL manager.now sessions.old sessions.new) }
+    ensures sifted { options.now.sift ≡ true → IfOk result (λ text. BuildsSifted (TellsOf net.now options.now.patterns (telling_of options.now)) manager.now.limit OUTPUTS_CELL (output_functions net.now) (map standing_of sessions.old) (map standing_of sessions.new) text.items) }
+    ensures unsifted { options.now.sift ≡ false → AreUnsifted (map standing_of sessions.old) (map standing_of sessions.new) }
+    ensures refused { IfErr result (AreRefused (TellsFullOf manager.now) OUTPUTS_CELL options.now.sift (map standing_of sessions.old) (map standing_of sessions.new)) }
 {
-    let host = SessionHost {
-        rt,
-        manager,
-        gate,
-        worker: 0,
-        since: sessions[0].calls(),
-    };
-    build_network(
+    let telling = telling_of(options);
+    let patterns = options.patterns.as_slice();
+    built_and_told(
         rt,
         alloc,
-        &host,
-        &mut sessions[0],
-        OUTPUTS_CELL,
+        manager,
+        sessions,
         net,
-        telling_of(options),
-        options.patterns.as_slice(),
+        options.sift,
+        telling,
+        patterns,
+        gate,
     )
 }
 
@@ -102,10 +151,10 @@ fn made<R: RandomSource>(rt: &R, alloc: Global, bits: u32) -> Result<Net, Memory
     }
 }
 
-/// Builds the network that is made for so many bits by the one session of a manager, which has no live row, knows of no variable that
-/// was added, and has two variables for each bit: the summary of its outputs. The gate is passed as worker 0 before each output. What
-/// is left of the session and of the cell is as for a report.
-pub fn generate<R: Wait + RandomSource, G: Gate>(
+/// Builds the network that is made for so many bits by the sessions of a manager, 1 to 64 of them, which have no live row, know of no
+/// variable that was added, and have two variables for each bit: the summary of its outputs. Who passes the gate, and what is left of
+/// the sessions and of the cell, is as for a report without a sift.
+pub fn generate<R: Threads + Wait + Sync + RandomSource, G: Gate>(
     rt: &R,
     alloc: Global,
     manager: &Manager,
@@ -113,94 +162,100 @@ pub fn generate<R: Wait + RandomSource, G: Gate>(
     bits: u32,
     gate: &G,
 ) -> Result<Vec<u8>, PartStop>
-    requires one { length sessions.old ≡ 1 }
+    requires some { (1 ≤ length sessions.old) × (length sessions.old ≤ MOST_SESSIONS) }
     requires fresh { All (IsFreshOf manager.now) sessions.old }
     requires bits { bits ≤ MOST_BITS }
     requires vars { manager.now.vars ≡ 2 * bits }
     ensures fresh { All (IsFreshOf manager.now) sessions.new }
     ensures unsifted { AreUnsifted (map standing_of sessions.old) (map standing_of sessions.new) }
     ensures built { IfOk result (λ text. (net : NetOf) × IsBlifText (gen_text bits) net × (length net.inputs ≡ 2 * bits) × Builds (TellsOf net [] Summary) OUTPUTS_CELL (output_functions net) (map standing_of sessions.old) (map standing_of sessions.new) text.items) }
-    ensures refused { IfErr result (λ stop. ((stop ≡ HostRefusal.Memory) × (sessions.new ≡ sessions.old)) ⊎ ((net : NetOf) × IsBlifText (gen_text bits) net × (length net.inputs ≡ 2 * bits) × IsRefusedIn OUTPUTS_CELL manager.now sessions.old sessions.new stop)) }
+    ensures refused { IfErr result (λ stop. ((stop ≡ HostRefusal.Memory) × (sessions.new ≡ sessions.old)) ⊎ ((net : NetOf) × IsBlifText (gen_text bits) net × (length net.inputs ≡ 2 * bits) × AreRefused (TellsFullOf manager.now) OUTPUTS_CELL false (map standing_of sessions.old) (map standing_of sessions.new) stop)) }
 {
     let Ok(net) = made(rt, alloc, bits) else {
         return Err(PartStop::Memory);
     };
     networks_are_bounded();
-    let host = SessionHost {
-        rt,
-        manager,
-        gate,
-        worker: 0,
-        since: sessions[0].calls(),
-    };
     let none: [List<bool>; 0] = [];
-    build_network(
+    built_and_told(
         rt,
         alloc,
-        &host,
-        &mut sessions[0],
-        OUTPUTS_CELL,
+        manager,
+        sessions,
         &net,
+        false,
         Telling::Summary,
         none.as_slice(),
+        gate,
     )
 }
 
-/// A manager with one session, for so many inputs and so many slots beyond the permanent ones.
-pub fn opened(alloc: Global, inputs: u32, limit: u32) -> Result<(Manager, Vec<Session>), Memory>
+/// A manager with so many sessions, for so many inputs and so many slots beyond the permanent ones.
+pub fn opened(
+    alloc: Global,
+    inputs: u32,
+    limit: u32,
+    workers: u32,
+) -> Result<(Manager, Vec<Session>), Memory>
     requires inputs { inputs ≤ MOST_VARIABLES }
     requires limit { limit ≤ MOST_LIMIT }
-    ensures { IfOk result (λ r. IsOpenedFor inputs limit r.0 r.1.items) }
+    requires workers { (1 ≤ workers) × (workers ≤ MOST_SESSIONS) }
+    ensures { IfOk result (λ r. IsOpenedFor inputs limit workers r.0 r.1.items) }
 {
     let config = Config {
         vars: inputs,
         elements: 0,
         limit: 5 + inputs + limit,
     };
-    match Manager::open(alloc, config, 1) {
+    match Manager::open(alloc, config, workers) {
         Ok(opened) => Ok(opened),
         Err(OpenFault::Memory) => Err(Memory),
         Err(OpenFault::Config) => unreachable!(),
     }
 }
 
-/// What is due of a network, built in a manager of its own with so many slots beyond the permanent ones. A call bound to
-/// nothing is there for what it tells.
-pub fn report_of<R: Wait, G: Gate>(
+/// What is due of a network, built by so many workers in a manager of its own with so many slots beyond the permanent ones. A call
+/// bound to nothing is there for what it tells.
+pub fn report_of<R: Threads + Wait + Sync, G: Gate>(
     rt: &R,
     alloc: Global,
     net: &Net,
+    workers: u32,
     limit: u32,
     options: &Options,
     gate: &G,
 ) -> Result<Vec<u8>, PartStop>
     requires bounded { IsBounded net.now }
+    requires workers { (1 ≤ workers) × (workers ≤ MOST_SESSIONS) }
     requires limit { limit ≤ MOST_LIMIT }
-    requires unsifted { options.now.sift ≡ false }
-    ensures report { IfOk result (λ text. IsAs (telling_of options.now) (net_subject net.now (rising net.now) options.now.patterns) text.items) }
+    ensures report { IfOk result (λ text. IsAs (telling_of options.now) (net_subject net.now (order_for net.now limit options.now) options.now.patterns) text.items) }
     ensures full { IfErr result (IsFilledBy (λ slots. slots ≡ 5 + length net.now.inputs + limit)) }
 {
-    let Ok((manager, mut sessions)) = opened(alloc, net.inputs().len() as u32, limit) else {
+    let inputs = net.inputs().len() as u32;
+    let Ok((manager, mut sessions)) = opened(alloc, inputs, limit, workers) else {
         return Err(PartStop::Memory);
     };
     let text = build(rt, alloc, &manager, &mut sessions, net, options, gate)?;
     let _closed = manager.close(rt, sessions);
     tellings_are_true();
+    sifted_tellings_are_true();
     Ok(text)
 }
 
-/// The summary of the network that is made for so many bits, built in a manager of its own with the usual number of slots.
-pub fn summary_of<R: Wait + RandomSource, G: Gate>(
+/// The summary of the network that is made for so many bits, built by so many workers in a manager of its own with the usual number of
+/// slots.
+pub fn summary_of<R: Threads + Wait + Sync + RandomSource, G: Gate>(
     rt: &R,
     alloc: Global,
+    workers: u32,
     bits: u32,
     gate: &G,
 ) -> Result<Vec<u8>, PartStop>
-    requires { bits ≤ MOST_BITS }
+    requires workers { (1 ≤ workers) × (workers ≤ MOST_SESSIONS) }
+    requires bits { bits ≤ MOST_BITS }
     ensures summary { IfOk result (λ text. (net : NetOf) × IsBlifText (gen_text bits) net × IsSummary (net_subject net (rising net) []) text.items) }
     ensures full { IfErr result (IsFilledBy (λ slots. (net : NetOf) × IsBlifText (gen_text bits) net × (slots ≡ 5 + length net.inputs + USUAL_LIMIT))) }
 {
-    let Ok((manager, mut sessions)) = opened(alloc, 2 * bits, USUAL_LIMIT) else {
+    let Ok((manager, mut sessions)) = opened(alloc, 2 * bits, USUAL_LIMIT, workers) else {
         return Err(PartStop::Memory);
     };
     let text = generate(rt, alloc, &manager, &mut sessions, bits, gate)?;

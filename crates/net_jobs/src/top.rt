@@ -1,11 +1,11 @@
 //! The top call.
 
-ghost use Rattle.std.specs.Prelude.{◌≡◌, ◌≢◌, ◌<◌, ◌^◌, ◌++◌, All, codes, length, ℕ, List, Some, None, IfOk, IfErr, IfSome, map, string_bytes, true};
+ghost use Rattle.std.specs.Prelude.{◌≡◌, ◌≢◌, ◌<◌, ◌^◌, ◌++◌, All, codes, length, ℕ, List, Some, None, IfOk, IfErr, map, string_bytes};
 ghost use Rattle.std.specs.Io.KnownBytes.{Appends};
 ghost use Rattle.command_words.specs.declared.order.Order.TheVariants.{Gen};
-ghost use Rattle.command_words.specs.Orders.{IsInRange};
+ghost use Rattle.command_words.specs.Orders.{order_of};
 ghost use Rattle.byte_streams.specs.Causes.{FaultsRose, AppendsFront};
-ghost use Rattle.net_jobs.specs.Ends.{Due, IsComplete, IsCompleteForBuilds, IsCompleteForLoads, IsCompleteForMade, PlaysAlone, asked_of, runs};
+ghost use Rattle.net_jobs.specs.Ends.{Due, IsComplete, IsCompleteForBuilds, IsCompleteForLoads, IsCompleteForMade, PlaysAlone};
 ghost use Rattle.net_jobs.specs.Refusals.{refusal_line, status_of};
 ghost use Rattle.net_jobs.specs.declared.status.Status.{Status};
 ghost use Rattle.net_jobs.specs.declared.status.Status.TheVariants.{Memory as WantOfMemory, WriteFault};
@@ -22,41 +22,6 @@ use std::random::RandomSource;
 use std::sync::Wait;
 use std::thread::Threads;
 
-/// Whether the command runs.
-fn runs(order: &Order) -> bool
-    ensures { result ≡ runs order.now }
-{
-    match order {
-        Order::Play => true,
-        Order::Build {
-            workers,
-            options,
-            ..
-        } => *workers == 1 && !options.sift,
-        Order::Load { .. } => true,
-        Order::Gen { workers, .. } => *workers == 1,
-    }
-}
-
-/// What the words ask for. What asks for a command that does not run asks for nothing.
-#[tactic(auto, unfolding(crate::specs::Ends::asked_of))]
-fn asked(alloc: Global, words: &[String]) -> Result<Option<Order>, Memory>
-    ensures order { IfOk result (λ order. order ≡ asked_of (map string_bytes words.now)) }
-    ensures in_range { IfOk result (λ order. IfSome order IsInRange) }
-    ensures runs { IfOk result (λ order. IfSome order (λ o. runs o ≡ true)) }
-{
-    match read_words(alloc, words)? {
-        Some(order) => {
-            if runs(&order) {
-                Ok(Some(order))
-            } else {
-                Ok(None)
-            }
-        }
-        None => Ok(None),
-    }
-}
-
 /// The text that the words ask for; else why there is none.
 fn find<R: Threads + Wait + Sync + RandomSource, S: Source, G: Gate>(
     rt: &R,
@@ -65,19 +30,25 @@ fn find<R: Threads + Wait + Sync + RandomSource, S: Source, G: Gate>(
     source: &mut S,
     gate: &G,
 ) -> Result<Vec<u8>, RunRefusal>
-    ensures text { IfOk result (λ text. Due (asked_of (map string_bytes words.now)) (S.left source.old) (S.left source.new)
+    ensures text { IfOk result (λ text. Due (order_of (map string_bytes words.now)) (S.left source.old) (S.left source.new)
         (FaultsRose (S.faults source.old) (S.faults source.new)) Status.Ok text.items) }
-    ensures refusal { IfErr result (λ refusal. Due (asked_of (map string_bytes words.now)) (S.left source.old) (S.left source.new)
+    ensures refusal { IfErr result (λ refusal. Due (order_of (map string_bytes words.now)) (S.left source.old) (S.left source.new)
         (FaultsRose (S.faults source.old) (S.faults source.new)) (status_of refusal) (refusal_line refusal)) }
-    ensures untouched { asked_of (map string_bytes words.now) ≡ None → source.new ≡ source.old }
-    ensures generated { (workers bits : ℕ) → asked_of (map string_bytes words.now) ≡ Some (Gen workers bits) → source.new ≡ source.old }
+    ensures untouched { order_of (map string_bytes words.now) ≡ None → source.new ≡ source.old }
+    ensures generated { (workers bits : ℕ) → order_of (map string_bytes words.now) ≡ Some (Gen workers bits) → source.new ≡ source.old }
 {
-    match asked(alloc, words) {
+    match read_words(alloc, words) {
         Ok(Some(Order::Play)) => play_source(rt, alloc, source, gate),
-        Ok(Some(Order::Build { limit, options, .. })) => {
-            build_source(rt, alloc, limit, &options, source, gate)
-        }
-        Ok(Some(Order::Gen { bits, .. })) => made_summary(rt, alloc, bits, gate),
+        Ok(
+            Some(
+                Order::Build {
+                    workers,
+                    limit,
+                    options,
+                },
+            ),
+        ) => build_source(rt, alloc, workers, limit, &options, source, gate),
+        Ok(Some(Order::Gen { workers, bits })) => made_summary(rt, alloc, workers, bits, gate),
         Ok(Some(Order::Load { patterns })) => {
             let options = Options {
                 sift: false,
@@ -114,8 +85,9 @@ pub fn refuse_memory<K: Sink>(sink: &mut K) -> Status
 /// Runs the command that the words ask for, from the source to the sink. The words are those after the program's name.
 ///
 /// `play` reads the text of a job and writes the text of its history. `build` reads a network and writes its report, with `--store` the
-/// stored diagram of its outputs behind it. `load` reads a stored diagram and writes its report. `gen` makes a network and writes its
-/// summary. The checks come in this order: words, reading, length, format, work, writing; a refused run
+/// stored diagram of its outputs behind it; with `--sift` both are under the order that a sift leaves for the outputs' functions. `load`
+/// reads a stored diagram and writes its report. `gen` makes a network and writes its summary. What `build` and `gen` write does not
+/// depend on the number of workers. The checks come in this order: words, reading, length, format, work, writing; a refused run
 /// writes its one line alone.
 #[tactic(auto, using(crate::proofs::WordLemmas::plays_alone))]
 pub fn run<R: Threads + Wait + Sync + RandomSource, S: Source, K: Sink, G: Gate>(
@@ -128,20 +100,20 @@ pub fn run<R: Threads + Wait + Sync + RandomSource, S: Source, K: Sink, G: Gate>
 ) -> Status
     // The status has its cause, and its whole text was written.
     ensures told { result ≢ WriteFault → (text : List ℕ)
-        × Due (asked_of (map string_bytes words.now)) (S.left source.old) (S.left source.new) (FaultsRose (S.faults source.old) (S.faults source.new)) result text
+        × Due (order_of (map string_bytes words.now)) (S.left source.old) (S.left source.new) (FaultsRose (S.faults source.old) (S.faults source.new)) result text
         × Appends (K.written sink.old) (K.written sink.new) text }
 
     // The sink failed, and a front of what there was to tell was written.
     ensures cut_off { result ≡ WriteFault → FaultsRose (K.faults sink.old) (K.faults sink.new)
         × ((status : Status) × (text : List ℕ)
-        × Due (asked_of (map string_bytes words.now)) (S.left source.old) (S.left source.new) (FaultsRose (S.faults source.old) (S.faults source.new)) status text
+        × Due (order_of (map string_bytes words.now)) (S.left source.old) (S.left source.new) (FaultsRose (S.faults source.old) (S.faults source.new)) status text
         × AppendsFront (K.written sink.old) (K.written sink.new) text) }
 
     // Where the words ask for nothing, nothing is read.
-    ensures untouched { asked_of (map string_bytes words.now) ≡ None → source.new ≡ source.old }
+    ensures untouched { order_of (map string_bytes words.now) ≡ None → source.new ≡ source.old }
 
     // Nor is it for a network that is made.
-    ensures generated { (workers bits : ℕ) → asked_of (map string_bytes words.now) ≡ Some (Gen workers bits) → source.new ≡ source.old }
+    ensures generated { (workers bits : ℕ) → order_of (map string_bytes words.now) ≡ Some (Gen workers bits) → source.new ≡ source.old }
 
     // `play` is asked for by that word alone.
     ensures plays_alone { PlaysAlone (map string_bytes words.now) }

@@ -7,7 +7,7 @@
 //! - `< LINE` is a line of the text that is due.
 //! - `! FAULT` says that the input has this fault, as `4 name`: status 9, and `fault: job FAULT` is due.
 //! - `status N` is the exit status that is due, `passed N` how often worker 0 passes the gate, with the items 0, 1, 2 and so on,
-//!   and `others N` how often the other workers do.
+//!   and `others N` how often it is passed else: by other workers, or by worker 0 with other items.
 //! - `words WORDS` are the words of the command line.
 //! - `source STEP CALLS` gives at most STEP bytes a call, and `sink STEP CALLS` takes at most so many. Of CALLS, which may be
 //!   left out, each character is for a call, from the first on: `1` fails, and `0` does not, nor does a call behind them.

@@ -3,12 +3,12 @@
 ghost use Rattle.sift_laws.specs.Alike.{SiftsGoByFunctions, WholesAreAlike};
 
 /// The order that a sift leaves, its sizes and its number of swaps go by which functions are pinned, up to complement: not by how often
-/// or in which order they are listed. Where families are pinned, the elements of their order are to be below their number.
+/// or in which order they are listed.
 pub fn sifts_go_by_functions()
     ensures { SiftsGoByFunctions }
 {}
 
-/// BDDs whose lists of values are equal, or one the complement of the other, are one.
+/// BDDs whose lists of values are equal, or one the other's complement, are one.
 pub fn wholes_are_alike()
     ensures { WholesAreAlike }
 {}

@@ -1,11 +1,15 @@
-use Rattle.std.proofs.Common.{◌≤◌, length, take}
+use Rattle.std.proofs.Common.{◌≡◌, ◌≤◌, ℕ, All, Bool, List, length, map, take}
 use Rattle.std.specs.Prelude.{vec_capacity}
-use Rattle.net_builds.specs.Handings.{HandsOver}
+use Rattle.net_builds.specs.Handings.{Gathers}
+use Rattle.net_builds.specs.Shares.{MayGather}
 use Rattle.net_builds.proofs.handing.hand_all.Given as goal
 
-abbrev pub invariant-loop-name : goal.invariant-loop-name
-invariant-loop-name g l = record {
-  own : g.H.Host.has l.host l.session;
-  room : length l.names ≤ vec_capacity l.handovers;
-  handed : HandsOver l.cell (g.H.Host.standing l.initial.session) (g.H.Host.standing l.session) (take l.name-index l.names) l.handovers.items;
+abbrev pub invariant-loop-output : goal.invariant-loop-output
+invariant-loop-output g l = record {
+  own : All (g.H.Host.has l.host) l.sessions;
+  long : length l.sessions ≡ length l.initial.sessions;
+  room : l.outputs ≤ vec_capacity l.handovers;
+  many : length l.handovers.items ≡ l.output;
+  gathered : (wanted : List (ℕ → Bool)) → MayGather g.H.Host.has g.H.Host.standing l.host l.initial.sessions wanted l.shares → length wanted ≡ l.outputs
+      → Gathers l.cell (take l.output wanted) (map g.H.Host.standing l.initial.sessions) (map g.H.Host.standing l.sessions) l.handovers.items;
 }

@@ -20,6 +20,7 @@ loop-number-preserved g c = record {
   built = builds_more c.args.net.now c.args.last.now c.loop-number.next c.in_ok-next.next (g.H.Host.standing c.args.session.now) (g.H.Host.standing c.loop-number.session)
       (g.H.Host.standing c.make_up_to.new.session) c.loop-number.rows c.make_up_to.new.rows c.loop-number.invariant.built c.in_ok-next.ensures.built;
   later = omega (arith, c.loop-number.invariant.later, c.in_ok-next.ensures.behind.1);
+  counted = omega (arith, c.loop-number.invariant.counted, c.requires.workers.1);
   behind = behind_more c.args.own.now c.loop-number.number c.loop-number.next c.in_ok-next.next (omega (arith, c.loop-number-test.true)) c.in_ok-next.ensures.behind.1
       c.in_ok-next.ensures.behind.0 c.loop-number.invariant.behind;
 }
@@ -42,5 +43,12 @@ loop-number-init g c = record {
   built = subst (λ next. BuildsTo c.args.net.now c.args.last.now next (g.H.Host.standing c.args.session.now) (g.H.Host.standing c.args.session.now) c.args.rows.now) (sym (ap length c.inputs-next.ensures))
       (builds_none c.args.net.now c.args.last.now (length c.args.net.now.inputs) (g.H.Host.standing c.args.session.now) c.args.rows.now c.requires.has.built);
   later = omega (arith, ap length c.inputs-next.ensures);
+  counted = omega arith;
   behind = λ i d less. absurd (omega (arith, less));
 }
+
+pub overflow_cast-output-in-loop-number : goal.overflow_cast-output-in-loop-number
+overflow_cast-output-in-loop-number g c = omega (arith, c.loop-number.invariant.counted, c.requires.workers.0, c.requires.workers.1, c.requires.few, c.loop-number-test.true)
+
+pub overflow_add-output : goal.overflow_add-output
+overflow_add-output g c = omega (arith, c.loop-number.invariant.counted, c.requires.workers.0, c.requires.workers.1, c.requires.few, c.loop-number-test.true)

@@ -1,17 +1,29 @@
-use Rattle.std.proofs.Common.{◌∙◌, ◌≡◌, ◌+◌, arith, [], ◌∷◌, List, map, subst, sym, length}
+use Rattle.std.proofs.Common.{All, ◌∙◌, ◌≡◌, ◌+◌, arith, [], List, ap, map, subst, sym, length}
 use Rattle.std.proofs.lemmas.Result.{err_from_is_err_and}
 use Rattle.blif_net.specs.declared.net.Net.{Net}
 use Rattle.blif_net.specs.Networks.{IsBlifText}
 use Rattle.edge_bits.specs.declared.limits.TheConstants.{USUAL_LIMIT}
 use Rattle.net_reports.specs.GenTexts.{gen_text}
-use Rattle.dd_session.specs.Managing.{AreAll, IsHistoryOf, Seen, newcomer}
+use Rattle.dd_session.specs.Managing.{AreAll, IsHistoryOf, Seen, opened}
 use Rattle.net_builds.specs.Builds.{AreUnsifted, Builds, TellsOf}
 use Rattle.net_builds.specs.declared.telling.Telling.TheVariants.{Summary}
 use Rattle.net_reports.specs.Reports.{output_functions}
 use Rattle.net_jobs.specs.declared.networks.TheConstants.{OUTPUTS_CELL}
 use Rattle.net_jobs.specs.Hosts.{standing_of}
-use Rattle.net_jobs.proofs.BuiltHistories.{are_all, built_only, filled_made, fresh_own, told_of, written_back}
+use Rattle.net_jobs.specs.Networks.{IsFreshOf}
+use Rattle.net_jobs.proofs.BuiltHistories.{are_all, built_again, filled_made, fresh_are, fresh_own, opened_fresh, told_of, written_back}
+use Rattle.net_jobs.proofs.Opening.{opened_many}
 use Rattle.net_jobs.proofs.networks.summary_of.Goals as goal
+
+pub generate-requires-clause-some : goal.generate-requires-clause-some
+generate-requires-clause-some g c κs within =
+    let m = c.in-Ok.manager in
+    let long = ap (length {A = Seen}) (c.deref_mut.ensures.value ∙ c.in-Ok.ensures.sessions_are) ∙ opened_many m ∙ c.in-Ok.ensures.as_many in
+    let workers = c.requires.workers in (omega (arith, long, workers.0), omega (arith, long, workers.1))
+
+pub generate-requires-clause-fresh : goal.generate-requires-clause-fresh
+generate-requires-clause-fresh g c κs within =
+    let m = c.in-Ok.manager in subst (All (IsFreshOf m)) (sym (c.deref_mut.ensures.value ∙ c.in-Ok.ensures.sessions_are)) (opened_fresh m)
 
 pub close-closed-requires : goal.close-closed-requires
 close-closed-requires g c =
@@ -21,11 +33,11 @@ close-closed-requires g c =
     let Tells = TellsOf net [] Summary in
     let new = c.generate.new.sessions in
     let text = c.in_ok-text.text.items in
-    let built : Builds Tells OUTPUTS_CELL (output_functions net) (map standing_of (newcomer m 0 ∷ [])) (map standing_of new) text =
+    let built : Builds Tells OUTPUTS_CELL (output_functions net) (map standing_of (opened m)) (map standing_of new) text =
     subst (λ (l : List Seen). Builds Tells OUTPUTS_CELL (output_functions net) (map standing_of l) (map standing_of new) text) (c.deref_mut.ensures.value ∙ c.in-Ok.ensures.sessions_are) told.3 in
-    let one = built_only m Tells OUTPUTS_CELL (output_functions net) new text built in
-    subst (AreAll m) (sym (written_back m new one c.in-Ok.sessions.items c.in-Ok.sessions.len c.in-Ok.ensures.sessions_are c.in-Ok.sessions.ok.0))
-    (are_all m new one (fresh_own m new c.in_ok-text.ensures.fresh) c.in-Ok.ensures.one)
+    let again = built_again m Tells OUTPUTS_CELL (output_functions net) new text built in
+    subst (AreAll m) (sym (written_back m new again c.in-Ok.sessions.items c.in-Ok.sessions.len c.in-Ok.ensures.sessions_are c.in-Ok.sessions.ok.0))
+    (are_all m new again (fresh_own m new c.in_ok-text.ensures.fresh))
 
 pub returns-clause-summary : goal.returns-clause-summary
 returns-clause-summary g c =
@@ -35,19 +47,20 @@ returns-clause-summary g c =
     let Tells = TellsOf net [] Summary in
     let new = c.generate.new.sessions in
     let text = c.in_ok-text.text.items in
-    let built : Builds Tells OUTPUTS_CELL (output_functions net) (map standing_of (newcomer m 0 ∷ [])) (map standing_of new) text =
-    subst (λ (l : List Seen). Builds Tells OUTPUTS_CELL (output_functions net) (map standing_of l) (map standing_of new) text) (c.deref_mut.ensures.value ∙ c.in-Ok.ensures.sessions_are) told.3 in
-    let unsifted : AreUnsifted (map standing_of (newcomer m 0 ∷ [])) (map standing_of new) =
-    subst (λ (l : List Seen). AreUnsifted (map standing_of l) (map standing_of new)) (c.deref_mut.ensures.value ∙ c.in-Ok.ensures.sessions_are) c.in_ok-text.ensures.unsifted in
+    let is = c.deref_mut.ensures.value ∙ c.in-Ok.ensures.sessions_are in
+    let built : Builds Tells OUTPUTS_CELL (output_functions net) (map standing_of (opened m)) (map standing_of new) text =
+    subst (λ (l : List Seen). Builds Tells OUTPUTS_CELL (output_functions net) (map standing_of l) (map standing_of new) text) is told.3 in
+    let unsifted : AreUnsifted (map standing_of (opened m)) (map standing_of new) =
+    subst (λ (l : List Seen). AreUnsifted (map standing_of l) (map standing_of new)) is c.in_ok-text.ensures.unsifted in
     let vars : m.vars ≡ length net.inputs = c.in-Ok.ensures.vars ∙ sym told.2 in
-    let one = built_only m Tells OUTPUTS_CELL (output_functions net) new text built in (
+    let again = built_again m Tells OUTPUTS_CELL (output_functions net) new text built in (
       net,
       told.1,
-      told_of c.tellings_are_true.ensures.unsifted m net new text c.close-closed.result.calls vars unsifted
+      told_of m net new text c.close-closed.result.calls vars (fresh_are m new c.in_ok-text.ensures.fresh)
           (subst (λ (l : List Seen). IsHistoryOf m l c.close-closed.result.calls)
-          (written_back m new one c.in-Ok.sessions.items c.in-Ok.sessions.len c.in-Ok.ensures.sessions_are c.in-Ok.sessions.ok.0)
+          (written_back m new again c.in-Ok.sessions.items c.in-Ok.sessions.len c.in-Ok.ensures.sessions_are c.in-Ok.sessions.ok.0)
           c.close-closed.ensures.history.history)
-          Summary [] built,
+          Summary [] c.tellings_are_true.ensures.unsifted unsifted built,
     )
 
 pub returns-in_err-text-clause-full : goal.returns-in_err-text-clause-full

@@ -25,5 +25,5 @@ returns-clause-back g c =
     let call = calls.Makes (makings.Bdd (bdds.And c.args.f c.args.g)) in
     let m = c.args.self.now.manager.now in
     named_back old new call c.and.result c.and.ensures.told c.named.result c.named.ensures _ _ c.args.self.now
-    (named_own old new call m c.args.self.now.since c.and.result c.and.ensures.told c.requires.may.own) refl (λ cell. refl)
+    (named_own old new call m c.and.result c.and.ensures.told c.requires.may.own) refl (λ cell. refl)
     (λ full limit tells. told_full m old call full c.requires.may.own.own limit tells.0)

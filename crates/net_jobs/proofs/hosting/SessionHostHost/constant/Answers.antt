@@ -26,7 +26,7 @@ returns-then-value-clause-back g c =
     let call = calls.Makes (makings.Bdd bdds.One) in
     let m = c.args.self.now.manager.now in
     named_back old new call c.one.result (denied old new call c.one.result c.one.ensures.told) c.named.result c.named.ensures _ _ c.args.self.now
-    (named_own old new call m c.args.self.now.since c.one.result (denied old new call c.one.result c.one.ensures.told) c.requires.may.own) refl (λ cell. refl)
+    (named_own old new call m c.one.result (denied old new call c.one.result c.one.ensures.told) c.requires.may.own) refl (λ cell. refl)
     (λ full limit tells. told_full m old call full c.requires.may.own.own limit tells.0)
 
 pub returns-else-value-clause-made : goal.returns-else-value-clause-made
@@ -43,5 +43,5 @@ returns-else-value-clause-back g c =
     let call = calls.Makes (makings.Bdd bdds.Zero) in
     let m = c.args.self.now.manager.now in
     named_back old new call c.zero.result (denied old new call c.zero.result c.zero.ensures.told) c.named-else-value.result c.named-else-value.ensures _ _ c.args.self.now
-    (named_own old new call m c.args.self.now.since c.zero.result (denied old new call c.zero.result c.zero.ensures.told) c.requires.may.own) refl (λ cell. refl)
+    (named_own old new call m c.zero.result (denied old new call c.zero.result c.zero.ensures.told) c.requires.may.own) refl (λ cell. refl)
     (λ full limit tells. told_full m old call full c.requires.may.own.own limit tells.0)

@@ -1,7 +1,6 @@
-use Rattle.std.proofs.Common.{refl}
 use Rattle.function_laws.specs.declared.history.Call.TheVariants as calls
 use Rattle.function_laws.specs.declared.history.Reply.TheVariants as replies
-use Rattle.net_jobs.proofs.HostLaws.{lets_go, live_is_row, still_unsifted}
+use Rattle.net_jobs.proofs.HostLaws.{lets_go, live_is_row, still_own}
 use Rattle.net_jobs.proofs.hosting.SessionHostHost.let_go.Goals as goal
 
 pub drop_row-placed-requires-clause-live : goal.drop_row-placed-requires-clause-live
@@ -9,8 +8,8 @@ drop_row-placed-requires-clause-live g c = live_is_row c.args.session.now c.args
 
 pub returns-clause-own : goal.returns-clause-own
 returns-clause-own g c =
-    still_unsifted c.args.self.now.manager.now c.args.self.now.since c.args.session.now c.drop_row-placed.new.self (calls.DropRow c.args.f) replies.Done c.drop_row-placed.result.place
-    c.drop_row-placed.ensures.told (λ orders. refl) c.requires.may.own
+    still_own c.args.self.now.manager.now c.args.session.now c.drop_row-placed.new.self (calls.DropRow c.args.f) replies.Done c.drop_row-placed.result.place
+    c.drop_row-placed.ensures.told c.requires.may.own
 
 pub returns-clause-gone : goal.returns-clause-gone
 returns-clause-gone g c = lets_go c.args.session.now c.drop_row-placed.new.self c.args.f c.drop_row-placed.result.place c.drop_row-placed.ensures.told c.drop_row-placed.ensures.fewer

@@ -6,7 +6,7 @@ list-requires-clause-live g c = λ k d below. live_is_bdd c.args.session.now _ (
 
 pub returns-clause-own : goal.returns-clause-own
 returns-clause-own g c =
-    listed_own c.args.session.now c.list.new.self c.args.names.now c.list.result c.list.ensures.told c.args.self.now.manager.now c.args.self.now.since c.requires.may.own
+    listed_own c.args.session.now c.list.new.self c.args.names.now c.list.result c.list.ensures.told c.args.self.now.manager.now c.requires.may.own
 
 pub returns-clause-lists : goal.returns-clause-lists
 returns-clause-lists g c = listed c.args.session.now c.list.new.self c.args.names.now c.list.result c.list.ensures.told

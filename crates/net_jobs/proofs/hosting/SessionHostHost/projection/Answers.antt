@@ -24,5 +24,5 @@ returns-clause-back g c =
     let call = calls.Makes (makings.Bdd (bdds.Var c.args.variable)) in
     let m = c.args.self.now.manager.now in
     named_back old new call c.var.result (denied old new call c.var.result c.var.ensures.told) c.named.result c.named.ensures _ _ c.args.self.now
-    (named_own old new call m c.args.self.now.since c.var.result (denied old new call c.var.result c.var.ensures.told) c.requires.may.own) refl (λ cell. refl)
+    (named_own old new call m c.var.result (denied old new call c.var.result c.var.ensures.told) c.requires.may.own) refl (λ cell. refl)
     (λ full limit tells. told_full m old call full c.requires.may.own.own limit tells.0)

@@ -4,13 +4,13 @@ use Rattle.function_laws.specs.Lists.{truth}
 use Rattle.function_laws.specs.Values.{assignment_of}
 use Rattle.function_laws.specs.declared.history.Call.TheVariants as calls
 use Rattle.function_laws.specs.declared.history.Reply.TheVariants as replies
-use Rattle.net_jobs.proofs.HostLaws.{asks, still_unsifted, valued}
+use Rattle.net_jobs.proofs.HostLaws.{asks, still_own, valued}
 use Rattle.net_jobs.proofs.hosting.SessionHostHost.value.Goals as goal
 
 pub returns-clause-own : goal.returns-clause-own
 returns-clause-own g c =
-    still_unsifted c.args.self.now.manager.now c.args.self.now.since c.args.session.now c.evaluate.new.session (calls.Eval c.args.f c.args.bits.now) (replies.Value c.evaluate.result.value) c.evaluate.result.place
-    c.evaluate.ensures.told (λ orders. refl) c.requires.may.own
+    still_own c.args.self.now.manager.now c.args.session.now c.evaluate.new.session (calls.Eval c.args.f c.args.bits.now) (replies.Value c.evaluate.result.value) c.evaluate.result.place
+    c.evaluate.ensures.told c.requires.may.own
 
 pub returns-clause-asks : goal.returns-clause-asks
 returns-clause-asks g c = asks c.args.session.now c.evaluate.new.session c.args.f c.args.bits.now c.evaluate.result.value c.evaluate.result.place c.evaluate.ensures.told
