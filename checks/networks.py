@@ -142,14 +142,16 @@ def crossed(rng):
 
 
 def generated(program):
-    """How many of the networks that are made have another summary than is due."""
+    """How many of the networks that are made, by one worker or by several, have another summary than is due."""
     faults = 0
-    for k in range(1, 257):
-        ran = subprocess.run([program, "gen", str(k)], stdin=subprocess.DEVNULL, capture_output=True, timeout=60)
+    runs = [(k, 1) for k in range(1, 257)] + [(64, workers) for workers in (1, 2, 8) for _ in range(20)]
+    for k, workers in runs:
+        words = [program, "gen", "--workers", str(workers), str(k)]
+        ran = subprocess.run(words, stdin=subprocess.DEVNULL, capture_output=True, timeout=60)
         due = f"inputs {2 * k}\noutputs {3 * k + 1}\nclasses {k + 1}\nnodes {5 * k - 1}\n"
         if ran.returncode != 0 or ran.stderr or ran.stdout.decode() != due:
             faults += 1
-            print(f"NOT AS DUE gen {k}: status {ran.returncode}\n{ran.stdout.decode()}")
+            print(f"NOT AS DUE {' '.join(words[1:])}: status {ran.returncode}\n{ran.stdout.decode()}")
     return faults
 
 
