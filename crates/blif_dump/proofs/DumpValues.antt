@@ -24,7 +24,7 @@ use Rattle.blif_dump.proofs.MultiplexedSignals.{due_there, name_there}
 use Rattle.blif_dump.proofs.NamesApart.{stands, stands_at}
 use Rattle.blif_dump.proofs.NetValues.{AllGive, Gives, cover_gives, input_gives, value_by}
 use Rattle.blif_dump.proofs.Variables.{variable_within}
-use Rattle.blif_dump.proofs.WrittenCircuits.{as_placed, placed}
+use Rattle.blif_net.proofs.WrittenCircuits.{as_placed, placed}
 
 -- what the rows give
 constant_value : value_by (row_of [] ∷ []) [] ≡ true

@@ -11,7 +11,7 @@ use Rattle.diagram_dumps.specs.declared.dump.Dump.{Dump}
 use Rattle.diagram_dumps.specs.WellMade.{IsWritable}
 use Rattle.blif_models.specs.Circuits.{Circuit, Cover, defined_in, some_again}
 use Rattle.blif_net.specs.declared.net.Net.{Net}
-use Rattle.blif_net.specs.Text.{joined_lines}
+use Rattle.blif_text.specs.Text.{joined_lines}
 use Rattle.blif_net.specs.Circuits.{circuit_of}
 use Rattle.blif_net.specs.Faults.{fault_of}
 use Rattle.blif_net.specs.Networks.{IsNetOf}
@@ -25,8 +25,8 @@ use Rattle.blif_dump.proofs.DumpValues.{output_gives}
 use Rattle.blif_dump.proofs.KnownSignals.{own_true, word_of}
 use Rattle.blif_dump.proofs.MultiplexedLines.{circuit_for, text-circuit}
 use Rattle.blif_dump.proofs.MultiplexedSignals.{can_be_written}
-use Rattle.blif_dump.proofs.WrittenCircuits.{AreNextCovers, IsWritable as IsWritableCircuit, as_placed, placed}
-use Rattle.blif_dump.proofs.WrittenNets.{next_placed, text_reads}
+use Rattle.blif_net.proofs.WrittenCircuits.{AreNextCovers, IsWritable as IsWritableCircuit, as_placed, placed}
+use Rattle.blif_net.proofs.WrittenNets.{next_placed, text_reads}
 
 -- a signal that has come is not defined later
 later_fresh : (signals : List Word) (covers : List Cover) (z : Word) → AreNextCovers signals covers → is_among signals z ≡ true → is_among (defined_in covers) z ≡ false

@@ -3,9 +3,6 @@ pub mod Places
 pub mod Texts
 pub mod Prefixes
 pub mod Variables
-pub mod WrittenLines
-pub mod WrittenCircuits
-pub mod WrittenNets
 pub mod NamesApart
 pub mod MultiplexedLines
 pub mod KnownSignals

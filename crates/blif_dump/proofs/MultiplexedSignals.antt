@@ -23,8 +23,8 @@ use Rattle.blif_dump.proofs.KnownSignals.{Known, among_placed, input_among, know
 use Rattle.blif_dump.proofs.MultiplexedLines.{circuit_for, constant_cover, cover_at, cover_if, node_cover, node_covers, output_cover, output_covers}
 use Rattle.blif_dump.proofs.NamesApart.{among_map, kind_of, kind_plain, node_plain, stands, stands_at}
 use Rattle.blif_dump.proofs.Variables.{variable_within}
-use Rattle.blif_dump.proofs.WrittenCircuits.{AreNextCovers, IsNextCover, IsWritable as IsWritableCircuit}
-use Rattle.blif_dump.proofs.WrittenLines.{is_plain_word}
+use Rattle.blif_net.proofs.WrittenCircuits.{AreNextCovers, IsNextCover, IsWritable as IsWritableCircuit}
+use Rattle.blif_net.proofs.Written.{is_plain_word}
 
 -- covers behind covers
 next_behind : (signals : List Word) (front back : List Cover) → AreNextCovers signals front → AreNextCovers (signals ++ defined_in front) back → AreNextCovers signals (front ++ back)

@@ -5,7 +5,7 @@ ghost use Rattle.edge_bits.specs.declared.limits.TheConstants.{MOST_SIGNALS};
 ghost use Rattle.diagram_dumps.specs.WellMade.{IsWritable};
 ghost use Rattle.blif_dump.specs.Calls.{StopIs, names_in, signals_needed};
 ghost use Rattle.blif_dump.specs.Dumped.{AreNames, IsDumped};
-ghost use Rattle.blif_dump.specs.Lines.{spaced, text_of};
+ghost use Rattle.blif_net.specs.Lines.{spaced, text_of};
 ghost use Rattle.blif_dump.specs.Multiplexers.{head_lines, lines_at, lines_of, literal_for, multiplexers, node_lines, nodes_lines, output_lines, outputs_lines};
 ghost use Rattle.blif_dump.specs.Names.{called, node_name};
 ghost use Rattle.blif_dump.specs.Naming.{naming_in};

@@ -29,7 +29,7 @@ mod words;
 
 pub use actuals::{actuals_in, joins_in};
 pub use calls::{Call, holds_by, nameless_line};
-pub use clashes::{Definition, clash_line};
+pub use clashes::{Definition, clash_line, lesser};
 pub use definitions::add_definitions;
 pub use formals::{Callees, formal_line};
 pub use instances::instance_by;

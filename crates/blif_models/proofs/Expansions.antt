@@ -1,7 +1,6 @@
 -- What is laid out of numbered models is what the models expand into.
 use Rattle.std.proofs.Common.{◌≡◌, ℕ, zero, suc, ◌+◌, ◌==◌, ◌<◌, ◌≤◌, Bool, true, false, cond, List, [], ◌∷◌, ◌++◌, Some, codes, length, map, get_or, refl, ap, sym, ◌∙◌, inl, inr, arith, if◌then◌else◌}
 use Rattle.std.specs.Prelude.{◌⊎◌, find, slice_get, sum_by}
-use Rattle.std.specs.Fmt.{decimal}
 use Rattle.std.specs.Str.{bytes_eq}
 use Rattle.std.proofs.lemmas.Bool.{false≢true}
 use Rattle.std.proofs.lemmas.Bool.Decides.{nat_tests}
@@ -17,7 +16,7 @@ use Rattle.blif_models.specs.declared.numbered.NumberedModel.{NumberedModel}
 use Rattle.blif_models.specs.declared.numbered.Entry.{Entry}
 use Rattle.blif_models.specs.declared.numbered.Entry.TheVariants as entries
 use Rattle.blif_models.specs.declared.numbered.Spot.{Spot}
-use Rattle.blif_models.specs.Models.{Join, Model, Item, Instance, actual_of, covered, latched, held, copies_within, expanded, items_in, joins_of, laid_out, model_of, name_by, name_within}
+use Rattle.blif_models.specs.Models.{Join, Model, Item, Instance, actual_of, covered, latched, held, copies_within, expanded, items_in, joins_of, laid_out, model_of, name_by, name_within, numeral}
 use Rattle.blif_models.specs.ModelFaults.{signals_by, signals_within}
 use Rattle.blif_models.specs.Layouts.{Counted, IsRanked, Placed, copies_in, laid_by, laid_within, main_table, model_at, no_spot, spot, spot_at, spot_by, spot_within, table_within, unless_empty, up_to}
 use Rattle.blif_models.proofs.GoingOn.{up_to_many}
@@ -109,7 +108,7 @@ names_inside : (words : List (List Word)) (m inner : ℕ) (rename : Word → Wor
     → (numbers : List NumberedJoin) (joins : List Join) → AreJoinsOf words m inner numbers joins
     → (n : ℕ) → n < length (words_at words inner) → name_within rename (suc number) joins (own_word words inner n) ≡ word_of words (spot_at (table_within table (suc number) inner numbers names) n)
 names_inside words m inner rename table outer apart number names many numbers joins a n lt =
-    let its = decimal (suc number) ++ codes "#" ++ own_word words inner n in
+    let its = numeral (suc number) ++ codes "#" ++ own_word words inner n in
     let not_main : (suc number == 0) ≡ false = grind (arith, nat_tests) in
     let same : its ≡ word_of words (spot (suc number) inner n) = sym (ap (λ b. if b then own_word words inner n else its) not_main) in
     let within : n < names = omega (arith, lt, many) in

@@ -17,3 +17,5 @@ pub mod Additions
 pub mod Expanding
 pub mod Agreement
 pub mod KeptReached
+pub mod Within
+pub mod Lined

@@ -2,7 +2,7 @@
 use Rattle.std.specs.Prelude.{ℕ, zero, suc, ◌+◌, ◌==◌, Bool, List, [], ◌∷◌, ◌++◌, Option, Some, None, codes, length, map, sum_by, find, drop, option_to_list, option_map}
 use Rattle.std.specs.List.{list_any, flat_map, before_first}
 use Rattle.std.specs.Str.{bytes_eq}
-use Rattle.std.specs.Fmt.{decimal}
+use Rattle.std.specs.Int.Digits.{digits_of}
 use Rattle.job_words.specs.Text.{Word}
 use Rattle.blif_models.specs.Circuits.{Cover, Circuit}
 
@@ -85,13 +85,17 @@ joins_of instance = map join_of (drop 1 instance.words)
 abbrev pub actual_of : List Join → Word → Option Word
 actual_of joins name = option_map (λ join. join.actual) (find (λ join. bytes_eq join.formal name) joins)
 
+-- a positive number of any length, in digits
+abbrev pub numeral : ℕ → Word
+numeral n = map (λ digit. 48 + digit) (digits_of 10 n)
+
 -- the name in the whole network of a signal of a copy: that of the signal to which it is joined, or the copy's number, `#` and its own name
 abbrev pub name_by : (Word → Word) → Word → Option Word → Word
 name_by outer own None = own
 name_by outer own (Some actual) = outer actual
 
 abbrev pub name_within : (Word → Word) → ℕ → List Join → Word → Word
-name_within outer number joins name = name_by outer (decimal number ++ codes "#" ++ name) (actual_of joins name)
+name_within outer number joins name = name_by outer (numeral number ++ codes "#" ++ name) (actual_of joins name)
 
 -- a cover and a latch with the names of the whole
 abbrev pub cover_named : (Word → Word) → Cover → Cover

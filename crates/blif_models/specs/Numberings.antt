@@ -1,6 +1,5 @@
 -- Models by numbers are models by names, and what is laid out of the ones is what the others expand into.
 use Rattle.std.specs.Prelude.{◌≡◌, ℕ, ◌+◌, ◌==◌, ◌<◌, ◌≤◌, Bool, true, List, [], ◌∷◌, ◌++◌, Option, Some, codes, get_or, length, map, slice_get, if◌then◌else◌}
-use Rattle.std.specs.Fmt.{decimal}
 use Rattle.job_words.specs.Text.{Word}
 use Rattle.blif_models.specs.declared.numbered.NumberedJoin.{NumberedJoin}
 use Rattle.blif_models.specs.declared.numbered.NumberedModel.{NumberedModel}
@@ -9,7 +8,7 @@ use Rattle.blif_models.specs.declared.numbered.Entry.TheVariants as entries
 use Rattle.blif_models.specs.declared.numbered.Spot.{Spot}
 use Rattle.blif_models.specs.Circuits.{Cover}
 use Rattle.blif_models.specs.Models as by_name
-use Rattle.blif_models.specs.Models.{Join, Model, Item, copies_within, expanded, items_in, joins_of, model_of}
+use Rattle.blif_models.specs.Models.{Join, Model, Item, copies_within, expanded, items_in, joins_of, model_of, numeral}
 use Rattle.blif_models.specs.ModelFaults.{signals_within}
 use Rattle.blif_models.specs.Layouts.{Counted, IsRanked, Placed, copies_in, covered, laid_whole, latched, model_at}
 
@@ -22,7 +21,7 @@ own_word words m n = get_or (words_at words m) n []
 
 -- the name in the whole: a copy's own names have its number and `#` before them
 abbrev pub word_of : List (List Word) → Spot → Word
-word_of words spot = if spot.copy == 0 then own_word words spot.model spot.name else decimal spot.copy ++ codes "#" ++ own_word words spot.model spot.name
+word_of words spot = if spot.copy == 0 then own_word words spot.model spot.name else numeral spot.copy ++ codes "#" ++ own_word words spot.model spot.name
 
 -- a model's number is that of this name
 abbrev pub IsNumberOf : List (List Word) → ℕ → ℕ → Word → Type 0

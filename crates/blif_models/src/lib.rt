@@ -8,7 +8,9 @@ ghost use Rattle.blif_models.specs.ModelGraphs.{CountsAreTotals};
 ghost use Rattle.blif_models.specs.NumberedGraphs.{NumberedAreGraphs};
 ghost use Rattle.blif_models.specs.Numberings.{LayoutsAreExpansions};
 ghost use Rattle.blif_models.specs.Orderings.{PlacesAreRanks, TotalsAreCounts};
+ghost use Rattle.blif_models.specs.Lined.{WholesAreLined};
 ghost use Rattle.blif_models.specs.Plain.{PlainIsWhole};
+ghost use Rattle.blif_models.specs.Within.{WholesAreWithinLimits};
 
 mod adding;
 mod arranging;
@@ -89,4 +91,15 @@ pub fn outcomes_agree()
 /// Models of which only those that a main one reaches keep their entries have the same main one by name, which reaches the same ones.
 pub fn kept_agree()
     ensures { KeptAgree }
+{}
+
+/// Where no line passes the limits, the circuit into which a main model is expanded has no more inputs and signals than a network may
+/// have.
+pub fn wholes_are_within_limits()
+    ensures { WholesAreWithinLimits }
+{}
+
+/// Where numbered entries stand on the lines of what they are by name, each cover of a whole has the line of the model's cover.
+pub fn wholes_are_lined()
+    ensures { WholesAreLined }
 {}

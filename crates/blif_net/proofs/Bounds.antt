@@ -14,9 +14,10 @@ use Rattle.blif_net.specs.declared.faults.BlifFault.{BlifFault}
 use Rattle.blif_net.specs.declared.faults.FaultKind.TheVariants as kinds
 use Rattle.blif_net.specs.declared.net.Net.{Net}
 use Rattle.blif_net.specs.declared.net.Output.{Output}
-use Rattle.blif_net.specs.Text.{Word, Line, joined_lines}
+use Rattle.blif_text.specs.Text.{Word, Line, joined_lines}
 use Rattle.blif_models.specs.Circuits.{Circuit, Cover, defined_in, some_again}
-use Rattle.blif_net.specs.Circuits.{Statement, nothing, model, inputs, outputs, names, ends, passed_over, left_out, unknown, row, Context, after_statement, at_start, circuit_of, close, cover_at, covers_in, last_of}
+use Rattle.blif_text.specs.Statements.{Statement, nothing, model, inputs, outputs, names, subckt, latch, ends, passed_over, left_out, unknown, row}
+use Rattle.blif_net.specs.Circuits.{Context, after_statement, at_start, circuit_of, close, cover_at, covers_in, last_of}
 use Rattle.blif_net.specs.Faults.{cyclic_cover, fault_of, faulty_line, inputs_fault, last_number, names_fault, no_outputs, open_fault, signals_in, undefined_line}
 use Rattle.blif_net.specs.Networks.{IsBlifText, IsNetOf}
 use Rattle.blif_net.specs.Bounds.{IsBounded}
@@ -89,12 +90,14 @@ flags_within c modelled ended w = record { inputs = w.inputs; signals = w.signal
 
 open_within : (c : Context) (line : ℕ) (statement : Statement) → open_fault c statement ≡ None → IsWithin c → IsWithin (after_statement c line statement)
 open_within c line nothing h w = w
-open_within c line model h w = flags_within (close c) true c.ended (closed_within c w)
+open_within c line (model words) h w = flags_within (close c) true c.ended (closed_within c w)
 open_within c line (inputs words) h w = inputs_within c line words h w
 open_within c line (outputs words) h w = outputs_within c line words h w
 open_within c line (names words) h w = names_within c line words h w
 open_within c line (ends words) h w = flags_within (close c) c.modelled true (closed_within c w)
 open_within c line passed_over h w = closed_within c w
+open_within c line (subckt words) h w = closed_within c w
+open_within c line (latch words) h w = closed_within c w
 open_within c line left_out h w = closed_within c w
 open_within c line unknown h w = closed_within c w
 open_within c line (row words) h w = row_within c line words w

@@ -10,7 +10,7 @@ use Rattle.blif_net.specs.declared.covers.CoverDraft.{CoverDraft}
 use Rattle.blif_net.specs.declared.covers.ReadRow.{ReadRow}
 use Rattle.blif_net.specs.declared.net.Cube.{Cube}
 use Rattle.blif_net.specs.declared.faults.FaultKind.TheVariants as kinds
-use Rattle.blif_net.specs.Text.{Word}
+use Rattle.blif_text.specs.Text.{Word}
 use Rattle.blif_models.specs.Circuits.{Cover, Row}
 use Rattle.blif_net.specs.Circuits.{is_bit, is_cube, is_literal, row_of, row_with}
 use Rattle.blif_net.specs.Faults.{is_mixed, row_fault}

@@ -8,7 +8,7 @@ use Rattle.blif_net.specs.declared.names.Role.{Role}
 use Rattle.blif_net.specs.declared.names.Role.TheVariants as roles
 use Rattle.blif_net.specs.declared.faults.BlifStop.{BlifStop}
 use Rattle.blif_net.specs.declared.faults.BlifStop.TheVariants as stops
-use Rattle.blif_net.specs.Text.{Word}
+use Rattle.blif_text.specs.Text.{Word}
 use Rattle.blif_models.specs.Circuits.{defined_in}
 use Rattle.blif_net.specs.Circuits.{covers_in}
 use Rattle.blif_net.specs.Networks.{AreNumbers}

@@ -7,8 +7,9 @@ use Rattle.std.specs.Bool.{then_some}
 use Rattle.blif_net.specs.declared.faults.BlifFault.{BlifFault}
 use Rattle.blif_net.specs.declared.faults.FaultKind.{FaultKind}
 use Rattle.blif_net.specs.declared.faults.FaultKind.TheVariants as kinds
-use Rattle.blif_net.specs.Text.{Line, is_allowed}
-use Rattle.blif_net.specs.Circuits.{Statement, nothing, model, inputs, outputs, names, ends, passed_over, left_out, unknown, row, Context, said, after_line, after_statement, behind}
+use Rattle.blif_text.specs.Text.{Line, is_allowed}
+use Rattle.blif_text.specs.Statements.{Statement, nothing, model, inputs, outputs, names, subckt, latch, ends, passed_over, left_out, unknown, row, said}
+use Rattle.blif_net.specs.Circuits.{Context, after_line, after_statement, behind}
 use Rattle.blif_net.specs.Faults.{open_fault, end_fault, line_fault, faulty_line, fault_on}
 
 -- of no fault
@@ -34,10 +35,12 @@ IsKept P = (c : Context) (line : ℕ) (statement : Statement) → open_fault c s
 
 end_step : (P : Context → Type 0) (c : Context) (line : ℕ) (statement : Statement) → end_fault statement ≡ None → P c → P (after_statement c line statement)
 end_step P c line nothing h a = a
-end_step P c line model h a = cc
+end_step P c line (model words) h a = cc
 end_step P c line (inputs words) h a = cc
 end_step P c line (outputs words) h a = cc
 end_step P c line (names words) h a = cc
+end_step P c line (subckt words) h a = cc
+end_step P c line (latch words) h a = cc
 end_step P c line (ends words) h a = cc
 end_step P c line passed_over h a = cc
 end_step P c line left_out h a = cc

@@ -6,7 +6,7 @@ use Rattle.std.proofs.lemmas.List.{map-append}
 use Rattle.std.proofs.lemmas.Slice.Eq.{bytes_eq-Decides}
 use Rattle.blif_net.specs.declared.covers.CoverDraft.{CoverDraft}
 use Rattle.blif_net.specs.declared.names.Role.TheVariants.{Unknown}
-use Rattle.blif_net.specs.Text.{Word}
+use Rattle.blif_text.specs.Text.{Word}
 use Rattle.blif_models.specs.Circuits.{Cover}
 use Rattle.blif_net.specs.Networks.{AreNumbers}
 use Rattle.blif_net.specs.Names.{IsNumberOf, Name, is_called, name_at, with_name, with_names, words_in}

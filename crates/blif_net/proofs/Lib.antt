@@ -5,8 +5,6 @@ pub mod ModelTold
 pub mod Values
 pub mod Arranging
 pub mod Completeness
-pub mod Split
-pub mod Joining
 pub mod Faultless
 pub mod Distinct
 pub mod Bounds

@@ -18,9 +18,10 @@ use Rattle.blif_net.specs.declared.names.Role.TheVariants as roles
 use Rattle.blif_net.specs.declared.faults.FaultKind.TheVariants as kinds
 use Rattle.blif_net.specs.declared.faults.BlifStop.{BlifStop}
 use Rattle.blif_net.specs.declared.faults.BlifStop.TheVariants as stops
-use Rattle.blif_net.specs.Text.{Word}
+use Rattle.blif_text.specs.Text.{Word}
 use Rattle.blif_models.specs.Circuits.{Cover, defined_in, some_again}
-use Rattle.blif_net.specs.Circuits.{Context, inputs, outputs, names, row, cover_at, covers_in, front_of, last_of, with_row_in}
+use Rattle.blif_text.specs.Statements.{inputs, outputs, names, row}
+use Rattle.blif_net.specs.Circuits.{Context, cover_at, covers_in, front_of, last_of, with_row_in}
 use Rattle.blif_net.specs.Faults.{inputs_fault, names_fault, rows_fault, signals_in}
 use Rattle.blif_net.specs.Networks.{AreNumbers}
 use Rattle.blif_net.specs.Names.{DefineStop, IsNumberOf, Name, given_role, is_called, name_at, role_called, with_name, with_names, words_in}

@@ -6,8 +6,9 @@ use Rattle.blif_models.specs.Circuits.{Circuit, settles}
 use Rattle.blif_models.specs.Models.{Model, copies_within, expanded, circuit_from, whole_items}
 use Rattle.blif_models.specs.ModelFaults.{reached, signals_within, latches_in_all}
 use Rattle.blif_net.specs.declared.faults.FaultKind.TheVariants as kinds
-use Rattle.blif_net.specs.Text.{lines_of, joined_from, joined_lines}
-use Rattle.blif_net.specs.ModelTexts.{behind, faulty_line, line_fault, statement_of, at_start, models_in, fault_of, fault_at, told, nameless, misjoined}
+use Rattle.blif_text.specs.Text.{lines_of, joined_from, joined_lines}
+use Rattle.blif_text.specs.Statements.{statement_of}
+use Rattle.blif_net.specs.ModelTexts.{behind, faulty_line, line_fault, at_start, models_in, fault_of, fault_at, told, nameless, misjoined}
 
 two_models : fault_of (codes ".model top\n.inputs a b\n.outputs s\n.subckt x p=a q=b r=s\n.end\n.model x\n.inputs p q\n.outputs r\n.names p q r\n01 1\n10 1\n.end\n") ≡ None
 unfolding fault_of lines_of joined_from words_between statement_of behind faulty_line line_fault copies_within expanded reached signals_within latches_in_all settles digits

@@ -10,7 +10,7 @@ use Rattle.blif_drafts.specs.declared.verdicts.Verdict.{Verdict}
 use Rattle.blif_drafts.specs.declared.verdicts.Verdict.TheVariants as verdicts
 use Rattle.blif_drafts.specs.Verdicts.{VerdictIs}
 use Rattle.blif_net.specs.declared.faults.FaultKind.TheVariants as kinds
-use Rattle.blif_net.specs.Text.{Line}
+use Rattle.blif_text.specs.Text.{Line}
 use Rattle.blif_net.specs.ModelTexts.{Fault, expanded_fault, fault_at, misjoined, models_fault, nameless, told}
 use Rattle.blif_net.specs.ModelVerdicts.{VerdictsAreFaults, verdict_fault}
 

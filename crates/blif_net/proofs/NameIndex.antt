@@ -10,7 +10,7 @@ use Rattle.std.proofs.lemmas.Bool.Decides.{nat_tests}
 use Rattle.std.proofs.lemmas.Slice.Eq.{bytes_eq-Decides}
 use Rattle.blif_net.specs.declared.names.Known.{Known}
 use Rattle.blif_net.specs.declared.names.Role.{Role}
-use Rattle.blif_net.specs.Text.{Word}
+use Rattle.blif_text.specs.Text.{Word}
 use Rattle.blif_net.specs.Names.{AreNamed, IsNumberOf, Name, given_role, is_called, is_unknown, is_word, name_at, named, words_in}
 use Rattle.blif_net.proofs.Distinct.{other_way}
 

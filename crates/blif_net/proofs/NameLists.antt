@@ -9,7 +9,7 @@ use Rattle.std.proofs.lemmas.List.Folds.{find_at}
 use Rattle.std.proofs.lemmas.Slice.Eq.{bytes_eq-Decides}
 use Rattle.blif_net.specs.declared.names.Role.{Role}
 use Rattle.blif_net.specs.declared.names.Role.TheVariants.{Unknown, Input, Cover}
-use Rattle.blif_net.specs.Text.{Word}
+use Rattle.blif_text.specs.Text.{Word}
 use Rattle.blif_net.specs.Names.{IsNumberOf, Name, given_role, is_called, is_unknown, name_at, role_called, role_or_none, with_name}
 use Rattle.blif_net.proofs.NameIndex.{none_given}
 

@@ -12,7 +12,7 @@ use Rattle.blif_net.specs.declared.names.Role.TheVariants as roles
 use Rattle.blif_net.specs.declared.net.Cover.{Cover as Gate}
 use Rattle.blif_net.specs.declared.net.Net.{Net}
 use Rattle.blif_net.specs.declared.net.Output.{Output}
-use Rattle.blif_net.specs.Text.{Word}
+use Rattle.blif_text.specs.Text.{Word}
 use Rattle.blif_models.specs.Circuits.{Circuit, Cover, defined_in}
 use Rattle.blif_net.specs.Networks.{AreNumbers, IsNetOf}
 use Rattle.blif_net.specs.Names.{Name, is_unknown, words_in}

@@ -10,9 +10,10 @@ use Rattle.std.proofs.lemmas.Option.{slice_get_within}
 use Rattle.std.proofs.lemmas.Slice.Eq.{bytes_eq-Decides}
 use Rattle.job_words.specs.Text.{is_among}
 use Rattle.blif_net.specs.declared.faults.FaultKind.TheVariants as kinds
-use Rattle.blif_net.specs.Text.{Line, Word}
+use Rattle.blif_text.specs.Text.{Line, Word}
 use Rattle.blif_models.specs.Circuits.{Circuit, Cover, defined_in, is_settled, is_signal, settles}
-use Rattle.blif_net.specs.Circuits.{Context, Statement, nothing, model, inputs, outputs, names, ends, passed_over, left_out, unknown, row, after_line, after_statement, at_start, behind, circuit_of, close, cover_at, covers_in, said, with_row, with_row_in}
+use Rattle.blif_text.specs.Statements.{Statement, nothing, model, inputs, outputs, names, subckt, latch, ends, passed_over, left_out, unknown, row, said}
+use Rattle.blif_net.specs.Circuits.{Context, after_line, after_statement, at_start, behind, circuit_of, close, cover_at, covers_in, with_row, with_row_in}
 use Rattle.blif_net.specs.Faults.{fault_on, undefined_line, uses}
 use Rattle.blif_net.specs.Cycles.{CyclesAreFound, IsCyclic, Leads, LiesOnCycle, ReadsCover}
 use Rattle.blif_net.proofs.Cycles.{by_name, none_here, some_word}
@@ -203,13 +204,15 @@ well_row sig closed (Some cover) words h =
 
 step_well : (sig : Word → Bool) (c : Context) (l : ℕ) (statement : Statement) → reads_well sig (covers_in c) ≡ true → list_all sig (uses statement) ≡ true → reads_well sig (covers_in (after_statement c l statement)) ≡ true
 step_well sig c l nothing h e = h
-step_well sig c l model h e = well_closed sig c h
+step_well sig c l (model words) h e = well_closed sig c h
 step_well sig c l (inputs words) h e = well_closed sig c h
 step_well sig c l (outputs words) h e = well_closed sig c h
 step_well sig c l (names words) h e =
     list_all-append (λ (one : Cover). list_all sig one.ins) (covers_in c) (cover_at l words ∷ []) ∙ and_both (reads_well sig (covers_in c)) (list_all sig (cover_at l words).ins && true) h (and_both (list_all sig (cover_at l words).ins) true e refl)
 step_well sig c l (ends words) h e = well_closed sig c h
 step_well sig c l passed_over h e = well_closed sig c h
+step_well sig c l (subckt words) h e = well_closed sig c h
+step_well sig c l (latch words) h e = well_closed sig c h
 step_well sig c l left_out h e = well_closed sig c h
 step_well sig c l unknown h e = well_closed sig c h
 step_well sig c l (row words) h e = well_row sig c.closed c.current words h

@@ -9,8 +9,9 @@ use Rattle.blif_net.specs.declared.faults.FaultKind.{FaultKind}
 use Rattle.blif_net.specs.declared.faults.BlifStop.{BlifStop}
 use Rattle.blif_net.specs.declared.faults.BlifStop.TheVariants as stops
 use Rattle.blif_net.specs.declared.net.Net.{Net}
-use Rattle.blif_net.specs.Text.{Line, joined_from, joined_lines, line_at, lines_of}
-use Rattle.blif_net.specs.Circuits.{Context, after_line, at_start, behind, circuit_of, said}
+use Rattle.blif_text.specs.Text.{Line, joined_from, joined_lines, line_at, lines_of}
+use Rattle.blif_text.specs.Statements.{said}
+use Rattle.blif_net.specs.Circuits.{Context, after_line, at_start, behind, circuit_of}
 use Rattle.blif_net.specs.Faults.{HasFault, fault_in, fault_of, fault_on, faulty_line, last_number, line_fault, undefined_line, cyclic_cover, no_outputs}
 use Rattle.blif_net.specs.Networks.{IsBlifText, IsNetOf}
 use Rattle.blif_net.specs.Drafts.{HasFaultIn, IsDraftOf, IsNetFrom, IsReadFrom, StopsLine, TakesLine, Use, names_said, stopped_at, uses_by, uses_in, with_uses}

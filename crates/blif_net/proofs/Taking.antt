@@ -11,9 +11,10 @@ use Rattle.blif_net.specs.declared.draft.Draft.{Draft}
 use Rattle.blif_net.specs.declared.faults.FaultKind.{FaultKind}
 use Rattle.blif_net.specs.declared.faults.FaultKind.TheVariants as kinds
 use Rattle.blif_net.specs.declared.faults.BlifStop.{BlifStop}
-use Rattle.blif_net.specs.Text.{Line, is_allowed}
+use Rattle.blif_text.specs.Text.{Line, is_allowed}
 use Rattle.blif_models.specs.Circuits.{some_again}
-use Rattle.blif_net.specs.Circuits.{Context, Statement, nothing, model, inputs, outputs, names, ends, passed_over, left_out, unknown, row, after_statement, close, last_of, said}
+use Rattle.blif_text.specs.Statements.{Statement, nothing, model, inputs, outputs, names, subckt, latch, ends, passed_over, left_out, unknown, row, said}
+use Rattle.blif_net.specs.Circuits.{Context, after_statement, close, last_of}
 use Rattle.blif_net.specs.Faults.{end_fault, line_fault, open_fault, signals_in}
 use Rattle.blif_net.specs.Covers.{StopIs}
 use Rattle.blif_net.specs.Drafts.{Closes, IsDraftOf, Stops, StopsLine, Takes, TakesLine, TakesStatement, added, names_said, uses_in, with_uses}
@@ -30,13 +31,15 @@ same_signals c = ap (λ d. c.inputs ++ d) (closed_same c)
 
 same_fault : (c : Context) (statement : Statement) → is_directive statement ≡ true → open_fault (close c) statement ≡ open_fault c statement
 same_fault c nothing d = cc
-same_fault c model d = refl
+same_fault c (model words) d = refl
 same_fault c (inputs words) d =
     ap (λ s. option_or (then_some (some_again s words) kinds.Twice) (option_or (then_some (nat_lt MOST_VARIABLES (length c.inputs + length words)) kinds.TooMany) (then_some (nat_lt MOST_SIGNALS (length s + length words)) kinds.TooMany))) (same_signals c)
 same_fault c (outputs words) d = refl
 same_fault c (names []) d = refl
 same_fault c (names (word ∷ words)) d =
     ap (λ s. option_or (then_some (is_among s (last_of (word ∷ words))) kinds.Twice) (then_some (nat_lt MOST_SIGNALS (length s + 1)) kinds.TooMany)) (same_signals c)
+same_fault c (subckt words) d = refl
+same_fault c (latch words) d = refl
 same_fault c (ends []) d = refl
 same_fault c (ends (word ∷ words)) d = refl
 same_fault c passed_over d = refl
@@ -46,10 +49,12 @@ same_fault c (row words) d = cc
 
 same_after : (c : Context) (line : ℕ) (statement : Statement) → is_directive statement ≡ true → added (close c) line statement ≡ after_statement c line statement
 same_after c line nothing d = cc
-same_after c line model d = refl
+same_after c line (model words) d = refl
 same_after c line (inputs words) d = refl
 same_after c line (outputs words) d = refl
 same_after c line (names words) d = refl
+same_after c line (subckt words) d = refl
+same_after c line (latch words) d = refl
 same_after c line (ends words) d = refl
 same_after c line passed_over d = refl
 same_after c line left_out d = refl

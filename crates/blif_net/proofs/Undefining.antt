@@ -14,9 +14,10 @@ use Rattle.blif_net.specs.declared.faults.BlifFault.{BlifFault}
 use Rattle.blif_net.specs.declared.faults.FaultKind.TheVariants as kinds
 use Rattle.blif_net.specs.declared.names.Role.{Role}
 use Rattle.blif_net.specs.declared.names.Role.TheVariants as roles
-use Rattle.blif_net.specs.Text.{Line, Word}
+use Rattle.blif_text.specs.Text.{Line, Word}
 use Rattle.blif_models.specs.Circuits.{Cover, defined_in}
-use Rattle.blif_net.specs.Circuits.{Context, Statement, nothing, model, inputs, outputs, names, ends, passed_over, left_out, unknown, row, after_line, after_statement, at_start, behind, circuit_of, close, cover_at, covers_in, front_of, last_of, said}
+use Rattle.blif_text.specs.Statements.{Statement, nothing, model, inputs, outputs, names, subckt, latch, ends, passed_over, left_out, unknown, row, said}
+use Rattle.blif_net.specs.Circuits.{Context, after_line, after_statement, at_start, behind, circuit_of, close, cover_at, covers_in, front_of, last_of}
 use Rattle.blif_net.specs.Faults.{signals_in, undefined_line, uses}
 use Rattle.blif_net.specs.Names.{Name, is_unknown}
 use Rattle.blif_net.specs.Drafts.{AreRoles, IsCircuitOf, IsRoleOf, Use, names_said, use_at, uses_by, uses_in, with_use, with_uses}
@@ -156,7 +157,7 @@ closed_among c z h = ap (λ t. is_among t z) (closed_same c) ∙ h
 
 step_keeps : (c : Context) (l : ℕ) (statement : Statement) (z : Word) → is_among (signals_in c) z ≡ true → is_among (signals_in (after_statement c l statement)) z ≡ true
 step_keeps c l nothing z h = h
-step_keeps c l model z h = either c.inputs (defined_in (covers_in c)) c.inputs (defined_in (covers_in (close c))) z (λ e. e) (closed_among c z) h
+step_keeps c l (model words) z h = either c.inputs (defined_in (covers_in c)) c.inputs (defined_in (covers_in (close c))) z (λ e. e) (closed_among c z) h
 step_keeps c l (inputs words) z h = either c.inputs (defined_in (covers_in c)) (c.inputs ++ words) (defined_in (covers_in (close c))) z (front_among c.inputs words z) (closed_among c z) h
 step_keeps c l (outputs words) z h = either c.inputs (defined_in (covers_in c)) c.inputs (defined_in (covers_in (close c))) z (λ e. e) (closed_among c z) h
 step_keeps c l (names words) z h =
@@ -164,6 +165,8 @@ step_keeps c l (names words) z h =
     (λ e. ap (λ t. is_among t z) (map-append (λ (cover : Cover). cover.name) (covers_in c) (cover_at l words ∷ [])) ∙ front_among (defined_in (covers_in c)) (last_of words ∷ []) z e) h
 step_keeps c l (ends words) z h = either c.inputs (defined_in (covers_in c)) c.inputs (defined_in (covers_in (close c))) z (λ e. e) (closed_among c z) h
 step_keeps c l passed_over z h = either c.inputs (defined_in (covers_in c)) c.inputs (defined_in (covers_in (close c))) z (λ e. e) (closed_among c z) h
+step_keeps c l (subckt words) z h = either c.inputs (defined_in (covers_in c)) c.inputs (defined_in (covers_in (close c))) z (λ e. e) (closed_among c z) h
+step_keeps c l (latch words) z h = either c.inputs (defined_in (covers_in c)) c.inputs (defined_in (covers_in (close c))) z (λ e. e) (closed_among c z) h
 step_keeps c l left_out z h = either c.inputs (defined_in (covers_in c)) c.inputs (defined_in (covers_in (close c))) z (λ e. e) (closed_among c z) h
 step_keeps c l unknown z h = either c.inputs (defined_in (covers_in c)) c.inputs (defined_in (covers_in (close c))) z (λ e. e) (closed_among c z) h
 step_keeps c l (row words) z h = ap (λ t. is_among (c.inputs ++ t) z) (row_same c.closed c.current words) ∙ h
@@ -188,7 +191,7 @@ and_true false = refl
 statement_fits : (c : Context) (l : ℕ) (statement : Statement) (sig : Word → Bool) → ((z : Word) → is_among (signals_in (after_statement c l statement)) z ≡ true → sig z ≡ true)
     → list_all sig (names_said statement) ≡ list_all sig (uses statement)
 statement_fits c l nothing sig h = refl
-statement_fits c l model sig h = refl
+statement_fits c l (model words) sig h = refl
 statement_fits c l (inputs words) sig h =
     all_words sig words (λ z e. h z (in_either (c.inputs ++ words) (defined_in (covers_in (close c))) z (inl (back_among c.inputs words z e))))
 statement_fits c l (outputs words) sig h = refl
@@ -202,6 +205,8 @@ statement_fits c l (names (w ∷ ws)) sig h =
     ∙ ap (λ b. list_all sig (front_of (w ∷ ws)) && (b && true)) last ∙ and_true (list_all sig (front_of (w ∷ ws)))
 statement_fits c l (ends words) sig h = refl
 statement_fits c l passed_over sig h = refl
+statement_fits c l (subckt words) sig h = refl
+statement_fits c l (latch words) sig h = refl
 statement_fits c l left_out sig h = refl
 statement_fits c l unknown sig h = refl
 statement_fits c l (row words) sig h = refl

@@ -11,7 +11,7 @@ use Rattle.blif_net.specs.declared.draft.Draft.{Draft}
 use Rattle.blif_net.specs.declared.faults.BlifFault.{BlifFault}
 use Rattle.blif_net.specs.declared.faults.FaultKind.TheVariants as kinds
 use Rattle.blif_net.specs.declared.net.Net.{Net}
-use Rattle.blif_net.specs.Text.{Line, Word}
+use Rattle.blif_text.specs.Text.{Line, Word}
 use Rattle.blif_models.specs.Circuits.{Circuit, Cover, defined_in, is_settled}
 use Rattle.blif_net.specs.Circuits.{at_start, behind, circuit_of}
 use Rattle.blif_net.specs.Faults.{cycle_at, cyclic_cover, fault_in, faulty_line, last_number, no_outputs, undefined_line}

@@ -11,14 +11,15 @@ use Rattle.std.proofs.lemmas.List.{length-map, map-append}
 use Rattle.std.proofs.lemmas.List.Folds.{list_all-append}
 use Rattle.edge_bits.specs.declared.limits.TheConstants.{MOST_VARIABLES, MOST_SIGNALS, MOST_OUTPUTS}
 use Rattle.job_words.specs.Text.{is_among}
-use Rattle.job_words.specs.Classes.{has_bytes}
 use Rattle.blif_net.specs.declared.faults.FaultKind.TheVariants as kinds
-use Rattle.blif_net.specs.Text.{Word, Line, line_at}
+use Rattle.blif_text.specs.Text.{Word, Line, line_at}
 use Rattle.blif_models.specs.Circuits.{Circuit, Cover, Row, defined_in, is_signal, some_again}
-use Rattle.blif_net.specs.Circuits.{Context, names, row, after_line, after_statement, at_start, behind, circuit_in, circuit_of, close, covers_in, directive, is_bit, last_of, is_cube, is_literal, row_of, row_with, statement_of}
+use Rattle.blif_text.specs.Statements.{names, row, directive, statement_of}
+use Rattle.blif_net.specs.Circuits.{Context, after_line, after_statement, at_start, behind, circuit_in, circuit_of, close, covers_in, is_bit, last_of, is_cube, is_literal, row_of, row_with}
 use Rattle.blif_net.specs.Faults.{fault_on, faulty_line, is_mixed, inputs_fault, names_fault, open_fault, row_fault, signals_in}
 use Rattle.blif_net.proofs.Lines.{front_is, some_names}
-use Rattle.blif_net.proofs.Written.{all_weaker, faulty_behind, is_plain, is_plain_word, left_behind, line_with, numbered, numbered_behind, said_written, written_fault}
+use Rattle.blif_net.specs.Lines.{line_with}
+use Rattle.blif_net.proofs.Written.{all_weaker, faulty_behind, is_plain, is_plain_word, left_behind, no_end, numbered, numbered_behind, plain_from, said_written, written_fault}
 
 -- the word of an output
 abbrev pub output_word : Bool → Word
@@ -113,7 +114,7 @@ pub row_plain : (literals : Word) (output : Bool) → list_all is_literal litera
 row_plain [] output h = output_plain output
 row_plain (b ∷ literals) output h =
     and_from (is_plain_word (b ∷ literals)) (list_all is_plain_word (output_word output ∷ []))
-    (and_from (has_bytes (b ∷ literals)) (list_all is_plain (b ∷ literals)) (not_none (length literals)) (all_weaker is_literal is_plain (b ∷ literals) literal_plain h))
+    (plain_from (b ∷ literals) (record { bytes = not_none (length literals); plain = all_weaker is_literal is_plain (b ∷ literals) literal_plain h; ends = no_end is_literal 92 (b ∷ literals) h refl }))
     (output_plain output)
 
 pub row_said : (literals : Word) (output : Bool) → list_all is_literal literals ≡ true

@@ -1,4 +1,4 @@
--- The text of a circuit that can be written is that of a network, with the circuit's inputs.
+-- The text of a circuit that can be written has no fault, and is that of a network, with the circuit's inputs.
 use Rattle.std.proofs.Common.{◌≡◌, ℕ, zero, suc, ◌+◌, ◌≤◌, ◌==◌, ◌&&◌, not, Bool, true, false, cond, List, [], ◌∷◌, ◌++◌, codes, length, map, Some, None, inl, inr, refl, ap, sym, ◌∙◌, subst, arith, append_assoc, append-nil, length-append}
 use Rattle.std.specs.Prelude.{◌⊎◌, find, option_map}
 use Rattle.std.specs.List.{flat_map, list_all, list_any}
@@ -10,18 +10,20 @@ use Rattle.std.proofs.lemmas.List.{map-append}
 use Rattle.std.proofs.lemmas.List.Folds.{list_all-append, list_any-append}
 use Rattle.std.proofs.lemmas.Slice.Eq.{bytes_eq-Decides}
 use Rattle.job_words.specs.Text.{is_among}
-use Rattle.blif_net.specs.declared.net.Net.{Net}
 use Rattle.blif_net.specs.declared.faults.FaultKind.TheVariants as kinds
-use Rattle.blif_net.specs.Text.{Word, Line, line_at}
+use Rattle.blif_net.specs.declared.net.Net.{Net}
+use Rattle.blif_text.specs.Text.{Word, Line, joined_lines, line_at}
 use Rattle.blif_models.specs.Circuits.{Circuit, Cover, Row, defined_in, is_settled, is_signal, settles}
-use Rattle.blif_net.specs.Circuits.{circuit_of, said, statement_of}
+use Rattle.blif_text.specs.Statements.{said, statement_of}
+use Rattle.blif_net.specs.Circuits.{circuit_of}
 use Rattle.blif_net.specs.Faults.{cycle_at, cyclic_cover, fault_in, fault_of, fault_on, last_number, no_outputs, undefined_line, uses}
 use Rattle.blif_net.specs.Networks.{IsBlifText}
 use Rattle.blif_net.proofs.Completeness.{faultless_net}
 use Rattle.blif_net.proofs.Distinct.{true_or}
 use Rattle.blif_net.proofs.Lines.{front_is}
 use Rattle.blif_net.proofs.Undefining.{front_among}
-use Rattle.blif_net.proofs.Written.{ArePlain, all_weaker, is_plain_word, line_with, lines_read, numbered, said_written, written}
+use Rattle.blif_net.specs.Lines.{line_with, text_of}
+use Rattle.blif_net.proofs.Written.{ArePlain, all_weaker, is_plain_word, lines_read, numbered, said_written}
 use Rattle.blif_net.proofs.WrittenCircuits.{AreNextCovers, AreRowsFor, IsNextCover, IsWritable, as_placed, circuit_lines, circuit_read, cover_lines, names_plain, names_said, placed, row_plain, row_said, row_words}
 
 -- the circuit's lines are plain
@@ -102,7 +104,7 @@ signal_placed : (circuit : Circuit) (z : Word) → is_signal circuit z ≡ true 
 signal_placed circuit z e = ap (λ (defined : List Word). is_among (circuit.inputs ++ defined) z) (defined_placed 4 circuit.covers) ∙ e
 
 -- covers in an order are led back to inputs
-next_placed : (signals : List Word) (number : ℕ) (covers : List Cover) → AreNextCovers signals covers → AreNextCovers signals (placed number covers)
+pub next_placed : (signals : List Word) (number : ℕ) (covers : List Cover) → AreNextCovers signals covers → AreNextCovers signals (placed number covers)
 next_placed signals number [] h = tt
 next_placed signals number (cover ∷ covers) h = (
   record { reads = (h.0).reads; fresh = (h.0).fresh; ins_plain = (h.0).ins_plain; name_plain = (h.0).name_plain; output = (h.0).output; rows = (h.0).rows },
@@ -177,11 +179,19 @@ lines_faultless name circuit h =
     ap (λ o. option_or o (option_or (undefined_line lines) (option_or (cyclic_cover (circuit_of lines)) (no_outputs lines)))) read.0
     ∙ ap (λ o. option_or o (option_or (cyclic_cover (circuit_of lines)) (no_outputs lines))) undefined ∙ ap (λ o. option_or o (no_outputs lines)) cyclic ∙ some
 
--- the network of a circuit's text
-pub net_written : (name : Word) (circuit : Circuit) → IsWritable name circuit → (net : Net) × IsBlifText (written (circuit_lines name circuit)) net × (net.inputs ≡ circuit.inputs)
+-- The text of a circuit that can be written has no fault, and its lines declare the circuit.
+pub text_reads : (name : Word) (circuit : Circuit) → IsWritable name circuit
+    → (fault_of (text_of (circuit_lines name circuit)) ≡ None) × (circuit_of (joined_lines (text_of (circuit_lines name circuit))) ≡ as_placed circuit)
 unfolding fault_of
+text_reads name circuit h =
+    let joined = lines_read (circuit_lines name circuit) (circuit_plain name circuit h) in (
+      ap fault_in joined ∙ lines_faultless name circuit h,
+      ap (λ (lines : List Line). circuit_of lines) joined ∙ (circuit_read name circuit h).1,
+    )
+
+-- the network of a circuit's text
+pub net_written : (name : Word) (circuit : Circuit) → IsWritable name circuit → (net : Net) × IsBlifText (text_of (circuit_lines name circuit)) net × (net.inputs ≡ circuit.inputs)
 net_written name circuit h =
-    let text = written (circuit_lines name circuit) in
-    let joined = lines_read (circuit_lines name circuit) (circuit_plain name circuit h) in
-    let net = faultless_net text (ap fault_in joined ∙ lines_faultless name circuit h) in
-    (net.0, net.1, ((net.1).net_of).inputs ∙ ap (λ (lines : List Line). (circuit_of lines).inputs) joined ∙ ap (λ (c : Circuit). c.inputs) (circuit_read name circuit h).1)
+    let reads = text_reads name circuit h in
+    let net = faultless_net (text_of (circuit_lines name circuit)) reads.0 in
+    (net.0, net.1, ((net.1).net_of).inputs ∙ ap (λ (c : Circuit). c.inputs) reads.1)

@@ -7,7 +7,7 @@ use Rattle.blif_net.specs.declared.faults.FaultKind.{FaultKind}
 use Rattle.blif_net.specs.declared.faults.FaultKind.TheVariants as kinds
 use Rattle.blif_net.specs.declared.faults.BlifStop.{BlifStop}
 use Rattle.blif_net.specs.declared.faults.BlifStop.TheVariants as stops
-use Rattle.blif_net.specs.Text.{Word}
+use Rattle.blif_text.specs.Text.{Word}
 use Rattle.blif_models.specs.Circuits.{Cover, Row}
 use Rattle.blif_net.specs.Circuits.{is_bit, is_literal, row_of, row_with, with_row}
 use Rattle.blif_net.specs.Faults.{row_fault}

@@ -1,7 +1,7 @@
 -- What lies on a cycle or depends on one, by who reads whom; and that these are the covers which are told.
 use Rattle.std.specs.Prelude.{◌≡◌, ℕ, true, false, List, [], ◌∷◌, ◌⊎◌, None, Some, slice_get}
 use Rattle.job_words.specs.Text.{is_among}
-use Rattle.blif_net.specs.Text.{Line}
+use Rattle.blif_text.specs.Text.{Line}
 use Rattle.blif_models.specs.Circuits.{Cover, is_settled}
 use Rattle.blif_net.specs.Circuits.{at_start, circuit_of}
 use Rattle.blif_net.specs.Faults.{faulty_line, undefined_line}

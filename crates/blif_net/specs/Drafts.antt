@@ -13,9 +13,10 @@ use Rattle.blif_net.specs.declared.names.Role.TheVariants as roles
 use Rattle.blif_net.specs.declared.faults.FaultKind.TheVariants as kinds
 use Rattle.blif_net.specs.declared.faults.BlifStop.{BlifStop}
 use Rattle.blif_net.specs.declared.faults.BlifStop.TheVariants as stops
-use Rattle.blif_net.specs.Text.{Word, Line}
+use Rattle.blif_text.specs.Text.{Word, Line}
 use Rattle.blif_models.specs.Circuits.{Circuit, Cover, defined_in, some_again}
-use Rattle.blif_net.specs.Circuits.{Context, Statement, model, inputs, outputs, names, ends, after_line, at_start, behind, circuit_of, after_statement, close, cover_at, covers_in, said}
+use Rattle.blif_text.specs.Statements.{Statement, model, inputs, outputs, names, ends, said}
+use Rattle.blif_net.specs.Circuits.{Context, after_line, at_start, behind, circuit_of, after_statement, close, cover_at, covers_in}
 use Rattle.blif_net.specs.Faults.{fault_in, faulty_line, line_fault, open_fault, signals_in}
 use Rattle.blif_net.specs.Networks.{AreNumbers, IsNetOf}
 use Rattle.blif_net.specs.Names.{Name, is_unknown, role_or_none, words_in}
@@ -110,7 +111,7 @@ pub record Closes (old new : Draft) : Type 0 where
 
 -- what a line adds whose first word begins with `.`, where no cover is open
 abbrev pub added : Context → ℕ → Statement → Context
-added c line model = record c { modelled = true }
+added c line (model words) = record c { modelled = true }
 added c line (inputs words) = record c { inputs = c.inputs ++ words }
 added c line (outputs words) = record c { outputs = c.outputs ++ words }
 added c line (names words) = record c { current = Some (cover_at line words) }

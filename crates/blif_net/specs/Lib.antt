@@ -1,4 +1,3 @@
-pub mod Text
 pub mod Circuits
 pub mod Faults
 pub mod Networks
@@ -6,12 +5,11 @@ pub mod Readings
 pub mod Cycles
 pub mod Bounds
 pub mod Names
-pub mod Statements
 pub mod Covers
 pub mod Drafts
 pub mod Building
-pub mod Joined
 pub mod Bridges
 pub mod ModelTexts
 pub mod ModelLines
 pub mod ModelVerdicts
+pub mod Lines

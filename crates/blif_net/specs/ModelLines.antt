@@ -11,9 +11,10 @@ use Rattle.blif_drafts.specs.OpenDrafts as drafts
 use Rattle.blif_drafts.specs.OpenModels.{AreOpen, BeginsFurther, BeginsMain, HoldsLine, StopsLine, TakesLine}
 use Rattle.blif_net.specs.declared.faults.FaultKind.{FaultKind}
 use Rattle.blif_net.specs.declared.faults.FaultKind.TheVariants as kinds
-use Rattle.blif_net.specs.Text.{Word}
+use Rattle.blif_text.specs.Text.{Word}
 use Rattle.blif_net.specs.Circuits.{front_of, last_of}
-use Rattle.blif_net.specs.ModelTexts.{Context, after_statement, at_start, close, ends, inputs, latch, model, names, open_fault, outputs, row, subckt}
+use Rattle.blif_text.specs.Statements.{ends, inputs, latch, model, names, outputs, row, subckt}
+use Rattle.blif_net.specs.ModelTexts.{Context, after_statement, at_start, close, open_fault}
 
 -- the kind of a fault by which a line is refused
 abbrev pub kind_of : Refusal → FaultKind

@@ -1,10 +1,9 @@
 -- What the lines of a text with several models say, what they leave, and the one fault of a text. `read` goes by Circuits and Faults,
 -- which know one model alone.
-use Rattle.std.specs.Prelude.{ℕ, ◌+◌, ◌==◌, nat_lt, Bool, true, false, not, List, [], ◌∷◌, ◌++◌, Option, Some, None, codes, length, slice_index, if◌then◌else◌}
+use Rattle.std.specs.Prelude.{ℕ, ◌+◌, ◌==◌, nat_lt, Bool, true, false, not, List, [], ◌∷◌, ◌++◌, Option, Some, None, length, if◌then◌else◌}
 use Rattle.std.specs.List.{list_all, flat_map}
 use Rattle.std.specs.Option.{option_map, option_or}
 use Rattle.std.specs.Bool.{then_some}
-use Rattle.std.specs.Str.{bytes_eq}
 use Rattle.edge_bits.specs.declared.limits.TheConstants.{MOST_VARIABLES, MOST_SIGNALS, MOST_OUTPUTS}
 use Rattle.job_words.specs.Text.{is_among}
 use Rattle.blif_models.specs.Circuits.{Cover, some_again}
@@ -15,8 +14,9 @@ use Rattle.blif_drafts.specs.OpenDrafts.{bare_model, first_word, named_at}
 use Rattle.blif_drafts.specs.Signals.{defined_by}
 use Rattle.blif_net.specs.declared.faults.FaultKind.{FaultKind}
 use Rattle.blif_net.specs.declared.faults.FaultKind.TheVariants as kinds
-use Rattle.blif_net.specs.Text.{Word, Line, joined_lines, words_of, is_allowed}
-use Rattle.blif_net.specs.Circuits.{passed_words, last_of, cover_at, with_row_in}
+use Rattle.blif_text.specs.Text.{Word, Line, joined_lines, is_allowed}
+use Rattle.blif_text.specs.Statements.{Statement, nothing, model, inputs, outputs, names, subckt, latch, ends, passed_over, left_out, unknown, row, said}
+use Rattle.blif_net.specs.Circuits.{last_of, cover_at, with_row_in}
 use Rattle.blif_net.specs.Faults.{rows_fault, last_number}
 
 -- the kinds of one model's faults, and two more: a `.subckt` of no model or a `.model` without a name of its own, and joins of another form
@@ -27,37 +27,6 @@ pub data Kind : Type 0 where
 pub record Fault : Type 0 where
   pub line : ℕ
   pub what : Kind
-
--- What a line says.
-pub data Statement : Type 0 where
-  -- it has no words; a word that is passed over, one that is left out, an unknown one, each with its whole line
-  nothing passed_over left_out unknown : Statement
-  -- each with the words behind the first
-  model inputs outputs names subckt latch ends : List Word → Statement
-  -- a line whose first word doesn't begin with `.`
-  row : List Word → Statement
-
-abbrev pub left_words : List Word
-left_words = codes ".gate" ∷ codes ".mlatch" ∷ codes ".exdc" ∷ codes ".search" ∷ codes ".start_kiss" ∷ codes ".clock" ∷ []
-
-abbrev pub directive : Word → List Word → Statement
-directive word words =
-    if bytes_eq word (codes ".names") then names words else
-    if bytes_eq word (codes ".inputs") then inputs words else
-    if bytes_eq word (codes ".outputs") then outputs words else
-    if bytes_eq word (codes ".model") then model words else
-    if bytes_eq word (codes ".subckt") then subckt words else
-    if bytes_eq word (codes ".latch") then latch words else
-    if bytes_eq word (codes ".end") then ends words else
-    if is_among passed_words word then passed_over else
-    if is_among left_words word then left_out else unknown
-
-unfoldable pub statement_of : List Word → Statement
-statement_of [] = nothing
-statement_of (word ∷ words) = if slice_index word 0 == 46 then directive word words else row (word ∷ words)
-
-abbrev pub said : Line → Statement
-said line = statement_of (words_of line.bytes)
 
 -- What the lines so far leave to the next one: the models that are closed, the one that goes on and its open cover, whether a line had
 -- words, and whether `.end` came.

@@ -8,7 +8,7 @@ use Rattle.blif_drafts.specs.declared.verdicts.Verdict.{Verdict}
 use Rattle.blif_drafts.specs.declared.verdicts.Verdict.TheVariants as verdicts
 use Rattle.blif_drafts.specs.Verdicts.{VerdictIs}
 use Rattle.blif_net.specs.declared.faults.FaultKind.TheVariants as kinds
-use Rattle.blif_net.specs.Text.{Line}
+use Rattle.blif_text.specs.Text.{Line}
 use Rattle.blif_net.specs.ModelTexts.{Fault, expanded_fault, fault_at, misjoined, models_fault, nameless, told}
 
 -- of an outcome: an instance by which a model holds itself, a limit that is passed, or what is wrong with the whole that stands in the main model

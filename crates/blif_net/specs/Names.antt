@@ -9,7 +9,7 @@ use Rattle.blif_net.specs.declared.names.Role.TheVariants.{Unknown}
 use Rattle.blif_net.specs.declared.faults.FaultKind.TheVariants as kinds
 use Rattle.blif_net.specs.declared.faults.BlifStop.{BlifStop}
 use Rattle.blif_net.specs.declared.faults.BlifStop.TheVariants as stops
-use Rattle.blif_net.specs.Text.{Word}
+use Rattle.blif_text.specs.Text.{Word}
 
 -- A name: its word, the number of the line where it first stands, and what it is.
 pub record Name : Type 0 where

@@ -1,18 +1,18 @@
 //! What the lines of a text so far declare.
 
-ghost use Rattle.std.specs.Prelude.{◌≡◌, ◌+◌, [], length, map, nat_lt, IfOk, IfErr, OnOk, None, ℕ};
-ghost use Rattle.blif_net.specs.Circuits.{at_start, inputs, model, names, nothing, outputs, ends, row};
+ghost use Rattle.std.specs.Prelude.{◌≡◌, ◌+◌, List as ListOf, [], length, map, nat_lt, IfOk, IfErr, OnOk, None, ℕ};
+ghost use Rattle.blif_text.specs.Statements.{inputs, model, names, nothing, outputs, ends, row};
+ghost use Rattle.blif_net.specs.Circuits.{at_start};
 ghost use Rattle.blif_net.specs.Covers.{StopIs};
 ghost use Rattle.blif_net.specs.Drafts.{AddsInput, AddsInputs, Closes, InputStop, InputsStop, IsDraftOf, Stops, StopsLine, Takes, TakesLine, TakesStatement, uses_in};
 ghost use Rattle.blif_net.specs.Faults.{end_fault};
-ghost use Rattle.blif_net.specs.Statements.{statement_in};
-ghost use Rattle.blif_net.specs.Text.{line_at};
+ghost use Rattle.blif_text.specs.Said.{statement_in};
+ghost use Rattle.blif_text.specs.Text.{Word, line_at};
 
 use crate::covers::CoverDraft;
 use crate::faults::{BlifStop, FaultKind};
 use crate::names::{Names, Role};
-use crate::statements::{Statement, statement_of};
-use crate::text::words;
+use blif_text::{Statement, statement_of, words};
 use edge_bits::{List, MOST_OUTPUTS, MOST_SIGNALS, MOST_VARIABLES};
 use job_words::{ByteClass, all_in};
 use std::alloc::{AllocError, Global};
@@ -48,7 +48,7 @@ fn after_end(statement: Statement) -> Result<(), BlifStop>
 {
     match statement {
         Statement::Nothing => Ok(()),
-        Statement::Model => Err(BlifStop::Fault(FaultKind::LeftOut)),
+        Statement::Model(_) => Err(BlifStop::Fault(FaultKind::LeftOut)),
         _ => Err(BlifStop::Fault(FaultKind::Word)),
     }
 }
@@ -120,8 +120,8 @@ impl Draft {
 
     /// `.model`
     fn model_line(&mut self) -> Result<(), BlifStop>
-        ensures ok { OnOk result ((line : ℕ) → Takes self.old line model self.new) }
-        ensures stop { IfErr result (Stops self.old model) }
+        ensures ok { OnOk result ((line : ℕ) (words : ListOf Word) → Takes self.old line (model words) self.new) }
+        ensures stop { IfErr result (λ stop. (words : ListOf Word) → Stops self.old (model words) stop) }
     {
         if self.modelled {
             return Err(BlifStop::Fault(FaultKind::LeftOut));
@@ -220,7 +220,7 @@ impl Draft {
         match statement {
             Statement::Nothing => Ok(()),
             Statement::Row(words) => self.row_line(alloc, words),
-            Statement::Model => {
+            Statement::Model(_) => {
                 self.close()?;
                 self.model_line()
             }
@@ -244,7 +244,9 @@ impl Draft {
                 self.close()?;
                 Ok(())
             }
-            Statement::LeftOut => Err(BlifStop::Fault(FaultKind::LeftOut)),
+            Statement::LeftOut | Statement::Subckt(_) | Statement::Latch(_) => {
+                Err(BlifStop::Fault(FaultKind::LeftOut))
+            }
             Statement::Unknown => Err(BlifStop::Fault(FaultKind::Word)),
         }
     }

@@ -9,8 +9,6 @@ mod names;
 mod net;
 mod reader;
 mod reads;
-mod statements;
-mod text;
 
 pub use faults::{BlifError, BlifFault, FaultKind};
 pub use net::{Cover, Cube, Literal, Net, Output};

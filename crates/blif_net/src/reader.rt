@@ -10,15 +10,15 @@ ghost use Rattle.blif_net.specs.ModelLines.{DraftsFollow};
 ghost use Rattle.blif_net.specs.ModelVerdicts.{VerdictsAreFaults};
 ghost use Rattle.blif_net.specs.Networks.{IsBlifText};
 ghost use Rattle.blif_net.specs.Readings.{EachHasOne, NetOrFault, OneFault, OneNet};
-ghost use Rattle.blif_net.specs.Text.{Line};
+ghost use Rattle.blif_text.specs.Text.{Line, kept_bytes};
 
 use crate::building::net_of;
 use crate::draft::Draft;
 use crate::faults::{BlifError, BlifFault, BlifStop, FaultKind};
 use crate::net::Net;
 use crate::reads::arranged;
-use crate::text::next_line;
 use blif_order::Arranged;
+use blif_text::{kept_bytes, next_line};
 use std::alloc::Global;
 use std::hash::RandomState;
 
@@ -60,25 +60,28 @@ fn finish(alloc: Global, draft: &mut Draft, last: u64) -> Result<Net, BlifError>
     Ok(net_of(alloc, draft, &order)?)
 }
 
-/// The network of a text, whose lines an empty draft takes, or its fault.
-fn read_into(alloc: Global, draft: &mut Draft, text: &[u8]) -> Result<Net, BlifError>
+/// The network of a text, whose lines an empty draft takes, or its fault. These bytes are kept of its joined lines.
+fn read_into(alloc: Global, draft: &mut Draft, text: &[u8], kept: &[u8]) -> Result<Net, BlifError>
     requires draft { IsDraftOf at_start draft.old }
     requires uses { uses_in draft.old ≡ [] }
+    requires kept { kept.now ≡ kept_bytes text.now }
     ensures net { IfOk result (λ net. IsBlifText text.now net) }
     ensures fault { IfErr result (λ error. HasFault text.now error) }
 {
     let mut rest = text;
+    let mut kept = kept;
     let mut number = 1u64;
     let mut last = 0u64;
     while !rest.is_empty() {
-        let next = next_line(alloc, rest, number)?;
-        match draft.take(alloc, next.bytes.as_slice(), number) {
+        let next = next_line(rest, kept, number);
+        match draft.take(alloc, next.bytes, number) {
             Ok(()) => {}
             Err(stop) => return Err(stopped_at(number, stop)),
         }
         last = number;
         number = next.number;
         rest = next.rest;
+        kept = next.kept;
     }
     draft.close()?;
     finish(alloc, draft, last)
@@ -93,8 +96,9 @@ pub fn read(alloc: Global, keys: RandomState, text: &[u8]) -> Result<Net, BlifEr
     ensures net { IfOk result (λ net. IsBlifText text.now net) }
     ensures fault { IfErr result (λ error. HasFault text.now error) }
 {
+    let kept = kept_bytes(alloc, text)?;
     let mut draft = Draft::new(alloc, keys);
-    read_into(alloc, &mut draft, text)
+    read_into(alloc, &mut draft, text, &kept)
 }
 
 /// Each text, of any length, is that of a network or has one fault, and not both; and the networks of one text give each output

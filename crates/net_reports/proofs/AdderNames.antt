@@ -4,7 +4,7 @@ use Rattle.std.specs.Prelude.{◌⊎◌, nat_lt, nat_le}
 use Rattle.std.specs.Fmt.{decimal}
 use Rattle.std.specs.List.{flat_map, list_all, range_with_len}
 use Rattle.std.specs.Str.{bytes_eq}
-use Rattle.std.proofs.lemmas.Bool.{and_from, and_right, cases_eq, cond-false, eq-eqb, false_from_ne_true, le-leb, le-ltb, lt-leb, lt-ltb, ne_eqb, or_from, or_right}
+use Rattle.std.proofs.lemmas.Bool.{and_from, and_parts, and_right, cases_eq, cond-false, eq-eqb, false_from_ne_true, le-leb, le-ltb, lt-leb, lt-ltb, ne_eqb, or_from, or_right}
 use Rattle.std.proofs.lemmas.Bool.Decides.{nat_tests}
 use Rattle.std.proofs.lemmas.Fmt.{decimal_by_steps, decimal_injective}
 use Rattle.std.proofs.lemmas.List.Folds.{list_all-append, list_any-append}
@@ -14,10 +14,10 @@ use Rattle.job_words.specs.Text.{is_among}
 use Rattle.blif_models.specs.Circuits.{Cover, Row, defined_in, some_again}
 use Rattle.blif_net.specs.declared.net.Net.{Net}
 use Rattle.blif_net.specs.Networks.{IsBlifText}
-use Rattle.blif_net.specs.Text.{Word}
+use Rattle.job_words.specs.Text.{Word}
 use Rattle.blif_net.specs.Circuits.{is_literal}
 use Rattle.blif_net.proofs.Undefining.{front_among}
-use Rattle.blif_net.proofs.Written.{is_plain, is_plain_word}
+use Rattle.blif_net.proofs.Written.{all_weaker, is_plain, is_plain_word, no_end, plain_from}
 use Rattle.blif_net.proofs.WrittenCircuits.{AreNextCovers, AreRowsFor, IsNextCover, IsRowFor, IsWritable}
 use Rattle.blif_net.proofs.WrittenNets.{net_written}
 use Rattle.net_reports.specs.GenTexts.{gen_text}
@@ -27,25 +27,34 @@ use Rattle.net_reports.proofs.Adders.{a_at, adder, adder_inputs, adder_text, b_a
 in_range : (i : ℕ) → i ≤ MOST_BITS → i < 2 ^ 64
 in_range i h = omega (arith, h)
 
--- names are plain words
-digit_plain : (n : ℕ) → n < 10 → is_plain (48 + n) ≡ true
-digit_plain n h = grind (arith, nat_tests)
+-- names are plain words, none of which ends with `\`
+abbrev is_inside : ℕ → Bool
+is_inside b = is_plain b && not (b == 92)
 
-last_plain : (n : ℕ) → is_plain (48 + n % 10) ≡ true
-last_plain n = digit_plain (n % 10) (omega arith)
+digit_inside : (n : ℕ) → n < 10 → is_inside (48 + n) ≡ true
+digit_inside n h = grind (arith, nat_tests)
 
-decimal_plain : (i : ℕ) → i < 2 ^ 64 → list_all is_plain (decimal i) ≡ true
-decimal_plain i h =
-    decimal_by_steps (λ n digits. list_all is_plain digits ≡ true)
-    (λ n below. and_from (is_plain (48 + n)) true (digit_plain n below) refl)
-    (λ n digits many e. list_all-append is_plain digits ((48 + n % 10) ∷ []) ∙ and_from (list_all is_plain digits) (is_plain (48 + n % 10) && true) e (and_from (is_plain (48 + n % 10)) true (last_plain n) refl)) i h
+last_inside : (n : ℕ) → is_inside (48 + n % 10) ≡ true
+last_inside n = digit_inside (n % 10) (omega arith)
+
+decimal_inside : (i : ℕ) → i < 2 ^ 64 → list_all is_inside (decimal i) ≡ true
+decimal_inside i h =
+    decimal_by_steps (λ n digits. list_all is_inside digits ≡ true)
+    (λ n below. and_from (is_inside (48 + n)) true (digit_inside n below) refl)
+    (λ n digits many e. list_all-append is_inside digits ((48 + n % 10) ∷ []) ∙ and_from (list_all is_inside digits) (is_inside (48 + n % 10) && true) e (and_from (is_inside (48 + n % 10)) true (last_inside n) refl)) i h
 
 some_bytes : (n : ℕ) → not (suc n == 0) ≡ true
 some_bytes n = grind (arith, nat_tests)
 
-name_plain : (letter i : ℕ) → is_plain letter ≡ true → i ≤ MOST_BITS → is_plain_word (numbered_name letter i) ≡ true
+name_plain : (letter i : ℕ) → is_inside letter ≡ true → i ≤ MOST_BITS → is_plain_word (numbered_name letter i) ≡ true
 name_plain letter i h few =
-    and_from (not (length (numbered_name letter i) == 0)) (list_all is_plain (numbered_name letter i)) (some_bytes (length (decimal i))) (and_from (is_plain letter) (list_all is_plain (decimal i)) h (decimal_plain i (in_range i few)))
+    let inside = and_from (is_inside letter) (list_all is_inside (decimal i)) h (decimal_inside i (in_range i few)) in
+    plain_from (numbered_name letter i)
+    (record {
+      bytes = some_bytes (length (decimal i));
+      plain = all_weaker is_inside is_plain (numbered_name letter i) (λ b e. (and_parts (is_plain b) (not (b == 92)) e).0) inside;
+      ends = no_end is_inside 92 (numbered_name letter i) inside refl;
+    })
 
 -- names of different letters or numbers differ
 same_decimal : (j i : ℕ) → j ≤ MOST_BITS → i ≤ MOST_BITS → bytes_eq (decimal j) (decimal i) ≡ (j == i)

@@ -1,47 +1,37 @@
-use Rattle.std.proofs.Common.{◌≡◌, ◌∷◌, [], List, ap, arith, refl, subst, sym, ◌∙◌}
+use Rattle.std.proofs.Common.{◌≡◌, [], List, arith, refl, subst, sym, ◌∙◌}
 use Rattle.std.proofs.lemmas.Result.{IfErr-weaker, IfOk-weaker}
 use Rattle.blif_net.specs.declared.faults.BlifError.{BlifError}
 use Rattle.blif_net.specs.Drafts.{HasFaultIn, IsClosedFrom, IsNetFrom}
 use Rattle.blif_net.specs.Faults.{HasFault, last_number}
 use Rattle.blif_net.specs.Networks.{IsBlifText}
-use Rattle.blif_net.specs.Text.{Line, joined_from, line_at, lines_of}
+use Rattle.blif_text.specs.Text.{Line}
 use Rattle.blif_net.proofs.Reading.{all_lines, line_stops, nothing_read, read_step, text_fault, text_net}
-use Rattle.blif_net.proofs.Split.{is_nothing}
+use Rattle.blif_text.proofs.Split.{is_nothing}
 use Rattle.blif_net.proofs.Wholes.{closed_from}
 use Rattle.blif_net.proofs.reader.read_into.Goals as goal
 
 pub loop-rest-init : goal.loop-rest-init
 loop-rest-init c = record {
+  kept = c.requires.kept;
   read = record { lines = []; so_far = refl; read = nothing_read c.args.draft.now c.requires.draft c.requires.uses; last_line = refl };
   budget = omega arith;
 }
 
 pub returns-in-Err-clause-fault : goal.returns-in-Err-clause-fault
 returns-in-Err-clause-fault c =
-    let next = c.in_ok-next.next in
-    let line = ap (λ b. line_at c.loop-rest.number b ∷ joined_from next.number (lines_of next.rest.now)) (sym c.as_slice.ensures) in
+    let next = c.next_line-next.result in
     subst (λ (t : BlifError). HasFault c.args.text.now t) (sym c.stopped_at.ensures)
-    (line_stops c.args.text.now c.loop-rest.rest.now next.rest.now c.as_slice.result.now c.loop-rest.number next.number c.loop-rest.last c.loop-rest.draft c.in-Err.stop c.loop-rest.invariant.read
-    (c.in_ok-next.ensures.lines ∙ line) c.in-Err.ensures.stop)
-
-pub loop-rest-preserved-in-Ok : goal.loop-rest-preserved-in-Ok
-loop-rest-preserved-in-Ok c =
-    let next = c.in_ok-next.next in
-    let line = ap (λ b. line_at c.loop-rest.number b ∷ joined_from next.number (lines_of next.rest.now)) (sym c.as_slice.ensures) in
-    record {
-      read = read_step c.args.text.now c.loop-rest.rest.now next.rest.now c.as_slice.result.now c.loop-rest.number next.number c.loop-rest.last c.loop-rest.draft c.take.new.self c.loop-rest.invariant.read
-          (c.in_ok-next.ensures.lines ∙ line) c.in-Ok.ensures.ok;
-      budget = omega (arith, c.in_ok-next.ensures.numbers, c.loop-rest.invariant.budget);
-    }
+    (line_stops c.args.text.now c.loop-rest.rest.now next.rest.now next.bytes.now c.loop-rest.number next.number c.loop-rest.last c.loop-rest.draft c.in-Err.stop c.loop-rest.invariant.read
+    c.next_line-next.ensures.lines c.in-Err.ensures.stop)
 
 pub loop-rest-preserved : goal.loop-rest-preserved
 loop-rest-preserved c =
-    let next = c.in_ok-next.next in
-    let line = ap (λ b. line_at c.loop-rest.number b ∷ joined_from next.number (lines_of next.rest.now)) (sym c.as_slice.ensures) in
+    let next = c.next_line-next.result in
     record {
-      read = read_step c.args.text.now c.loop-rest.rest.now next.rest.now c.as_slice.result.now c.loop-rest.number next.number c.loop-rest.last c.loop-rest.draft c.take.new.self c.loop-rest.invariant.read
-          (c.in_ok-next.ensures.lines ∙ line) c.in-Ok.ensures.ok;
-      budget = omega (arith, c.in_ok-next.ensures.numbers, c.loop-rest.invariant.budget);
+      kept = c.next_line-next.ensures.kept;
+      read = read_step c.args.text.now c.loop-rest.rest.now next.rest.now next.bytes.now c.loop-rest.number next.number c.loop-rest.last c.loop-rest.draft c.take.new.self c.loop-rest.invariant.read
+          c.next_line-next.ensures.lines c.in-Ok.ensures.ok;
+      budget = omega (arith, c.next_line-next.ensures.numbers, c.loop-rest.invariant.budget);
     }
 
 pub returns-clause-net : goal.returns-clause-net

@@ -1,9 +1,11 @@
-use Rattle.std.proofs.Common.{◌≤◌, ◌+◌, length}
+use Rattle.std.proofs.Common.{◌≡◌, ◌≤◌, ◌+◌, length}
+use Rattle.blif_text.specs.Text.{kept_bytes}
 use Rattle.blif_net.proofs.Reading.{IsReadOf}
 use Rattle.blif_net.proofs.reader.read_into.Given as goal
 
 abbrev pub invariant-loop-rest : goal.invariant-loop-rest
 invariant-loop-rest l = record {
+  kept : l.kept ≡ kept_bytes l.rest;
   read : IsReadOf l.text l.rest l.number l.last l.draft;
   budget : l.number + length l.rest ≤ 1 + length l.text;
 }

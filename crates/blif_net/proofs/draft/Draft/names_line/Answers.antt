@@ -3,9 +3,10 @@ use Rattle.std.proofs.lemmas.List.{map-append}
 use Rattle.std.proofs.lemmas.Result.{err_from_is_err_and}
 use Rattle.blif_net.specs.declared.covers.CoverDraft.{CoverDraft}
 use Rattle.blif_net.specs.declared.draft.Draft.{Draft}
-use Rattle.blif_net.specs.Text.{Word}
+use Rattle.blif_text.specs.Text.{Word}
 use Rattle.blif_net.specs.declared.faults.FaultKind.TheVariants as kinds
-use Rattle.blif_net.specs.Circuits.{Context, names}
+use Rattle.blif_text.specs.Statements.{names}
+use Rattle.blif_net.specs.Circuits.{Context}
 use Rattle.blif_net.specs.Faults.{names_fault}
 use Rattle.blif_net.specs.Drafts.{IsDraftOf, Stops, Takes}
 use Rattle.blif_net.proofs.Lines.{names_stopped, names_taken, names_too_many}

@@ -1,11 +1,11 @@
 use Rattle.std.proofs.Common.{◌≡◌, ap, map, subst, sym, ◌∙◌}
 use Rattle.std.proofs.lemmas.Result.{IfErr-weaker, on_ok_weaker}
-use Rattle.blif_net.specs.Circuits.{Statement, said, statement_of}
+use Rattle.blif_text.specs.Statements.{Statement, said, statement_of}
 use Rattle.blif_net.specs.Covers.{StopIs}
 use Rattle.blif_net.specs.Drafts.{Stops, StopsLine, TakesStatement}
 use Rattle.blif_net.specs.Faults.{end_fault}
-use Rattle.blif_net.specs.Statements.{statement_in}
-use Rattle.blif_net.specs.Text.{line_at}
+use Rattle.blif_text.specs.Said.{statement_in}
+use Rattle.blif_text.specs.Text.{line_at}
 use Rattle.blif_net.proofs.Taking.{ended_line, ended_stops, open_line, open_stops, unclean_line}
 use Rattle.blif_net.proofs.draft.Draft.take.Goals as goal
 

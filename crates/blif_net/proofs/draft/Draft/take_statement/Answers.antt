@@ -1,8 +1,9 @@
-use Rattle.std.proofs.Common.{ap, map, refl, subst, sym}
-use Rattle.std.proofs.lemmas.Result.{on_ok_weaker}
-use Rattle.blif_net.specs.Circuits.{Statement, ends, inputs, model, names, outputs}
-use Rattle.blif_net.specs.Drafts.{TakesStatement}
-use Rattle.blif_net.specs.Statements.{statement_in}
+use Rattle.std.proofs.Common.{List, ap, map, refl, subst, sym}
+use Rattle.std.proofs.lemmas.Result.{IfErr-weaker, on_ok_weaker}
+use Rattle.blif_text.specs.Statements.{Statement, ends, inputs, model, names, outputs}
+use Rattle.blif_net.specs.Drafts.{Stops, TakesStatement}
+use Rattle.job_words.specs.Text.{Word}
+use Rattle.blif_text.specs.Said.{statement_in}
 use Rattle.blif_net.proofs.Taking.{stopped, taken}
 use Rattle.blif_net.proofs.draft.Draft.take_statement.Goals as goal
 
@@ -12,11 +13,15 @@ returns-in-Row-clause-ok c =
 
 pub returns-in_ok-close-in-Model-clause-ok : goal.returns-in_ok-close-in-Model-clause-ok
 returns-in_ok-close-in-Model-clause-ok c =
-    taken c.model_line.result c.args.self.now c.close.new.self c.model_line.new.self c.args.line (statement_in c.args.statement) model (ap statement_in c.in-Model.is) refl c.in_ok-close-in-Model.ensures (on_ok_weaker c.model_line.result (λ t. t c.args.line) c.model_line.ensures.ok)
+    let words = map (λ w. w.now) c.in-Model.field-0.now in
+    taken c.model_line.result c.args.self.now c.close.new.self c.model_line.new.self c.args.line (statement_in c.args.statement) (model words) (ap statement_in c.in-Model.is) refl c.in_ok-close-in-Model.ensures
+    (on_ok_weaker c.model_line.result (λ t. t c.args.line words) c.model_line.ensures.ok)
 
 pub returns-in_ok-close-in-Model-clause-stop : goal.returns-in_ok-close-in-Model-clause-stop
 returns-in_ok-close-in-Model-clause-stop c =
-    stopped c.model_line.result c.args.self.now c.close.new.self (statement_in c.args.statement) model (ap statement_in c.in-Model.is) refl c.in_ok-close-in-Model.ensures c.model_line.ensures.stop
+    let words = map (λ w. w.now) c.in-Model.field-0.now in
+    stopped c.model_line.result c.args.self.now c.close.new.self (statement_in c.args.statement) (model words) (ap statement_in c.in-Model.is) refl c.in_ok-close-in-Model.ensures
+    (IfErr-weaker c.model_line.result (λ stop. (words : List Word) → Stops c.close.new.self (model words) stop) (Stops c.close.new.self (model words)) (λ stop s. s words) c.model_line.ensures.stop)
 
 pub returns-in_ok-close-in-Inputs-clause-ok : goal.returns-in_ok-close-in-Inputs-clause-ok
 returns-in_ok-close-in-Inputs-clause-ok c =
