@@ -1,0 +1,9 @@
+pub mod Words
+pub mod Joins
+pub mod DefinedOnce
+pub mod WholeOnce
+pub mod SpotNames
+pub mod FirstLines
+pub mod SpotUses
+pub mod LineOrder
+pub mod LaidSteps

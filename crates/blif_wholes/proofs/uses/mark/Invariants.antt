@@ -1,0 +1,10 @@
+use Rattle.std.proofs.Common.{◌≡◌, ℕ, length, take, true, if◌then◌else◌}
+use Rattle.blif_order.specs.Orders.{is_in}
+use Rattle.blif_drafts.specs.Signals.{is_marked}
+use Rattle.blif_wholes.proofs.uses.mark.Given as goal
+
+abbrev pub invariant-loop-spot : goal.invariant-loop-spot
+invariant-loop-spot l = record {
+  many : length l.marks.items ≡ length l.initial.marks.items;
+  marks : (n : ℕ) → is_marked l.marks.items n ≡ (if is_in (take l.spot-index l.spots) n then true else is_marked l.initial.marks.items n);
+}

@@ -1,0 +1,3 @@
+pub mod Defined
+pub mod Uses
+pub mod LineOrder
