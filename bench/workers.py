@@ -64,6 +64,7 @@ def main():
     abc = shutil.which("berkeley-abc") or shutil.which("abc")
     print(f"{'network':<24}{'workers':>8}{'wall s':>9}{'all s':>9}{'MB':>7}")
     by_workers(program, "multiplier 10", multiplier(10).text(), ["build", "--limit", "8000000"])
+    by_workers(program, "multiplier 10, usual", multiplier(10).text(), ["build"])
     by_workers(program, "gen 256", "", ["gen", "256"])
     by_workers(program, "1,048,576 signals", many_signals(), ["build"])
     print(f"\n{'network':<24}{'nodes':>9}{'s':>9}{'sifted':>9}{'s':>9}" + (f"{'ABC':>9}{'s':>9}{'ABC sift':>9}{'s':>9}" if abc else ""))

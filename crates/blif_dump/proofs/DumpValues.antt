@@ -11,7 +11,7 @@ use Rattle.diagram_dumps.specs.WellMade.{IsWritable}
 use Rattle.diagram_dumps.proofs.Lines.{Indexed, at_line, at_one, earlier, indexed, line_is, one_is}
 use Rattle.diagram_dumps.proofs.Walks.{AreLines, are_lines}
 use Rattle.blif_models.specs.Circuits.{Cover, defined_in}
-use Rattle.blif_net.specs.declared.net.Net.{Net}
+use Rattle.cover_nets.specs.declared.net.Net.{Net}
 use Rattle.blif_net.specs.Networks.{IsNetOf}
 use Rattle.blif_net.proofs.Distinct.{Alone}
 use Rattle.blif_net.proofs.OneNet.{among_got, get_front}

@@ -10,7 +10,7 @@ use Rattle.job_words.specs.Text.{Word, is_among}
 use Rattle.diagram_dumps.specs.declared.dump.Dump.{Dump}
 use Rattle.diagram_dumps.specs.WellMade.{IsWritable}
 use Rattle.blif_models.specs.Circuits.{Circuit, Cover, defined_in, some_again}
-use Rattle.blif_net.specs.declared.net.Net.{Net}
+use Rattle.cover_nets.specs.declared.net.Net.{Net}
 use Rattle.blif_text.specs.Text.{joined_lines}
 use Rattle.blif_net.specs.Circuits.{circuit_of}
 use Rattle.blif_net.specs.Faults.{fault_of}

@@ -9,15 +9,16 @@ use Rattle.std.proofs.lemmas.Option.{get_or_from_slice_get, same_Some, slice_get
 use Rattle.edge_bits.specs.Assignments.{bit}
 use Rattle.job_words.specs.Text.{Word, is_among}
 use Rattle.blif_models.specs.Circuits.{Circuit, Cover, Row, defined_in}
-use Rattle.blif_net.specs.declared.net.Net.{Net}
-use Rattle.blif_net.specs.declared.net.Cover.{Cover as Gate}
-use Rattle.blif_net.specs.declared.net.Cube.{Cube}
-use Rattle.blif_net.specs.declared.net.Literal.{Literal}
-use Rattle.blif_net.specs.Networks.{AreGates, AreNumbers, IsGateOf, IsNetOf, cover_value, fits, is_on, literals_of, matches, signal_value}
+use Rattle.cover_nets.specs.declared.net.Net.{Net}
+use Rattle.cover_nets.specs.declared.net.Cover.{Cover as Gate}
+use Rattle.cover_nets.specs.declared.net.Cube.{Cube}
+use Rattle.cover_nets.specs.declared.net.Literal.{Literal}
+use Rattle.cover_nets.specs.Networks.{cover_value, fits, matches, signal_value}
+use Rattle.blif_net.specs.Networks.{AreGates, AreNumbers, IsGateOf, IsNetOf, is_on, literals_of}
 use Rattle.blif_net.proofs.Distinct.{Alone}
 use Rattle.blif_net.proofs.OneNet.{GateAt, among_got, covered, found_once, get_front, not_input, place_once}
 use Rattle.blif_net.proofs.Ordered.{ordered_net}
-use Rattle.blif_net.proofs.Values.{gate_is, input_is}
+use Rattle.cover_nets.proofs.Values.{gate_is, input_is}
 
 -- what rows give from the values of the inputs
 abbrev pub fits_all : List Literal → List Bool → Bool

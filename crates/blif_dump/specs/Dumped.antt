@@ -8,10 +8,11 @@ use Rattle.job_words.specs.Classes.{has_bytes, is_in}
 use Rattle.job_words.specs.Text.{Word}
 use Rattle.diagram_dumps.specs.declared.dump.Dump.{Dump}
 use Rattle.diagram_dumps.specs.Dumps.{root_value}
-use Rattle.blif_net.specs.declared.net.Net.{Net}
-use Rattle.blif_net.specs.declared.net.Output.{Output}
+use Rattle.cover_nets.specs.declared.net.Net.{Net}
+use Rattle.cover_nets.specs.declared.net.Output.{Output}
 use Rattle.blif_net.specs.Faults.{fault_of}
-use Rattle.blif_net.specs.Networks.{IsBlifText, signal_value}
+use Rattle.cover_nets.specs.Networks.{signal_value}
+use Rattle.blif_net.specs.Networks.{IsBlifText}
 use Rattle.blif_dump.specs.Names.{called, naming_of}
 
 -- a byte that may stand in a name, `#` too: from 33 on, but 127

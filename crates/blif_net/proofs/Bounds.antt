@@ -12,15 +12,15 @@ use Rattle.edge_bits.specs.declared.limits.TheConstants.{MOST_VARIABLES, MOST_OU
 use Rattle.job_words.specs.Text.{is_among}
 use Rattle.blif_net.specs.declared.faults.BlifFault.{BlifFault}
 use Rattle.blif_net.specs.declared.faults.FaultKind.TheVariants as kinds
-use Rattle.blif_net.specs.declared.net.Net.{Net}
-use Rattle.blif_net.specs.declared.net.Output.{Output}
+use Rattle.cover_nets.specs.declared.net.Net.{Net}
+use Rattle.cover_nets.specs.declared.net.Output.{Output}
 use Rattle.blif_text.specs.Text.{Word, Line, joined_lines}
 use Rattle.blif_models.specs.Circuits.{Circuit, Cover, defined_in, some_again}
 use Rattle.blif_text.specs.Statements.{Statement, nothing, model, inputs, outputs, names, subckt, latch, ends, passed_over, left_out, unknown, row}
 use Rattle.blif_net.specs.Circuits.{Context, after_statement, at_start, circuit_of, close, cover_at, covers_in, last_of}
 use Rattle.blif_net.specs.Faults.{cyclic_cover, fault_of, faulty_line, inputs_fault, last_number, names_fault, no_outputs, open_fault, signals_in, undefined_line}
 use Rattle.blif_net.specs.Networks.{IsBlifText, IsNetOf}
-use Rattle.blif_net.specs.Bounds.{IsBounded}
+use Rattle.cover_nets.specs.Bounds.{IsBounded}
 use Rattle.blif_net.proofs.Distinct.{closed_same, row_same}
 use Rattle.blif_net.proofs.Faultless.{kept_behind, none_first, none_of, not_so}
 use Rattle.blif_net.proofs.OneNet.{length_gates, output_named}

@@ -2,7 +2,6 @@ mod Rows
 mod ModelRows
 pub mod ModelLines
 pub mod ModelTold
-pub mod Values
 pub mod Arranging
 pub mod Completeness
 pub mod Faultless

@@ -13,7 +13,7 @@ use Rattle.edge_bits.specs.declared.limits.TheConstants.{MOST_VARIABLES, MOST_OU
 use Rattle.job_words.specs.Text.{is_among}
 use Rattle.blif_net.specs.declared.covers.CoverDraft.{CoverDraft}
 use Rattle.blif_net.specs.declared.draft.Draft.{Draft}
-use Rattle.blif_net.specs.declared.net.Cube.{Cube}
+use Rattle.cover_nets.specs.declared.net.Cube.{Cube}
 use Rattle.blif_net.specs.declared.names.Role.TheVariants as roles
 use Rattle.blif_net.specs.declared.faults.FaultKind.TheVariants as kinds
 use Rattle.blif_net.specs.declared.faults.BlifStop.{BlifStop}

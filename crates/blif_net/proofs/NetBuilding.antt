@@ -9,9 +9,9 @@ use Rattle.blif_net.specs.declared.covers.CoverDraft.{CoverDraft}
 use Rattle.blif_net.specs.declared.draft.Draft.{Draft}
 use Rattle.blif_net.specs.declared.names.Role.{Role}
 use Rattle.blif_net.specs.declared.names.Role.TheVariants as roles
-use Rattle.blif_net.specs.declared.net.Cover.{Cover as Gate}
-use Rattle.blif_net.specs.declared.net.Net.{Net}
-use Rattle.blif_net.specs.declared.net.Output.{Output}
+use Rattle.cover_nets.specs.declared.net.Cover.{Cover as Gate}
+use Rattle.cover_nets.specs.declared.net.Net.{Net}
+use Rattle.cover_nets.specs.declared.net.Output.{Output}
 use Rattle.blif_text.specs.Text.{Word}
 use Rattle.blif_models.specs.Circuits.{Circuit, Cover, defined_in}
 use Rattle.blif_net.specs.Networks.{AreNumbers, IsNetOf}

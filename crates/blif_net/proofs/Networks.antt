@@ -9,7 +9,7 @@ use Rattle.std.proofs.lemmas.Slice.Eq.{bytes_eq-Decides}
 use Rattle.std.proofs.lemmas.List.Folds.{list_any-append}
 use Rattle.std.proofs.lemmas.Option.{slice_get-get_or}
 use Rattle.job_words.specs.Text.{is_among}
-use Rattle.blif_net.specs.declared.net.Cover.{Cover as Gate}
+use Rattle.cover_nets.specs.declared.net.Cover.{Cover as Gate}
 use Rattle.blif_text.specs.Text.{Word}
 use Rattle.blif_models.specs.Circuits.{Circuit, Cover, defined_in}
 use Rattle.blif_net.specs.Networks.{AreGates, AreNumbers, IsGateOf}

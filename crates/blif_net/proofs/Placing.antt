@@ -7,7 +7,7 @@ use Rattle.std.proofs.lemmas.Bool.Decides.{nat_tests}
 use Rattle.std.proofs.lemmas.List.{get_or-set_other, length-set, map-append, take_more}
 use Rattle.std.proofs.lemmas.List.Folds.{list_any-append}
 use Rattle.blif_net.specs.declared.covers.CoverDraft.{CoverDraft}
-use Rattle.blif_net.specs.declared.net.Cover.{Cover as Gate}
+use Rattle.cover_nets.specs.declared.net.Cover.{Cover as Gate}
 use Rattle.blif_net.specs.Building.{gate_of, no_cover}
 use Rattle.blif_order.specs.Orders.{Once, is_in}
 

@@ -8,7 +8,7 @@ use Rattle.blif_net.specs.declared.faults.BlifError.TheVariants as errors
 use Rattle.blif_net.specs.declared.faults.FaultKind.{FaultKind}
 use Rattle.blif_net.specs.declared.faults.BlifStop.{BlifStop}
 use Rattle.blif_net.specs.declared.faults.BlifStop.TheVariants as stops
-use Rattle.blif_net.specs.declared.net.Net.{Net}
+use Rattle.cover_nets.specs.declared.net.Net.{Net}
 use Rattle.blif_text.specs.Text.{Line, joined_from, joined_lines, line_at, lines_of}
 use Rattle.blif_text.specs.Statements.{said}
 use Rattle.blif_net.specs.Circuits.{Context, after_line, at_start, behind, circuit_of}

@@ -10,7 +10,7 @@ use Rattle.blif_net.specs.declared.covers.CoverDraft.{CoverDraft}
 use Rattle.blif_net.specs.declared.draft.Draft.{Draft}
 use Rattle.blif_net.specs.declared.faults.BlifFault.{BlifFault}
 use Rattle.blif_net.specs.declared.faults.FaultKind.TheVariants as kinds
-use Rattle.blif_net.specs.declared.net.Net.{Net}
+use Rattle.cover_nets.specs.declared.net.Net.{Net}
 use Rattle.blif_text.specs.Text.{Line, Word}
 use Rattle.blif_models.specs.Circuits.{Circuit, Cover, defined_in, is_settled}
 use Rattle.blif_net.specs.Circuits.{at_start, behind, circuit_of}

@@ -11,7 +11,7 @@ use Rattle.std.proofs.lemmas.List.Folds.{list_all-append, list_any-append}
 use Rattle.std.proofs.lemmas.Slice.Eq.{bytes_eq-Decides}
 use Rattle.job_words.specs.Text.{is_among}
 use Rattle.blif_net.specs.declared.faults.FaultKind.TheVariants as kinds
-use Rattle.blif_net.specs.declared.net.Net.{Net}
+use Rattle.cover_nets.specs.declared.net.Net.{Net}
 use Rattle.blif_text.specs.Text.{Word, Line, joined_lines, line_at}
 use Rattle.blif_models.specs.Circuits.{Circuit, Cover, Row, defined_in, is_settled, is_signal, settles}
 use Rattle.blif_text.specs.Statements.{said, statement_of}

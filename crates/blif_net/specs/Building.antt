@@ -4,8 +4,8 @@ use Rattle.blif_net.specs.declared.covers.CoverDraft.{CoverDraft}
 use Rattle.blif_net.specs.declared.names.Role.{Role}
 use Rattle.blif_net.specs.declared.names.Role.TheVariants.{Unknown, Input, Cover}
 use Rattle.blif_net.specs.declared.draft.Draft.{Draft}
-use Rattle.blif_net.specs.declared.net.Cover.{Cover as Gate}
-use Rattle.blif_net.specs.declared.net.Net.{Net}
+use Rattle.cover_nets.specs.declared.net.Cover.{Cover as Gate}
+use Rattle.cover_nets.specs.declared.net.Net.{Net}
 use Rattle.blif_net.specs.Names.{words_in}
 
 -- the signal of a name of this role, where covers have these signals

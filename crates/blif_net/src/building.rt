@@ -10,7 +10,7 @@ ghost use Rattle.blif_net.specs.Names.{words_in};
 use crate::covers::CoverDraft;
 use crate::draft::{Draft, number_of};
 use crate::names::{Names, Role};
-use crate::net::{Cover, Net, Output};
+use cover_nets::{Cover, Net, Output};
 use edge_bits::List;
 use std::alloc::{AllocError, Global};
 use std::mem;

@@ -8,7 +8,7 @@ ghost use Rattle.blif_net.specs.Networks.{literal_of};
 ghost use Rattle.blif_net.specs.Covers.{CubeStop, IsRead, IsReadRow, RowStop, StopsRow, TakesRow, WordsStop, takes_output};
 
 use crate::faults::{BlifStop, FaultKind};
-use crate::net::{Cube, Literal};
+use cover_nets::{Cube, Literal};
 use edge_bits::List;
 use std::alloc::Global;
 

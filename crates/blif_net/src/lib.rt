@@ -6,12 +6,11 @@ mod covers;
 mod draft;
 mod faults;
 mod names;
-mod net;
 mod reader;
 mod reads;
 
+pub use cover_nets::{Cover, Cube, Literal, Net, Output};
 pub use faults::{BlifError, BlifFault, FaultKind};
-pub use net::{Cover, Cube, Literal, Net, Output};
 pub use reader::{
     cyclic_covers_are_found, drafts_follow_lines, networks_are_bounded, read,
     texts_have_one_reading,

@@ -15,10 +15,10 @@ ghost use Rattle.blif_text.specs.Text.{Line, kept_bytes};
 use crate::building::net_of;
 use crate::draft::Draft;
 use crate::faults::{BlifError, BlifFault, BlifStop, FaultKind};
-use crate::net::Net;
 use crate::reads::arranged;
 use blif_order::Arranged;
 use blif_text::{kept_bytes, next_line};
+use cover_nets::Net;
 use std::alloc::Global;
 use std::hash::RandomState;
 

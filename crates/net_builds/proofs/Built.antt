@@ -9,8 +9,8 @@ use Rattle.std.proofs.lemmas.Option.{none-some, same_Some}
 use Rattle.edge_bits.specs.declared.limits.TheConstants.{MOST_ROWS}
 use Rattle.function_laws.specs.declared.history.Entry.{Entry}
 use Rattle.function_laws.specs.declared.history.Name.{Name}
-use Rattle.blif_net.specs.declared.net.Net.{Net}
-use Rattle.blif_net.specs.Bounds.{signal_count}
+use Rattle.cover_nets.specs.declared.net.Net.{Net}
+use Rattle.cover_nets.specs.Bounds.{signal_count}
 use Rattle.net_reports.specs.Reports.{output_functions}
 use Rattle.net_builds.specs.Builds.{AllGain, AllHandedOver, AreUnsifted}
 use Rattle.net_builds.specs.Handings.{IsKnown, IsWithin, Returns}

@@ -14,8 +14,8 @@ use Rattle.function_laws.specs.declared.history.Function.{Function}
 use Rattle.function_laws.specs.declared.history.Name.{Name}
 use Rattle.function_laws.specs.declared.history.Reply.TheVariants as replies
 use Rattle.function_laws.specs.SessionEntries.{entry}
-use Rattle.blif_net.specs.declared.net.Net.{Net}
-use Rattle.blif_net.specs.Bounds.{signal_count}
+use Rattle.cover_nets.specs.declared.net.Net.{Net}
+use Rattle.cover_nets.specs.Bounds.{signal_count}
 use Rattle.net_reports.specs.Reports.{output_functions}
 use Rattle.net_builds.specs.Builds.{AllHandedOver, AreUnsifted, Builds}
 use Rattle.net_builds.specs.Handings.{AreInTurn, Gathers, Gives, IsKnown, IsOrderly, IsTold, Looks, Offers, PairsFrom}

@@ -6,10 +6,10 @@ use Rattle.std.proofs.lemmas.List.{length-map, length-set, set-set}
 use Rattle.std.proofs.lemmas.List.Elements.{All-cons, All-get_or, All-head, All-map, All-nil, All-tail, All-weaker}
 use Rattle.std.proofs.lemmas.Slice.Zip.{AllZip-long}
 use Rattle.std.proofs.lemmas.Option.{none-some, same_Some, slice_get_within}
-use Rattle.blif_net.specs.declared.net.Net.{Net}
-use Rattle.blif_net.specs.declared.net.Output.{Output}
-use Rattle.blif_net.specs.Bounds.{signal_count}
-use Rattle.blif_net.specs.Networks.{signal_value}
+use Rattle.cover_nets.specs.declared.net.Net.{Net}
+use Rattle.cover_nets.specs.declared.net.Output.{Output}
+use Rattle.cover_nets.specs.Bounds.{signal_count}
+use Rattle.cover_nets.specs.Networks.{signal_value}
 use Rattle.edge_bits.specs.declared.limits.TheConstants.{MOST_ROWS}
 use Rattle.function_laws.specs.declared.history.Entry.{Entry}
 use Rattle.net_reports.specs.Reports.{output_functions}

@@ -7,10 +7,10 @@ use Rattle.std.proofs.Math.Seq.{take-append_seam}
 use Rattle.std.proofs.lemmas.List.{length-map, length-replicate}
 use Rattle.std.proofs.lemmas.List.Elements.{All-map, All-nil}
 use Rattle.std.proofs.lemmas.Option.{none-some, same_Some, slice_get_within}
-use Rattle.blif_net.specs.declared.net.Net.{Net}
-use Rattle.blif_net.specs.declared.net.Output.{Output}
-use Rattle.blif_net.specs.Bounds.{IsBounded, signal_count}
-use Rattle.blif_net.specs.Networks.{signal_value}
+use Rattle.cover_nets.specs.declared.net.Net.{Net}
+use Rattle.cover_nets.specs.declared.net.Output.{Output}
+use Rattle.cover_nets.specs.Bounds.{IsBounded, signal_count}
+use Rattle.cover_nets.specs.Networks.{signal_value}
 use Rattle.function_laws.specs.declared.history.Name.{Name}
 use Rattle.function_laws.specs.declared.history.Entry.{Entry}
 use Rattle.net_builds.specs.declared.host.HostRefusal.{HostRefusal}

@@ -2,10 +2,10 @@
 use Rattle.std.proofs.Common.{◌≡◌, ℕ, zero, suc, ◌+◌, ◌<◌, Bool, true, false, cond, ◌&&◌, ◌||◌, not, List, [], ◌∷◌, length, get_or, drop, take, Option, Some, refl, sym, ap, subst, arith}
 use Rattle.std.specs.Prelude.{slice_get}
 use Rattle.std.proofs.lemmas.List.Folds.{list_any_more}
-use Rattle.blif_net.specs.declared.net.Cover.{Cover as Gate}
-use Rattle.blif_net.specs.declared.net.Cube.{Cube}
-use Rattle.blif_net.specs.declared.net.Literal.{Literal}
-use Rattle.blif_net.specs.Networks.{cover_value, fits, matches}
+use Rattle.cover_nets.specs.declared.net.Cover.{Cover as Gate}
+use Rattle.cover_nets.specs.declared.net.Cube.{Cube}
+use Rattle.cover_nets.specs.declared.net.Literal.{Literal}
+use Rattle.cover_nets.specs.Networks.{cover_value, fits, matches}
 use Rattle.function_laws.specs.declared.history.Name.{Name}
 use Rattle.function_laws.specs.Values.{disjunction, negation}
 use Rattle.net_builds.specs.Products.{Replaces, match_any, match_at, with_fit}

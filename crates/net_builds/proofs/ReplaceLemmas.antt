@@ -1,7 +1,7 @@
 -- Names that come in place of others.
 use Rattle.std.proofs.Common.{◌≡◌, ℕ, ◌<◌, Bool, ◌∙◌, arith, refl, subst, sym}
-use Rattle.blif_net.specs.declared.net.Literal.{Literal}
-use Rattle.blif_net.specs.declared.net.Literal.TheVariants.{Any}
+use Rattle.cover_nets.specs.declared.net.Literal.{Literal}
+use Rattle.cover_nets.specs.declared.net.Literal.TheVariants.{Any}
 use Rattle.function_laws.specs.declared.history.Name.{Name}
 use Rattle.net_builds.specs.Products.{Replaces, with_fit}
 use Rattle.net_builds.specs.Standings.{Holds, IsQuiet, LetsGo, Makes, Standing}

@@ -6,12 +6,12 @@ use Rattle.std.proofs.lemmas.Bool.{cases_lt, cases_order}
 use Rattle.std.proofs.lemmas.List.{get_or-set_same, get_or-set_other, length-set}
 use mathlib.Core.Logic.{dite}
 use native.Mathlib.Decide.{ℕ_discrete}
-use Rattle.blif_net.specs.declared.net.Net.{Net}
-use Rattle.blif_net.specs.Bounds.{signal_count}
-use Rattle.blif_net.specs.Networks.{cover_value, signal_value}
+use Rattle.cover_nets.specs.declared.net.Net.{Net}
+use Rattle.cover_nets.specs.Bounds.{signal_count}
+use Rattle.cover_nets.specs.Networks.{cover_value, signal_value}
 use Rattle.std.proofs.lemmas.Option.{get_or_from_slice_get, none-some, same_Some, slice_get-get_or, slice_get_within}
-use Rattle.blif_net.specs.declared.net.Cover.{Cover}
-use Rattle.blif_net.proofs.Values.{gate_is}
+use Rattle.cover_nets.specs.declared.net.Cover.{Cover}
+use Rattle.cover_nets.proofs.Values.{gate_is}
 use Rattle.net_builds.proofs.UseLemmas.{reads_before}
 use Rattle.function_laws.specs.declared.history.Entry.{Entry}
 use Rattle.function_laws.specs.declared.history.Name.{Name}

@@ -9,7 +9,7 @@ use Rattle.function_laws.specs.declared.history.Function.TheVariants.{Bdd}
 use Rattle.function_laws.specs.declared.history.Name.{Name}
 use Rattle.function_laws.specs.Lists.{truth}
 use Rattle.function_laws.proofs.ListLemmas.{truth-list_of}
-use Rattle.blif_net.specs.declared.net.Net.{Net}
+use Rattle.cover_nets.specs.declared.net.Net.{Net}
 use Rattle.diagram_dumps.specs.declared.listings.Listing.{Listing}
 use Rattle.net_reports.specs.Classes.{AreClasses}
 use Rattle.net_reports.specs.Evaluations.{assignment, evaluation_at, values_at}

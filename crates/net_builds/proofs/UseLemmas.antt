@@ -11,9 +11,9 @@ use Rattle.std.proofs.lemmas.List.Elements.{Contains-append_left, Contains-appen
 use mathlib.Core.Logic.{dite}
 use native.Mathlib.Decide.{ℕ_discrete}
 use Rattle.std.proofs.lemmas.List.{get_or-set_same, get_or-set_other, get_or-take, get_or_default, length-set, length-take-le, take_more}
-use Rattle.blif_net.specs.declared.net.Net.{Net}
-use Rattle.blif_net.specs.declared.net.Cover.{Cover}
-use Rattle.blif_net.specs.Networks.{IsOrdered}
+use Rattle.cover_nets.specs.declared.net.Net.{Net}
+use Rattle.cover_nets.specs.declared.net.Cover.{Cover}
+use Rattle.cover_nets.specs.Networks.{IsOrdered}
 use Rattle.net_builds.specs.Uses.{IsReader, KnowsReads, Raises}
 
 module _ (signals old last : List ℕ) (reader i noted : ℕ) (within : i < length signals) (below : All (λ signal. signal < length old) signals) (so_far : Raises (take i signals) reader old last)

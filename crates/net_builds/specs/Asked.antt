@@ -1,8 +1,8 @@
 -- What functions that call a manager ask of it and of a session, and what they leave. Each takes which sessions are the manager's.
 use Rattle.std.specs.Prelude.{◌≡◌, ℕ, ◌+◌, ◌≤◌, List, Option, Result, All, IfErr, length}
 use Rattle.function_laws.specs.declared.history.Entry.{Entry}
-use Rattle.blif_net.specs.declared.net.Net.{Net}
-use Rattle.blif_net.specs.Bounds.{IsBounded, signal_count}
+use Rattle.cover_nets.specs.declared.net.Net.{Net}
+use Rattle.cover_nets.specs.Bounds.{IsBounded, signal_count}
 use Rattle.edge_bits.specs.declared.limits.TheConstants.{MOST_ROWS}
 use Rattle.function_laws.specs.declared.history.Name.{Name}
 use Rattle.net_reports.specs.declared.classes.Class.{Class}

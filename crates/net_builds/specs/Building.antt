@@ -1,8 +1,8 @@
 -- The functions of a network's signals while they are built, in the order of the signals.
 use Rattle.std.specs.Prelude.{◌≡◌, ℕ, ◌<◌, ◌≤◌, nat_le, List, [], ◌∷◌, Option, Some, None, length, replicate, slice_index, slice_index_or, if◌then◌else◌}
-use Rattle.blif_net.specs.declared.net.Net.{Net}
-use Rattle.blif_net.specs.Bounds.{IsBounded, signal_count}
-use Rattle.blif_net.specs.Networks.{signal_value}
+use Rattle.cover_nets.specs.declared.net.Net.{Net}
+use Rattle.cover_nets.specs.Bounds.{IsBounded, signal_count}
+use Rattle.cover_nets.specs.Networks.{signal_value}
 use Rattle.function_laws.specs.declared.history.Entry.{Entry}
 use Rattle.function_laws.specs.declared.history.Name.{Name}
 use Rattle.net_builds.specs.declared.host.HostRefusal.{HostRefusal}

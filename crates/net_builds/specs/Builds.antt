@@ -1,7 +1,7 @@
 -- What sessions build, hand over and report.
 use Rattle.std.specs.Prelude.{◌≡◌, ℕ, ◌<◌, Bool, List, [], ◌∷◌, ◌++◌, All, drop, length, map, take}
 use Rattle.std.specs.List.{range_with_len}
-use Rattle.blif_net.specs.declared.net.Net.{Net}
+use Rattle.cover_nets.specs.declared.net.Net.{Net}
 use Rattle.function_laws.specs.declared.history.Entry.{Entry}
 use Rattle.function_laws.specs.declared.history.Name.{Name}
 use Rattle.function_laws.specs.EntryOrders.{EachWith, opening_orders, orders_from}

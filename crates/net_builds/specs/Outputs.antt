@@ -1,8 +1,8 @@
 -- Functions that are built by several sessions, and what is left where that was refused.
 use Rattle.std.specs.List.{AllZip}
 use Rattle.std.specs.Prelude.{◌≡◌, ◌⊎◌, ℕ, zero, suc, pred, ◌≤◌, ◌++◌, Bool, false, List, [], ◌∷◌, All, Contains, Option, Some, None, length}
-use Rattle.blif_net.specs.declared.net.Net.{Net}
-use Rattle.blif_net.specs.Bounds.{signal_count}
+use Rattle.cover_nets.specs.declared.net.Net.{Net}
+use Rattle.cover_nets.specs.Bounds.{signal_count}
 use Rattle.function_laws.specs.declared.history.Entry.{Entry}
 use Rattle.function_laws.specs.declared.history.Name.{Name}
 use Rattle.net_reports.specs.Reports.{output_functions}

@@ -1,9 +1,9 @@
 -- The functions that are made for a cover, and the names that come in place of others.
 use Rattle.std.specs.Prelude.{ℕ, ◌≤◌, Bool, ◌&&◌, List}
 use Rattle.std.specs.List.{list_any}
-use Rattle.blif_net.specs.declared.net.Cube.{Cube}
-use Rattle.blif_net.specs.declared.net.Literal.{Literal}
-use Rattle.blif_net.specs.Networks.{fits, matches}
+use Rattle.cover_nets.specs.declared.net.Cube.{Cube}
+use Rattle.cover_nets.specs.declared.net.Literal.{Literal}
+use Rattle.cover_nets.specs.Networks.{fits, matches}
 use Rattle.function_laws.specs.declared.history.Name.{Name}
 use Rattle.net_builds.specs.Standings.{Holds, KeepsOthers, Standing, Works}
 

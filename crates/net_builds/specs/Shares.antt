@@ -1,7 +1,7 @@
 -- The shares of several workers, and what is made of them.
 use Rattle.std.specs.Prelude.{◌≡◌, ℕ, suc, ◌+◌, ◌<◌, Bool, false, true, List, [], ◌∷◌, All, Contains, Option, Some, None, length, map, slice_get, slice_set}
-use Rattle.blif_net.specs.declared.net.Net.{Net}
-use Rattle.blif_net.specs.Bounds.{IsBounded}
+use Rattle.cover_nets.specs.declared.net.Net.{Net}
+use Rattle.cover_nets.specs.Bounds.{IsBounded}
 use Rattle.edge_bits.specs.declared.limits.TheConstants.{MOST_ROWS}
 use Rattle.function_laws.specs.declared.history.Entry.{Entry}
 use Rattle.function_laws.specs.declared.history.Name.{Name}

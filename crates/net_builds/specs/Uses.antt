@@ -1,8 +1,8 @@
 -- Which gates read the signals of a network.
 use Rattle.std.specs.Prelude.{◌≡◌, ◌≢◌, ◌⊎◌, ℕ, ◌+◌, ◌<◌, ◌≤◌, ◌^◌, List, All, Contains, Some, length, slice_get, slice_index}
-use Rattle.blif_net.specs.declared.net.Net.{Net}
-use Rattle.blif_net.specs.declared.net.Cover.{Cover}
-use Rattle.blif_net.specs.Bounds.{signal_count}
+use Rattle.cover_nets.specs.declared.net.Net.{Net}
+use Rattle.cover_nets.specs.declared.net.Cover.{Cover}
+use Rattle.cover_nets.specs.Bounds.{signal_count}
 
 -- each of the signals is noted as used by the reader or later, what is changed is one of them with the reader, and no other is
 pub record Raises (signals : List ℕ) (reader : ℕ) (old new : List ℕ) : Type 0 where

@@ -17,7 +17,7 @@ use crate::host::{Host, HostRefusal};
 use crate::letting::let_go_fetched;
 use crate::sharing::{Share, first_stop, let_go_shares};
 use crate::telling::{Telling, tell};
-use blif_net::Net;
+use cover_nets::Net;
 use edge_bits::{List, Memory};
 use function_laws::Name;
 use std::alloc::Global;

@@ -1,8 +1,8 @@
 //! The function of a cover, from the rows of the signals that it reads.
 
 ghost use Rattle.std.specs.Prelude.{◌≡◌, ◌≢◌, ◌<◌, Some, ℕ, Bool, IfOk, length, slice_get};
-ghost use Rattle.blif_net.specs.Networks.{cover_value};
-ghost use Rattle.blif_net.specs.declared.net.Literal.TheVariants.{Any};
+ghost use Rattle.cover_nets.specs.Networks.{cover_value};
+ghost use Rattle.cover_nets.specs.declared.net.Literal.TheVariants.{Any};
 ghost use Rattle.function_laws.specs.Values.{conjunction, disjunction, negation};
 ghost use Rattle.net_builds.specs.Asked.{ComesBack, MayMakeRows, TakesOver};
 ghost use Rattle.net_builds.specs.Products.{Replaces, match_any, match_at, with_fit};
@@ -10,7 +10,7 @@ ghost use Rattle.net_builds.specs.Signals.{HaveRows, HaveValues};
 ghost use Rattle.net_builds.specs.Standings.{Holds, IsHeld, Makes};
 
 use crate::host::{Host, HostRefusal};
-use blif_net::{Cover, Cube, Literal};
+use cover_nets::{Cover, Cube, Literal};
 use function_laws::Name;
 
 /// The row of a signal.

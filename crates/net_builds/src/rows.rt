@@ -1,7 +1,7 @@
 //! The rows of a network's signals, made and let go in the order of the signals.
 
 ghost use Rattle.std.specs.Prelude.{◌≡◌, ◌+◌, ◌<◌, ◌≤◌, ◌^◌, length, slice_index_or, All, IfOk, IsSome, ℕ, Some};
-ghost use Rattle.blif_net.specs.Bounds.{signal_count};
+ghost use Rattle.cover_nets.specs.Bounds.{signal_count};
 ghost use Rattle.edge_bits.specs.declared.limits.TheConstants.{MOST_SESSIONS};
 ghost use Rattle.net_builds.specs.Building.{AreEnded, BuildsTo, IsEndedAt, ended, row_at};
 ghost use Rattle.net_builds.specs.Asked.{HasBuilt, HasEnded, StaysBuilt};
@@ -10,7 +10,7 @@ use crate::host::{Host, HostRefusal};
 use crate::products::cover;
 use crate::uses::TO_THE_END;
 use crate::worker::Worker;
-use blif_net::Net;
+use cover_nets::Net;
 use function_laws::Name;
 
 /// Makes the row of an input, if it is needed.

@@ -1,7 +1,7 @@
 //! The shares of several workers: each builds some of a network's outputs.
 
 ghost use Rattle.std.specs.Prelude.{◌≡◌, ◌<◌, ◌≤◌, [], All, None, length, map};
-ghost use Rattle.blif_net.specs.Bounds.{signal_count};
+ghost use Rattle.cover_nets.specs.Bounds.{signal_count};
 ghost use Rattle.edge_bits.specs.declared.limits.TheConstants.{MOST_SESSIONS};
 ghost use Rattle.net_builds.specs.Asked.{MayBuild};
 ghost use Rattle.net_builds.specs.Outputs.{IsShared, wanted_of};
@@ -11,7 +11,7 @@ use crate::host::{Host, HostRefusal};
 use crate::letting::let_go_rows;
 use crate::signals::{Outputs, build_outputs, no_outputs};
 use crate::worker::Worker;
-use blif_net::Net;
+use cover_nets::Net;
 use std::alloc::Global;
 
 /// What a worker made: its outputs, or why it was refused and has none.

@@ -1,7 +1,7 @@
 //! The functions of the outputs of a network that one worker builds.
 
 ghost use Rattle.std.specs.Prelude.{◌≡◌, ◌<◌, ◌≤◌, [], All, length, map, replicate, IfErr, IfOk, None, ℕ};
-ghost use Rattle.blif_net.specs.Bounds.{IsBounded, signal_count};
+ghost use Rattle.cover_nets.specs.Bounds.{IsBounded, signal_count};
 ghost use Rattle.edge_bits.specs.declared.limits.TheConstants.{MOST_SESSIONS};
 ghost use Rattle.net_builds.specs.Building.{IsBegun, IsBuilt, ended};
 ghost use Rattle.net_builds.specs.Asked.{MayBuild, StaysBuilt};
@@ -14,7 +14,7 @@ use crate::letting::let_go_rows;
 use crate::rows::{let_go_ended, make_inputs, make_outputs, note_names};
 use crate::uses::last_uses;
 use crate::worker::Worker;
-use blif_net::Net;
+use cover_nets::Net;
 use edge_bits::Memory;
 use function_laws::Name;
 use std::alloc::{AllocError, Global};

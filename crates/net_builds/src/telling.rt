@@ -11,7 +11,7 @@ ghost use Rattle.net_builds.specs.declared.telling.Telling.TheVariants.{Report, 
 ghost use Rattle.net_builds.specs.Tellings.{evaluation_in, value_in, values_in};
 
 use crate::host::Host;
-use blif_net::Net;
+use cover_nets::Net;
 use diagram_dumps::{Dump, Listing};
 use edge_bits::{List, Memory};
 use function_laws::Name;

@@ -1,11 +1,11 @@
 //! The last gate that reads each signal of a network, of the gates that some outputs need.
 
 ghost use Rattle.std.specs.Prelude.{◌≡◌, ◌≢◌, ◌⊎◌, ◌+◌, ◌<◌, ◌≤◌, ◌^◌, length, replicate, slice_index, All, IfOk, ℕ};
-ghost use Rattle.blif_net.specs.Bounds.{signal_count};
-ghost use Rattle.blif_net.specs.Networks.{IsOrdered};
+ghost use Rattle.cover_nets.specs.Bounds.{signal_count};
+ghost use Rattle.cover_nets.specs.Networks.{IsOrdered};
 ghost use Rattle.net_builds.specs.Uses.{AreLastUses, IsReader, KnowsReads, Raises};
 
-use blif_net::Net;
+use cover_nets::Net;
 use edge_bits::Memory;
 use std::alloc::{AllocError, Global};
 

@@ -6,12 +6,12 @@ use lib.ListN.{get_elem?}
 use Rattle.std.proofs.Math.Seq.{drop-append_seam}
 use Rattle.std.proofs.lemmas.List.{append-nil}
 use Rattle.std.proofs.lemmas.List.Elements.{All-cons, All-head, All-map, All-nil, All-push, All-tail, All-weaker}
-use Rattle.blif_net.specs.declared.net.Net.{Net}
+use Rattle.cover_nets.specs.declared.net.Net.{Net}
 use Rattle.blif_net.specs.Networks.{IsBlifText}
 use Rattle.command_words.specs.declared.order.Options.{Options}
 use Rattle.std.specs.List.{range_with_len}
 use Rattle.diagram_dumps.specs.declared.dump.Dump.{Dump}
-use Rattle.net_reports.specs.GenTexts.{gen_text}
+use Rattle.adder_texts.specs.GenTexts.{gen_text}
 use Rattle.function_laws.specs.declared.history.Entry.{Entry}
 use Rattle.function_laws.specs.SessionEntries.{Each, entries_of}
 use Rattle.function_laws.specs.Sizes.{Orders}

@@ -2,8 +2,8 @@
 use Rattle.std.proofs.Common.{◌≡◌, ℕ, suc, ◌+◌, List, [], ◌∷◌, ◌++◌, Bool, Result, Ok, Err, IfErr, IfOk, append-nil, length, length-append, map, slice_index_or, slice_set, All, refl, sym, ap, subst, ◌∙◌, arith}
 use Rattle.std.proofs.lemmas.List.{length-map, map-append}
 use Rattle.std.proofs.lemmas.List.Elements.{All-cons, All-head, All-nil, All-tail}
-use Rattle.blif_net.specs.declared.net.Net.{Net}
-use Rattle.blif_net.specs.Bounds.{signal_count}
+use Rattle.cover_nets.specs.declared.net.Net.{Net}
+use Rattle.cover_nets.specs.Bounds.{signal_count}
 use Rattle.function_laws.specs.declared.history.Entry.{Entry}
 use Rattle.dd_session.specs.declared.answers.Full.{Full}
 use Rattle.dd_session.specs.Managing.{Managed, Seen}

@@ -7,7 +7,7 @@ use Rattle.edge_bits.specs.declared.limits.TheConstants.{LONGEST_TEXT, USUAL_LIM
 use Rattle.blif_net.specs.declared.faults.BlifFault.{BlifFault}
 use Rattle.blif_net.specs.declared.faults.FaultKind.{FaultKind as BlifKind}
 use Rattle.blif_net.specs.declared.faults.FaultKind.TheVariants as blif_kinds
-use Rattle.blif_net.specs.declared.net.Net.{Net}
+use Rattle.cover_nets.specs.declared.net.Net.{Net}
 use Rattle.blif_net.specs.Faults.{fault_of}
 use Rattle.blif_net.specs.Networks.{IsBlifText}
 use Rattle.command_words.specs.declared.order.Options.{Options}
@@ -27,7 +27,7 @@ use Rattle.job_text.specs.Grammar.{IsJobText}
 use Rattle.job_text.specs.Faults.{IsFaultText}
 use Rattle.job_text.specs.Histories.{IsPlayed}
 use Rattle.byte_streams.specs.Causes.{FaultsRose}
-use Rattle.net_reports.specs.GenTexts.{gen_text}
+use Rattle.adder_texts.specs.GenTexts.{gen_text}
 use Rattle.net_builds.specs.Builds.{IsAs}
 use Rattle.net_builds.specs.Sifting.{sifted_order}
 use Rattle.net_builds.specs.declared.telling.Telling.{Telling}

@@ -1,8 +1,8 @@
 -- What the workers of a network ask of their sessions.
 use Rattle.std.specs.Prelude.{◌≡◌, ℕ, ◌+◌, ◌≤◌, List, All, length}
 use Rattle.edge_bits.specs.declared.limits.TheConstants.{MOST_SESSIONS}
-use Rattle.blif_net.specs.declared.net.Net.{Net}
-use Rattle.blif_net.specs.Bounds.{IsBounded}
+use Rattle.cover_nets.specs.declared.net.Net.{Net}
+use Rattle.cover_nets.specs.Bounds.{IsBounded}
 use Rattle.dd_session.specs.Managing.{Managed, Seen}
 use Rattle.net_builds.specs.declared.worker.Worker.{Worker}
 use Rattle.net_jobs.specs.Networks.{IsFreshOf}

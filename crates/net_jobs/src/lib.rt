@@ -19,12 +19,12 @@ mod status;
 mod top;
 mod workers;
 
+pub use adder_texts::gen_text;
 pub use byte_streams::{Bytes, Discard, Failed, Pieces, Sink, Source, SureBytes};
 pub use command_words::Options;
 pub use diagrams::load;
 pub use gate::{Gate, Open};
 pub use hosting::SessionHost;
-pub use net_reports::gen_text;
 pub use networks::{PartStop, build, generate};
 pub use playing::play;
 pub use said::Said;

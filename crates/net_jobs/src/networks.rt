@@ -2,14 +2,14 @@
 
 ghost use Rattle.std.specs.Prelude.{◌≡◌, ◌⊎◌, ◌+◌, ◌*◌, ◌≤◌, [], false, true, length, map, All, IfErr, IfOk};
 ghost use Rattle.edge_bits.specs.declared.limits.TheConstants.{MOST_BITS, MOST_LIMIT, MOST_SESSIONS, MOST_VARIABLES};
-ghost use Rattle.blif_net.specs.Bounds.{IsBounded};
-ghost use Rattle.blif_net.specs.declared.net.Net.{Net as NetOf};
+ghost use Rattle.cover_nets.specs.Bounds.{IsBounded};
+ghost use Rattle.cover_nets.specs.declared.net.Net.{Net as NetOf};
 ghost use Rattle.blif_net.specs.Networks.{IsBlifText};
 ghost use Rattle.net_builds.specs.Builds.{AreUnsifted, Builds, IsAs, TellsOf};
 ghost use Rattle.net_builds.specs.Outputs.{AreRefused};
 ghost use Rattle.net_builds.specs.Sifting.{BuildsSifted};
 ghost use Rattle.net_builds.specs.declared.telling.Telling.TheVariants.{Summary};
-ghost use Rattle.net_reports.specs.GenTexts.{gen_text};
+ghost use Rattle.adder_texts.specs.GenTexts.{gen_text};
 ghost use Rattle.net_reports.specs.Reports.{IsSummary, net_subject, output_functions};
 ghost use Rattle.net_jobs.specs.Ends.{order_for, rising, telling_of};
 ghost use Rattle.net_jobs.specs.Hosts.{TellsFullOf, standing_of};
@@ -18,6 +18,7 @@ ghost use Rattle.net_jobs.specs.Networks.{IsFilledBy, IsFreshOf, IsOpenedFor};
 use crate::gate::Gate;
 use crate::hosting::SessionHost;
 use crate::workers::built_shares;
+use adder_texts::gen_text;
 use blif_net::{BlifError, Net, networks_are_bounded, read, texts_have_one_reading};
 use command_words::Options;
 use dd_session::{Config, Full, Manager, OpenFault, Session};
@@ -25,7 +26,6 @@ use edge_bits::{List, Memory, USUAL_LIMIT};
 use net_builds::{
     HostRefusal, Telling, finish_network, sifted_tellings_are_true, tellings_are_true,
 };
-use net_reports::gen_text;
 use std::alloc::Global;
 use std::hash::RandomState;
 use std::random::RandomSource;

@@ -1,7 +1,7 @@
 //! The workers of a network: each builds its share of the outputs by a session of its own, in a thread of its own.
 
 ghost use Rattle.std.specs.Prelude.{◌≡◌, ◌<◌, ◌≤◌, All, IfErr, IfOk, length, map};
-ghost use Rattle.blif_net.specs.Bounds.{IsBounded};
+ghost use Rattle.cover_nets.specs.Bounds.{IsBounded};
 ghost use Rattle.edge_bits.specs.declared.limits.TheConstants.{MOST_SESSIONS};
 ghost use denote.Param.Send.{IsSync};
 ghost use Rattle.net_builds.specs.Outputs.{AreShared};

@@ -1,5 +1,3 @@
-mod AdderNames
-mod Adders
 mod Evaluated
 mod Firsts
 mod Padding

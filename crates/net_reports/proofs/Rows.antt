@@ -1,7 +1,6 @@
 -- Worked texts, computed.
 use Rattle.std.proofs.Common.{◌≡◌, true, false, [], ◌∷◌, codes, refl}
 use Rattle.std.specs.Fmt.{digits}
-use Rattle.net_reports.specs.GenTexts.{carry_cover, complement_cover, gen_text, sum_cover, zeros_cover}
 use Rattle.net_reports.specs.Reports.{report_text, summary_text}
 
 -- an exclusive or
@@ -26,7 +25,3 @@ nothing = refl
 summed : summary_text 16 25 9 39 ≡ codes "inputs 16\noutputs 25\nclasses 9\nnodes 39\n"
 unfolding summary_text digits
 summed = refl
-
-gen_one : gen_text 1 ≡ codes ".model gen\n.inputs a0 b0\n.outputs s0 d0 n0 c1\n.names c0\n.names a0 b0 c0 s0\n001 1\n010 1\n100 1\n111 1\n.names a0 b0 c0 d0\n000 0\n011 0\n101 0\n110 0\n.names s0 n0\n0 1\n.names a0 b0 c0 c1\n11- 1\n1-1 1\n-11 1\n.end\n"
-unfolding gen_text sum_cover zeros_cover complement_cover carry_cover digits
-gen_one = refl

@@ -1,6 +1,6 @@
 -- Texts, written one after another.
-use Rattle.std.proofs.Common.{◌≡◌, ℕ, zero, suc, ◌+◌, ◌<◌, ◌≤◌, false, append_assoc, codes, min, List, [], ◌∷◌, ◌++◌, length, get_or, map, take, sym, ap, ◌∙◌, arith}
-use Rattle.std.specs.List.{enumerate_from, flat_map, range_with_len, zip}
+use Rattle.std.proofs.Common.{◌≡◌, ℕ, ◌+◌, ◌<◌, ◌≤◌, false, codes, min, List, [], ◌∷◌, ◌++◌, length, get_or, map, take, sym, ap, ◌∙◌, arith}
+use Rattle.std.specs.List.{enumerate_from, flat_map, zip}
 use Rattle.std.specs.Fmt.{decimal}
 use Rattle.std.proofs.lemmas.List.{flat_map_more, get_or-map, take_all, take_more}
 use Rattle.std.proofs.lemmas.List.FromFn.{get_or-enumerate_from, get_or-map-range_with_len, length-enumerate_from, length-map-range_with_len}
@@ -8,20 +8,7 @@ use Rattle.std.proofs.lemmas.Slice.Zip.{get_or-zip, length-zip}
 use Rattle.net_reports.specs.Reports.{count_line, out_line, out_lines, report_text, rest_text, root_names}
 use Rattle.net_reports.specs.declared.classes.Class.{Class}
 use Rattle.net_reports.specs.declared.patterns.Evaluation.{Evaluation}
-use Rattle.blif_net.specs.declared.net.Output.{Output}
-
--- one more number
-range_more : (from n j : ℕ) → from + n ≡ j → range_with_len from (suc n) ≡ range_with_len from n ++ j ∷ []
-range_more from zero j e = let same : from ≡ j = omega (arith, e) in ap (λ i. i ∷ []) same
-range_more from (suc n) j e = ap (λ (rest : List ℕ). from ∷ rest) (range_more (from + 1) n j (omega (arith, e)))
-
-pub one_more_number : (f : ℕ → List ℕ) (n : ℕ) (start before after : List ℕ) → before ≡ start ++ flat_map f (range_with_len 0 n) → after ≡ before ++ f n
-    → after ≡ start ++ flat_map f (range_with_len 0 (n + 1))
-one_more_number f n start before after so_far next =
-    let more : suc n ≡ n + 1 = omega arith in
-    next ∙ ap (λ text. text ++ f n) so_far ∙ flat_map_more f start (range_with_len 0 n) n
-    ∙ ap (λ numbers. start ++ flat_map f numbers) (sym (range_more 0 n n (omega arith)))
-    ∙ ap (λ count. start ++ flat_map f (range_with_len 0 count)) more
+use Rattle.cover_nets.specs.declared.net.Output.{Output}
 
 -- one more element
 one_more : {X : Type 0} (f : X → List ℕ) (xs : List X) (i : ℕ) (d : X) (start before after : List ℕ) → i < length xs
@@ -94,8 +81,3 @@ roots_reported inputs outputs count nodes classes evaluations order first second
     last ∙ ap (λ (before : List ℕ). before ++ rest) (listed ∙ ap (λ (before : List ℕ). before ++ out_lines (root_names (length classes)) classes) counted)
     ∙ ap (λ n. head n ++ out_lines (root_names (length classes)) classes ++ rest) (as_many ∙ sym (length-root_names count))
     ∙ ap (λ n. head (length (root_names count)) ++ out_lines (root_names n) classes ++ rest) many
-
--- the names of a bit's outputs
-pub bit_outputs : (sum zeros complement : List ℕ)
-    → 32 ∷ 115 ∷ (sum ++ 32 ∷ 100 ∷ (zeros ++ 32 ∷ 110 ∷ complement)) ≡ (32 ∷ 115 ∷ sum) ++ (32 ∷ 100 ∷ zeros) ++ (32 ∷ 110 ∷ complement)
-bit_outputs sum zeros complement = simp append_assoc

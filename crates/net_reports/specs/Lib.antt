@@ -2,4 +2,3 @@ pub mod Classes
 pub mod RootClasses
 pub mod Evaluations
 pub mod Reports
-pub mod GenTexts

@@ -4,8 +4,8 @@ use Rattle.std.specs.List.{enumerate_from, flat_map, range_with_len, zip}
 use Rattle.std.specs.Fmt.{decimal}
 use Rattle.function_laws.specs.Kinds.{BddFunction}
 use Rattle.function_laws.specs.Sizes.{size}
-use Rattle.blif_net.specs.declared.net.Net.{Net}
-use Rattle.blif_net.specs.Networks.{signal_value}
+use Rattle.cover_nets.specs.declared.net.Net.{Net}
+use Rattle.cover_nets.specs.Networks.{signal_value}
 use Rattle.diagram_dumps.specs.declared.dump.Dump.{Dump}
 use Rattle.dddmp_text.specs.Written.{written}
 use Rattle.diagram_dumps.specs.declared.listings.Listing.{Listing}

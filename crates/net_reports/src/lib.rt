@@ -2,14 +2,12 @@
 #![tactic(auto)]
 
 mod classes;
-mod generated;
 mod lines;
 mod patterns;
 mod reports;
 mod storing;
 
 pub use classes::{Class, classes_of};
-pub use generated::gen_text;
 pub use patterns::{Evaluation, padded};
 pub use reports::{dump_report, report, summary};
 pub use storing::stored;

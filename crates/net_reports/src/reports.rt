@@ -10,7 +10,7 @@ ghost use Rattle.net_reports.specs.RootClasses.{root_functions};
 use crate::classes::Class;
 use crate::lines::{put_count, put_evaluation, put_order, put_output};
 use crate::patterns::Evaluation;
-use blif_net::{Net, Output};
+use cover_nets::{Net, Output};
 use diagram_dumps::Dump;
 use edge_bits::Memory;
 use std::alloc::{AllocError, Global};

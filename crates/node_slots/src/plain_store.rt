@@ -31,8 +31,15 @@ pub enum Refused {
     Leaf(i64),
 }
 
-/// As many answers as a store remembers across operations.
-const REMEMBERED: u32 = 65_536;
+/// As many answers as every store remembers across operations.
+const LEAST_REMEMBERED: u32 = 65_536;
+
+/// The number of answers that a store with so many slots remembers across operations: the least power of two above an eighth of the slots, and 65,536 at least.
+fn remembered(slots: u32) -> u32
+    ensures { LEAST_REMEMBERED ≤ result }
+{
+    (slots / 8 + 1).max(LEAST_REMEMBERED).next_power_of_two()
+}
 
 /// A store in one vector of words. It finds a node or a leaf by its word in one unique table, and remembers answers of operations in a computed table.
 #[derive(Drop)]
@@ -289,7 +296,7 @@ impl PlainStore {
         let nodes = NodeTable::new(alloc, vars, limit)?;
         let counts = CountTable::new(alloc, limit)?;
         let notes = SlotNotes::new(alloc, limit)?;
-        let memo = Memo::new(alloc, REMEMBERED)?;
+        let memo = Memo::new(alloc, remembered(limit))?;
         Ok(PlainStore {
             alloc,
             variable_levels,

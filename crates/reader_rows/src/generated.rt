@@ -1,8 +1,8 @@
 //! The generated networks are read.
 
+use adder_texts::gen_text;
 use blif_net::{BlifError, Net, read};
 use edge_bits::Memory;
-use net_reports::gen_text;
 use std::hash::RandomState;
 use std::io;
 use std::random::RandomSource;

@@ -1,6 +1,6 @@
 use Rattle.std.proofs.Common.{◌∙◌, false, List, ap, get_or, length, map, set, subst, sym}
 use Rattle.std.proofs.lemmas.List.Elements.{All-set}
-use Rattle.blif_net.specs.declared.net.Output.{Output}
+use Rattle.cover_nets.specs.declared.net.Output.{Output}
 use Rattle.net_reports.specs.Reports.{output_functions}
 use Rattle.net_builds.specs.Asked.{MayReport}
 use Rattle.net_builds.specs.Builds.{TellsOf}

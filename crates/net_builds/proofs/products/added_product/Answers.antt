@@ -1,5 +1,5 @@
 use Rattle.std.proofs.Common.{ℕ, Bool, IfOk, List, arith, subst}
-use Rattle.blif_net.specs.declared.net.Literal.{Literal}
+use Rattle.cover_nets.specs.declared.net.Literal.{Literal}
 use Rattle.function_laws.specs.Values.{disjunction}
 use Rattle.net_builds.specs.Products.{match_at}
 use Rattle.net_builds.specs.Signals.{HaveValues}

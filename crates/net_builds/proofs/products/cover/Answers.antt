@@ -1,5 +1,5 @@
 use Rattle.std.proofs.Common.{ℕ, Bool, arith}
-use Rattle.blif_net.specs.Networks.{cover_value}
+use Rattle.cover_nets.specs.Networks.{cover_value}
 use Rattle.function_laws.specs.Values.{negation}
 use Rattle.net_builds.specs.Products.{match_any}
 use Rattle.net_builds.specs.Signals.{HaveValues}

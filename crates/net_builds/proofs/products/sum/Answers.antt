@@ -1,6 +1,6 @@
 use Rattle.std.proofs.Common.{◌≡◌, ◌∙◌, List, ap, arith, length, subst, sym, take}
 use Rattle.std.proofs.Math.Seq.{take-length}
-use Rattle.blif_net.specs.declared.net.Cube.{Cube}
+use Rattle.cover_nets.specs.declared.net.Cube.{Cube}
 use Rattle.std.proofs.lemmas.Result.{err_from_is_err_and}
 use Rattle.net_builds.specs.Products.{match_any}
 use Rattle.net_builds.specs.Standings.{Makes}

@@ -1,5 +1,5 @@
 use Rattle.std.proofs.Common.{ℕ, Bool, IfOk, subst, sym}
-use Rattle.blif_net.specs.declared.net.Literal.{Literal}
+use Rattle.cover_nets.specs.declared.net.Literal.{Literal}
 use Rattle.net_builds.specs.Products.{with_fit}
 use Rattle.net_builds.specs.Standings.{Holds, Makes}
 use Rattle.net_builds.proofs.products.with_factor.Goals as goal

@@ -1,5 +1,5 @@
 use Rattle.std.proofs.Common.{◌≡◌, ℕ, Bool, arith, rules}
-use Rattle.blif_net.specs.declared.net.Literal.TheVariants.{Any}
+use Rattle.cover_nets.specs.declared.net.Literal.TheVariants.{Any}
 use Rattle.net_builds.specs.Products.{Replaces, with_fit}
 use Rattle.net_builds.specs.Standings.{Holds, Makes}
 use Rattle.net_builds.proofs.BackLemmas.{ok_weaker, takes_none, takes_over}

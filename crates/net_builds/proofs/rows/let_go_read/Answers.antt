@@ -1,5 +1,5 @@
 use Rattle.std.proofs.Common.{◌+◌, arith}
-use Rattle.blif_net.specs.Networks.{signal_value}
+use Rattle.cover_nets.specs.Networks.{signal_value}
 use Rattle.net_builds.proofs.StandingLemmas.{holds_live}
 use Rattle.net_builds.proofs.SignalSteps.{builds_none, built_gone}
 use Rattle.net_builds.proofs.rows.let_go_read.Goals as goal

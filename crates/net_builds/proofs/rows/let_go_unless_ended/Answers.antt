@@ -1,5 +1,5 @@
 use Rattle.std.proofs.Common.{arith}
-use Rattle.blif_net.specs.Networks.{signal_value}
+use Rattle.cover_nets.specs.Networks.{signal_value}
 use Rattle.net_builds.specs.Building.{ended}
 use Rattle.net_builds.proofs.OutputNames.{ended_step}
 use Rattle.net_builds.proofs.SignalSteps.{builds_none}

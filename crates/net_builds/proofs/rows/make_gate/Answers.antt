@@ -2,9 +2,9 @@ use Rattle.std.proofs.Common.{◌≡◌, ◌-◌, ◌+◌, ◌<◌, ℕ, List, l
 use Rattle.std.specs.Prelude.{slice_get}
 use Rattle.std.proofs.Math.ListN.{set}
 use Rattle.std.proofs.lemmas.Option.{slice_get-get_or}
-use Rattle.blif_net.specs.declared.net.Cover.{Cover}
-use Rattle.blif_net.specs.Bounds.{signal_count}
-use Rattle.blif_net.specs.Networks.{cover_value, signal_value}
+use Rattle.cover_nets.specs.declared.net.Cover.{Cover}
+use Rattle.cover_nets.specs.Bounds.{signal_count}
+use Rattle.cover_nets.specs.Networks.{cover_value, signal_value}
 use Rattle.std.proofs.lemmas.Result.{err_from_is_err_and}
 use Rattle.net_builds.specs.Building.{BuildsTo}
 use Rattle.net_builds.specs.Signals.{HaveValues}

@@ -1,6 +1,6 @@
 use Rattle.std.proofs.Common.{◌≡◌, arith}
-use Rattle.blif_net.specs.Networks.{signal_value}
-use Rattle.blif_net.proofs.Values.{input_is}
+use Rattle.cover_nets.specs.Networks.{signal_value}
+use Rattle.cover_nets.proofs.Values.{input_is}
 use Rattle.function_laws.specs.Values.{projection}
 use Rattle.std.proofs.lemmas.Result.{err_from_is_err_and}
 use Rattle.net_builds.proofs.SignalSteps.{builds_unused, built_made, left_kept}

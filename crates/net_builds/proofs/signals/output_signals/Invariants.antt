@@ -1,5 +1,5 @@
 use Rattle.std.proofs.Common.{◌≡◌, ◌++◌, drop, map}
-use Rattle.blif_net.specs.declared.net.Output.{Output}
+use Rattle.cover_nets.specs.declared.net.Output.{Output}
 use Rattle.net_builds.specs.Outputs.{share}
 use Rattle.net_builds.proofs.signals.output_signals.Given as goal
 

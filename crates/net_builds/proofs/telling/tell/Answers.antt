@@ -1,7 +1,7 @@
 use Rattle.std.proofs.Common.{ℕ, ◌∙◌, Bool, List, subst, sym}
 use Rattle.std.specs.Global.{Vec}
 use Rattle.std.proofs.lemmas.List.{length-map}
-use Rattle.blif_net.specs.declared.net.Output.{Output}
+use Rattle.cover_nets.specs.declared.net.Output.{Output}
 use Rattle.net_builds.specs.Builds.{TellsOf}
 use Rattle.net_builds.specs.Handings.{IsTold}
 use Rattle.net_builds.specs.declared.telling.Telling.{Telling}

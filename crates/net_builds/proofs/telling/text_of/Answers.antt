@@ -4,7 +4,7 @@ use Rattle.std.proofs.lemmas.List.FromFn.{length-range_with_len}
 use Rattle.std.specs.List.{range_with_len}
 use Rattle.std.specs.Fmt.{decimal}
 use Rattle.std.specs.Prelude.{codes}
-use Rattle.blif_net.specs.declared.net.Output.{Output}
+use Rattle.cover_nets.specs.declared.net.Output.{Output}
 use Rattle.net_builds.specs.Builds.{names_of}
 use Rattle.net_builds.specs.declared.telling.Reported.{Reported}
 use Rattle.net_builds.proofs.telling.text_of.Goals as goal

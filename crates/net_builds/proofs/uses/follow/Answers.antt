@@ -1,5 +1,5 @@
 use Rattle.std.proofs.Common.{◌≡◌, ◌<◌, ◌+◌, ◌-◌, ◌∙◌, ap, arith, subst, sym, length, All, List, ℕ, get_or}
-use Rattle.blif_net.specs.declared.net.Cover.{Cover}
+use Rattle.cover_nets.specs.declared.net.Cover.{Cover}
 use Rattle.net_builds.specs.Uses.{Raises}
 use Rattle.net_builds.proofs.UseLemmas.{follows-more, reads_before, told-more}
 use Rattle.net_builds.proofs.uses.follow.Goals as goal

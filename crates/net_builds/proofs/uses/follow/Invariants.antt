@@ -1,7 +1,7 @@
 use Rattle.std.proofs.Common.{◌≡◌, ◌≢◌, ◌≤◌, length, ℕ, slice_index}
 use Rattle.std.specs.Prelude.{◌⊎◌}
 use Rattle.net_builds.specs.Uses.{IsReader, KnowsReads}
-use Rattle.blif_net.specs.Bounds.{signal_count}
+use Rattle.cover_nets.specs.Bounds.{signal_count}
 use Rattle.net_builds.proofs.uses.follow.Given as goal
 
 abbrev pub invariant-loop-left : goal.invariant-loop-left

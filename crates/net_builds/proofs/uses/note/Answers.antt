@@ -1,5 +1,5 @@
 use Rattle.std.proofs.Common.{ℕ, List, subst, arith, get_or}
-use Rattle.blif_net.specs.Bounds.{signal_count}
+use Rattle.cover_nets.specs.Bounds.{signal_count}
 use Rattle.net_builds.specs.Uses.{Raises}
 use Rattle.net_builds.proofs.UseLemmas.{told-own}
 use Rattle.net_builds.proofs.uses.note.Goals as goal

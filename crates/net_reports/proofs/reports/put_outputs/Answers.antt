@@ -1,7 +1,7 @@
 use Rattle.std.proofs.Common.{◌≡◌, ◌++◌, ◌∙◌, ap, arith, length, map, List, ℕ}
 use Rattle.std.specs.List.{flat_map}
 use Rattle.std.proofs.lemmas.List.{length-map}
-use Rattle.blif_net.specs.declared.net.Output.{Output}
+use Rattle.cover_nets.specs.declared.net.Output.{Output}
 use Rattle.net_reports.specs.declared.classes.Class.{Class}
 use Rattle.net_reports.proofs.Texts.{all_numbered, numbered_line, one_more_output, output_name}
 use Rattle.net_reports.proofs.reports.put_outputs.Goals as goal

@@ -1,11 +1,11 @@
 use Rattle.std.proofs.Common.{◌≡◌, ◌*◌, ℕ, List, arith, length, string_bytes, subst, sym}
 use Rattle.std.proofs.lemmas.Grind.{common_steps}
-use Rattle.blif_net.specs.declared.net.Net.{Net}
+use Rattle.cover_nets.specs.declared.net.Net.{Net}
 use Rattle.blif_net.specs.Networks.{IsBlifText}
-use Rattle.net_reports.specs.GenTexts.{bit_covers, gen_text}
-use Rattle.net_reports.proofs.AdderNames.{generated_net}
-use Rattle.net_reports.proofs.Texts.{one_more_number}
-use Rattle.net_reports.proofs.generated.gen_text.Goals as goal
+use Rattle.adder_texts.specs.GenTexts.{bit_covers, gen_text}
+use Rattle.adder_texts.proofs.AdderNames.{generated_net}
+use Rattle.adder_texts.proofs.Texts.{one_more_number}
+use Rattle.adder_texts.proofs.gen_text.Goals as goal
 
 pub loop-bit-preserved : goal.loop-bit-preserved
 loop-bit-preserved c =

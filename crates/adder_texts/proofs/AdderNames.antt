@@ -12,7 +12,7 @@ use Rattle.std.proofs.lemmas.Slice.Eq.{bytes_eq-Decides}
 use Rattle.edge_bits.specs.declared.limits.TheConstants.{MOST_BITS}
 use Rattle.job_words.specs.Text.{is_among}
 use Rattle.blif_models.specs.Circuits.{Cover, Row, defined_in, some_again}
-use Rattle.blif_net.specs.declared.net.Net.{Net}
+use Rattle.cover_nets.specs.declared.net.Net.{Net}
 use Rattle.blif_net.specs.Networks.{IsBlifText}
 use Rattle.job_words.specs.Text.{Word}
 use Rattle.blif_net.specs.Circuits.{is_literal}
@@ -20,8 +20,8 @@ use Rattle.blif_net.proofs.Undefining.{front_among}
 use Rattle.blif_net.proofs.Written.{all_weaker, is_plain, is_plain_word, no_end, plain_from}
 use Rattle.blif_net.proofs.WrittenCircuits.{AreNextCovers, AreRowsFor, IsNextCover, IsRowFor, IsWritable}
 use Rattle.blif_net.proofs.WrittenNets.{net_written}
-use Rattle.net_reports.specs.GenTexts.{gen_text}
-use Rattle.net_reports.proofs.Adders.{a_at, adder, adder_inputs, adder_text, b_at, bit_outputs, c_at, carry_at, complement_at, cover_of, covers_at, d_at, n_at, no_carry, numbered_name, row_at, s_at, sum_at, three_bits, zeros_at}
+use Rattle.adder_texts.specs.GenTexts.{gen_text}
+use Rattle.adder_texts.proofs.Adders.{a_at, adder, adder_inputs, adder_text, b_at, bit_outputs, c_at, carry_at, complement_at, cover_of, covers_at, d_at, n_at, no_carry, numbered_name, row_at, s_at, sum_at, three_bits, zeros_at}
 
 -- numbers of bits are small
 in_range : (i : ℕ) → i ≤ MOST_BITS → i < 2 ^ 64

@@ -1,8 +1,8 @@
 use Rattle.std.proofs.Common.{◌++◌, ◌∙◌, ap, string_bytes, List, ℕ}
 use Rattle.std.specs.Fmt.{decimal}
-use Rattle.net_reports.specs.GenTexts.{outputs_of}
-use Rattle.net_reports.proofs.Texts.{bit_outputs, one_more_number}
-use Rattle.net_reports.proofs.generated.put_outputs.Goals as goal
+use Rattle.adder_texts.specs.GenTexts.{outputs_of}
+use Rattle.adder_texts.proofs.Texts.{bit_outputs, one_more_number}
+use Rattle.adder_texts.proofs.put_outputs.Goals as goal
 
 pub loop-bit-preserved : goal.loop-bit-preserved
 loop-bit-preserved c =

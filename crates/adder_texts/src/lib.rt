@@ -1,11 +1,12 @@
-//! The text of the network that is generated.
+//! The text of a network that adds two numbers, which is made for so many bits.
+#![tactic(auto)]
 
 ghost use Rattle.std.specs.Prelude.{◌≡◌, ◌*◌, ◌<◌, ◌≤◌, ◌++◌, length, OnOk, IfOk, string_bytes};
 ghost use Rattle.std.specs.List.{flat_map, range_with_len};
 ghost use Rattle.edge_bits.specs.declared.limits.TheConstants.{MOST_BITS};
-ghost use Rattle.blif_net.specs.declared.net.Net.{Net};
+ghost use Rattle.cover_nets.specs.declared.net.Net.{Net};
 ghost use Rattle.blif_net.specs.Networks.{IsBlifText};
-ghost use Rattle.net_reports.specs.GenTexts.{bit_covers, carry_cover, complement_cover, gen_text, inputs_below, outputs_of, sum_cover, zeros_cover};
+ghost use Rattle.adder_texts.specs.GenTexts.{bit_covers, carry_cover, complement_cover, gen_text, inputs_below, outputs_of, sum_cover, zeros_cover};
 
 use edge_bits::Memory;
 use std::alloc::{AllocError, Global};

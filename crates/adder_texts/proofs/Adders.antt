@@ -8,7 +8,7 @@ use Rattle.blif_models.specs.Circuits.{Circuit, Cover, Row}
 use Rattle.job_words.specs.Text.{Word}
 use Rattle.blif_net.specs.Lines.{line_with, spaced, text_of as written}
 use Rattle.blif_net.proofs.WrittenCircuits.{circuit_lines, cover_lines}
-use Rattle.net_reports.specs.GenTexts.{bit_covers, carry_cover, complement_cover, gen_text, inputs_below, name, outputs_of, sum_cover, zeros_cover}
+use Rattle.adder_texts.specs.GenTexts.{bit_covers, carry_cover, complement_cover, gen_text, inputs_below, name, outputs_of, sum_cover, zeros_cover}
 
 -- a letter and a number
 abbrev pub numbered_name : ℕ → ℕ → Word

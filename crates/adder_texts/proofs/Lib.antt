@@ -1,0 +1,4 @@
+mod AdderNames
+mod Adders
+mod Rows
+mod Texts
