@@ -6,4 +6,9 @@ pub mod SpotNames
 pub mod FirstLines
 pub mod SpotUses
 pub mod LineOrder
+pub mod RoleSteps
+pub mod NameSteps
+pub mod NamedCircuits
 pub mod LaidSteps
+pub mod PartSteps
+pub mod WholeDrafting
