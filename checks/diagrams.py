@@ -91,7 +91,7 @@ def main():
     program = sys.argv[1]
     rng = random.Random(2026)
     jobs = []
-    for name in ("adders", "chain", "far_chain", "faults", "arbiter", "differs", "differs_fixed"):
+    for name in ("adders", "chain", "far_chain", "faults", "arbiter", "counter", "differs", "differs_fixed"):
         with open(f"examples/{name}.blif") as file:
             jobs.append((name, file.read(), ["01", "1"]))
     for k in range(100):

@@ -7,7 +7,8 @@ Each network here is a text of the Berkeley Logic Interchange Format with a few 
 are evaluated at each assignment of the inputs; classes, values and the number of nodes are counted from these tables, where no
 node occurs: the nodes are the distinct functions, up to complement, among the cofactors by the first inputs of the order. Some are
 built by three workers, and some are sifted: the order is then reckoned by the rule of sifting over the tables. A comment of an
-example that begins with `out`, `eval` or `nodes` is a line of its report. The networks of `gen` have known summaries.
+example that begins with `out`, `eval` or `nodes` is a line of its report. Others are of several models, with latches and with copies
+in copies: they are put together here, from the models and not from their text. The networks of `gen` have known summaries.
 """
 import random
 import subprocess
@@ -18,24 +19,71 @@ from sifts import Store, parts
 USUAL_LIMIT = 262144
 
 
-def read(text):
-    """The inputs, the outputs and the covers of a text without faults."""
-    inputs, outputs, covers = [], [], {}
-    cover = None
+class Model:
+    """A model: its name, its inputs and outputs, and in the order of the lines its covers, its latches and the copies that it holds."""
+
+    def __init__(self, name=None):
+        self.name, self.inputs, self.outputs, self.items = name, [], [], []
+
+
+def models_of(text):
+    """The models of a text without faults, the main one first."""
+    models, rows, is_begun = [Model()], None, False
     for line in text.replace("\\\n", "").split("\n"):
         words = line.split("#")[0].split()
         if not words:
             continue
-        if words[0] == ".inputs":
-            inputs += words[1:]
+        if words[0] == ".model":
+            if is_begun:
+                models.append(Model())
+            models[-1].name = words[1]
+        elif words[0] == ".inputs":
+            models[-1].inputs += words[1:]
         elif words[0] == ".outputs":
-            outputs += words[1:]
+            models[-1].outputs += words[1:]
         elif words[0] == ".names":
-            cover = (words[1:-1], [])
-            covers[words[-1]] = cover
+            rows = []
+            models[-1].items.append(("cover", words[1:-1], words[-1], rows))
+        elif words[0] == ".latch":
+            models[-1].items.append(("latch", words[1], words[2]))
+        elif words[0] == ".subckt":
+            models[-1].items.append(("copy", words[1], dict(word.split("=", 1) for word in words[2:])))
         elif not words[0].startswith("."):
-            cover[1].append((words[0] if len(words) == 2 else "", words[-1]))
+            rows.append((words[0] if len(words) == 2 else "", words[-1]))
+        is_begun = True
+    return models
+
+
+def named_within(name, number, joined):
+    """How the signals of the copy of this number are named in the whole, where the joined ones are signals of a model named like this."""
+    return lambda own: name(joined[own]) if own in joined else f"{number}#{own}"
+
+
+def whole(models):
+    """The inputs, the outputs and the covers of the main model with its copies put in, and those inside of them."""
+    inputs, outputs, covers, copies = list(models[0].inputs), list(models[0].outputs), {}, 0
+    known = {model.name: model for model in models}
+
+    def put(model, name):
+        nonlocal copies
+        for kind, *item in model.items:
+            if kind == "cover":
+                ins, own, rows = item
+                covers[name(own)] = ([name(one) for one in ins], rows)
+            elif kind == "latch":
+                inputs.append(name(item[1]))
+                outputs.append(name(item[0]))
+            else:
+                copies += 1
+                put(known[item[0]], named_within(name, copies, item[1]))
+
+    put(models[0], lambda own: own)
     return inputs, outputs, covers
+
+
+def read(text):
+    """The inputs, the outputs and the covers of a text without faults."""
+    return whole(models_of(text))
 
 
 def tables(inputs, covers):
@@ -93,8 +141,8 @@ def order_of(n, functions, sifts):
     return Outputs(n, functions).sift([order, []], 0, 5 + n + USUAL_LIMIT)[0]
 
 
-def report(text, patterns, sifts=False):
-    inputs, outputs, covers = read(text)
+def report_of(net, patterns, sifts=False):
+    inputs, outputs, covers = net
     table, size, every = tables(inputs, covers)
     functions = [table(name) for name in outputs]
     lines = [f"inputs {len(inputs)}", f"outputs {len(outputs)}"]
@@ -109,6 +157,10 @@ def report(text, patterns, sifts=False):
     lines.append(" ".join(["order"] + [str(i) for i in order]))
     lines.append(f"nodes {nodes(values, order)}")
     return "".join(line + "\n" for line in lines)
+
+
+def report(text, patterns, sifts=False):
+    return report_of(read(text), patterns, sifts)
 
 
 def made(rng, most=6):
@@ -139,6 +191,95 @@ def crossed(rng):
             rows.append("".join(row) + " 1\n")
         covers.append(f".names {' '.join(inputs)} {output}\n" + "".join(rows))
     return f".inputs {' '.join(inputs)}\n.outputs {' '.join(outputs)}\n" + "".join(covers) + ".end\n"
+
+
+def cover_of(rng, signals, own):
+    """A cover of a few signals."""
+    ins = [rng.choice(signals) for _ in range(rng.randint(0, min(3, len(signals))))]
+    out = rng.choice("01")
+    return "cover", ins, own, [("".join(rng.choice("01-") for _ in ins), out) for _ in range(rng.randint(0, 3))]
+
+
+def copy_of(rng, model, signals, own):
+    """A copy of a model, and the signals that it defines: some outputs are left out, and so are those with a `=`, which no word can join.
+    A formal name that is both is an input."""
+    joined = {formal: rng.choice(signals) for formal in model.inputs}
+    defined = []
+    for formal in sorted(set(model.outputs) - set(model.inputs)):
+        if "=" not in formal and rng.random() < 0.7:
+            defined.append(f"{own}{len(defined)}")
+            joined[formal] = defined[-1]
+    return ("copy", model.name, dict(rng.sample(sorted(joined.items()), len(joined)))), defined
+
+
+def model_with(rng, name, below):
+    """A model that may hold these: its covers and copies use what stands before them, its latches anything, and then all are shuffled."""
+    model = Model(name)
+    model.inputs = ["a", "b", "c"][: rng.randint(1, 3)]
+    latches = [f"q{k}" for k in range(rng.choice((0, 0, 1, 2)))]
+    signals = model.inputs + latches
+    for k in range(rng.randint(1, 4)):
+        if below and rng.random() < 0.6:
+            item, defined = copy_of(rng, rng.choice(below), signals, rng.choice((f"w{k}_", f"w{k}=")))
+        else:
+            item, defined = cover_of(rng, signals, f"g{k}"), [f"g{k}"]
+        model.items.append(item)
+        signals = signals + defined
+    model.items += [("latch", rng.choice(signals), shown) for shown in latches]
+    rng.shuffle(model.items)
+    model.outputs = [rng.choice(signals) for _ in range(rng.randint(1, 3))]
+    return model
+
+
+def line_of(rng, item):
+    """A line of a model, and the rows behind it."""
+    kind, *words = item
+    if kind == "cover":
+        ins, own, rows = words
+        return f".names {' '.join(ins + [own])}\n" + "".join(f"{row} {out}\n".lstrip() for row, out in rows)
+    if kind == "latch":
+        return f".latch {words[0]} {words[1]}{rng.choice(('', ' 0', ' 3', ' re a', ' al NIL 2'))}\n"
+    return f".subckt {words[0]} {' '.join(f'{formal}={actual}' for formal, actual in words[1].items())}\n"
+
+
+def text_of(rng, models):
+    """The text of some models: of the main one the line `.model` may be missing, and of each the `.end`."""
+    text = ""
+    for k, model in enumerate(models):
+        head = f".model {model.name}\n" if k > 0 or rng.random() < 0.8 else ""
+        ports = f".inputs {' '.join(model.inputs)}\n.outputs {' '.join(model.outputs)}\n"
+        text += head + ports + "".join(line_of(rng, item) for item in model.items) + rng.choice((".end\n", ".end\n\n", ""))
+    return text
+
+
+def reached_from(model, known):
+    """The names of the models of which a model holds copies, and of those that these hold."""
+    found = set()
+    for kind, *item in model.items:
+        if kind == "copy":
+            found |= {item[0]} | reached_from(known[item[0]], known)
+    return found
+
+
+def hierarchical(rng):
+    """A text of 2 to 5 models with latches and copies, the whole that is due, whether a model is not reached, and whether copies stand in
+    copies. A model that is not reached may hold a copy of itself, or of no model."""
+    while True:
+        below = []
+        for k in range(rng.randint(2, 5)):
+            below.append(model_with(rng, f"m{k}", below))
+        main, further = below[-1], below[:-1]
+        net = whole([main] + further)
+        if len(net[0]) <= 8 and len(net[2]) <= 60:
+            break
+    reached = reached_from(main, {model.name: model for model in further})
+    nested = any(kind == "copy" for model in further if model.name in reached for kind, *_ in model.items)
+    unreached = [model for model in further if model.name not in reached]
+    for model in unreached:
+        if rng.random() < 0.5:
+            model.items.append(("copy", rng.choice((model.name, "none")), {"a": "a", "x": "x"}))
+    rng.shuffle(further)
+    return text_of(rng, [main] + further), net, bool(unreached), nested
 
 
 def generated(program):
@@ -184,22 +325,31 @@ def main():
         ("arbiter", ["1010000000", "1010010000"]),
         ("differs", ["0110", "1111", "1010"]),
         ("differs_fixed", ["00", "10", "01", "11"]),
+        ("counter", ["10110", "10111", "01111"]),
     ]:
         with open(f"examples/{name}.blif") as file:
             text = file.read()
-        jobs.append((name, text, [], patterns, said(text)))
-    jobs += [(f"{first} and {second}", in_one_text(first, second), [], [], lines) for first, second, lines in pairs()]
+        jobs.append((name, text, read(text), [], patterns, said(text)))
+    for first, second, lines in pairs():
+        text = in_one_text(first, second)
+        jobs.append((f"{first} and {second}", text, read(text), [], [], lines))
     rng = random.Random(2026)
     for kind, options in [("", []), ("by three workers ", ["--workers", "3"]), ("sifted ", ["--sift"])]:
         for k in range(300):
             patterns = ["".join(rng.choice("01") for _ in range(rng.randint(1, 8))) for _ in range(rng.randint(0, 3))]
             text = crossed(rng) if "--sift" in options and k % 2 else made(rng)
-            jobs.append((f"network {kind}{k}", text, options, patterns, []))
+            jobs.append((f"network {kind}{k}", text, read(text), options, patterns, []))
+    nestings, leavings = 0, 0
+    for k in range(300):
+        patterns = ["".join(rng.choice("01") for _ in range(rng.randint(1, 10))) for _ in range(rng.randint(1, 3))]
+        text, net, leaves, nests = hierarchical(rng)
+        jobs.append((f"network of models {k}", text, net, [], patterns, []))
+        nestings, leavings = nestings + nests, leavings + leaves
     faults, moved = generated(program), 0
-    for name, text, options, patterns, lines in jobs:
+    for name, text, net, options, patterns, lines in jobs:
         ran = subprocess.run([program, "build", *options, *patterns], input=text.encode(), capture_output=True, timeout=60)
-        due = report(text, patterns, "--sift" in options)
-        moved += due.split("\n")[-3] != " ".join(["order"] + [str(i) for i in range(len(read(text)[0]))])
+        due = report_of(net, patterns, "--sift" in options)
+        moved += due.split("\n")[-3] != " ".join(["order"] + [str(i) for i in range(len(net[0]))])
         missing = [line for line in lines if line not in due.split("\n")]
         if missing:
             faults += 1
@@ -207,8 +357,8 @@ def main():
         if ran.returncode != 0 or ran.stderr or ran.stdout.decode() != due:
             faults += 1
             print(f"NOT AS DUE {name}: status {ran.returncode}\n{text}\ncame\n{ran.stdout.decode()}\ndue\n{due}")
-    print(f"{len(jobs)} networks judged, {moved} of them in another order, and 256 made, {faults} faults")
-    return faults > 0 or moved == 0
+    print(f"{len(jobs)} networks judged, {moved} of them in another order, {nestings} with nested copies, and 256 made, {faults} faults")
+    return faults > 0 or 0 in (moved, nestings, leavings)
 
 
 if __name__ == "__main__":

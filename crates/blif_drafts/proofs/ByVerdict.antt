@@ -12,7 +12,7 @@ use Rattle.blif_models.specs.declared.expanding.Outcome.TheVariants as outcomes
 use Rattle.blif_models.specs.declared.limits.Adding.{Adding}
 use Rattle.blif_models.specs.declared.numbered.NumberedModel.{NumberedModel}
 use Rattle.blif_models.specs.Additions.{AreRising, lines_of}
-use Rattle.blif_models.specs.Agreement.{IsMain, NamedOutcomeIs}
+use Rattle.blif_models.specs.Agreement.{HasLines, IsMain, NamedOutcomeIs}
 use Rattle.blif_models.specs.Expanding.{OutcomeIs}
 use Rattle.blif_models.specs.Graphs.{AreReached, is_met, is_reached}
 use Rattle.blif_models.specs.Kept.{reached_models}
@@ -27,6 +27,8 @@ use Rattle.blif_models.proofs.Arranged.{reached_self}
 use Rattle.blif_models.proofs.HoldingThemselves.{agrees}
 use Rattle.blif_models.proofs.NumberedGraphs.{numbered_are_graphs}
 use Rattle.blif_models.proofs.KeptModels.{kept_many, kept_names}
+use Rattle.blif_models.proofs.KeptReached.{kept_agree}
+use Rattle.blif_models.proofs.LinedCovers.{wholes_are_lined}
 use Rattle.blif_models.proofs.Searches.{closed_over}
 use Rattle.blif_models.proofs.TurningLines.{some_model}
 use Rattle.blif_formals.specs.declared.calls.Call.{Call}
@@ -42,7 +44,7 @@ use Rattle.blif_drafts.specs.Entries.{AreModelsBy}
 use Rattle.blif_formals.specs.Formals.{IsFormalLine}
 use Rattle.blif_formals.specs.Lines.{HaveLines}
 use Rattle.blif_formals.specs.Twice.{AreDefining, clash_lines, input_definitions}
-use Rattle.blif_drafts.specs.Verdicts.{Comes, IsMisnaming, LaidOut, VerdictIs}
+use Rattle.blif_drafts.specs.Verdicts.{AreLined, Comes, IsMisnaming, LaidOut, VerdictIs}
 use Rattle.blif_formals.proofs.Calling.{calls_agree}
 use Rattle.blif_formals.proofs.DefinedTwice.{twice_lines_agree}
 use Rattle.blif_formals.proofs.InLines.{lines_agree}
@@ -167,11 +169,18 @@ module _ (titles : List Word) (models : List Model) (callees : Callees) (heading
               (omega (arith, lt, many, told.many_names), subst (λ n. one.name < n) (names one.model lt) in_it.1);
         }
 
+    are_lined : (added : List Adding) (outcome : Outcome) → OutcomeIs (reached_models numbered 0) 0 added outcome → AreLined models outcome
+    are_lined added (outcomes.Turning line) is = tt
+    are_lined added (outcomes.TooMany line) is = tt
+    are_lined added (outcomes.Expanded whole) is =
+        wholes_are_lined models (is_reached (all_held numbered) (length numbered) 0) callees.names.now (reached_models numbered 0) 0 main whole (kept_agree.named models callees.names.now numbered 0 main is_main)
+        (λ m one i found. subst (HasLines one) (sym (kept_agree.same numbered 0 m i)) (have_lines m one i found)) is.1
+
     pub comes : (added : List Adding) (verdict : Verdict) → added ≡ map adding_inputs main.inputs → IsMisnaming callees headings calls joined met None → Comes callees.interfaces.now inputs numbered met added verdict → VerdictIs models callees.names.now main verdict
     comes added (verdicts.Nameless line) same none is = absurd is
     comes added (verdicts.Misjoined line) same none is = absurd is
     comes added (verdicts.Twice line) same none is = (named_lines ∙ none.0, joined_lines None none.1, sym twice_told ∙ is)
-    comes added (verdicts.Comes outcome) same none is = (named_lines ∙ none.0, joined_lines None none.1, sym twice_told ∙ is.0, outcome_is added outcome same is.1, laid_out added outcome is.1)
+    comes added (verdicts.Comes outcome) same none is = (named_lines ∙ none.0, joined_lines None none.1, sym twice_told ∙ is.0, outcome_is added outcome same is.1, laid_out added outcome is.1, are_lined added outcome is.1)
 
   pub misnamed : (verdict : Verdict) → IsMisnaming callees headings calls joined met (Some verdict) → VerdictIs models callees.names.now main verdict
   misnamed (verdicts.Nameless line) is = named_lines ∙ is

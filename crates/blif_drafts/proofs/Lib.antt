@@ -12,4 +12,5 @@ pub mod LineByLine
 pub mod Refusing
 pub mod GoingOn
 pub mod ManyOpen
+pub mod ModelNames
 pub mod NamesApart

@@ -1,5 +1,6 @@
 -- Several models while their lines are read.
-use Rattle.std.specs.Prelude.{◌≡◌, ℕ, suc, true, List, [], ◌∷◌, ◌++◌, Option, Some, None, slice_get}
+use Rattle.std.specs.Prelude.{◌≡◌, ℕ, suc, Bool, true, List, [], ◌∷◌, ◌++◌, Option, Some, None, All, slice_get}
+use Rattle.std.specs.List.{list_all}
 use Rattle.job_words.specs.Text.{Word}
 use Rattle.blif_models.specs.Models.{Model}
 use Rattle.blif_formals.specs.Definitions.{AreInterfacesOf}
@@ -55,3 +56,11 @@ IsToldOf models judged = (main : Model) → slice_get models 0 ≡ Some main →
 -- and of open ones, where no further line comes
 abbrev pub IsToldOfOpen : OpenModels → Judged → Type 0
 IsToldOfOpen one judged = (line : ℕ) (before : List Model) (model : Model) → AreOpen line before model one → IsToldOf (before ++ model ∷ []) judged
+
+-- every name of the models has this property
+abbrev pub NamesPass : (Word → Bool) → OpenModels → Type 0
+NamesPass p one = All (λ draft. list_all p draft.names ≡ true) one.closed.items × (list_all p one.current.draft.names ≡ true)
+
+-- names come of these words alone
+abbrev pub AddNames : OpenModels → List Word → OpenModels → Type 0
+AddNames old words new = (p : Word → Bool) → list_all p words ≡ true → NamesPass p old → NamesPass p new

@@ -1,5 +1,5 @@
 -- What is wrong with several models, or what the main one expands into.
-use Rattle.std.specs.Prelude.{◌≡◌, ℕ, ◌<◌, Bool, true, List, Option, Some, None, All, drop, length, slice_get, vec_len}
+use Rattle.std.specs.Prelude.{◌≡◌, ℕ, ◌<◌, Bool, true, List, Option, Some, None, All, drop, length, map, slice_get, vec_len}
 use Rattle.std.specs.Borrow.{Bor}
 use Rattle.job_words.specs.Text.{Word}
 use Rattle.blif_models.specs.declared.expanding.Outcome.{Outcome}
@@ -12,7 +12,8 @@ use Rattle.blif_models.specs.Agreement.{NamedOutcomeIs}
 use Rattle.blif_models.specs.Expanding.{OutcomeIs}
 use Rattle.blif_models.specs.Kept.{reached_models}
 use Rattle.blif_models.specs.ModelFaults.{formal_lines, least, model_lines, twice_lines}
-use Rattle.blif_models.specs.Layouts.{main_table}
+use Rattle.blif_models.specs.Layouts.{main_table, placed_in}
+use Rattle.blif_models.specs.Lined.{IsLined}
 use Rattle.blif_models.specs.Models.{Model}
 use Rattle.blif_models.specs.Numberings.{words_at}
 use Rattle.blif_models.specs.SpotsApart.{HaveOneSpot}
@@ -44,6 +45,11 @@ abbrev pub LaidOut : List (List Word) → Outcome → Type 0
 LaidOut words (outcomes.Expanded whole) = IsLaidOut words whole
 LaidOut words _ = Unit {0}
 
+-- each cover of the whole has the line of the model's cover
+abbrev pub AreLined : List Model → Outcome → Type 0
+AreLined models (outcomes.Expanded whole) = All (IsLined models) (map (placed_in whole.spots.items) whole.laid.items)
+AreLined models _ = Unit {0}
+
 -- what comes of models, the main one first: each kind of fault at its first line, and only where none before it is, or what comes of the
 -- main one
 abbrev pub VerdictIs : List Model → List (List Word) → Model → Verdict → Type 0
@@ -52,7 +58,7 @@ VerdictIs models words main (verdicts.Misjoined line) = (least (model_lines mode
 VerdictIs models words main (verdicts.Twice line) = (least (model_lines models main (drop 1 models)) ≡ None) × (least (formal_lines models main) ≡ None) × (least (twice_lines models main) ≡ Some line)
 VerdictIs models words main (verdicts.Comes outcome) =
     (least (model_lines models main (drop 1 models)) ≡ None) × (least (formal_lines models main) ≡ None) × (least (twice_lines models main) ≡ None) × NamedOutcomeIs models words main outcome
-    × LaidOut words outcome
+    × LaidOut words outcome × AreLined models outcome
 
 -- what is judged of drafts is so of any models of which they are
 abbrev pub IsJudgedOf : List Word → List Draft → Judged → Type 0

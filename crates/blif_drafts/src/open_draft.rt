@@ -1,11 +1,13 @@
 //! A model whose lines are still read.
 
-ghost use Rattle.std.specs.Prelude.{◌≡◌, ◌+◌, ◌++◌, ◌||◌, IfErr, IfOk, List as ListOf, OnOk, ℕ, drop, length, map, nat_lt};
+ghost use Rattle.std.specs.Prelude.{◌≡◌, ◌+◌, ◌++◌, ◌∷◌, ◌||◌, [], IfErr, IfOk, List as ListOf, OnOk, ℕ, drop, length, map, nat_lt};
 ghost use Rattle.blif_models.specs.Circuits.{Row};
+ghost use Rattle.blif_models.specs.Models.{join_of};
 ghost use Rattle.blif_formals.specs.Actuals.{Keeps};
 ghost use Rattle.blif_formals.specs.Definitions.{defined};
 ghost use Rattle.blif_formals.specs.Formals.{words_in};
 ghost use Rattle.blif_formals.specs.Titles.{IsTitleOf};
+ghost use Rattle.blif_formals.specs.Words.{AddsOnly};
 ghost use Rattle.blif_drafts.specs.OpenDrafts.{Begins, Holds, Stops, Takes, cover_at, cover_refused, first_word, inputs_refused, latch_at, latch_refused, outputs_refused, with_inputs, with_item, with_outputs};
 
 use crate::drafts::{Draft, DraftItem};
@@ -113,7 +115,8 @@ fn add_numbers(numbers: &mut List<u32>, more: &[u32]) -> Result<(), AllocError>
 impl<'a> OpenDraft<'a> {
     /// A model of which only the line was read that begins it. The index of its names has these keys.
     pub fn new(alloc: Global, keys: RandomState, heading: Heading) -> OpenDraft<'a>
-        ensures { Begins heading result }
+        ensures begins { Begins heading result }
+        ensures names { result.draft.names ≡ [] }
     {
         let draft = Draft {
             heading,
@@ -136,6 +139,7 @@ impl<'a> OpenDraft<'a> {
     pub fn add_inputs(&mut self, alloc: Global, line: u64, words: &[&[u8]]) -> Result<(), LineStop>
         ensures ok { OnOk result (Takes self.old (inputs_refused (words_in words.now)) (with_inputs line (words_in words.now)) self.new) }
         ensures stop { IfErr result (Stops self.old (inputs_refused (words_in words.now))) }
+        ensures names { OnOk result (AddsOnly self.old.draft.names (words_in words.now) self.new.draft.names) }
     {
         let many = words.len();
         let inputs = self.draft.inputs.len();
@@ -157,6 +161,7 @@ impl<'a> OpenDraft<'a> {
     pub fn add_outputs(&mut self, alloc: Global, words: &[&[u8]]) -> Result<(), LineStop>
         ensures ok { OnOk result ((line : ℕ) → Takes self.old (outputs_refused (words_in words.now)) (with_outputs line (words_in words.now)) self.new) }
         ensures stop { IfErr result (Stops self.old (outputs_refused (words_in words.now))) }
+        ensures names { OnOk result (AddsOnly self.old.draft.names (words_in words.now) self.new.draft.names) }
     {
         if are_more(self.draft.outputs.len(), words.len(), MOST_OUTPUTS) {
             return Err(LineStop::Refused(Refusal::TooMany));
@@ -176,6 +181,7 @@ impl<'a> OpenDraft<'a> {
     ) -> Result<(), LineStop>
         ensures ok { OnOk result ((rows : ListOf Row) → Takes self.old (cover_refused name.now) (with_item (cover_at line (words_in ins.now) name.now rows)) self.new) }
         ensures stop { IfErr result (Stops self.old (cover_refused name.now)) }
+        ensures names { OnOk result (AddsOnly self.old.draft.names (words_in ins.now ++ name.now ∷ []) self.new.draft.names) }
     {
         let ins = numbers_of(alloc, &mut self.draft.names, ins)?;
         let name = define(alloc, &mut self.draft.names, &mut self.marks, name)?;
@@ -198,6 +204,7 @@ impl<'a> OpenDraft<'a> {
     ) -> Result<(), LineStop>
         ensures ok { OnOk result (Takes self.old (latch_refused output.now) (with_item (latch_at line input.now output.now)) self.new) }
         ensures stop { IfErr result (Stops self.old (latch_refused output.now)) }
+        ensures names { OnOk result (AddsOnly self.old.draft.names (input.now ∷ output.now ∷ []) self.new.draft.names) }
     {
         let input = self.draft.names.number_of(alloc, input)?;
         let output = define(alloc, &mut self.draft.names, &mut self.marks, output)?;
@@ -220,7 +227,8 @@ impl<'a> OpenDraft<'a> {
         line: u64,
         words: &[&'a [u8]],
     ) -> Result<(), AllocError>
-        ensures { OnOk result (Holds titles.old self.old line (words_in words.now) titles.new self.new) }
+        ensures ok { OnOk result (Holds titles.old self.old line (words_in words.now) titles.new self.new) }
+        ensures names { OnOk result (AddsOnly self.old.draft.names (map (λ word. (join_of word).actual) (drop 1 (words_in words.now))) self.new.draft.names) }
     {
         let title = title_in(alloc, titles, words)?;
         let joins = behind_first(words);

@@ -4,6 +4,7 @@ ghost use Rattle.std.specs.Prelude.{◌≡◌, ◌∷◌, ◌==◌, ◌||◌, []
 ghost use Rattle.blif_models.specs.Numberings.{AreNumbersOf};
 ghost use Rattle.blif_formals.specs.Actuals.{Keeps};
 ghost use Rattle.blif_formals.specs.Formals.{words_in};
+ghost use Rattle.blif_formals.specs.Words.{AddsOnly};
 ghost use Rattle.blif_drafts.specs.Signals.{DefineStop, Defines, is_marked};
 
 use crate::stops::{LineStop, Refusal};
@@ -42,6 +43,7 @@ pub fn define(
 ) -> Result<u32, LineStop>
     ensures ok { IfOk result (λ number. Defines names.old marks.old.items (word.now ∷ []) (number ∷ []) names.new marks.new.items) }
     ensures stop { IfErr result (DefineStop names.old marks.old.items (word.now ∷ [])) }
+    ensures added { OnOk result (AddsOnly names.old (word.now ∷ []) names.new) }
 {
     let number = names.number_of(alloc, word)?;
     if is_marked(marks, number) {
@@ -60,6 +62,7 @@ pub fn define_all(
 ) -> Result<List<u32>, LineStop>
     ensures ok { IfOk result (λ numbers. Defines names.old marks.old.items (words_in words.now) numbers names.new marks.new.items) }
     ensures stop { IfErr result (DefineStop names.old marks.old.items (words_in words.now)) }
+    ensures added { OnOk result (AddsOnly names.old (words_in words.now) names.new) }
 {
     let mut numbers = List::new(alloc);
     for word in words {
@@ -77,6 +80,7 @@ pub fn numbers_of(
 ) -> Result<List<u32>, AllocError>
     ensures names { OnOk result (Keeps names.old names.new) }
     ensures numbers { IfOk result (λ numbers. AreNumbersOf (names.new ∷ []) 0 numbers (words_in words.now)) }
+    ensures added { OnOk result (AddsOnly names.old (words_in words.now) names.new) }
 {
     let mut numbers = List::new(alloc);
     for word in words {

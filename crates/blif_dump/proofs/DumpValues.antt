@@ -12,9 +12,8 @@ use Rattle.diagram_dumps.proofs.Lines.{Indexed, at_line, at_one, earlier, indexe
 use Rattle.diagram_dumps.proofs.Walks.{AreLines, are_lines}
 use Rattle.blif_models.specs.Circuits.{Cover, defined_in}
 use Rattle.cover_nets.specs.declared.net.Net.{Net}
-use Rattle.blif_net.specs.Networks.{IsNetOf}
-use Rattle.blif_net.proofs.Distinct.{Alone}
-use Rattle.blif_net.proofs.OneNet.{among_got, get_front}
+use Rattle.blif_wholes.specs.Networks.{IsNetOf}
+use Rattle.blif_wholes.proofs.Alone.{Alone, among_got, get_front}
 use Rattle.blif_dump.specs.Dumped.{AreNames}
 use Rattle.blif_dump.specs.Multiplexers.{is_due, literal_for, name_at}
 use Rattle.blif_dump.specs.Names.{naming_of, place_in, prefix_for}

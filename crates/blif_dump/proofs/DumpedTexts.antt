@@ -14,10 +14,11 @@ use Rattle.cover_nets.specs.declared.net.Net.{Net}
 use Rattle.blif_text.specs.Text.{joined_lines}
 use Rattle.blif_net.specs.Circuits.{circuit_of}
 use Rattle.blif_net.specs.Faults.{fault_of}
-use Rattle.blif_net.specs.Networks.{IsNetOf}
-use Rattle.blif_net.proofs.Distinct.{Alone, Once}
+use Rattle.blif_wholes.specs.Networks.{IsNetOf}
+use Rattle.blif_wholes.proofs.Alone.{Alone}
+use Rattle.blif_wholes.specs.Defined.{Once}
 use Rattle.blif_net.proofs.OneNet.{output_named}
-use Rattle.blif_net.proofs.Undefining.{front_among}
+use Rattle.blif_wholes.proofs.Words.{among_front}
 use Rattle.blif_dump.specs.Dumped.{AreNames, IsDumped, IsNetOfDump}
 use Rattle.blif_dump.specs.Multiplexers.{multiplexers, name_at}
 use Rattle.blif_dump.specs.Names.{naming_of}
@@ -34,7 +35,7 @@ later_fresh signals [] z h among = refl
 later_fresh signals (cover ∷ covers) z h among =
     or_from (bytes_eq z cover.name) (is_among (defined_in covers) z)
     (false_from_ne_true (bytes_eq z cover.name) (λ t. both_ways (is_among signals cover.name) (h.0).fresh (subst (λ (w : Word). is_among signals w ≡ true) ((bytes_eq-Decides z cover.name).0 t) among)))
-    (later_fresh (signals ++ cover.name ∷ []) covers z h.1 (front_among signals (cover.name ∷ []) z among))
+    (later_fresh (signals ++ cover.name ∷ []) covers z h.1 (among_front signals (cover.name ∷ []) z among))
 
 covers_once : (signals : List Word) (covers : List Cover) → AreNextCovers signals covers → Once (defined_in covers)
 covers_once signals [] h = tt
@@ -58,7 +59,7 @@ words_apart before (word ∷ words) h = by_cases (is_among before word) refl (λ
           once = (left.fresh word (own_true before word word refl), left.once);
           fresh = λ z among. or_from (bytes_eq z word) (is_among words z)
               (false_from_ne_true (bytes_eq z word) (λ t. both_ways (is_among before word) e (subst (λ (w : Word). is_among before w ≡ true) ((bytes_eq-Decides z word).0 t) among)))
-              (left.fresh z (front_among before (word ∷ []) z among));
+              (left.fresh z (among_front before (word ∷ []) z among));
         }
 
 -- no two signals of a circuit that can be written have one name

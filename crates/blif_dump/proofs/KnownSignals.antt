@@ -9,8 +9,8 @@ use Rattle.std.proofs.lemmas.Slice.Eq.{bytes_eq-Decides}
 use Rattle.job_words.specs.Text.{Word, is_among}
 use Rattle.blif_dump.specs.Names.{called, naming_of, node_name, place_in, prefix_for}
 use Rattle.blif_dump.proofs.NamesApart.{Kind, among_map, kind_of, map_among, no_node, nodes_apart, one_name, same_place, stands, stands_at}
-use Rattle.blif_net.proofs.OneNet.{among_got}
-use Rattle.blif_net.proofs.Undefining.{front_among}
+use Rattle.blif_wholes.proofs.Alone.{among_got}
+use Rattle.blif_wholes.proofs.Words.{among_front}
 
 -- among words and one more
 pub own_true : (xs : List Word) (y z : Word) → z ≡ y → is_among (xs ++ y ∷ []) z ≡ true
@@ -36,7 +36,7 @@ pub record Known (inputs outputs signals : List Word) (next place : ℕ) : Type 
   pub outputs_fresh : (name : Word) (p : ℕ) → place_in inputs name ≡ None → place_in outputs name ≡ Some p → place ≤ p → is_among signals (word_of inputs outputs name) ≡ false
 
 pub input_among : (inputs outputs : List Word) (name : Word) → is_among inputs name ≡ true → is_among (inputs ++ outputs) name ≡ true
-input_among inputs outputs name h = front_among inputs outputs name h
+input_among inputs outputs name h = among_front inputs outputs name h
 
 pub output_among : (inputs outputs : List Word) (name : Word) → is_among outputs name ≡ true → is_among (inputs ++ outputs) name ≡ true
 output_among inputs outputs name h = list_any-append (bytes_eq name) inputs outputs ∙ or_right (is_among inputs name) (is_among outputs name) h
@@ -80,25 +80,25 @@ module _ (inputs outputs : List Word) (few_inputs : length inputs < 2 ^ 64) (few
   -- one more node
   pub known_node : (signals : List Word) (next place : ℕ) → next < 2 ^ 64 → Known inputs outputs signals next place → Known inputs outputs (signals ++ node_of inputs outputs next ∷ []) (next + 1) place
   known_node signals next place small known = record {
-    inputs_in = λ name h. front_among signals (node_of inputs outputs next ∷ []) (word_of inputs outputs name) (known.inputs_in name h);
+    inputs_in = λ name h. among_front signals (node_of inputs outputs next ∷ []) (word_of inputs outputs name) (known.inputs_in name h);
     nodes_in = λ index low high. by_kind index low (at_most index next high);
     nodes_fresh = λ index low fits. more_false signals (node_of inputs outputs next) (node_of inputs outputs index) (known.nodes_fresh index (omega (arith, low)) fits)
         (λ e. let same : index ≡ next = nodes_apart (prefix_for (inputs ++ outputs)) index next fits small e in omega (arith, same, low));
-    outputs_in = λ name p none at below. front_among signals (node_of inputs outputs next ∷ []) (word_of inputs outputs name) (known.outputs_in name p none at below);
+    outputs_in = λ name p none at below. among_front signals (node_of inputs outputs next ∷ []) (word_of inputs outputs name) (known.outputs_in name p none at below);
     outputs_fresh = λ name p none at low. more_false signals (node_of inputs outputs next) (word_of inputs outputs name) (known.outputs_fresh name p none at low)
         (λ e. name_no_node name next (output_among inputs outputs name (among_placed outputs name p at)) small e);
   }
     where
       by_kind : (index : ℕ) → 1 ≤ index → (index < next) ⊎ (index ≡ next) → is_among (signals ++ node_of inputs outputs next ∷ []) (node_of inputs outputs index) ≡ true
-      by_kind index low (inl below) = front_among signals (node_of inputs outputs next ∷ []) (node_of inputs outputs index) (known.nodes_in index low below)
+      by_kind index low (inl below) = among_front signals (node_of inputs outputs next ∷ []) (node_of inputs outputs index) (known.nodes_in index low below)
       by_kind index low (inr same) = own_true signals (node_of inputs outputs next) (node_of inputs outputs index) (ap (node_of inputs outputs) same)
 
   -- an output at its first place
   pub known_output : (signals : List Word) (next place : ℕ) (name : Word) → place_in inputs name ≡ None → place_in outputs name ≡ Some place → Known inputs outputs signals next place
       → Known inputs outputs (signals ++ word_of inputs outputs name ∷ []) next (place + 1)
   known_output signals next place name none at known = record {
-    inputs_in = λ other h. front_among signals (word_of inputs outputs name ∷ []) (word_of inputs outputs other) (known.inputs_in other h);
-    nodes_in = λ index low high. front_among signals (word_of inputs outputs name ∷ []) (node_of inputs outputs index) (known.nodes_in index low high);
+    inputs_in = λ other h. among_front signals (word_of inputs outputs name ∷ []) (word_of inputs outputs other) (known.inputs_in other h);
+    nodes_in = λ index low high. among_front signals (word_of inputs outputs name ∷ []) (node_of inputs outputs index) (known.nodes_in index low high);
     nodes_fresh = λ index low fits. more_false signals (word_of inputs outputs name) (node_of inputs outputs index) (known.nodes_fresh index low fits) (λ e. name_no_node name index named fits (sym e));
     outputs_in = λ other p no_input there below. by_kind other p no_input there (at_most p place below);
     outputs_fresh = λ other p no_input there low. more_false signals (word_of inputs outputs name) (word_of inputs outputs other) (known.outputs_fresh other p no_input there (omega (arith, low)))
@@ -111,7 +111,7 @@ module _ (inputs outputs : List Word) (few_inputs : length inputs < 2 ^ 64) (few
 
       by_kind : (other : Word) (p : ℕ) → place_in inputs other ≡ None → place_in outputs other ≡ Some p → (p < place) ⊎ (p ≡ place)
           → is_among (signals ++ word_of inputs outputs name ∷ []) (word_of inputs outputs other) ≡ true
-      by_kind other p no_input there (inl below) = front_among signals (word_of inputs outputs name ∷ []) (word_of inputs outputs other) (known.outputs_in other p no_input there below)
+      by_kind other p no_input there (inl below) = among_front signals (word_of inputs outputs name ∷ []) (word_of inputs outputs other) (known.outputs_in other p no_input there below)
       by_kind other p no_input there (inr same) =
           own_true signals (word_of inputs outputs name) (word_of inputs outputs other)
           (ap (word_of inputs outputs) (same_place outputs other name place (there ∙ ap (λ t. Some t) same) at))

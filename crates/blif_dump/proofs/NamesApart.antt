@@ -16,7 +16,8 @@ use Rattle.job_words.specs.Text.{Word, is_among}
 use Rattle.blif_dump.specs.Dumped.{is_name, is_name_byte}
 use Rattle.blif_dump.specs.Names.{by_place, called, is_odd, mark_count, naming_of, node_name, place_in, prefix_for}
 use Rattle.blif_dump.proofs.Prefixes.{begins_none, not_behind}
-use Rattle.blif_net.proofs.Written.{all_weaker, is_plain, is_plain_word, no_end, plain_from}
+use Rattle.blif_net.proofs.Written.{is_plain, is_plain_word, no_end, plain_from}
+use Rattle.blif_net.proofs.NoFaults.{all_weaker}
 
 -- a byte that is plain wherever it stands
 abbrev is_safe : ℕ → Bool

@@ -14,9 +14,9 @@ use Rattle.cover_nets.specs.declared.net.Cover.{Cover as Gate}
 use Rattle.cover_nets.specs.declared.net.Cube.{Cube}
 use Rattle.cover_nets.specs.declared.net.Literal.{Literal}
 use Rattle.cover_nets.specs.Networks.{cover_value, fits, matches, signal_value}
-use Rattle.blif_net.specs.Networks.{AreGates, AreNumbers, IsGateOf, IsNetOf, is_on, literals_of}
-use Rattle.blif_net.proofs.Distinct.{Alone}
-use Rattle.blif_net.proofs.OneNet.{GateAt, among_got, covered, found_once, get_front, not_input, place_once}
+use Rattle.blif_wholes.specs.Networks.{AreGates, AreNumbers, IsGateOf, IsNetOf, is_on, literals_of}
+use Rattle.blif_wholes.proofs.Alone.{Alone, among_got, covered, found_once, get_front, not_input, place_once}
+use Rattle.blif_net.proofs.OneNet.{GateAt}
 use Rattle.blif_net.proofs.Ordered.{ordered_net}
 use Rattle.cover_nets.proofs.Values.{gate_is, input_is}
 

@@ -4,6 +4,7 @@ pub mod ByNames
 pub mod Clashing
 pub mod ReachedLines
 pub mod WordIndex
+pub mod NewWords
 pub mod Titled
 pub mod Defining
 pub mod Calling

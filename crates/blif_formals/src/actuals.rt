@@ -3,9 +3,11 @@
 ghost use Rattle.std.specs.Prelude.{◌≡◌, IfOk, MatchOption, OnOk, false, length, map};
 ghost use Rattle.std.specs.List.{list_all};
 ghost use Rattle.blif_models.specs.ModelFaults.{is_join};
+ghost use Rattle.blif_models.specs.Models.{join_of};
 ghost use Rattle.blif_formals.specs.Actuals.{AreActuals, AreJoinNumbers, Keeps};
 ghost use Rattle.blif_formals.specs.ByNames.{joins_one_of};
 ghost use Rattle.blif_formals.specs.Formals.{words_in};
+ghost use Rattle.blif_formals.specs.Words.{AddsOnly};
 
 use crate::parting::{formals_in, join_of};
 use crate::words::Words;
@@ -21,6 +23,7 @@ pub fn actuals_in(
     words: &[&[u8]],
 ) -> Result<Option<List<u32>>, AllocError>
     ensures names { OnOk result (Keeps names.old names.new) }
+    ensures added { OnOk result (AddsOnly names.old (map (λ word. (join_of word).actual) (words_in words.now)) names.new) }
     ensures actuals { IfOk result (λ found. MatchOption found (list_all is_join (words_in words.now) ≡ false) (AreActuals names.new (words_in words.now))) }
 {
     let mut actuals = List::new(alloc);

@@ -20,5 +20,5 @@ pub mod HoldingThemselves
 pub mod TurningLines
 pub mod KeptReached
 pub mod EnoughCopies
-mod WithinLimits
-mod LinedCovers
+pub mod WithinLimits
+pub mod LinedCovers

@@ -1,21 +1,20 @@
 -- Rows as they are read into a cover.
 use Rattle.std.proofs.Common.{◌≡◌, ℕ, suc, ◌==◌, ◌&&◌, ◌||◌, not, Bool, true, false, cond, List, [], ◌∷◌, ◌++◌, length, map, get_or, Option, Some, None, Bor, refl, ap, sym, ◌∙◌, subst, arith}
-use Rattle.std.specs.Prelude.{slice_get, option_to_list}
+use Rattle.std.specs.Prelude.{option_to_list}
 use Rattle.std.specs.List.{list_all}
 use Rattle.std.proofs.lemmas.Bool.{false≢true}
 use Rattle.std.proofs.lemmas.Bool.Decides.{nat_tests}
-use Rattle.std.proofs.lemmas.List.{length-map, map-append}
+use Rattle.std.proofs.lemmas.List.{map-append}
 use Rattle.std.specs.Bool.{then_some}
-use Rattle.blif_net.specs.declared.covers.CoverDraft.{CoverDraft}
+use Rattle.blif_net.specs.declared.covers.OpenCover.{OpenCover}
 use Rattle.blif_net.specs.declared.covers.ReadRow.{ReadRow}
 use Rattle.cover_nets.specs.declared.net.Cube.{Cube}
 use Rattle.blif_net.specs.declared.faults.FaultKind.TheVariants as kinds
 use Rattle.blif_text.specs.Text.{Word}
 use Rattle.blif_models.specs.Circuits.{Cover, Row}
-use Rattle.blif_net.specs.Circuits.{is_bit, is_cube, is_literal, row_of, row_with}
-use Rattle.blif_net.specs.Faults.{is_mixed, row_fault}
-use Rattle.blif_net.specs.Networks.{AreNumbers, is_on, literals_of}
-use Rattle.blif_net.specs.Covers.{IsCoverOf, IsRead, IsReadRow, IsRowOf, TakesRow, takes_output}
+use Rattle.blif_net.specs.CoverTexts.{is_bit, is_cube, is_literal, row_of, row_with, is_mixed, row_fault}
+use Rattle.blif_wholes.specs.Networks.{is_on, literals_of}
+use Rattle.blif_net.specs.OpenCovers.{IsOpenCoverOf, IsRead, IsReadRow, IsRowOf, TakesRow, takes_output}
 
 -- what stands for an element that isn't there
 abbrev pub no_word : Bor (List ℕ)
@@ -52,10 +51,6 @@ full_row (w ∷ v ∷ []) ins read two some long h = (
     not_zero : (n : ℕ) → (n ≡ 0 → ⊥) → (n == 0) ≡ false
     not_zero n k = grind (arith, nat_tests)
 
--- as many numbers as words
-pub as_many_numbers : (names words : List Word) (numbers : List ℕ) → AreNumbers names words numbers → length words ≡ length numbers
-as_many_numbers names words numbers h = sym (length-map words Some) ∙ ap length (sym h) ∙ length-map numbers (slice_get names)
-
 -- outputs that agree
 agree : (on output : Bool) → cond on output (not output) ≡ true → on ≡ output
 agree true output h = sym h
@@ -72,7 +67,7 @@ mixed false true h = refl
 mixed false false h = absurd (false≢true (sym h))
 
 -- a row of a draft that takes its output fits the cover, and gives its output
-row_fits : (rows : List Row) (row : Row) (draft : CoverDraft) (output : Bool) → draft.rows ≡ map literals_of rows → draft.on ≡ is_on rows → output ≡ row.output → takes_output draft output ≡ true
+row_fits : (rows : List Row) (row : Row) (draft : OpenCover) (output : Bool) → draft.rows ≡ map literals_of rows → draft.on ≡ is_on rows → output ≡ row.output → takes_output draft output ≡ true
     → (is_mixed rows row ≡ false) × (output ≡ is_on (rows ++ row ∷ []))
 row_fits [] row draft output e f g h = (refl, g)
 row_fits (first ∷ rows) row draft output e f g h =
@@ -83,7 +78,7 @@ row_fits (first ∷ rows) row draft output e f g h =
     zeroless : (n : ℕ) → (suc n == 0) ≡ false
     zeroless n = grind (arith, nat_tests)
 
-row_unfit : (rows : List Row) (row : Row) (draft : CoverDraft) (output : Bool) → draft.rows ≡ map literals_of rows → draft.on ≡ is_on rows → output ≡ row.output → takes_output draft output ≡ false → is_mixed rows row ≡ true
+row_unfit : (rows : List Row) (row : Row) (draft : OpenCover) (output : Bool) → draft.rows ≡ map literals_of rows → draft.on ≡ is_on rows → output ≡ row.output → takes_output draft output ≡ false → is_mixed rows row ≡ true
 row_unfit [] row draft output e f g h =
     absurd (false≢true (sym h ∙ ap (λ t. length t == 0 || cond draft.on output (not output)) e))
 row_unfit (first ∷ rows) row draft output e f g h =
@@ -94,26 +89,24 @@ row_unfit (first ∷ rows) row draft output e f g h =
     later true b k = absurd (false≢true (sym k))
     later false b k = k
 
--- the draft with one more row
-pub row_taken : (old : CoverDraft) (ws : List Word) (n : ℕ) (row : Row) (read : ReadRow) (rows' : List Cube) (on' : Bool) → n ≡ length old.ins → row_of n ws ≡ Some row → IsRowOf row read → takes_output old read.output ≡ true
-    → rows' ≡ old.rows ++ read.cube ∷ [] → on' ≡ read.output → TakesRow old ws (record { line = old.line; name = old.name; ins = old.ins; rows = rows'; on = on' })
+-- one more row
+pub row_taken : (old : OpenCover) (ws : List Word) (n : ℕ) (row : Row) (read : ReadRow) (rows' : List Cube) (on' : Bool) → n ≡ old.ins → row_of n ws ≡ Some row → IsRowOf row read → takes_output old read.output ≡ true
+    → rows' ≡ old.rows ++ read.cube ∷ [] → on' ≡ read.output → TakesRow old ws (record { ins = old.ins; rows = rows'; on = on' })
 row_taken old ws n row read rows' on' many e is fits f g =
-    λ names cover h.
-    let here : row_of (length cover.ins) ws ≡ Some row = ap (λ t. row_of t ws) (as_many_numbers names cover.ins old.ins h.ins ∙ sym many) ∙ e in
+    λ cover h.
+    let here : row_of (length cover.ins) ws ≡ Some row = ap (λ t. row_of t ws) (sym h.ins ∙ sym many) ∙ e in
     let fit = row_fits cover.rows row old read.output h.rows h.on is.1 fits in (
       ap (row_fault cover) here ∙ ap (λ b. then_some b kinds.Mixed) fit.0,
       record {
-        line = h.line;
-        name = h.name;
         ins = h.ins;
         rows = f ∙ ap (λ t. t ++ read.cube ∷ []) h.rows ∙ ap (λ t. map literals_of cover.rows ++ t ∷ []) is.0 ∙ sym (map-append literals_of cover.rows (row ∷ [])) ∙ ap (λ (o : Option Row). map literals_of (cover.rows ++ option_to_list o)) (sym here);
         on = g ∙ fit.1 ∙ ap (λ (o : Option Row). is_on (cover.rows ++ option_to_list o)) (sym here);
       },
     )
 
-pub row_mixed : (old : CoverDraft) (ws : List Word) (n : ℕ) (row : Row) (read : ReadRow) → n ≡ length old.ins → row_of n ws ≡ Some row → IsRowOf row read → takes_output old read.output ≡ false
-    → (names : List Word) (cover : Cover) → IsCoverOf names cover old → row_fault cover (row_of (length cover.ins) ws) ≡ Some kinds.Mixed
+pub row_mixed : (old : OpenCover) (ws : List Word) (n : ℕ) (row : Row) (read : ReadRow) → n ≡ old.ins → row_of n ws ≡ Some row → IsRowOf row read → takes_output old read.output ≡ false
+    → (cover : Cover) → IsOpenCoverOf cover old → row_fault cover (row_of (length cover.ins) ws) ≡ Some kinds.Mixed
 row_mixed old ws n row read many e is fits =
-    λ names cover h.
-    ap (row_fault cover) (ap (λ t. row_of t ws) (as_many_numbers names cover.ins old.ins h.ins ∙ sym many) ∙ e)
+    λ cover h.
+    ap (row_fault cover) (ap (λ t. row_of t ws) (sym h.ins ∙ sym many) ∙ e)
     ∙ ap (λ b. then_some b kinds.Mixed) (row_unfit cover.rows row old read.output h.rows h.on is.1 fits)

@@ -1,33 +1,12 @@
--- What each line without a fault keeps, lines without a fault keep.
-use Rattle.std.proofs.Common.{◌≡◌, ℕ, Bool, true, false, not, cond, List, [], ◌∷◌, Option, Some, None, refl, ap, sym, ◌∙◌}
+-- In texts of one model: what each line without a fault keeps, lines without a fault keep.
+use Rattle.std.proofs.Common.{◌≡◌, ℕ, Bool, true, false, not, cond, List, [], ◌∷◌, Some, None, refl, ap, sym, ◌∙◌}
 use Rattle.std.specs.Prelude.{option_map}
 use Rattle.std.specs.List.{list_all}
-use Rattle.std.specs.Option.{option_or}
-use Rattle.std.specs.Bool.{then_some}
-use Rattle.blif_net.specs.declared.faults.BlifFault.{BlifFault}
-use Rattle.blif_net.specs.declared.faults.FaultKind.{FaultKind}
 use Rattle.blif_net.specs.declared.faults.FaultKind.TheVariants as kinds
 use Rattle.blif_text.specs.Text.{Line, is_allowed}
 use Rattle.blif_text.specs.Statements.{Statement, nothing, model, inputs, outputs, names, subckt, latch, ends, passed_over, left_out, unknown, row, said}
-use Rattle.blif_net.specs.Circuits.{Context, after_line, after_statement, behind}
-use Rattle.blif_net.specs.Faults.{open_fault, end_fault, line_fault, faulty_line, fault_on}
-
--- of no fault
-pub none_of : (a b : Option FaultKind) → option_or a b ≡ None → (a ≡ None) × (b ≡ None)
-none_of None b h = (refl, h)
-none_of (Some fault) b h = cc
-
-pub not_so : (b : Bool) (kind : FaultKind) → then_some b kind ≡ None → b ≡ false
-not_so false kind h = refl
-not_so true kind h = cc
-
-pub none_first : (a b : Option BlifFault) → option_or a b ≡ None → (a ≡ None) × (b ≡ None)
-none_first None b h = (refl, h)
-none_first (Some fault) b h = cc
-
-no_map : (f : FaultKind → BlifFault) (o : Option FaultKind) → option_map f o ≡ None → o ≡ None
-no_map f None h = refl
-no_map f (Some x) h = cc
+use Rattle.blif_net.proofs.NoFaults.{no_map, none_of}
+use Rattle.blif_net.specs.PlainTexts.{Context, after_line, after_statement, behind, open_fault, end_fault, line_fault, faulty_line, fault_on}
 
 -- what each line without a fault keeps before `.end`
 abbrev pub IsKept : (Context → Type 0) → Type 0
@@ -65,5 +44,5 @@ pub kept_behind : (P : Context → Type 0) → IsKept P → (c : Context) (lines
 unfolding faulty_line behind
 kept_behind P kept c [] h a = a
 kept_behind P kept c (line ∷ lines) h a =
-    let both = none_first (option_map (fault_on line) (line_fault c line)) (faulty_line (after_line c line) lines) h in
+    let both = none_of (option_map (fault_on line) (line_fault c line)) (faulty_line (after_line c line) lines) h in
     kept_behind P kept (after_line c line) lines both.1 (line_step P kept c line (no_map (fault_on line) (line_fault c line) both.0) a)

@@ -2,32 +2,33 @@ mod Rows
 mod ModelRows
 pub mod ModelLines
 pub mod ModelTold
+pub mod CoverRows
+pub mod NoFaults
+pub mod PlainWords
+pub mod FaultlessModels
+pub mod Sound
 pub mod Arranging
 pub mod Completeness
+pub mod Ordered
+pub mod OneNet
+pub mod Bounds
+pub mod OnCycles
 pub mod Faultless
 pub mod Distinct
-pub mod Bounds
-pub mod OneNet
-pub mod Ordered
-pub mod Cycles
-pub mod Permutations
-pub mod Networks
-pub mod Orders
-pub mod NameIndex
-pub mod NameLists
-pub mod CoverRows
-pub mod Growing
-pub mod Roles
-pub mod Drafting
-pub mod Lines
-pub mod Taking
-pub mod CoverReads
-pub mod Undefining
-pub mod Placing
-pub mod NetBuilding
-pub mod Wholes
-pub mod Reading
-pub mod OnCycles
+pub mod PlainLines
+pub mod PlainTexts
+pub mod Fronts
 pub mod Written
 pub mod WrittenCircuits
 pub mod WrittenNets
+pub mod Keeping
+pub mod Taking
+pub mod Whole
+pub mod TextLines
+pub mod Finishing
+pub mod Using
+pub mod WholeEnding
+mod AdderNames
+mod AdderLines
+mod AdderRows
+mod AdderTexts

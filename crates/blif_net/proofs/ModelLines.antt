@@ -17,10 +17,11 @@ use Rattle.blif_drafts.proofs.GoingOn.{drafts_last, lines_go_on}
 use Rattle.blif_net.specs.declared.faults.FaultKind.{FaultKind}
 use Rattle.blif_net.specs.declared.faults.FaultKind.TheVariants as kinds
 use Rattle.blif_text.specs.Text.{Word}
-use Rattle.blif_net.specs.Circuits.{last_of, with_row, with_row_in}
+use Rattle.blif_net.specs.CoverTexts.{last_of, with_row, with_row_in}
 use Rattle.blif_net.specs.ModelLines.{AreLeftBy, DraftsFollow, kind_of}
 use Rattle.blif_text.specs.Statements.{latch}
-use Rattle.blif_net.specs.ModelTexts.{Context, close, inputs_fault, latch_fault, names_fault, open_fault, with_cover, with_latch}
+use Rattle.blif_net.specs.Circuits.{Context, close, with_cover, with_latch}
+use Rattle.blif_net.specs.Faults.{inputs_fault, latch_fault, names_fault, open_fault}
 
 -- a cover that is closed is no input and no output
 

@@ -9,17 +9,18 @@ use Rattle.blif_models.specs.Models.{Model, whole_items}
 use Rattle.blif_drafts.specs.declared.verdicts.Verdict.{Verdict}
 use Rattle.blif_drafts.specs.declared.verdicts.Verdict.TheVariants as verdicts
 use Rattle.blif_drafts.specs.Verdicts.{VerdictIs}
+use Rattle.blif_net.specs.declared.faults.BlifFault.{BlifFault}
 use Rattle.blif_net.specs.declared.faults.FaultKind.TheVariants as kinds
 use Rattle.blif_text.specs.Text.{Line}
-use Rattle.blif_net.specs.ModelTexts.{Fault, expanded_fault, fault_at, misjoined, models_fault, nameless, told}
+use Rattle.blif_net.specs.Faults.{expanded_fault, fault_at, models_fault}
 use Rattle.blif_net.specs.ModelVerdicts.{VerdictsAreFaults, verdict_fault}
 
 -- the first of the faults that stand at these lines, or else another one
-abbrev first_of : Option ℕ → Option ℕ → Option ℕ → Option ℕ → Option ℕ → Option Fault → Option Fault
+abbrev first_of : Option ℕ → Option ℕ → Option ℕ → Option ℕ → Option ℕ → Option BlifFault → Option BlifFault
 first_of names joins twice turning many rest =
-    option_or (option_map (fault_at nameless) names)
-    (option_or (option_map (fault_at misjoined) joins)
-    (option_or (option_map (fault_at (told kinds.Twice)) twice) (option_or (option_map (fault_at (told kinds.Cycle)) turning) (option_or (option_map (fault_at (told kinds.TooMany)) many) rest))))
+    option_or (option_map (fault_at kinds.Model) names)
+    (option_or (option_map (fault_at kinds.Formal) joins)
+    (option_or (option_map (fault_at kinds.Twice) twice) (option_or (option_map (fault_at kinds.Cycle) turning) (option_or (option_map (fault_at kinds.TooMany) many) rest))))
 
 module _ (lines : List Line) (main : Model) (further : List Model) (words : List (List Word)) where
   abbrev joins : Option ℕ
@@ -34,7 +35,7 @@ module _ (lines : List Line) (main : Model) (further : List Model) (words : List
   abbrev many : Option ℕ
   many = too_many_line MOST_SIGNALS MOST_VARIABLES (main ∷ further) main
 
-  abbrev rest : Option Fault
+  abbrev rest : Option BlifFault
   rest = expanded_fault lines main (whole_items (main ∷ further) main)
 
   told_so : (verdict : Verdict) → VerdictIs (main ∷ further) words main verdict → models_fault lines (main ∷ further) ≡ verdict_fault lines main (whole_items (main ∷ further) main) verdict

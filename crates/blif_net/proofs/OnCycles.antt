@@ -1,26 +1,22 @@
 -- Covers that are not led back to inputs lie on cycles or depend on such.
-use Rattle.std.proofs.Common.{◌≡◌, ℕ, zero, suc, ◌==◌, ◌<◌, ◌&&◌, ◌||◌, not, Bool, true, false, cond, List, [], ◌∷◌, ◌++◌, length, Option, Some, None, inl, inr, refl, ap, sym, ◌∙◌, subst, arith, append-nil}
-use Rattle.std.specs.Prelude.{◌⊎◌, find, option_map, option_to_list, slice_get}
+use Rattle.std.proofs.Common.{◌≡◌, ℕ, zero, suc, ◌==◌, ◌<◌, ◌&&◌, ◌||◌, Bool, true, false, List, [], ◌∷◌, ◌++◌, length, Some, inl, inr, refl, ap, sym, ◌∙◌, subst, arith}
+use Rattle.std.specs.Prelude.{◌⊎◌, slice_get}
 use Rattle.std.specs.List.{list_all, list_any}
 use Rattle.std.specs.Str.{bytes_eq}
 use Rattle.std.proofs.lemmas.Bool.{false≢true, or_parts}
 use Rattle.std.proofs.lemmas.Bool.Decides.{nat_tests}
-use Rattle.std.proofs.lemmas.List.Folds.{list_all-append, list_any-append}
+use Rattle.std.proofs.lemmas.List.Folds.{list_any-append}
 use Rattle.std.proofs.lemmas.Option.{slice_get_within}
 use Rattle.std.proofs.lemmas.Slice.Eq.{bytes_eq-Decides}
 use Rattle.job_words.specs.Text.{is_among}
-use Rattle.blif_net.specs.declared.faults.FaultKind.TheVariants as kinds
-use Rattle.blif_text.specs.Text.{Line, Word}
+use Rattle.blif_text.specs.Text.{Word}
 use Rattle.blif_models.specs.Circuits.{Circuit, Cover, defined_in, is_settled, is_signal, settles}
-use Rattle.blif_text.specs.Statements.{Statement, nothing, model, inputs, outputs, names, subckt, latch, ends, passed_over, left_out, unknown, row, said}
-use Rattle.blif_net.specs.Circuits.{Context, after_line, after_statement, at_start, behind, circuit_of, close, cover_at, covers_in, with_row, with_row_in}
-use Rattle.blif_net.specs.Faults.{fault_on, undefined_line, uses}
 use Rattle.blif_net.specs.Cycles.{CyclesAreFound, IsCyclic, Leads, LiesOnCycle, ReadsCover}
-use Rattle.blif_net.proofs.Cycles.{by_name, none_here, some_word}
-use Rattle.blif_net.proofs.Distinct.{Alone, alone_at_start, alone_behind}
-use Rattle.blif_net.proofs.Networks.{place_of}
-use Rattle.blif_net.proofs.OneNet.{covered, not_input}
-use Rattle.blif_net.proofs.Permutations.{split_at}
+use Rattle.blif_wholes.proofs.Alone.{Alone, all_of_cover, all_of_word, covered, not_input}
+use Rattle.blif_wholes.proofs.Cycles.{by_name, none_here, some_word}
+use Rattle.blif_wholes.proofs.Networks.{place_of}
+use Rattle.blif_wholes.proofs.Permutations.{split_at}
+use Rattle.blif_wholes.proofs.Words.{not_so, once_parts}
 use Rattle.blif_order.specs.Orders.{Once, is_in}
 use Rattle.blif_order.proofs.Ends.{order_length}
 
@@ -38,7 +34,7 @@ next_cyclic covers cover (inl on) = next_on covers cover on
 next_cyclic covers cover (inr (other, between, l, on)) = next_of covers cover other between l on
 
 -- and is not led back, through however many
-pub never_settled : (circuit : Circuit) → Alone circuit.inputs (defined_in circuit.covers) → (limit : ℕ) (cover : Cover) → IsCyclic circuit.covers cover → list_all (settles circuit limit) cover.ins ≡ false
+never_settled : (circuit : Circuit) → Alone circuit.inputs (defined_in circuit.covers) → (limit : ℕ) (cover : Cover) → IsCyclic circuit.covers cover → list_all (settles circuit limit) cover.ins ≡ false
 unfolding settles
 never_settled circuit a zero cover c =
     let n = next_cyclic circuit.covers cover c in
@@ -64,15 +60,6 @@ word_of p (w ∷ words) h = by_cases (p w) refl h (λ k. word_of p words k)
     by_cases false e k more = (w, ap (λ b. b || is_among words w) ((bytes_eq-Decides w w).1 refl), e)
     by_cases true e k more = let m = more k in (m.0, later (bytes_eq m.0 w) (is_among words m.0) m.1, m.2)
 
-all_pass : (p : Word → Bool) (words : List Word) (z : Word) → list_all p words ≡ true → is_among words z ≡ true → p z ≡ true
-all_pass p [] z h e = absurd (false≢true e)
-all_pass p (w ∷ words) z h e = by_cases (bytes_eq z w) refl (p w) refl h e (λ k f. all_pass p words z k f)
-  where
-    by_cases : (a : Bool) → bytes_eq z w ≡ a → (b : Bool) → p w ≡ b → (b && list_all p words) ≡ true → (a || is_among words z) ≡ true → (list_all p words ≡ true → is_among words z ≡ true → p z ≡ true) → p z ≡ true
-    by_cases a f false g k i more = absurd (false≢true k)
-    by_cases true f true g k i more = ap p ((bytes_eq-Decides z w).0 f) ∙ g
-    by_cases false f true g k i more = more k i
-
 -- each input of each cover is a signal
 abbrev AllSignals : Circuit → Type 0
 AllSignals circuit = (i : ℕ) (cover : Cover) → slice_get circuit.covers i ≡ Some cover → list_all (is_signal circuit) cover.ins ≡ true
@@ -97,22 +84,25 @@ none_passes p [] j cover h e = cc
 none_passes p (x ∷ covers) zero cover h e = let same : x ≡ cover = cc in ap p (sym same) ∙ (or_parts (p x) (list_any p covers) h).0
 none_passes p (x ∷ covers) (suc j) cover h e = none_passes p covers j cover (or_parts (p x) (list_any p covers) h).1 e
 
+one_longer : (path : List ℕ) (n : ℕ) → length path ≡ n → suc (length path) ≡ suc n
+one_longer path n h = ap suc h
+
 -- a path of as many covers as one wants
 path_from : (circuit : Circuit) → AllSignals circuit → (limit i : ℕ) (cover : Cover) → slice_get circuit.covers i ≡ Some cover → list_all (settles circuit limit) cover.ins ≡ false
     → (path : List ℕ) × (length path ≡ suc limit) × Chained circuit.covers i path
 unfolding settles
 path_from circuit s zero i cover at h =
     let w = word_of (settles circuit zero) cover.ins h in
-    let next = cover_of circuit w.0 (all_pass (is_signal circuit) cover.ins w.0 (s i cover at) w.1) w.2 in
+    let next = cover_of circuit w.0 (all_of_word (is_signal circuit) cover.ins w.0 (s i cover at) w.1) w.2 in
     (next.0 ∷ [], refl, ((cover, next.1, at, next.2, ap (is_among cover.ins) next.3 ∙ w.1), (next.1, next.2)))
 path_from circuit s (suc limit) i cover at h =
     let w = word_of (settles circuit (suc limit)) cover.ins h in
     let both = or_parts (is_among circuit.inputs w.0) (list_any (λ one. bytes_eq w.0 one.name && list_all (settles circuit limit) one.ins) circuit.covers) w.2 in
-    let next = cover_of circuit w.0 (all_pass (is_signal circuit) cover.ins w.0 (s i cover at) w.1) both.0 in
+    let next = cover_of circuit w.0 (all_of_word (is_signal circuit) cover.ins w.0 (s i cover at) w.1) both.0 in
     let stops = none_passes (λ one. bytes_eq w.0 one.name && list_all (settles circuit limit) one.ins) circuit.covers next.0 next.1 both.1 next.2 in
     let rest = path_from circuit s limit next.0 next.1 next.2
     (sym (ap (λ b. b && list_all (settles circuit limit) (next.1).ins) ((bytes_eq-Decides w.0 (next.1).name).1 (sym next.3))) ∙ stops) in
-    (next.0 ∷ rest.0, ap suc rest.1, ((cover, next.1, at, next.2, ap (is_among cover.ins) next.3 ∙ w.1), rest.2))
+    (next.0 ∷ rest.0, one_longer rest.0 (suc limit) rest.1, ((cover, next.1, at, next.2, ap (is_among cover.ins) next.3 ∙ w.1), rest.2))
 
 -- a number that stands twice
 repeats : (xs : List ℕ) → Once xs ⊎ ((front mid back : List ℕ) × (c : ℕ) × (xs ≡ front ++ c ∷ (mid ++ c ∷ back)))
@@ -178,7 +168,7 @@ cycle_in covers i path cover at h (f ∷ front) mid back c e =
     let round = leads covers c mid c back other.0 other.0 later other.1 other.1 in
     inr (other.0, to.0, to.1, round)
 
-pub cyclic_is : (circuit : Circuit) → AllSignals circuit → (i : ℕ) (cover : Cover) → slice_get circuit.covers i ≡ Some cover → is_settled circuit cover ≡ false → IsCyclic circuit.covers cover
+cyclic_is : (circuit : Circuit) → AllSignals circuit → (i : ℕ) (cover : Cover) → slice_get circuit.covers i ≡ Some cover → is_settled circuit cover ≡ false → IsCyclic circuit.covers cover
 cyclic_is circuit s i cover at h =
     let path = path_from circuit s (length circuit.covers) i cover at h in
     by_kind path.0 path.1 path.2 (repeats (i ∷ path.0))
@@ -187,72 +177,13 @@ cyclic_is circuit s i cover at h =
     by_kind path long chain (inl once) = absurd (omega (arith, order_length (i ∷ path) (length circuit.covers) once (in_chain circuit.covers i path chain), long))
     by_kind path long chain (inr (front, mid, back, c, e)) = cycle_in circuit.covers i path cover at chain front mid back c e
 
--- Inputs of covers are used on their lines
-abbrev reads_well : (Word → Bool) → List Cover → Bool
-reads_well sig covers = list_all (λ cover. list_all sig cover.ins) covers
-
-and_both : (a b : Bool) → a ≡ true → b ≡ true → (a && b) ≡ true
-and_both a b h k = ap (λ t. t && b) h ∙ k
-
-well_closed : (sig : Word → Bool) (c : Context) → reads_well sig (covers_in c) ≡ true → reads_well sig (covers_in (close c)) ≡ true
-well_closed sig c h = ap (reads_well sig) (append-nil (covers_in c)) ∙ h
-
-well_row : (sig : Word → Bool) (closed : List Cover) (o : Option Cover) (words : List Word) → reads_well sig (closed ++ option_to_list o) ≡ true → reads_well sig (closed ++ option_to_list (with_row_in o words)) ≡ true
-well_row sig closed None words h = h
-well_row sig closed (Some cover) words h =
-    list_all-append (λ (one : Cover). list_all sig one.ins) closed (with_row cover words ∷ []) ∙ sym (list_all-append (λ (one : Cover). list_all sig one.ins) closed (cover ∷ [])) ∙ h
-
-step_well : (sig : Word → Bool) (c : Context) (l : ℕ) (statement : Statement) → reads_well sig (covers_in c) ≡ true → list_all sig (uses statement) ≡ true → reads_well sig (covers_in (after_statement c l statement)) ≡ true
-step_well sig c l nothing h e = h
-step_well sig c l (model words) h e = well_closed sig c h
-step_well sig c l (inputs words) h e = well_closed sig c h
-step_well sig c l (outputs words) h e = well_closed sig c h
-step_well sig c l (names words) h e =
-    list_all-append (λ (one : Cover). list_all sig one.ins) (covers_in c) (cover_at l words ∷ []) ∙ and_both (reads_well sig (covers_in c)) (list_all sig (cover_at l words).ins && true) h (and_both (list_all sig (cover_at l words).ins) true e refl)
-step_well sig c l (ends words) h e = well_closed sig c h
-step_well sig c l passed_over h e = well_closed sig c h
-step_well sig c l (subckt words) h e = well_closed sig c h
-step_well sig c l (latch words) h e = well_closed sig c h
-step_well sig c l left_out h e = well_closed sig c h
-step_well sig c l unknown h e = well_closed sig c h
-step_well sig c l (row words) h e = well_row sig c.closed c.current words h
-
-lines_well : (sig : Word → Bool) (c : Context) (lines : List Line) → reads_well sig (covers_in c) ≡ true → find (λ (line : Line). not (list_all sig (uses (said line)))) lines ≡ None → reads_well sig (covers_in (behind c lines)) ≡ true
-unfolding behind
-lines_well sig c [] h e = h
-lines_well sig c (line ∷ lines) h e = by_cases (list_all sig (uses (said line))) refl e (λ f k. lines_well sig (after_line c line) lines (step_well sig c line.number (said line) h f) k)
-  where
-    by_cases : (b : Bool) → list_all sig (uses (said line)) ≡ b → cond (not b) (Some line) (find (λ (one : Line). not (list_all sig (uses (said one)))) lines) ≡ None
-        → (list_all sig (uses (said line)) ≡ true → find (λ (one : Line). not (list_all sig (uses (said one)))) lines ≡ None → reads_well sig (covers_in (behind (after_line c line) lines)) ≡ true)
-        → reads_well sig (covers_in (behind (after_line c line) lines)) ≡ true
-    by_cases true f k more = more f k
-    by_cases false f k more = cc
-
-each_well : (sig : Word → Bool) (covers : List Cover) (i : ℕ) (cover : Cover) → reads_well sig covers ≡ true → slice_get covers i ≡ Some cover → list_all sig cover.ins ≡ true
-each_well sig [] i cover h e = cc
-each_well sig (x ∷ covers) zero cover h e = let same : x ≡ cover = cc in subst (λ (t : Cover). list_all sig t.ins ≡ true) same (first (list_all sig x.ins) h)
-  where
-    first : (b : Bool) → (b && reads_well sig covers) ≡ true → b ≡ true
-    first true k = refl
-    first false k = absurd (false≢true k)
-each_well sig (x ∷ covers) (suc i) cover h e = each_well sig covers i cover (later (list_all sig x.ins) h) e
-  where
-    later : (b : Bool) → (b && reads_well sig covers) ≡ true → reads_well sig covers ≡ true
-    later true k = k
-    later false k = absurd (false≢true k)
-
-no_line : (o : Option Line) → option_map (λ (line : Line). fault_on line kinds.Undefined) o ≡ None → o ≡ None
-no_line None h = refl
-no_line (Some line) h = cc
-
-all_signals : (lines : List Line) → undefined_line lines ≡ None → AllSignals (circuit_of lines)
-unfolding behind
-all_signals lines h = λ i cover at.
-    let sig = is_signal (circuit_of lines) in
-    each_well sig (circuit_of lines).covers i cover (lines_well sig at_start lines refl (no_line (find (λ (line : Line). not (list_all sig (uses (said line)))) lines) h)) at
-
 pub cycles_found : CyclesAreFound
 cycles_found = record {
-  cyclic = λ lines cover f u at h. cyclic_is (circuit_of lines) (all_signals lines u) at.0 cover at.1 h;
-  unsettled = λ lines cover f at c. never_settled (circuit_of lines) (alone_behind at_start lines f alone_at_start) (length (circuit_of lines).covers) cover c;
+  cyclic = λ circuit cover sound at h.
+      let signals : AllSignals circuit = λ i one place. all_of_cover (λ (other : Cover). list_all (is_signal circuit) other.ins) circuit.covers i one sound.reads place in
+      cyclic_is circuit signals at.0 cover at.1 h;
+  unsettled = λ circuit cover once at c.
+      let parts = once_parts circuit.inputs (defined_in circuit.covers) once in
+      let alone : Alone circuit.inputs (defined_in circuit.covers) = record { inputs = parts.0; covers = parts.1; apart = λ z e. not_so (is_among (defined_in circuit.covers) z) (λ f. parts.2 z e f) } in
+      never_settled circuit alone (length circuit.covers) cover c;
 }

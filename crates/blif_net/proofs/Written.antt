@@ -18,11 +18,11 @@ use Rattle.blif_net.specs.declared.faults.BlifFault.{BlifFault}
 use Rattle.blif_net.specs.declared.faults.FaultKind.TheVariants as kinds
 use Rattle.blif_text.specs.Text.{Word, Line, goes_on, is_allowed, joined_from, joined_lines, left_of, line_at, lines_of, without_last, without_return, words_of}
 use Rattle.blif_text.specs.Statements.{said, statement_of}
-use Rattle.blif_net.specs.Circuits.{Context, after_line, behind}
-use Rattle.blif_net.specs.Faults.{end_fault, fault_on, faulty_line, line_fault, open_fault}
+use Rattle.blif_net.specs.PlainTexts.{Context, after_line, behind, end_fault, fault_on, faulty_line, line_fault, open_fault}
 use Rattle.blif_text.proofs.Joining.{joined_here}
 use Rattle.blif_text.proofs.Split.{first_line}
 use Rattle.blif_net.specs.Lines.{line_with, spaced, text_of}
+use Rattle.blif_net.proofs.NoFaults.{all_weaker}
 
 -- the byte cuts no word and no line, and begins no comment
 abbrev pub is_plain : ℕ → Bool
@@ -55,13 +55,6 @@ ArePlain lines = list_all (list_all is_plain_word) lines ≡ true
 abbrev pub numbered : ℕ → List (List Word) → List Line
 numbered number [] = []
 numbered number (words ∷ lines) = line_at number (line_with words) ∷ numbered (number + 1) lines
-
--- what passes one test passes a weaker one
-pub all_weaker : {X : Type 0} (p q : X → Bool) (xs : List X) → ((x : X) → p x ≡ true → q x ≡ true) → list_all p xs ≡ true → list_all q xs ≡ true
-all_weaker p q [] h all = refl
-all_weaker p q (x ∷ xs) h all =
-    let both = and_parts (p x) (list_all p xs) all in
-    and_from (q x) (list_all q xs) (h x both.0) (all_weaker p q xs h both.1)
 
 -- none passes
 all_fail : (p : ℕ → Bool) (xs : List ℕ) → list_all (λ b. not (p b)) xs ≡ true → All (λ b. p b ≡ false) xs

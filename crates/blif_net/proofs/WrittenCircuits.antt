@@ -15,11 +15,12 @@ use Rattle.blif_net.specs.declared.faults.FaultKind.TheVariants as kinds
 use Rattle.blif_text.specs.Text.{Word, Line, line_at}
 use Rattle.blif_models.specs.Circuits.{Circuit, Cover, Row, defined_in, is_signal, some_again}
 use Rattle.blif_text.specs.Statements.{names, row, directive, statement_of}
-use Rattle.blif_net.specs.Circuits.{Context, after_line, after_statement, at_start, behind, circuit_in, circuit_of, close, covers_in, is_bit, last_of, is_cube, is_literal, row_of, row_with}
-use Rattle.blif_net.specs.Faults.{fault_on, faulty_line, is_mixed, inputs_fault, names_fault, open_fault, row_fault, signals_in}
-use Rattle.blif_net.proofs.Lines.{front_is, some_names}
+use Rattle.blif_net.specs.PlainTexts.{Context, after_line, after_statement, at_start, behind, circuit_in, circuit_of, close, covers_in, fault_on, faulty_line, inputs_fault, names_fault, open_fault, signals_in}
+use Rattle.blif_net.specs.CoverTexts.{is_bit, last_of, is_cube, is_literal, row_of, row_with, is_mixed, row_fault}
+use Rattle.blif_net.proofs.Fronts.{front_is, some_names}
+use Rattle.blif_net.proofs.NoFaults.{all_weaker}
 use Rattle.blif_net.specs.Lines.{line_with}
-use Rattle.blif_net.proofs.Written.{all_weaker, faulty_behind, is_plain, is_plain_word, left_behind, no_end, numbered, numbered_behind, plain_from, said_written, written_fault}
+use Rattle.blif_net.proofs.Written.{faulty_behind, is_plain, is_plain_word, left_behind, no_end, numbered, numbered_behind, plain_from, said_written, written_fault}
 
 -- the word of an output
 abbrev pub output_word : Bool → Word

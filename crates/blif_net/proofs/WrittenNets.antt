@@ -14,16 +14,20 @@ use Rattle.blif_net.specs.declared.faults.FaultKind.TheVariants as kinds
 use Rattle.cover_nets.specs.declared.net.Net.{Net}
 use Rattle.blif_text.specs.Text.{Word, Line, joined_lines, line_at}
 use Rattle.blif_models.specs.Circuits.{Circuit, Cover, Row, defined_in, is_settled, is_signal, settles}
-use Rattle.blif_text.specs.Statements.{said, statement_of}
+use Rattle.blif_text.specs.Statements.{Statement, row, said, statement_of}
+use Rattle.blif_wholes.proofs.Words.{among_front}
+use Rattle.blif_net.specs.PlainTexts.{begins_plainly, cycle_at, cyclic_cover, fault_on, is_of_one_model, is_plain_statement, uses}
+use Rattle.blif_net.specs.PlainTexts as one_model
 use Rattle.blif_net.specs.Circuits.{circuit_of}
-use Rattle.blif_net.specs.Faults.{cycle_at, cyclic_cover, fault_in, fault_of, fault_on, last_number, no_outputs, undefined_line, uses}
+use Rattle.blif_net.specs.Faults.{fault_in, fault_of, last_number}
 use Rattle.blif_net.specs.Networks.{IsBlifText}
 use Rattle.blif_net.proofs.Completeness.{faultless_net}
 use Rattle.blif_net.proofs.Distinct.{true_or}
-use Rattle.blif_net.proofs.Lines.{front_is}
-use Rattle.blif_net.proofs.Undefining.{front_among}
+use Rattle.blif_net.proofs.Fronts.{front_is}
+use Rattle.blif_net.proofs.NoFaults.{all_weaker, none_failing}
+use Rattle.blif_net.proofs.PlainTexts.{plain_texts_agree}
 use Rattle.blif_net.specs.Lines.{line_with, text_of}
-use Rattle.blif_net.proofs.Written.{ArePlain, all_weaker, is_plain_word, lines_read, numbered, said_written}
+use Rattle.blif_net.proofs.Written.{ArePlain, is_plain_word, lines_read, numbered, said_written}
 use Rattle.blif_net.proofs.WrittenCircuits.{AreNextCovers, AreRowsFor, IsNextCover, IsWritable, as_placed, circuit_lines, circuit_read, cover_lines, names_plain, names_said, placed, row_plain, row_said, row_words}
 
 -- the circuit's lines are plain
@@ -57,10 +61,11 @@ circuit_plain name circuit h =
 abbrev fit : (Word → Bool) → List Word → Bool
 fit p words = list_all p (uses (statement_of words))
 
-rows_fit : (p : Word → Bool) (ins : ℕ) (output : Bool) (rows : List Row) → AreRowsFor ins output rows → list_all (fit p) (map row_words rows) ≡ true
-rows_fit p ins output [] h = refl
-rows_fit p ins output (one ∷ rows) h =
-    and_from (fit p (row_words one)) (list_all (fit p) (map row_words rows)) (ap (λ s. list_all p (uses s)) (row_said one.literals one.output (h.0).literals)) (rows_fit p ins output rows h.1)
+rows_say : (q : Statement → Bool) → ((words : List Word) → q (row words) ≡ true) → (ins : ℕ) (output : Bool) (rows : List Row) → AreRowsFor ins output rows → list_all (λ words. q (statement_of words)) (map row_words rows) ≡ true
+rows_say q passes ins output [] h = refl
+rows_say q passes ins output (one ∷ rows) h =
+    and_from (q (statement_of (row_words one))) (list_all (λ words. q (statement_of words)) (map row_words rows))
+    (ap q (row_said one.literals one.output (h.0).literals) ∙ passes (row_words one)) (rows_say q passes ins output rows h.1)
 
 covers_fit : (p : Word → Bool) (signals : List Word) (covers : List Cover) → AreNextCovers signals covers → ((z : Word) → is_among (signals ++ defined_in covers) z ≡ true → p z ≡ true) → list_all (fit p) (flat_map cover_lines covers) ≡ true
 covers_fit p signals [] h known = refl
@@ -70,8 +75,8 @@ covers_fit p signals (cover ∷ covers) h known =
     ∙ and_from (list_all (fit p) (cover_lines cover)) (list_all (fit p) (flat_map cover_lines covers))
     (and_from (fit p (codes ".names" ∷ words)) (list_all (fit p) (map row_words cover.rows))
     (ap (λ s. list_all p (uses s)) (names_said words) ∙ ap (list_all p) (front_is cover.ins cover.name).0
-    ∙ all_weaker (is_among signals) p cover.ins (λ z e. known z (front_among signals (defined_in (cover ∷ covers)) z e)) (h.0).reads)
-    (rows_fit p (length cover.ins) (h.0).output cover.rows (h.0).rows))
+    ∙ all_weaker (is_among signals) p cover.ins (λ z e. known z (among_front signals (defined_in (cover ∷ covers)) z e)) (h.0).reads)
+    (rows_say (λ s. list_all p (uses s)) (λ words. refl) (length cover.ins) (h.0).output cover.rows (h.0).rows))
     (covers_fit p (signals ++ cover.name ∷ []) covers h.1 (λ z e. known z (ap (λ (t : List Word). is_among t z) (sym (append_assoc signals (cover.name ∷ []) (defined_in covers))) ∙ e)))
 
 circuit_fits : (p : Word → Bool) (name : Word) (circuit : Circuit) → IsWritable name circuit → ((z : Word) → is_signal circuit z ≡ true → p z ≡ true) → list_all (fit p) (circuit_lines name circuit) ≡ true
@@ -82,19 +87,14 @@ circuit_fits p name circuit h known =
     and_from (list_all p circuit.outputs) (list_all (fit p) lines) (all_weaker (is_signal circuit) p circuit.outputs known h.named)
     (list_all-append (fit p) (flat_map cover_lines circuit.covers) end ∙ and_from (list_all (fit p) (flat_map cover_lines circuit.covers)) true (covers_fit p circuit.inputs circuit.covers h.next known) refl)
 
-numbered_fit : (p : Word → Bool) (number : ℕ) (lines : List (List Word)) → ArePlain lines → list_all (fit p) lines ≡ true → list_all (λ line. list_all p (uses (said line))) (numbered number lines) ≡ true
-numbered_fit p number [] plain h = refl
-numbered_fit p number (words ∷ lines) plain h =
+-- what written lines say
+numbered_say : (q : Statement → Bool) (number : ℕ) (lines : List (List Word)) → ArePlain lines → list_all (λ words. q (statement_of words)) lines ≡ true → list_all (λ line. q (said line)) (numbered number lines) ≡ true
+numbered_say q number [] plain h = refl
+numbered_say q number (words ∷ lines) plain h =
     let own = and_parts (list_all is_plain_word words) (list_all (list_all is_plain_word) lines) plain in
-    let both = and_parts (fit p words) (list_all (fit p) lines) h in
-    and_from (list_all p (uses (said (line_at number (line_with words))))) (list_all (λ line. list_all p (uses (said line))) (numbered (number + 1) lines))
-    (ap (λ s. list_all p (uses s)) (said_written number words own.0) ∙ both.0) (numbered_fit p (number + 1) lines own.1 both.1)
-
-none_failing : {X : Type 0} (p : X → Bool) (xs : List X) → list_all p xs ≡ true → find (λ x. not (p x)) xs ≡ None
-none_failing p [] h = refl
-none_failing p (x ∷ xs) h =
-    let both = and_parts (p x) (list_all p xs) h in
-    ap (λ b. cond (not b) (Some x) (find (λ y. not (p y)) xs)) both.0 ∙ none_failing p xs both.1
+    let both = and_parts (q (statement_of words)) (list_all (λ words. q (statement_of words)) lines) h in
+    and_from (q (said (line_at number (line_with words)))) (list_all (λ line. q (said line)) (numbered (number + 1) lines))
+    (ap q (said_written number words own.0) ∙ both.0) (numbered_say q (number + 1) lines own.1 both.1)
 
 defined_placed : (number : ℕ) (covers : List Cover) → defined_in (placed number covers) ≡ defined_in covers
 defined_placed number [] = refl
@@ -163,30 +163,58 @@ none_cyclic circuit h =
 not_zero : (n : ℕ) → 1 ≤ n → (n == 0) ≡ false
 not_zero n h = grind (arith, nat_tests)
 
-lines_faultless : (name : Word) (circuit : Circuit) → IsWritable name circuit → fault_in (numbered 1 (circuit_lines name circuit)) ≡ None
+lines_faultless : (name : Word) (circuit : Circuit) → IsWritable name circuit → one_model.fault_in (numbered 1 (circuit_lines name circuit)) ≡ None
 lines_faultless name circuit h =
     let lines = numbered 1 (circuit_lines name circuit) in
     let read = circuit_read name circuit h in
-    let is : circuit_of lines ≡ as_placed circuit = read.1 in
-    let undefined : undefined_line lines ≡ None =
+    let is : one_model.circuit_of lines ≡ as_placed circuit = read.1 in
+    let undefined : one_model.undefined_line lines ≡ None =
     ap (λ (c : Circuit). option_map (λ line. fault_on line kinds.Undefined) (find (λ line. not (list_all (is_signal c) (uses (said line)))) lines)) is
     ∙ ap (option_map (λ line. fault_on line kinds.Undefined)) (none_failing (λ line. list_all (is_signal (as_placed circuit)) (uses (said line))) lines
-    (numbered_fit (is_signal (as_placed circuit)) 1 (circuit_lines name circuit) (circuit_plain name circuit h) (circuit_fits (is_signal (as_placed circuit)) name circuit h (signal_placed circuit)))) in
-    let cyclic : cyclic_cover (circuit_of lines) ≡ None = ap cyclic_cover is ∙ none_cyclic (as_placed circuit) (next_placed circuit.inputs 4 circuit.covers h.next) in
-    let some : no_outputs lines ≡ None =
+    (numbered_say (λ s. list_all (is_signal (as_placed circuit)) (uses s)) 1 (circuit_lines name circuit) (circuit_plain name circuit h) (circuit_fits (is_signal (as_placed circuit)) name circuit h (signal_placed circuit)))) in
+    let cyclic : cyclic_cover (one_model.circuit_of lines) ≡ None = ap cyclic_cover is ∙ none_cyclic (as_placed circuit) (next_placed circuit.inputs 4 circuit.covers h.next) in
+    let some : one_model.no_outputs lines ≡ None =
     ap (λ (c : Circuit). cond (length c.outputs == 0) (Some (record { line = last_number lines; what = kinds.NoOutputs })) None) is
     ∙ ap (λ b. cond b (Some (record { line = last_number lines; what = kinds.NoOutputs })) None) (not_zero (length circuit.outputs) h.some) in
-    ap (λ o. option_or o (option_or (undefined_line lines) (option_or (cyclic_cover (circuit_of lines)) (no_outputs lines)))) read.0
-    ∙ ap (λ o. option_or o (option_or (cyclic_cover (circuit_of lines)) (no_outputs lines))) undefined ∙ ap (λ o. option_or o (no_outputs lines)) cyclic ∙ some
+    ap (λ o. option_or o (option_or (one_model.undefined_line lines) (option_or (cyclic_cover (one_model.circuit_of lines)) (one_model.no_outputs lines)))) read.0
+    ∙ ap (λ o. option_or o (option_or (cyclic_cover (one_model.circuit_of lines)) (one_model.no_outputs lines))) undefined ∙ ap (λ o. option_or o (one_model.no_outputs lines)) cyclic ∙ some
+
+-- the text is of one model
+abbrev says_plainly : List Word → Bool
+says_plainly words = is_plain_statement (statement_of words)
+
+covers_say : (signals : List Word) (covers : List Cover) → AreNextCovers signals covers → list_all says_plainly (flat_map cover_lines covers) ≡ true
+covers_say signals [] h = refl
+covers_say signals (cover ∷ covers) h =
+    let words = cover.ins ++ cover.name ∷ [] in
+    list_all-append says_plainly (cover_lines cover) (flat_map cover_lines covers)
+    ∙ and_from (list_all says_plainly (cover_lines cover)) (list_all says_plainly (flat_map cover_lines covers))
+    (and_from (says_plainly (codes ".names" ∷ words)) (list_all says_plainly (map row_words cover.rows)) (ap is_plain_statement (names_said words))
+    (rows_say is_plain_statement (λ words. refl) (length cover.ins) (h.0).output cover.rows (h.0).rows))
+    (covers_say (signals ++ cover.name ∷ []) covers h.1)
+
+of_one_model : (name : Word) (circuit : Circuit) → IsWritable name circuit → is_of_one_model (numbered 1 (circuit_lines name circuit)) ≡ true
+unfolding statement_of
+of_one_model name circuit h =
+    let end : List (List Word) = (codes ".end" ∷ []) ∷ [] in
+    let covers = flat_map cover_lines circuit.covers in
+    let first : List Word = codes ".model" ∷ name ∷ [] in
+    let behind_first : List (List Word) = (codes ".inputs" ∷ circuit.inputs) ∷ (codes ".outputs" ∷ circuit.outputs) ∷ (covers ++ end) in
+    let all : list_all says_plainly (covers ++ end) ≡ true =
+    list_all-append says_plainly covers end ∙ and_from (list_all says_plainly covers) true (covers_say circuit.inputs circuit.covers h.next) refl in
+    let plain = and_parts (list_all is_plain_word first) (list_all (list_all is_plain_word) behind_first) (circuit_plain name circuit h) in
+    and_from (begins_plainly (said (line_at 1 (line_with first)))) (list_all (λ line. is_plain_statement (said line)) (numbered 2 behind_first)) (ap begins_plainly (said_written 1 first plain.0))
+    (numbered_say is_plain_statement 2 behind_first plain.1 all)
 
 -- The text of a circuit that can be written has no fault, and its lines declare the circuit.
 pub text_reads : (name : Word) (circuit : Circuit) → IsWritable name circuit
     → (fault_of (text_of (circuit_lines name circuit)) ≡ None) × (circuit_of (joined_lines (text_of (circuit_lines name circuit))) ≡ as_placed circuit)
 unfolding fault_of
 text_reads name circuit h =
-    let joined = lines_read (circuit_lines name circuit) (circuit_plain name circuit h) in (
-      ap fault_in joined ∙ lines_faultless name circuit h,
-      ap (λ (lines : List Line). circuit_of lines) joined ∙ (circuit_read name circuit h).1,
+    let joined = lines_read (circuit_lines name circuit) (circuit_plain name circuit h) in
+    let same = plain_texts_agree (numbered 1 (circuit_lines name circuit)) (of_one_model name circuit h) (lines_faultless name circuit h) in (
+      ap fault_in joined ∙ same.0,
+      ap (λ (lines : List Line). circuit_of lines) joined ∙ same.1 ∙ (circuit_read name circuit h).1,
     )
 
 -- the network of a circuit's text

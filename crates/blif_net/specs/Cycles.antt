@@ -1,10 +1,9 @@
--- What lies on a cycle or depends on one, by who reads whom; and that these are the covers which are told.
-use Rattle.std.specs.Prelude.{◌≡◌, ℕ, true, false, List, [], ◌∷◌, ◌⊎◌, None, Some, slice_get}
+-- What lies on a cycle or depends on one, by who reads whom; and that these are the covers which are not led back to inputs.
+use Rattle.std.specs.Prelude.{◌≡◌, ℕ, true, false, List, [], ◌∷◌, ◌++◌, ◌⊎◌, Some, slice_get}
 use Rattle.job_words.specs.Text.{is_among}
-use Rattle.blif_text.specs.Text.{Line}
-use Rattle.blif_models.specs.Circuits.{Cover, is_settled}
-use Rattle.blif_net.specs.Circuits.{at_start, circuit_of}
-use Rattle.blif_net.specs.Faults.{faulty_line, undefined_line}
+use Rattle.blif_models.specs.Circuits.{Circuit, Cover, defined_in, is_settled}
+use Rattle.blif_wholes.specs.Built.{IsSound}
+use Rattle.blif_wholes.specs.Defined.{Once}
 
 abbrev pub IsOneOf : List Cover → Cover → Type 0
 IsOneOf covers cover = (i : ℕ) × (slice_get covers i ≡ Some cover)
@@ -27,9 +26,8 @@ DependsOnCycle covers cover = (other : Cover) × (between : List Cover) × Leads
 abbrev pub IsCyclic : List Cover → Cover → Type 0
 IsCyclic covers cover = LiesOnCycle covers cover ⊎ DependsOnCycle covers cover
 
--- Where no line is faulty and no signal undefined, a cover is not led back to inputs exactly where it lies on a cycle or depends on one.
+-- Where no signal is defined twice and what is read is a signal, a cover is not led back to inputs exactly where it lies on a cycle or
+-- depends on one.
 pub record CyclesAreFound : Type 0 where
-  pub cyclic : (lines : List Line) (cover : Cover) → faulty_line at_start lines ≡ None → undefined_line lines ≡ None → IsOneOf (circuit_of lines).covers cover
-      → is_settled (circuit_of lines) cover ≡ false → IsCyclic (circuit_of lines).covers cover
-  pub unsettled : (lines : List Line) (cover : Cover) → faulty_line at_start lines ≡ None → IsOneOf (circuit_of lines).covers cover → IsCyclic (circuit_of lines).covers cover
-      → is_settled (circuit_of lines) cover ≡ false
+  pub cyclic : (circuit : Circuit) (cover : Cover) → IsSound circuit → IsOneOf circuit.covers cover → is_settled circuit cover ≡ false → IsCyclic circuit.covers cover
+  pub unsettled : (circuit : Circuit) (cover : Cover) → Once (circuit.inputs ++ defined_in circuit.covers) → IsOneOf circuit.covers cover → IsCyclic circuit.covers cover → is_settled circuit cover ≡ false

@@ -2,6 +2,7 @@
 use Rattle.std.specs.Prelude.{◌≡◌, ℕ, suc, ◌≤◌, true, false, List, [], ◌∷◌, Some, None}
 use Rattle.blif_models.specs.Models.{Latch, latched}
 use Rattle.blif_drafts.specs.declared.open_models.OpenModels.{OpenModels}
+use Rattle.blif_drafts.specs.declared.stops.LineStop.{LineStop}
 use Rattle.blif_drafts.specs.declared.stops.LineStop.TheVariants as stops
 use Rattle.blif_drafts.specs.declared.stops.Refusal.{Refusal}
 use Rattle.blif_drafts.specs.declared.stops.Refusal.TheVariants as refusals
@@ -9,17 +10,24 @@ use Rattle.blif_drafts.specs.Latches.{latch_of}
 use Rattle.blif_drafts.specs.OpenDrafts.{bare_model, cover_refused, first_word, inputs_refused, latch_refused, outputs_refused}
 use Rattle.blif_drafts.specs.OpenDrafts as drafts
 use Rattle.blif_drafts.specs.OpenModels.{AreOpen, BeginsFurther, BeginsMain, HoldsLine, StopsLine, TakesLine}
+use Rattle.blif_net.specs.declared.faults.BlifStop.{BlifStop}
+use Rattle.blif_net.specs.declared.faults.BlifStop.TheVariants as blif_stops
 use Rattle.blif_net.specs.declared.faults.FaultKind.{FaultKind}
 use Rattle.blif_net.specs.declared.faults.FaultKind.TheVariants as kinds
 use Rattle.blif_text.specs.Text.{Word}
-use Rattle.blif_net.specs.Circuits.{front_of, last_of}
+use Rattle.blif_net.specs.CoverTexts.{front_of, last_of}
 use Rattle.blif_text.specs.Statements.{ends, inputs, latch, model, names, outputs, row, subckt}
-use Rattle.blif_net.specs.ModelTexts.{Context, after_statement, at_start, close, open_fault}
+use Rattle.blif_net.specs.Circuits.{Context, after_statement, at_start, close}
+use Rattle.blif_net.specs.Faults.{open_fault}
 
 -- the kind of a fault by which a line is refused
 abbrev pub kind_of : Refusal → FaultKind
 kind_of refusals.Twice = kinds.Twice
 kind_of refusals.TooMany = kinds.TooMany
+
+abbrev pub stop_of : LineStop → BlifStop
+stop_of stops.Memory = blif_stops.Memory
+stop_of (stops.Refused refusal) = blif_stops.Fault (kind_of refusal)
 
 -- The drafts are those of the models that lines before this one leave; where none of the lines had words, no model is closed.
 pub record AreLeftBy (line : ℕ) (c : Context) (one : OpenModels) : Type 0 where

@@ -7,21 +7,22 @@ use Rattle.blif_models.specs.Models.{Item, Model, whole_items}
 use Rattle.blif_drafts.specs.declared.verdicts.Verdict.{Verdict}
 use Rattle.blif_drafts.specs.declared.verdicts.Verdict.TheVariants as verdicts
 use Rattle.blif_drafts.specs.Verdicts.{VerdictIs}
+use Rattle.blif_net.specs.declared.faults.BlifFault.{BlifFault}
 use Rattle.blif_net.specs.declared.faults.FaultKind.TheVariants as kinds
 use Rattle.blif_text.specs.Text.{Line}
-use Rattle.blif_net.specs.ModelTexts.{Fault, expanded_fault, fault_at, misjoined, models_fault, nameless, told}
+use Rattle.blif_net.specs.Faults.{expanded_fault, fault_at, models_fault}
 
 -- of an outcome: an instance by which a model holds itself, a limit that is passed, or what is wrong with the whole that stands in the main model
-abbrev pub outcome_fault : List Line → Model → List Item → Outcome → Option Fault
-outcome_fault lines main items (outcomes.Turning line) = Some (fault_at (told kinds.Cycle) line)
-outcome_fault lines main items (outcomes.TooMany line) = Some (fault_at (told kinds.TooMany) line)
+abbrev pub outcome_fault : List Line → Model → List Item → Outcome → Option BlifFault
+outcome_fault lines main items (outcomes.Turning line) = Some (fault_at kinds.Cycle line)
+outcome_fault lines main items (outcomes.TooMany line) = Some (fault_at kinds.TooMany line)
 outcome_fault lines main items (outcomes.Expanded whole) = expanded_fault lines main items
 
 -- of a verdict
-abbrev pub verdict_fault : List Line → Model → List Item → Verdict → Option Fault
-verdict_fault lines main items (verdicts.Nameless line) = Some (fault_at nameless line)
-verdict_fault lines main items (verdicts.Misjoined line) = Some (fault_at misjoined line)
-verdict_fault lines main items (verdicts.Twice line) = Some (fault_at (told kinds.Twice) line)
+abbrev pub verdict_fault : List Line → Model → List Item → Verdict → Option BlifFault
+verdict_fault lines main items (verdicts.Nameless line) = Some (fault_at kinds.Model line)
+verdict_fault lines main items (verdicts.Misjoined line) = Some (fault_at kinds.Formal line)
+verdict_fault lines main items (verdicts.Twice line) = Some (fault_at kinds.Twice line)
 verdict_fault lines main items (verdicts.Comes outcome) = outcome_fault lines main items outcome
 
 -- what is told of models, the main one first, is what is wrong with them

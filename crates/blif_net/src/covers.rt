@@ -3,22 +3,19 @@
 ghost use Rattle.std.specs.Prelude.{◌≡◌, length, map, codes, IfOk, IfErr, MatchOption, OnOk, true, false};
 ghost use Rattle.std.specs.List.{list_all};
 ghost use Rattle.std.specs.Str.{bytes_eq};
-ghost use Rattle.blif_net.specs.Circuits.{is_bit, is_literal};
-ghost use Rattle.blif_net.specs.Networks.{literal_of};
-ghost use Rattle.blif_net.specs.Covers.{CubeStop, IsRead, IsReadRow, RowStop, StopsRow, TakesRow, WordsStop, takes_output};
+ghost use Rattle.blif_net.specs.CoverTexts.{is_bit, is_literal};
+ghost use Rattle.blif_net.specs.OpenCovers.{CubeStop, IsRead, IsReadRow, RowStop, StopsRow, TakesRow, WordsStop, takes_output};
+ghost use Rattle.blif_wholes.specs.Networks.{literal_of};
 
 use crate::faults::{BlifStop, FaultKind};
 use cover_nets::{Cube, Literal};
 use edge_bits::List;
 use std::alloc::Global;
 
-/// A cover as far as it was read: the line of its `.names`, the numbers of its own name and of its inputs' names, its rows,
-/// and their output, which is true where there are none.
+/// A cover while its rows are read: how many inputs it has, its rows, and their output, which is true where there are none.
 #[derive(Drop)]
-pub struct CoverDraft {
-    pub line: u64,
-    pub name: u32,
-    pub ins: List<u32>,
+pub struct OpenCover {
+    pub ins: usize,
     pub rows: List<Cube>,
     pub on: bool,
 }
@@ -104,7 +101,7 @@ fn read_row(alloc: Global, ins: usize, words: &[&[u8]]) -> Result<ReadRow, BlifS
     }
 }
 
-impl CoverDraft {
+impl OpenCover {
     /// Whether a row of this output may stand behind those before it.
     fn takes_output(&self, output: bool) -> bool
         ensures { result ≡ takes_output self.now output }
@@ -117,7 +114,7 @@ impl CoverDraft {
         ensures ok { OnOk result (TakesRow self.old (map (λ word. word.now) words.now) self.new) }
         ensures stop { IfErr result (StopsRow self.old (map (λ word. word.now) words.now)) }
     {
-        let ReadRow { cube, output } = read_row(alloc, self.ins.len(), words)?;
+        let ReadRow { cube, output } = read_row(alloc, self.ins, words)?;
         if !self.takes_output(output) {
             return Err(BlifStop::Fault(FaultKind::Mixed));
         }

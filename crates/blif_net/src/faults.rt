@@ -2,6 +2,7 @@
 
 ghost use Rattle.std.specs.Prelude.{◌≡◌};
 
+use blif_drafts::{LineStop, Refusal};
 use std::alloc::{AllocError, AllocFailed};
 use thiserror::Error;
 
@@ -26,6 +27,13 @@ pub enum FaultKind {
     /// A form that this reader leaves out.
     #[error("left-out")]
     LeftOut,
+    /// A `.subckt` of no model, or a further `.model` without a name or with that of another model.
+    #[error("model")]
+    Model,
+    /// A `.subckt` that joins formal names wrongly: a word without `=` between two names, a formal that the model lacks or that stands
+    /// twice, or an input that is not joined.
+    #[error("formal")]
+    Formal,
     /// A used signal that is neither an input nor the output of a cover.
     #[error("undefined")]
     Undefined,
@@ -84,12 +92,37 @@ impl<T: Drop> From<AllocFailed<T>> for BlifStop {
     }
 }
 
+impl From<LineStop> for BlifStop {
+    ghost use Rattle.std.specs.Prelude.{◌≡◌};
+    ghost use Rattle.blif_net.specs.ModelLines.{stop_of};
+
+    ghost from_gives = { λ stop e. e ≡ stop_of stop };
+
+    fn from(stop: LineStop) -> BlifStop {
+        match stop {
+            LineStop::Memory => BlifStop::Memory,
+            LineStop::Refused(Refusal::Twice) => BlifStop::Fault(FaultKind::Twice),
+            LineStop::Refused(Refusal::TooMany) => BlifStop::Fault(FaultKind::TooMany),
+        }
+    }
+}
+
 impl From<AllocError> for BlifError {
     ghost use Rattle.blif_net.specs.declared.faults.BlifError.TheVariants.{Memory};
 
     ghost from_gives = { λ _ e. e ≡ Memory };
 
     fn from(_: AllocError) -> BlifError {
+        BlifError::Memory
+    }
+}
+
+impl<T: Drop> From<AllocFailed<T>> for BlifError {
+    ghost use Rattle.blif_net.specs.declared.faults.BlifError.TheVariants.{Memory};
+
+    ghost from_gives = { λ _ e. e ≡ Memory };
+
+    fn from(_: AllocFailed<T>) -> BlifError {
         BlifError::Memory
     }
 }

@@ -1,17 +1,18 @@
 //! Networks of the Berkeley Logic Interchange Format, and the texts that they are read from.
 #![tactic(auto)]
 
-mod building;
+mod adders;
 mod covers;
-mod draft;
+mod ending;
 mod faults;
-mod names;
+mod laws;
 mod reader;
-mod reads;
+mod reading;
 
+pub use adders::gen_text;
 pub use cover_nets::{Cover, Cube, Literal, Net, Output};
 pub use faults::{BlifError, BlifFault, FaultKind};
-pub use reader::{
-    cyclic_covers_are_found, drafts_follow_lines, networks_are_bounded, read,
-    texts_have_one_reading,
+pub use laws::{
+    cyclic_covers_are_found, networks_are_bounded, plain_texts_agree, texts_have_one_reading,
 };
+pub use reader::read;

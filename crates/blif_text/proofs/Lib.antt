@@ -1,4 +1,4 @@
 pub mod Split
 pub mod Joining
 pub mod Keeping
-mod Marks
+pub mod Marks

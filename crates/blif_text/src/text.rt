@@ -136,6 +136,7 @@ pub fn next_line<'a>(text: &'a [u8], kept: &'a [u8], number: u64) -> Next<'a>
     ensures lines { joined_from number (lines_of text.now) ≡ line_at number result.bytes.now ∷ joined_from result.number (lines_of result.rest.now) }
     ensures kept { result.kept.now ≡ kept_bytes result.rest.now }
     ensures shorter { length result.rest.now < length text.now }
+    ensures later { number < result.number }
     ensures numbers { result.number + length result.rest.now ≤ number + length text.now }
 {
     let (line, after) = cut_physical(text);

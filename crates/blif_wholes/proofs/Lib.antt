@@ -12,3 +12,12 @@ pub mod NamedCircuits
 pub mod LaidSteps
 pub mod PartSteps
 pub mod WholeDrafting
+pub mod Alone
+pub mod Permutations
+pub mod Networks
+pub mod Orders
+pub mod Cycles
+pub mod CoverReads
+pub mod Placing
+pub mod NetBuilding
+pub mod WholeNets

@@ -22,9 +22,10 @@ use Rattle.blif_wholes.specs.declared.parting.WholeCover.{WholeCover}
 use Rattle.blif_wholes.specs.declared.roles.Role.{Role}
 use Rattle.blif_wholes.specs.declared.roles.Role.TheVariants as roles
 use Rattle.blif_wholes.specs.declared.uses.SpotUse.{SpotUse}
-use Rattle.blif_wholes.specs.Drafting.{AreCoversBy, AreNumbersIn, AreRolesBy, IsDraftOfWhole, IsRoleOfWord}
+use Rattle.blif_wholes.specs.Drafting.{AreCoversBy, AreRolesBy, IsDraftOfWhole, IsRoleOfWord}
 use Rattle.blif_wholes.specs.NamedCircuits.{circuit_named, cover_named}
 use Rattle.blif_wholes.specs.Names.{IsSpotIn, WholeName, named_by, words_in}
+use Rattle.blif_wholes.specs.Networks.{AreNumbers}
 use Rattle.blif_wholes.specs.Parting.{covers_laid, latches_laid}
 use Rattle.blif_wholes.specs.Roles.{IsRoleOf, role_at}
 use Rattle.blif_wholes.specs.Uses.{IsNamed, name_at}
@@ -84,7 +85,7 @@ module _ (words : List (List Word)) (spots : List Spot) (all : List Role) (as_ma
   got : (n : ℕ) → n < length spots → slice_get (words_in (named_by words spots all)) n ≡ Some (name_at words spots n)
   got n lt = word_named words spots all n (spot_at spots n) as_many (slice_get-get_or spots n no_spot lt)
 
-  numbers : (ns : List ℕ) → All (λ n. n < length spots) ns → AreNumbersIn (words_in (named_by words spots all)) (map (name_at words spots) ns) ns
+  numbers : (ns : List ℕ) → All (λ n. n < length spots) ns → AreNumbers (words_in (named_by words spots all)) (map (name_at words spots) ns) ns
   numbers [] h = refl
   numbers (n ∷ ns) h =
       let here = got n (All-head (λ k. k < length spots) n ns h) in

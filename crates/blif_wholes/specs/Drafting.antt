@@ -1,5 +1,5 @@
 -- A whole as the draft of a circuit: names by number, and what each is.
-use Rattle.std.specs.Prelude.{◌≡◌, ℕ, false, List, [], ◌∷◌, ◌++◌, Some, map, slice_get}
+use Rattle.std.specs.Prelude.{◌≡◌, false, List, [], ◌∷◌, ◌++◌, Some, slice_get}
 use Rattle.job_words.specs.Text.{Word, is_among}
 use Rattle.blif_models.specs.declared.layout.Whole.{Whole}
 use Rattle.blif_models.specs.Circuits.{Circuit, Cover, defined_in}
@@ -11,16 +11,13 @@ use Rattle.blif_wholes.specs.declared.roles.Role.{Role}
 use Rattle.blif_wholes.specs.declared.roles.Role.TheVariants as roles
 use Rattle.blif_wholes.specs.NamedCircuits.{IsByLine}
 use Rattle.blif_wholes.specs.Names.{WholeName, words_in}
+use Rattle.blif_wholes.specs.Networks.{AreNumbers}
 use Rattle.blif_wholes.specs.Uses.{items_laid}
-
--- the numbers are those of these words among the names
-abbrev pub AreNumbersIn : List Word → List Word → List ℕ → Type 0
-AreNumbersIn names words numbers = map (slice_get names) numbers ≡ map Some words
 
 -- The cover of a whole is this one by number; its rows are those of the model's cover.
 pub record IsCoverBy (models : List Model) (names : List Word) (cover : Cover) (one : WholeCover) : Type 0 where
   pub line : one.cover.line ≡ cover.line
-  pub ins : AreNumbersIn names cover.ins one.cover.ins
+  pub ins : AreNumbers names cover.ins one.cover.ins
   pub name : slice_get names one.cover.name ≡ Some cover.name
   pub rows : cover.rows ≡ (cover_at models one.model one.place).rows
 
@@ -41,8 +38,8 @@ AreRolesBy ins defined (name ∷ others) = IsRoleOfWord ins defined name.word na
 
 -- The draft is of the circuit.
 pub record IsWholeDraft (models : List Model) (circuit : Circuit) (draft : WholeDraft) : Type 0 where
-  pub inputs : AreNumbersIn (words_in draft.names) circuit.inputs draft.inputs.items
-  pub outputs : AreNumbersIn (words_in draft.names) circuit.outputs draft.outputs.items
+  pub inputs : AreNumbers (words_in draft.names) circuit.inputs draft.inputs.items
+  pub outputs : AreNumbers (words_in draft.names) circuit.outputs draft.outputs.items
   pub covers : AreCoversBy models (words_in draft.names) circuit.covers draft.covers.items
   pub roles : AreRolesBy circuit.inputs (defined_in circuit.covers) draft.names
 

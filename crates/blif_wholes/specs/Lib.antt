@@ -6,3 +6,8 @@ pub mod Roles
 pub mod Names
 pub mod NamedCircuits
 pub mod Drafting
+pub mod Networks
+pub mod Bodies
+pub mod Built
+pub mod Arranged
+pub mod Placing

@@ -1,5 +1,5 @@
 //! The whole of several models in the Berkeley Logic Interchange Format as a circuit: that no signal of it is defined twice, the first
-//! line that uses what is no signal of it, and its draft by numbers.
+//! line that uses what is no signal of it, its draft by numbers, and its network.
 #![tactic(auto)]
 
 ghost use Rattle.blif_wholes.specs.Defined.{WholesDefineOnce};
@@ -7,12 +7,17 @@ ghost use Rattle.blif_wholes.specs.LineOrder.{CyclesByLine};
 ghost use Rattle.blif_wholes.specs.NamedCircuits.{CircuitsAreNamed};
 ghost use Rattle.blif_wholes.specs.Uses.{UndefinedAgrees};
 
+mod bodies;
+mod building;
 mod drafting;
 mod names;
 mod parting;
+mod reads;
 mod roles;
 mod uses;
 
+pub use bodies::CoverRows;
+pub use building::{Built, network_of};
 pub use drafting::{WholeDraft, whole_draft};
 pub use names::WholeNames;
 pub use parting::{WholeCover, WholeParts, parts_by_line};

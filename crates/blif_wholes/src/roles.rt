@@ -15,7 +15,7 @@ pub enum Role {
 }
 
 /// The number as one of 32 bits. For more there is no memory.
-fn number_of(n: usize) -> Result<u32, AllocError>
+pub fn number_of(n: usize) -> Result<u32, AllocError>
     ensures { IfOk result (λ number. number ≡ n) }
 {
     if n <= 4_294_967_295 {

@@ -10,10 +10,10 @@ signal_count net = length net.inputs + length net.gates
 
 pub record IsBounded (net : Net) : Type 0 where
   pub ordered : IsOrdered net
-  -- inputs, signals and outputs are at most as many as a text may have, and there is an output
+  -- inputs and signals are at most as many as a text may have; so are outputs, and behind them what latches read; and there is an output
   pub inputs : length net.inputs ≤ MOST_VARIABLES
   pub signals : signal_count net ≤ MOST_SIGNALS
-  pub outputs : length net.outputs ≤ MOST_OUTPUTS
+  pub outputs : length net.outputs ≤ MOST_OUTPUTS + MOST_VARIABLES
   pub some : 1 ≤ length net.outputs
   -- each output is a signal of the network
   pub named : All (λ output. output.signal < signal_count net) net.outputs

@@ -2,5 +2,7 @@
 #![tactic(auto)]
 
 mod net;
+mod rows;
 
 pub use net::{Cover, Cube, Literal, Net, Output};
+pub use rows::Rows;

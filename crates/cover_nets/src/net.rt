@@ -2,6 +2,7 @@
 
 ghost use Rattle.std.specs.Prelude.{◌≡◌};
 
+use crate::rows::Rows;
 use edge_bits::List;
 
 /// What a row asks of an input: to be 0, to be 1, or nothing.
@@ -24,7 +25,7 @@ pub struct Cube {
 #[derive(Drop)]
 pub struct Cover {
     pub ins: List<u32>,
-    pub rows: List<Cube>,
+    pub rows: Rows,
     pub on: bool,
 }
 

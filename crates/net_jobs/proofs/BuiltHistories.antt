@@ -11,7 +11,7 @@ use Rattle.blif_net.specs.Networks.{IsBlifText}
 use Rattle.command_words.specs.declared.order.Options.{Options}
 use Rattle.std.specs.List.{range_with_len}
 use Rattle.diagram_dumps.specs.declared.dump.Dump.{Dump}
-use Rattle.adder_texts.specs.GenTexts.{gen_text}
+use Rattle.blif_net.specs.GenTexts.{gen_text}
 use Rattle.function_laws.specs.declared.history.Entry.{Entry}
 use Rattle.function_laws.specs.SessionEntries.{Each, entries_of}
 use Rattle.function_laws.specs.Sizes.{Orders}

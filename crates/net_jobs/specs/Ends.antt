@@ -27,7 +27,7 @@ use Rattle.job_text.specs.Grammar.{IsJobText}
 use Rattle.job_text.specs.Faults.{IsFaultText}
 use Rattle.job_text.specs.Histories.{IsPlayed}
 use Rattle.byte_streams.specs.Causes.{FaultsRose}
-use Rattle.adder_texts.specs.GenTexts.{gen_text}
+use Rattle.blif_net.specs.GenTexts.{gen_text}
 use Rattle.net_builds.specs.Builds.{IsAs}
 use Rattle.net_builds.specs.Sifting.{sifted_order}
 use Rattle.net_builds.specs.declared.telling.Telling.{Telling}
@@ -66,6 +66,8 @@ blif_word blif_kinds.Mixed = codes "mixed"
 blif_word blif_kinds.Twice = codes "twice"
 blif_word blif_kinds.TooMany = codes "too-many"
 blif_word blif_kinds.LeftOut = codes "left-out"
+blif_word blif_kinds.Model = codes "model"
+blif_word blif_kinds.Formal = codes "formal"
 blif_word blif_kinds.Undefined = codes "undefined"
 blif_word blif_kinds.Cycle = codes "cycle"
 blif_word blif_kinds.NoOutputs = codes "no-outputs"

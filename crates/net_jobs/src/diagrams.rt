@@ -12,6 +12,7 @@ ghost use Rattle.net_jobs.specs.Networks.{IsFilledBy, IsFreshOf, IsLoadedIn, IsR
 use crate::gate::Gate;
 use crate::hosting::SessionHost;
 use crate::networks::{PartStop, opened};
+use crate::pace::Pace;
 use command_words::Options;
 use dd_session::{Manager, Session};
 use diagram_dumps::Dump;
@@ -42,11 +43,13 @@ pub fn load<R: Wait, G: Gate>(
     ensures loaded { IfOk result (λ text. IsLoadedIn dump.now options.now.patterns sessions.old sessions.new text.items) }
     ensures refused { IfErr result (λ stop. (cell : ℕ) → IsRefusedIn cell manager.now sessions.old sessions.new stop) }
 {
+    let pace = Pace::alone(alloc);
     let host = SessionHost {
         rt,
         manager,
         gate,
         worker: 0,
+        pace: &pace,
     };
     let patterns = options.patterns.as_slice();
     load_report(alloc, &host, &mut sessions[0], dump, patterns)

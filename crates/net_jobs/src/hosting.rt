@@ -8,6 +8,7 @@ ghost use Rattle.net_jobs.specs.Hosts.{named_by, standing_of};
 
 use crate::evaluation::evaluate;
 use crate::gate::Gate;
+use crate::pace::Pace;
 use crossbeam_utils::Backoff;
 use dd_session::{Blocks, Fetched, Full, Manager, Placed, Refusal, Session};
 use diagram_dumps::Listing;
@@ -24,6 +25,7 @@ pub struct SessionHost<'a, R, G> {
     pub manager: &'a Manager,
     pub gate: &'a G,
     pub worker: u32,
+    pub pace: &'a Pace,
 }
 
 /// Waits for ever where the session has made all the calls that it may make.
@@ -109,6 +111,7 @@ impl<'a, R: Wait, G: Gate> Host for SessionHost<'a, R, G> {
     }
 
     fn constant(&self, session: &mut Session, value: bool) -> Result<Name, HostRefusal<Full>> {
+        self.pace.step(self.rt, self.worker, session.calls());
         ready(self.rt, session);
         if value {
             named(session.one(self.rt, self.manager))
@@ -118,11 +121,13 @@ impl<'a, R: Wait, G: Gate> Host for SessionHost<'a, R, G> {
     }
 
     fn projection(&self, session: &mut Session, variable: u32) -> Result<Name, HostRefusal<Full>> {
+        self.pace.step(self.rt, self.worker, session.calls());
         ready(self.rt, session);
         named(session.var(self.rt, self.manager, variable))
     }
 
     fn complement(&self, session: &mut Session, f: Name) -> Result<Name, HostRefusal<Full>> {
+        self.pace.step(self.rt, self.worker, session.calls());
         ready(self.rt, session);
         named(session.not(self.rt, self.manager, f))
     }
@@ -133,6 +138,7 @@ impl<'a, R: Wait, G: Gate> Host for SessionHost<'a, R, G> {
         f: Name,
         g: Name,
     ) -> Result<Name, HostRefusal<Full>> {
+        self.pace.step(self.rt, self.worker, session.calls());
         ready(self.rt, session);
         named(session.and(self.rt, self.manager, f, g))
     }
@@ -143,6 +149,7 @@ impl<'a, R: Wait, G: Gate> Host for SessionHost<'a, R, G> {
         f: Name,
         g: Name,
     ) -> Result<Name, HostRefusal<Full>> {
+        self.pace.step(self.rt, self.worker, session.calls());
         ready(self.rt, session);
         named(session.or(self.rt, self.manager, f, g))
     }
@@ -154,21 +161,25 @@ impl<'a, R: Wait, G: Gate> Host for SessionHost<'a, R, G> {
         g: Name,
         h: Name,
     ) -> Result<Name, HostRefusal<Full>> {
+        self.pace.step(self.rt, self.worker, session.calls());
         ready(self.rt, session);
         named(session.ite(self.rt, self.manager, f, g, h))
     }
 
     fn let_go(&self, session: &mut Session, f: Name) {
+        self.pace.step(self.rt, self.worker, session.calls());
         ready(self.rt, session);
         let _placed = session.drop_row(self.rt, self.manager, f);
     }
 
     fn value(&self, session: &mut Session, f: Name, bits: &[bool]) -> bool {
+        self.pace.step(self.rt, self.worker, session.calls());
         ready(self.rt, session);
         evaluate(self.rt, self.manager, session, f, bits).value != 0
     }
 
     fn post(&self, session: &mut Session, cell: u32, f: Name) -> Told<()> {
+        self.pace.step(self.rt, self.worker, session.calls());
         ready(self.rt, session);
         let posted = session.post(self.rt, self.manager, cell as u8, f);
         Told {
@@ -186,6 +197,7 @@ impl<'a, R: Wait, G: Gate> Host for SessionHost<'a, R, G> {
 
     fn sift(&self, alloc: Global, session: &mut Session, variables: u32) -> Result<(), Memory> {
         let mut blocks = Blocks::one(alloc, variables)?;
+        self.pace.step(self.rt, self.worker, session.calls());
         ready(self.rt, session);
         let _sifted = session.sift(self.rt, self.manager, &mut blocks);
         Ok(())

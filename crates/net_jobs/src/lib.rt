@@ -9,6 +9,7 @@ mod gate;
 mod halves;
 mod hosting;
 mod networks;
+mod pace;
 mod performing;
 mod playing;
 mod refusal;
@@ -19,7 +20,7 @@ mod status;
 mod top;
 mod workers;
 
-pub use adder_texts::gen_text;
+pub use blif_net::gen_text;
 pub use byte_streams::{Bytes, Discard, Failed, Pieces, Sink, Source, SureBytes};
 pub use command_words::Options;
 pub use diagrams::load;

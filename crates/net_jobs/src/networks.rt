@@ -9,7 +9,7 @@ ghost use Rattle.net_builds.specs.Builds.{AreUnsifted, Builds, IsAs, TellsOf};
 ghost use Rattle.net_builds.specs.Outputs.{AreRefused};
 ghost use Rattle.net_builds.specs.Sifting.{BuildsSifted};
 ghost use Rattle.net_builds.specs.declared.telling.Telling.TheVariants.{Summary};
-ghost use Rattle.adder_texts.specs.GenTexts.{gen_text};
+ghost use Rattle.blif_net.specs.GenTexts.{gen_text};
 ghost use Rattle.net_reports.specs.Reports.{IsSummary, net_subject, output_functions};
 ghost use Rattle.net_jobs.specs.Ends.{order_for, rising, telling_of};
 ghost use Rattle.net_jobs.specs.Hosts.{TellsFullOf, standing_of};
@@ -17,9 +17,9 @@ ghost use Rattle.net_jobs.specs.Networks.{IsFilledBy, IsFreshOf, IsOpenedFor};
 
 use crate::gate::Gate;
 use crate::hosting::SessionHost;
+use crate::pace::Pace;
 use crate::workers::built_shares;
-use adder_texts::gen_text;
-use blif_net::{BlifError, Net, networks_are_bounded, read, texts_have_one_reading};
+use blif_net::{BlifError, Net, gen_text, networks_are_bounded, read, texts_have_one_reading};
 use command_words::Options;
 use dd_session::{Config, Full, Manager, OpenFault, Session};
 use edge_bits::{List, Memory, USUAL_LIMIT};
@@ -73,11 +73,13 @@ fn built_and_told<R: Threads + Wait + Sync, G: Gate>(
     ensures refused { IfErr result (AreRefused (TellsFullOf manager.now) OUTPUTS_CELL sifts (map standing_of sessions.old) (map standing_of sessions.new)) }
 {
     let shares = built_shares(rt, alloc, manager, sessions, net, gate)?;
+    let pace = Pace::alone(alloc);
     let host = SessionHost {
         rt,
         manager,
         gate,
         worker: 0,
+        pace: &pace,
     };
     finish_network(
         rt,

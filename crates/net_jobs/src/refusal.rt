@@ -91,6 +91,8 @@ fn blif_name(kind: BlifKind) -> &'static str
         BlifKind::Twice => "twice",
         BlifKind::TooMany => "too-many",
         BlifKind::LeftOut => "left-out",
+        BlifKind::Model => "model",
+        BlifKind::Formal => "formal",
         BlifKind::Undefined => "undefined",
         BlifKind::Cycle => "cycle",
         BlifKind::NoOutputs => "no-outputs",

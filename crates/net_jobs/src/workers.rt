@@ -11,6 +11,7 @@ ghost use Rattle.net_jobs.specs.Workers.{MayWork};
 
 use crate::gate::Gate;
 use crate::hosting::SessionHost;
+use crate::pace::Pace;
 use blif_net::Net;
 use dd_session::{Full, Manager, Session};
 use edge_bits::Memory;
@@ -38,6 +39,7 @@ fn build_shares<R: Threads + Wait + Sync, G: Gate>(
     alloc: Global,
     manager: &Manager,
     gate: &G,
+    pace: &Pace,
     net: &Net,
     first: Worker,
     sessions: &mut [Session],
@@ -56,8 +58,10 @@ fn build_shares<R: Threads + Wait + Sync, G: Gate>(
             manager,
             gate,
             worker: first.number,
+            pace,
         };
         shares[0] = build_share(alloc, &host, &mut sessions[0], net, first);
+        pace.leave(first.number);
         return;
     }
     let mid = sessions.len() / 2;
@@ -72,6 +76,7 @@ fn build_shares<R: Threads + Wait + Sync, G: Gate>(
         alloc,
         manager,
         gate,
+        pace,
         net,
         first,
         low,
@@ -88,6 +93,7 @@ fn both_halves<R: Threads + Wait + Sync, G: Gate>(
     alloc: Global,
     manager: &Manager,
     gate: &G,
+    pace: &Pace,
     net: &Net,
     first: Worker,
     low: &mut [Session],
@@ -106,11 +112,11 @@ fn both_halves<R: Threads + Wait + Sync, G: Gate>(
     let mut front = ||
         requires { IsSync R.row × IsSync G.row × MayWork manager.now net.now first low.now (length low_shares.now) }
         ensures { All (IsSessionOf manager.entry.now) low.exit.now × AreShared (TellsFullOf manager.entry.now) net.entry.now first.of first.number (map standing_of low.entry.now) (map standing_of low.exit.now) low_shares.exit.now }
-    { build_shares(rt, alloc, manager, gate, net, first, low, low_shares) };
+    { build_shares(rt, alloc, manager, gate, pace, net, first, low, low_shares) };
     let mut back = ||
         requires { IsSync R.row × IsSync G.row × MayWork manager.now net.now next high.now (length high_shares.now) }
         ensures { All (IsSessionOf manager.entry.now) high.exit.now × AreShared (TellsFullOf manager.entry.now) net.entry.now next.of next.number (map standing_of high.entry.now) (map standing_of high.exit.now) high_shares.exit.now }
-    { build_shares(rt, alloc, manager, gate, net, next, high, high_shares) };
+    { build_shares(rt, alloc, manager, gate, pace, net, next, high, high_shares) };
     let _joined = join_mut(rt, &mut front, &mut back);
 }
 
@@ -138,6 +144,17 @@ pub fn built_shares<R: Threads + Wait + Sync, G: Gate>(
         number: 0,
         of: workers as u32,
     };
-    build_shares(rt, alloc, manager, gate, net, first, sessions, &mut shares);
+    let pace = Pace::new(alloc, workers)?;
+    build_shares(
+        rt,
+        alloc,
+        manager,
+        gate,
+        &pace,
+        net,
+        first,
+        sessions,
+        &mut shares,
+    );
     Ok(shares)
 }

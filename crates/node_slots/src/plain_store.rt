@@ -34,11 +34,18 @@ pub enum Refused {
 /// As many answers as every store remembers across operations.
 const LEAST_REMEMBERED: u32 = 65_536;
 
-/// The number of answers that a store with so many slots remembers across operations: the least power of two above an eighth of the slots, and 65,536 at least.
+/// As many as one remembers at most.
+const MOST_REMEMBERED: u32 = 1_048_576;
+
+/// The number of answers that a store with so many slots remembers across operations: the least power of two that is not below them, but
+/// 65,536 at least and 1,048,576 at most.
 fn remembered(slots: u32) -> u32
     ensures { LEAST_REMEMBERED ≤ result }
 {
-    (slots / 8 + 1).max(LEAST_REMEMBERED).next_power_of_two()
+    slots
+        .min(MOST_REMEMBERED)
+        .max(LEAST_REMEMBERED)
+        .next_power_of_two()
 }
 
 /// A store in one vector of words. It finds a node or a leaf by its word in one unique table, and remembers answers of operations in a computed table.

@@ -1,7 +1,6 @@
 //! The generated networks are read.
 
-use adder_texts::gen_text;
-use blif_net::{BlifError, Net, read};
+use blif_net::{BlifError, Net, gen_text, read};
 use edge_bits::Memory;
 use std::hash::RandomState;
 use std::io;

@@ -5,6 +5,8 @@ use Rattle.job_words.specs.Text.{Word}
 use Rattle.blif_models.specs.Numberings.{AreNumbersOf}
 use Rattle.blif_formals.specs.Actuals.{Keeps}
 use Rattle.blif_formals.specs.Formals.{words_in}
+use Rattle.blif_formals.specs.Words.{AddsOnly}
+use Rattle.blif_formals.proofs.NewWords.{adds_one, adds_then}
 use Rattle.blif_formals.proofs.Numbering.{keeps_all, keeps_more}
 use Rattle.blif_drafts.proofs.Lasting.{append_numbers, keeps_both, numbers_kept}
 use Rattle.blif_drafts.proofs.signals.numbers_of.Goals as goal
@@ -28,5 +30,8 @@ loop-word-preserved c =
     append_numbers after c.loop-word.numbers front (numbers_kept before after here c.loop-word.numbers front c.loop-word.invariant.numbers) (number ∷ []) (word ∷ []) ((slice_get_within after number word at, get_or_from_slice_get after number word [] at), tt) in
     record {
       names = keeps_both c.args.names.now before after c.loop-word.invariant.names here;
+      added =
+          subst (λ (t : List Word). AddsOnly c.args.names.now t after) (sym more)
+          (adds_then c.args.names.now front before (word ∷ []) after c.loop-word.invariant.added (adds_one before word after c.in_ok-number_of.ensures.words));
       numbers = subst (λ (t : List Word). AreNumbersOf (after ∷ []) 0 c.push.new.self t) (sym more) (subst (λ (ns : List ℕ). AreNumbersOf (after ∷ []) 0 ns (front ++ word ∷ [])) (sym c.in_ok-push.ensures.ok) step);
     }

@@ -1,7 +1,7 @@
 use Rattle.std.proofs.Common.{arith, get_or, map}
 use Rattle.std.proofs.lemmas.Grind.{common_steps}
 use Rattle.std.proofs.lemmas.Result.{IfOk-weaker}
-use Rattle.blif_net.specs.Covers.{IsRead, IsReadRow}
+use Rattle.blif_net.specs.OpenCovers.{IsRead, IsReadRow}
 use Rattle.blif_net.proofs.CoverRows.{bare_row, full_row, no_word}
 use Rattle.blif_net.proofs.covers.read_row.Goals as goal
 

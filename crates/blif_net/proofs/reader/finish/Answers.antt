@@ -1,59 +1,63 @@
-use Rattle.std.proofs.Common.{◌<◌, ◌==◌, ℕ, List, ap, length, subst, sym, ◌∙◌, get_or}
-use Rattle.std.specs.List.{All}
-use Rattle.blif_net.specs.declared.covers.CoverDraft.{CoverDraft}
-use Rattle.blif_net.specs.declared.faults.BlifError.{BlifError}
-use Rattle.blif_net.specs.Bridges.{IsArranged}
-use Rattle.blif_net.specs.Building.{IsBuilt}
-use Rattle.blif_net.specs.Circuits.{circuit_of}
-use Rattle.blif_net.specs.Drafts.{HasFaultIn}
-use Rattle.blif_net.proofs.Wholes.{all_in, all_known, cycle_fault, net_from, order_once, order_within, outputs_fault, root_within, undefined_fault}
+use Rattle.std.proofs.Common.{◌≡◌, List, ap, length, map, sym, ◌∙◌}
+use Rattle.std.proofs.lemmas.Result.{IfErr-weaker, IfOk-weaker, err_from_is_err_and}
+use Rattle.blif_formals.specs.declared.interface.Interface.{Interface}
+use Rattle.blif_wholes.specs.declared.uses.SpotUse.{SpotUse}
+use Rattle.blif_models.specs.Models.{Model, whole_items}
+use Rattle.blif_text.specs.Text.{Line}
+use Rattle.blif_net.specs.Ending.{ErrorIs, IsExpanded, IsNetFrom, IsNetOfWhole}
+use Rattle.blif_net.specs.Faults.{expanded_fault, fault_in, last_number}
+use Rattle.blif_net.specs.Reading.{IsReadWhole}
+use Rattle.blif_net.specs.Sound.{ArePlainLines}
+use Rattle.blif_net.proofs.Finishing.{expanded_from, first_is, lines_as_many, main_in, main_interface, models_of, net_from, some_open, some_there, verdict_error, whole_fault}
 use Rattle.blif_net.proofs.reader.finish.Goals as goal
-use Rattle.blif_order.specs.declared.Arranged.{Arranged}
-use Rattle.blif_order.specs.Orders.{Once}
 
-pub returns-in-Some-clause-fault : goal.returns-in-Some-clause-fault
-returns-in-Some-clause-fault c =
-    λ lines h e. subst (λ (t : BlifError). HasFaultIn lines t) (sym c.fault_at.ensures) (undefined_fault lines c.args.draft.now c.in-Some.line h (sym c.first_unknown.ensures ∙ c.in-Some.is))
+pub judge-requires : goal.judge-requires
+judge-requires c = some_open c.requires.0 c.args.reading c.requires.2
 
-pub bounds-as_slice-root : goal.bounds-as_slice-root
-bounds-as_slice-root c =
-    let h = c.requires in
-    let circuit = circuit_of h.0 in
-    let arranged = subst (λ (t : Arranged). IsArranged circuit t) c.in-Cyclic.is (c.in_ok-root.ensures circuit (h.1).circuit) in
-    subst (λ (t : List CoverDraft). c.in-Cyclic.root < length t) (sym c.as_slice.ensures) (root_within circuit c.args.draft.now c.in-Cyclic.root (h.1).circuit arranged)
+pub returns-in_err-whole-clause-fault : goal.returns-in_err-whole-clause-fault
+returns-in_err-whole-clause-fault c =
+    let p = err_from_is_err_and c.from_residual-in_err-whole.result c.from_residual-in_err-whole.ensures.1 in
+    rw (p.1, p.2)
+    (λ lines plain h last.
+    verdict_error lines c.args.reading c.in_ok-names.field-0 c.in_err-whole.field-0.0 h c.in_ok-names.ensures.told (c.in_err-whole.ensures.fault lines (main_in lines) (whole_items (models_of lines) (main_in lines))))
 
-pub returns-in-Cyclic-clause-fault : goal.returns-in-Cyclic-clause-fault
-returns-in-Cyclic-clause-fault c =
-    λ lines h e.
-    let arranged = subst (λ (t : Arranged). IsArranged (circuit_of lines) t) c.in-Cyclic.is (c.in_ok-root.ensures (circuit_of lines) h.circuit) in
-    subst (λ (t : BlifError). HasFaultIn lines t) (sym c.fault_at-in-Cyclic.ensures)
-    (cycle_fault lines c.args.draft.now c.in-Cyclic.root c.index-as_slice-root.result h (all_known c.args.draft.now.names (sym c.first_unknown.ensures ∙ c.in_default.is)) arranged
-    (c.index-as_slice-root.is ∙ ap (λ (t : List CoverDraft). get_or t c.in-Cyclic.root c.index-as_slice-root.result) c.as_slice.ensures))
+pub index-main-requires : goal.index-main-requires
+index-main-requires c =
+    let is = main_interface c.requires.0 c.args.reading c.in_ok-names.field-0 c.requires.2 c.in_ok-names.ensures.told in
+    some_there c.in_ok-names.field-0.interfaces is.0 is.1
 
-pub returns-then-is_empty-clause-fault : goal.returns-then-is_empty-clause-fault
-returns-then-is_empty-clause-fault c =
-    λ lines h e.
-    let arranged = subst (λ (t : Arranged). IsArranged (circuit_of lines) t) c.in-Ordering.is (c.in_ok-root.ensures (circuit_of lines) h.circuit) in
-    subst (λ (t : BlifError). HasFaultIn lines t) (sym c.fault_at-then-is_empty.ensures)
-    (outputs_fault lines c.args.draft.now c.in-Ordering.order c.args.last h (all_known c.args.draft.now.names (sym c.first_unknown.ensures ∙ c.in_default.is)) arranged (ap (λ (t : List ℕ). length t == 0) (sym c.as_slice-2.ensures.value) ∙ sym c.is_empty.ensures ∙ c.if-is_empty.true) e)
+pub uses_of-requires : goal.uses_of-requires
+uses_of-requires c =
+    let is = main_interface c.requires.0 c.args.reading c.in_ok-names.field-0 c.requires.2 c.in_ok-names.ensures.told in
+    let same : c.index-main.result.now ≡ is.0 = first_is c.in_ok-names.field-0.interfaces.items is.0 c.index-main.result.now is.1 c.index-main.ensures in
+    ap length c.deref.ensures.value ∙ lines_as_many c.requires.0 c.args.reading c.in_ok-names.field-0 is.0 c.requires.2 is.3 ∙ ap (λ (t : Interface). length t.outputs) (sym same) ∙ ap length (sym c.as_slice.ensures)
 
-pub net_of-requires-clause-within : goal.net_of-requires-clause-within
-net_of-requires-clause-within c =
-    let h = c.requires in
-    let circuit = circuit_of h.0 in
-    let arranged = subst (λ (t : Arranged). IsArranged circuit t) c.in-Ordering.is (c.in_ok-root.ensures circuit (h.1).circuit) in
-    subst (λ (t : List ℕ). All (λ k. k < length c.args.draft.now.closed) t) (sym c.deref.ensures.value)
-    (all_in c.in-Ordering.order.items (length c.args.draft.now.closed) (order_within circuit c.args.draft.now c.in-Ordering.order (h.1).circuit arranged))
-
-pub net_of-requires-clause-once : goal.net_of-requires-clause-once
-net_of-requires-clause-once c =
-    let h = c.requires in
-    let circuit = circuit_of h.0 in
-    let arranged = subst (λ (t : Arranged). IsArranged circuit t) c.in-Ordering.is (c.in_ok-root.ensures circuit (h.1).circuit) in
-    subst (λ (t : List ℕ). Once t) (sym c.deref.ensures.value) (order_once circuit c.in-Ordering.order arranged)
+pub network_in-requires : goal.network_in-requires
+network_in-requires c =
+    let lines = c.requires.0 in (
+      models_of lines,
+      main_in lines,
+      (expanded_from lines c.args.reading c.in_ok-names.field-0 c.in_ok-whole.whole c.index-main.result.now c.as_slice-inputs.result.now c.deref-2.result.now c.deref-3.result.now c.requires.1 c.requires.2 c.in_ok-names.ensures.told c.in_ok-names.ensures.names c.in_ok-names.ensures.one_number
+          c.in_ok-whole.ensures.whole c.index-main.ensures c.as_slice-inputs.ensures (ap (map (λ (some : SpotUse). some.spot)) c.deref-2.ensures.value ∙ c.in_ok-uses.ensures.spots ∙ c.as_slice.ensures)
+          (ap (map (λ (some : SpotUse). some.line)) c.deref-2.ensures.value ∙ c.in_ok-uses.ensures.lines ∙ c.deref.ensures.value) (c.deref-3.ensures.value ∙ c.in_ok-push.ensures.items)),
+    )
 
 pub returns-clause-net : goal.returns-clause-net
 returns-clause-net c =
-    λ lines h.
-    let arranged = subst (λ (t : Arranged). IsArranged (circuit_of lines) t) c.in-Ordering.is (c.in_ok-root.ensures (circuit_of lines) h.circuit) in
-    net_from lines c.args.draft.now c.in-Ordering.order c.in_ok-net_of.field-0 h (all_known c.args.draft.now.names (sym c.first_unknown.ensures ∙ c.in_default.is)) arranged (ap (λ (t : List ℕ). length t == 0) (sym c.as_slice-2.ensures.value) ∙ sym c.is_empty.ensures ∙ c.if-is_empty.false) (subst (λ (t : List ℕ). IsBuilt c.args.draft.now t c.in_ok-net_of.field-0) c.deref.ensures.value c.in_ok-net_of.ensures)
+    IfOk-weaker c.network_in.result
+    (λ net. (lines : List Line) (models : List Model) (main : Model) → IsExpanded models c.in_ok-names.field-0.names.items main c.in_ok-whole.whole c.as_slice-inputs.result.now c.deref-2.result.now c.deref-3.result.now → IsNetOfWhole lines models main net)
+    (λ net. (lines : List Line) → ArePlainLines lines → IsReadWhole lines c.args.reading → IsNetFrom lines net)
+    (λ net n lines plain h. net_from lines c.args.reading c.in_ok-names.field-0 c.in_ok-whole.whole net h c.in_ok-names.ensures.told c.in_ok-whole.ensures.whole (n lines (models_of lines) (main_in lines)
+    (expanded_from lines c.args.reading c.in_ok-names.field-0 c.in_ok-whole.whole c.index-main.result.now c.as_slice-inputs.result.now c.deref-2.result.now c.deref-3.result.now plain h c.in_ok-names.ensures.told c.in_ok-names.ensures.names c.in_ok-names.ensures.one_number
+    c.in_ok-whole.ensures.whole c.index-main.ensures c.as_slice-inputs.ensures (ap (map (λ (some : SpotUse). some.spot)) c.deref-2.ensures.value ∙ c.in_ok-uses.ensures.spots ∙ c.as_slice.ensures)
+    (ap (map (λ (some : SpotUse). some.line)) c.deref-2.ensures.value ∙ c.in_ok-uses.ensures.lines ∙ c.deref.ensures.value) (c.deref-3.ensures.value ∙ c.in_ok-push.ensures.items)))) c.network_in.ensures.net
+
+pub returns-clause-fault : goal.returns-clause-fault
+returns-clause-fault c =
+    IfErr-weaker c.network_in.result
+    (λ error. (lines : List Line) (models : List Model) (main : Model) → IsExpanded models c.in_ok-names.field-0.names.items main c.in_ok-whole.whole c.as_slice-inputs.result.now c.deref-2.result.now c.deref-3.result.now → c.args.last ≡ last_number lines → ErrorIs (expanded_fault lines main (whole_items models main)) error)
+    (λ error. (lines : List Line) → ArePlainLines lines → IsReadWhole lines c.args.reading → c.args.last ≡ last_number lines → ErrorIs (fault_in lines) error)
+    (λ error f lines plain h last. whole_fault lines c.args.reading c.in_ok-names.field-0 c.in_ok-whole.whole error h c.in_ok-names.ensures.told c.in_ok-whole.ensures.whole (f lines (models_of lines) (main_in lines)
+    (expanded_from lines c.args.reading c.in_ok-names.field-0 c.in_ok-whole.whole c.index-main.result.now c.as_slice-inputs.result.now c.deref-2.result.now c.deref-3.result.now plain h c.in_ok-names.ensures.told c.in_ok-names.ensures.names c.in_ok-names.ensures.one_number
+    c.in_ok-whole.ensures.whole c.index-main.ensures c.as_slice-inputs.ensures (ap (map (λ (some : SpotUse). some.spot)) c.deref-2.ensures.value ∙ c.in_ok-uses.ensures.spots ∙ c.as_slice.ensures)
+    (ap (map (λ (some : SpotUse). some.line)) c.deref-2.ensures.value ∙ c.in_ok-uses.ensures.lines ∙ c.deref.ensures.value) (c.deref-3.ensures.value ∙ c.in_ok-push.ensures.items)) last)) c.network_in.ensures.fault

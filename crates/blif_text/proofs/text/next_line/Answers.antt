@@ -35,6 +35,7 @@ loop-rest-init c =
       kept = parts.rest;
       within = parts.within;
       shorter = c.cut_physical.ensures.shorter;
+      later = omega arith;
       numbers = omega (arith, c.cut_physical.ensures.shorter);
     }
 
@@ -56,6 +57,7 @@ loop-rest-preserved c =
       kept = parts.rest;
       within = parts.within;
       shorter = omega (arith, c.cut_physical-in-loop-rest.ensures.shorter, i.shorter);
+      later = omega (arith, i.later);
       numbers = omega (arith, c.cut_physical-in-loop-rest.ensures.shorter, i.numbers);
     }
 

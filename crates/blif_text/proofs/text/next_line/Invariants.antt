@@ -8,6 +8,7 @@ invariant-loop-rest l = record {
   kept : drop l.long l.kept ≡ kept_from true (lines_of l.rest);
   within : l.long ≤ length l.kept;
   shorter : length l.rest < length l.text;
+  later : l.number < l.next;
   numbers : l.next + length l.rest ≤ l.number + length l.text;
 }
 

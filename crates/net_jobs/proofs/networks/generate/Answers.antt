@@ -4,7 +4,7 @@ use Rattle.blif_net.specs.Networks.{IsBlifText}
 use Rattle.net_builds.proofs.BackLemmas.{err_weaker}
 use Rattle.net_builds.specs.declared.host.HostRefusal.TheVariants as stops
 use Rattle.net_builds.specs.Outputs.{AreRefused}
-use Rattle.adder_texts.specs.GenTexts.{gen_text}
+use Rattle.blif_net.specs.GenTexts.{gen_text}
 use Rattle.net_jobs.specs.declared.networks.TheConstants.{OUTPUTS_CELL}
 use Rattle.net_jobs.specs.Hosts.{TellsFullOf, standing_of}
 use Rattle.net_jobs.proofs.BuiltHistories.{unsifted_still}

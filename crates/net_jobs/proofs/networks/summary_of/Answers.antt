@@ -3,7 +3,7 @@ use Rattle.std.proofs.lemmas.Result.{err_from_is_err_and}
 use Rattle.cover_nets.specs.declared.net.Net.{Net}
 use Rattle.blif_net.specs.Networks.{IsBlifText}
 use Rattle.edge_bits.specs.declared.limits.TheConstants.{USUAL_LIMIT}
-use Rattle.adder_texts.specs.GenTexts.{gen_text}
+use Rattle.blif_net.specs.GenTexts.{gen_text}
 use Rattle.dd_session.specs.Managing.{AreAll, IsHistoryOf, Seen, opened}
 use Rattle.net_builds.specs.Builds.{AreUnsifted, Builds, TellsOf}
 use Rattle.net_builds.specs.declared.telling.Telling.TheVariants.{Summary}

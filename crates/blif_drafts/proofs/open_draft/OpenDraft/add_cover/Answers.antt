@@ -1,6 +1,7 @@
-use Rattle.std.proofs.Common.{◌∙◌, sym}
+use Rattle.std.proofs.Common.{◌∙◌, ◌∷◌, [], sym}
 use Rattle.std.proofs.lemmas.Result.{err_from_is_err_and}
 use Rattle.blif_formals.specs.Formals.{words_in}
+use Rattle.blif_formals.proofs.NewWords.{adds_then}
 use Rattle.blif_drafts.proofs.Refusing.{cover_stop, cover_take, cover_too_many}
 use Rattle.blif_drafts.proofs.open_draft.OpenDraft.add_cover.Goals as goal
 
@@ -17,3 +18,6 @@ pub returns-clause-ok : goal.returns-clause-ok
 returns-clause-ok c =
     cover_take c.args.self.now c.numbers_of.new.names c.in_ok-ins.ensures.names c.args.name.now c.args.line (words_in c.args.ins.now) c.in_ok-ins.ins c.in_ok-name.name c.define.new.names c.define.new.marks c.push.new.self c.in_ok-self.field-0
     c.in_ok-ins.ensures.numbers c.in_ok-name.ensures.ok (sym c.are_more.ensures ∙ c.if-are_more.false) c.in_ok-push.ensures.ok c.in_ok-self.ensures
+
+pub returns-clause-names : goal.returns-clause-names
+returns-clause-names c = adds_then c.args.self.now.draft.names (words_in c.args.ins.now) c.numbers_of.new.names (c.args.name.now ∷ []) c.define.new.names c.in_ok-ins.ensures.added c.in_ok-name.ensures.added

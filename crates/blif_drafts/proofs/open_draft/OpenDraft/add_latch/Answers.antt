@@ -1,7 +1,8 @@
-use Rattle.std.proofs.Common.{[]}
+use Rattle.std.proofs.Common.{◌∷◌, []}
 use Rattle.std.proofs.lemmas.Option.{get_or_from_slice_get, slice_get_within}
 use Rattle.std.proofs.lemmas.Result.{err_from_is_err_and}
 use Rattle.blif_formals.specs.Actuals.{Keeps}
+use Rattle.blif_formals.proofs.NewWords.{adds_one, adds_then}
 use Rattle.blif_formals.proofs.Numbering.{keeps_all, keeps_more}
 use Rattle.blif_drafts.proofs.Refusing.{latch_stop, latch_take}
 use Rattle.blif_drafts.proofs.open_draft.OpenDraft.add_latch.Goals as goal
@@ -22,3 +23,9 @@ returns-clause-ok c =
     let at = c.in_ok-input.ensures.number in
     latch_take c.args.self.now mid kept c.args.output.now c.args.line c.args.input.now input c.in_ok-output.output c.define.new.names c.define.new.marks c.push.new.self c.in_ok-self.field-0
     ((slice_get_within mid input c.args.input.now at, get_or_from_slice_get mid input c.args.input.now [] at), tt) c.in_ok-output.ensures.ok c.in_ok-push.ensures.ok c.in_ok-self.ensures
+
+pub returns-clause-names : goal.returns-clause-names
+returns-clause-names c =
+    let names = c.args.self.now.draft.names in
+    let mid = c.number_of.new.self in
+    adds_then names (c.args.input.now ∷ []) mid (c.args.output.now ∷ []) c.define.new.names (adds_one names c.args.input.now mid c.in_ok-input.ensures.words) c.in_ok-output.ensures.added

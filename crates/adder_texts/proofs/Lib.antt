@@ -1,4 +1,0 @@
-mod AdderNames
-mod Adders
-mod Rows
-mod Texts

@@ -1,9 +1,0 @@
-use Rattle.std.proofs.Common.{arith}
-use Rattle.std.proofs.lemmas.Grind.{common_steps}
-use Rattle.blif_net.proofs.reads.all_reads.Goals as goal
-
-pub loop-cover-preserved : goal.loop-cover-preserved
-loop-cover-preserved c = grind (arith, common_steps)
-
-pub returns-clause-reads : goal.returns-clause-reads
-returns-clause-reads c = grind (arith, common_steps)
