@@ -231,11 +231,12 @@ fn signals_needed(dump: &Dump, inputs: &[Name<'_>], outputs: &[Name<'_>]) -> u64
     inputs.len() as u64 + (dump.nodes.as_slice().len() as u64 + 1) + outputs.len() as u64
 }
 
-/// The text of a dump as a network of multiplexers, with the dump's variables as these inputs and its roots as these outputs. It is
-/// read as a network of these inputs and outputs, each of which has its root's function.
+/// The text of a dump as a network of multiplexers, with the dump's variables as these inputs and its roots as these outputs. A name that
+/// holds `#` or ends with `\` is written by its place.
 ///
-/// No two inputs have one name. Outputs of one name have one root, and one that is an input is its variable. A name that holds `#` or
-/// ends with `\` is written by its place.
+/// Where no two inputs have one name, outputs of one name have one root, and one that is an input is its variable, the text is read as a
+/// network of these inputs and outputs, each of which has its root's function. A network's names are so, which is not asked here: what
+/// its outputs stand for may be known only when all was built.
 ///
 /// `Large` is the answer exactly where inputs, node lines with the constant, and outputs are more than `MOST_SIGNALS`. Want of
 /// memory may be the answer to any other.
@@ -246,9 +247,10 @@ pub fn write<'a>(
     outputs: &[Name<'a>],
 ) -> Result<Vec<u8>, DumpStop>
     requires writable { IsWritable dump.now }
-    requires names { AreNames dump.now (names_in inputs.now) (names_in outputs.now) }
+    requires inputs { length inputs.now ≡ dump.now.nvars }
+    requires outputs { length outputs.now ≡ length dump.now.roots }
     ensures text { IfOk result (λ text. text.items ≡ multiplexers dump.now (names_in inputs.now) (names_in outputs.now)) }
-    ensures dumped { IfOk result (λ text. IsDumped dump.now (names_in inputs.now) (names_in outputs.now) text.items) }
+    ensures dumped { AreNames dump.now (names_in inputs.now) (names_in outputs.now) → IfOk result (λ text. IsDumped dump.now (names_in inputs.now) (names_in outputs.now) text.items) }
     ensures large { let needed = signals_needed dump.now (names_in inputs.now) (names_in outputs.now) in MatchResult result (λ _. needed ≤ MOST_SIGNALS) (StopIs needed) }
 {
     let signals = signals_needed(dump, inputs, outputs);

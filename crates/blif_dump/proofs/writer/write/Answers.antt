@@ -11,4 +11,4 @@ returns-clause-dumped c =
     let inputs = names_in c.args.inputs.now in
     let outputs = names_in c.args.outputs.now in
     let few : length inputs + (length dump.nodes + 1) + length outputs ≤ MOST_SIGNALS = omega (arith, c.signals_needed-signals.ensures) in
-    subst (λ (text : List ℕ). IsDumped dump inputs outputs text) (sym c.in_ok-text.ensures) (dumped dump inputs outputs c.requires.writable c.requires.names few)
+    λ named. subst (λ (text : List ℕ). IsDumped dump inputs outputs text) (sym c.in_ok-text.ensures) (dumped dump inputs outputs c.requires.writable named few)
