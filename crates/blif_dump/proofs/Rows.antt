@@ -5,9 +5,9 @@ use Rattle.diagram_dumps.specs.declared.dump.Dump.{Dump}
 use Rattle.blif_dump.specs.Names.{prefix_for}
 use Rattle.blif_dump.specs.Multiplexers.{multiplexers}
 
--- two variables that are equal
-abbrev equal_bits : Dump
-equal_bits = record {
+-- two variables that differ
+abbrev different_bits : Dump
+different_bits = record {
   nvars = 2;
   ids = 0 ∷ 1 ∷ [];
   permids = 0 ∷ 1 ∷ [];
@@ -15,10 +15,10 @@ equal_bits = record {
   roots = negsuc 2 ∷ [];
 }
 
-equivalence : multiplexers equal_bits (codes "a" ∷ codes "b" ∷ []) (codes "f" ∷ [])
+exclusive_or : multiplexers different_bits (codes "a" ∷ codes "b" ∷ []) (codes "f" ∷ [])
     ≡ codes ".model dd\n.inputs a b\n.outputs f\n.names n1\n1\n.names b n1 n1 n2\n11- 1\n0-0 1\n.names a n2 n2 n3\n11- 1\n0-0 1\n.names n3 f\n0 1\n.end\n"
 unfolding multiplexers prefix_for digits
-equivalence = refl
+exclusive_or = refl
 
 -- an output that stands twice, one that is the second input, and one whose root has no sign
 abbrev shared : Dump

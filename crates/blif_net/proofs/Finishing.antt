@@ -4,7 +4,7 @@ use Rattle.std.specs.Prelude.{All, slice_get, slice_index_or, vec_len}
 use Rattle.std.specs.Global.{Vec}
 use Rattle.std.specs.List.{list_all}
 use Rattle.std.specs.Option.{option_or}
-use Rattle.std.proofs.lemmas.Bool.{and_from, and_parts}
+use Rattle.std.proofs.lemmas.Bool.{and_parts}
 use Rattle.job_words.specs.Text.{Word}
 use Rattle.cover_nets.specs.declared.net.Net.{Net}
 use Rattle.blif_models.specs.declared.expanding.Outcome.TheVariants as outcomes
@@ -38,7 +38,8 @@ use Rattle.blif_net.specs.Reading.{AreAllKept, IsReadWhole, main_of}
 use Rattle.blif_net.specs.Sound.{ArePlainLines}
 use Rattle.blif_net.proofs.Keeping.{all_kept_last}
 use Rattle.blif_net.proofs.ModelTold.{verdicts_are_faults}
-use Rattle.blif_net.proofs.PlainWords.{defined_plain, item_plain, model_plain, models_plain}
+use Rattle.blif_net.proofs.LineWords.{current_passes, model_passes, models_pass}
+use Rattle.blif_net.proofs.PlainWords.{defined_plain}
 use Rattle.blif_net.proofs.Whole.{all_plain, as_many_lines, further_of, main_first, names_there, rows_kept, uses_there}
 
 -- the models of the lines, and the main one
@@ -92,12 +93,12 @@ pub first_is : {X : Type 0} (xs : List X) (x y : X) → slice_get xs 0 ≡ Some 
 first_is [] x y e f = cc
 first_is (z ∷ xs) x y e f = cc
 
-main_plain : (lines : List Line) → ArePlainLines lines → model_plain (main_in lines) ≡ true
-main_plain lines h = by_closed (left_by lines).closed (models_plain lines h).closed
+main_plain : (lines : List Line) → ArePlainLines lines → model_passes is_plain (main_in lines) ≡ true
+main_plain lines h = by_closed (left_by lines).closed (models_pass is_plain lines h).closed
   where
-    by_closed : (closed : List Model) → list_all model_plain closed ≡ true → model_plain (main_of closed (left_by lines).current) ≡ true
-    by_closed [] e = let p = models_plain lines h in and_from (list_all is_plain (names_of (left_by lines).current.inputs)) (list_all item_plain (left_by lines).current.items) p.inputs p.items
-    by_closed (model ∷ closed) e = (and_parts (model_plain model) (list_all model_plain closed) e).0
+    by_closed : (closed : List Model) → list_all (model_passes is_plain) closed ≡ true → model_passes is_plain (main_of closed (left_by lines).current) ≡ true
+    by_closed [] e = current_passes is_plain (left_by lines) (models_pass is_plain lines h)
+    by_closed (model ∷ closed) e = (and_parts (model_passes is_plain model) (list_all (model_passes is_plain) closed) e).0
 
 pub lines_as_many : (lines : List Line) (one : Reading) (judged : Judged) (interface : Interface) → IsReadWhole lines one → IsInterfaceOf judged.names.items 0 (main_in lines) interface → length one.outputs.items ≡ length interface.outputs
 lines_as_many lines one judged interface h is = ap length ((h.reading).left).outputs ∙ as_many_lines judged.names.items (main_in lines) interface.outputs is.outputs

@@ -13,7 +13,7 @@ use Rattle.blif_net.specs.declared.faults.BlifFault.{BlifFault}
 use Rattle.blif_net.specs.declared.faults.FaultKind.TheVariants as kinds
 use Rattle.blif_text.specs.Text.{Line}
 use Rattle.blif_net.specs.Faults.{expanded_fault, fault_at, models_fault}
-use Rattle.blif_net.specs.ModelVerdicts.{VerdictsAreFaults, verdict_fault}
+use Rattle.blif_net.specs.ModelVerdicts.{verdict_fault}
 
 -- the first of the faults that stand at these lines, or else another one
 abbrev first_of : Option ℕ → Option ℕ → Option ℕ → Option ℕ → Option ℕ → Option BlifFault → Option BlifFault
@@ -46,5 +46,7 @@ module _ (lines : List Line) (main : Model) (further : List Model) (words : List
   told_so (verdicts.Comes (outcomes.TooMany line)) is = λ j. first_of (is.0 j) (is.1 j) (is.2 j) (is.3.0 j) (is.3.1 j) rest
   told_so (verdicts.Comes (outcomes.Expanded whole)) is = λ j. first_of (is.0 j) (is.1 j) (is.2 j) (is.3.0 j) (is.3.1 j) rest
 
-pub verdicts_are_faults : VerdictsAreFaults
+-- what is told of models, the main one first, is what is wrong with them
+pub verdicts_are_faults : (lines : List Line) (main : Model) (further : List Model) (words : List (List Word)) (verdict : Verdict) → VerdictIs (main ∷ further) words main verdict
+    → models_fault lines (main ∷ further) ≡ verdict_fault lines main (whole_items (main ∷ further) main) verdict
 verdicts_are_faults lines main further words verdict is = told_so lines main further words verdict is

@@ -1,10 +1,11 @@
 -- Where no fault is told, and nothing fails a test.
-use Rattle.std.proofs.Common.{◌≡◌, ℕ, ◌&&◌, Bool, true, false, not, cond, List, [], ◌∷◌, filter, find, flat_map, map, Option, Some, None, option_map, refl, ap, ◌∙◌}
+use Rattle.std.proofs.Common.{◌≡◌, ℕ, zero, suc, ◌&&◌, Bool, true, false, not, cond, List, [], ◌∷◌, drop, filter, find, flat_map, map, Option, Some, None, option_map, refl, ap, sym, ◌∙◌}
 use Rattle.std.specs.List.{list_all}
 use Rattle.std.specs.Option.{option_or}
 use Rattle.std.specs.Bool.{then_some}
 use Rattle.std.proofs.lemmas.Bool.{and_from, and_parts}
 use Rattle.std.proofs.lemmas.List.Folds.{list_all-append}
+use Rattle.std.proofs.lemmas.Option.{same_Some}
 use Rattle.blif_models.specs.ModelFaults.{least}
 
 pub none_of : {X : Type 0} (a b : Option X) → option_or a b ≡ None → (a ≡ None) × (b ≡ None)
@@ -21,7 +22,7 @@ no_map f (Some x) h = cc
 
 -- no line is the least
 
-no_lines : (ns : List ℕ) → least ns ≡ None → ns ≡ []
+pub no_lines : (ns : List ℕ) → least ns ≡ None → ns ≡ []
 no_lines [] h = refl
 no_lines (n ∷ ns) h = cc
 
@@ -81,3 +82,26 @@ all_filtered p q (x ∷ xs) h = by_cases (q x) (and_parts (p x) (list_all p xs) 
     by_cases : (b : Bool) → p x ≡ true → list_all p (filter q xs) ≡ true → list_all p (cond b (x ∷ filter q xs) (filter q xs)) ≡ true
     by_cases true here more = and_from (p x) (list_all p (filter q xs)) here more
     by_cases false here more = more
+
+pub all_behind : {X : Type 0} (p : X → Bool) (n : ℕ) (xs : List X) → list_all p xs ≡ true → list_all p (drop n xs) ≡ true
+all_behind p zero xs h = h
+all_behind p (suc n) [] h = h
+all_behind p (suc n) (x ∷ xs) h = all_behind p n xs (and_parts (p x) (list_all p xs) h).1
+
+pub all_two : {X : Type 0} (p q : X → Bool) (xs : List X) → list_all p xs ≡ true → list_all q xs ≡ true → list_all (λ x. p x && q x) xs ≡ true
+all_two p q [] h k = refl
+all_two p q (x ∷ xs) h k =
+    let one = and_parts (p x) (list_all p xs) h in
+    let other = and_parts (q x) (list_all q xs) k in
+    and_from (p x && q x) (list_all (λ y. p y && q y) xs) (and_from (p x) (q x) one.0 other.0) (all_two p q xs one.1 other.1)
+
+-- what is found passes what all pass
+pub found_passes : {X : Type 0} (p q : X → Bool) (xs : List X) (x : X) → list_all p xs ≡ true → find q xs ≡ Some x → p x ≡ true
+found_passes p q [] x h e = cc
+found_passes p q (y ∷ xs) x h e =
+    let both = and_parts (p y) (list_all p xs) h in
+    by_cases (q y) e both.0 (found_passes p q xs x both.1)
+  where
+    by_cases : (b : Bool) → cond b (Some y) (find q xs) ≡ Some x → p y ≡ true → (find q xs ≡ Some x → p x ≡ true) → p x ≡ true
+    by_cases true k here more = ap p (sym (same_Some y x k)) ∙ here
+    by_cases false k here more = more k

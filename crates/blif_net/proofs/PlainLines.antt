@@ -23,7 +23,7 @@ use Rattle.blif_net.specs.Faults as several_faults
 use Rattle.blif_net.proofs.Distinct.{closed_same, row_same}
 use Rattle.blif_net.proofs.Faultless.{kept_behind}
 use Rattle.blif_net.proofs.NoFaults.{none_of, not_so}
-use Rattle.blif_net.proofs.PlainWords.{named_more}
+use Rattle.blif_net.proofs.LineWords.{named_more}
 
 -- The one leaves what the other does, and no model is closed.
 pub record Agree (c : Context) (d : several.Context) : Type 0 where

@@ -19,20 +19,21 @@ use Rattle.blif_net.specs.Circuits.{at_start, behind, circuit_of, circuit_of_mod
 use Rattle.blif_net.specs.Faults.{expanded_fault, fault_at, fault_in, faulty_line, last_number, models_fault, no_outputs}
 use Rattle.blif_net.specs.Sound.{ArePlainLines, IsBuildable}
 use Rattle.blif_net.proofs.FaultlessModels.{has_few, models_few}
+use Rattle.blif_net.proofs.LineWords.{current_passes, model_passes, models_pass}
 use Rattle.blif_net.proofs.NoFaults.{all_flat, all_weaker, no_map, none_left, none_listed, none_of, not_so}
-use Rattle.blif_net.proofs.PlainWords.{defined_plain, item_plain, model_plain, models_plain}
+use Rattle.blif_net.proofs.PlainWords.{defined_plain}
 
 -- where nothing is wrong with models
 
-record AreFaultless (models : List Model) (main : Model) (lines : List Line) : Type 0 where
-  formal : least (formal_lines models main) ≡ None
+pub record AreFaultless (models : List Model) (main : Model) (lines : List Line) : Type 0 where
+  pub formal : least (formal_lines models main) ≡ None
   twice : least (twice_lines models main) ≡ None
   few : too_many_line MOST_SIGNALS MOST_VARIABLES models main ≡ None
   defined : undefined_line main (whole_items models main) ≡ None
   settled : cyclic_line main (whole_items models main) ≡ None
   some : no_outputs lines main (whole_items models main) ≡ None
 
-faultless_parts : (lines : List Line) (main : Model) (further : List Model) → models_fault lines (main ∷ further) ≡ None → AreFaultless (main ∷ further) main lines
+pub faultless_parts : (lines : List Line) (main : Model) (further : List Model) → models_fault lines (main ∷ further) ≡ None → AreFaultless (main ∷ further) main lines
 faultless_parts lines main further h =
     let models = main ∷ further in
     let items = whole_items models main in
@@ -90,6 +91,19 @@ uses_pass p main items h =
       latches = all_weaker (λ (latch : Latch). p latch.input && true) (λ (latch : Latch). p latch.input) (latches_among items) (λ latch e. (and_parts (p latch.input) true e).0) latches;
     }
 
+-- where every use is of a signal, what covers read and what the circuit shows are signals
+pub reads_signals : (main : Model) (items : List Item) → undefined_line main items ≡ None
+    → (list_all (λ cover. list_all (is_signal (circuit_from main items)) cover.ins) (circuit_from main items).covers ≡ true) × (list_all (is_signal (circuit_from main items)) (circuit_from main items).outputs ≡ true)
+reads_signals main items h =
+    let known = is_signal (circuit_from main items) in
+    let used = none_left (on_line known) (uses_of main items) (none_listed (λ (one : Use). one.line) (filter (λ (one : Use). not (known one.word)) (uses_of main items)) h) in
+    let u = uses_pass known main items used in
+    let shown = map (λ (latch : Latch). latch.input) (latches_among items) in (
+      u.reads,
+      list_all-append known (names_of main.outputs) shown
+          ∙ and_from (list_all known (names_of main.outputs)) (list_all known shown) u.outputs (list_all-map known (λ (latch : Latch). latch.input) (latches_among items) ∙ u.latches),
+    )
+
 -- the first of some covers that fails a test
 
 none_first : (p : Cover → Bool) (covers : List Cover) → filter p covers ≡ [] → find p covers ≡ None
@@ -103,16 +117,14 @@ none_first p (cover ∷ covers) h = by_cases (p cover) h (none_first p covers)
 not_none : (n : ℕ) → (n == 0) ≡ false → 1 ≤ n
 not_none n h = grind (arith, nat_tests, h)
 
-main_buildable : (lines : List Line) (main : Model) (further : List Model) → model_plain main ≡ true → has_few main ≡ true → models_fault lines (main ∷ further) ≡ None
+main_buildable : (lines : List Line) (main : Model) (further : List Model) → model_passes is_plain main ≡ true → has_few main ≡ true → models_fault lines (main ∷ further) ≡ None
     → IsBuildable (circuit_from main (whole_items (main ∷ further) main))
 main_buildable lines main further plain few h =
     let models = main ∷ further in
     let items = whole_items models main in
     let circuit = circuit_from main items in
     let p = faultless_parts lines main further h in
-    let known = is_signal circuit in
-    let used = none_left (on_line known) (uses_of main items) (none_listed (λ (one : Use). one.line) (filter (λ (one : Use). not (known one.word)) (uses_of main items)) p.defined) in
-    let u = uses_pass known main items used in
+    let signals = reads_signals main items p.defined in
     let shown = map (λ (latch : Latch). latch.input) (latches_among items) in
     let read = map (λ (latch : Latch). latch.output) (latches_among items) in
     let within = wholes_are_within_limits models main p.few in
@@ -120,9 +132,8 @@ main_buildable lines main further plain few h =
     record {
       sound = record {
         once = wholes_define_once models main (defined_plain models main plain) p.formal p.twice;
-        reads = u.reads;
-        shows = list_all-append known (names_of main.outputs) shown
-            ∙ and_from (list_all known (names_of main.outputs)) (list_all known shown) u.outputs (list_all-map known (λ (latch : Latch). latch.input) (latches_among items) ∙ u.latches);
+        reads = signals.0;
+        shows = signals.1;
       };
       settled = none_first (λ (cover : Cover). not (is_settled circuit cover)) circuit.covers
           (none_listed (λ (cover : Cover). cover.line) (filter (λ (cover : Cover). not (is_settled circuit cover)) circuit.covers) p.settled);
@@ -139,16 +150,16 @@ main_buildable lines main further plain few h =
       some = not_none (length circuit.outputs) (not_so (length circuit.outputs == 0) (fault_at kinds.NoOutputs (last_number lines)) p.some);
     }
 
-models_buildable : (lines : List Line) (closed : List Model) (current : Model) → list_all model_plain closed ≡ true → model_plain current ≡ true → list_all has_few closed ≡ true → has_few current ≡ true
+models_buildable : (lines : List Line) (closed : List Model) (current : Model) → list_all (model_passes is_plain) closed ≡ true → model_passes is_plain current ≡ true → list_all has_few closed ≡ true → has_few current ≡ true
     → models_fault lines (closed ++ current ∷ []) ≡ None → IsBuildable (circuit_of_models (closed ++ current ∷ []))
 models_buildable lines [] current plain last few own h = main_buildable lines current [] last own h
 models_buildable lines (main ∷ closed) current plain last few own h =
-    main_buildable lines main (closed ++ current ∷ []) (and_parts (model_plain main) (list_all model_plain closed) plain).0 (and_parts (has_few main) (list_all has_few closed) few).0 h
+    main_buildable lines main (closed ++ current ∷ []) (and_parts (model_passes is_plain main) (list_all (model_passes is_plain) closed) plain).0 (and_parts (has_few main) (list_all has_few closed) few).0 h
 
 pub buildable : (lines : List Line) → ArePlainLines lines → fault_in lines ≡ None → IsBuildable (circuit_of lines)
 buildable lines plain h =
     let c = close (behind at_start lines) in
     let both = none_of (faulty_line at_start lines) (models_fault lines (models_in (behind at_start lines))) h in
-    let p = models_plain lines plain in
+    let p = models_pass is_plain lines plain in
     let f = models_few lines both.0 in
-    models_buildable lines c.closed c.current p.closed (and_from (list_all is_plain (names_of c.current.inputs)) (list_all item_plain c.current.items) p.inputs p.items) f.closed f.current both.1
+    models_buildable lines c.closed c.current p.closed (current_passes is_plain c p) f.closed f.current both.1

@@ -35,7 +35,8 @@ use Rattle.blif_net.specs.Reading.{ArePlainWords, Closes, IsOpenIn, IsReadingOf,
 use Rattle.blif_net.proofs.Fronts.{front_is}
 use Rattle.blif_net.proofs.Keeping.{bare_left, end_left, further_left, inputs_left, latch_left, main_left, main_outputs_left, names_left, no_row, other_outputs_left, row_left, with_models}
 use Rattle.blif_net.proofs.ModelLines.{drafts_follow}
-use Rattle.blif_net.proofs.PlainWords.{actual_plain, said_plain}
+use Rattle.blif_net.proofs.LineWords.{said_pass}
+use Rattle.blif_net.proofs.PlainWords.{actual_plain}
 
 -- behind a cover that was closed the models are the same
 over : (line : ℕ) (c : Context) (old mid : Reading) → Closes old mid → IsReadingOf line c old → AreLeftBy line c mid.models
@@ -334,7 +335,7 @@ open_line old new line statement e f same t =
     let taken = subst (λ (s : Statement). TakesStatement old line.number s new) same t in
     record {
       faultless = λ c r. by_end c r (subst (λ (s : Statement). (old.ended ≡ false) ⊎ (follows_end s ≡ true)) same f) (taken.faultless c r);
-      after = λ c p r. taken.after c (said_plain (words_of line.bytes) p) r;
+      after = λ c p r. taken.after c (said_pass is_plain (words_of line.bytes) p) r;
     }
   where
     none_by : (c : Context) (b : Bool) → c.ended ≡ b → follows_end (said line) ≡ true → line_fault c line ≡ None

@@ -37,7 +37,7 @@ use Rattle.blif_net.specs.declared.faults.BlifFault.{BlifFault}
 use Rattle.blif_net.specs.declared.faults.FaultKind.TheVariants as kinds
 use Rattle.blif_net.specs.Ending.{IsExpanded, IsNetOfWhole, whole_of}
 use Rattle.blif_net.specs.Faults.{expanded_fault, fault_at, last_number, no_outputs}
-use Rattle.blif_net.proofs.Using.{reads_signals}
+use Rattle.blif_net.proofs.Sound.{reads_signals}
 
 -- what all of a list pass all of its permutation pass
 

@@ -21,7 +21,7 @@ use Rattle.blif_text.specs.Statements.{said, statement_of}
 use Rattle.blif_net.specs.PlainTexts.{Context, after_line, behind, end_fault, fault_on, faulty_line, line_fault, open_fault}
 use Rattle.blif_text.proofs.Joining.{joined_here}
 use Rattle.blif_text.proofs.Split.{first_line}
-use Rattle.blif_net.specs.Lines.{line_with, spaced, text_of}
+use Rattle.blif_dump.specs.Lines.{line_with, spaced, text_of}
 use Rattle.blif_net.proofs.NoFaults.{all_weaker}
 
 -- the byte cuts no word and no line, and begins no comment

@@ -19,7 +19,7 @@ use Rattle.blif_net.specs.PlainTexts.{Context, after_line, after_statement, at_s
 use Rattle.blif_net.specs.CoverTexts.{is_bit, last_of, is_cube, is_literal, row_of, row_with, is_mixed, row_fault}
 use Rattle.blif_net.proofs.Fronts.{front_is, some_names}
 use Rattle.blif_net.proofs.NoFaults.{all_weaker}
-use Rattle.blif_net.specs.Lines.{line_with}
+use Rattle.blif_dump.specs.Lines.{line_with}
 use Rattle.blif_net.proofs.Written.{faulty_behind, is_plain, is_plain_word, left_behind, no_end, numbered, numbered_behind, plain_from, said_written, written_fault}
 
 -- the word of an output

@@ -26,7 +26,7 @@ use Rattle.blif_net.proofs.Distinct.{true_or}
 use Rattle.blif_net.proofs.Fronts.{front_is}
 use Rattle.blif_net.proofs.NoFaults.{all_weaker, none_failing}
 use Rattle.blif_net.proofs.PlainTexts.{plain_texts_agree}
-use Rattle.blif_net.specs.Lines.{line_with, text_of}
+use Rattle.blif_dump.specs.Lines.{line_with, text_of}
 use Rattle.blif_net.proofs.Written.{ArePlain, is_plain_word, lines_read, numbered, said_written}
 use Rattle.blif_net.proofs.WrittenCircuits.{AreNextCovers, AreRowsFor, IsNextCover, IsWritable, as_placed, circuit_lines, circuit_read, cover_lines, names_plain, names_said, placed, row_plain, row_said, row_words}
 

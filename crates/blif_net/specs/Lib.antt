@@ -11,6 +11,6 @@ pub mod ModelLines
 pub mod ModelVerdicts
 pub mod Reading
 pub mod Ending
-pub mod Lines
+pub mod Dumped
 pub mod PlainTexts
 pub mod GenTexts

@@ -1,16 +1,14 @@
 -- The fault of a text of several models, where no line is faulty, by what is told of its models.
-use Rattle.std.specs.Prelude.{◌≡◌, List, ◌∷◌, Option, Some}
-use Rattle.job_words.specs.Text.{Word}
+use Rattle.std.specs.Prelude.{List, Option, Some}
 use Rattle.blif_models.specs.declared.expanding.Outcome.{Outcome}
 use Rattle.blif_models.specs.declared.expanding.Outcome.TheVariants as outcomes
-use Rattle.blif_models.specs.Models.{Item, Model, whole_items}
+use Rattle.blif_models.specs.Models.{Item, Model}
 use Rattle.blif_drafts.specs.declared.verdicts.Verdict.{Verdict}
 use Rattle.blif_drafts.specs.declared.verdicts.Verdict.TheVariants as verdicts
-use Rattle.blif_drafts.specs.Verdicts.{VerdictIs}
 use Rattle.blif_net.specs.declared.faults.BlifFault.{BlifFault}
 use Rattle.blif_net.specs.declared.faults.FaultKind.TheVariants as kinds
 use Rattle.blif_text.specs.Text.{Line}
-use Rattle.blif_net.specs.Faults.{expanded_fault, fault_at, models_fault}
+use Rattle.blif_net.specs.Faults.{expanded_fault, fault_at}
 
 -- of an outcome: an instance by which a model holds itself, a limit that is passed, or what is wrong with the whole that stands in the main model
 abbrev pub outcome_fault : List Line → Model → List Item → Outcome → Option BlifFault
@@ -24,8 +22,3 @@ verdict_fault lines main items (verdicts.Nameless line) = Some (fault_at kinds.M
 verdict_fault lines main items (verdicts.Misjoined line) = Some (fault_at kinds.Formal line)
 verdict_fault lines main items (verdicts.Twice line) = Some (fault_at kinds.Twice line)
 verdict_fault lines main items (verdicts.Comes outcome) = outcome_fault lines main items outcome
-
--- what is told of models, the main one first, is what is wrong with them
-abbrev pub VerdictsAreFaults : Type 0
-VerdictsAreFaults =
-    (lines : List Line) (main : Model) (further : List Model) (words : List (List Word)) (verdict : Verdict) → VerdictIs (main ∷ further) words main verdict → models_fault lines (main ∷ further) ≡ verdict_fault lines main (whole_items (main ∷ further) main) verdict

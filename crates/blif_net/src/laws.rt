@@ -2,6 +2,7 @@
 
 ghost use Rattle.blif_net.specs.Bounds.{NetworksAreBounded};
 ghost use Rattle.blif_net.specs.Cycles.{CyclesAreFound};
+ghost use Rattle.blif_net.specs.Dumped.{DumpsAreRead, NetworksHaveNames};
 ghost use Rattle.blif_net.specs.PlainTexts.{PlainTextsAgree};
 ghost use Rattle.blif_net.specs.Readings.{EachHasOne, NetOrFault, OneFault, OneNet};
 
@@ -30,4 +31,16 @@ pub fn networks_are_bounded()
 /// and its circuit is the same by both.
 pub fn plain_texts_agree()
     ensures { PlainTextsAgree }
+{}
+
+/// A stored diagram's text of multiplexers, as `blif_dump::write` writes it, has no fault, and each network of it has the inputs and
+/// outputs, under the names that are written, and gives each output its root's function: where the names are names, no two inputs have
+/// one, outputs of one name have one root, and one that is an input is its variable.
+pub fn dumps_are_read_again()
+    ensures { DumpsAreRead }
+{}
+
+/// The names of each network of a text are such names for a listing of its outputs' functions.
+pub fn networks_have_names()
+    ensures { NetworksHaveNames }
 {}

@@ -27,23 +27,27 @@ unfolding order_of clap_on_literals is_number
 unknown_word = refl
 
 -- options, flags and bits in any order
-build_alone : order_of (codes "build" ∷ []) ≡ Some (Build 1 262144 (record { sift = false; store = false; patterns = [] }))
+build_alone : order_of (codes "build" ∷ []) ≡ Some (Build 1 262144 (record { sift = false; store = false; blif = false; patterns = [] }))
 unfolding order_of clap_on_literals is_number
 build_alone = refl
 
-build_with_all : order_of (codes "build" ∷ codes "--workers" ∷ codes "4" ∷ codes "--limit=5" ∷ codes "--sift" ∷ codes "11" ∷ codes "--store" ∷ codes "10" ∷ []) ≡ Some (Build 4 5 (record { sift = true; store = true; patterns = (true ∷ true ∷ []) ∷ (true ∷ false ∷ []) ∷ [] }))
+build_with_all : order_of (codes "build" ∷ codes "--workers" ∷ codes "4" ∷ codes "--limit=5" ∷ codes "--sift" ∷ codes "11" ∷ codes "--store" ∷ codes "10" ∷ []) ≡ Some (Build 4 5 (record { sift = true; store = true; blif = false; patterns = (true ∷ true ∷ []) ∷ (true ∷ false ∷ []) ∷ [] }))
 unfolding order_of clap_on_literals is_number
 build_with_all = refl
 
-build_with_late_option : order_of (codes "build" ∷ codes "0" ∷ codes "--workers=2" ∷ []) ≡ Some (Build 2 262144 (record { sift = false; store = false; patterns = (false ∷ []) ∷ [] }))
+build_with_flags : order_of (codes "build" ∷ codes "--blif" ∷ codes "1" ∷ codes "--store" ∷ []) ≡ Some (Build 1 262144 (record { sift = false; store = true; blif = true; patterns = (true ∷ []) ∷ [] }))
+unfolding order_of clap_on_literals is_number
+build_with_flags = refl
+
+build_with_late_option : order_of (codes "build" ∷ codes "0" ∷ codes "--workers=2" ∷ []) ≡ Some (Build 2 262144 (record { sift = false; store = false; blif = false; patterns = (false ∷ []) ∷ [] }))
 unfolding order_of clap_on_literals is_number
 build_with_late_option = refl
 
-build_with_dashes : order_of (codes "build" ∷ codes "--" ∷ codes "11" ∷ []) ≡ Some (Build 1 262144 (record { sift = false; store = false; patterns = (true ∷ true ∷ []) ∷ [] }))
+build_with_dashes : order_of (codes "build" ∷ codes "--" ∷ codes "11" ∷ []) ≡ Some (Build 1 262144 (record { sift = false; store = false; blif = false; patterns = (true ∷ true ∷ []) ∷ [] }))
 unfolding order_of clap_on_literals is_number
 build_with_dashes = refl
 
-build_with_last_dashes : order_of (codes "build" ∷ codes "--" ∷ []) ≡ Some (Build 1 262144 (record { sift = false; store = false; patterns = [] }))
+build_with_last_dashes : order_of (codes "build" ∷ codes "--" ∷ []) ≡ Some (Build 1 262144 (record { sift = false; store = false; blif = false; patterns = [] }))
 unfolding order_of clap_on_literals is_number
 build_with_last_dashes = refl
 
@@ -142,7 +146,7 @@ no_workers : order_of (codes "build" ∷ codes "--workers" ∷ codes "0" ∷ [])
 unfolding order_of clap_on_literals is_number
 no_workers = refl
 
-sixteen_workers : order_of (codes "build" ∷ codes "--workers" ∷ codes "16" ∷ []) ≡ Some (Build 16 262144 (record { sift = false; store = false; patterns = [] }))
+sixteen_workers : order_of (codes "build" ∷ codes "--workers" ∷ codes "16" ∷ []) ≡ Some (Build 16 262144 (record { sift = false; store = false; blif = false; patterns = [] }))
 unfolding order_of clap_on_literals is_number
 sixteen_workers = refl
 
@@ -150,11 +154,11 @@ seventeen_workers : order_of (codes "build" ∷ codes "--workers" ∷ codes "17"
 unfolding order_of clap_on_literals is_number
 seventeen_workers = refl
 
-limit_0 : order_of (codes "build" ∷ codes "--limit" ∷ codes "0" ∷ []) ≡ Some (Build 1 0 (record { sift = false; store = false; patterns = [] }))
+limit_0 : order_of (codes "build" ∷ codes "--limit" ∷ codes "0" ∷ []) ≡ Some (Build 1 0 (record { sift = false; store = false; blif = false; patterns = [] }))
 unfolding order_of clap_on_literals is_number
 limit_0 = refl
 
-greatest_limit : order_of (codes "build" ∷ codes "--limit" ∷ codes "8000000" ∷ []) ≡ Some (Build 1 8000000 (record { sift = false; store = false; patterns = [] }))
+greatest_limit : order_of (codes "build" ∷ codes "--limit" ∷ codes "8000000" ∷ []) ≡ Some (Build 1 8000000 (record { sift = false; store = false; blif = false; patterns = [] }))
 unfolding order_of clap_on_literals is_number
 greatest_limit = refl
 

@@ -36,7 +36,7 @@ patterns_in rows = patterns_of (unwrap_or (all_of (codes "bits") rows) [])
 abbrev pub build_in : List Row → Option Order
 build_in rows =
     option_and_then (λ workers. option_and_then (λ limit. option_map (λ patterns.
-    Build workers limit (record { sift = is_set (codes "sift") rows; store = is_set (codes "store") rows; patterns = patterns }))
+    Build workers limit (record { sift = is_set (codes "sift") rows; store = is_set (codes "store") rows; blif = is_set (codes "blif") rows; patterns = patterns }))
     (patterns_in rows)) (limit_in rows)) (workers_in rows)
 
 -- behind `load`

@@ -22,9 +22,9 @@ count = record (new_rule (codes "count")) { action = Some Set; required = true }
 abbrev pub with_rules : Shape → List Rule → Shape
 with_rules shape rules = record shape { rules = rules }
 
--- `build [--workers W] [--limit L] [--sift] [--store] [BITS]..`
+-- `build [--workers W] [--limit L] [--sift] [--store] [--blif] [BITS]..`
 abbrev pub build_shape : Shape
-build_shape = with_rules (new_shape (codes "build")) (option (codes "workers") ∷ option (codes "limit") ∷ flag (codes "sift") ∷ flag (codes "store") ∷ bits ∷ [])
+build_shape = with_rules (new_shape (codes "build")) (option (codes "workers") ∷ option (codes "limit") ∷ flag (codes "sift") ∷ flag (codes "store") ∷ flag (codes "blif") ∷ bits ∷ [])
 
 -- its options alone
 abbrev pub build_options : App

@@ -9,6 +9,8 @@ pub struct Options {
     pub sift: bool,
     /// `--store`: the diagrams of the outputs are written behind the report.
     pub store: bool,
+    /// `--blif`: the diagrams of the outputs are written as a network of multiplexers, behind the report and what is stored.
+    pub blif: bool,
     /// Each BITS, 1 to 16,384 of them: input i takes character i.
     pub patterns: List<List<bool>>,
 }
@@ -18,7 +20,7 @@ pub struct Options {
 pub enum Order {
     /// `play`: the job of the input is played.
     Play,
-    /// `build [--workers 1..16] [--limit 0..8000000] [--sift] [--store] [BITS]..`: the report of the network of the input.
+    /// `build [--workers 1..16] [--limit 0..8000000] [--sift] [--store] [--blif] [BITS]..`: the report of the network of the input.
     Build {
         /// 1 to 16; 1 unless given.
         workers: u32,

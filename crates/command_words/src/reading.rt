@@ -86,6 +86,7 @@ fn build_in(alloc: Global, found: &ArgMatches<'_>) -> Result<Option<Order>, Memo
     let options = Options {
         sift: is_set(found, "sift"),
         store: is_set(found, "store"),
+        blif: is_set(found, "blif"),
         patterns,
     };
     Ok(Some(Order::Build {

@@ -76,11 +76,12 @@ fn build_options<'a>(alloc: Global) -> Result<Command<'a>, AllocError>
 
 fn build_flags<'a>(alloc: Global, command: Command<'a>) -> Result<Command<'a>, AllocError>
     requires local { (fields_of command).has_globals ≡ false }
-    ensures app { IfOk result (λ c. app_of c ≡ with_rule (with_rule (app_of command.entry) (flag (codes "sift"))) (flag (codes "store"))) }
+    ensures app { IfOk result (λ c. app_of c ≡ with_rule (with_rule (with_rule (app_of command.entry) (flag (codes "sift"))) (flag (codes "store"))) (flag (codes "blif"))) }
     ensures local { IfOk result (λ c. (fields_of c).has_globals ≡ false) }
 {
     let sift = with_flag(alloc, command, "sift")?;
-    with_flag(alloc, sift, "store")
+    let store = with_flag(alloc, sift, "store")?;
+    with_flag(alloc, store, "blif")
 }
 
 fn build_command<'a>(alloc: Global) -> Result<Command<'a>, AllocError>

@@ -27,6 +27,7 @@ use Rattle.net_builds.specs.Signals.{AllHold}
 use Rattle.net_builds.specs.Standings.{IsLive, IsQuiet, IsSiftedBy, KeepsOrders, Note, Sifts, Standing, Works, values_of}
 use Rattle.net_builds.specs.declared.handing.Handover.{Handover}
 use Rattle.net_builds.specs.declared.sharing.Share.{Share}
+use Rattle.net_builds.specs.declared.telling.Findings.{Findings}
 use Rattle.net_builds.proofs.Built.{IsGain, all_gain, as_many_handed, fetched_below, shared_works}
 use Rattle.net_builds.proofs.HoldingLemmas.{rising_append}
 use Rattle.net_builds.proofs.Passing.{Grows, grows_then, handed_grown, quiet_orderly}
@@ -239,10 +240,10 @@ module _ {F : Type 0} (tells : F → Entry → Type 0) (net : Net) (workers cell
     )
 
   -- The first session and the others, step by step.
-  module _ (Tells : List (ℕ → Bool) → List ℕ → List ℕ → Type 0) (sifts : Bool) (limit : ℕ) (text : List ℕ) (a b g s t l z : Standing) (os bs gs zs : List Standing) (one : Share F) (shares : List (Share F))
+  module _ (Tells : List (ℕ → Bool) → List ℕ → Findings → Type 0) (sifts : Bool) (limit : ℕ) (found : Findings) (a b g s t l z : Standing) (os bs gs zs : List Standing) (one : Share F) (shares : List (Share F))
       (shared : IsShared tells (wanted_of net workers 0) (signal_count net) a b one.outputs one.stop) (others : AreShared tells net workers 1 os bs shares)
       (given : Given 0 b g) (givers : PairsFrom Given 1 bs gs) (handed : AllHandedOver cell wanted (g ∷ gs) g hs) (turns : AreInTurn 0 hs)
-      (sifted : SiftsIf sifts limit g s) (told : IsTold Tells s t (map (λ (h : Handover). h.to) hs) text) (gone : LetsAllGo t l (map (λ (h : Handover). h.to) hs))
+      (sifted : SiftsIf sifts limit g s) (told : IsTold Tells s t (map (λ (h : Handover). h.to) hs) found) (gone : LetsAllGo t l (map (λ (h : Handover). h.to) hs))
       (own_gone : LetsAllGo l z (names_in one.outputs.rows.items)) (others_gone : AllGo gs zs shares) where
     pub passes : Passes cell hs g s
     passes = sift_passes cell hs sifts limit g s sifted
@@ -273,7 +274,7 @@ module _ {F : Type 0} (tells : F → Entry → Type 0) (net : Net) (workers cell
     abbrev own_works : Works a b
     own_works = shared_works tells (wanted_of net workers 0) (signal_count net) a b one shared
 
-    unfoldable pub builds_told : Builds Tells cell wanted (a ∷ os) (z ∷ zs) text
+    unfoldable pub builds_told : Builds Tells cell wanted (a ∷ os) (z ∷ zs) found
     builds_told = record {
       handovers = hs;
       before = a;
@@ -354,7 +355,7 @@ module _ {F : Type 0} (tells : F → Entry → Type 0) (net : Net) (workers cell
             | inr taken ↦ inl taken
           ]
 
-      pub builds_sifted : BuildsSifted Tells limit cell wanted (a ∷ os) (z ∷ zs) text
+      pub builds_sifted : BuildsSifted Tells limit cell wanted (a ∷ os) (z ∷ zs) found
       unfolding builds_told
       builds_sifted = record {
         builds = builds_told;
@@ -391,8 +392,8 @@ module _ {F : Type 0} (tells : F → Entry → Type 0) (net : Net) (workers cell
               (sift.stood h.to ∙ sym (sift.kept h.to) ∙ sym (told.stood h.to)) (all_stood xs)
 
 -- What was told of shares that were gathered is told of what all sessions built, from where they began.
-module _ {F : Type 0} (tells : F → Entry → Type 0) (net : Net) (workers cell : ℕ) (Tells : List (ℕ → Bool) → List ℕ → List ℕ → Type 0) (sifts : Bool) (limit : ℕ) (text : List ℕ) (built mid : List Standing)
-    (handed : HandsAndTells sifts limit Tells cell (output_functions net) built mid text) where
+module _ {F : Type 0} (tells : F → Entry → Type 0) (net : Net) (workers cell : ℕ) (Tells : List (ℕ → Bool) → List ℕ → Findings → Type 0) (sifts : Bool) (limit : ℕ) (found : Findings) (built mid : List Standing)
+    (handed : HandsAndTells sifts limit Tells cell (output_functions net) built mid found) where
   abbrev hs : List Handover
   hs = handed.handovers
 
@@ -419,10 +420,10 @@ module _ {F : Type 0} (tells : F → Entry → Type 0) (net : Net) (workers cell
   sifted_here : (g : Standing) (gs : List Standing) → g ∷ gs ≡ handed.mid → SiftsIf sifts limit g handed.tells.0
   sifted_here g gs same = subst (λ s. SiftsIf sifts limit s handed.tells.0) (first_is g gs same) handed.tells.1
 
-  pub finish_builds : (old new : List Standing) (shares : List (Share F)) → AreShared tells net workers 0 old built shares → AllGo mid new shares → Builds Tells cell (output_functions net) old new text
+  pub finish_builds : (old new : List Standing) (shares : List (Share F)) → AreShared tells net workers 0 old built shares → AllGo mid new shares → Builds Tells cell (output_functions net) old new found
   finish_builds old new shares shared gone = by old built new shares handed.mid refl refl shared gone
     where
-      by : (os bs zs : List Standing) (ones : List (Share F)) (gs : List Standing) → bs ≡ built → gs ≡ handed.mid → AreShared tells net workers 0 os bs ones → AllGo mid zs ones → Builds Tells cell (output_functions net) os zs text
+      by : (os bs zs : List Standing) (ones : List (Share F)) (gs : List Standing) → bs ≡ built → gs ≡ handed.mid → AreShared tells net workers 0 os bs ones → AllGo mid zs ones → Builds Tells cell (output_functions net) os zs found
       by os [] zs ones gs same_b same_g shared gone = absurd (none-some gathers.before (ap (λ l. slice_get l 0) same_b ∙ gathers.before_is))
       by [] (b ∷ bs) zs ones gs same_b same_g shared gone = absurd shared
       by (a ∷ os) (b ∷ bs) zs [] gs same_b same_g shared gone = absurd shared
@@ -431,17 +432,17 @@ module _ {F : Type 0} (tells : F → Entry → Type 0) (net : Net) (workers cell
       by (a ∷ os) (b ∷ bs) (z ∷ zs) (one ∷ ones) (g ∷ gs) same_b same_g shared gone =
           let goes = subst (λ l. AllGo l (z ∷ zs) (one ∷ ones)) (mid_is g gs same_g) gone in
           let given = given_all b g bs gs same_b same_g in
-          builds_told tells net workers cell hs Tells sifts limit text a b g handed.tells.0 handed.told handed.last z os bs gs zs one ones shared.0 shared.1 given.0 given.1 (handed_here g gs same_g) gathers.turns
+          builds_told tells net workers cell hs Tells sifts limit found a b g handed.tells.0 handed.told handed.last z os bs gs zs one ones shared.0 shared.1 given.0 given.1 (handed_here g gs same_g) gathers.turns
           (sifted_here g gs same_g) handed.tells.2 handed.gone goes.0 goes.1
 
   -- and where it sifted
   module _ (does : sifts ≡ true) (n : ℕ) where
     pub finish_sifted : (old new : List Standing) (shares : List (Share F)) → AreBuilt shares → All IsCounted built → All (λ (s : Standing). s.vars ≡ n) built → AreShared tells net workers 0 old built shares → AllGo mid new shares
-        → BuildsSifted Tells limit cell (output_functions net) old new text
+        → BuildsSifted Tells limit cell (output_functions net) old new found
     finish_sifted old new shares done counted vars shared gone = by old built new shares handed.mid refl refl done shared gone
       where
         by : (os bs zs : List Standing) (ones : List (Share F)) (gs : List Standing) → bs ≡ built → gs ≡ handed.mid → AreBuilt ones → AreShared tells net workers 0 os bs ones → AllGo mid zs ones
-            → BuildsSifted Tells limit cell (output_functions net) os zs text
+            → BuildsSifted Tells limit cell (output_functions net) os zs found
         by os [] zs ones gs same_b same_g all shared gone = absurd (none-some gathers.before (ap (λ l. slice_get l 0) same_b ∙ gathers.before_is))
         by [] (b ∷ bs) zs ones gs same_b same_g all shared gone = absurd shared
         by (a ∷ os) (b ∷ bs) zs [] gs same_b same_g all shared gone = absurd shared
@@ -454,7 +455,7 @@ module _ {F : Type 0} (tells : F → Entry → Type 0) (net : Net) (workers cell
             let vars_here = subst (All (λ (s : Standing). s.vars ≡ n)) (sym same_b) vars in
             let first_vars : z.vars ≡ n =
             goes.0.works.vars_are ∙ handed.gone.works.vars_are ∙ handed.tells.2.looks.vars_are ∙ sift_vars sifts g handed.tells.0 (sifted_here g gs same_g) ∙ given.0.gains.vars_are ∙ All-head (λ (s : Standing). s.vars ≡ n) b bs vars_here in
-            builds_sifted tells net workers cell hs Tells sifts limit text a b g handed.tells.0 handed.told handed.last z os bs gs zs one ones shared.0 shared.1 given.0 given.1 (handed_here g gs same_g) gathers.turns
+            builds_sifted tells net workers cell hs Tells sifts limit found a b g handed.tells.0 handed.told handed.last z os bs gs zs one ones shared.0 shared.1 given.0 given.1 (handed_here g gs same_g) gathers.turns
             (sifted_here g gs same_g) handed.tells.2 handed.gone goes.0 goes.1 does all (unsifted_all tells net workers cell hs 1 os bs gs zs ones shared.1 given.1 goes.1)
             (subst (λ (s : Standing). All (λ (h : Handover). IsLive s h.to) hs) (first_is g gs same_g) gathers.held)
             (subst (λ (s : Standing). All (λ (h : Handover). s.adds ≤ h.to.generation) hs) (before_is b bs same_b) gathers.newer) gathers.rising

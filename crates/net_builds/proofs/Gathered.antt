@@ -22,6 +22,7 @@ use Rattle.net_builds.specs.declared.handing.Handover.{Handover}
 use Rattle.net_builds.specs.declared.host.HostRefusal.{HostRefusal}
 use Rattle.net_builds.specs.declared.host.HostRefusal.TheVariants as stops
 use Rattle.net_builds.specs.declared.sharing.Share.{Share}
+use Rattle.net_builds.specs.declared.telling.Findings.{Findings}
 use Rattle.net_builds.proofs.Built.{as_many_handed, few_rows, have_shares}
 use Rattle.net_builds.proofs.Gathering.{gathered_returns, returns_none}
 use Rattle.net_builds.proofs.Pairs.{map_set, zip_at, zip_set}
@@ -132,14 +133,14 @@ module _ {M S : Type 0} (has : M → S → Type 0) (standing : S → Standing) (
                 by [] less = absurd (omega (arith, less))
                 by (x ∷ xs) less = refl
 
-        pub told_of : (limit : ℕ) (Tells : List (ℕ → Bool) → List ℕ → List ℕ → Type 0) (text : List ℕ) → SiftsAndTells sifts limit Tells first (standing told) (map (λ (h : Handover). h.to) hs) text
-            → HandsAndTells sifts limit Tells cell (output_functions net) (map standing old) (map standing (set (set mid 0 told) 0 last)) text
-        told_of limit Tells text tells = record {
+        pub told_of : (limit : ℕ) (Tells : List (ℕ → Bool) → List ℕ → Findings → Type 0) (found : Findings) → SiftsAndTells sifts limit Tells first (standing told) (map (λ (h : Handover). h.to) hs) found
+            → HandsAndTells sifts limit Tells cell (output_functions net) (map standing old) (map standing (set (set mid 0 told) 0 last)) found
+        told_of limit Tells found tells = record {
           mid = map standing mid;
           handovers = hs;
           gathers = gathers;
           told = standing told;
-          tells = subst (λ (s : Standing). SiftsAndTells sifts limit Tells s (standing told) (map (λ (h : Handover). h.to) hs) text) (sym first_is) tells;
+          tells = subst (λ (s : Standing). SiftsAndTells sifts limit Tells s (standing told) (map (λ (h : Handover). h.to) hs) found) (sym first_is) tells;
           last = standing last;
           gone = gone;
           new_is = map_set standing (set mid 0 told) 0 last ∙ ap (λ l. set l 0 (standing last)) late_is ∙ set-set (map standing mid) 0 (standing told) (standing last);

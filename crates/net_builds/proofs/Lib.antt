@@ -35,4 +35,5 @@ pub mod Turns
 pub mod ToldLaws
 pub mod UseLemmas
 mod WorkedHistory
+mod WorkedListings
 mod WorkedSift

@@ -8,7 +8,7 @@ use Rattle.function_laws.specs.declared.history.Entry.{Entry}
 use Rattle.function_laws.specs.declared.history.Name.{Name}
 use Rattle.net_reports.specs.Reports.{root_names}
 use Rattle.net_reports.specs.RootClasses.{root_functions}
-use Rattle.net_builds.specs.Builds.{AreUnsifted, TellingOf}
+use Rattle.net_builds.specs.Builds.{AreUnsifted, FindingsOf}
 use Rattle.net_builds.specs.Handings.{IsTold, IsWithin, Looks}
 use Rattle.net_builds.specs.Holdings.{LetsAllGo}
 use Rattle.net_builds.specs.Loads.{IsReportNoted, IsStack, Loads, LoadsUp}
@@ -17,6 +17,7 @@ use Rattle.net_builds.specs.Signals.{AllHold}
 use Rattle.net_builds.specs.Standings.{HasRoom, IsQuiet, KeepsOrders, Note, Standing, Works, values_of}
 use Rattle.net_builds.specs.declared.host.HostRefusal.{HostRefusal}
 use Rattle.net_builds.specs.declared.host.HostRefusal.TheVariants as stops
+use Rattle.net_builds.specs.declared.telling.Findings.{Findings}
 use Rattle.net_builds.specs.declared.telling.Telling.TheVariants.{Report}
 use Rattle.net_builds.proofs.BackLemmas.{err_weaker, ok_weaker}
 use Rattle.net_builds.proofs.Mapped.{map_same}
@@ -50,9 +51,9 @@ module _ {F : Type 0} (tells : F → Entry → Type 0) (dump : Dump) (patterns :
   }
 
   -- what was told of names that stand for the roots' functions is the report of the roots
-  pub report_noted : (old mid new : Standing) (names : List Name) (text : List ℕ) → Works old mid → mid.vars ≡ dump.nvars → AllHold mid (root_functions dump) names
-      → IsTold (TellingOf dump.nvars (root_names (length dump.roots)) patterns Report) mid new names text → IsReportNoted dump patterns old new text
-  report_noted old mid new names text works vars hold told =
+  pub report_noted : (old mid new : Standing) (names : List Name) (found : Findings) → Works old mid → mid.vars ≡ dump.nvars → AllHold mid (root_functions dump) names
+      → IsTold (FindingsOf dump.nvars (root_names (length dump.roots)) patterns Report) mid new names found → IsReportNoted dump patterns old new found.text.items
+  report_noted old mid new names found works vars hold told =
       let note : Note = told.note in
       let roots = root_functions dump in
       let stands : map note.stands names ≡ map (values_of mid.vars) roots = map_same note.stands mid.stands told.stood names ∙ all_stand mid roots names hold in
@@ -63,7 +64,7 @@ module _ {F : Type 0} (tells : F → Entry → Type 0) (dump : Dump) (patterns :
         names = names;
         stand = stands ∙ ap (λ n. map (values_of n) roots) (sym told.looks.vars_are);
         reports = report_same dump.nvars (root_names (length dump.roots)) patterns told.functions roots
-            (stand_same dump.nvars note.stands names told.functions roots (told.stand ∙ ap (λ n. map (values_of n) told.functions) wide) (stands ∙ ap (λ n. map (values_of n) roots) vars)) note.order text told.tells;
+            (stand_same dump.nvars note.stands names told.functions roots (told.stand ∙ ap (λ n. map (values_of n) told.functions) wide) (stands ∙ ap (λ n. map (values_of n) roots) vars)) note.order found.text.items told.tells.told;
       }
 
   -- and then all rows were let go

@@ -17,9 +17,10 @@ use Rattle.net_reports.proofs.SameClasses.{classes_same}
 use Rattle.diagram_dumps.specs.Dumps.{root_value}
 use Rattle.diagram_dumps.specs.Listings.{IsListing, dump_of}
 use Rattle.diagram_dumps.specs.declared.listings.Listing.{Listing}
-use Rattle.net_builds.specs.Builds.{TellingOf}
+use Rattle.net_builds.specs.Builds.{FindingsOf, TellingOf}
+use Rattle.net_builds.specs.declared.telling.Findings.{Findings}
 use Rattle.net_builds.specs.declared.telling.Telling.{Telling}
-use Rattle.net_builds.specs.declared.telling.Telling.TheVariants.{Report, Stored, Summary}
+use Rattle.net_builds.specs.declared.telling.Telling.TheVariants.{Report, Summary}
 
 -- a pattern's assignment
 pub assignment_below : (n : ℕ) (pattern : List Bool) → assignment n pattern < 2 ^ n
@@ -52,10 +53,14 @@ in_all n (x ∷ vs) all v (inr i) = in_all n vs (λ k d less. all (suc k) d (ome
 range_below : (n : ℕ) → All (λ v. v < n) (range_with_len 0 n)
 range_below n k d less = omega (arith, less, length-range_with_len 0 n, get_or-range_with_len 0 n k d (omega (arith, less, length-range_with_len 0 n)))
 
--- under an order of the n variables
+-- an order of the n variables has n
+wide_order : (n : ℕ) (order : List ℕ) → IsPermutation (range_with_len 0 n) order → length order ≡ n
+wide_order n order once = length_permutation (range_with_len 0 n) order once ∙ length-range_with_len 0 n
+
+-- under which the functions have as many nodes
 nodes_same : (n : ℕ) (order : List ℕ) → IsPermutation (range_with_len 0 n) order → (fs gs : List Function) → AreSame n fs gs → node_count order fs ≡ node_count order gs
 nodes_same n order once fs gs same =
-    let wide : length order ≡ n = length_permutation (range_with_len 0 n) order once ∙ length-range_with_len 0 n in
+    let wide = wide_order n order once in
     let below = All-permutation (λ v. v < n) (range_with_len 0 n) order once (range_below n) in
     size_same (record { variables = order; elements = [] }) (λ v i. omega (arith, in_all n order below v i, wide)) fs gs
     (subst (λ m. AreSame m fs gs) (sym wide) same)
@@ -91,24 +96,22 @@ module _ (n : ℕ) (names : List (List ℕ)) (patterns : List (List Bool)) (fs g
         ∙ ap (report_text n names is.classes (map (evaluation_at n gs) patterns) order) (nodes_same n order is.orders fs gs same);
   }
 
-  pub telling_same : (text : List ℕ) (telling : Telling) → TellingOf n names patterns telling fs order text → TellingOf n names patterns telling gs order text
+  telling_same : (text : List ℕ) (telling : Telling) → TellingOf n names patterns telling fs order text → TellingOf n names patterns telling gs order text
   telling_same text Report is = report_same text is
-  telling_same text Stored is =
-      let wide : length order ≡ n = length_permutation (range_with_len 0 n) order is.reports.orders ∙ length-range_with_len 0 n in
-      record {
-        report = is.report;
-        behind = is.behind;
-        text_is = is.text_is;
-        reports = report_same is.report is.reports;
-        stored = record {
-          listing = is.stored.listing;
-          listed = listed_same n order fs gs is.stored.listing wide same is.stored.listed;
-          bytes = is.stored.bytes;
-        };
-      }
   telling_same text Summary is = record {
     orders = is.orders;
     classes = is.classes;
     are_classes = classes_same n fs gs same is.classes is.are_classes;
     bytes = is.bytes ∙ ap (summary_text n (length names) (count_firsts is.classes)) (nodes_same n order is.orders fs gs same);
+  }
+
+  -- each tells under an order that has each variable once
+  told_once : (text : List ℕ) (telling : Telling) → TellingOf n names patterns telling fs order text → IsPermutation (range_with_len 0 n) order
+  told_once text Report is = is.orders
+  told_once text Summary is = is.orders
+
+  pub found_same : (found : Findings) (telling : Telling) → FindingsOf n names patterns telling fs order found → FindingsOf n names patterns telling gs order found
+  found_same found telling is = record {
+    told = telling_same found.text.items telling is.told;
+    listed = listed_same n order fs gs found.listing (wide_order n order (told_once found.text.items telling is.told)) same is.listed;
   }

@@ -38,6 +38,7 @@ use Rattle.net_builds.specs.Handings.{IsKnown}
 use Rattle.net_builds.specs.Sifting.{BuildsSifted, GivesOnly, IsOneOf, sifted_order}
 use Rattle.net_builds.specs.Standings.{IsSiftedBy, KeepsOrders, Note, Standing, values_of}
 use Rattle.net_builds.specs.declared.handing.Handover.{Handover}
+use Rattle.net_builds.specs.declared.telling.Findings.{Findings}
 
 has-parts : (e : Entry) (xs ys : List Entry) → Has e (xs ++ ys) → Has e xs ⊎ Has e ys
 has-parts e [] ys has = inr has
@@ -63,17 +64,17 @@ post_same : (i cell : ℕ) (a from : Name) → calls.Post i a ≡ calls.Post cel
 post_same i cell a from is = cc
 
 -- A legal history in which what was built was sifted once.
-module _ (Tells : List (ℕ → Bool) → List ℕ → List ℕ → Type 0) (n : ℕ) (wanted : List (ℕ → Bool)) (limit : ℕ) (sizes : Sizes) (log : List Entry) (old new : List Standing) (cell : ℕ) (text : List ℕ)
+module _ (Tells : List (ℕ → Bool) → List ℕ → Findings → Type 0) (n : ℕ) (wanted : List (ℕ → Bool)) (limit : ℕ) (sizes : Sizes) (log : List Entry) (old new : List Standing) (cell : ℕ) (found : Findings)
     (all : sizes.variables ≡ n) (none : sizes.elements ≡ 0) (wide : All (λ (s : Standing). s.vars ≡ n) new) (fresh : All (λ (s : Standing). s.entries ≡ []) old)
-    (history : IsLegalHistoryOf sizes log new) (behind : BuildsSifted Tells limit cell wanted old new text) where
-  abbrev builds : Builds Tells cell wanted old new text
+    (history : IsLegalHistoryOf sizes log new) (behind : BuildsSifted Tells limit cell wanted old new found) where
+  abbrev builds : Builds Tells cell wanted old new found
   builds = behind.builds
 
   abbrev sift : Entry
   sift = entry behind.place builds.first.number (calls.Sift behind.told) replies.Done
 
   among_first : Contains new builds.first
-  among_first = has_first Tells n wanted sizes log old new cell text wide fresh history builds
+  among_first = has_first Tells n wanted sizes log old new cell found wide fresh history builds
 
   -- what is known of each entry of the history, and of what was there at the places of a session's calls
   know : (e : Entry) → Has e log → IsKnown cell builds.handovers e
@@ -240,7 +241,7 @@ module _ (Tells : List (ℕ → Bool) → List ℕ → List ℕ → Type 0) (n :
       )
 
   all_stand : AllZip StandsFor builds.handovers wanted
-  all_stand = fetched_stand builds.handovers builds.functions wanted builds.stand (told_same Tells n wanted sizes log old new cell text wide fresh history builds) behind.stood
+  all_stand = fetched_stand builds.handovers builds.functions wanted builds.stand (told_same Tells n wanted sizes log old new cell found wide fresh history builds) behind.stood
 
   name_for : (hs : List Handover) (gs : List (ℕ → Bool)) (name : Name) → AllZip StandsFor hs gs → In name (map (λ (h : Handover). h.to) hs)
       → (g : ℕ → Bool) × Contains gs g × (behind.sifting.stands name ≡ Some (Bdd (list_of (2 ^ n) g)))
@@ -360,7 +361,7 @@ module _ (Tells : List (ℕ → Bool) → List ℕ → List ℕ → Type 0) (n :
       λ e i. let at = places (0 + length front + 1) _ rest e later.2 i in
       keeps e (front-has builds.note.place log e (subst (λ (es : List Entry). Has e es) (sym is) (has-right e front (sift ∷ rest) (inr i)))) (λ same. omega (arith, same, at.0, front_long)) in
       let left : Orders = orders_after (orders_from (opening_orders sizes) front) (calls.Sift behind.told) replies.Done in
-      sym (told_order Tells n wanted sizes log old new cell text wide fresh history builds)
+      sym (told_order Tells n wanted sizes log old new cell found wide fresh history builds)
       ∙ ap (λ (es : List Entry). (orders_from (opening_orders sizes) es).variables) is
       ∙ ap (λ (o : Orders). o.variables) (orders_from-append (opening_orders sizes) front (sift ∷ rest) ∙ kept_orders rest keep left)
 

@@ -17,9 +17,10 @@ use Rattle.net_reports.specs.Reports.{count_firsts, node_count, output_names, re
 use Rattle.net_reports.specs.declared.classes.Class.{Class}
 use Rattle.net_reports.specs.declared.patterns.Evaluation.{Evaluation}
 use Rattle.net_builds.specs.Asked.{MayReport}
-use Rattle.net_builds.specs.Builds.{TellingOf, TellsOf}
+use Rattle.net_builds.specs.Builds.{TellingOf}
 use Rattle.net_builds.specs.Handings.{IsTold, Looks}
 use Rattle.net_builds.specs.Standings.{Asks, HasRoom, IsLive, IsQuiet, Lists, Standing, values_of}
+use Rattle.net_builds.specs.declared.telling.Findings.{Findings}
 use Rattle.net_builds.specs.declared.telling.Telling.TheVariants.{Report, Summary}
 use Rattle.net_builds.specs.Tellings.{evaluation_in, value_in, values_in}
 use Rattle.net_builds.proofs.StandingLemmas.{gains_none, gains_then, live_list, still_live}
@@ -118,9 +119,9 @@ looks_listed old mid new names listing lists asks = record {
 }
 
 -- what is told of a listing, after some calls that change nothing
-pub is_told : (Tells : List (ℕ → Bool) → List ℕ → List ℕ → Type 0) (old mid new : Standing) (names : List Name) (listing : Listing) (text : List ℕ)
-    (lists : Lists old mid names listing) → Asks mid new → Tells lists.functions listing.order text → IsTold Tells old new names text
-is_told Tells old mid new names listing text lists asks tells = record {
+pub is_told : (Tells : List (ℕ → Bool) → List ℕ → Findings → Type 0) (old mid new : Standing) (names : List Name) (listing : Listing) (found : Findings)
+    (lists : Lists old mid names listing) → Asks mid new → Tells lists.functions listing.order found → IsTold Tells old new names found
+is_told Tells old mid new names listing found lists asks tells = record {
   looks = looks_listed old mid new names listing lists asks;
   note = record { place = lists.place; order = listing.order; stands = old.stands };
   notes_are = asks.works.notes_are ∙ ap (λ (s : Standing). s.notes) lists.new_is;
@@ -183,7 +184,7 @@ pub summed_up : (net : Net) (patterns : List (List Bool)) (old mid : Standing) (
     (classes : List Class) (nodes : ℕ) (text : List ℕ) → old.vars ≡ length net.inputs → AreClasses (length listing.order) lists.functions classes
     → nodes ≡ node_count listing.order lists.functions
     → (seen : List Class) → seen ≡ classes → text ≡ summary_text (length net.inputs) (length net.outputs) (count_firsts seen) nodes
-    → TellsOf net patterns Summary lists.functions listing.order text
+    → TellingOf (length net.inputs) (output_names net) patterns Summary lists.functions listing.order text
 summed_up net patterns old mid names listing lists classes nodes text vars are count seen same_classes is =
     let n = length net.inputs in
     record {

@@ -26,6 +26,7 @@ use Rattle.net_builds.specs.Builds.{AllGain, AllHandedOver, AreUnsifted, Builds,
 use Rattle.net_builds.specs.Handings.{AreInTurn, IsKnown}
 use Rattle.net_builds.specs.Standings.{KeepsOrders, Note, Standing, values_of}
 use Rattle.net_builds.specs.declared.handing.Handover.{Handover}
+use Rattle.net_builds.specs.declared.telling.Findings.{Findings}
 use Rattle.diagram_dumps.specs.Agreement.{AreSame, IsSame}
 
 pub contains_in : {X : Type 0} (xs : List X) (x : X) → Contains xs x → In x xs
@@ -217,9 +218,9 @@ module _ (n : ℕ) (sizes : Sizes) (log : List Entry) (old new : List Standing) 
     noted_order : (orders_from (opening_orders sizes) (take note.place log)).variables ≡ note.order
     noted_order = (noted_of first has_first note noted).order_is
 
-module _ (Tells : List (ℕ → Bool) → List ℕ → List ℕ → Type 0) (n : ℕ) (wanted : List (ℕ → Bool)) (sizes : Sizes) (log : List Entry) (old new : List Standing) (cell : ℕ) (text : List ℕ)
+module _ (Tells : List (ℕ → Bool) → List ℕ → Findings → Type 0) (n : ℕ) (wanted : List (ℕ → Bool)) (sizes : Sizes) (log : List Entry) (old new : List Standing) (cell : ℕ) (found : Findings)
     (wide : All (λ (s : Standing). s.vars ≡ n) new) (fresh : All (λ (s : Standing). s.entries ≡ []) old)
-    (history : IsLegalHistoryOf sizes log new) (builds : Builds Tells cell wanted old new text) where
+    (history : IsLegalHistoryOf sizes log new) (builds : Builds Tells cell wanted old new found) where
   pub has_first : Contains new builds.first
   has_first = subst (λ (ss : List Standing). Contains ss builds.first) (sym builds.new_is) (0, omega arith, refl)
 

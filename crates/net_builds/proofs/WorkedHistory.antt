@@ -9,6 +9,8 @@ use Rattle.edge_bits.specs.declared.limits.TheConstants.{CELLS}
 use Rattle.edge_bits.specs.Assignments.{set_bit}
 use Rattle.cover_nets.specs.declared.net.Net.{Net}
 use Rattle.cover_nets.specs.Networks.{value_within}
+use Rattle.diagram_dumps.specs.Listings.{IsListing}
+use Rattle.diagram_dumps.specs.declared.listings.Listing.{Listing}
 use Rattle.function_laws.specs.declared.history.Call.TheVariants as calls
 use Rattle.function_laws.specs.declared.making.Making.TheVariants as makings
 use Rattle.function_laws.specs.declared.making.BddMaking.TheVariants as bdds
@@ -29,12 +31,14 @@ use Rattle.net_builds.proofs.HandedLaw.{Has}
 use Rattle.net_reports.specs.Classes.{AreClasses, Function as Values, IsClass}
 use Rattle.net_reports.specs.Reports.{output_functions, report_text}
 use Rattle.net_reports.specs.declared.classes.Class.{Class}
-use Rattle.net_builds.specs.Builds.{Builds, IsLegalHistoryOf, IsNoted, TellsOf}
+use Rattle.net_builds.specs.Builds.{Builds, FindsOf, IsLegalHistoryOf, IsNoted}
+use Rattle.net_builds.specs.declared.telling.Findings.{Findings}
 use Rattle.net_builds.specs.declared.telling.Telling.TheVariants.{Report}
 use Rattle.net_builds.specs.Handings.{IsKnown}
 use Rattle.net_builds.specs.Handed.{IsPlain}
 use Rattle.net_builds.specs.Standings.{Note, Standing}
 use Rattle.net_builds.specs.declared.handing.Handover.{Handover}
+use Rattle.net_builds.proofs.WorkedListings.{lone, lone_listed}
 
 abbrev name : ℕ → Name
 name i = record { row = i; generation = i }
@@ -156,10 +160,11 @@ one_class = record { as_many = refl; each = each }
     each zero class at = (let is : own_class ≡ class = cc in subst (IsClass 1 (projection 0 ∷ []) 0) is of_first)
     each (suc i) class at = absurd (let less = slice_get_within (own_class ∷ []) (suc i) class at in omega (arith, less))
 
--- the two built the output and told of it
-told : Builds (TellsOf net [] Report) 0 (output_functions net) (before 0 ∷ before 1 ∷ []) (first ∷ second ∷ []) (codes "inputs 1\noutputs 1\nout 0 f 0 +\norder 0\nnodes 2\n")
+-- the two built the output and told of it, whatever memory the text takes
+told : (found : Findings) → found.text.items ≡ codes "inputs 1\noutputs 1\nout 0 f 0 +\norder 0\nnodes 2\n" → found.listing ≡ lone
+    → Builds (FindsOf net [] Report) 0 (output_functions net) (before 0 ∷ before 1 ∷ []) (first ∷ second ∷ []) found
 unfolding list_of value_within report_text digits all_below all_parts distinct parts set_bit
-told = record {
+told found text listing = record {
   handovers = handover ∷ [];
   before = before 0;
   others = before 1 ∷ [];
@@ -190,5 +195,8 @@ told = record {
   functions = projection 0 ∷ [];
   later = all_one (λ (h : Handover). h.fetch < 4) handover (omega arith);
   stand = refl;
-  tells = record { orders = IsPermutation-refl (0 ∷ []); classes = own_class ∷ []; are_classes = one_class; bytes = refl };
+  tells = record {
+    told = record { orders = IsPermutation-refl (0 ∷ []); classes = own_class ∷ []; are_classes = one_class; bytes = text };
+    listed = subst (λ (shown : Listing). IsListing (0 ∷ []) (projection 0 ∷ []) shown) (sym listing) lone_listed;
+  };
 }

@@ -8,6 +8,8 @@ use Rattle.std.proofs.lemmas.List.Sorted.{IsPermutation-to_front}
 use Rattle.std.proofs.lemmas.Option.{same_Some, slice_get_within}
 use Rattle.edge_bits.specs.declared.limits.TheConstants.{CELLS}
 use Rattle.edge_bits.specs.Assignments.{set_bit}
+use Rattle.diagram_dumps.specs.Listings.{IsListing}
+use Rattle.diagram_dumps.specs.declared.listings.Listing.{Listing}
 use Rattle.function_laws.specs.declared.history.Call.TheVariants as calls
 use Rattle.function_laws.specs.declared.making.BddMaking.{BddMaking}
 use Rattle.function_laws.specs.declared.making.Making.TheVariants as makings
@@ -33,13 +35,15 @@ use Rattle.function_laws.specs.Values.{constant, if_then_else, projection}
 use Rattle.net_reports.specs.Classes.{AreClasses, Function as Values, IsClass}
 use Rattle.net_reports.specs.Reports.{report_text}
 use Rattle.net_reports.specs.declared.classes.Class.{Class}
-use Rattle.net_builds.specs.Builds.{Builds, IsLegalHistoryOf, IsNoted, TellingOf}
+use Rattle.net_builds.specs.Builds.{Builds, FindingsOf, IsLegalHistoryOf, IsNoted}
+use Rattle.net_builds.specs.declared.telling.Findings.{Findings}
 use Rattle.net_builds.specs.declared.telling.Telling.TheVariants.{Report}
 use Rattle.net_builds.specs.Handings.{IsKnown}
 use Rattle.net_builds.specs.Handed.{IsPlain}
 use Rattle.net_builds.specs.Sifting.{BuildsSifted, GivesOnly}
 use Rattle.net_builds.specs.Standings.{IsSiftedBy, KeepsOrders, Note, Standing}
 use Rattle.net_builds.specs.declared.handing.Handover.{Handover}
+use Rattle.net_builds.proofs.WorkedListings.{selected, selected_listed}
 
 all_of : {X : Type 0} (P : X → Type 0) (xs : List X) → Each P xs → All P xs
 all_of P [] each = All-nil P
@@ -257,38 +261,8 @@ one_class = record { as_many = refl; each = each }
     each zero class at = (let is : own_class ≡ class = cc in subst (IsClass 3 (chosen ∷ []) 0) is of_first)
     each (suc i) class at = absurd (let less = slice_get_within (own_class ∷ []) (suc i) class at in omega (arith, less))
 
-abbrev Tells : List (ℕ → Bool) → List ℕ → List ℕ → Type 0
-Tells = TellingOf 3 (codes "f" ∷ []) [] Report
-
-abbrev text : List ℕ
-text = codes "inputs 3\noutputs 1\nout 0 f 0 +\norder 2 0 1\nnodes 4\n"
-
--- its report under the order that the sift left, in which it has a node of its own, beside two variables and a constant
-tells : Tells (chosen ∷ []) (2 ∷ 0 ∷ 1 ∷ []) text
-unfolding list_of report_text digits all_below all_parts distinct parts set_bit
-tells = record { orders = IsPermutation-to_front (0 ∷ 1 ∷ []) 2; classes = own_class ∷ []; are_classes = one_class; bytes = refl }
-
--- the two built the function and told of it behind the sift
-builds : Builds Tells 0 (chosen ∷ []) (before 0 ∷ before 1 ∷ []) (first ∷ second ∷ []) text
-unfolding list_of
-builds = record {
-  handovers = handover ∷ [];
-  before = before 0;
-  others = before 1 ∷ [];
-  old_is = refl;
-  first = first;
-  rest = second ∷ [];
-  new_is = refl;
-  handed = ((second, (1, omega arith, refl), record { posting = posting; among = (0, omega arith, refl); at_post = refl; built = refl; passed = ((7, omega arith, refl), (1, omega arith, refl)) }), tt);
-  turns = (omega arith, omega arith, tt);
-  gains = (low ++ sift ∷ [], refl, first_known, refl, refl, (building, refl, second_known, refl, refl, tt));
-  note = note;
-  noted = refl;
-  functions = chosen ∷ [];
-  later = all_of (λ (h : Handover). h.fetch < 12) (handover ∷ []) (omega arith, tt);
-  stand = refl;
-  tells = tells;
-}
+abbrev Tells : List (ℕ → Bool) → List ℕ → Findings → Type 0
+Tells = FindingsOf 3 (codes "f" ∷ []) [] Report
 
 gives : GivesOnly 3 (chosen ∷ []) 11 (before 1) second
 gives = inr (
@@ -304,28 +278,60 @@ sifted_by : IsSiftedBy 100 3 told
 unfolding list_of parts all_parts distinct topmost any_below all_below set_bit reach
 sifted_by = record { elements = 0; pinned = BddFunction chosen ∷ []; functions_are = refl; order_is = refl }
 
-behind : BuildsSifted Tells 100 0 (chosen ∷ []) (before 0 ∷ before 1 ∷ []) (first ∷ second ∷ []) text
-unfolding list_of builds
-behind = record {
-  builds = builds;
-  place = 11;
-  told = told;
-  low = low;
-  high = [];
-  entries_are = refl;
-  low_keeps = all_of KeepsOrders low ((λ o. refl), ((λ o. refl), ((λ o. refl), tt)));
-  high_keeps = All-nil KeepsOrders;
-  others_keep = (
-    all_of KeepsOrders building ((λ o. refl), ((λ o. refl), ((λ o. refl), ((λ o. refl), ((λ o. refl), ((λ o. refl), ((λ o. refl), ((λ o. refl), tt)))))))),
-    tt,
-  );
-  behind = all_of (λ (h : Handover). h.fetch < 11) (handover ∷ []) (omega arith, tt);
-  above = omega arith;
-  sifting = sifting;
-  among = (0, omega arith, refl);
-  at_place = refl;
-  stood = all_of (λ (h : Handover). sifting.stands h.to ≡ note.stands h.to) (handover ∷ []) (refl, tt);
-  own = λ at f stands. inr (chosen, (0, omega arith, refl), sym (fetched_alone at f stands));
-  givers = (gives, tt);
-  sift = sifted_by;
-}
+-- what it tells, whatever memory the text takes
+module _ (found : Findings) (text : found.text.items ≡ codes "inputs 3\noutputs 1\nout 0 f 0 +\norder 2 0 1\nnodes 4\n") (listing : found.listing ≡ selected) where
+  -- its report under the order that the sift left, in which it has a node of its own, beside two variables and a constant
+  tells : Tells (chosen ∷ []) (2 ∷ 0 ∷ 1 ∷ []) found
+  unfolding list_of report_text digits all_below all_parts distinct parts set_bit
+  tells = record {
+    told = record { orders = IsPermutation-to_front (0 ∷ 1 ∷ []) 2; classes = own_class ∷ []; are_classes = one_class; bytes = text };
+    listed = subst (λ (shown : Listing). IsListing (2 ∷ 0 ∷ 1 ∷ []) (chosen ∷ []) shown) (sym listing) selected_listed;
+  }
+
+  -- the two built the function and told of it behind the sift
+  builds : Builds Tells 0 (chosen ∷ []) (before 0 ∷ before 1 ∷ []) (first ∷ second ∷ []) found
+  unfolding list_of
+  builds = record {
+    handovers = handover ∷ [];
+    before = before 0;
+    others = before 1 ∷ [];
+    old_is = refl;
+    first = first;
+    rest = second ∷ [];
+    new_is = refl;
+    handed = ((second, (1, omega arith, refl), record { posting = posting; among = (0, omega arith, refl); at_post = refl; built = refl; passed = ((7, omega arith, refl), (1, omega arith, refl)) }), tt);
+    turns = (omega arith, omega arith, tt);
+    gains = (low ++ sift ∷ [], refl, first_known, refl, refl, (building, refl, second_known, refl, refl, tt));
+    note = note;
+    noted = refl;
+    functions = chosen ∷ [];
+    later = all_of (λ (h : Handover). h.fetch < 12) (handover ∷ []) (omega arith, tt);
+    stand = refl;
+    tells = tells;
+  }
+
+  behind : BuildsSifted Tells 100 0 (chosen ∷ []) (before 0 ∷ before 1 ∷ []) (first ∷ second ∷ []) found
+  unfolding list_of builds
+  behind = record {
+    builds = builds;
+    place = 11;
+    told = told;
+    low = low;
+    high = [];
+    entries_are = refl;
+    low_keeps = all_of KeepsOrders low ((λ o. refl), ((λ o. refl), ((λ o. refl), tt)));
+    high_keeps = All-nil KeepsOrders;
+    others_keep = (
+      all_of KeepsOrders building ((λ o. refl), ((λ o. refl), ((λ o. refl), ((λ o. refl), ((λ o. refl), ((λ o. refl), ((λ o. refl), ((λ o. refl), tt)))))))),
+      tt,
+    );
+    behind = all_of (λ (h : Handover). h.fetch < 11) (handover ∷ []) (omega arith, tt);
+    above = omega arith;
+    sifting = sifting;
+    among = (0, omega arith, refl);
+    at_place = refl;
+    stood = all_of (λ (h : Handover). sifting.stands h.to ≡ note.stands h.to) (handover ∷ []) (refl, tt);
+    own = λ at f stands. inr (chosen, (0, omega arith, refl), sym (fetched_alone at f stands));
+    givers = (gives, tt);
+    sift = sifted_by;
+  }

@@ -9,15 +9,17 @@ use Rattle.function_laws.specs.Histories.{IsLegal, table_after}
 use Rattle.function_laws.specs.SiftEntries.{Carries}
 use Rattle.function_laws.specs.SessionEntries.{entries_of}
 use Rattle.function_laws.specs.Tables.{Sizes, opening}
-use Rattle.net_reports.specs.Reports.{IsReport, IsStored, IsSummary, Subject, output_names, root_names}
+use Rattle.diagram_dumps.specs.Listings.{IsListing}
+use Rattle.net_reports.specs.Reports.{IsReport, IsSummary, Subject, output_names, root_names}
 pub use Rattle.net_builds.specs.Handings.{AllHandedOver, IsDelivered}
 use Rattle.net_builds.specs.Handings.{AreInTurn, IsKnown}
 use Rattle.net_builds.specs.Standings.{KeepsOrders, Note, Standing, values_of}
 use Rattle.net_builds.specs.declared.handing.Handover.{Handover}
+use Rattle.net_builds.specs.declared.telling.Findings.{Findings}
 use Rattle.net_builds.specs.declared.telling.Reported.{Reported}
 use Rattle.net_builds.specs.declared.telling.Reported.TheVariants.{Diagram, Network}
 use Rattle.net_builds.specs.declared.telling.Telling.{Telling}
-use Rattle.net_builds.specs.declared.telling.Telling.TheVariants.{Report, Stored, Summary}
+use Rattle.net_builds.specs.declared.telling.Telling.TheVariants.{Report, Summary}
 
 -- Each session gained entries that add no variable and no element, and those that post to the cell are of these handovers.
 abbrev pub AllGain : ℕ → List Handover → List Standing → List Standing → Type 0
@@ -27,7 +29,7 @@ AllGain cell handovers (a ∷ old) (b ∷ new) =
 AllGain cell handovers _ _ = ⊥
 
 -- What is told of functions that the first session fetched, in place of the wanted ones, as they stood at the place of its last note, above all fetches: under the order that it noted there, behind its earlier notes.
-pub record Builds (Tells : List (ℕ → Bool) → List ℕ → List ℕ → Type 0) (cell : ℕ) (wanted : List (ℕ → Bool)) (old new : List Standing) (text : List ℕ) : Type 0 where
+pub record Builds (Tells : List (ℕ → Bool) → List ℕ → Findings → Type 0) (cell : ℕ) (wanted : List (ℕ → Bool)) (old new : List Standing) (found : Findings) : Type 0 where
   pub handovers : List Handover
   pub before : Standing
   pub others : List Standing
@@ -43,29 +45,29 @@ pub record Builds (Tells : List (ℕ → Bool) → List ℕ → List ℕ → Typ
   pub functions : List (ℕ → Bool)
   pub later : All (λ h. h.fetch < note.place) handovers
   pub stand : map note.stands (map (λ h. h.to) handovers) ≡ map (values_of first.vars) functions
-  pub tells : Tells functions note.order text
-
--- The text is a report of this subject, and behind it that of a stored diagram of the subject's functions under its order.
-pub record IsStoredReport (subject : Subject) (text : List ℕ) : Type 0 where
-  pub report : List ℕ
-  pub behind : List ℕ
-  pub text_is : text ≡ report ++ behind
-  pub reports : IsReport subject report
-  pub stored : IsStored subject behind
+  pub tells : Tells functions note.order found
 
 -- what is due of a subject
 abbrev pub IsAs : Telling → Subject → List ℕ → Type 0
 IsAs Report = IsReport
-IsAs Stored = IsStoredReport
 IsAs Summary = IsSummary
 
 -- of functions of n variables, which have these names, under the order, with their values at these patterns
 abbrev pub TellingOf : ℕ → List (List ℕ) → List (List Bool) → Telling → List (ℕ → Bool) → List ℕ → List ℕ → Type 0
 TellingOf n names patterns telling functions order text = IsAs telling (record { n = n; names = names; functions = functions; order = order; patterns = patterns }) text
 
+-- What was found of a subject: what is due of it, and the listing of its functions under its order.
+pub record IsFound (telling : Telling) (subject : Subject) (found : Findings) : Type 0 where
+  pub told : IsAs telling subject found.text.items
+  pub listed : IsListing subject.order subject.functions found.listing
+
+-- of functions of n variables, as above
+abbrev pub FindingsOf : ℕ → List (List ℕ) → List (List Bool) → Telling → List (ℕ → Bool) → List ℕ → Findings → Type 0
+FindingsOf n names patterns telling functions order found = IsFound telling (record { n = n; names = names; functions = functions; order = order; patterns = patterns }) found
+
 -- of a network, with its outputs' functions or others in their place
-abbrev pub TellsOf : Net → List (List Bool) → Telling → List (ℕ → Bool) → List ℕ → List ℕ → Type 0
-TellsOf net = TellingOf (length net.inputs) (output_names net)
+abbrev pub FindsOf : Net → List (List Bool) → Telling → List (ℕ → Bool) → List ℕ → Findings → Type 0
+FindsOf net = FindingsOf (length net.inputs) (output_names net)
 
 -- the variables and the names of what is reported
 abbrev pub inputs_of : Reported → ℕ
@@ -92,11 +94,11 @@ pub record IsLegalHistoryOf (sizes : Sizes) (log : List Entry) (sessions : List 
   pub no_other : (p : ℕ) → All (λ (s : Standing). s.number ≡ p → ⊥) sessions → entries_of p log ≡ []
 
 -- What was told is told of the wanted functions of n variables themselves, under the order that was noted; and this is the order that the entries below the note's place leave.
-abbrev pub ToldTrue : (List (ℕ → Bool) → List ℕ → List ℕ → Type 0) → ℕ → List (ℕ → Bool) → Type 0
-ToldTrue Tells n wanted = (sizes : Sizes) (log : List Entry) (old new : List Standing) (cell : ℕ) (text : List ℕ)
+abbrev pub ToldTrue : (List (ℕ → Bool) → List ℕ → Findings → Type 0) → ℕ → List (ℕ → Bool) → Type 0
+ToldTrue Tells n wanted = (sizes : Sizes) (log : List Entry) (old new : List Standing) (cell : ℕ) (found : Findings)
     → All (λ (s : Standing). s.vars ≡ n) new → All (λ (s : Standing). s.entries ≡ []) old
-    → IsLegalHistoryOf sizes log new → (built : Builds Tells cell wanted old new text)
-    → Tells wanted built.note.order text × ((orders_from (opening_orders sizes) (take built.note.place log)).variables ≡ built.note.order)
+    → IsLegalHistoryOf sizes log new → (built : Builds Tells cell wanted old new found)
+    → Tells wanted built.note.order found × ((orders_from (opening_orders sizes) (take built.note.place log)).variables ≡ built.note.order)
 
 -- what each session gained leaves the orders as they are
 abbrev pub AreUnsifted : List Standing → List Standing → Type 0
@@ -105,14 +107,14 @@ AreUnsifted (a ∷ old) (b ∷ new) = All KeepsOrders (drop (length a.entries) b
 AreUnsifted _ _ = ⊥
 
 -- Where the sessions left the orders as they are, it is told under the order 0, 1, 2, ..
-abbrev pub ToldUnsifted : (List (ℕ → Bool) → List ℕ → List ℕ → Type 0) → ℕ → List (ℕ → Bool) → Type 0
-ToldUnsifted Tells n wanted = (sizes : Sizes) (log : List Entry) (old new : List Standing) (cell : ℕ) (text : List ℕ)
+abbrev pub ToldUnsifted : (List (ℕ → Bool) → List ℕ → Findings → Type 0) → ℕ → List (ℕ → Bool) → Type 0
+ToldUnsifted Tells n wanted = (sizes : Sizes) (log : List Entry) (old new : List Standing) (cell : ℕ) (found : Findings)
     → sizes.variables ≡ n → All (λ (s : Standing). s.vars ≡ n) new → All (λ (s : Standing). s.entries ≡ []) old → AreUnsifted old new
-    → IsLegalHistoryOf sizes log new → Builds Tells cell wanted old new text → Tells wanted (range_with_len 0 n) text
+    → IsLegalHistoryOf sizes log new → Builds Tells cell wanted old new found → Tells wanted (range_with_len 0 n) found
 
 -- what was told of fetched functions is told of the wanted functions
 abbrev pub TellingsAreTrue : Type 0
-TellingsAreTrue = (n : ℕ) (names : List (List ℕ)) (patterns : List (List Bool)) (telling : Telling) (wanted : List (ℕ → Bool)) → ToldTrue (TellingOf n names patterns telling) n wanted
+TellingsAreTrue = (n : ℕ) (names : List (List ℕ)) (patterns : List (List Bool)) (telling : Telling) (wanted : List (ℕ → Bool)) → ToldTrue (FindingsOf n names patterns telling) n wanted
 
 abbrev pub UnsiftedTellingsAreTrue : Type 0
-UnsiftedTellingsAreTrue = (n : ℕ) (names : List (List ℕ)) (patterns : List (List Bool)) (telling : Telling) (wanted : List (ℕ → Bool)) → ToldUnsifted (TellingOf n names patterns telling) n wanted
+UnsiftedTellingsAreTrue = (n : ℕ) (names : List (List ℕ)) (patterns : List (List Bool)) (telling : Telling) (wanted : List (ℕ → Bool)) → ToldUnsifted (FindingsOf n names patterns telling) n wanted

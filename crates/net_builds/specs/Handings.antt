@@ -9,6 +9,7 @@ use Rattle.function_laws.specs.Handovers.{posts_to}
 use Rattle.function_laws.specs.SessionEntries.{entry}
 use Rattle.net_builds.specs.Handed.{IsPlain}
 use Rattle.net_builds.specs.declared.handing.Handover.{Handover}
+use Rattle.net_builds.specs.declared.telling.Findings.{Findings}
 use Rattle.net_builds.specs.Holdings.{AreRising}
 use Rattle.net_builds.specs.Standings.{Fetches, Gains, IsLive, IsQuiet, KeepsAll, KeepsOrders, Note, Posts, Standing, values_of}
 
@@ -136,7 +137,7 @@ pub record Looks (old new : Standing) : Type 0 where
   pub rows : new.rows ≤ old.rows
 
 -- What is told of the functions that some names stood for at the place of a note, which lies above the session's calls so far: under the order that was noted there, behind its earlier notes. Each name stood for what it did before.
-pub record IsTold (Tells : List (ℕ → Bool) → List ℕ → List ℕ → Type 0) (old new : Standing) (names : List Name) (text : List ℕ) : Type 0 where
+pub record IsTold (Tells : List (ℕ → Bool) → List ℕ → Findings → Type 0) (old new : Standing) (names : List Name) (found : Findings) : Type 0 where
   pub looks : Looks old new
   pub note : Note
   pub notes_are : new.notes ≡ old.notes ++ note ∷ []
@@ -144,4 +145,4 @@ pub record IsTold (Tells : List (ℕ → Bool) → List ℕ → List ℕ → Typ
   pub stood : (other : Name) → note.stands other ≡ old.stands other
   pub functions : List (ℕ → Bool)
   pub stand : map note.stands names ≡ map (values_of new.vars) functions
-  pub tells : Tells functions note.order text
+  pub tells : Tells functions note.order found

@@ -13,6 +13,7 @@ use Rattle.net_builds.specs.declared.handing.Handover.{Handover}
 use Rattle.net_builds.specs.declared.host.HostRefusal.{HostRefusal}
 use Rattle.net_builds.specs.declared.host.HostRefusal.TheVariants as stops
 use Rattle.net_builds.specs.declared.sharing.Share.{Share}
+use Rattle.net_builds.specs.declared.telling.Findings.{Findings}
 
 -- no worker was refused
 abbrev pub AreBuilt : {F : Type 0} → List (Share F) → Type 0
@@ -81,16 +82,16 @@ SiftsIf false limit old new = new ≡ old
 SiftsIf true limit old new = ((place : ℕ) × Sifts limit old new place) × IsCounted old
 
 -- and then it was told of the functions that have these names
-abbrev pub SiftsAndTells : Bool → ℕ → (List (ℕ → Bool) → List ℕ → List ℕ → Type 0) → Standing → Standing → List Name → List ℕ → Type 0
-SiftsAndTells sifts limit Tells old new names text = (mid : Standing) × SiftsIf sifts limit old mid × IsTold Tells mid new names text
+abbrev pub SiftsAndTells : Bool → ℕ → (List (ℕ → Bool) → List ℕ → Findings → Type 0) → Standing → Standing → List Name → Findings → Type 0
+SiftsAndTells sifts limit Tells old new names found = (mid : Standing) × SiftsIf sifts limit old mid × IsTold Tells mid new names found
 
 -- The wanted functions were handed over to the first session, which sifted if that was asked for, told of what it had fetched, and let that go.
-pub record HandsAndTells (sifts : Bool) (limit : ℕ) (Tells : List (ℕ → Bool) → List ℕ → List ℕ → Type 0) (cell : ℕ) (wanted : List (ℕ → Bool)) (old new : List Standing) (text : List ℕ) : Type 0 where
+pub record HandsAndTells (sifts : Bool) (limit : ℕ) (Tells : List (ℕ → Bool) → List ℕ → Findings → Type 0) (cell : ℕ) (wanted : List (ℕ → Bool)) (old new : List Standing) (found : Findings) : Type 0 where
   pub mid : List Standing
   pub handovers : List Handover
   pub gathers : Gathers cell wanted old mid handovers
   pub told : Standing
-  pub tells : SiftsAndTells sifts limit Tells gathers.first told (map (λ (h : Handover). h.to) handovers) text
+  pub tells : SiftsAndTells sifts limit Tells gathers.first told (map (λ (h : Handover). h.to) handovers) found
   pub last : Standing
   pub gone : LetsAllGo told last (map (λ (h : Handover). h.to) handovers)
   pub new_is : new ≡ slice_set mid 0 last

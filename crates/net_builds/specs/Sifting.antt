@@ -15,9 +15,10 @@ use Rattle.function_laws.specs.SessionEntries.{entry}
 use Rattle.function_laws.specs.SiftedOrders.{sifted}
 use Rattle.function_laws.specs.Tables.{Sizes}
 use Rattle.sift_laws.specs.Alike.{rising_orders, whole_block}
-use Rattle.net_builds.specs.Builds.{AreUnsifted, Builds, IsLegalHistoryOf, TellingOf}
+use Rattle.net_builds.specs.Builds.{AreUnsifted, Builds, IsLegalHistoryOf, FindingsOf}
 use Rattle.net_builds.specs.Standings.{IsSiftedBy, KeepsOrders, Note, Standing}
 use Rattle.net_builds.specs.declared.handing.Handover.{Handover}
+use Rattle.net_builds.specs.declared.telling.Findings.{Findings}
 use Rattle.net_builds.specs.declared.telling.Telling.{Telling}
 
 -- the order that a sift of functions of n variables leaves, over one default block and by a limit, where they stood in the order 0, 1, 2, ..
@@ -39,8 +40,8 @@ GivesOnly n wanted place old new =
     ⊎ ((note : Note) × Contains new.placed note × (note.place < place) × HoldsOnly n wanted note.stands × All (λ (e : Entry). note.place ≤ e.place → e.reply ≡ replies.Done) new.entries)
 
 -- The wanted functions were built and handed over, then the first session sifted the variables by this limit, and then it told of what it had fetched. At the sift's place each name of it was one that it had fetched, or stood for a wanted function; names of the others stood for wanted functions alone.
-pub record BuildsSifted (Tells : List (ℕ → Bool) → List ℕ → List ℕ → Type 0) (limit cell : ℕ) (wanted : List (ℕ → Bool)) (old new : List Standing) (text : List ℕ) : Type 0 where
-  pub builds : Builds Tells cell wanted old new text
+pub record BuildsSifted (Tells : List (ℕ → Bool) → List ℕ → Findings → Type 0) (limit cell : ℕ) (wanted : List (ℕ → Bool)) (old new : List Standing) (found : Findings) : Type 0 where
+  pub builds : Builds Tells cell wanted old new found
   pub place : ℕ
   pub told : Sifting
   -- what the first session gained: its one sift between calls that leave the orders as they are
@@ -62,10 +63,10 @@ pub record BuildsSifted (Tells : List (ℕ → Bool) → List ℕ → List ℕ �
   pub sift : IsSiftedBy limit builds.first.vars told
 
 -- In a legal history of sessions that had made no call, what was told behind a sift is told of the wanted functions under the sifted order of these.
-abbrev pub ToldSifted : (List (ℕ → Bool) → List ℕ → List ℕ → Type 0) → ℕ → List (ℕ → Bool) → Type 0
-ToldSifted Tells n wanted = (limit : ℕ) (sizes : Sizes) (log : List Entry) (old new : List Standing) (cell : ℕ) (text : List ℕ)
+abbrev pub ToldSifted : (List (ℕ → Bool) → List ℕ → Findings → Type 0) → ℕ → List (ℕ → Bool) → Type 0
+ToldSifted Tells n wanted = (limit : ℕ) (sizes : Sizes) (log : List Entry) (old new : List Standing) (cell : ℕ) (found : Findings)
     → sizes.variables ≡ n → sizes.elements ≡ 0 → All (λ (s : Standing). s.vars ≡ n) new → All (λ (s : Standing). s.entries ≡ []) old
-    → IsLegalHistoryOf sizes log new → BuildsSifted Tells limit cell wanted old new text → Tells wanted (sifted_order limit n wanted) text
+    → IsLegalHistoryOf sizes log new → BuildsSifted Tells limit cell wanted old new found → Tells wanted (sifted_order limit n wanted) found
 
 abbrev pub SiftedTellingsAreTrue : Type 0
-SiftedTellingsAreTrue = (n : ℕ) (names : List (List ℕ)) (patterns : List (List Bool)) (telling : Telling) (wanted : List (ℕ → Bool)) → ToldSifted (TellingOf n names patterns telling) n wanted
+SiftedTellingsAreTrue = (n : ℕ) (names : List (List ℕ)) (patterns : List (List Bool)) (telling : Telling) (wanted : List (ℕ → Bool)) → ToldSifted (FindingsOf n names patterns telling) n wanted

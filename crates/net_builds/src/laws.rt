@@ -7,9 +7,9 @@ ghost use Rattle.net_builds.specs.Sifting.{SiftedTellingsAreTrue};
 use sift_laws::{sifts_go_by_functions, wholes_are_alike};
 
 /// In a legal history of some sessions that had made no call before: where they built the wanted functions, handed each of them over
-/// to the first one, and that one told a report of what it had fetched, with a stored diagram or without, or a summary, it is told of
-/// the wanted functions themselves, under the order that it noted then, which is the one that the entries below that place leave. Where
-/// no session swapped levels or sifted, this is the order 0, 1, 2, ..
+/// to the first one, and that one told a report of what it had fetched, or a summary, it is told of the wanted functions themselves,
+/// and the listing by which it was told is one of these, under the order that it noted then, which is the one that the entries below
+/// that place leave. Where no session swapped levels or sifted, this is the order 0, 1, 2, ..
 pub fn tellings_are_true()
     ensures told { TellingsAreTrue }
     ensures unsifted { UnsiftedTellingsAreTrue }

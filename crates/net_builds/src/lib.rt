@@ -24,5 +24,5 @@ pub use host::{Host, HostRefusal, Taken, Told};
 pub use laws::{loads_are_true, sifted_tellings_are_true, tellings_are_true};
 pub use loading::load_report;
 pub use sharing::{Share, build_share, no_share};
-pub use telling::Telling;
+pub use telling::{Findings, Telling};
 pub use worker::Worker;

@@ -69,8 +69,8 @@ fn made_and_told<H: Host>(
         &mut rows.names,
     )?;
     let reported = &Reported::Diagram(dump);
-    let text = tell_report(alloc, host, session, reported, &rows.names, patterns)?;
-    Ok(text)
+    let found = tell_report(alloc, host, session, reported, &rows.names, patterns)?;
+    Ok(found.text)
 }
 
 /// Makes a stored diagram, each line by one choice of its children in the order of the lines, and tells the report of its roots, with

@@ -3,11 +3,11 @@
 ghost use Rattle.std.specs.Prelude.{◌≡◌, Bool, List as ListOf, Some, length, map, slice_get, IfOk};
 ghost use Rattle.function_laws.specs.Values.{assignment_of, differs};
 ghost use Rattle.net_reports.specs.Reports.{report_text};
-ghost use Rattle.net_builds.specs.Builds.{TellingOf, TellsOf, inputs_of, names_of};
+ghost use Rattle.net_builds.specs.Builds.{FindingsOf, FindsOf, TellingOf, inputs_of, names_of};
 ghost use Rattle.net_builds.specs.Asked.{MayEvaluate, MayReport};
 ghost use Rattle.net_builds.specs.Handings.{IsTold, Looks};
 ghost use Rattle.net_builds.specs.Standings.{Asks, HasRoom, IsLive, Lists, Standing};
-ghost use Rattle.net_builds.specs.declared.telling.Telling.TheVariants.{Report, Stored, Summary};
+ghost use Rattle.net_builds.specs.declared.telling.Telling.TheVariants.{Report, Summary};
 ghost use Rattle.net_builds.specs.Tellings.{evaluation_in, value_in, values_in};
 
 use crate::host::Host;
@@ -15,7 +15,7 @@ use cover_nets::Net;
 use diagram_dumps::{Dump, Listing};
 use edge_bits::{List, Memory};
 use function_laws::Name;
-use net_reports::{Class, Evaluation, classes_of, dump_report, padded, report, stored, summary};
+use net_reports::{Class, Evaluation, classes_of, dump_report, padded, report, summary};
 use std::alloc::Global;
 
 /// What is told of the functions of a network's outputs.
@@ -24,10 +24,17 @@ pub enum Telling {
     /// Their report, with their values at some patterns. Input i takes bit i of a pattern; inputs past its end are 0, and further
     /// bits have no effect.
     Report,
-    /// The same report, and behind it the text of the stored diagram of these functions.
-    Stored,
     /// How many inputs, outputs, classes of outputs and nodes there are.
     Summary,
+}
+
+/// What was found of the functions of a network's outputs, or of a stored diagram's roots.
+#[derive(Drop)]
+pub struct Findings {
+    /// What is told of them.
+    pub text: Vec<u8>,
+    /// Their diagrams, as they were listed for that.
+    pub listing: Listing,
 }
 
 /// What a report is of: the outputs of a network, or the roots of a stored diagram.
@@ -198,7 +205,7 @@ fn report_listed<H: Host>(
     text_of(alloc, reported, &classes, &evaluations, order, nodes)
 }
 
-/// The report of the functions that have these names, with their values at each pattern.
+/// The report of the functions that have these names, with their values at each pattern, and the listing that it was made by.
 pub fn tell_report<H: Host>(
     alloc: Global,
     host: &H,
@@ -206,57 +213,37 @@ pub fn tell_report<H: Host>(
     reported: &Reported,
     names: &[Name],
     patterns: &[List<bool>],
-) -> Result<Vec<u8>, Memory>
+) -> Result<Findings, Memory>
     requires may { MayReport H.has H.standing host.now session.old (inputs_of reported.now) (length (names_of reported.now)) names.now }
-    ensures told { IfOk result (λ text. IsTold (TellingOf (inputs_of reported.now) (names_of reported.now) patterns.now Report) (H.standing session.old) (H.standing session.new) names.now text.items) }
+    ensures told { IfOk result (λ found. IsTold (FindingsOf (inputs_of reported.now) (names_of reported.now) patterns.now Report) (H.standing session.old) (H.standing session.new) names.now found) }
     ensures own { H.has host.now session.new }
     ensures looks { Looks (H.standing session.old) (H.standing session.new) }
 {
     let listing = host.list(session, names)?;
-    report_listed(alloc, host, session, reported, names, &listing, patterns)
+    let text = report_listed(alloc, host, session, reported, names, &listing, patterns)?;
+    Ok(Findings { text, listing })
 }
 
-/// The same report, and behind it the text of the stored diagram that was listed for it.
-pub fn tell_stored<H: Host>(
-    alloc: Global,
-    host: &H,
-    session: &mut H::Session,
-    reported: &Reported,
-    names: &[Name],
-    patterns: &[List<bool>],
-) -> Result<Vec<u8>, Memory>
-    requires may { MayReport H.has H.standing host.now session.old (inputs_of reported.now) (length (names_of reported.now)) names.now }
-    ensures told { IfOk result (λ text. IsTold (TellingOf (inputs_of reported.now) (names_of reported.now) patterns.now Stored) (H.standing session.old) (H.standing session.new) names.now text.items) }
-    ensures own { H.has host.now session.new }
-    ensures looks { Looks (H.standing session.old) (H.standing session.new) }
-{
-    let listing = host.list(session, names)?;
-    let mut text = report_listed(alloc, host, session, reported, names, &listing, patterns)?;
-    let behind = stored(alloc, listing)?;
-    text.extend_from_slice(&behind)?;
-    Ok(text)
-}
-
-/// The summary of a network whose outputs' functions have these names.
+/// The summary of a network whose outputs' functions have these names, and the listing that it was made by.
 fn tell_summary<H: Host>(
     alloc: Global,
     host: &H,
     session: &mut H::Session,
     net: &Net,
     names: &[Name],
-) -> Result<Vec<u8>, Memory>
+) -> Result<Findings, Memory>
     requires may { MayReport H.has H.standing host.now session.old (length net.now.inputs) (length net.now.outputs) names.now }
-    ensures told { IfOk result (λ text. (patterns : ListOf (ListOf Bool)) → IsTold (TellsOf net.now patterns Summary) (H.standing session.old) (H.standing session.new) names.now text.items) }
+    ensures told { IfOk result (λ found. (patterns : ListOf (ListOf Bool)) → IsTold (FindsOf net.now patterns Summary) (H.standing session.old) (H.standing session.new) names.now found) }
     ensures own { H.has host.now session.new }
     ensures looks { Looks (H.standing session.old) (H.standing session.new) }
 {
     let listing = host.list(session, names)?;
     let classes = classes_of(alloc, &listing)?;
     let text = summary(alloc, net, &classes, listing.node_count())?;
-    Ok(text)
+    Ok(Findings { text, listing })
 }
 
-/// What is due of a network whose outputs' functions have these names.
+/// What is due of a network whose outputs' functions have these names, and the listing that it was made by.
 pub fn tell<H: Host>(
     alloc: Global,
     host: &H,
@@ -265,16 +252,15 @@ pub fn tell<H: Host>(
     names: &[Name],
     telling: Telling,
     patterns: &[List<bool>],
-) -> Result<Vec<u8>, Memory>
+) -> Result<Findings, Memory>
     requires may { MayReport H.has H.standing host.now session.old (length net.now.inputs) (length net.now.outputs) names.now }
-    ensures told { IfOk result (λ text. IsTold (TellsOf net.now patterns.now telling) (H.standing session.old) (H.standing session.new) names.now text.items) }
+    ensures told { IfOk result (λ found. IsTold (FindsOf net.now patterns.now telling) (H.standing session.old) (H.standing session.new) names.now found) }
     ensures own { H.has host.now session.new }
     ensures looks { Looks (H.standing session.old) (H.standing session.new) }
 {
     let reported = &Reported::Network(net);
     match telling {
         Telling::Report => tell_report(alloc, host, session, reported, names, patterns),
-        Telling::Stored => tell_stored(alloc, host, session, reported, names, patterns),
         Telling::Summary => tell_summary(alloc, host, session, net, names),
     }
 }

@@ -9,7 +9,7 @@ use Rattle.std.proofs.lemmas.List.Elements.{All-cons, All-head, All-map, All-nil
 use Rattle.cover_nets.specs.declared.net.Net.{Net}
 use Rattle.blif_net.specs.Networks.{IsBlifText}
 use Rattle.command_words.specs.declared.order.Options.{Options}
-use Rattle.std.specs.List.{range_with_len}
+use Rattle.std.specs.List.{AllZip, range_with_len}
 use Rattle.diagram_dumps.specs.declared.dump.Dump.{Dump}
 use Rattle.blif_net.specs.GenTexts.{gen_text}
 use Rattle.function_laws.specs.declared.history.Entry.{Entry}
@@ -26,18 +26,21 @@ use Rattle.dd_session.specs.Managing.{AreAll, IsHistoryOf, Managed, Seen, newcom
 use Rattle.net_builds.specs.declared.handing.Handover.{Handover}
 use Rattle.net_builds.specs.declared.host.HostRefusal.{HostRefusal}
 use Rattle.net_builds.specs.declared.host.HostRefusal.TheVariants as stops
-use Rattle.net_builds.specs.Builds.{AllGain, AreUnsifted, Builds, IsAs, TellsOf, UnsiftedTellingsAreTrue}
+use Rattle.net_builds.specs.Builds.{AllGain, AreUnsifted, Builds, FindsOf, IsFound, UnsiftedTellingsAreTrue}
 use Rattle.net_builds.specs.Builds as builds
 use Rattle.net_builds.specs.Loads.{LoadsAreTrue}
+use Rattle.net_builds.specs.declared.telling.Findings.{Findings}
 use Rattle.net_builds.specs.declared.telling.Telling.{Telling}
-use Rattle.net_builds.specs.Outputs.{AreFullTold, AreRefused, HasTold, IsFullTold, SomePair}
+use Rattle.net_builds.specs.Outputs.{AreFullTold, AreRefused, HasTold, IsFullTold, LeavesNone, SomePair}
 use Rattle.net_builds.specs.Sifting.{BuildsSifted, SiftedTellingsAreTrue, sifted_order}
 use Rattle.net_builds.specs.Standings.{KeepsOrders, Standing}
 use Rattle.net_reports.specs.Reports.{IsReport, dump_subject, net_subject, output_functions, output_names}
 use Rattle.net_jobs.specs.Ends.{order_for, rising}
 use Rattle.net_jobs.specs.declared.networks.TheConstants.{OUTPUTS_CELL}
 use Rattle.net_jobs.specs.Hosts.{IsSessionOf, TellsFullOf, note_of, standing_of}
-use Rattle.net_jobs.specs.Networks.{IsFilledBy, IsFreshOf, IsLoadedIn, IsRefusedIn}
+use Rattle.net_jobs.specs.declared.stops.PartStop.{PartStop}
+use Rattle.net_jobs.specs.declared.stops.PartStop.TheVariants as parts
+use Rattle.net_jobs.specs.Networks.{IsFilledBy, IsFreshOf, IsLoadedIn, IsRefusedIn, part_stop}
 use Rattle.net_jobs.specs.Plays.{AreNumbered}
 use Rattle.net_jobs.proofs.ListLemmas.{taken_back}
 use Rattle.net_jobs.proofs.Opening.{opened_many, opened_numbered}
@@ -149,10 +152,23 @@ pub record AreAgain (m : Managed) (new : List Seen) : Type 0 where
   pub numbers : AreNumbered 0 new
   pub as_many : length new ≡ m.sessions
 
-pub built_again : (m : Managed) (Tells : List (ℕ → Bool) → List ℕ → List ℕ → Type 0) (cell : ℕ) (wanted : List (ℕ → Bool)) (new : List Seen) (text : List ℕ)
-    → Builds Tells cell wanted (map standing_of (opened m)) (map standing_of new) text → AreAgain m new
-built_again m Tells cell wanted new text built =
+pub built_again : (m : Managed) (Tells : List (ℕ → Bool) → List ℕ → Findings → Type 0) (cell : ℕ) (wanted : List (ℕ → Bool)) (new : List Seen) (found : Findings)
+    → Builds Tells cell wanted (map standing_of (opened m)) (map standing_of new) found → AreAgain m new
+built_again m Tells cell wanted new found built =
     let r = gains_numbers cell 0 built.handovers (opened m) new built.gains (opened_numbered m) in record { numbers = r.0; as_many = r.1 ∙ opened_many m }
+
+left_numbers : (cell : ℕ) (sifts : Bool) (k : ℕ) (old new : List Seen) → AllZip (LeavesNone cell sifts) (map standing_of old) (map standing_of new) → AreNumbered k old → AreNumbered k new × (length new ≡ length old)
+left_numbers cell sifts k [] [] left numbers = (tt, refl)
+left_numbers cell sifts k [] (b ∷ new) left numbers = absurd left
+left_numbers cell sifts k (a ∷ old) [] left numbers = absurd left
+left_numbers cell sifts k (a ∷ old) (b ∷ new) left numbers =
+    let r = left_numbers cell sifts (suc k) old new left.1 numbers.1 in ((left.0.number_is ∙ numbers.0, r.0), ap suc r.1)
+
+-- also where it was refused
+pub refused_again : (m : Managed) (cell : ℕ) (sifts : Bool) (new : List Seen) (refusal : HostRefusal Full)
+    → AreRefused (TellsFullOf m) cell sifts (map standing_of (opened m)) (map standing_of new) refusal → AreAgain m new
+refused_again m cell sifts new refusal refused =
+    let r = left_numbers cell sifts 0 (opened m) new refused.each (opened_numbered m) in record { numbers = r.0; as_many = r.1 ∙ opened_many m }
 
 pub loaded_again : (m : Managed) (dump : Dump) (patterns : List (List Bool)) (old new : List Seen) (text : List ℕ) → m.sessions ≡ 1 → old ≡ opened m → IsLoadedIn dump patterns old new text → AreAgain m new
 loaded_again m dump patterns old new text one is loaded =
@@ -200,34 +216,36 @@ entry_told m full (a ∷ old) [] pair = absurd pair
 entry_told m full (a ∷ old) (b ∷ new) (inl told) = (told.2.0, told.2.2)
 entry_told m full (a ∷ old) (b ∷ new) (inr pair) = entry_told m full old new pair
 
-pub filled : (cell : ℕ) (sifts : Bool) (m : Managed) (old new : List Standing) (OfAll : ℕ → Type 0) (refusal : HostRefusal Full) → OfAll m.limit → AreRefused (TellsFullOf m) cell sifts old new refusal → IsFilledBy OfAll refusal
+pub filled : (cell : ℕ) (sifts : Bool) (m : Managed) (old new : List Standing) (OfAll : ℕ → Type 0) (refusal : HostRefusal Full) → OfAll m.limit → AreRefused (TellsFullOf m) cell sifts old new refusal → IsFilledBy OfAll (part_stop refusal)
 filled cell sifts m old new OfAll refusal all is = by refusal is.full
   where
-    by : (stop : HostRefusal Full) → AreFullTold (TellsFullOf m) old new stop → IsFilledBy OfAll stop
+    by : (refused : HostRefusal Full) → AreFullTold (TellsFullOf m) old new refused → IsFilledBy OfAll (part_stop refused)
     by stops.Memory told = tt
     by (stops.Full full) told = let found = entry_told m full old new told.1 in (m.limit, all, found.1.in_use, found.1.limit)
 
 -- and so of one that makes its network
-pub filled_made : (bits cell : ℕ) (m : Managed) (old new : List Seen) (OfAll : ℕ → Type 0) (refusal : HostRefusal Full)
+pub filled_made : (bits cell : ℕ) (m : Managed) (old new : List Seen) (OfAll : ℕ → Type 0) (stop : PartStop)
     → ((net : Net) → IsBlifText (gen_text bits) net → length net.inputs ≡ 2 * bits → OfAll m.limit)
-    → ((refusal ≡ stops.Memory) × (new ≡ old))
-    ⊎ ((net : Net) × IsBlifText (gen_text bits) net × (length net.inputs ≡ 2 * bits) × AreRefused (TellsFullOf m) cell false (map standing_of old) (map standing_of new) refusal)
-    → IsFilledBy OfAll refusal
-filled_made bits cell m old new OfAll refusal all (inl (memory, same)) = subst (IsFilledBy OfAll) (sym memory) tt
-filled_made bits cell m old new OfAll refusal all (inr (net, text, inputs, is)) = filled cell false m (map standing_of old) (map standing_of new) OfAll refusal (all net text inputs) is
+    → ((stop ≡ parts.Memory) × (new ≡ old))
+    ⊎ ((net : Net) × IsBlifText (gen_text bits) net × (length net.inputs ≡ 2 * bits)
+    × ((refusal : HostRefusal Full) × (stop ≡ part_stop refusal) × AreRefused (TellsFullOf m) cell false (map standing_of old) (map standing_of new) refusal))
+    → IsFilledBy OfAll stop
+filled_made bits cell m old new OfAll stop all (inl (memory, same)) = subst (IsFilledBy OfAll) (sym memory) tt
+filled_made bits cell m old new OfAll stop all (inr (net, text, inputs, (refusal, told, is))) =
+    subst (IsFilledBy OfAll) (sym told) (filled cell false m (map standing_of old) (map standing_of new) OfAll refusal (all net text inputs) is)
 
 -- and of one that makes a diagram
-pub filled_load : (cell : ℕ) (m : Managed) (old new : List Seen) (OfAll : ℕ → Type 0) (refusal : HostRefusal Full) → OfAll m.limit → IsRefusedIn cell m old new refusal → IsFilledBy OfAll refusal
+pub filled_load : (cell : ℕ) (m : Managed) (old new : List Seen) (OfAll : ℕ → Type 0) (refusal : HostRefusal Full) → OfAll m.limit → IsRefusedIn cell m old new refusal → IsFilledBy OfAll (part_stop refusal)
 filled_load cell m old new OfAll refusal all is = by refusal is.refused.full
   where
-    by : (stop : HostRefusal Full) → IsFullTold (TellsFullOf m) (standing_of is.before) (standing_of is.after) is.refused.gained stop → IsFilledBy OfAll stop
+    by : (refused : HostRefusal Full) → IsFullTold (TellsFullOf m) (standing_of is.before) (standing_of is.after) is.refused.gained refused → IsFilledBy OfAll (part_stop refused)
     by stops.Memory told = tt
     by (stops.Full full) (quiet, noted, (e, among, told)) = (m.limit, all, told.in_use, told.limit)
 
--- what was told by sessions of a manager that had made no call, in the history that its closing tells
-module _ (m : Managed) (net : Net) (new : List Seen) (text : List ℕ) (n : ℕ) (vars : m.vars ≡ length net.inputs) (own : All (IsSessionOf m) new) (h : IsHistoryOf m new n) (telling : Telling) (patterns : List (List Bool)) where
-  abbrev Tells : List (ℕ → Bool) → List ℕ → List ℕ → Type 0
-  Tells = TellsOf net patterns telling
+-- what was found by sessions of a manager that had made no call, in the history that its closing tells
+module _ (m : Managed) (net : Net) (new : List Seen) (found : Findings) (n : ℕ) (vars : m.vars ≡ length net.inputs) (own : All (IsSessionOf m) new) (h : IsHistoryOf m new n) (telling : Telling) (patterns : List (List Bool)) where
+  abbrev Tells : List (ℕ → Bool) → List ℕ → Findings → Type 0
+  Tells = FindsOf net patterns telling
 
   abbrev before : List Standing
   before = map standing_of (opened m)
@@ -235,29 +253,29 @@ module _ (m : Managed) (net : Net) (new : List Seen) (text : List ℕ) (n : ℕ)
   abbrev behind : List Standing
   behind = map standing_of new
 
-  -- is told of the wanted functions, under the order 0, 1, 2, ..
-  pub told_of : UnsiftedTellingsAreTrue → AreUnsifted before behind → Builds Tells OUTPUTS_CELL (output_functions net) before behind text → IsAs telling (net_subject net (rising net) patterns) text
+  -- is found of the wanted functions, under the order 0, 1, 2, ..
+  pub told_of : UnsiftedTellingsAreTrue → AreUnsifted before behind → Builds Tells OUTPUTS_CELL (output_functions net) before behind found → IsFound telling (net_subject net (rising net) patterns) found
   told_of law unsifted built =
-      law (length net.inputs) (output_names net) patterns telling (output_functions net) (sizes_for m.vars m.elements) h.log before behind OUTPUTS_CELL text vars
+      law (length net.inputs) (output_names net) patterns telling (output_functions net) (sizes_for m.vars m.elements) h.log before behind OUTPUTS_CELL found vars
       (all_known m new (length net.inputs) vars own) (none_before m) unsifted (history_of m new n h) built
 
   -- or under the order that a sift left
-  pub sifted_of : SiftedTellingsAreTrue → m.elements ≡ 0 → BuildsSifted Tells m.limit OUTPUTS_CELL (output_functions net) before behind text
-      → IsAs telling (net_subject net (sifted_order m.limit (length net.inputs) (output_functions net)) patterns) text
+  pub sifted_of : SiftedTellingsAreTrue → m.elements ≡ 0 → BuildsSifted Tells m.limit OUTPUTS_CELL (output_functions net) before behind found
+      → IsFound telling (net_subject net (sifted_order m.limit (length net.inputs) (output_functions net)) patterns) found
   sifted_of law none built =
-      law (length net.inputs) (output_names net) patterns telling (output_functions net) m.limit (sizes_for m.vars m.elements) h.log before behind OUTPUTS_CELL text vars none
+      law (length net.inputs) (output_names net) patterns telling (output_functions net) m.limit (sizes_for m.vars m.elements) h.log before behind OUTPUTS_CELL found vars none
       (all_known m new (length net.inputs) vars own) (none_before m) (history_of m new n h) built
 
   -- as the options have it
   pub reported : UnsiftedTellingsAreTrue → SiftedTellingsAreTrue → (limit : ℕ) (options : Options) → m.elements ≡ 0 → m.limit ≡ 5 + length net.inputs + limit
-      → Builds Tells OUTPUTS_CELL (output_functions net) before behind text
-      → (options.sift ≡ true → BuildsSifted Tells m.limit OUTPUTS_CELL (output_functions net) before behind text)
+      → Builds Tells OUTPUTS_CELL (output_functions net) before behind found
+      → (options.sift ≡ true → BuildsSifted Tells m.limit OUTPUTS_CELL (output_functions net) before behind found)
       → (options.sift ≡ false → AreUnsifted before behind)
-      → IsAs telling (net_subject net (order_for net limit options) patterns) text
+      → IsFound telling (net_subject net (order_for net limit options) patterns) found
   reported unsifted_law sifted_law limit options none slots built sifted unsifted = by options.sift refl
     where
-      by : (b : Bool) → options.sift ≡ b → IsAs telling (net_subject net (if b then sifted_order (5 + length net.inputs + limit) (length net.inputs) (output_functions net) else rising net) patterns) text
-      by true is = subst (λ (k : ℕ). IsAs telling (net_subject net (sifted_order k (length net.inputs) (output_functions net)) patterns) text) slots (sifted_of sifted_law none (sifted is))
+      by : (b : Bool) → options.sift ≡ b → IsFound telling (net_subject net (if b then sifted_order (5 + length net.inputs + limit) (length net.inputs) (output_functions net) else rising net) patterns) found
+      by true is = subst (λ (k : ℕ). IsFound telling (net_subject net (sifted_order k (length net.inputs) (output_functions net)) patterns) found) slots (sifted_of sifted_law none (sifted is))
       by false is = told_of unsifted_law (unsifted is) built
 
 -- and so of a stored diagram

@@ -31,6 +31,7 @@ is_complete bytes job rest before now status.Dddmp text is short none due = absu
 is_complete bytes job rest before now status.Job text is short none due =
     absurd (job_or_fault bytes job due.2.line due.2.what is (subst (λ xs. IsFaultText xs due.2.line due.2.what) (whole_is bytes due.1 rest due.3) due.4))
 is_complete bytes job rest before now status.TooLong text is short none due = absurd (not_too_long bytes due.1 rest due.2 short due.3)
+is_complete bytes job rest before now status.Large text is short none due = absurd due
 
 -- a text of a network has no fault
 faultless : (bytes other : List ℕ) (fault : BlifFault) → fault_of bytes ≡ None → other ≡ bytes → fault_of other ≡ Some fault → ⊥
@@ -42,12 +43,13 @@ is_complete_for_builds workers limit options bytes net rest before now status.Us
 is_complete_for_builds workers limit options bytes net rest before now status.Blif text is short none due =
     absurd (faultless bytes due.0 due.1 is.faultless (whole_is bytes due.0 rest due.2) due.3)
 is_complete_for_builds workers limit options bytes net rest before now status.Full text is short none due = inr (inl refl)
-is_complete_for_builds workers limit options bytes net rest before now status.Memory text is short none due = inr (inr refl)
+is_complete_for_builds workers limit options bytes net rest before now status.Memory text is short none due = inr (inr (inr refl))
 is_complete_for_builds workers limit options bytes net rest before now status.ReadFault text is short none due = absurd (none due.1)
 is_complete_for_builds workers limit options bytes net rest before now status.WriteFault text is short none due = absurd due
 is_complete_for_builds workers limit options bytes net rest before now status.Dddmp text is short none due = absurd due
 is_complete_for_builds workers limit options bytes net rest before now status.Job text is short none due = cc
 is_complete_for_builds workers limit options bytes net rest before now status.TooLong text is short none due = absurd (not_too_long bytes due.1 rest due.2 short due.3)
+is_complete_for_builds workers limit options bytes net rest before now status.Large text is short none due = inr (inr (inl refl))
 
 -- nor has one of a stored diagram
 diagram_faultless : (bytes other : List ℕ) (fault : DddmpFault) → diagram_fault_of bytes ≡ None → other ≡ bytes → diagram_fault_of other ≡ Some fault → ⊥
@@ -65,6 +67,7 @@ is_complete_for_loads patterns bytes dump rest before now status.Dddmp text is s
     absurd (diagram_faultless bytes due.0 due.1 is.faultless (whole_is bytes due.0 rest due.2) due.3)
 is_complete_for_loads patterns bytes dump rest before now status.Job text is short none due = cc
 is_complete_for_loads patterns bytes dump rest before now status.TooLong text is short none due = absurd (not_too_long bytes due.1 rest due.2 short due.3)
+is_complete_for_loads patterns bytes dump rest before now status.Large text is short none due = absurd due
 
 pub is_complete_for_made : IsCompleteForMade
 is_complete_for_made workers bits left rest before now status.Ok text due = inl refl
@@ -77,3 +80,4 @@ is_complete_for_made workers bits left rest before now status.WriteFault text du
 is_complete_for_made workers bits left rest before now status.Dddmp text due = absurd due
 is_complete_for_made workers bits left rest before now status.Job text due = cc
 is_complete_for_made workers bits left rest before now status.TooLong text due = absurd due.0
+is_complete_for_made workers bits left rest before now status.Large text due = absurd due

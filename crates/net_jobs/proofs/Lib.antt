@@ -1,6 +1,7 @@
 pub mod Alone
 pub mod AnswerLaws
 pub mod BuiltHistories
+pub mod BuiltTexts
 pub mod CallLaws
 pub mod CanLemmas
 pub mod CompleteLemmas

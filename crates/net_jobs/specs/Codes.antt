@@ -14,3 +14,4 @@ code_of status.WriteFault = 7
 code_of status.Dddmp = 8
 code_of status.Job = 9
 code_of status.TooLong = 10
+code_of status.Large = 11

@@ -1,13 +1,15 @@
 -- How a run may end: each status with its cause, and the text that is told.
-use Rattle.std.specs.Prelude.{◌≡◌, ℕ, ◌+◌, ◌≤◌, ◌⊎◌, Bool, true, false, List, [], ◌++◌, Option, Some, None, length, codes, if◌then◌else◌}
+use Rattle.std.specs.Prelude.{◌≡◌, ℕ, ◌+◌, ◌<◌, ◌≤◌, ◌⊎◌, Bool, true, false, List, [], ◌++◌, Option, Some, None, length, codes, if◌then◌else◌}
 use Rattle.std.specs.Io.KnownBytes.{Consumes, IsAtEnd}
 use Rattle.std.specs.Fmt.{decimal}
 use Rattle.std.specs.List.{range_with_len}
-use Rattle.edge_bits.specs.declared.limits.TheConstants.{LONGEST_TEXT, USUAL_LIMIT}
+use Rattle.edge_bits.specs.declared.limits.TheConstants.{LONGEST_TEXT, MOST_SIGNALS, USUAL_LIMIT}
+use Rattle.blif_dump.specs.Multiplexers.{multiplexers}
 use Rattle.blif_net.specs.declared.faults.BlifFault.{BlifFault}
 use Rattle.blif_net.specs.declared.faults.FaultKind.{FaultKind as BlifKind}
 use Rattle.blif_net.specs.declared.faults.FaultKind.TheVariants as blif_kinds
 use Rattle.cover_nets.specs.declared.net.Net.{Net}
+use Rattle.blif_net.specs.Dumped.{IsDumped}
 use Rattle.blif_net.specs.Faults.{fault_of}
 use Rattle.blif_net.specs.Networks.{IsBlifText}
 use Rattle.command_words.specs.declared.order.Options.{Options}
@@ -19,6 +21,8 @@ use Rattle.dddmp_text.specs.declared.faults.FaultKind.{FaultKind as DddmpKind}
 use Rattle.dddmp_text.specs.declared.faults.FaultKind.TheVariants as dddmp_kinds
 use Rattle.dddmp_text.specs.Faults.{IsDddmpText, fault_of as diagram_fault_of}
 use Rattle.diagram_dumps.specs.declared.dump.Dump.{Dump}
+use Rattle.diagram_dumps.specs.declared.listings.Listing.{Listing}
+use Rattle.diagram_dumps.specs.Listings.{IsListing, dump_of}
 use Rattle.job_text.specs.declared.job.Job.{Job}
 use Rattle.job_text.specs.declared.faults.JobFault.{JobFault}
 use Rattle.job_text.specs.declared.faults.FaultKind.{FaultKind}
@@ -28,11 +32,8 @@ use Rattle.job_text.specs.Faults.{IsFaultText}
 use Rattle.job_text.specs.Histories.{IsPlayed}
 use Rattle.byte_streams.specs.Causes.{FaultsRose}
 use Rattle.blif_net.specs.GenTexts.{gen_text}
-use Rattle.net_builds.specs.Builds.{IsAs}
 use Rattle.net_builds.specs.Sifting.{sifted_order}
-use Rattle.net_builds.specs.declared.telling.Telling.{Telling}
-use Rattle.net_builds.specs.declared.telling.Telling.TheVariants.{Report, Stored}
-use Rattle.net_reports.specs.Reports.{IsReport, IsSummary, dump_subject, net_subject, output_functions}
+use Rattle.net_reports.specs.Reports.{IsReport, IsStored, IsSummary, Subject, dump_subject, net_subject, node_count, output_functions}
 use Rattle.net_jobs.specs.declared.status.Status.{Status}
 use Rattle.net_jobs.specs.declared.status.Status.TheVariants as status
 
@@ -110,16 +111,43 @@ abbrev pub order_for : Net → ℕ → Options → List ℕ
 order_for net limit options =
     if options.sift then sifted_order (5 + length net.inputs + limit) (length net.inputs) (output_functions net) else rising net
 
--- what `build` tells: the report, and behind it the stored diagram of the outputs where that is asked for
-abbrev pub telling_of : Options → Telling
-telling_of options = if options.store then Stored else Report
+-- inputs, nodes of the functions with the constant, and outputs
+abbrev pub signals_of : List (List ℕ) → Subject → ℕ
+signals_of inputs subject = length inputs + node_count subject.order subject.functions + length subject.names
+
+-- The text is that of a network of multiplexers, one for each line of a listing of the subject's functions under its order: it has no more signals than a text may have and no fault, and each network of it has these inputs and the subject's names, as they are written, and gives each output its function.
+pub record IsNetworkText (inputs : List (List ℕ)) (subject : Subject) (text : List ℕ) : Type 0 where
+  pub listing : Listing
+  pub listed : IsListing subject.order subject.functions listing
+  pub bytes : text ≡ multiplexers (dump_of listing) inputs subject.names
+  pub few : signals_of inputs subject ≤ MOST_SIGNALS
+  pub dumped : IsDumped (dump_of listing) inputs subject.names text
+
+-- such a text where it is asked for, and else none
+abbrev pub IsIf : Bool → (List ℕ → Type 0) → List ℕ → Type 0
+IsIf true Is text = Is text
+IsIf false Is text = text ≡ []
+
+-- What `build` tells: the report; behind it, where that is asked for, the stored diagram of the outputs; and behind both, where that is asked for, the outputs as a network of multiplexers.
+pub record IsBuildText (options : Options) (inputs : List (List ℕ)) (subject : Subject) (text : List ℕ) : Type 0 where
+  pub report : List ℕ
+  pub stored : List ℕ
+  pub network : List ℕ
+  pub text_is : text ≡ report ++ stored ++ network
+  pub reports : IsReport subject report
+  pub stores : IsIf options.store (IsStored subject) stored
+  pub multiplexes : IsIf options.blif (IsNetworkText inputs subject) network
+
+-- what `build` tells of: the outputs of a network, under the order that is due
+abbrev pub built_subject : Net → ℕ → Options → Subject
+built_subject net limit options = net_subject net (order_for net limit options) options.patterns
 
 -- What a command tells, whatever the number of workers: `play` the history of the job that it read, `build` what is due of the network that it read, `load` the report of the stored diagram that it read, `gen` the summary of the network that is made. The source had `left` left when the run began and has `rest` left.
 abbrev pub IsDone : Option Order → Option (List ℕ) → Option (List ℕ) → List ℕ → Type 0
 IsDone None left rest text = ⊥
 IsDone (Some Play) left rest text = (bytes : List ℕ) × (job : Job) × IsWhole left rest bytes × IsJobText bytes job × IsPlayed job text
 IsDone (Some (Build workers limit options)) left rest text =
-    (bytes : List ℕ) × (net : Net) × IsWhole left rest bytes × IsBlifText bytes net × IsAs (telling_of options) (net_subject net (order_for net limit options) options.patterns) text
+    (bytes : List ℕ) × (net : Net) × IsWhole left rest bytes × IsBlifText bytes net × IsBuildText options net.inputs (built_subject net limit options) text
 IsDone (Some (Load patterns)) left rest text =
     (bytes : List ℕ) × (dump : Dump) × IsWhole left rest bytes × IsDddmpText bytes dump × IsReport (dump_subject dump (range_with_len 0 dump.nvars) patterns) text
 IsDone (Some (Gen workers bits)) left rest text =
@@ -135,6 +163,17 @@ IsFilled (Some (Load patterns)) left rest text =
     (bytes : List ℕ) × (dump : Dump) × IsWhole left rest bytes × IsDddmpText bytes dump × (text ≡ full_line (5 + dump.nvars + USUAL_LIMIT) (5 + dump.nvars + USUAL_LIMIT))
 IsFilled (Some (Gen workers bits)) left rest text =
     (rest ≡ left) × (net : Net) × IsBlifText (gen_text bits) net × (text ≡ full_line (5 + length net.inputs + USUAL_LIMIT) (5 + length net.inputs + USUAL_LIMIT))
+
+-- a network of so many signals is more than is read
+abbrev pub large_line : ℕ → List ℕ
+large_line signals = codes "fault: large " ++ decimal signals ++ codes "\n"
+
+-- The outputs were asked for as a network, which would have more signals than a text may have: their number is told.
+abbrev pub IsLarge : Option Order → Option (List ℕ) → Option (List ℕ) → List ℕ → Type 0
+IsLarge (Some (Build workers limit options)) left rest text =
+    (options.blif ≡ true) × (bytes : List ℕ) × (net : Net) × IsWhole left rest bytes × IsBlifText bytes net
+    × (MOST_SIGNALS < signals_of net.inputs (built_subject net limit options)) × (text ≡ large_line (signals_of net.inputs (built_subject net limit options)))
+IsLarge _ left rest text = ⊥
 
 -- a fault of the text of a network that was to be built
 abbrev pub IsFaulty : Option Order → Option (List ℕ) → Option (List ℕ) → List ℕ → Type 0
@@ -163,6 +202,7 @@ Due order left rest failed status.Job text =
     (order ≡ Some Play) × (bytes : List ℕ) × (fault : JobFault) × IsWhole left rest bytes × IsFaultText bytes fault.line fault.what × (text ≡ fault_line fault)
 Due order left rest failed status.TooLong text =
     Reads order × (bytes : List ℕ) × Consumes left rest bytes × (length bytes ≡ LONGEST_TEXT + 1) × (text ≡ codes "fault: too long\n")
+Due order left rest failed status.Large text = IsLarge order left rest text
 
 -- Where the words are `play`, the source tells what it has left, which is the text of a job and not too long, and its count of
 -- faults did not rise, there is the history to tell, or want of memory.
@@ -172,11 +212,11 @@ IsComplete = (bytes : List ℕ) (job : Job) (rest : Option (List ℕ)) (before n
     → Due (Some Play) (Some bytes) rest (FaultsRose before now) ended text → (ended ≡ status.Ok) ⊎ (ended ≡ status.Memory)
 
 -- Where the words ask for a network to be built, the source tells what it has left, which is the text of one and not too long, and
--- its count of faults did not rise, there is what is due to tell, that the manager is full, or want of memory.
+-- its count of faults did not rise, there is what is due to tell, that the manager is full, that the network of multiplexers is too large, or want of memory.
 abbrev pub IsCompleteForBuilds : Type 0
 IsCompleteForBuilds = (workers limit : ℕ) (options : Options) (bytes : List ℕ) (net : Net) (rest : Option (List ℕ)) (before now : ℕ) (ended : Status) (text : List ℕ)
     → IsBlifText bytes net → length bytes ≤ LONGEST_TEXT → (FaultsRose before now → ⊥)
-    → Due (Some (Build workers limit options)) (Some bytes) rest (FaultsRose before now) ended text → (ended ≡ status.Ok) ⊎ ((ended ≡ status.Full) ⊎ (ended ≡ status.Memory))
+    → Due (Some (Build workers limit options)) (Some bytes) rest (FaultsRose before now) ended text → (ended ≡ status.Ok) ⊎ ((ended ≡ status.Full) ⊎ ((ended ≡ status.Large) ⊎ (ended ≡ status.Memory)))
 
 -- So it is where they ask for a stored diagram to be loaded.
 abbrev pub IsCompleteForLoads : Type 0

@@ -6,4 +6,5 @@ pub mod Plays
 pub mod Refusals
 pub mod Saying
 pub mod Sections
+pub mod Texts
 pub mod Workers

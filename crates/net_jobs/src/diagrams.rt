@@ -4,15 +4,18 @@ ghost use Rattle.std.specs.Prelude.{◌≡◌, ◌+◌, ◌*◌, ◌≤◌, leng
 ghost use Rattle.std.specs.List.{range_with_len};
 ghost use Rattle.edge_bits.specs.declared.limits.TheConstants.{MOST_ROWS, USUAL_LIMIT};
 ghost use Rattle.dddmp_text.specs.Bounds.{IsBounded};
+ghost use Rattle.dd_session.specs.declared.answers.Full.{Full};
 ghost use Rattle.net_builds.specs.Builds.{AreUnsifted};
+ghost use Rattle.net_builds.specs.declared.host.HostRefusal.{HostRefusal};
 ghost use Rattle.net_reports.specs.Reports.{IsReport, dump_subject};
 ghost use Rattle.net_jobs.specs.Hosts.{standing_of};
-ghost use Rattle.net_jobs.specs.Networks.{IsFilledBy, IsFreshOf, IsLoadedIn, IsRefusedIn};
+ghost use Rattle.net_jobs.specs.Networks.{IsFilledBy, IsFreshOf, IsLoadedIn, IsRefusedIn, part_stop};
 
 use crate::gate::Gate;
 use crate::hosting::SessionHost;
-use crate::networks::{PartStop, opened};
+use crate::networks::opened;
 use crate::pace::Pace;
+use crate::stops::PartStop;
 use command_words::Options;
 use dd_session::{Manager, Session};
 use diagram_dumps::Dump;
@@ -41,7 +44,7 @@ pub fn load<R: Wait, G: Gate>(
     ensures fresh { All (IsFreshOf manager.now) sessions.new }
     ensures unsifted { AreUnsifted (map standing_of sessions.old) (map standing_of sessions.new) }
     ensures loaded { IfOk result (λ text. IsLoadedIn dump.now options.now.patterns sessions.old sessions.new text.items) }
-    ensures refused { IfErr result (λ stop. (cell : ℕ) → IsRefusedIn cell manager.now sessions.old sessions.new stop) }
+    ensures refused { IfErr result (λ stop. (refusal : HostRefusal Full) × (stop ≡ part_stop refusal) × ((cell : ℕ) → IsRefusedIn cell manager.now sessions.old sessions.new refusal)) }
 {
     let pace = Pace::alone(alloc);
     let host = SessionHost {
@@ -52,7 +55,8 @@ pub fn load<R: Wait, G: Gate>(
         pace: &pace,
     };
     let patterns = options.patterns.as_slice();
-    load_report(alloc, &host, &mut sessions[0], dump, patterns)
+    let text = load_report(alloc, &host, &mut sessions[0], dump, patterns)?;
+    Ok(text)
 }
 
 /// The report of a stored diagram, made in a manager of its own with the usual number of slots.

@@ -13,10 +13,11 @@ ghost use Rattle.net_jobs.specs.declared.status.Status.{Status};
 
 use crate::diagrams::diagram_report;
 use crate::gate::Gate;
-use crate::networks::{PartStop, report_of, summary_of};
+use crate::networks::{report_of, summary_of};
 use crate::playing::play;
 use crate::refusal::RunRefusal;
-use blif_net::{BlifError, networks_are_bounded, read};
+use crate::stops::PartStop;
+use blif_net::{BlifError, read};
 use byte_streams::{ReadStop, Source, read_to_end};
 use command_words::Options;
 use dd_session::{Config, Manager, OpenFault};
@@ -109,6 +110,7 @@ fn refusal_of(stop: PartStop) -> RunRefusal
     match stop {
         PartStop::Memory => RunRefusal::Memory,
         PartStop::Full(full) => RunRefusal::Full(full),
+        PartStop::Large { signals } => RunRefusal::Large(signals),
     }
 }
 
@@ -139,7 +141,6 @@ pub fn build_source<R: Threads + Wait + Sync + RandomSource, S: Source, G: Gate>
         Err(BlifError::Memory) => return Err(RunRefusal::Memory),
         Err(BlifError::Fault(fault)) => return Err(RunRefusal::Blif(fault)),
     };
-    networks_are_bounded();
     match report_of(rt, alloc, &net, workers, limit, options, gate) {
         Ok(text) => Ok(text),
         Err(stop) => Err(refusal_of(stop)),

@@ -17,6 +17,8 @@ mod registers;
 mod said;
 mod section;
 mod status;
+mod stops;
+mod texts;
 mod top;
 mod workers;
 
@@ -26,10 +28,11 @@ pub use command_words::Options;
 pub use diagrams::load;
 pub use gate::{Gate, Open};
 pub use hosting::SessionHost;
-pub use networks::{PartStop, build, generate};
+pub use networks::{build, generate};
 pub use playing::play;
 pub use said::Said;
 pub use status::Status;
+pub use stops::PartStop;
 pub use top::{
     builds_are_complete, loads_are_complete, made_networks_are_complete, plays_are_complete,
     refuse_memory, run,

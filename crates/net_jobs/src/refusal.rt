@@ -23,6 +23,7 @@ pub enum RunRefusal {
     Blif(BlifFault),
     Dddmp(DddmpFault),
     Full(Full),
+    Large(u64),
 }
 
 impl RunRefusal {
@@ -39,6 +40,7 @@ impl RunRefusal {
             RunRefusal::Blif(_) => Status::Blif,
             RunRefusal::Dddmp(_) => Status::Dddmp,
             RunRefusal::Full(_) => Status::Full,
+            RunRefusal::Large(_) => Status::Large,
         }
     }
 
@@ -55,6 +57,7 @@ impl RunRefusal {
             RunRefusal::Blif(fault) => blif_line(alloc, fault.line, blif_name(fault.what)),
             RunRefusal::Dddmp(fault) => dddmp_line(alloc, fault.line, dddmp_name(fault.what)),
             RunRefusal::Full(full) => full_line(alloc, full.in_use, full.limit),
+            RunRefusal::Large(signals) => large_line(alloc, signals),
         }
     }
 }
@@ -134,4 +137,11 @@ fn full_line(alloc: Global, in_use: u32, limit: u32) -> Result<String, AllocErro
     ensures { IfOk result (λ text. string_bytes text ≡ codes "fault: full " ++ decimal in_use ++ codes " of " ++ decimal limit ++ codes "\n") }
 {
     format!(in alloc; "fault: full {in_use} of {limit}\n")
+}
+
+/// The line of a network of multiplexers that would have too many signals.
+fn large_line(alloc: Global, signals: u64) -> Result<String, AllocError>
+    ensures { IfOk result (λ text. string_bytes text ≡ codes "fault: large " ++ decimal signals ++ codes "\n") }
+{
+    format!(in alloc; "fault: large {signals}\n")
 }

@@ -26,6 +26,8 @@ pub enum Status {
     Job,
     /// More bytes came than are read.
     TooLong,
+    /// The outputs' diagram as a network has more signals than are read.
+    Large,
 }
 
 impl Status {
@@ -44,6 +46,7 @@ impl Status {
             Status::Dddmp => 8,
             Status::Job => 9,
             Status::TooLong => 10,
+            Status::Large => 11,
         }
     }
 }

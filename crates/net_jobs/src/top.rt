@@ -53,6 +53,7 @@ fn find<R: Threads + Wait + Sync + RandomSource, S: Source, G: Gate>(
             let options = Options {
                 sift: false,
                 store: false,
+                blif: false,
                 patterns,
             };
             load_source(rt, alloc, &options, source, gate)
@@ -85,8 +86,8 @@ pub fn refuse_memory<K: Sink>(sink: &mut K) -> Status
 /// Runs the command that the words ask for, from the source to the sink. The words are those after the program's name.
 ///
 /// `play` reads the text of a job and writes the text of its history. `build` reads a network and writes its report, with `--store` the
-/// stored diagram of its outputs behind it; with `--sift` both are under the order that a sift leaves for the outputs' functions. `load`
-/// reads a stored diagram and writes its report. `gen` makes a network and writes its summary. What `build` and `gen` write does not
+/// stored diagram of its outputs behind it, and with `--blif` behind both the outputs as a network of multiplexers; with `--sift` all are
+/// under the order that a sift leaves for the outputs' functions. `load` reads a stored diagram and writes its report. `gen` makes a network and writes its summary. What `build` and `gen` write does not
 /// depend on the number of workers. The checks come in this order: words, reading, length, format, work, writing; a refused run
 /// writes its one line alone.
 #[tactic(auto, using(crate::proofs::WordLemmas::plays_alone))]
@@ -132,8 +133,8 @@ pub fn plays_are_complete()
     ensures { IsComplete }
 {}
 
-/// Where the text is that of a network and nothing failed, a run of `build` tells what is due of it, that the manager is full, or want
-/// of memory.
+/// Where the text is that of a network and nothing failed, a run of `build` tells what is due of it, that the manager is full, that
+/// the network of multiplexers is too large, or want of memory.
 pub fn builds_are_complete()
     ensures { IsCompleteForBuilds }
 {}

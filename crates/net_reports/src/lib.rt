@@ -5,9 +5,7 @@ mod classes;
 mod lines;
 mod patterns;
 mod reports;
-mod storing;
 
 pub use classes::{Class, classes_of};
 pub use patterns::{Evaluation, padded};
 pub use reports::{dump_report, report, summary};
-pub use storing::stored;

@@ -6,9 +6,10 @@ ghost use Rattle.diagram_dumps.specs.Listings.{dump_of};
 
 use crate::calls::{and, ready, var};
 use dd_session::{Config, H, Manager, OpenFault, Session};
+use dddmp_text::write;
 use diagram_dumps::Listing;
 use edge_bits::Line;
-use net_reports::{Class, classes_of, padded, stored};
+use net_reports::{Class, classes_of, padded};
 use std::alloc::Global;
 use std::process::Abort;
 use std::sync::Wait;
@@ -84,7 +85,10 @@ fn told_of(rt: &impl Abort, alloc: Global, listing: Listing)
 {
     assert!(rt; listing.node_count() == 3);
     is_one_class(rt, alloc, &listing);
-    let Ok(text) = stored(alloc, listing) else {
+    let Ok(dump) = listing.into_dump(alloc) else {
+        panic!(rt; "no memory");
+    };
+    let Ok(text) = write(alloc, &dump) else {
         panic!(rt; "no memory");
     };
     assert!(rt; text.as_slice() == STORED.as_bytes());

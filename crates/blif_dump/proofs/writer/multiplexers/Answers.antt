@@ -1,7 +1,7 @@
 use Rattle.std.proofs.Common.{◌++◌, ◌<◌, ◌∙◌, ap, codes, subst, sym, get_or, length, map, List, ℕ, ℤ, arith}
 use Rattle.edge_bits.specs.declared.edges.Line.{Line}
 use Rattle.blif_dump.specs.Calls.{names_in}
-use Rattle.blif_net.specs.Lines.{text_of}
+use Rattle.blif_dump.specs.Lines.{text_of}
 use Rattle.blif_dump.specs.Multiplexers.{end_lines, head_lines, lines_of, multiplexers, nodes_lines, outputs_lines}
 use Rattle.blif_dump.specs.Names.{Naming, called}
 use Rattle.blif_dump.specs.Naming.{naming_in}

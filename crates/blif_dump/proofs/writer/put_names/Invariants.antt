@@ -1,6 +1,6 @@
 use Rattle.std.proofs.Common.{◌≡◌, ◌++◌, map, take}
 use Rattle.blif_dump.specs.Calls.{names_in}
-use Rattle.blif_net.specs.Lines.{spaced}
+use Rattle.blif_dump.specs.Lines.{spaced}
 use Rattle.blif_dump.specs.Names.{called}
 use Rattle.blif_dump.specs.Naming.{naming_in}
 use Rattle.blif_dump.proofs.writer.put_names.Given as goal

@@ -1,5 +1,5 @@
 use Rattle.std.proofs.Common.{◌++◌, ◌∷◌, [], ◌∙◌, ap, codes, nat_abs, ℕ, List}
-use Rattle.blif_net.specs.Lines.{spaced}
+use Rattle.blif_dump.specs.Lines.{spaced}
 use Rattle.blif_dump.specs.Multiplexers.{literal_for}
 use Rattle.blif_dump.specs.Names.{node_name}
 use Rattle.blif_dump.specs.Naming.{naming_in}

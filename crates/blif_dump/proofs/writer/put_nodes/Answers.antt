@@ -4,7 +4,7 @@ use Rattle.std.specs.Borrow.{Bor}
 use Rattle.edge_bits.specs.declared.edges.Line.{Line}
 use Rattle.job_words.specs.Text.{Word}
 use Rattle.blif_dump.specs.Calls.{names_in}
-use Rattle.blif_net.specs.Lines.{text_of}
+use Rattle.blif_dump.specs.Lines.{text_of}
 use Rattle.blif_dump.specs.Multiplexers.{name_at, node_lines}
 use Rattle.blif_dump.specs.Names.{called}
 use Rattle.blif_dump.specs.Naming.{naming_in}

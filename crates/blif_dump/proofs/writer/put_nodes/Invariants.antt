@@ -1,6 +1,6 @@
 use Rattle.std.proofs.Common.{◌≡◌, ◌++◌, take}
 use Rattle.blif_dump.specs.Calls.{names_in}
-use Rattle.blif_net.specs.Lines.{text_of}
+use Rattle.blif_dump.specs.Lines.{text_of}
 use Rattle.blif_dump.specs.Multiplexers.{nodes_lines}
 use Rattle.blif_dump.specs.Naming.{naming_in}
 use Rattle.blif_dump.proofs.writer.put_nodes.Given as goal

@@ -2,7 +2,7 @@ use Rattle.std.proofs.Common.{◌≡◌, ◌+◌, ◌<◌, ◌++◌, ◌∙◌, 
 use Rattle.std.specs.Borrow.{Bor}
 use Rattle.job_words.specs.Text.{Word}
 use Rattle.blif_dump.specs.Calls.{names_in}
-use Rattle.blif_net.specs.Lines.{text_of}
+use Rattle.blif_dump.specs.Lines.{text_of}
 use Rattle.blif_dump.specs.Multiplexers.{lines_at, name_at}
 use Rattle.blif_dump.specs.Naming.{naming_in}
 use Rattle.blif_dump.proofs.Texts.{lines_more, name_read}

@@ -1,7 +1,7 @@
 use Rattle.std.proofs.Common.{List, length, map, subst, arith}
 use Rattle.std.specs.List.{AllZip}
 use Rattle.net_reports.specs.Reports.{output_functions}
-use Rattle.net_builds.specs.Builds.{Builds, TellsOf}
+use Rattle.net_builds.specs.Builds.{Builds, FindsOf}
 use Rattle.net_builds.specs.Outputs.{AreRefused, AreShared, LeavesNone}
 use Rattle.net_builds.specs.Shares.{AreBuilt, HandsAndTells, StopsOnly}
 use Rattle.net_builds.specs.Sifting.{BuildsSifted}
@@ -37,11 +37,11 @@ returns-clause-built g c =
     let built = map st c.args.sessions.now in
     let mid = map st c.told_unless_stopped-told.new.sessions in
     let new = map st c.let_go_shares.new.sessions in
-    let Tells = TellsOf net c.args.patterns.now c.args.telling in
+    let Tells = FindsOf net c.args.patterns.now c.args.telling in
     let limit = g.H.Host.limit c.args.host.now in
-    ok_weaker (λ text. HandsAndTells c.args.sifts limit Tells c.args.cell (output_functions net) built mid text.items)
-    (λ text. (old : List Standing) → AreShared (g.H.Host.tells c.args.host.now) net (length c.args.sessions.now) 0 old built c.args.shares.now → Builds Tells c.args.cell (output_functions net) old new text.items)
-    (λ text handed old shared. finish_builds (g.H.Host.tells c.args.host.now) net (length c.args.sessions.now) c.args.cell Tells c.args.sifts limit text.items built mid handed old new c.args.shares.now shared c.let_go_shares.ensures.gone)
+    ok_weaker (λ found. HandsAndTells c.args.sifts limit Tells c.args.cell (output_functions net) built mid found)
+    (λ found. (old : List Standing) → AreShared (g.H.Host.tells c.args.host.now) net (length c.args.sessions.now) 0 old built c.args.shares.now → Builds Tells c.args.cell (output_functions net) old new found)
+    (λ found handed old shared. finish_builds (g.H.Host.tells c.args.host.now) net (length c.args.sessions.now) c.args.cell Tells c.args.sifts limit found built mid handed old new c.args.shares.now shared c.let_go_shares.ensures.gone)
     c.told_unless_stopped-told.result c.told_unless_stopped-told.ensures.told
 
 pub returns-clause-sifted : goal.returns-clause-sifted
@@ -52,11 +52,11 @@ returns-clause-sifted g c does =
     let built = map st c.args.sessions.now in
     let mid = map st c.told_unless_stopped-told.new.sessions in
     let new = map st c.let_go_shares.new.sessions in
-    let Tells = TellsOf net c.args.patterns.now c.args.telling in
+    let Tells = FindsOf net c.args.patterns.now c.args.telling in
     let limit = g.H.Host.limit c.args.host.now in
-    ok_both (λ text. HandsAndTells c.args.sifts limit Tells c.args.cell (output_functions net) built mid text.items) (λ _. AreBuilt c.args.shares.now)
-    (λ text. (old : List Standing) → AreShared (g.H.Host.tells c.args.host.now) net (length c.args.sessions.now) 0 old built c.args.shares.now → BuildsSifted Tells limit c.args.cell (output_functions net) old new text.items)
-    (λ text handed done old shared. finish_sifted (g.H.Host.tells c.args.host.now) net (length c.args.sessions.now) c.args.cell Tells c.args.sifts limit text.items built mid handed does (length net.inputs) old new c.args.shares.now done
+    ok_both (λ found. HandsAndTells c.args.sifts limit Tells c.args.cell (output_functions net) built mid found) (λ _. AreBuilt c.args.shares.now)
+    (λ found. (old : List Standing) → AreShared (g.H.Host.tells c.args.host.now) net (length c.args.sessions.now) 0 old built c.args.shares.now → BuildsSifted Tells limit c.args.cell (output_functions net) old new found)
+    (λ found handed done old shared. finish_sifted (g.H.Host.tells c.args.host.now) net (length c.args.sessions.now) c.args.cell Tells c.args.sifts limit found built mid handed does (length net.inputs) old new c.args.shares.now done
     may.counted may.vars shared c.let_go_shares.ensures.gone)
     c.told_unless_stopped-told.result c.told_unless_stopped-told.ensures.told c.told_unless_stopped-told.ensures.done
 

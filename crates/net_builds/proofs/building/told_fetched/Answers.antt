@@ -2,7 +2,7 @@ use Rattle.std.proofs.Common.{◌≡◌, ◌∙◌, List, length, map, subst, sy
 use Rattle.std.proofs.lemmas.List.Elements.{All-weaker}
 use Rattle.function_laws.specs.declared.history.Name.{Name}
 use Rattle.net_builds.specs.Asked.{MayReport}
-use Rattle.net_builds.specs.Builds.{TellsOf}
+use Rattle.net_builds.specs.Builds.{FindsOf}
 use Rattle.net_builds.specs.Handings.{IsTold, Returns}
 use Rattle.net_builds.specs.Shares.{SiftsAndTells}
 use Rattle.net_builds.specs.Standings.{IsLive, Standing}
@@ -34,10 +34,10 @@ returns-clause-told g c =
     let old = g.H.Host.standing c.args.session.now in
     let mid = g.H.Host.standing c.sift_if.new.session in
     let new = g.H.Host.standing c.tell.new.session in
-    let Tells = TellsOf c.args.net.now c.args.patterns.now c.args.telling in
-    ok_weaker (λ text. IsTold Tells mid new c.deref.result.now text.items)
-    (λ text. SiftsAndTells c.args.sifts (g.H.Host.limit c.args.host.now) Tells old new (map (λ (h : Handover). h.to) c.args.handovers.now) text.items)
-    (λ text told. (mid, c.in_ok-sift_if.ensures.sifted, subst (λ (names : List Name). IsTold Tells mid new names text.items) shown told))
+    let Tells = FindsOf c.args.net.now c.args.patterns.now c.args.telling in
+    ok_weaker (λ found. IsTold Tells mid new c.deref.result.now found)
+    (λ found. SiftsAndTells c.args.sifts (g.H.Host.limit c.args.host.now) Tells old new (map (λ (h : Handover). h.to) c.args.handovers.now) found)
+    (λ found told. (mid, c.in_ok-sift_if.ensures.sifted, subst (λ (names : List Name). IsTold Tells mid new names found) shown told))
     c.tell.result c.tell.ensures.told
 
 pub returns-clause-returns : goal.returns-clause-returns

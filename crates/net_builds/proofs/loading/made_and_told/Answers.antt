@@ -9,7 +9,7 @@ use Rattle.diagram_dumps.specs.Dumps.{root_value}
 use Rattle.function_laws.specs.declared.history.Name.{Name}
 use Rattle.net_reports.specs.Reports.{root_names}
 use Rattle.net_reports.specs.RootClasses.{root_functions}
-use Rattle.net_builds.specs.Builds.{TellingOf}
+use Rattle.net_builds.specs.Builds.{FindingsOf}
 use Rattle.net_builds.specs.Handings.{IsTold}
 use Rattle.net_builds.specs.Standings.{IsLive}
 use Rattle.net_builds.specs.declared.host.HostRefusal.TheVariants as stops
@@ -36,12 +36,12 @@ tell_report-requires g c =
       };
     }
 
-pub returns-in_err-text-clause-loads : goal.returns-in_err-text-clause-loads
-returns-in_err-text-clause-loads g c =
+pub returns-in_err-found-clause-loads : goal.returns-in_err-found-clause-loads
+returns-in_err-found-clause-loads g c =
     let back = c.in_ok-make_diagram.ensures.back in
-    let p = err_from_is_err_and c.from_residual-in_err-text.result c.from_residual-in_err-text.ensures.1 in
+    let p = err_from_is_err_and c.from_residual-in_err-found.result c.from_residual-in_err-found.ensures.1 in
     rw (p.1, p.2) (loads_up (g.H.Host.tells c.args.host.now) c.args.dump.now c.args.patterns.now (g.H.Host.standing c.args.session.now) (g.H.Host.standing c.make_diagram.new.session)
-    (g.H.Host.standing c.tell_report.new.session) c.make_diagram.new.made.items (Err stops.Memory) back.works back.room back.stack c.in_err-text.ensures.looks tt (λ gained. tt))
+    (g.H.Host.standing c.tell_report.new.session) c.make_diagram.new.made.items (Err stops.Memory) back.works back.room back.stack c.in_err-found.ensures.looks tt (λ gained. tt))
 
 pub returns-clause-loads : goal.returns-clause-loads
 returns-clause-loads g c =
@@ -51,7 +51,7 @@ returns-clause-loads g c =
     let new = g.H.Host.standing c.tell_report.new.session in
     let names : List Name = c.make_diagram.new.names.items in
     let made = c.in_ok-make_diagram.ensures in
-    let text = c.in_ok-text.text in
-    let told = subst (λ (l : List Name). IsTold (TellingOf dump.nvars (root_names (length dump.roots)) c.args.patterns.now Report) mid new l text.items) c.deref.ensures.value c.in_ok-text.ensures.told in
-    loads_up (g.H.Host.tells c.args.host.now) dump c.args.patterns.now old mid new c.make_diagram.new.made.items (Ok text) made.back.works made.back.room made.back.stack c.in_ok-text.ensures.looks
-    (report_noted (g.H.Host.tells c.args.host.now) dump c.args.patterns.now old mid new names text.items made.back.works (made.back.works.vars_are ∙ c.requires.may.vars) made.held told) (λ gained. tt)
+    let found = c.in_ok-found.found in
+    let told = subst (λ (l : List Name). IsTold (FindingsOf dump.nvars (root_names (length dump.roots)) c.args.patterns.now Report) mid new l found) c.deref.ensures.value c.in_ok-found.ensures.told in
+    loads_up (g.H.Host.tells c.args.host.now) dump c.args.patterns.now old mid new c.make_diagram.new.made.items (Ok found.text) made.back.works made.back.room made.back.stack c.in_ok-found.ensures.looks
+    (report_noted (g.H.Host.tells c.args.host.now) dump c.args.patterns.now old mid new names found made.back.works (made.back.works.vars_are ∙ c.requires.may.vars) made.held told) (λ gained. tt)

@@ -1,6 +1,6 @@
-use Rattle.std.proofs.Common.{[], List, ℕ}
+use Rattle.std.proofs.Common.{[], List}
 use Rattle.net_reports.specs.declared.classes.Class.{Class}
-use Rattle.net_builds.specs.Builds.{TellsOf}
+use Rattle.net_builds.specs.Builds.{FindsOf}
 use Rattle.net_builds.specs.declared.telling.Telling.TheVariants.{Summary}
 use Rattle.net_builds.proofs.TellingLemmas.{asks_none, is_told, looks_listed, looks_same, summed_up}
 use Rattle.net_builds.proofs.telling.tell_summary.Goals as goal
@@ -15,11 +15,13 @@ returns-clause-told g c =
     let lists = c.in_ok-listing.ensures.lists in
     let classes : List Class = c.in_ok-classes.classes.items in
     let seen : List Class = c.deref.result.now in
-    let text : List ℕ = c.in_ok-text.text.items in
-    λ patterns. is_told (TellsOf net patterns Summary) old mid mid names listing text lists (asks_none mid)
-    (summed_up net patterns old mid names listing lists classes c.node_count.result text c.requires.may.vars
-    (c.in_ok-classes.ensures.by_function listing.order lists.functions lists.is_listing)
-    (c.node_count.ensures (record { variables = listing.order; elements = [] }) lists.functions lists.is_listing) seen c.deref.ensures.value c.in_ok-text.ensures.text)
+    let text = c.in_ok-text.text in
+    λ patterns. is_told (FindsOf net patterns Summary) old mid mid names listing (record { text = text; listing = listing }) lists (asks_none mid) (record {
+      told = summed_up net patterns old mid names listing lists classes c.node_count.result text.items c.requires.may.vars
+          (c.in_ok-classes.ensures.by_function listing.order lists.functions lists.is_listing)
+          (c.node_count.ensures (record { variables = listing.order; elements = [] }) lists.functions lists.is_listing) seen c.deref.ensures.value c.in_ok-text.ensures.text;
+      listed = lists.is_listing;
+    })
 
 pub returns-clause-looks : goal.returns-clause-looks
 returns-clause-looks g c =

@@ -1,7 +1,8 @@
-use Rattle.std.proofs.Common.{◌∙◌, ◌≡◌, ◌+◌, List, subst, sym}
+use Rattle.std.proofs.Common.{◌∙◌, ◌≡◌, ◌+◌, ℕ, List, subst, sym}
 use Rattle.std.proofs.lemmas.Result.{err_from_is_err_and}
 use Rattle.edge_bits.specs.declared.limits.TheConstants.{USUAL_LIMIT}
 use Rattle.dd_session.specs.Managing.{AreAll, IsHistoryOf, Seen}
+use Rattle.net_jobs.specs.Networks.{IsFilledBy}
 use Rattle.net_jobs.proofs.BuiltHistories.{are_all, filled_load, fresh_own, loaded_again, loaded_as, written_back}
 use Rattle.net_jobs.proofs.diagrams.diagram_report.Goals as goal
 
@@ -31,5 +32,6 @@ pub returns-in_err-text-clause-full : goal.returns-in_err-text-clause-full
 returns-in_err-text-clause-full g c =
     let m = c.in-Ok.manager in
     let p = err_from_is_err_and c.from_residual.result c.from_residual.ensures.1 in
-    rw (p.1, p.2) (filled_load 0 m c.deref_mut.result.now c.load.new.sessions (λ slots. slots ≡ 5 + c.args.dump.now.nvars + USUAL_LIMIT) c.in_err-text.field-0.0
-    c.in-Ok.ensures.limit_is (c.in_err-text.ensures.refused 0))
+    let OfAll : ℕ → Type 0 = λ slots. slots ≡ 5 + c.args.dump.now.nvars + USUAL_LIMIT in
+    let told = c.in_err-text.ensures.refused in
+    rw (p.1, p.2) (subst (IsFilledBy OfAll) (sym told.1) (filled_load 0 m c.deref_mut.result.now c.load.new.sessions OfAll told.0 c.in-Ok.ensures.limit_is (told.2 0)))

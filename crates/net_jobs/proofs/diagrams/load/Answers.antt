@@ -1,13 +1,7 @@
-use Rattle.std.specs.Prelude.{slice_set}
-use Rattle.std.specs.Global.{Vec}
-use Rattle.std.proofs.Common.{ℕ, Bool, List, get_or, subst}
-use Rattle.dd_session.specs.declared.answers.Full.{Full}
-use Rattle.net_builds.proofs.BackLemmas.{err_weaker, ok_weaker}
+use Rattle.std.proofs.Common.{Bool, List, get_or, subst}
+use Rattle.std.proofs.lemmas.Result.{err_from_is_err_and}
 use Rattle.net_builds.specs.Loads.{Loads}
-use Rattle.net_builds.specs.Outputs.{IsRefused}
-use Rattle.net_builds.specs.declared.host.HostRefusal.{HostRefusal}
-use Rattle.net_jobs.specs.Hosts.{TellsFullOf, standing_of}
-use Rattle.net_jobs.specs.Networks.{IsLoadedIn, IsRefusedIn}
+use Rattle.net_jobs.specs.Hosts.{standing_of}
 use Rattle.net_jobs.proofs.Alone.{fresh_set, lent, loaded_one, refused_one, unsifted_one}
 use Rattle.net_jobs.proofs.diagrams.load.Goals as goal
 
@@ -22,26 +16,20 @@ returns-clause-fresh g c = fresh_set c.args.manager.now c.args.sessions.now c.lo
 pub returns-clause-loaded : goal.returns-clause-loaded
 returns-clause-loaded g c =
     let dump = c.args.dump.now in
-    let patterns = c.args.options.now.patterns in
-    let seen : List (List Bool) = c.as_slice-patterns.result.now in
     let sessions = c.args.sessions.now in
     let new = c.load_report.new.session in
     let d = c.index-sessions-0.result in
-    ok_weaker (λ (text : Vec ℕ). Loads dump seen (standing_of (get_or sessions 0 d)) (standing_of new) text.items)
-    (λ (text : Vec ℕ). IsLoadedIn dump patterns sessions (slice_set sessions 0 new) text.items)
-    (λ text loads. loaded_one dump patterns sessions new d text.items c.requires.one
-    (subst (λ (all : List (List Bool)). Loads dump all (standing_of (get_or sessions 0 d)) (standing_of new) text.items) c.as_slice-patterns.ensures loads))
-    c.load_report.result c.load_report.ensures.loads
+    let text = c.in_ok-text.text.items in
+    loaded_one dump c.args.options.now.patterns sessions new d text c.requires.one
+    (subst (λ (all : List (List Bool)). Loads dump all (standing_of (get_or sessions 0 d)) (standing_of new) text) c.as_slice-patterns.ensures c.in_ok-text.ensures.loads)
 
-pub returns-clause-refused : goal.returns-clause-refused
-returns-clause-refused g c =
+pub returns-in_err-text-clause-refused : goal.returns-in_err-text-clause-refused
+returns-in_err-text-clause-refused g c =
     let m = c.args.manager.now in
     let sessions = c.args.sessions.now in
-    let new = c.load_report.new.session in
-    let d = c.index-sessions-0.result in
-    err_weaker (λ (stop : HostRefusal Full). (cell : ℕ) → IsRefused (TellsFullOf m) cell (standing_of (get_or sessions 0 d)) (standing_of new) stop)
-    (λ (stop : HostRefusal Full). (cell : ℕ) → IsRefusedIn cell m sessions (slice_set sessions 0 new) stop)
-    (λ stop told cell. refused_one cell m sessions new d stop c.requires.one (told cell)) c.load_report.result c.load_report.ensures.refused
+    let refusal = c.in_err-text.field-0.0 in
+    let p = err_from_is_err_and c.from_residual.result c.from_residual.ensures.1 in
+    rw p.1 (refusal, p.2, λ cell. refused_one cell m sessions c.load_report.new.session c.index-sessions-0.result refusal c.requires.one (c.in_err-text.ensures.refused cell))
 
 pub returns-clause-unsifted : goal.returns-clause-unsifted
 returns-clause-unsifted g c = unsifted_one c.args.sessions.now c.load_report.new.session c.index-sessions-0.result c.requires.one c.load_report.ensures.unsifted

@@ -1,10 +1,10 @@
-use Rattle.std.proofs.Common.{ℕ, List, arith, length, map, refl}
-use Rattle.std.specs.Global.{Vec}
+use Rattle.std.proofs.Common.{List, arith, length, map, refl}
+use Rattle.net_builds.specs.declared.telling.Findings.{Findings}
 use Rattle.std.proofs.lemmas.Result.{err_from_is_err_and}
 use Rattle.dd_session.specs.declared.answers.Full.{Full}
 use Rattle.net_builds.specs.declared.host.HostRefusal.{HostRefusal}
 use Rattle.net_builds.specs.declared.host.HostRefusal.TheVariants as stops
-use Rattle.net_builds.specs.Builds.{Builds, TellsOf}
+use Rattle.net_builds.specs.Builds.{Builds, FindsOf}
 use Rattle.net_builds.specs.Outputs.{AreRefused}
 use Rattle.net_builds.specs.Sifting.{BuildsSifted}
 use Rattle.net_builds.specs.Standings.{Standing}
@@ -55,7 +55,7 @@ returns-clause-built g c =
     let shares = c.deref.result.now in
     let shared = shared_by m net c.args.sessions.now mid c.in_ok-shares.shares.items shares c.deref.ensures.value c.in_ok-shares.ensures.shared in
     told_by m net c.args.sessions.now mid shares shared.0 c.finish_network.result
-    (λ (text : Vec ℕ) (old : List Standing). Builds (TellsOf net c.args.patterns.now c.args.telling) OUTPUTS_CELL (output_functions net) old new text.items) c.finish_network.ensures.built
+    (λ (found : Findings) (old : List Standing). Builds (FindsOf net c.args.patterns.now c.args.telling) OUTPUTS_CELL (output_functions net) old new found) c.finish_network.ensures.built
 
 pub returns-clause-sifted : goal.returns-clause-sifted
 returns-clause-sifted g c = λ yes.
@@ -66,7 +66,7 @@ returns-clause-sifted g c = λ yes.
     let shares = c.deref.result.now in
     let shared = shared_by m net c.args.sessions.now mid c.in_ok-shares.shares.items shares c.deref.ensures.value c.in_ok-shares.ensures.shared in
     told_by m net c.args.sessions.now mid shares shared.0 c.finish_network.result
-    (λ (text : Vec ℕ) (old : List Standing). BuildsSifted (TellsOf net c.args.patterns.now c.args.telling) m.limit OUTPUTS_CELL (output_functions net) old new text.items) (c.finish_network.ensures.sifted yes)
+    (λ (found : Findings) (old : List Standing). BuildsSifted (FindsOf net c.args.patterns.now c.args.telling) m.limit OUTPUTS_CELL (output_functions net) old new found) (c.finish_network.ensures.sifted yes)
 
 pub returns-clause-unsifted : goal.returns-clause-unsifted
 returns-clause-unsifted g c = λ no.

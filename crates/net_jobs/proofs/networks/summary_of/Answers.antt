@@ -1,13 +1,15 @@
-use Rattle.std.proofs.Common.{All, ◌∙◌, ◌≡◌, ◌+◌, arith, [], List, ap, map, subst, sym, length}
+use Rattle.std.proofs.Common.{All, ◌∙◌, ◌≡◌, ◌+◌, arith, ℕ, [], List, ap, map, subst, sym, length}
+use Rattle.std.specs.Global.{Vec}
 use Rattle.std.proofs.lemmas.Result.{err_from_is_err_and}
 use Rattle.cover_nets.specs.declared.net.Net.{Net}
 use Rattle.blif_net.specs.Networks.{IsBlifText}
 use Rattle.edge_bits.specs.declared.limits.TheConstants.{USUAL_LIMIT}
 use Rattle.blif_net.specs.GenTexts.{gen_text}
 use Rattle.dd_session.specs.Managing.{AreAll, IsHistoryOf, Seen, opened}
-use Rattle.net_builds.specs.Builds.{AreUnsifted, Builds, TellsOf}
+use Rattle.net_builds.specs.Builds.{AreUnsifted, Builds, FindsOf}
 use Rattle.net_builds.specs.declared.telling.Telling.TheVariants.{Summary}
-use Rattle.net_reports.specs.Reports.{output_functions}
+use Rattle.net_reports.specs.Reports.{IsSummary, net_subject, output_functions}
+use Rattle.net_jobs.specs.Ends.{rising}
 use Rattle.net_jobs.specs.declared.networks.TheConstants.{OUTPUTS_CELL}
 use Rattle.net_jobs.specs.Hosts.{standing_of}
 use Rattle.net_jobs.specs.Networks.{IsFreshOf}
@@ -30,12 +32,12 @@ close-closed-requires g c =
     let m = c.in-Ok.manager in
     let told = c.in_ok-text.ensures.built in
     let net = told.0 in
-    let Tells = TellsOf net [] Summary in
+    let found = told.3.0 in
+    let Tells = FindsOf net [] Summary in
     let new = c.generate.new.sessions in
-    let text = c.in_ok-text.text.items in
-    let built : Builds Tells OUTPUTS_CELL (output_functions net) (map standing_of (opened m)) (map standing_of new) text =
-    subst (λ (l : List Seen). Builds Tells OUTPUTS_CELL (output_functions net) (map standing_of l) (map standing_of new) text) (c.deref_mut.ensures.value ∙ c.in-Ok.ensures.sessions_are) told.3 in
-    let again = built_again m Tells OUTPUTS_CELL (output_functions net) new text built in
+    let built : Builds Tells OUTPUTS_CELL (output_functions net) (map standing_of (opened m)) (map standing_of new) found =
+    subst (λ (l : List Seen). Builds Tells OUTPUTS_CELL (output_functions net) (map standing_of l) (map standing_of new) found) (c.deref_mut.ensures.value ∙ c.in-Ok.ensures.sessions_are) told.3.2 in
+    let again = built_again m Tells OUTPUTS_CELL (output_functions net) new found built in
     subst (AreAll m) (sym (written_back m new again c.in-Ok.sessions.items c.in-Ok.sessions.len c.in-Ok.ensures.sessions_are c.in-Ok.sessions.ok.0))
     (are_all m new again (fresh_own m new c.in_ok-text.ensures.fresh))
 
@@ -44,23 +46,23 @@ returns-clause-summary g c =
     let m = c.in-Ok.manager in
     let told = c.in_ok-text.ensures.built in
     let net = told.0 in
-    let Tells = TellsOf net [] Summary in
+    let found = told.3.0 in
+    let Tells = FindsOf net [] Summary in
     let new = c.generate.new.sessions in
-    let text = c.in_ok-text.text.items in
     let is = c.deref_mut.ensures.value ∙ c.in-Ok.ensures.sessions_are in
-    let built : Builds Tells OUTPUTS_CELL (output_functions net) (map standing_of (opened m)) (map standing_of new) text =
-    subst (λ (l : List Seen). Builds Tells OUTPUTS_CELL (output_functions net) (map standing_of l) (map standing_of new) text) is told.3 in
+    let built : Builds Tells OUTPUTS_CELL (output_functions net) (map standing_of (opened m)) (map standing_of new) found =
+    subst (λ (l : List Seen). Builds Tells OUTPUTS_CELL (output_functions net) (map standing_of l) (map standing_of new) found) is told.3.2 in
     let unsifted : AreUnsifted (map standing_of (opened m)) (map standing_of new) =
     subst (λ (l : List Seen). AreUnsifted (map standing_of l) (map standing_of new)) is c.in_ok-text.ensures.unsifted in
     let vars : m.vars ≡ length net.inputs = c.in-Ok.ensures.vars ∙ sym told.2 in
-    let again = built_again m Tells OUTPUTS_CELL (output_functions net) new text built in (
+    let again = built_again m Tells OUTPUTS_CELL (output_functions net) new found built in (
       net,
       told.1,
-      told_of m net new text c.close-closed.result.calls vars (fresh_are m new c.in_ok-text.ensures.fresh)
+      subst (λ (text : Vec ℕ). IsSummary (net_subject net (rising net) []) text.items) (sym told.3.1) (told_of m net new found c.close-closed.result.calls vars (fresh_are m new c.in_ok-text.ensures.fresh)
           (subst (λ (l : List Seen). IsHistoryOf m l c.close-closed.result.calls)
           (written_back m new again c.in-Ok.sessions.items c.in-Ok.sessions.len c.in-Ok.ensures.sessions_are c.in-Ok.sessions.ok.0)
           c.close-closed.ensures.history.history)
-          Summary [] c.tellings_are_true.ensures.unsifted unsifted built,
+          Summary [] c.tellings_are_true.ensures.unsifted unsifted built).told,
     )
 
 pub returns-in_err-text-clause-full : goal.returns-in_err-text-clause-full

@@ -15,13 +15,13 @@ use Rattle.diagram_dumps.specs.WellMade.{IsWritable}
 use Rattle.diagram_dumps.proofs.Walks.{AreLines, are_earlier, are_lines}
 use Rattle.blif_models.specs.Circuits.{Cover, defined_in, is_signal, some_again}
 use Rattle.blif_net.specs.CoverTexts.{is_literal}
-use Rattle.blif_dump.specs.Dumped.{AreNames, is_name}
+use Rattle.blif_net.specs.Dumped.{AreNames, is_name}
 use Rattle.blif_dump.specs.Multiplexers.{is_due, literal_for, name_at}
 use Rattle.blif_dump.specs.Names.{called, naming_of, place_in, prefix_for}
 use Rattle.blif_wholes.proofs.Alone.{among_got, get_front}
-use Rattle.blif_dump.proofs.KnownSignals.{Known, among_placed, input_among, known_at_start, known_node, known_onward, known_output, node_of, output_among, same_name, word_of}
-use Rattle.blif_dump.proofs.MultiplexedLines.{circuit_for, constant_cover, cover_at, cover_if, node_cover, node_covers, output_cover, output_covers}
-use Rattle.blif_dump.proofs.NamesApart.{among_map, kind_of, kind_plain, node_plain, stands, stands_at}
+use Rattle.blif_net.proofs.KnownSignals.{Known, among_placed, input_among, known_at_start, known_node, known_onward, known_output, node_of, output_among, same_name, word_of}
+use Rattle.blif_net.proofs.MultiplexedLines.{circuit_for, constant_cover, cover_at, cover_if, node_cover, node_covers, output_cover, output_covers}
+use Rattle.blif_net.proofs.NamesApart.{among_map, kind_of, kind_plain, node_plain, stands, stands_at}
 use Rattle.blif_dump.proofs.Variables.{variable_within}
 use Rattle.blif_net.proofs.WrittenCircuits.{AreNextCovers, IsNextCover, IsWritable as IsWritableCircuit}
 use Rattle.blif_net.proofs.Written.{is_plain_word}

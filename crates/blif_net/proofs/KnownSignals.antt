@@ -8,7 +8,7 @@ use Rattle.std.proofs.lemmas.Option.{same_Some}
 use Rattle.std.proofs.lemmas.Slice.Eq.{bytes_eq-Decides}
 use Rattle.job_words.specs.Text.{Word, is_among}
 use Rattle.blif_dump.specs.Names.{called, naming_of, node_name, place_in, prefix_for}
-use Rattle.blif_dump.proofs.NamesApart.{Kind, among_map, kind_of, map_among, no_node, nodes_apart, one_name, same_place, stands, stands_at}
+use Rattle.blif_net.proofs.NamesApart.{Kind, among_map, kind_of, map_among, no_node, nodes_apart, one_name, same_place, stands, stands_at}
 use Rattle.blif_wholes.proofs.Alone.{among_got}
 use Rattle.blif_wholes.proofs.Words.{among_front}
 

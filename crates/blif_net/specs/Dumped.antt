@@ -2,17 +2,22 @@
 use Rattle.std.specs.Prelude.{◌≡◌, ◌≢◌, ℕ, ◌≤◌, Bool, true, not, ◌&&◌, List, ◌++◌, ℤ, None, Some, length, map, slice_get}
 use Rattle.std.specs.List.{AllPairs, list_all}
 use Rattle.edge_bits.specs.Assignments.{bit}
-use Rattle.edge_bits.specs.declared.limits.TheConstants.{MOST_VARIABLES}
+use Rattle.edge_bits.specs.declared.limits.TheConstants.{MOST_SIGNALS, MOST_VARIABLES}
 use Rattle.job_words.specs.declared.cutting.ByteClass.TheVariants.{Blank, Extended}
 use Rattle.job_words.specs.Classes.{has_bytes, is_in}
 use Rattle.job_words.specs.Text.{Word}
 use Rattle.diagram_dumps.specs.declared.dump.Dump.{Dump}
 use Rattle.diagram_dumps.specs.Dumps.{root_value}
+use Rattle.diagram_dumps.specs.Listings.{IsListing, dump_of}
+use Rattle.diagram_dumps.specs.WellMade.{IsWritable}
+use Rattle.diagram_dumps.specs.declared.listings.Listing.{Listing}
 use Rattle.cover_nets.specs.declared.net.Net.{Net}
 use Rattle.cover_nets.specs.declared.net.Output.{Output}
 use Rattle.blif_net.specs.Faults.{fault_of}
 use Rattle.cover_nets.specs.Networks.{signal_value}
 use Rattle.blif_net.specs.Networks.{IsBlifText}
+use Rattle.blif_dump.specs.Calls.{signals_needed}
+use Rattle.blif_dump.specs.Multiplexers.{multiplexers}
 use Rattle.blif_dump.specs.Names.{called, naming_of}
 
 -- a byte that may stand in a name, `#` too: from 33 on, but 127
@@ -45,3 +50,14 @@ pub record IsNetOfDump (dump : Dump) (inputs outputs : List Word) (net : Net) : 
 pub record IsDumped (dump : Dump) (inputs outputs : List Word) (text : List ℕ) : Type 0 where
   pub faultless : fault_of text ≡ None
   pub networks : (net : Net) → IsBlifText text net → IsNetOfDump dump inputs outputs net
+
+-- The multiplexers of a dump are read again, where they are no more signals than a text may have.
+abbrev pub DumpsAreRead : Type 0
+DumpsAreRead = (dump : Dump) (inputs outputs : List Word) → IsWritable dump → AreNames dump inputs outputs → signals_needed dump inputs outputs ≤ MOST_SIGNALS
+    → IsDumped dump inputs outputs (multiplexers dump inputs outputs)
+
+-- The names of each network of a text are such names, for the dump of each listing of its outputs' functions under an order of its inputs.
+abbrev pub NetworksHaveNames : Type 0
+NetworksHaveNames = (text : List ℕ) (net : Net) (order : List ℕ) (listing : Listing) → IsBlifText text net → length order ≡ length net.inputs
+    → IsListing order (map (λ output. signal_value net output.signal) net.outputs) listing
+    → AreNames (dump_of listing) net.inputs (map (λ output. output.name) net.outputs)

@@ -19,13 +19,13 @@ use Rattle.blif_wholes.proofs.Alone.{Alone}
 use Rattle.blif_wholes.specs.Defined.{Once}
 use Rattle.blif_net.proofs.OneNet.{output_named}
 use Rattle.blif_wholes.proofs.Words.{among_front}
-use Rattle.blif_dump.specs.Dumped.{AreNames, IsDumped, IsNetOfDump}
+use Rattle.blif_net.specs.Dumped.{AreNames, IsDumped, IsNetOfDump}
 use Rattle.blif_dump.specs.Multiplexers.{multiplexers, name_at}
 use Rattle.blif_dump.specs.Names.{naming_of}
-use Rattle.blif_dump.proofs.DumpValues.{output_gives}
-use Rattle.blif_dump.proofs.KnownSignals.{own_true, word_of}
-use Rattle.blif_dump.proofs.MultiplexedLines.{circuit_for, text-circuit}
-use Rattle.blif_dump.proofs.MultiplexedSignals.{can_be_written}
+use Rattle.blif_net.proofs.DumpValues.{output_gives}
+use Rattle.blif_net.proofs.KnownSignals.{own_true, word_of}
+use Rattle.blif_net.proofs.MultiplexedLines.{circuit_for, text-circuit}
+use Rattle.blif_net.proofs.MultiplexedSignals.{can_be_written}
 use Rattle.blif_net.proofs.WrittenCircuits.{AreNextCovers, IsWritable as IsWritableCircuit, as_placed, placed}
 use Rattle.blif_net.proofs.WrittenNets.{next_placed, text_reads}
 

@@ -14,14 +14,14 @@ use Rattle.blif_models.specs.Circuits.{Cover, defined_in}
 use Rattle.cover_nets.specs.declared.net.Net.{Net}
 use Rattle.blif_wholes.specs.Networks.{IsNetOf}
 use Rattle.blif_wholes.proofs.Alone.{Alone, among_got, get_front}
-use Rattle.blif_dump.specs.Dumped.{AreNames}
+use Rattle.blif_net.specs.Dumped.{AreNames}
 use Rattle.blif_dump.specs.Multiplexers.{is_due, literal_for, name_at}
 use Rattle.blif_dump.specs.Names.{naming_of, place_in, prefix_for}
-use Rattle.blif_dump.proofs.KnownSignals.{node_of, word_of}
-use Rattle.blif_dump.proofs.MultiplexedLines.{circuit_for, constant_cover, cover_at, cover_if, node_cover, node_covers, output_cover, output_covers, row_of}
-use Rattle.blif_dump.proofs.MultiplexedSignals.{due_there, name_there}
-use Rattle.blif_dump.proofs.NamesApart.{stands, stands_at}
-use Rattle.blif_dump.proofs.NetValues.{AllGive, Gives, cover_gives, input_gives, value_by}
+use Rattle.blif_net.proofs.KnownSignals.{node_of, word_of}
+use Rattle.blif_net.proofs.MultiplexedLines.{circuit_for, constant_cover, cover_at, cover_if, node_cover, node_covers, output_cover, output_covers, row_of}
+use Rattle.blif_net.proofs.MultiplexedSignals.{due_there, name_there}
+use Rattle.blif_net.proofs.NamesApart.{stands, stands_at}
+use Rattle.blif_net.proofs.NetValues.{AllGive, Gives, cover_gives, input_gives, value_by}
 use Rattle.blif_dump.proofs.Variables.{variable_within}
 use Rattle.blif_net.proofs.WrittenCircuits.{as_placed, placed}
 
@@ -105,7 +105,7 @@ output_at inputs outputs place (first ∷ roots) p (suc i) name root none at e h
     (length here + found.0, get_back here (output_covers (naming_of inputs outputs) outputs (place + 1) roots) found.0 (output_cover (prefix_for (inputs ++ outputs)) (word_of inputs outputs name) root) found.1)
 
 -- the roots, by place
-root_at : (roots : List ℤ) (after i : ℕ) (root : ℤ) → AreLines roots after → slice_get roots i ≡ Some root → (1 ≤ nat_abs root) × (nat_abs root < after)
+pub root_at : (roots : List ℤ) (after i : ℕ) (root : ℤ) → AreLines roots after → slice_get roots i ≡ Some root → (1 ≤ nat_abs root) × (nat_abs root < after)
 root_at [] after i root h e = cc
 root_at (first ∷ roots) after zero root h e =
     let same : first ≡ root = same_Some first root e in

@@ -6,7 +6,7 @@ use Rattle.edge_bits.specs.declared.edges.Line.{Line}
 use Rattle.diagram_dumps.specs.declared.dump.Dump.{Dump}
 use Rattle.blif_models.specs.Circuits.{Circuit, Cover, Row}
 use Rattle.job_words.specs.Text.{Word}
-use Rattle.blif_net.specs.Lines.{text_of}
+use Rattle.blif_dump.specs.Lines.{text_of}
 use Rattle.blif_dump.specs.Multiplexers.{end_lines, head_lines, is_due, lines_at, lines_of, literal_for, multiplexers, name_at, node_lines, output_lines, outputs_lines}
 use Rattle.blif_dump.specs.Names.{Naming, called, naming_of, node_name}
 use Rattle.blif_net.proofs.WrittenCircuits.{circuit_lines, cover_lines}

@@ -13,7 +13,7 @@ use Rattle.std.proofs.lemmas.Option.{same_Some, slice_get_within}
 use Rattle.std.proofs.lemmas.Slice.Eq.{bytes_eq-Decides}
 use Rattle.job_words.specs.Classes.{has_bytes}
 use Rattle.job_words.specs.Text.{Word, is_among}
-use Rattle.blif_dump.specs.Dumped.{is_name, is_name_byte}
+use Rattle.blif_net.specs.Dumped.{is_name, is_name_byte}
 use Rattle.blif_dump.specs.Names.{by_place, called, is_odd, mark_count, naming_of, node_name, place_in, prefix_for}
 use Rattle.blif_dump.proofs.Prefixes.{begins_none, not_behind}
 use Rattle.blif_net.proofs.Written.{is_plain, is_plain_word, no_end, plain_from}
