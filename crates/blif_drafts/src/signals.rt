@@ -45,7 +45,7 @@ pub fn define(
     ensures stop { IfErr result (DefineStop names.old marks.old.items (word.now ∷ [])) }
     ensures added { OnOk result (AddsOnly names.old (word.now ∷ []) names.new) }
 {
-    let number = names.number_of(alloc, word)?;
+    let number = names.number_of_new(alloc, word)?;
     if is_marked(marks, number) {
         return Err(LineStop::Refused(Refusal::Twice));
     }

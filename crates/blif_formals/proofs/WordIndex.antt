@@ -3,10 +3,12 @@ use Rattle.std.proofs.Common.{◌≡◌, ℕ, zero, suc, ◌+◌, ◌<◌, ◌�
 use Rattle.std.specs.Prelude.{position, slice_get}
 use Rattle.std.specs.Global.{Vec}
 use Rattle.std.specs.List.{list_any, position_or_len}
+use Rattle.std.specs.Option.{option_map}
 use Rattle.std.specs.Str.{bytes_eq}
 use Rattle.std.proofs.lemmas.Bool.{false≢true}
 use Rattle.std.proofs.lemmas.Bool.Decides.{nat_tests}
-use Rattle.std.proofs.lemmas.List.{map-append}
+use Rattle.std.proofs.lemmas.List.{length-map, map-append}
+use Rattle.std.proofs.lemmas.Option.{slice_get-map}
 use Rattle.std.proofs.lemmas.Slice.Eq.{bytes_eq-Decides}
 use Rattle.job_words.specs.Text.{Word, is_among}
 use Rattle.blif_formals.specs.Words.{HaveOneNumber, NumbersStay, with_word, words_of}
@@ -145,3 +147,23 @@ there_already words i word e = by_cases (is_among words word) refl
     by_cases : (t : Bool) → is_among words word ≡ t → words ≡ (if t then words else words ++ word ∷ [])
     by_cases true f = refl
     by_cases false f = absurd (not_among words word i f e)
+
+-- the word that came last
+pub last_word : (keys front : List (Vec ℕ)) (last : Vec ℕ) (w : Word) → keys ≡ front ++ last ∷ [] → last.items ≡ w → slice_get (words_of keys) (length front) ≡ Some w
+last_word keys front last w e f =
+    ap (λ ks. slice_get (words_of ks) (length front)) e ∙ ap (λ ws. slice_get ws (length front)) (map-append (λ (k : Vec ℕ). k.items) front (last ∷ []))
+    ∙ ap (slice_get (words_of front ++ last.items ∷ [])) (sym (length-map front (λ (k : Vec ℕ). k.items)))
+    ∙ last_place (words_of front) last.items
+    ∙ ap Some f
+
+-- a word that may be there
+pub with_one : (keys keys' : List (Vec ℕ)) (key : Vec ℕ) (w : Word) → key.items ≡ w → keys' ≡ cond (list_any (is_word key.items) keys) keys (keys ++ key ∷ []) → words_of keys' ≡ with_word (words_of keys) w
+with_one keys keys' key w e f = ap words_of f ∙ by_cases (list_any (is_word key.items) keys) (any_word key.items keys ∙ ap (is_among (words_of keys)) e)
+  where
+    by_cases : (t : Bool) → t ≡ is_among (words_of keys) w → words_of (cond t keys (keys ++ key ∷ [])) ≡ with_word (words_of keys) w
+    by_cases true g = ap (λ b. cond b (words_of keys) (words_of keys ++ w ∷ [])) g
+    by_cases false g = map-append (λ (k : Vec ℕ). k.items) keys (key ∷ []) ∙ ap (λ v. words_of keys ++ v ∷ []) e ∙ ap (λ b. cond b (words_of keys) (words_of keys ++ w ∷ [])) g
+
+pub stored_word : (keys : List (Vec ℕ)) (i : ℕ) (key k : Vec ℕ) (w : Word) → key.items ≡ w → slice_get keys i ≡ Some k → is_word key.items k ≡ true → slice_get (words_of keys) i ≡ Some w
+stored_word keys i key k w e at same =
+    slice_get-map (λ (v : Vec ℕ). v.items) keys i ∙ ap (option_map (λ (v : Vec ℕ). v.items)) at ∙ ap Some (sym ((bytes_eq-Decides key.items k.items).0 same) ∙ e)

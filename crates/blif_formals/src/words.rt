@@ -1,6 +1,6 @@
 //! Words by number.
 
-ghost use Rattle.std.specs.Prelude.{◌≡◌, ◌∷◌, ◌++◌, [], ◌<◌, ◌^◌, length, slice_get, IfOk, MatchOption, OnOk, Some, false};
+ghost use Rattle.std.specs.Prelude.{◌≡◌, ◌∷◌, ◌++◌, [], ◌<◌, ◌^◌, length, slice_get, IfOk, IfSome, MatchOption, OnOk, Some, false};
 ghost use Rattle.job_words.specs.Text.{is_among};
 ghost use Rattle.blif_formals.specs.Words.{with_word};
 
@@ -48,10 +48,25 @@ impl Words {
         self.index.len()
     }
 
-    /// The number of a word, if it came.
+    /// The number of the word that came last, if it is this one.
+    fn last_number(&self, word: &[u8]) -> Option<u32>
+        ensures { IfSome result (λ number. slice_get self.now number ≡ Some word.now) }
+    {
+        let (last, before) = self.index.as_slice().split_last()?;
+        if last.as_slice() == word {
+            Some(before.len() as u32)
+        } else {
+            None
+        }
+    }
+
+    /// The number of a word, if it came. A model often uses the name that it defined last, which takes no look-up.
     pub fn find(&self, word: &[u8]) -> Option<u32>
         ensures { MatchOption result (is_among self.now word.now ≡ false) (λ number. slice_get self.now number ≡ Some word.now) }
     {
+        if let Some(number) = self.last_number(word) {
+            return Some(number);
+        }
         match self.index.get_index_of(word) {
             Some(place) => Some(place as u32),
             None => None,
@@ -90,5 +105,18 @@ impl Words {
         let number = self.len() as u32;
         self.add(alloc, word)?;
         Ok(number)
+    }
+
+    /// The number of a word as `number_of` gives it, at less cost where the word is likely to be new.
+    pub fn number_of_new(&mut self, alloc: Global, word: &[u8]) -> Result<u32, AllocError>
+        ensures words { OnOk result (self.new ≡ with_word self.old word.now) }
+        ensures number { IfOk result (λ number. slice_get self.new number ≡ Some word.now) }
+    {
+        if self.index.len() >= MOST_WORDS {
+            return self.number_of(alloc, word);
+        }
+        let key = Vec::from_slice(alloc, word)?;
+        let (place, _added) = self.index.insert_full(key)?;
+        Ok(place as u32)
     }
 }

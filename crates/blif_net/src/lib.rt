@@ -8,6 +8,7 @@ mod faults;
 mod laws;
 mod reader;
 mod reading;
+mod sharing;
 
 pub use adders::gen_text;
 pub use cover_nets::{Cover, Cube, Literal, Net, Output};

@@ -60,13 +60,14 @@ fn read_kept(alloc: Global, keys: RandomState, text: &[u8], kept: &[u8]) -> Resu
     ensures fault { IfErr result (λ error. HasFault text.now error) }
 {
     let mut reading = Reading::new(alloc, keys);
+    let mut words = Vec::new(alloc);
     let mut rest = text;
     let mut kept = kept;
     let mut number = 1u64;
     let mut last = 0u64;
     while !rest.is_empty() {
         let next = next_line(rest, kept, number);
-        match reading.take(alloc, keys, next.bytes, number) {
+        match reading.take(alloc, keys, &mut words, next.bytes, number) {
             Ok(()) => {}
             Err(stop) => return Err(stopped_at(number, stop)),
         }

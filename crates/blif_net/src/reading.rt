@@ -9,10 +9,10 @@ ghost use Rattle.blif_text.specs.Text.{line_at};
 
 use crate::covers::OpenCover;
 use crate::faults::{BlifStop, FaultKind};
+use crate::sharing::shared_rows;
 use blif_drafts::{OpenModels, latch_in};
-use blif_text::{Statement, statement_of, words};
+use blif_text::{Statement, put_words, statement_of};
 use blif_wholes::CoverRows;
-use cover_nets::Rows;
 use edge_bits::List;
 use job_words::{ByteClass, all_in};
 use std::alloc::{AllocError, Global};
@@ -70,51 +70,13 @@ impl<'a> Reading<'a> {
     {
         self.begun = true;
         if let Some(OpenCover { rows, on, .. }) = self.cover.take() {
-            let rows = Rows::new(alloc, rows)?;
+            let rows = shared_rows(alloc, self.rows.last(), rows)?;
             self.rows.push(Some(CoverRows { rows, on }))?;
         }
         Ok(())
     }
 
-    /// `.model` and these words, where no line had words: it begins the main model.
-    fn main_line(
-        &mut self,
-        alloc: Global,
-        keys: RandomState,
-        line: u64,
-        words: &[&'a [u8]],
-    ) -> Result<(), AllocError>
-        requires { self.old.begun ≡ false }
-        ensures { OnOk result (TakesStatement self.old line (model (map (λ word. word.now) words.now)) self.new) }
-    {
-        self.close(alloc)?;
-        self.models.begin_main(alloc, keys, line, words)?;
-        self.rows.clear();
-        self.outputs.clear();
-        self.ended = false;
-        Ok(())
-    }
-
-    /// `.model` and these words behind other lines: a further model begins.
-    fn further_line(
-        &mut self,
-        alloc: Global,
-        keys: RandomState,
-        line: u64,
-        words: &[&'a [u8]],
-    ) -> Result<(), AllocError>
-        requires { self.old.begun ≡ true }
-        ensures { OnOk result (TakesStatement self.old line (model (map (λ word. word.now) words.now)) self.new) }
-    {
-        self.close(alloc)?;
-        self.models.begin_further(alloc, keys, line, words)?;
-        let rows = replace(&mut self.rows, Vec::new(alloc));
-        self.closed.push(rows)?;
-        self.ended = false;
-        Ok(())
-    }
-
-    /// `.model` and these words.
+    /// `.model` and these words: it begins the main model where no line had words, and else a further one.
     fn model_line(
         &mut self,
         alloc: Global,
@@ -124,11 +86,19 @@ impl<'a> Reading<'a> {
     ) -> Result<(), AllocError>
         ensures { OnOk result (TakesStatement self.old line (model (map (λ word. word.now) words.now)) self.new) }
     {
-        if self.begun {
-            self.further_line(alloc, keys, line, words)
+        let is_further = self.begun;
+        self.close(alloc)?;
+        if is_further {
+            self.models.begin_further(alloc, keys, line, words)?;
+            let rows = replace(&mut self.rows, Vec::new(alloc));
+            self.closed.push(rows)?;
         } else {
-            self.main_line(alloc, keys, line, words)
+            self.models.begin_main(alloc, keys, line, words)?;
+            self.rows.clear();
+            self.outputs.clear();
         }
+        self.ended = false;
+        Ok(())
     }
 
     /// `.inputs` and these names.
@@ -253,11 +223,13 @@ impl<'a> Reading<'a> {
         }
     }
 
-    /// Takes a joined line of this number, which is higher than those before it. Behind an error what was read is no models'.
+    /// Takes a joined line of this number, which is higher than those before it, with its words in this list, in the place of what it
+    /// holds. Behind an error what was read is no models'.
     pub fn take(
         &mut self,
         alloc: Global,
         keys: RandomState,
+        words: &mut Vec<&'a [u8]>,
         bytes: &'a [u8],
         line: u64,
     ) -> Result<(), BlifStop>
@@ -267,8 +239,8 @@ impl<'a> Reading<'a> {
         if !all_in(bytes, ByteClass::Extended) {
             return Err(BlifStop::Fault(FaultKind::Word));
         }
-        let words = words(alloc, bytes)?;
-        let statement = statement_of(&words);
+        put_words(words, bytes)?;
+        let statement = statement_of(words);
         if self.ended && !may_follow_end(statement) {
             return Err(BlifStop::Fault(FaultKind::Word));
         }

@@ -7,7 +7,7 @@ mod statements;
 mod text;
 
 pub use statements::{Statement, statement_of};
-pub use text::{Next, kept_bytes, next_line, words};
+pub use text::{Next, kept_bytes, next_line, put_words};
 
 /// No word of a text has a `#`, which begins a comment.
 pub fn words_are_plain()

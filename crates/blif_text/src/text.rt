@@ -1,6 +1,6 @@
 //! Lines and words.
 
-ghost use Rattle.std.specs.Prelude.{◌≡◌, [], ◌∷◌, ◌<◌, ◌≤◌, ◌+◌, ◌^◌, ◌==◌, nat_eq, All, drop, length, map, take, IfOk};
+ghost use Rattle.std.specs.Prelude.{◌≡◌, [], ◌∷◌, ◌<◌, ◌≤◌, ◌+◌, ◌^◌, ◌==◌, nat_eq, All, drop, length, map, take, IfOk, OnOk};
 ghost use Rattle.std.specs.List.{ends_with, list_any};
 ghost use Rattle.blif_text.specs.Text.{goes_on, joined_from, kept_bytes, kept_piece, left_of, line_at, lines_of, without_last, without_return, words_of};
 
@@ -52,7 +52,7 @@ fn has_comment(line: &[u8]) -> bool
 fn goes_on(line: &[u8]) -> bool
     ensures value { result ≡ goes_on line.now }
 {
-    !has_comment(line) && ends_in(line, b'\\')
+    ends_in(line, b'\\') && !has_comment(line)
 }
 
 /// What is left of a physical line without its comment, and without the `\` by which it goes on.
@@ -66,12 +66,12 @@ fn left_of(line: &[u8]) -> &[u8]
     }
 }
 
-/// The words of a line. None of them is empty.
-pub fn words<'a>(alloc: Global, line: &'a [u8]) -> Result<Vec<&'a [u8]>, AllocError>
-    ensures words { IfOk result (λ words. map (λ word. word.now) words.items ≡ words_of line.now) }
-    ensures some { IfOk result (λ words. All (λ word. 0 < length word.now) words.items) }
+/// Puts the words of a line into a list, in the place of what it holds. None of them is empty.
+pub fn put_words<'a>(words: &mut Vec<&'a [u8]>, line: &'a [u8]) -> Result<(), AllocError>
+    ensures words { OnOk result (map (λ word. word.now) words.new.items ≡ words_of line.now) }
+    ensures some { OnOk result (All (λ word. 0 < length word.now) words.new.items) }
 {
-    let mut words = Vec::new(alloc);
+    words.clear();
     let mut rest = line;
     while !rest.is_empty() {
         let (piece, after) = cut_piece(rest, ByteClass::Blank);
@@ -80,7 +80,7 @@ pub fn words<'a>(alloc: Global, line: &'a [u8]) -> Result<Vec<&'a [u8]>, AllocEr
         }
         rest = after;
     }
-    Ok(words)
+    Ok(())
 }
 
 /// The bytes before a place, and those from there on.

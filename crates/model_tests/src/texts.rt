@@ -1,6 +1,6 @@
 //! The lines of a text, some of which are put together from several physical ones.
 
-use blif_text::{Statement, kept_bytes, next_line, statement_of, words};
+use blif_text::{Statement, kept_bytes, next_line, put_words, statement_of};
 use std::process::Abort;
 use std::test::Fail;
 
@@ -21,7 +21,8 @@ fn lines_go_on(rt: HostRuntime) -> Result<(), Fail> {
     let kept = kept_bytes(rt.alloc(), text)?;
     assert!(rt; kept.as_slice() == b".inputs a b c".as_slice());
     let first = next_line(text, &kept, 1);
-    let line = words(rt.alloc(), first.bytes)?;
+    let mut line = Vec::new(rt.alloc());
+    put_words(&mut line, first.bytes)?;
     let Statement::Inputs(names) = statement_of(&line) else {
         panic!(&rt; "no inputs");
     };
@@ -39,7 +40,8 @@ fn comments_are_taken_off(rt: HostRuntime) -> Result<(), Fail> {
     let kept = kept_bytes(rt.alloc(), text)?;
     assert!(rt; kept.is_empty());
     let first = next_line(text, &kept, 7);
-    let line = words(rt.alloc(), first.bytes)?;
+    let mut line = Vec::new(rt.alloc());
+    put_words(&mut line, first.bytes)?;
     let Statement::Latch(names) = statement_of(&line) else {
         panic!(&rt; "no latch");
     };

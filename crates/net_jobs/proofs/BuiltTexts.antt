@@ -34,6 +34,7 @@ use Rattle.net_builds.specs.Standings.{Standing, values_of}
 use Rattle.net_builds.proofs.BackLemmas.{err_weaker, ok_weaker}
 use Rattle.net_builds.proofs.Built.{as_many_handed}
 use Rattle.net_reports.specs.Reports.{IsStored, Subject, output_functions, output_names}
+use Rattle.net_reports.proofs.SameClasses.{same_length}
 use Rattle.net_jobs.specs.declared.networks.TheConstants.{OUTPUTS_CELL}
 use Rattle.net_jobs.specs.declared.stops.PartStop.{PartStop}
 use Rattle.net_jobs.specs.declared.stops.PartStop.TheVariants as stops
@@ -47,13 +48,6 @@ use Rattle.net_jobs.proofs.BuiltHistories.{AreAgain, are_all, built_again, fille
 wide_as : (net : Net) (subject : Subject) (found : Findings) → subject.n ≡ length net.inputs → IsFound Report subject found → length subject.order ≡ length net.inputs
 wide_as net subject found all is = length_permutation (range_with_len 0 subject.n) subject.order is.told.orders ∙ length-range_with_len 0 subject.n ∙ all
 
--- functions that are the same one for one are as many
-as_many_same : (n : ℕ) (fs gs : List (ℕ → Bool)) → AreSame n fs gs → length fs ≡ length gs
-as_many_same n [] [] same = refl
-as_many_same n [] (g ∷ gs) same = absurd same
-as_many_same n (f ∷ fs) [] same = absurd same
-as_many_same n (f ∷ fs) (g ∷ gs) same = ap suc (as_many_same n fs gs same.1)
-
 -- what was found of a network's outputs may be written behind the report
 module _ (net : Net) (patterns : List (List Bool)) (cell : ℕ) (old new : List Standing) (found : Findings) (built : Builds (FindsOf net patterns Report) cell (output_functions net) old new found) where
   as_many_outputs : length net.outputs ≡ length found.listing.roots
@@ -65,7 +59,7 @@ module _ (net : Net) (patterns : List (List Bool)) (cell : ℕ) (old new : List 
       let functions = length-map built.functions (values_of built.first.vars) in
       let stand = ap length built.stand in
       let roots = length-map found.listing.roots (root_value (dump_of found.listing)) in
-      let same = as_many_same (length built.note.order) (map (root_value (dump_of found.listing)) found.listing.roots) built.functions built.tells.listed.roots in
+      let same = same_length (length built.note.order) (map (root_value (dump_of found.listing)) found.listing.roots) built.functions built.tells.listed.roots in
       omega (arith, wanted, handed, names, stood, functions, stand, roots, same)
 
   pub may_follow : MayFollow net (dump_of found.listing)

@@ -6,7 +6,8 @@ use Rattle.diagram_dumps.specs.Agreement.{AreSame, IsSame}
 use Rattle.net_reports.specs.Classes.{Agree, AreClasses, Function, IsClass}
 use Rattle.net_reports.specs.declared.classes.Class.{Class}
 
-same_length : (n : ℕ) (fs gs : List Function) → AreSame n fs gs → length fs ≡ length gs
+-- functions that are the same one for one are as many
+pub same_length : (n : ℕ) (fs gs : List Function) → AreSame n fs gs → length fs ≡ length gs
 same_length n [] [] same = refl
 same_length n [] (g ∷ gs) same = absurd same
 same_length n (f ∷ fs) [] same = absurd same

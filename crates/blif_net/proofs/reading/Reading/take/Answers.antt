@@ -14,13 +14,13 @@ returns-then-not-all_in-clause-stop c = unclean_line c.args.self.now (line_at c.
 pub returns-then-not-may_follow_end-clause-stop : goal.returns-then-not-may_follow_end-clause-stop
 returns-then-not-may_follow_end-clause-stop c =
     let line = line_at c.args.line c.args.bytes.now in
-    let same : statement_in c.statement_of-statement.result ≡ said line = c.statement_of-statement.ensures ∙ ap statement_of (ap (map (λ w. w.now)) c.deref.ensures.value ∙ c.in_ok-words.ensures.words) in
+    let same : statement_in c.statement_of-statement.result ≡ said line = c.statement_of-statement.ensures ∙ ap statement_of (ap (map (λ w. w.now)) c.deref.ensures.value ∙ c.in_ok-put_words.ensures.words) in
     behind_end c.args.self.now line (sym c.all_in.ensures ∙ c.if-not-all_in.false) c.if-self.true (ap follows_end (sym same) ∙ sym c.may_follow_end.ensures ∙ c.if-not-may_follow_end.true)
 
 pub returns-clause-ok : goal.returns-clause-ok
 returns-clause-ok c =
     let line = line_at c.args.line c.args.bytes.now in
-    let same : statement_in c.statement_of-statement.result ≡ said line = c.statement_of-statement.ensures ∙ ap statement_of (ap (map (λ w. w.now)) c.deref.ensures.value ∙ c.in_ok-words.ensures.words) in
+    let same : statement_in c.statement_of-statement.result ≡ said line = c.statement_of-statement.ensures ∙ ap statement_of (ap (map (λ w. w.now)) c.deref.ensures.value ∙ c.in_ok-put_words.ensures.words) in
     let may : (c.args.self.now.ended ≡ false) ⊎ (follows_end (statement_in c.statement_of-statement.result) ≡ true) =
     elim c.else-self.branch [
       | else-self-via-then-self+else-not-may_follow_end w ↦ inr (sym w.may_follow_end.ensures ∙ w.if-not-may_follow_end.false)
@@ -31,7 +31,7 @@ returns-clause-ok c =
 pub returns-clause-stop : goal.returns-clause-stop
 returns-clause-stop c =
     let line = line_at c.args.line c.args.bytes.now in
-    let same : statement_in c.statement_of-statement.result ≡ said line = c.statement_of-statement.ensures ∙ ap statement_of (ap (map (λ w. w.now)) c.deref.ensures.value ∙ c.in_ok-words.ensures.words) in
+    let same : statement_in c.statement_of-statement.result ≡ said line = c.statement_of-statement.ensures ∙ ap statement_of (ap (map (λ w. w.now)) c.deref.ensures.value ∙ c.in_ok-put_words.ensures.words) in
     let may : (c.args.self.now.ended ≡ false) ⊎ (follows_end (statement_in c.statement_of-statement.result) ≡ true) =
     elim c.else-self.branch [
       | else-self-via-then-self+else-not-may_follow_end w ↦ inr (sym w.may_follow_end.ensures ∙ w.if-not-may_follow_end.false)

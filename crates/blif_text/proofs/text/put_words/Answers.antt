@@ -1,7 +1,7 @@
 use Rattle.std.proofs.Common.{ap, sym, ◌∙◌, ◌++◌, append-nil, map, arith}
 use Rattle.std.proofs.lemmas.Grind.{common_steps}
 use Rattle.blif_text.proofs.Split.{is_nothing, no_words}
-use Rattle.blif_text.proofs.text.words.Goals as goal
+use Rattle.blif_text.proofs.text.put_words.Goals as goal
 
 pub returns-clause-words : goal.returns-clause-words
 returns-clause-words c =

@@ -1,7 +1,7 @@
 use Rattle.std.proofs.Common.{◌≡◌, ◌<◌, ◌++◌, length, map}
 use Rattle.std.specs.List.{All}
 use Rattle.blif_text.specs.Text.{words_of}
-use Rattle.blif_text.proofs.text.words.Given as goal
+use Rattle.blif_text.proofs.text.put_words.Given as goal
 
 abbrev pub invariant-loop-rest : goal.invariant-loop-rest
 invariant-loop-rest l = record {
