@@ -2,6 +2,8 @@
 #![tactic(auto)]
 
 #[cfg(test)]
+mod covers;
+#[cfg(test)]
 mod diagrams;
 #[cfg(test)]
 mod families;

@@ -117,7 +117,7 @@ module _ (p : Plain) (ws cs marks pins : List ℕ) (on : Bool) (d : Option Refus
       missing = missing;
       remembered = λ i entry h. (
           let e = entries i entry h in
-          MemoHolds-carried (record { vars = refl; elements = refl; content = λ s f stays is. content_same s stays ∙ is }) entry.key entry.edge e.1 e.2 e.3 e.4 (st.remembered i entry e.0));
+          MemoHolds-carried (record { vars = refl; elements = refl; level = refl; content = λ s f stays is. content_same s stays ∙ is }) entry.key entry.edge e.1 e.2 e.3 e.4 (st.remembered i entry e.0));
     }
 
 -- a store with other count words and flags

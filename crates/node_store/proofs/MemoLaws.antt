@@ -1,16 +1,18 @@
 -- What a computed table holds stays right as long as the slots that its key and its answer name denote what they did.
-use Rattle.std.proofs.Common.{◌≡◌, ℕ, Bool, true, false, Some, List, [], ◌∷◌, sym, subst, ◌==◌}
+use Rattle.std.proofs.Common.{◌≡◌, ℕ, Bool, true, false, Some, List, [], ◌∷◌, ap, sym, subst, ◌∙◌, ◌==◌}
 use Rattle.std.specs.Prelude.{◌^◌, nat_lt}
 use Rattle.edge_bits.specs.declared.edges.Edge.{Edge}
 use Rattle.computed_cache.specs.declared.Key.{Key}
 use Rattle.edge_bits.specs.declared.edges.Kind.{Kind}
 use Rattle.edge_bits.specs.declared.edges.Kind.TheVariants.{Bdd, Add, Zdd}
 use Rattle.function_laws.specs.Families.{product, quotient}
+use Rattle.function_laws.specs.IrredundantCovers.{cover_value}
 use Rattle.function_laws.specs.Kinds.{Denoted, ValueOf}
+use Rattle.function_laws.specs.MorrealeCalls.{interval, morreale}
 use Rattle.node_store.specs.Views.{View, Denotes, Grown, Is, IsBeyond, IsFunction, IsVariable, Permanent, values_at}
 use Rattle.node_store.specs.KindLaws.{flipped-function}
 use Rattle.node_store.specs.ViewLaws.{Denotes-truth, Is-from, values_at-is}
-use Rattle.node_store.specs.Memo.{either, PlaceHolds, IteHolds, CofactorHolds, ImplicationHolds, ExistsHolds, AndExistsHolds, SupportHolds, ComposeHolds, RestrictHolds, FromTruthHolds, PatternHolds, SumHolds, ProductHolds, QuotientHolds, NumberHolds, FamilyHolds, MemoHolds, Shape, placewise, choice, cofactors, implies, quantifies, conjoins, supports, composes, restricts, converts, tests, sums, multiplies, divides, Holds, CaseOf, truth_cases, number_cases, family_cases}
+use Rattle.node_store.specs.Memo.{either, PlaceHolds, IteHolds, CofactorHolds, ImplicationHolds, ExistsHolds, AndExistsHolds, SupportHolds, ComposeHolds, RestrictHolds, FromTruthHolds, PatternHolds, SumHolds, ProductHolds, QuotientHolds, CoverHolds, BetweenHolds, IsopHolds, by_level, cover_between, NumberHolds, FamilyHolds, MemoHolds, Shape, placewise, choice, cofactors, implies, quantifies, conjoins, supports, composes, restricts, lies_between, converts, tests, sums, multiplies, divides, covers, finds_cover, Holds, CaseOf, truth_cases, number_cases, family_cases}
 
 either-map : (b : Bool) (A B C D : Type 0) → (A → C) → (B → D) → either b A B → either b C D
 either-map true A B C D f g h = f h
@@ -22,14 +24,15 @@ case-map P Q each [] op A B other h = other h
 case-map P Q each (case ∷ cases) op A B other h =
     either-map (op == case.0) (P case.1) (CaseOf P cases op A) (Q case.1) (CaseOf Q cases op B) (each case.1) (case-map P Q each cases op A B other) h
 
--- as many variables and elements, and these slots denote what they did
+-- as many variables and elements at the levels where they were, and these slots denote what they did
 pub record Carries (a b : View) (These : ℕ → Type 0) : Type 0 where
   pub vars : b.vars ≡ a.vars
   pub elements : b.elements ≡ a.elements
+  pub level : b.level ≡ a.level
   pub content : (s : ℕ) (f : Denoted) → These s → a.content s ≡ Some f → b.content s ≡ Some f
 
 pub Carries-grown : {a b : View} → Grown a b → Carries a b (λ s. Unit {0})
-Carries-grown g = record { vars = g.vars; elements = g.elements; content = λ s f these is. g.content s f is }
+Carries-grown g = record { vars = g.vars; elements = g.elements; level = g.level; content = λ s f these is. g.content s f is }
 
 module _ {a b : View} {These : ℕ → Type 0} (k : Kind) (c : Carries a b These) where
   IsVariable-carried : (v : ℕ) → IsVariable k a v → IsVariable k b v
@@ -165,6 +168,42 @@ module _ {a b : View} {These : ℕ → Type 0} (c : Carries a b These) (key : Ke
     answer = rw (values_at-carried Zdd c pf p.f, values_at-carried Zdd c pg p.g) (subst (λ n. Denotes Zdd b e (quotient (2 ^ n) (values_at Zdd a key.f) (values_at Zdd a key.g))) (sym c.elements) (Denotes-carried Zdd c pe p.answer));
   }
 
+  pub CoverHolds-carried : CoverHolds a key e → CoverHolds b key e
+  CoverHolds-carried p = record {
+    variables = p.variables;
+    last = Denotes-carried Bdd c pg p.last;
+    f = Is-carried Zdd c pf p.f;
+    answer = rw (values_at-carried Zdd c pf p.f) (subst (λ m. Denotes Bdd b e (cover_value p.variables m (values_at Zdd a key.f))) (sym c.elements) (Denotes-carried Bdd c pe p.answer));
+  }
+
+  cover-carried : (lower upper : ℕ → Bool) → cover_between b lower upper ≡ cover_between a lower upper
+  cover-carried lower upper =
+      ap (λ n. morreale n b.elements (by_level n b.level) (interval lower upper)) c.vars
+      ∙ ap (λ m. morreale a.vars m (by_level a.vars b.level) (interval lower upper)) c.elements
+      ∙ ap (λ level. morreale a.vars a.elements (by_level a.vars level) (interval lower upper)) c.level
+
+  between-carried : (lower upper : ℕ → Bool) → cover_value b.vars b.elements (cover_between b lower upper) ≡ cover_value a.vars a.elements (cover_between a lower upper)
+  between-carried lower upper =
+      ap (λ n. cover_value n b.elements (cover_between b lower upper)) c.vars
+      ∙ ap (λ m. cover_value a.vars m (cover_between b lower upper)) c.elements
+      ∙ ap (cover_value a.vars a.elements) (cover-carried lower upper)
+
+  pub BetweenHolds-carried : BetweenHolds a key e → BetweenHolds b key e
+  BetweenHolds-carried p = record {
+    lower = Is-carried Bdd c pf p.lower;
+    upper = Is-carried Bdd c pg p.upper;
+    answer = rw (values_at-carried Bdd c pf p.lower, values_at-carried Bdd c pg p.upper)
+        (subst (Denotes Bdd b e) (sym (between-carried (values_at Bdd a key.f) (values_at Bdd a key.g))) (Denotes-carried Bdd c pe p.answer));
+  }
+
+  pub IsopHolds-carried : IsopHolds a key e → IsopHolds b key e
+  IsopHolds-carried p = record {
+    lower = Is-carried Bdd c pf p.lower;
+    upper = Is-carried Bdd c pg p.upper;
+    answer = rw (values_at-carried Bdd c pf p.lower, values_at-carried Bdd c pg p.upper)
+        (subst (Denotes Zdd b e) (sym (cover-carried (values_at Bdd a key.f) (values_at Bdd a key.g))) (Denotes-carried Zdd c pe p.answer));
+  }
+
   pub holds-carried : (shape : Shape) → Holds shape a key e → Holds shape b key e
   holds-carried (placewise k op) = PlaceHolds-carried k op
   holds-carried (choice k) = IteHolds-carried k
@@ -175,11 +214,14 @@ module _ {a b : View} {These : ℕ → Type 0} (c : Carries a b These) (key : Ke
   holds-carried supports = SupportHolds-carried
   holds-carried composes = ComposeHolds-carried
   holds-carried restricts = RestrictHolds-carried
+  holds-carried lies_between = BetweenHolds-carried
   holds-carried converts = FromTruthHolds-carried
   holds-carried tests = PatternHolds-carried
   holds-carried sums = SumHolds-carried
   holds-carried multiplies = ProductHolds-carried
   holds-carried divides = QuotientHolds-carried
+  holds-carried covers = CoverHolds-carried
+  holds-carried finds_cover = IsopHolds-carried
 
   pub MemoHolds-carried : MemoHolds a key e → MemoHolds b key e
   unfolding NumberHolds FamilyHolds
@@ -209,11 +251,14 @@ module _ (w : View) (first : Permanent w) (key : Key) (e : Edge) where
   holds-edge supports p = (Bdd, p.answer)
   holds-edge composes p = (Bdd, Is-from Bdd p.answer)
   holds-edge restricts p = (Bdd, p.answer)
+  holds-edge lies_between p = (Bdd, Is-from Bdd p.answer)
   holds-edge converts p = (Add, Is-from Add p.answer)
   holds-edge tests p = (Bdd, Is-from Bdd p.answer)
   holds-edge sums p = (Add, Is-from Add p.answer)
   holds-edge multiplies p = (Zdd, Is-from Zdd p.answer)
   holds-edge divides p = (Zdd, Is-from Zdd p.answer)
+  holds-edge covers p = (Bdd, Is-from Bdd p.answer)
+  holds-edge finds_cover p = (Zdd, Is-from Zdd p.answer)
 
   pub MemoHolds-edge : MemoHolds w key e → IsFunction w e
   unfolding NumberHolds FamilyHolds

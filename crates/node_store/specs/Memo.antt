@@ -1,5 +1,6 @@
 -- What a computed table may hold under a key, a case for each operation's number.
-use Rattle.std.specs.Prelude.{◌≡◌, ◌↔◌, ℕ, ◌^◌, Bool, true, false, not, List, [], ◌∷◌, ◌==◌, ◌&&◌, ◌||◌, if◌then◌else◌, pos, ◌+ℤ◌, ◌-ℤ◌, ◌*ℤ◌, int_le, nat_lt}
+use Rattle.std.specs.Prelude.{◌≡◌, ◌↔◌, ℕ, zero, suc, ◌^◌, Bool, true, false, not, List, [], ◌∷◌, ◌==◌, ◌&&◌, ◌||◌, if◌then◌else◌, filter, flat_map, pos, ◌+ℤ◌, ◌-ℤ◌, ◌*ℤ◌, int_le, nat_lt}
+use Rattle.std.specs.List.{range_with_len}
 use Rattle.edge_bits.specs.Permanent.{truth_edge}
 use Rattle.edge_bits.specs.declared.edges.Edge.{Edge}
 use Rattle.computed_cache.specs.declared.Key.{Key}
@@ -7,9 +8,11 @@ use Rattle.edge_bits.specs.declared.edges.Kind.{Kind}
 use Rattle.edge_bits.specs.declared.edges.Kind.TheVariants.{Bdd, Add, Zdd}
 use Rattle.function_laws.specs.Cubes.{IsExists, IsSupport}
 use Rattle.function_laws.specs.Families.{product, quotient}
+use Rattle.function_laws.specs.IrredundantCovers.{cover_value}
+use Rattle.function_laws.specs.MorrealeCalls.{interval, morreale}
 use Rattle.function_laws.specs.Numbers.{from_truth, pattern, sum_over}
 use Rattle.function_laws.specs.Restrictions.{IsRestriction}
-use Rattle.function_laws.specs.Values.{cofactor, composed, conjunction, if_then_else, negation, projection}
+use Rattle.function_laws.specs.Values.{cofactor, composed, conjunction, constant, if_then_else, negation, projection}
 use Rattle.function_laws.specs.Kinds.{ValueOf, place}
 use Rattle.node_store.specs.declared.numbers.TheConstants as numbers
 use Rattle.node_store.specs.Views.{View, Denotes, Is, IsVariable, values_at}
@@ -127,6 +130,38 @@ pub record QuotientHolds (w : View) (key : Key) (e : Edge) : Type 0 where
   pub g : Is Zdd w key.g
   pub answer : Denotes Zdd w e (quotient (2 ^ w.elements) (values_at Zdd w key.f) (values_at Zdd w key.g))
 
+-- the projection of the last of so many variables, which tells how many there are; the constant one where there are none
+abbrev pub last_of : ℕ → ℕ → Bool
+last_of zero = constant true
+last_of (suc v) = projection v
+
+-- a cover, over as many variables as the second operand tells: a store with more variables may keep it
+pub record CoverHolds (w : View) (key : Key) (e : Edge) : Type 0 where
+  pub variables : ℕ
+  pub last : Denotes Bdd w key.g (last_of variables)
+  pub f : Is Zdd w key.f
+  pub answer : Denotes Bdd w e (cover_value variables w.elements (values_at Zdd w key.f))
+
+-- the first n numbers by their levels from the top
+abbrev pub by_level : ℕ → (ℕ → ℕ) → List ℕ
+by_level n level = flat_map (λ l. filter (λ v. level v == l) (range_with_len 0 n)) (range_with_len 0 n)
+
+-- the irredundant cover between two bounds that Morreale's calls find by the store's order
+abbrev pub cover_between : View → (ℕ → Bool) → (ℕ → Bool) → ℕ → Bool
+cover_between w lower upper = morreale w.vars w.elements (by_level w.vars w.level) (interval lower upper)
+
+-- two bounds, and the function of that cover
+pub record BetweenHolds (w : View) (key : Key) (e : Edge) : Type 0 where
+  pub lower : Is Bdd w key.f
+  pub upper : Is Bdd w key.g
+  pub answer : Denotes Bdd w e (cover_value w.vars w.elements (cover_between w (values_at Bdd w key.f) (values_at Bdd w key.g)))
+
+-- two bounds, and the cover
+pub record IsopHolds (w : View) (key : Key) (e : Edge) : Type 0 where
+  pub lower : Is Bdd w key.f
+  pub upper : Is Bdd w key.g
+  pub answer : Denotes Zdd w e (cover_between w (values_at Bdd w key.f) (values_at Bdd w key.g))
+
 -- What an operation's answer says of its operands.
 pub data Shape : Type 0 where
   -- two operands of a kind, place by place; a choice of two operands of a kind
@@ -139,11 +174,14 @@ pub data Shape : Type 0 where
   supports : Shape
   composes : Shape
   restricts : Shape
+  lies_between : Shape
   converts : Shape
   tests : Shape
   sums : Shape
   multiplies : Shape
   divides : Shape
+  covers : Shape
+  finds_cover : Shape
 
 abbrev pub Holds : Shape → View → Key → Edge → Type 0
 Holds (placewise k op) w key e = PlaceHolds k op w key e
@@ -155,11 +193,14 @@ Holds conjoins w key e = AndExistsHolds w key e
 Holds supports w key e = SupportHolds w key e
 Holds composes w key e = ComposeHolds w key e
 Holds restricts w key e = RestrictHolds w key e
+Holds lies_between w key e = BetweenHolds w key e
 Holds converts w key e = FromTruthHolds w key e
 Holds tests w key e = PatternHolds w key e
 Holds sums w key e = SumHolds w key e
 Holds multiplies w key e = ProductHolds w key e
 Holds divides w key e = QuotientHolds w key e
+Holds covers w key e = CoverHolds w key e
+Holds finds_cover w key e = IsopHolds w key e
 
 -- what holds of the shape that stands beside a number, or this, where the number has none
 abbrev pub CaseOf : (Shape → Type 0) → List (ℕ × Shape) → ℕ → Type 0 → Type 0
@@ -170,7 +211,7 @@ CaseOf P (case ∷ cases) op other = either (op == case.0) (P case.1) (CaseOf P 
 abbrev pub truth_cases : List (ℕ × Shape)
 truth_cases =
     (numbers.AND, placewise Bdd (λ a b. a && b)) ∷ (numbers.ITE, choice Bdd) ∷ (numbers.COFACTOR, cofactors) ∷ (numbers.LEQ, implies) ∷ (numbers.EXISTS, quantifies)
-    ∷ (numbers.AND_EXISTS, conjoins) ∷ (numbers.SUPPORT, supports) ∷ (numbers.COMPOSE, composes) ∷ (numbers.RESTRICT, restricts) ∷ []
+    ∷ (numbers.AND_EXISTS, conjoins) ∷ (numbers.SUPPORT, supports) ∷ (numbers.COMPOSE, composes) ∷ (numbers.RESTRICT, restricts) ∷ (numbers.BETWEEN, lies_between) ∷ []
 
 abbrev pub number_cases : List (ℕ × Shape)
 number_cases =
@@ -185,7 +226,8 @@ number_cases =
 abbrev pub family_cases : List (ℕ × Shape)
 family_cases =
     (numbers.UNION, placewise Zdd (λ a b. a || b)) ∷ (numbers.MEET, placewise Zdd (λ a b. a && b)) ∷ (numbers.DIFF, placewise Zdd (λ a b. a && not b))
-    ∷ (numbers.PRODUCT, multiplies) ∷ (numbers.QUOTIENT, divides) ∷ []
+    ∷ (numbers.PRODUCT, multiplies) ∷ (numbers.QUOTIENT, divides) ∷ (numbers.COVER_OF, covers)
+    ∷ (numbers.ISOP, finds_cover) ∷ []
 
 -- of operations on numbers
 unfoldable pub NumberHolds : View → Key → Edge → Type 0

@@ -18,6 +18,8 @@ pub const SUPPORT: u8 = 7;
 pub const COMPOSE: u8 = 8;
 /// A truth function within another.
 pub const RESTRICT: u8 = 9;
+/// The function of an irredundant cover between two bounds.
+pub const BETWEEN: u8 = 10;
 /// The sum of two functions of numbers.
 pub const PLUS: u8 = 20;
 /// Their difference.
@@ -48,3 +50,7 @@ pub const DIFF: u8 = 42;
 pub const PRODUCT: u8 = 43;
 /// What gives, with each combination of the second, one of the first.
 pub const QUOTIENT: u8 = 44;
+/// The function of a cover, by the projection of the last variable.
+pub const COVER_OF: u8 = 45;
+/// An irredundant cover between two bounds.
+pub const ISOP: u8 = 46;

@@ -1,0 +1,4 @@
+pub mod CoverFunctions
+pub mod CoverSteps
+pub mod Rows
+pub mod OutcomeLaws
