@@ -13,7 +13,7 @@ use Rattle.function_laws.proofs.ValueLemmas.{everywhere}
 use Rattle.node_store.specs.Memo.{literal}
 use Rattle.cover_isop.specs.Covers.{narrowed}
 
-same_truth : (a b : Bool) → (a ≡ true → b ≡ true) → (b ≡ true → a ≡ true) → a ≡ b
+pub same_truth : (a b : Bool) → (a ≡ true → b ≡ true) → (b ≡ true → a ≡ true) → a ≡ b
 same_truth true b to back = sym (to refl)
 same_truth false true to back = back refl
 same_truth false false to back = refl

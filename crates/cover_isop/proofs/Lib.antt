@@ -2,3 +2,17 @@ pub mod CoverFunctions
 pub mod CoverSteps
 pub mod Rows
 pub mod OutcomeLaws
+pub mod LevelOrders
+pub mod MorrealeLaws
+pub mod CallSteps
+pub mod DoesLaws
+pub mod CoverJoins
+pub mod IsopSteps
+pub mod EdgeSteps
+pub mod IsopAnswers
+pub mod Rooms
+pub mod FunctionJoins
+pub mod IsopRuns
+pub mod FamilyJoins
+pub mod LiteralRuns
+pub mod IsopCalls

@@ -1,2 +1,5 @@
 pub mod Covers
 pub mod CoverLasts
+pub mod Isops
+pub mod IsopLasts
+pub mod Literals

@@ -1,13 +1,16 @@
 //! The operations on a stack that is handed in, for runs within other operators.
 
-ghost use Rattle.std.specs.Prelude.{◌≡◌, ◌+◌, ◌≤◌};
+ghost use Rattle.std.specs.Prelude.{◌≡◌, ◌+◌, ◌*◌, ◌≤◌};
 ghost use Rattle.edge_bits.specs.declared.edges.Kind.TheVariants.{Bdd, Zdd};
 ghost use Rattle.function_laws.specs.IrredundantCovers.{cover_value};
+ghost use Rattle.node_store.specs.Memo.{cover_between};
 ghost use Rattle.node_store.specs.Operations.{Runs, halts};
-ghost use Rattle.node_store.specs.Views.{Is, Permanent, family_at};
+ghost use Rattle.node_store.specs.Views.{AreTwo, Is, Permanent, bdd_at, family_at};
 ghost use Rattle.cover_isop.specs.Covers.{AreVariables, cover_work};
+ghost use Rattle.cover_isop.specs.Isops.{KeepsRoom, isop_work};
 
 use crate::covering::cover;
+use crate::covers::cover_between;
 use edge_bits::Edge;
 use node_store::operator::without_overflow;
 use node_store::{Grow, Stack, Stop};
@@ -27,4 +30,22 @@ pub fn cover_of<G: Grow>(
     ensures stack { stack.new ≡ stack.old }
 {
     without_overflow(cover(store, stack, family, vars))
+}
+
+/// The cover between two bounds that Morreale's calls find, which is irredundant where the lower bound is below the upper one. It asks for a free frame for each variable and for each element, and uses the table of answers.
+pub fn isop<G: Grow>(
+    store: &mut G,
+    stack: &mut Stack,
+    lower: Edge,
+    upper: Edge,
+) -> Result<Edge, Stop>
+    requires variables { AreVariables (G.view store.old) (G.view store.old).vars }
+    requires literals { 2 * (G.view store.old).vars ≤ (G.view store.old).elements }
+    requires bounds { AreTwo Bdd (G.view store.old) lower upper }
+    requires permanent { Permanent (G.view store.old) }
+    requires room { (G.view store.old).vars + (G.view store.old).elements ≤ stack.old.free }
+    ensures runs { Runs Zdd (cover_between (G.view store.old) (bdd_at (G.view store.old) lower) (bdd_at (G.view store.old) upper)) (isop_work lower upper (G.view store.old)) (G.view store.old) (G.view store.new) (halts result) }
+    ensures scratch { KeepsRoom stack.old stack.new }
+{
+    cover_between(store, stack, lower, upper)
 }

@@ -1,12 +1,14 @@
 //! The operations as they are called, in the scratch that the store lends.
 
-ghost use Rattle.std.specs.Prelude.{◌≡◌, ◌<◌, ◌≤◌, max};
+ghost use Rattle.std.specs.Prelude.{◌≡◌, ◌*◌, ◌<◌, ◌≤◌, IfOk, max};
 ghost use Rattle.edge_bits.specs.declared.edges.Kind.TheVariants.{Bdd, Zdd};
-ghost use Rattle.function_laws.specs.IrredundantCovers.{cover_value};
+ghost use Rattle.function_laws.specs.IrredundantCovers.{IsIrredundant, cover_value};
+ghost use Rattle.node_store.specs.Memo.{Implies, cover_between};
 ghost use Rattle.node_store.specs.Operations.{Serves, halts};
 ghost use Rattle.node_store.specs.Stacks.{levels_in};
-ghost use Rattle.node_store.specs.Views.{Denotes, Is, Permanent, family_at};
+ghost use Rattle.node_store.specs.Views.{AreTwo, Denotes, Is, Kept, Permanent, bdd_at, family_at};
 ghost use Rattle.cover_isop.specs.Covers.{AreVariables, CoverCalls, cover_work};
+ghost use Rattle.cover_isop.specs.Isops.{HasBounds, HasLevels, isop_work};
 
 use crate::nested;
 use edge_bits::{Edge, Kind};
@@ -50,4 +52,54 @@ fn cover_within<G: Grow>(
         return Err(Stop::Memory);
     }
     nested::cover_of(store, stack, family, vars)
+}
+
+/// An irredundant cover between two bounds, the lower one below the upper one, by Morreale's calls (Minato 1993): it is true where the lower bound is and false where the upper one is, and none of its combinations and none of their literals can be left out. What it stores are parts, by the first variables or elements of their order and up to complement, of the functions and families that the calls make.
+pub fn isop<G: Grow>(store: &mut G, lower: Edge, upper: Edge) -> Result<Edge, Stop>
+    requires variables { AreVariables (G.view store.old) (G.view store.old).vars }
+    requires literals { 2 * (G.view store.old).vars ≤ (G.view store.old).elements }
+    requires bounds { AreTwo Bdd (G.view store.old) lower upper }
+    requires ordered { Implies (bdd_at (G.view store.old) lower) (bdd_at (G.view store.old) upper) }
+    ensures serves { CoverCalls (λ e. Denotes Zdd (G.view store.new) e (cover_between (G.view store.old) (bdd_at (G.view store.old) lower) (bdd_at (G.view store.old) upper))) (isop_work lower upper (G.view store.old)) (G.view store.old) (G.view store.new) (halts result) }
+    ensures irredundant { IfOk result (λ e. IsIrredundant (G.view store.old).vars (G.view store.old).elements (bdd_at (G.view store.old) lower) (bdd_at (G.view store.old) upper) (family_at (G.view store.new) e)) }
+{
+    let mut stack = store.take_scratch();
+    tell_levels(store);
+    let levels = store.levels(Kind::Zdd);
+    let outcome = isop_within(store, &mut stack, levels, lower, upper);
+    store.give_scratch(stack);
+    outcome
+}
+
+/// The same on a stack that is made large enough for so many levels. There are at least as many elements as a run for a function within another takes frames.
+fn isop_within<G: Grow>(
+    store: &mut G,
+    stack: &mut Stack,
+    levels: u32,
+    lower: Edge,
+    upper: Edge,
+) -> Result<Edge, Stop>
+    requires bounds { HasBounds (G.view store.old) lower upper }
+    requires permanent { Permanent (G.view store.old) }
+    requires levels { levels ≡ (G.view store.old).elements }
+    ensures serves { Serves (λ e. Denotes Zdd (G.view store.new) e (cover_between (G.view store.old) (bdd_at (G.view store.old) lower) (bdd_at (G.view store.old) upper))) ⊥ (isop_work lower upper (G.view store.old)) (levels_in stack.old < levels) (levels_in stack.old ≤ levels_in stack.new) (G.view store.old) (G.view store.new) (halts result) }
+    ensures frames { stack.new.frames ≡ stack.old.frames }
+{
+    if stack.prepare(levels).is_err() {
+        return Err(Stop::Memory);
+    }
+    nested::isop(store, stack, lower, upper)
+}
+
+/// Tells that each variable has a level of the order, which the nodes of the projections show.
+fn tell_levels<G: Grow>(store: &mut G)
+    requires { AreVariables (G.view store.old) (G.view store.old).vars }
+    ensures kept { Kept (G.view store.old) (G.view store.new) }
+    ensures levels { HasLevels (G.view store.new) }
+{
+    let variables = store.levels(Kind::Bdd);
+    for var in 0..variables {
+        let projection = store.projection(var);
+        let _node = store.open(projection);
+    }
 }
