@@ -49,12 +49,12 @@ use Rattle.dd_session.specs.declared.answers.Placed.{Placed}
 use Rattle.dd_session.specs.declared.answers.Refusal.{Refusal}
 use Rattle.dd_session.specs.declared.answers.Refusal.TheVariants as refusals
 use Rattle.dd_session.specs.declared.book.Book.{Book}
-use Rattle.dd_session.specs.Sessions.{Called, Denies, IsAsBefore, Managed, Seen, fulls_in, known_sizes}
+use Rattle.dd_session.specs.Sessions.{Called, Denies, IsAsBefore, Managed, Seen, fulls_in, known_sizes, reply_unmade}
 use Rattle.node_slots.specs.Stores.{IsStore}
 use Rattle.node_slots.proofs.Settling.{level_same}
 use Rattle.dd_session.specs.Works.{HasRows, IsOfWork, IsOrderedBy, StoresAt, StoresWork}
-use Rattle.dd_session.specs.MadeRows.{Refuses, TellsRow, adding_by}
-use Rattle.add_ops.specs.declared.arithmetic.Overflow.{Overflow}
+use Rattle.dd_session.specs.MadeRows.{Refuses, TellsRow, adding_by, with_why}
+use Rattle.operator_calls.specs.declared.unmade.Unmade.{Unmade}
 use Rattle.std.specs.Prelude.{IsErrOf, IsTrue}
 use Rattle.node_store.specs.declared.grow.Stop.TheVariants as stop
 use Rattle.dd_session.specs.Turns.{Gives, IsAdded, IsCausedBy, IsRefused, IsSeatOf, IsSmall, IsWorkFrom, Notes, Stands, Tied, Told, Took, Tried, managed_by, names_by, seen_by, seen_of}
@@ -75,13 +75,13 @@ pub same_table : {s : Seen} {m : Managed} (g : Guard Shared) (r : Rest Shared) (
 same_table g r p book seen own managed = ap (λ (s : Seen). s.manager.table) seen ∙ ap (λ (m : Managed). m.table) own ∙ sym (ap (λ (m : Managed). m.table) managed)
 
 -- a table that agrees with the one who has the turn agreed before
-agrees_before : (d e : Draws) (x : Shared) → Took d e x → d.holds ≡ false → (t : Table) → Agrees e t → Agrees d t
+pub agrees_before : (d e : Draws) (x : Shared) → Took d e x → d.holds ≡ false → (t : Table) → Agrees e t → Agrees d t
 agrees_before d e x took idle t agrees = by (subst (λ (z : Draws). Agrees z t) took.is agrees)
   where
     by : Agrees (holding d (board x) took.others (orders x) (functions x)) t → Agrees d t
     by a = record { sizes_are = a.sizes_are; live = a.live; fresh = a.fresh; cells = λ h. absurd (true≢false (sym h ∙ idle)) }
 
-session-same : (d e : Draws) (x : Shared) → Took d e x → e.session ≡ d.session
+pub session-same : (d e : Draws) (x : Shared) → Took d e x → e.session ≡ d.session
 session-same d e x took = ap (λ (z : Draws). z.session) took.is
 
 pub gives_held : (d e : Draws) (x : Shared) (call : Call) (o : Outcome) → Took d e x → d.holds ≡ false → Gives d call o → Gives e call o
@@ -207,11 +207,11 @@ denied old held new x table table' spare spare' call full same took told =
 
 -- what makes a row for its caller
 module _ (old held new : Draws) (x : Shared) (table table' : TableId) (spare spare' : ℕ) (call : Call) (same : table' ≡ table) (took : Took old held x) where
-  told_row : (chose : Bool) (place : ℕ) (r : Result Name Overflow) → MatchResult r (λ name. IsAdded held new call (adding_by chose) name place) (λ over. Told held new call replies.Overflow place) → TellsRow chose (seen_by table old spare) (seen_by table' new spare') call r place
+  told_row : (chose : Bool) (place : ℕ) (r : Result Name Unmade) → MatchResult r (λ name. IsAdded held new call (adding_by chose) name place) (λ why. Told held new call (reply_unmade why) place) → TellsRow chose (seen_by table old spare) (seen_by table' new spare') call (with_why (λ why. why) r) place
   told_row false place (Ok name) told = called old held new x table table' spare spare' call (replies.Made name) place same took told
-  told_row false place (Err over) told = called old held new x table table' spare spare' call replies.Overflow place same took told
+  told_row false place (Err why) told = called old held new x table table' spare spare' call (reply_unmade why) place same took told
   told_row true place (Ok name) told = (told.0, called old held new x table table' spare spare' call (replies.Chose name told.0) place same took told.1)
-  told_row true place (Err over) told = called old held new x table table' spare spare' call replies.Overflow place same took told
+  told_row true place (Err why) told = called old held new x table table' spare spare' call (reply_unmade why) place same took told
 
   -- what needs no node is never refused for a full table
   refused : {X : Type 0} (made : Result X Stop) (nodes : Bool) → (IsTrue (is_err made) → IsTrue nodes) → spare ≤ spare' → (refusal : Refusal) → IsCausedBy {X = X} {Y = X} made (Err refusal) → IsRefused held new call refusal
@@ -221,9 +221,9 @@ module _ (old held new : Draws) (x : Shared) (table table' : TableId) (spare spa
   refused made false sure more refusals.Memory cause told = (refl, as_before old held new x table table' spare spare' told.0 same more took told.1)
   refused made false sure more (refusals.Full full) cause told = absurd (true≢false (sym (sure (ap is_err cause))))
 
-  pub told_made : {X : Type 0} (made : Result X Stop) (nodes : Bool) → (IsTrue (is_err made) → IsTrue nodes) → (chose : Bool) (r : Result (Placed (Result Name Overflow)) Refusal) → MatchResult r (λ placed. Unit {0}) (λ refusal. spare ≤ spare') → IsCausedBy made r
-      → MatchResult r (λ placed. MatchResult placed.value (λ name. IsAdded held new call (adding_by chose) name placed.place) (λ over. Told held new call replies.Overflow placed.place)) (IsRefused held new call)
-      → MatchResult r (λ placed. TellsRow chose (seen_by table old spare) (seen_by table' new spare') call placed.value placed.place) (Refuses nodes (seen_by table old spare) (seen_by table' new spare') call)
+  pub told_made : {X : Type 0} (made : Result X Stop) (nodes : Bool) → (IsTrue (is_err made) → IsTrue nodes) → (chose : Bool) (r : Result (Placed (Result Name Unmade)) Refusal) → MatchResult r (λ placed. Unit {0}) (λ refusal. spare ≤ spare') → IsCausedBy made r
+      → MatchResult r (λ placed. MatchResult placed.value (λ name. IsAdded held new call (adding_by chose) name placed.place) (λ why. Told held new call (reply_unmade why) placed.place)) (IsRefused held new call)
+      → MatchResult r (λ placed. TellsRow chose (seen_by table old spare) (seen_by table' new spare') call (with_why (λ why. why) placed.value) placed.place) (Refuses nodes (seen_by table old spare) (seen_by table' new spare') call)
   told_made made nodes sure chose (Ok placed) more cause told = told_row chose placed.place placed.value told
   told_made made nodes sure chose (Err refusals.Memory) more cause told = refused made nodes sure more refusals.Memory cause told
   told_made made nodes sure chose (Err (refusals.Full full)) more cause told = refused made nodes sure more (refusals.Full full) cause told
@@ -254,14 +254,14 @@ module _ {X : Type 0} (old held new : Draws) (x y : Shared) (table table' : Tabl
       stored = λ f c. subst (λ (o : Orders). IsOfWork (seen_by table old spare) o Work f) (noted_orders old held x place took) (stored_work f c);
     }
 
-    stored_row : (call : Call) (chose : Bool) (place : ℕ) (r : Result Name Overflow) → MatchResult r (λ name. IsAdded held new call (adding_by chose) name place) (λ over. Told held new call replies.Overflow place)
+    stored_row : (call : Call) (chose : Bool) (place : ℕ) (r : Result Name Unmade) → MatchResult r (λ name. IsAdded held new call (adding_by chose) name place) (λ why. Told held new call (reply_unmade why) place)
         → StoresAt Work (seen_by table old spare) (seen_by table' new spare') place
     stored_row call true place (Ok name) told = stores_at place told.1
     stored_row call false place (Ok name) told = stores_at place told
-    stored_row call chose place (Err over) told = stores_at place told
+    stored_row call chose place (Err why) told = stores_at place told
 
-    pub stores_work : (call : Call) (chose : Bool) (r : Result (Placed (Result Name Overflow)) Refusal) → IsCausedBy made r
-        → MatchResult r (λ placed. MatchResult placed.value (λ name. IsAdded held new call (adding_by chose) name placed.place) (λ over. Told held new call replies.Overflow placed.place)) (IsRefused held new call)
+    pub stores_work : (call : Call) (chose : Bool) (r : Result (Placed (Result Name Unmade)) Refusal) → IsCausedBy made r
+        → MatchResult r (λ placed. MatchResult placed.value (λ name. IsAdded held new call (adding_by chose) name placed.place) (λ why. Told held new call (reply_unmade why) placed.place)) (IsRefused held new call)
         → StoresWork Work (seen_by table old spare) (seen_by table' new spare') r
     unfolding stores_at
     stores_work call chose (Ok placed) cause told = stored_row call chose placed.place placed.value told
@@ -322,13 +322,13 @@ room_made (Ok u) rows rows' spare is ok = (ap (λ (z : RowMap). z.live) is, ap (
 room_made (Err m) rows rows' spare is ok = absurd (true≢false ok)
 
 -- what a call that makes a row leaves of the room
-pub spare_made : (r : Result (Placed (Result Name Overflow)) Refusal) (old reserved new : ℕ) → reserved ≡ max old 1 → MatchResult r (λ placed. MatchResult placed.value (λ name. new + 1 ≡ reserved) (λ over. new ≡ reserved)) (λ refusal. new ≡ reserved)
-    → MatchResult r (λ placed. MatchResult placed.value (λ name. new + 1 ≡ max old 1) (λ over. new ≡ max old 1)) (λ refusal. old ≤ new)
+pub spare_made : (r : Result (Placed (Result Name Unmade)) Refusal) (old reserved new : ℕ) → reserved ≡ max old 1 → MatchResult r (λ placed. MatchResult placed.value (λ name. new + 1 ≡ reserved) (λ why. new ≡ reserved)) (λ refusal. new ≡ reserved)
+    → MatchResult r (λ placed. MatchResult placed.value (λ name. new + 1 ≡ max old 1) (λ why. new ≡ max old 1)) (λ refusal. old ≤ new)
 spare_made (Ok placed) old reserved new is spare = by placed.value spare
   where
-    by : (v : Result Name Overflow) → MatchResult v (λ name. new + 1 ≡ reserved) (λ over. new ≡ reserved) → MatchResult v (λ name. new + 1 ≡ max old 1) (λ over. new ≡ max old 1)
+    by : (v : Result Name Unmade) → MatchResult v (λ name. new + 1 ≡ reserved) (λ why. new ≡ reserved) → MatchResult v (λ name. new + 1 ≡ max old 1) (λ why. new ≡ max old 1)
     by (Ok name) spare = spare ∙ is
-    by (Err over) spare = spare ∙ is
+    by (Err why) spare = spare ∙ is
 spare_made (Err refusal) old reserved new is spare = omega (arith, is, spare)
 
 -- a refusal leaves as much room as there was

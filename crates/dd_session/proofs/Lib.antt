@@ -9,6 +9,8 @@ pub mod Outcomes
 pub mod OperationLaws
 pub mod NumberLaws
 pub mod FamilyLaws
+mod CoverLists
+mod CoverLaws
 pub mod Letting
 pub mod Ending
 pub mod Turning

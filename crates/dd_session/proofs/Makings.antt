@@ -1,11 +1,10 @@
 -- What comes of every making of rows: one lemma a kind of answer, and a line a making.
-use Rattle.std.proofs.Common.{◌≡◌, ℕ, ◌^◌, ◌<◌, Bool, true, false, cond, ℤ, pos, ◌+ℤ◌, ◌-ℤ◌, ◌*ℤ◌, int_le, length, List, Option, Some, None, Result, Ok, Err, IfOk, MatchResult, inl, arith, ap, refl, sym, subst, ◌∙◌}
+use Rattle.std.proofs.Common.{◌≡◌, ℕ, ◌*◌, ◌^◌, ◌<◌, ◌≤◌, Bool, true, false, cond, ℤ, pos, ◌+ℤ◌, ◌-ℤ◌, ◌*ℤ◌, int_le, length, List, Option, Some, None, Result, Ok, Err, IfOk, MatchResult, inl, arith, ap, refl, sym, subst, ◌∙◌}
 use Rattle.std.proofs.Math.Nat.{zero-add}
 use Rattle.std.proofs.lemmas.Bool.{false≢true}
-use Rattle.std.specs.Prelude.{IsTrue, is_err}
+use Rattle.std.specs.Prelude.{IsErrOf}
 use Rattle.std.proofs.lemmas.List.Folds.{list_all_at}
 use Rattle.std.proofs.lemmas.List.Sums.{list_all-from_AllPass}
-use Rattle.add_ops.specs.declared.arithmetic.Overflow.{Overflow}
 use Rattle.edge_bits.specs.declared.edges.Edge.{Edge}
 use Rattle.edge_bits.specs.declared.edges.Kind.{Kind}
 use Rattle.edge_bits.specs.declared.edges.Kind.TheVariants as kinds
@@ -26,7 +25,7 @@ use Rattle.function_laws.specs.Kinds.{Denoted, Fits, ValueOf}
 use Rattle.function_laws.specs.Lists.{all_below, list_of, truth}
 use Rattle.function_laws.specs.Makings.{kind_made, needs_nodes as needs_nodes_in, taken}
 use Rattle.function_laws.specs.Numbers.{exactly, is_value}
-use Rattle.function_laws.specs.Outcomes.{Outcome, in_range, makes, overflows, restricts}
+use Rattle.function_laws.specs.Outcomes.{Outcome, in_range, is_apart as apart, makes, overflows, restricts}
 use Rattle.function_laws.specs.Restricting.{Restricts}
 use Rattle.function_laws.specs.Steps.{IsNew, Replies, needs_no_node, outcome as outcome_in}
 use Rattle.function_laws.specs.Tables.{Table}
@@ -40,24 +39,29 @@ use Rattle.node_store.specs.Two.{Overflows}
 use Rattle.node_store.specs.Views.{View, AreTwo, Denotes, Grown, Is, bdd_at, family_at}
 use Rattle.node_store.specs.ViewLaws.{Is-from}
 use Rattle.ite_core.proofs.OutcomeLaws.{outcome-and, outcome-not, outcome-one, outcome-or, outcome-var, outcome-xor, outcome-zero}
-use Rattle.operator_calls.specs.Making.{answer, exceeds, may_exceed, takes, told_by}
-use Rattle.operator_calls.proofs.MakingLaws.{exceeds-may}
+use Rattle.operator_calls.specs.declared.unmade.Unmade.{Unmade}
+use Rattle.operator_calls.specs.declared.unmade.Unmade.TheVariants as unmade
+use Rattle.operator_calls.specs.Making.{Covers, answer, exceeds, is_apart, takes, told_by, unmade_as, work}
+use Rattle.operator_calls.proofs.MakingLaws.{unmade-as}
 use Rattle.operator_calls.specs.Taking.{CanTakeAll}
 use Rattle.quantify_ops.specs.Restricted.{Restricted}
 use Rattle.quantify_ops.proofs.OutcomeLaws.{outcome-restrict}
 use Rattle.zdd_ops.proofs.OutcomeLaws.{outcome-base, outcome-diff, outcome-empty, outcome-meet, outcome-product, outcome-quotient, outcome-union}
 use Rattle.seat_guard.specs.declared.view.Draws.{Draws}
+use Rattle.seat_guard.specs.Views.{Agrees}
 use Rattle.shared_store.specs.declared.shared.Shared.{Shared}
-use Rattle.shared_store.specs.Sharing.{view_of}
+use Rattle.shared_store.specs.Sharing.{due, view_of}
+use Rattle.shared_store.specs.Storing.{IsListedWork}
 use Rattle.dd_session.specs.declared.answers.Placed.{Placed}
 use Rattle.dd_session.specs.declared.answers.Refusal.{Refusal}
 use Rattle.dd_session.specs.declared.answers.Refusal.TheVariants as refusals
 use Rattle.dd_session.specs.declared.request.Adding.{Adding}
 use Rattle.dd_session.specs.declared.request.Adding.TheVariants.{Made, Chosen, Taken}
-use Rattle.dd_session.specs.MadeRows.{HasTaken, MakesOrExceeds, Refuses, adding_by, by_edges, chooses}
+use Rattle.dd_session.specs.MadeRows.{HasTaken, MakesOrTells, Refuses, adding_by, by_edges, chooses}
 use Rattle.dd_session.specs.Sessions.{IsNamed, Seen, edge_in}
-use Rattle.dd_session.specs.Turns.{AddsRow, Gives, HasExact, HasValue, IsEdgeOf, IsSeatOf, IsSmall, MayBeFull, Stands, Took, Tried}
-use Rattle.dd_session.proofs.Calls.{gives_held, listed-made}
+use Rattle.dd_session.specs.Turns.{AddsRow, Gives, HasExact, HasValue, IsEdgeOf, IsSeatOf, IsSmall, MayBeFull, Stands, Took, Tried, outcome_unmade}
+use Rattle.dd_session.proofs.Calls.{agrees_before, gives_held, listed-made, session-same}
+use Rattle.dd_session.proofs.CoverLaws as covers
 use Rattle.dd_session.proofs.FamilyLaws as families
 use Rattle.dd_session.proofs.Naming.{own_edge}
 use Rattle.dd_session.proofs.NumberLaws as numbers
@@ -66,30 +70,33 @@ use Rattle.dd_session.proofs.Outcomes.{elements, has_value, live, vars}
 
 -- the session has what it takes
 abbrev pub Has : Draws → Making Name (List ℕ) (List (ℕ × Name)) → Type 0
-Has d making = CanTakeAll (λ k a. IsNamed k d.rows a) d.vars d.elements (taken making)
+Has d making = CanTakeAll (λ k a. IsNamed k d.rows a) d.vars d.vars d.elements (taken making)
 
 -- the outcome is of this function: the one that is made, or one that may be chosen
-abbrev Allows : Adding → Outcome → Function → Type 0
-Allows Made o g = o ≡ makes g
-Allows Chosen o g = (t : Table) (s : ℕ) (name : Name) → IsNew t s name → Replies t s o (replies.Chose name g)
-Allows (Taken posted) o g = ⊥
+abbrev Allows : Draws → Adding → Outcome → Function → Type 0
+Allows d Made o g = o ≡ makes g
+Allows d Chosen o g = (t : Table) → Agrees d t → (name : Name) → IsNew t d.session name → Replies t d.session o (replies.Chose name g)
+Allows d (Taken posted) o g = ⊥
 
--- What comes of a call, and that an operation's answers are of it: an edge, or that a value is out of range.
-pub record HasOutcome (d : Draws) (v : View) (call : Call) (k : Kind) (adding : Adding) (Answer : View → Edge → Type 0) (Over : Type 0) : Type 0 where
+-- What comes of a call, and that an operation's answers are of it: an edge, that a value is out of range, or that bounds are apart. It may
+-- need a node where the operation has any work.
+pub record HasOutcome (d : Draws) (v : View) (call : Call) (k : Kind) (adding : Adding) (Answer : View → Edge → Type 0) (Over IsApart : Type 0) (Work : Denoted → Type 0) : Type 0 where
   pub outcome : Outcome
   pub gives : Gives d call outcome
-  pub may : needs_no_node outcome ≡ false
-  pub ok : (w : View) → Grown v w → (e : Edge) → Answer w e → Is k w e × Allows adding outcome (listed_at k w e)
+  pub may : (F : Denoted) → Work F → needs_no_node outcome ≡ false
+  pub ok : (w : View) → Grown v w → (e : Edge) → Answer w e → Is k w e × Allows d adding outcome (listed_at k w e)
   pub over : Over → outcome ≡ overflows
+  pub is_apart : IsApart → outcome ≡ apart
 
 -- a value that the call makes
-from_value : (k : Kind) (d : Draws) (v : View) (call : Call) (f : ℕ → ValueOf k) → HasValue k (λ u e. Denotes k u e f) d v call → HasOutcome d v call k Made (λ u e. Denotes k u e f) ⊥
+from_value : {Work : Denoted → Type 0} (k : Kind) (d : Draws) (v : View) (call : Call) (f : ℕ → ValueOf k) → HasValue k (λ u e. Denotes k u e f) d v call → HasOutcome d v call k Made (λ u e. Denotes k u e f) ⊥ ⊥ Work
 from_value k d v call f has = record {
   outcome = makes (listed k v has.value);
   gives = has.gives;
-  may = refl;
+  may = λ F is. refl;
   ok = λ w grown e denotes. let is = has.denotes w e denotes in (Is-from k is, ap makes (listed-made k v w e has.value grown is));
   over = λ never. absurd never;
+  is_apart = λ never. absurd never;
 }
 
 -- values in range, and one out of range
@@ -119,13 +126,14 @@ out_of_range n f of_f x out = by_test (all_below (2 ^ n) (λ k. is_value (f k)))
         (ap is_value (get_or-list_of (2 ^ n) found.0 f (pos 0) found.1.0) ∙ found.1.1))
 
 -- a value that the call makes where it is in range
-from_exact : (d : Draws) (v : View) (call : Call) (f : ℕ → ℤ) → HasExact d v call f → HasOutcome d v call kinds.Add Made (λ u e. Denotes kinds.Add u e f) (Overflows kinds.Add f)
+from_exact : {Work : Denoted → Type 0} (d : Draws) (v : View) (call : Call) (f : ℕ → ℤ) → HasExact d v call f → HasOutcome d v call kinds.Add Made (λ u e. Denotes kinds.Add u e f) (Overflows kinds.Add f) ⊥ Work
 from_exact d v call f has = record {
   outcome = in_range (exactly (list_of (2 ^ v.vars) f));
   gives = has.gives;
-  may = needs_nodes (exactly (list_of (2 ^ v.vars) f));
+  may = λ F is. needs_nodes (exactly (list_of (2 ^ v.vars) f));
   ok = λ w grown e is. (Is-from kinds.Add is, all_in_range v.vars f is.fits ∙ ap makes (listed-made kinds.Add v w e f grown is));
   over = λ over. out_of_range v.vars f has.is_of over.0 over.1;
+  is_apart = λ never. absurd never;
 }
 
 module _ (d : Draws) (v : View) (of : IsSmall v) (stands : Stands v d) where
@@ -136,16 +144,16 @@ module _ (d : Draws) (v : View) (of : IsSmall v) (stands : Stands v d) where
   own k a named = own_edge d a k named
 
   -- one of several functions
-  restricted : (a b : Name) → IsNamed kinds.Bdd d.rows a → IsNamed kinds.Bdd d.rows b
-      → HasOutcome d v (calls.Makes (makings.Bdd (bdds.Restrict a b))) kinds.Bdd Chosen (λ u e. Restricted v u (edge a) (edge b) e) ⊥
+  restricted : {Work : Denoted → Type 0} (a b : Name) → IsNamed kinds.Bdd d.rows a → IsNamed kinds.Bdd d.rows b
+      → HasOutcome d v (calls.Makes (makings.Bdd (bdds.Restrict a b))) kinds.Bdd Chosen (λ u e. Restricted v u (edge a) (edge b) e) ⊥ ⊥ Work
   restricted a b first second = record {
     outcome = restricts (list_of (2 ^ v.vars) (bdd_at v (edge a))) (list_of (2 ^ v.vars) (bdd_at v (edge b)));
     gives = λ t agrees. outcome-restrict v t.sizes t.cells (t.live d.session) a b (edge a) (edge b) (live d t a kinds.Bdd v (edge a) agrees stands (own kinds.Bdd a first v stands).1) (live d t b kinds.Bdd v (edge b) agrees stands (own kinds.Bdd b second v stands).1);
-    may = refl;
+    may = λ F is. refl;
     ok = λ w grown e is.
         let list : list_of (2 ^ w.vars) (bdd_at w e) ≡ list_of (2 ^ v.vars) (bdd_at w e) = ap (λ n. list_of (2 ^ n) (bdd_at w e)) grown.vars in (
           is.answer,
-          λ t s name new. (
+          λ t agrees name new. (
             new,
             ap length list ∙ length-list_of (2 ^ v.vars) (bdd_at w e) ∙ sym (length-list_of (2 ^ v.vars) (bdd_at v (edge a))),
             subst (λ g. Restricts (length (list_of (2 ^ v.vars) (bdd_at v (edge a)))) (truth (list_of (2 ^ v.vars) (bdd_at v (edge a)))) (truth (list_of (2 ^ v.vars) (bdd_at v (edge b)))) (truth g)) (sym list)
@@ -153,19 +161,33 @@ module _ (d : Draws) (v : View) (of : IsSmall v) (stands : Stands v d) where
           ),
         );
     over = λ never. absurd never;
+    is_apart = λ never. absurd never;
   }
+
+  -- a cover between two bounds, or none where they are apart
+  covered : (a b : Name) → IsNamed kinds.Bdd d.rows a → IsNamed kinds.Bdd d.rows b → 2 * d.vars ≤ d.elements
+      → HasOutcome d v (calls.Makes (makings.Zdd (zdds.Isop a b))) kinds.Zdd Chosen (λ u e. Covers v u (edge a) (edge b) e) ⊥ (is_apart (makings.Zdd (zdds.Isop (edge a) (edge b))) v) (work (makings.Zdd (zdds.Isop (edge a) (edge b))) v)
+  covered a b first second enough =
+      let s = own kinds.Bdd a first in let r = own kinds.Bdd b second in record {
+        outcome = covers.between d v of stands enough a b (edge a) (edge b) s r;
+        gives = covers.gives_between d v of stands enough a b (edge a) (edge b) s r;
+        may = λ F is. covers.needs_some d v of stands enough a b (edge a) (edge b) s r is.0;
+        ok = λ w grown e is. (is.is, covers.chosen_told d v of stands enough a b (edge a) (edge b) s r w grown e is);
+        over = λ never. absurd never;
+        is_apart = covers.apart_told d v of stands enough a b (edge a) (edge b) s r;
+      }
 
   -- what a making takes, and what comes of it
   abbrev Tells : Making Name (List ℕ) (List (ℕ × Name)) → Type 0
-  Tells making = takes (by_edges d.rows making) v × HasOutcome d v (calls.Makes making) (kind_made making) (adding_by (chooses making)) (answer (by_edges d.rows making) v) (exceeds (by_edges d.rows making) v)
+  Tells making = takes (by_edges d.rows making) v × HasOutcome d v (calls.Makes making) (kind_made making) (adding_by (chooses making)) (answer (by_edges d.rows making) v) (exceeds (by_edges d.rows making) v) (is_apart (by_edges d.rows making) v) (work (by_edges d.rows making) v)
 
-  value : (k : Kind) (T : Type 0) (call : Call) (f : ℕ → ValueOf k) → T × HasValue k (λ u e. Denotes k u e f) d v call → T × HasOutcome d v call k Made (λ u e. Denotes k u e f) ⊥
+  value : {Work : Denoted → Type 0} (k : Kind) (T : Type 0) (call : Call) (f : ℕ → ValueOf k) → T × HasValue k (λ u e. Denotes k u e f) d v call → T × HasOutcome d v call k Made (λ u e. Denotes k u e f) ⊥ ⊥ Work
   value k T call f told = (told.0, from_value k d v call f told.1)
 
   -- an operation on two rows of a kind, by what comes of it
-  two : (k : Kind) (a b : Name) → IsNamed k d.rows a → IsNamed k d.rows b → (call : Call) (f : ℕ → ValueOf k)
+  two : {Work : Denoted → Type 0} (k : Kind) (a b : Name) → IsNamed k d.rows a → IsNamed k d.rows b → (call : Call) (f : ℕ → ValueOf k)
       → ((t : Table) → t.live d.session a ≡ Some (listed_at k v (edge a)) → t.live d.session b ≡ Some (listed_at k v (edge b)) → outcome_in t d.session call ≡ Some (makes (listed k v f)))
-      → AreTwo k v (edge a) (edge b) × HasOutcome d v call k Made (λ u e. Denotes k u e f) ⊥
+      → AreTwo k v (edge a) (edge b) × HasOutcome d v call k Made (λ u e. Denotes k u e f) ⊥ ⊥ Work
   two k a b first second call f comes =
       let s = own k a first v stands in
       let r = own k b second v stands in (
@@ -173,7 +195,7 @@ module _ (d : Draws) (v : View) (of : IsSmall v) (stands : Stands v d) where
         from_value k d v call f (has_value k d v call f (λ t agrees. comes t (live d t a k v (edge a) agrees stands s.1) (live d t b k v (edge b) agrees stands r.1))),
       )
 
-  exact : (T : Type 0) (call : Call) (f : ℕ → ℤ) → T × HasExact d v call f → T × HasOutcome d v call kinds.Add Made (λ u e. Denotes kinds.Add u e f) (Overflows kinds.Add f)
+  exact : {Work : Denoted → Type 0} (T : Type 0) (call : Call) (f : ℕ → ℤ) → T × HasExact d v call f → T × HasOutcome d v call kinds.Add Made (λ u e. Denotes kinds.Add u e f) (Overflows kinds.Add f) ⊥ Work
   exact T call f told = (told.0, from_exact d v call f told.1)
 
   pub told : (making : Making Name (List ℕ) (List (ℕ × Name))) → Has d making → Tells making
@@ -195,7 +217,7 @@ module _ (d : Draws) (v : View) (of : IsSmall v) (stands : Stands v d) where
   told (makings.Bdd (bdds.Support a)) can = value kinds.Bdd _ _ _ (operations.told_support d a (edge a) (own kinds.Bdd a can.0) v of stands)
   told (makings.Bdd (bdds.AtLeast a z)) can = value kinds.Bdd _ _ _ (numbers.told_at_least d a (edge a) (own kinds.Add a can.0) v of stands z)
   told (makings.Bdd (bdds.Pattern a)) can = value kinds.Bdd _ _ _ (numbers.told_pattern d a (edge a) (own kinds.Add a can.0) v of stands)
-  told (makings.Bdd (bdds.CoverOf a)) can = absurd can.0
+  told (makings.Bdd (bdds.CoverOf a)) can = value kinds.Bdd _ _ _ (covers.told_cover_of d v of stands can.0 a (edge a) (own kinds.Zdd a can.1.0))
   told (makings.Add (adds.Constant z)) can = value kinds.Add _ _ _ (numbers.told_constant d z can.0 v of stands)
   told (makings.Add (adds.FromBdd a)) can = value kinds.Add _ _ _ (numbers.told_from_bdd d a (edge a) (own kinds.Bdd a can.0) v of stands)
   told (makings.Add (adds.Min a b)) can = value kinds.Add _ _ _ (numbers.told_placed d a b (edge a) (edge b) (own kinds.Add a can.0) (own kinds.Add b can.1.0) v of stands (λ y z. cond (int_le y z) y z) _ (λ t. refl))
@@ -217,33 +239,34 @@ module _ (d : Draws) (v : View) (of : IsSmall v) (stands : Stands v d) where
   told (makings.Zdd (zdds.Change a m)) can = value kinds.Zdd _ _ _ (families.told_change d a (edge a) (own kinds.Zdd a can.0) m can.1.0 v of stands)
   told (makings.Zdd (zdds.Product a b)) can = two kinds.Zdd a b can.0 can.1.0 _ (product (2 ^ v.elements) (family_at v (edge a)) (family_at v (edge b))) (λ t. outcome-product v t.sizes t.cells (t.live d.session) a b (edge a) (edge b))
   told (makings.Zdd (zdds.Quotient a b)) can = two kinds.Zdd a b can.0 can.1.0 _ (quotient (2 ^ v.elements) (family_at v (edge a)) (family_at v (edge b))) (λ t. outcome-quotient v t.sizes t.cells (t.live d.session) a b (edge a) (edge b))
-  told (makings.Zdd (zdds.Isop a b)) can = absurd can.0
+  told (makings.Zdd (zdds.Isop a b)) can = ((record { first = (own kinds.Bdd a can.1.0 v stands).0; second = (own kinds.Bdd b can.1.1.0 v stands).0 }, covers.literals_in d v of stands can.0), covered a b can.1.0 can.1.1.0 can.0)
 
 -- what a try of a making leaves, by what comes of it
-module _ (d e : Draws) (x y : Shared) (call : Call) (k : Kind) (adding : Adding) (making : Making Edge (List ℕ) (List (ℕ × Edge))) (Work : View → Denoted → Type 0) (made : Result (Result Edge Overflow) Stop) (took : Took d e x) (idle : d.holds ≡ false)
-    (tried : Tried (told_by making) Work x y made) (has : HasOutcome d (view_of tried.from) call k adding (answer making (view_of tried.from)) (exceeds making (view_of tried.from))) where
+module _ (d e : Draws) (x y : Shared) (call : Call) (k : Kind) (adding : Adding) (making : Making Edge (List ℕ) (List (ℕ × Edge))) (Work : View → Denoted → Type 0) (made : Result (Result Edge Unmade) Stop) (took : Took d e x) (idle : d.holds ≡ false)
+    (tried : Tried (told_by making) Work x y made) (has : HasOutcome d (view_of tried.from) call k adding (answer making (view_of tried.from)) (exceeds making (view_of tried.from)) (is_apart making (view_of tried.from)) (Work (view_of tried.from))) where
   outcome_gives : Gives e call has.outcome
   outcome_gives = gives_held d e x call has.outcome took idle has.gives
 
-  pub outcome_may_full : MayBeFull e call
-  outcome_may_full t agrees = (has.outcome, outcome_gives t agrees, has.may)
+  pub outcome_may_full : (f : Function) × (due y ≡ Some f) × IsListedWork (view_of tried.from) (Work (view_of tried.from)) f → MayBeFull e call
+  outcome_may_full due t agrees = (has.outcome, outcome_gives t agrees, let part = due.2.1 in has.may _ part.asked)
 
-  adds_row : (a : Adding) (g : Function) (edge : Edge) → listed_at k (view_of y) edge ≡ g → Allows a has.outcome g → AddsRow e (view_of y) call a (record { kind = k; edge = edge })
+  adds_row : (a : Adding) (g : Function) (edge : Edge) → listed_at k (view_of y) edge ≡ g → Allows d a has.outcome g → AddsRow e (view_of y) call a (record { kind = k; edge = edge })
   adds_row Made g edge is allows = subst (Gives e call) (allows ∙ ap makes (sym is)) outcome_gives
-  adds_row Chosen g edge is allows = subst (λ h. Rattle.dd_session.specs.Turns.Chooses e call h) (sym is) (record { outcome = has.outcome; gives = outcome_gives; may = λ t agrees name new. allows t e.session name new })
+  adds_row Chosen g edge is allows = subst (λ h. Rattle.dd_session.specs.Turns.Chooses e call h) (sym is) (record { outcome = has.outcome; gives = outcome_gives; may = λ t agrees. subst (λ (s : ℕ). (name : Name) → IsNew t s name → Replies t s has.outcome (replies.Chose name g)) (sym (session-same d e x took)) (allows t (agrees_before d e x took idle t agrees)) })
   adds_row (Taken posted) g edge is allows = absurd allows
 
-  pub outcome_makes : (r : Result (Result Edge Overflow) Stop) → IfOk r (told_by making (view_of tried.from) (view_of y))
-      → IfOk r (λ told. MatchResult told (λ edge. Is k (view_of y) edge × AddsRow e (view_of y) call adding (record { kind = k; edge = edge })) (λ _. Gives e call overflows))
+  pub outcome_makes : (r : Result (Result Edge Unmade) Stop) → IfOk r (told_by making (view_of tried.from) (view_of y))
+      → IfOk r (λ told. MatchResult told (λ edge. Is k (view_of y) edge × AddsRow e (view_of y) call adding (record { kind = k; edge = edge })) (λ why. Gives e call (outcome_unmade why)))
   outcome_makes (Err s) is = tt
-  outcome_makes (Ok (Err over)) is = subst (Gives e call) (has.over is) outcome_gives
+  outcome_makes (Ok (Err unmade.Overflow)) is = subst (Gives e call) (has.over is) outcome_gives
+  outcome_makes (Ok (Err unmade.Apart)) is = subst (Gives e call) (has.is_apart is) outcome_gives
   outcome_makes (Ok (Ok edge)) is = let ok = has.ok (view_of y) tried.ran.grown edge is in (ok.0, adds_row adding (listed_at k (view_of y) edge) edge refl ok.1)
 
 -- want of memory before anything was done
-pub nothing_made : (old new : Seen) (making : Making Name (List ℕ) (List (ℕ × Name))) → new ≡ old → MakesOrExceeds old new making (Err refusals.Memory)
-nothing_made old new making same = subst (λ (s : Seen). MakesOrExceeds old s making (Err refusals.Memory)) (sym same) (record {
+pub nothing_made : (old new : Seen) (making : Making Name (List ℕ) (List (ℕ × Name))) → new ≡ old → MakesOrTells old new making (Err refusals.Memory)
+nothing_made old new making same = subst (λ (s : Seen). MakesOrTells old s making (Err refusals.Memory)) (sym same) (record {
   told = refuses (needs_nodes_in making);
-  in_range = tt;
+  may = tt;
   stored = λ f there. inl there;
   spare = omega arith;
 })
@@ -252,21 +275,21 @@ nothing_made old new making same = subst (λ (s : Seen). MakesOrExceeds old s ma
     refuses true = (refl, omega arith)
     refuses false = (refl, (refl, omega arith))
 
--- only what may be out of range is told so
-pub told_over : (edges : Making Edge (List ℕ) (List (ℕ × Edge))) (may : Bool) → may_exceed edges ≡ may → (v w : View) (made : Result (Result Edge Overflow) Stop) (r : Result (Placed (Result Name Overflow)) Refusal) → IfOk made (told_by edges v w)
-    → IfOk r (λ placed. MatchResult placed.value (λ name. Unit {0}) (λ over. made ≡ Ok (Err over))) → IfOk r (λ placed. IsTrue (is_err placed.value) → may ≡ true)
-told_over edges may same v w made (Ok placed) answer over = by placed.value over
+-- it is told in place of a function only as what it may be
+pub told_why : (edges : Making Edge (List ℕ) (List (ℕ × Edge))) (may : Option Unmade) → unmade_as edges ≡ may → (v w : View) (made : Result (Result Edge Unmade) Stop) (r : Result (Placed (Result Name Unmade)) Refusal) → IfOk made (told_by edges v w)
+    → IfOk r (λ placed. MatchResult placed.value (λ name. Unit {0}) (λ why. made ≡ Ok (Err why))) → IfOk r (λ placed. MatchResult placed.value (λ name. Unit {0}) (λ why. may ≡ Some why))
+told_why edges may same v w made (Ok placed) answer told = by placed.value told
   where
-    by : (value : Result Name Overflow) → MatchResult value (λ name. Unit {0}) (λ over. made ≡ Ok (Err over)) → IsTrue (is_err value) → may ≡ true
-    by (Ok name) told is = absurd (false≢true is)
-    by (Err over) told is = sym same ∙ exceeds-may edges v (subst (λ r. IfOk r (told_by edges v w)) told answer)
-told_over edges may same v w made (Err refusal) answer over = tt
+    by : (value : Result Name Unmade) → MatchResult value (λ name. Unit {0}) (λ why. made ≡ Ok (Err why)) → MatchResult value (λ name. Unit {0}) (λ why. may ≡ Some why)
+    by (Ok name) told = tt
+    by (Err why) told = sym same ∙ unmade-as edges v why (subst (λ r. IfOk r (told_by edges v w)) told answer)
+told_why edges may same v w made (Err refusal) answer told = tt
 
 -- the same of a session's rows, by what makes it of their edges
 module _ (s : Seen) (d : Draws) (seat : IsSeatOf s d) (making : Making Name (List ℕ) (List (ℕ × Name))) (edges : Making Edge (List ℕ) (List (ℕ × Edge))) (same : edges ≡ by_edges s.rows making) (has : HasTaken s making) where
   abbrev Comes : View → Making Edge (List ℕ) (List (ℕ × Edge)) → Type 0
-  Comes w by = takes by w × HasOutcome d w (calls.Makes making) (kind_made making) (adding_by (chooses making)) (answer by w) (exceeds by w)
+  Comes w by = takes by w × HasOutcome d w (calls.Makes making) (kind_made making) (adding_by (chooses making)) (answer by w) (exceeds by w) (is_apart by w) (work by w)
 
   pub told_by_edges : (w : View) → IsSmall w → Stands w d → Comes w edges
   told_by_edges w small stands = subst (Comes w) (sym (same ∙ ap (λ (z : Seen). by_edges z.rows making) seat.is)) (told d w small stands making
-      (subst (λ (p : ℕ × ℕ). CanTakeAll (λ k a. IsNamed k d.rows a) p.0 p.1 (taken making)) (λ i. (zero-add d.vars i, zero-add d.elements i)) (subst (λ (z : Seen). HasTaken z making) seat.is has)))
+      (subst (λ (p : ℕ × ℕ). CanTakeAll (λ k a. IsNamed k d.rows a) d.vars p.0 p.1 (taken making)) (λ i. (zero-add d.vars i, zero-add d.elements i)) (subst (λ (z : Seen). HasTaken z making) seat.is has)))

@@ -1,6 +1,6 @@
 -- What the clause of a call tells of its session, for callers to cite in place of the clause.
 use Rattle.std.proofs.Common.{◌≡◌, ℕ, ℤ, pos, Bool, true, false, cond, ◌&&◌, ◌==◌, Option, Some, None, option_map, List, [], ◌∷◌, length, take_all, IsTrue, ◌↔◌, refl, ap, ap₂, sym, subst, ◌∙◌, arith, eq-eqb}
-use Rattle.std.specs.Prelude.{nat_lt}
+use Rattle.std.specs.Prelude.{nat_lt, if◌then◌else◌}
 use Rattle.std.proofs.lemmas.Bool.{le-ltb}
 use Rattle.edge_bits.specs.Words.{digit}
 use Rattle.function_laws.specs.declared.history.Name.{Name}
@@ -11,6 +11,8 @@ use Rattle.function_laws.specs.declared.history.Call.TheVariants as calls
 use Rattle.function_laws.specs.declared.history.Reply.{Reply}
 use Rattle.function_laws.specs.declared.history.Reply.TheVariants as replies
 use Rattle.function_laws.specs.Tables.{Sizes, Table, same_name}
+use Rattle.function_laws.specs.Functions.{leq_of}
+use Rattle.function_laws.specs.IrredundantCovers.{IsIrredundant}
 use Rattle.function_laws.specs.Lists.{truth}
 use Rattle.function_laws.specs.Outcomes.{Outcome, makes, restricts, covers, is_apart, fetches, counts, overflows, is_most, compares, tells, shows, is_done, in_range, with_one}
 use Rattle.function_laws.specs.Steps.{outcome, value_at, with_result, IsAllowed, Replies, after}
@@ -19,7 +21,7 @@ use Rattle.function_laws.specs.Widening.{at_sizes}
 use Rattle.seat_guard.specs.Views.{stands_for}
 use Rattle.edge_bits.specs.declared.edges.Kind.{Kind}
 use Rattle.function_laws.specs.declared.making.Making.{Making}
-use Rattle.function_laws.specs.Makings.{Taken, function, variable, element, value, number, bit, variables, pairs, literals, taken}
+use Rattle.function_laws.specs.Makings.{Taken, function, variable, element, value, number, bit, variables, pairs, literals, covered, taken}
 use Rattle.operator_calls.specs.Taking.{CanTake, CanTakeAll}
 use Rattle.dd_session.specs.MadeRows.{HasTaken}
 use Rattle.dd_session.specs.Sessions.{Called, IsLiveAs, Seen, SeenIn, elements_in, kind_of, known_sizes, stands_now, variables_in}
@@ -42,10 +44,10 @@ live_now k s name f is kind = by (stands_for s.rows name) refl is
     by (Some g) at e = let same : at_sizes (known_sizes s) g ≡ f = cc in (g, at, sym (kind_stays (known_sizes s) g) ∙ ap kind_of same ∙ kind)
 
 -- what may be made with the variables and elements that the manager was opened with may be made
-pub can_still : (s : Seen) (making : Making Name (List ℕ) (List (ℕ × Name))) → CanTakeAll (λ k a. IsLiveAs k s a) s.manager.vars s.manager.elements (taken making) → HasTaken s making
+pub can_still : (s : Seen) (making : Making Name (List ℕ) (List (ℕ × Name))) → CanTakeAll (λ k a. IsLiveAs k s a) s.manager.vars s.manager.vars s.manager.elements (taken making) → HasTaken s making
 can_still s making can = all (taken making) can
   where
-    one : (t : Taken Name) → CanTake (λ k a. IsLiveAs k s a) s.manager.vars s.manager.elements t → CanTake (λ k a. IsLiveAs k s a) (variables_in s) (elements_in s) t
+    one : (t : Taken Name) → CanTake (λ k a. IsLiveAs k s a) s.manager.vars s.manager.vars s.manager.elements t → CanTake (λ k a. IsLiveAs k s a) s.manager.vars (variables_in s) (elements_in s) t
     one (function k a) is = is
     one (variable v) below = omega (arith, below)
     one (element e) below = omega (arith, below)
@@ -54,9 +56,9 @@ can_still s making can = all (taken making) can
     one (bit b) is = tt
     one (variables vs) below = λ k v inside. let b = below k v inside in omega (arith, b)
     one (pairs ps) can = ((λ k pair inside. let b = can.0 k pair inside in omega (arith, b)), can.1, can.2)
-    one literals never = absurd never
+    one literals can = omega (arith, can)
 
-    all : (ts : List (Taken Name)) → CanTakeAll (λ k a. IsLiveAs k s a) s.manager.vars s.manager.elements ts → CanTakeAll (λ k a. IsLiveAs k s a) (variables_in s) (elements_in s) ts
+    all : (ts : List (Taken Name)) → CanTakeAll (λ k a. IsLiveAs k s a) s.manager.vars s.manager.vars s.manager.elements ts → CanTakeAll (λ k a. IsLiveAs k s a) s.manager.vars (variables_in s) (elements_in s) ts
     all [] can = tt
     all (t ∷ ts) can = (one t can.0, all ts can.1)
 
@@ -183,6 +185,10 @@ full_stays old new call in_use need place called = stands_still old new call (re
 pub overflowed_stays : (old new : Seen) (call : Call) (place : ℕ) → Called old new call replies.Overflow place → (name : Name) → stands_now new name ≡ stands_now old name
 overflowed_stays old new call place called = stands_still old new call replies.Overflow place called refl
 
+-- and so do bounds that are apart
+pub apart_stays : (old new : Seen) (call : Call) (place : ℕ) → Called old new call replies.Apart place → (name : Name) → stands_now new name ≡ stands_now old name
+apart_stays old new call place called = stands_still old new call replies.Apart place called refl
+
 -- and so do a post and a sweep
 pub posted_stays : (old new : Seen) (i : ℕ) (a : Name) (place : ℕ) → Called old new (calls.Post i a) replies.Done place → (name : Name) → stands_now new name ≡ stands_now old name
 posted_stays old new i a place called name = stands_after old new (calls.Post i a) replies.Done place called name ∙ stood_before old new (calls.Post i a) replies.Done place called name
@@ -249,3 +255,23 @@ module _ (old new : Seen) (call : Call) (place : ℕ) where
     where
       by : IsAllowed (table_of old called.board) old.number call replies.Overflow → ⊥
       by (o, at, says) = subst (λ (x : Outcome). Replies (table_of old called.board) old.number x replies.Overflow) (some_same o (makes (Add f)) (sym at ∙ is)) says
+
+-- an irredundant cover between two bounds
+module _ (old new : Seen) (call : Call) (place : ℕ) (lower upper : List Bool) where
+  -- it was chosen as one
+  pub chosen_cover : (name : Name) (p : List Bool) (called : Called old new call (replies.Chose name (Zdd p)) place) → outcome (table_of old called.board) old.number call ≡ Some (covered lower upper)
+      → IsIrredundant (variables_in old) (elements_in old) (truth lower) (truth upper) (truth p)
+  chosen_cover name p called is = by (leq_of lower upper) (is_allowed old new call (replies.Chose name (Zdd p)) place called) is
+    where
+      by : (b : Bool) → IsAllowed (table_of old called.board) old.number call (replies.Chose name (Zdd p)) → outcome (table_of old called.board) old.number call ≡ Some (if b then covers lower upper else is_apart)
+          → IsIrredundant (variables_in old) (elements_in old) (truth lower) (truth upper) (truth p)
+      by true (o, at, says) is = (subst (λ (x : Outcome). Replies (table_of old called.board) old.number x (replies.Chose name (Zdd p))) (some_same o (covers lower upper) (sym at ∙ is)) says).2
+      by false (o, at, says) is = absurd (subst (λ (x : Outcome). Replies (table_of old called.board) old.number x (replies.Chose name (Zdd p))) (some_same o is_apart (sym at ∙ is)) says)
+
+  -- and was told as apart only where the bounds are
+  pub told_apart : (called : Called old new call replies.Apart place) → outcome (table_of old called.board) old.number call ≡ Some (covered lower upper) → leq_of lower upper ≡ false
+  told_apart called is = by (leq_of lower upper) (is_allowed old new call replies.Apart place called) is
+    where
+      by : (b : Bool) → IsAllowed (table_of old called.board) old.number call replies.Apart → outcome (table_of old called.board) old.number call ≡ Some (if b then covers lower upper else is_apart) → b ≡ false
+      by true (o, at, says) is = absurd (subst (λ (x : Outcome). Replies (table_of old called.board) old.number x replies.Apart) (some_same o (covers lower upper) (sym at ∙ is)) says)
+      by false allowed is = refl

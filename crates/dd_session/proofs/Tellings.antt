@@ -20,7 +20,7 @@ use Rattle.function_laws.specs.Kinds.{Denoted}
 use Rattle.function_laws.specs.Sizes.{Orders}
 use Rattle.function_laws.specs.Tables.{Sizes, Table, same_name, with_name}
 use Rattle.function_laws.specs.Widening.{at_sizes}
-use Rattle.function_laws.specs.Outcomes.{Outcome, makes, fetches, overflows, compares, tells, shows, is_done, with_one, when}
+use Rattle.function_laws.specs.Outcomes.{Outcome, makes, fetches, overflows, is_apart, compares, tells, shows, is_done, with_one, when}
 use Rattle.function_laws.specs.declared.orders.Order.{Order}
 use Rattle.function_laws.specs.declared.orders.Order.TheVariants.{Variables, Elements}
 use Rattle.function_laws.specs.Steps.{TellsFull, may_be_full, with_result, from_cell}
@@ -28,6 +28,8 @@ use Rattle.node_store.specs.Listed.{listed_at}
 use Rattle.node_store.specs.Views.{View, Is, values_at}
 use Rattle.handle_count.specs.declared.rows.Held.{Held as Live}
 use Rattle.handle_count.specs.RowMaps.{IsWithOne}
+use Rattle.operator_calls.specs.declared.unmade.Unmade.{Unmade as Why}
+use Rattle.operator_calls.specs.declared.unmade.Unmade.TheVariants as unmade
 use Rattle.seat_guard.specs.declared.view.Held.{Held}
 use Rattle.seat_guard.specs.declared.view.Row.{Row}
 use Rattle.seat_guard.specs.declared.view.Change.TheVariants.{Nothing, Adds, Takes, Posts}
@@ -48,10 +50,10 @@ use Rattle.dd_session.specs.declared.request.Request.{Request}
 use Rattle.dd_session.specs.declared.request.Adding.{Adding}
 use Rattle.dd_session.specs.declared.request.Adding.TheVariants.{Made, Chosen, Taken}
 use Rattle.dd_session.specs.declared.request.Answer.{Answer}
-use Rattle.dd_session.specs.declared.request.Answer.TheVariants.{Added, Dropped, Posted, Truth, Value, Done, Overflow, Full}
+use Rattle.dd_session.specs.declared.request.Answer.TheVariants.{Added, Dropped, Posted, Truth, Value, Done, Unmade, Full}
 use Rattle.dd_session.specs.Requests.{added_as, call_of, change_of, is_refusal, reply_of}
-use Rattle.dd_session.specs.Sessions.{fulls_in, is_full, names_in}
-use Rattle.dd_session.specs.Turns.{sizes_in, AddsRow, Chooses, Drew, Gives, IsAdded, MayBeFull, Notes, Told, levels_in, live_as, names_by, ordered_by}
+use Rattle.dd_session.specs.Sessions.{fulls_in, is_full, names_in, reply_unmade}
+use Rattle.dd_session.specs.Turns.{sizes_in, AddsRow, Chooses, Drew, Gives, IsAdded, MayBeFull, Notes, Told, levels_in, live_as, names_by, ordered_by, outcome_unmade}
 use Rattle.dd_session.proofs.Naming.{cond_none, same_name-eq}
 use Rattle.dd_session.proofs.Outcomes.{listed-known}
 use Rattle.dd_session.proofs.RequestLemmas.{LeavesOrders, carries_none, orders_stay}
@@ -185,13 +187,24 @@ may_show d r x told is is_outcome = record {
   room = tt;
 }
 
-pub may_exceed : (d : Draws) (r : Request) → Gives d (call_of r) overflows → MayTell d (quiet (call_of r) replies.Overflow)
-may_exceed d r is_outcome = record {
+-- a call that makes nothing
+pub may_be_unmade : (d : Draws) (r : Request) (why : Why) → Gives d (call_of r) (outcome_unmade why) → MayTell d (quiet (call_of r) (reply_unmade why))
+may_be_unmade d r unmade.Overflow is_outcome = record {
   plain = refl;
   step = λ t agrees. ((overflows, is_outcome t agrees, tt), agrees_quiet d t (call_of r) replies.Overflow agrees);
   carries = carries_none d r;
   room = tt;
 }
+may_be_unmade d r unmade.Apart is_outcome = record {
+  plain = refl;
+  step = λ t agrees. ((is_apart, is_outcome t agrees, tt), agrees_quiet d t (call_of r) replies.Apart agrees);
+  carries = carries_none d r;
+  room = tt;
+}
+
+pub leaves_unmade : (r : Request) (why : Why) → LeavesOrders r (reply_unmade why)
+leaves_unmade r unmade.Overflow = record { plain = λ name n e. cc; no_swap = λ order level a b. cc }
+leaves_unmade r unmade.Apart = record { plain = λ name n e. cc; no_swap = λ order level a b. cc }
 
 pub may_sweep : (d : Draws) → MayTell d (quiet calls.Sweep replies.Done)
 may_sweep d = record {
@@ -350,7 +363,8 @@ counted_answer w (Posted i cell) = refl
 counted_answer w (Truth told) = refl
 counted_answer w (Value x) = refl
 counted_answer w Done = refl
-counted_answer w Overflow = refl
+counted_answer w (Unmade unmade.Overflow) = refl
+counted_answer w (Unmade unmade.Apart) = refl
 counted_answer w (Full in_use need) = refl
 
 pub is_full-reply : (w : View) (answer : Answer) → is_full (reply_of w answer) ≡ is_refusal answer
@@ -362,7 +376,8 @@ is_full-reply w (Posted i cell) = refl
 is_full-reply w (Truth told) = refl
 is_full-reply w (Value x) = refl
 is_full-reply w Done = refl
-is_full-reply w Overflow = refl
+is_full-reply w (Unmade unmade.Overflow) = refl
+is_full-reply w (Unmade unmade.Apart) = refl
 is_full-reply w (Full in_use need) = refl
 
 pub fulls-append : (es : List Entry) (e : Entry) → fulls_in (es ++ e ∷ []) ≡ fulls_in es + is_full e.reply
@@ -393,7 +408,7 @@ refusal-most (Posted i cell) = omega arith
 refusal-most (Truth told) = omega arith
 refusal-most (Value x) = omega arith
 refusal-most Done = omega arith
-refusal-most Overflow = omega arith
+refusal-most (Unmade why) = omega arith
 refusal-most (Full in_use need) = omega arith
 
 -- a turn in which a place was drawn

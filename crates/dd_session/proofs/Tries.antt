@@ -1,9 +1,6 @@
 -- The tries of an operation.
 use Rattle.std.proofs.Common.{◌≡◌, ◌⊎◌, inl, inr, ℕ, ◌<◌, Bool, Contains, List, Result, Ok, Err, IfOk, refl, ap, ap₂, sym, subst, ◌∙◌}
 use Rattle.std.specs.Prelude.{IsErrOf}
-use Rattle.add_ops.specs.declared.arithmetic.Overflow.{Overflow}
-use Rattle.add_ops.specs.Exact.{exact_halts}
-use Rattle.add_ops.proofs.ExactLaws.{exactly_full}
 use Rattle.edge_bits.specs.declared.edges.Edge.{Edge}
 use Rattle.edge_bits.specs.declared.edges.Kind.{Kind}
 use Rattle.function_laws.specs.declared.history.Function.{Function}
@@ -11,8 +8,6 @@ use Rattle.function_laws.specs.Kinds.{Denoted}
 use Rattle.function_laws.specs.declared.making.Making.{Making}
 use Rattle.node_store.specs.declared.grow.Stop.{Stop}
 use Rattle.node_store.specs.declared.grow.Stop.TheVariants as stop
-use Rattle.node_store.specs.declared.operator.Halt.TheVariants as halt
-use Rattle.node_store.specs.Operations.{CallsTo}
 use Rattle.node_store.specs.Views.{View, Grown, Kept}
 use Rattle.node_store.specs.Work.{Adds, IsWork}
 use Rattle.node_store.specs.WorkLaws.{IsPart-back}
@@ -21,7 +16,8 @@ use Rattle.dead_sweep.specs.declared.sweeping.Swept.{Swept}
 use Rattle.dead_sweep.specs.Swept.{IsSwept}
 use Rattle.node_slots.specs.Held.{Alone}
 use Rattle.node_slots.specs.Wholes.{content_view}
-use Rattle.operator_calls.specs.Making.{answer, exceeds, told_by, work}
+use Rattle.operator_calls.specs.declared.unmade.Unmade.{Unmade}
+use Rattle.operator_calls.specs.Making.{RunsMaking, told_by, work}
 use Rattle.shared_store.specs.declared.shared.Shared.{Shared}
 use Rattle.shared_store.specs.Lasting.{Lasts}
 use Rattle.shared_store.specs.Sharing.{functions, orders, view_of, whole_in}
@@ -107,15 +103,9 @@ module _ {X : Type 0} (Answers : View → View → X → Type 0) (Work : View �
   }
 
 -- a making of edges
-pub ran_told : (making : Making Edge (List ℕ) (List (ℕ × Edge))) (k : Kind) (x y : Shared) (made : Result (Result Edge Overflow) Stop) → IsStore x.store → IsStore y.store → y.cells.items ≡ x.cells.items
-    → CallsTo k (answer making (view_of x) (view_of y)) (exceeds making (view_of x)) (work making (view_of x)) (view_of x) (view_of y) (exact_halts made) → Ran (told_by making) (work making) x y made
-ran_told making k x y made of of' cells calls =
-    ran_of (told_by making) (work making) x y made of of' cells calls.grown calls.work (by made calls.answer calls.overflow) (λ is. calls.due (exactly_full made is))
-  where
-    by : (r : Result (Result Edge Overflow) Stop) → IfOk (exact_halts r) (answer making (view_of x) (view_of y)) → (IsErrOf (exact_halts r) halt.Overflow → exceeds making (view_of x)) → IfOk r (told_by making (view_of x) (view_of y))
-    by (Ok (Ok e)) answers over = answers
-    by (Ok (Err o)) answers over = over refl
-    by (Err s) answers over = tt
+pub ran_told : (making : Making Edge (List ℕ) (List (ℕ × Edge))) (x y : Shared) (made : Result (Result Edge Unmade) Stop) → IsStore x.store → IsStore y.store → y.cells.items ≡ x.cells.items
+    → RunsMaking making (view_of x) (view_of y) made → Ran (told_by making) (work making) x y made
+ran_told making x y made of of' cells runs = ran_of (told_by making) (work making) x y made of of' cells runs.grown runs.stored runs.told runs.due
 
 -- what is made of no work is nothing
 made_of_none : (x y : Shared) → StoresOnly (IsListedWork (view_of x) (λ _. ⊥)) x y → StoresOnly (λ _. ⊥) x y

@@ -19,7 +19,8 @@ use Rattle.dd_session.specs.declared.request.Request.TheVariants as requests
 use Rattle.dd_session.specs.declared.request.Adding.{Adding}
 use Rattle.dd_session.specs.declared.request.Adding.TheVariants.{Made, Chosen, Taken}
 use Rattle.dd_session.specs.declared.request.Answer.{Answer}
-use Rattle.dd_session.specs.declared.request.Answer.TheVariants.{Added, Dropped, Posted, Truth, Value, Done, Overflow, Full}
+use Rattle.dd_session.specs.declared.request.Answer.TheVariants.{Added, Dropped, Posted, Truth, Value, Done, Unmade, Full}
+use Rattle.dd_session.specs.Sessions.{reply_unmade}
 
 abbrev pub call_of : Request → Call
 call_of (requests.Makes making) = calls.Makes (mapped (λ name. name) (λ vars. vars.now) (λ pairs. pairs.now) making)
@@ -46,7 +47,7 @@ reply_of w (Posted i cell) = replies.Done
 reply_of w (Truth told) = replies.Truth told
 reply_of w (Value x) = replies.Value x
 reply_of w Done = replies.Done
-reply_of w Overflow = replies.Overflow
+reply_of w (Unmade why) = reply_unmade why
 reply_of w (Full in_use need) = replies.Full in_use need
 
 abbrev pub change_of : View → Answer → Change
@@ -56,7 +57,7 @@ change_of w (Posted i cell) = Posts i (held_of w cell)
 change_of w (Truth told) = Nothing
 change_of w (Value x) = Nothing
 change_of w Done = Nothing
-change_of w Overflow = Nothing
+change_of w (Unmade why) = Nothing
 change_of w (Full in_use need) = Nothing
 
 abbrev pub telling_of : View → Request → Answer → Telling

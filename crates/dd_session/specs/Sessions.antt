@@ -1,7 +1,6 @@
 -- What callers see of a session, and what a call says.
 use Rattle.std.specs.Prelude.{◌≡◌, ℕ, ◌+◌, ◌≤◌, ◌<◌, ◌^◌, List, [], ◌∷◌, ◌++◌, All, length, Option, Some, None, option_map, Result, Ok, Err, false, if◌then◌else◌}
 use Rattle.edge_bits.specs.declared.limits.TheConstants.{MOST_ROWS}
-use Rattle.add_ops.specs.declared.arithmetic.Overflow.{Overflow}
 use Rattle.atomic_table.specs.Seated.{TableId}
 use Rattle.edge_bits.specs.declared.edges.Edge.{Edge}
 use Rattle.edge_bits.specs.declared.edges.Kind.{Kind}
@@ -15,6 +14,8 @@ use Rattle.function_laws.specs.SessionEntries.{entry}
 use Rattle.function_laws.specs.Tables.{Sizes, Table, same_name}
 use Rattle.function_laws.specs.Widening.{AgreesAt, at_sizes}
 use Rattle.function_laws.specs.Steps.{IsAllowed, TellsFull, after}
+use Rattle.operator_calls.specs.declared.unmade.Unmade.{Unmade}
+use Rattle.operator_calls.specs.declared.unmade.Unmade.TheVariants.{Overflow, Apart}
 use Rattle.seat_guard.specs.declared.view.Change.{Change}
 use Rattle.seat_guard.specs.declared.view.Held.{Held}
 use Rattle.seat_guard.specs.declared.view.Noted.{Noted}
@@ -124,10 +125,15 @@ abbrev pub Denies : Seen → Seen → Call → Refusal → Type 0
 Denies old new call refusals.Memory = IsAsBefore old new
 Denies old new call (refusals.Full full) = Called old new call (replies.Full full.in_use full.need) full.place × (full.limit ≡ old.manager.limit) × TellsFull old.manager.limit call full.in_use full.need
 
--- what an operation replies whose values may be out of range
-abbrev pub told_as : Result Name Overflow → Reply
+-- what an operation replies that made nothing
+abbrev pub reply_unmade : Unmade → Reply
+reply_unmade Overflow = replies.Overflow
+reply_unmade Apart = replies.Apart
+
+-- what one replies that may make nothing
+abbrev pub told_as : Result Name Unmade → Reply
 told_as (Ok name) = replies.Made name
-told_as (Err _) = replies.Overflow
+told_as (Err why) = reply_unmade why
 
 -- the session may make one more call
 abbrev pub HasRoom : Seen → Type 0

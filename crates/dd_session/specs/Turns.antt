@@ -14,7 +14,7 @@ use Rattle.function_laws.specs.Kinds.{Denoted, ValueOf}
 use Rattle.function_laws.specs.Lists.{list_of}
 use Rattle.function_laws.specs.Numbers.{exactly}
 use Rattle.function_laws.specs.Values.{IsOf}
-use Rattle.function_laws.specs.Outcomes.{Outcome, makes, fetches, in_range}
+use Rattle.function_laws.specs.Outcomes.{Outcome, makes, fetches, in_range, overflows, is_apart}
 use Rattle.function_laws.specs.declared.orders.Order.{Order}
 use Rattle.function_laws.specs.declared.orders.Order.TheVariants.{Variables, Elements}
 use Rattle.function_laws.specs.SessionEntries.{Each}
@@ -28,6 +28,8 @@ use Rattle.node_store.specs.declared.grow.Stop.TheVariants as stop
 use Rattle.node_store.specs.Listed.{listed, listed_at}
 use Rattle.node_store.specs.Views.{View, Denotes, Grown, Is}
 use Rattle.node_slots.specs.Stores.{IsStore}
+use Rattle.operator_calls.specs.declared.unmade.Unmade.{Unmade}
+use Rattle.operator_calls.specs.declared.unmade.Unmade.TheVariants.{Overflow, Apart}
 use Rattle.seat_guard.specs.declared.seat.Guard.{Guard}
 use Rattle.seat_guard.specs.declared.seat.Pass.{Pass}
 use Rattle.seat_guard.specs.declared.view.Draws.{Draws}
@@ -223,6 +225,11 @@ IsCausedBy made (Err (refusals.Full full)) = IsErrOf made stop.Full
 -- what comes of the call, in each table that agrees with the seat
 abbrev pub Gives : Draws → Call → Outcome → Type 0
 Gives d call o = (t : Table) → Agrees d t → outcome t d.session call ≡ Some o
+
+-- what comes of a call that makes nothing
+abbrev pub outcome_unmade : Unmade → Outcome
+outcome_unmade Overflow = overflows
+outcome_unmade Apart = is_apart
 
 -- something comes of it that may need a node
 abbrev pub MayBeFull : Draws → Call → Type 0

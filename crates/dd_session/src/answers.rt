@@ -23,6 +23,10 @@ pub enum Refusal {
     Full(Full),
 }
 
+/// There is no cover between two bounds: the lower one holds somewhere where the upper one does not.
+#[derive(Debug, Clone, Copy, PartialEq, Eq, Drop)]
+pub struct Apart;
+
 /// Whether what a fetch took came from the board: the cell had a function of the kind that was asked for, or not.
 #[derive(Debug, Clone, Copy, PartialEq, Eq, Drop)]
 pub enum Fetched {

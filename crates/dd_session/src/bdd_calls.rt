@@ -215,4 +215,19 @@ impl Session {
     {
         self.make_row(rt, manager, Making::Bdd(BddMaking::Restrict(f, g)))
     }
+
+    /// The function of a row's family as a cover, as a new row: it is true where all literals of some combination are (Minato 1993).
+    /// Element 2v is the variable v, 2v + 1 its complement; elements beyond those of the variables are passed over. There are at
+    /// least twice as many elements as variables.
+    pub fn cover_of<R: Wait>(
+        &mut self,
+        rt: &R,
+        manager: &Manager,
+        p: H,
+    ) -> Result<Placed<H>, Refusal>
+        requires { MayMake self.old manager.now (makings.Bdd (bdds.CoverOf p)) }
+        ensures { MakesRow self.old self.new (makings.Bdd (bdds.CoverOf p)) result }
+    {
+        self.make_row(rt, manager, Making::Bdd(BddMaking::CoverOf(p)))
+    }
 }

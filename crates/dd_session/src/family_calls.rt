@@ -2,13 +2,14 @@
 
 ghost use Rattle.function_laws.specs.declared.making.Making.TheVariants as makings;
 ghost use Rattle.function_laws.specs.declared.making.ZddMaking.TheVariants as zdds;
-ghost use Rattle.dd_session.specs.MadeRows.{MakesRow, MayMake};
+ghost use Rattle.dd_session.specs.MadeRows.{MakesOrIsApart, MakesRow, MayMake};
 
-use crate::answers::{Placed, Refusal};
+use crate::answers::{Apart, Placed, Refusal};
 use crate::manager::Manager;
 use crate::session::Session;
 use function_laws::{Making, ZddMaking};
 use handle_count::H;
+use operator_calls::Unmade;
 use std::sync::Wait;
 
 impl Session {
@@ -151,5 +152,34 @@ impl Session {
         ensures { MakesRow self.old self.new (makings.Zdd (zdds.Quotient p q)) result }
     {
         self.make_row(rt, manager, Making::Zdd(ZddMaking::Quotient(p, q)))
+    }
+
+    /// An irredundant cover between two rows (Morreale 1970, Minato 1993), as a new row, or Apart where the first does not hold only
+    /// where the second does. Some combination fits where the first holds, none where the second does not, and no combination and no
+    /// literal of one can be left out. Element 2v is the variable v, 2v + 1 its complement; there are at least twice as many elements
+    /// as variables. Another order of the variables may give another such family.
+    pub fn isop<R: Wait>(
+        &mut self,
+        rt: &R,
+        manager: &Manager,
+        lower: H,
+        upper: H,
+    ) -> Result<Placed<Result<H, Apart>>, Refusal>
+        requires { MayMake self.old manager.now (makings.Zdd (zdds.Isop lower upper)) }
+        ensures { MakesOrIsApart self.old self.new (makings.Zdd (zdds.Isop lower upper)) result }
+    {
+        let made = self.make(rt, manager, Making::Zdd(ZddMaking::Isop(lower, upper)))?;
+        let place = made.place;
+        match made.value {
+            Ok(name) => Ok(Placed {
+                place,
+                value: Ok(name),
+            }),
+            Err(Unmade::Apart) => Ok(Placed {
+                place,
+                value: Err(Apart),
+            }),
+            Err(Unmade::Overflow) => unreachable!(),
+        }
     }
 }

@@ -23,9 +23,9 @@ mod sifting;
 mod starting;
 mod walking;
 
-pub use answers::{Again, Fetched, Full, Placed, Refusal};
+pub use answers::{Again, Apart, Fetched, Full, Placed, Refusal};
 pub use group_sift::{Blocks, Mode, Sifted};
 pub use handle_count::H;
 pub use manager::{Closed, Config, Manager, OpenFault};
-pub use operator_calls::Overflow;
+pub use operator_calls::{Overflow, Unmade};
 pub use session::Session;

@@ -1,15 +1,15 @@
 //! What makes a function of a session's rows: by their edges, in one turn, with a sweep and another try where no slot was free.
 
-ghost use Rattle.std.specs.Prelude.{◌≡◌, false, is_err, map, All, IfOk, IsErrOf, IsTrue};
+ghost use Rattle.std.specs.Prelude.{◌≡◌, is_err, map, All, IfOk, IsErrOf, IsTrue, None, Some};
 ghost use Rattle.edge_bits.specs.declared.edges.Kind.{Kind as KindOf};
 ghost use Rattle.edge_bits.specs.declared.edges.Kind.TheVariants as kinds;
 ghost use Rattle.function_laws.specs.Makings.{kind_made as kind_of_made, needs_nodes};
 ghost use Rattle.node_slots.specs.Stores.{IsStore};
-ghost use Rattle.operator_calls.specs.Making.{may_exceed, takes, told_by, work};
+ghost use Rattle.operator_calls.specs.Making.{takes, told_by, unmade_as, work};
 ghost use Rattle.operator_calls.specs.Taking.{of_lent, with_given};
 ghost use Rattle.shared_store.specs.Lasting.{Lasts};
 ghost use Rattle.shared_store.specs.Sharing.{orders, view_of};
-ghost use Rattle.dd_session.specs.MadeRows.{MakesRow, MakesOrExceeds, MayMake, adding_by, chooses};
+ghost use Rattle.dd_session.specs.MadeRows.{MakesRow, MakesOrExceeds, MakesOrTells, MayMake, adding_by, chooses};
 ghost use Rattle.dd_session.specs.Sessions.{IsLiveAs, edge_in, elements_in, variables_in};
 ghost use Rattle.dd_session.specs.Turns.{Ran, Tried};
 
@@ -20,10 +20,10 @@ use crate::session::Session;
 use crate::settling::settle;
 use crate::starting::start;
 use edge_bits::{Edge, Kind, Memory};
-use function_laws::{BddMaking, Making};
+use function_laws::{BddMaking, Making, ZddMaking};
 use handle_count::H;
 use node_slots::Stop;
-use operator_calls::{Overflow, Renaming, renamed, renamed_pairs, run};
+use operator_calls::{Overflow, Renaming, Unmade, renamed, renamed_pairs, run};
 use shared_store::Shared;
 use std::alloc::Global;
 use std::sync::Wait;
@@ -32,7 +32,7 @@ use std::sync::Wait;
 fn try_once(
     shared: &mut Shared,
     making: &Making<Edge, &[u32], &[(u32, Edge)]>,
-) -> Result<Result<Edge, Overflow>, Stop>
+) -> Result<Result<Edge, Unmade>, Stop>
     requires { IsStore shared.old.store → takes (of_lent making.now) (view_of shared.old) }
     ensures ran { Ran (told_by (of_lent making.now)) (work (of_lent making.now)) shared.old shared.new result }
     ensures sure { IsTrue (is_err result) → IsTrue (needs_nodes (of_lent making.now)) }
@@ -47,7 +47,7 @@ fn try_once(
 fn sweep_and_try(
     shared: Shared,
     making: &Making<Edge, &[u32], &[(u32, Edge)]>,
-) -> (Shared, Result<Result<Edge, Overflow>, Stop>)
+) -> (Shared, Result<Result<Edge, Unmade>, Stop>)
     requires { (y : Shared) → Lasts shared y → orders y ≡ orders shared → IsStore y.store → takes (of_lent making.now) (view_of y) }
     ensures tried { Tried (told_by (of_lent making.now)) (work (of_lent making.now)) shared result.0 result.1 }
     ensures sure { IsTrue (is_err result.1) → IsTrue (needs_nodes (of_lent making.now)) }
@@ -58,7 +58,7 @@ fn sweep_and_try(
 }
 
 /// Whether no slot was free.
-fn is_full(made: &Result<Result<Edge, Overflow>, Stop>) -> bool
+fn is_full(made: &Result<Result<Edge, Unmade>, Stop>) -> bool
     ensures { IsErrOf made.now Stop.Full → IsTrue result }
 {
     matches!(made, Err(Stop::Full))
@@ -68,7 +68,7 @@ fn is_full(made: &Result<Result<Edge, Overflow>, Stop>) -> bool
 fn try_all(
     mut shared: Shared,
     making: &Making<Edge, &[u32], &[(u32, Edge)]>,
-) -> (Shared, Result<Result<Edge, Overflow>, Stop>)
+) -> (Shared, Result<Result<Edge, Unmade>, Stop>)
     requires { (y : Shared) → Lasts shared y → orders y ≡ orders shared → IsStore y.store → takes (of_lent making.now) (view_of y) }
     ensures tried { Tried (told_by (of_lent making.now)) (work (of_lent making.now)) shared result.0 result.1 }
     ensures sure { IsTrue (is_err result.1) → IsTrue (needs_nodes (of_lent making.now)) }
@@ -98,6 +98,7 @@ fn adding_of(making: &Making<H, &[u32], &[(u32, H)]>) -> Adding
 {
     match making {
         Making::Bdd(BddMaking::Restrict(_, _)) => Adding::Chosen,
+        Making::Zdd(ZddMaking::Isop(_, _)) => Adding::Chosen,
         _ => Adding::Made,
     }
 }
@@ -110,6 +111,8 @@ struct Edges<'a> {
 
 impl<'b> Renaming<H, Edge, &'b [u32], &'b [(u32, H)]> for Edges<'_> {
     ghost is = { λ e k h. IsLiveAs k e.session.now h };
+
+    ghost most = { λ e. e.session.now.manager.vars };
 
     ghost vars = { λ e. variables_in e.session.now };
 
@@ -143,15 +146,15 @@ impl<'b> Renaming<H, Edge, &'b [u32], &'b [(u32, H)]> for Edges<'_> {
 }
 
 impl Session {
-    /// Makes a function of rows, as a new row; or tells that a value of it is out of range, where that may be.
+    /// Makes a function of rows, as a new row; or tells why there is none, where that may be.
     pub fn make<R: Wait>(
         &mut self,
         rt: &R,
         manager: &Manager,
         making: Making<H, &[u32], &[(u32, H)]>,
-    ) -> Result<Placed<Result<H, Overflow>>, Refusal>
+    ) -> Result<Placed<Result<H, Unmade>>, Refusal>
         requires { MayMake self.old manager.now (of_lent making) }
-        ensures { MakesOrExceeds self.old self.new (of_lent making.entry) result }
+        ensures { MakesOrTells self.old self.new (of_lent making.entry) result }
     {
         let rows = Edges { session: self };
         let Ok(pairs) = renamed_pairs(&rows, manager.allocator(), &making) else {
@@ -176,7 +179,7 @@ impl Session {
         )
     }
 
-    /// The same, where no value may be out of range.
+    /// The same, where there is always one.
     pub(crate) fn make_row<R: Wait>(
         &mut self,
         rt: &R,
@@ -184,7 +187,7 @@ impl Session {
         making: Making<H, &[u32], &[(u32, H)]>,
     ) -> Result<Placed<H>, Refusal>
         requires may { MayMake self.old manager.now (of_lent making) }
-        requires sure { may_exceed (of_lent making) ≡ false }
+        requires sure { unmade_as (of_lent making) ≡ None }
         ensures { MakesRow self.old self.new (of_lent making.entry) result }
     {
         let made = self.make(rt, manager, making)?;
@@ -192,6 +195,32 @@ impl Session {
         match made.value {
             Ok(value) => Ok(Placed { place, value }),
             Err(_) => unreachable!(),
+        }
+    }
+
+    /// The same, where only a value may be out of range.
+    pub(crate) fn make_exact<R: Wait>(
+        &mut self,
+        rt: &R,
+        manager: &Manager,
+        making: Making<H, &[u32], &[(u32, H)]>,
+    ) -> Result<Placed<Result<H, Overflow>>, Refusal>
+        requires may { MayMake self.old manager.now (of_lent making) }
+        requires sure { unmade_as (of_lent making) ≡ Some Unmade.Overflow }
+        ensures { MakesOrExceeds self.old self.new (of_lent making.entry) result }
+    {
+        let made = self.make(rt, manager, making)?;
+        let place = made.place;
+        match made.value {
+            Ok(name) => Ok(Placed {
+                place,
+                value: Ok(name),
+            }),
+            Err(Unmade::Overflow) => Ok(Placed {
+                place,
+                value: Err(Overflow),
+            }),
+            Err(Unmade::Apart) => unreachable!(),
         }
     }
 }

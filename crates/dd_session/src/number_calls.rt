@@ -136,7 +136,7 @@ impl Session {
         requires { MayMake self.old manager.now (makings.Exact (exacts.Plus f g)) }
         ensures { MakesOrExceeds self.old self.new (makings.Exact (exacts.Plus f g)) result }
     {
-        self.make(rt, manager, Making::Exact(ExactMaking::Plus(f, g)))
+        self.make_exact(rt, manager, Making::Exact(ExactMaking::Plus(f, g)))
     }
 
     /// The first of two rows less the second, as a new row, or Overflow where a value is below -2^46 or above 2^46 - 1.
@@ -150,7 +150,7 @@ impl Session {
         requires { MayMake self.old manager.now (makings.Exact (exacts.Minus f g)) }
         ensures { MakesOrExceeds self.old self.new (makings.Exact (exacts.Minus f g)) result }
     {
-        self.make(rt, manager, Making::Exact(ExactMaking::Minus(f, g)))
+        self.make_exact(rt, manager, Making::Exact(ExactMaking::Minus(f, g)))
     }
 
     /// The product of two rows, as a new row, or Overflow where a value is below -2^46 or above 2^46 - 1.
@@ -164,7 +164,7 @@ impl Session {
         requires { MayMake self.old manager.now (makings.Exact (exacts.Times f g)) }
         ensures { MakesOrExceeds self.old self.new (makings.Exact (exacts.Times f g)) result }
     {
-        self.make(rt, manager, Making::Exact(ExactMaking::Times(f, g)))
+        self.make_exact(rt, manager, Making::Exact(ExactMaking::Times(f, g)))
     }
 
     /// The sum of both cofactors of a row by a variable, as a new row, or Overflow where a value is below -2^46 or above 2^46 - 1.
@@ -178,6 +178,6 @@ impl Session {
         requires { MayMake self.old manager.now (makings.Exact (exacts.SumOver f v)) }
         ensures { MakesOrExceeds self.old self.new (makings.Exact (exacts.SumOver f v)) result }
     {
-        self.make(rt, manager, Making::Exact(ExactMaking::SumOver(f, v)))
+        self.make_exact(rt, manager, Making::Exact(ExactMaking::SumOver(f, v)))
     }
 }

@@ -1,6 +1,7 @@
 //! A call and its answer, as data of one type each, so that one function draws the places of all calls.
 
 use function_laws::{Making, Name, Order};
+use operator_calls::Unmade;
 use shared_store::Cell;
 
 /// A call, with what was passed.
@@ -43,8 +44,8 @@ pub enum Answer {
     Truth(bool),
     Value(i64),
     Done,
-    /// A value of the result is out of range.
-    Overflow,
+    /// The call ran to its end and made nothing.
+    Unmade(Unmade),
     /// The slots in use, and those that were needed.
     Full(u32, u32),
 }

@@ -3,14 +3,13 @@
 ghost use Rattle.std.specs.Prelude.{◌≡◌, ◌+◌, ◌<◌, ◌≤◌, ◌^◌, ℕ, [], Err, IfOk, IsErrOf, IsTrue, MatchResult, Ok, Some};
 ghost use Rattle.edge_bits.specs.declared.limits.TheConstants.{MOST_COUNT};
 ghost use Rattle.function_laws.specs.declared.history.Function.{Function};
-ghost use Rattle.function_laws.specs.declared.history.Reply.TheVariants as replies;
-ghost use Rattle.function_laws.specs.Outcomes.{overflows};
 ghost use Rattle.function_laws.specs.Steps.{TellsFull, may_be_full};
 ghost use Rattle.node_store.specs.Views.{Is};
 ghost use Rattle.seat_guard.specs.Passes.{IsPassOf, in_hand, known};
 ghost use Rattle.shared_store.specs.Sharing.{Serving, count, due, view_of};
 ghost use Rattle.dd_session.specs.Requests.{added_as, call_of};
-ghost use Rattle.dd_session.specs.Turns.{AddsRow, Gives, HasPlace, IsAdded, IsCausedBy, IsHolding, IsRefused, Keeps, MayBeFull, Notes, Told};
+ghost use Rattle.dd_session.specs.Sessions.{reply_unmade};
+ghost use Rattle.dd_session.specs.Turns.{AddsRow, Gives, HasPlace, IsAdded, IsCausedBy, IsHolding, IsRefused, Keeps, MayBeFull, Notes, Told, outcome_unmade};
 
 use crate::answers::{Full, Placed, Refusal};
 use crate::book::Book;
@@ -19,7 +18,7 @@ use crate::request::{Adding, Answer, Request};
 use edge_bits::{Edge, Kind};
 use function_laws::Name;
 use node_slots::Stop;
-use operator_calls::Overflow;
+use operator_calls::Unmade;
 use seat_guard::seat::{Guard, Pass};
 use shared_store::{Cell, Shared, put_back};
 
@@ -89,29 +88,30 @@ pub fn be_full(
     }
 }
 
-/// A value of the result is out of range.
-pub fn exceed(
+/// The call made nothing, and is told why.
+pub fn tell_unmade(
     guard: &Guard<Shared>,
     pass: &mut Pass<Shared>,
     book: &mut Book,
     shared: Shared,
     request: Request<'_>,
+    why: Unmade,
 ) -> u64
     requires hold { IsHolding guard.now pass.old }
     requires serves { Serving shared (known pass.old) }
     requires keeps { Keeps (known pass.old) book.old }
     requires place { HasPlace (known pass.old) }
-    requires outcome { Gives (known pass.old) (call_of request) overflows }
+    requires outcome { Gives (known pass.old) (call_of request) (outcome_unmade why) }
     ensures own { IsPassOf guard.now pass.new × (in_hand pass.new ≡ []) }
     ensures keeps { Keeps (known pass.new) book.new }
-    ensures told { Told (known pass.old) (known pass.new) (call_of request.entry) replies.Overflow result }
+    ensures told { Told (known pass.old) (known pass.new) (call_of request.entry) (reply_unmade why) result }
     ensures notes { Notes (known pass.old) (known pass.new) shared }
     ensures rows { book.new.rows ≡ book.old.rows }
 {
-    finish(guard, pass, book, shared, request, Answer::Overflow)
+    finish(guard, pass, book, shared, request, Answer::Unmade(why))
 }
 
-/// What an operation leaves that made an edge, found a value out of range, or was refused.
+/// What an operation leaves that made an edge, made nothing, or was refused.
 pub fn settle(
     guard: &Guard<Shared>,
     pass: &mut Pass<Shared>,
@@ -120,23 +120,23 @@ pub fn settle(
     request: Request<'_>,
     adding: Adding,
     kind: Kind,
-    made: Result<Result<Edge, Overflow>, Stop>,
-) -> Result<Placed<Result<Name, Overflow>>, Refusal>
+    made: Result<Result<Edge, Unmade>, Stop>,
+) -> Result<Placed<Result<Name, Unmade>>, Refusal>
     requires hold { IsHolding guard.now pass.old }
     requires serves { Serving shared (known pass.old) }
     requires keeps { Keeps (known pass.old) book.old }
     requires place { HasPlace (known pass.old) }
     requires spare { 1 ≤ book.old.rows.spare }
     requires few { (k : ℕ) → count shared k ≤ MOST_COUNT }
-    requires ok { IfOk made (λ told. MatchResult told (λ edge. Is kind (view_of shared) edge × AddsRow (known pass.old) (view_of shared) (call_of request) adding (record { kind = kind; edge = edge })) (λ _. Gives (known pass.old) (call_of request) overflows)) }
+    requires ok { IfOk made (λ told. MatchResult told (λ edge. Is kind (view_of shared) edge × AddsRow (known pass.old) (view_of shared) (call_of request) adding (record { kind = kind; edge = edge })) (λ why. Gives (known pass.old) (call_of request) (outcome_unmade why))) }
     requires one { (slots : ℕ) → TellsFull slots (call_of request) slots 1 }
     requires full { IsErrOf made Stop.Full → IsTrue (may_be_full (call_of request)) × MayBeFull (known pass.old) (call_of request) × ((f : Function) × (due shared ≡ Some f)) }
     ensures own { IsPassOf guard.now pass.new × (in_hand pass.new ≡ []) }
     ensures keeps { Keeps (known pass.new) book.new }
-    ensures told { MatchResult result (λ placed. MatchResult placed.value (λ name. IsAdded (known pass.old) (known pass.new) (call_of request.entry) adding name placed.place) (λ over. Told (known pass.old) (known pass.new) (call_of request.entry) replies.Overflow placed.place)) (IsRefused (known pass.old) (known pass.new) (call_of request.entry)) }
-    ensures over { IfOk result (λ placed. MatchResult placed.value (λ name. Unit {0}) (λ over. made ≡ Ok (Err over))) }
+    ensures told { MatchResult result (λ placed. MatchResult placed.value (λ name. IsAdded (known pass.old) (known pass.new) (call_of request.entry) adding name placed.place) (λ why. Told (known pass.old) (known pass.new) (call_of request.entry) (reply_unmade why) placed.place)) (IsRefused (known pass.old) (known pass.new) (call_of request.entry)) }
+    ensures why { IfOk result (λ placed. MatchResult placed.value (λ name. Unit {0}) (λ why. made ≡ Ok (Err why))) }
     ensures notes { Notes (known pass.old) (known pass.new) shared }
-    ensures spare { MatchResult result (λ placed. MatchResult placed.value (λ name. book.new.rows.spare + 1 ≡ book.old.rows.spare) (λ over. book.new.rows.spare ≡ book.old.rows.spare)) (λ refusal. book.new.rows.spare ≡ book.old.rows.spare) }
+    ensures spare { MatchResult result (λ placed. MatchResult placed.value (λ name. book.new.rows.spare + 1 ≡ book.old.rows.spare) (λ why. book.new.rows.spare ≡ book.old.rows.spare)) (λ refusal. book.new.rows.spare ≡ book.old.rows.spare) }
     ensures cause { IsCausedBy made result }
 {
     match made {
@@ -148,11 +148,11 @@ pub fn settle(
                 value: Ok(added.value),
             })
         }
-        Ok(Err(over)) => {
-            let place = exceed(guard, pass, book, shared, request);
+        Ok(Err(why)) => {
+            let place = tell_unmade(guard, pass, book, shared, request, why);
             Ok(Placed {
                 place,
-                value: Err(over),
+                value: Err(why),
             })
         }
         Err(Stop::Full) => {

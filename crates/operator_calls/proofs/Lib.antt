@@ -1,1 +1,2 @@
 pub mod MakingLaws
+mod CoverRuns

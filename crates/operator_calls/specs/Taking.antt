@@ -1,5 +1,5 @@
 -- What an operation takes, what stands for functions in what makes one, and the same with other things that stand for them.
-use Rattle.std.specs.Prelude.{◌≡◌, ℕ, ◌<◌, true, List, [], ◌∷◌, map, All}
+use Rattle.std.specs.Prelude.{◌≡◌, ℕ, ◌<◌, ◌≤◌, ◌*◌, true, List, [], ◌∷◌, map, All}
 use Rattle.std.specs.Borrow.{Bor}
 use Rattle.edge_bits.specs.Words.{IsLeafValue}
 use Rattle.edge_bits.specs.declared.edges.Kind.{Kind}
@@ -9,23 +9,23 @@ use Rattle.function_laws.specs.declared.making.Making.TheVariants as makings
 use Rattle.function_laws.specs.declared.making.BddMaking.TheVariants as bdds
 use Rattle.function_laws.specs.Makings.{Taken, function, variable, element, value, number, bit, variables, pairs, literals, are_distinct, mapped}
 
--- The conditions of what an operation takes, over so many variables and elements, and by what stands for a function of which kind: a
--- variable or an element is one of these, a value is one of a leaf, and no variable is put twice. No operator asks for the literals of
--- all variables yet.
-abbrev pub CanTake : {R : Type 0} → (Kind → R → Type 0) → ℕ → ℕ → Taken R → Type 0
-CanTake is vars elements (function k a) = is k a
-CanTake is vars elements (variable v) = v < vars
-CanTake is vars elements (element e) = e < elements
-CanTake is vars elements (value z) = IsLeafValue z
-CanTake is vars elements (number z) = Unit {0}
-CanTake is vars elements (bit b) = Unit {0}
-CanTake is vars elements (variables vs) = All (λ v. v < vars) vs
-CanTake is vars elements (pairs ps) = All (λ pair. pair.0 < vars) ps × All (λ pair. is kinds.Bdd pair.1) ps × (are_distinct (map (λ pair. pair.0) ps) ≡ true)
-CanTake is vars elements literals = ⊥
+-- The conditions of what an operation takes, over at most so many variables, so many that there are, and so many elements, and by what
+-- stands for a function of which kind: a variable or an element is one of these, a value is one of a leaf, no variable is put twice, and
+-- elements are enough for the two literals of each variable that there may be.
+abbrev pub CanTake : {R : Type 0} → (Kind → R → Type 0) → ℕ → ℕ → ℕ → Taken R → Type 0
+CanTake is most vars elements (function k a) = is k a
+CanTake is most vars elements (variable v) = v < vars
+CanTake is most vars elements (element e) = e < elements
+CanTake is most vars elements (value z) = IsLeafValue z
+CanTake is most vars elements (number z) = Unit {0}
+CanTake is most vars elements (bit b) = Unit {0}
+CanTake is most vars elements (variables vs) = All (λ v. v < vars) vs
+CanTake is most vars elements (pairs ps) = All (λ pair. pair.0 < vars) ps × All (λ pair. is kinds.Bdd pair.1) ps × (are_distinct (map (λ pair. pair.0) ps) ≡ true)
+CanTake is most vars elements literals = 2 * most ≤ elements
 
-abbrev pub CanTakeAll : {R : Type 0} → (Kind → R → Type 0) → ℕ → ℕ → List (Taken R) → Type 0
-CanTakeAll is vars elements [] = Unit {0}
-CanTakeAll is vars elements (one ∷ more) = CanTake is vars elements one × CanTakeAll is vars elements more
+abbrev pub CanTakeAll : {R : Type 0} → (Kind → R → Type 0) → ℕ → ℕ → ℕ → List (Taken R) → Type 0
+CanTakeAll is most vars elements [] = Unit {0}
+CanTakeAll is most vars elements (one ∷ more) = CanTake is most vars elements one × CanTakeAll is most vars elements more
 
 -- with what some variables and some pairs are as lists
 abbrev pub with_lists : {R V P : Type 0} → (V → List ℕ) → (P → List (ℕ × R)) → Making R V P → Making R (List ℕ) (List (ℕ × R))

@@ -1,20 +1,24 @@
 //! What makes a function of edges, run over any store by the operator of its name.
 
-ghost use Rattle.std.specs.Prelude.{◌≡◌, int_le, is_err, IsTrue};
+ghost use Rattle.std.specs.Prelude.{◌≡◌, int_le, is_err, IsTrue, None};
 ghost use Rattle.add_ops.specs.Conversions.{value_of_one};
 ghost use Rattle.add_ops.specs.Exact.{exact_halts};
 ghost use Rattle.edge_bits.specs.declared.edges.Kind.TheVariants as kinds;
 ghost use Rattle.function_laws.specs.declared.making.Making.TheVariants as makings;
-ghost use Rattle.function_laws.specs.Makings.{kind_made, needs_nodes};
+ghost use Rattle.function_laws.specs.declared.making.ZddMaking.TheVariants as zdds;
+ghost use Rattle.function_laws.specs.IrredundantCovers.{cover_value};
+ghost use Rattle.function_laws.specs.Makings.{needs_nodes};
 ghost use Rattle.function_laws.specs.Numbers.{at_least};
 ghost use Rattle.function_laws.specs.Values.{constant, projection};
-ghost use Rattle.node_store.specs.Operations.{Calls, CallsTo, halts};
-ghost use Rattle.node_store.specs.Views.{Denotes, Is, IsVariable, Kept, add_at};
-ghost use Rattle.operator_calls.specs.Making.{add_answer, add_takes, add_work, answer, exact_takes, exact_value, exact_work, exceeds, takes, work, zdd_answer, zdd_takes, zdd_work};
+ghost use Rattle.cover_isop.specs.Covers.{CoverCalls, cover_work};
+ghost use Rattle.node_store.specs.Operations.{Calls, halts};
+ghost use Rattle.node_store.specs.Views.{Denotes, Is, IsVariable, Kept, add_at, family_at};
+ghost use Rattle.operator_calls.specs.Making.{HasLiterals, RunsMaking, ServesMaking, takes, unmade_as};
 ghost use Rattle.operator_calls.specs.Taking.{of_lent};
 
+use crate::unmade::Unmade;
 use add_ops::Overflow;
-use edge_bits::{Edge, Kind};
+use edge_bits::{Edge, Kind, Memory};
 use function_laws::{AddMaking, BddMaking, ExactMaking, Making, ZddMaking};
 use node_store::{Grow, Stop};
 
@@ -46,13 +50,23 @@ fn at_least_in<G: Grow>(store: &mut G, edge: Edge, value: &i64) -> Result<Edge, 
     add_ops::at_least(store, edge, *value)
 }
 
+/// The function of a cover over all variables.
+fn function_of_cover<G: Grow>(store: &mut G, family: Edge) -> Result<Edge, Stop>
+    requires family { Is kinds.Zdd (G.view store.old) family }
+    requires literals { HasLiterals (G.view store.old) }
+    ensures { CoverCalls (λ e. Denotes kinds.Bdd (G.view store.new) e (cover_value (G.view store.old).vars (G.view store.old).elements (family_at (G.view store.old) family))) (cover_work (G.view store.old).vars family (G.view store.old)) (G.view store.old) (G.view store.new) (halts result) }
+{
+    let vars = store.levels(Kind::Bdd);
+    cover_isop::cover_of(store, family, vars)
+}
+
 /// What makes a BDD.
 fn run_bdd<G: Grow>(
     store: &mut G,
     making: &BddMaking<Edge, &[u32], &[(u32, Edge)]>,
 ) -> Result<Edge, Stop>
     requires { takes (of_lent (makings.Bdd making.now)) (G.view store.old) }
-    ensures serves { CallsTo kinds.Bdd (answer (of_lent (makings.Bdd making.now)) (G.view store.old) (G.view store.new)) ⊥ (work (of_lent (makings.Bdd making.now)) (G.view store.old)) (G.view store.old) (G.view store.new) (halts result) }
+    ensures serves { ServesMaking (of_lent (makings.Bdd making.now)) (G.view store.old) (G.view store.new) (halts result) }
     ensures sure { IsTrue (is_err result) → IsTrue (needs_nodes (of_lent (makings.Bdd making.now))) }
 {
     match making {
@@ -74,15 +88,14 @@ fn run_bdd<G: Grow>(
         BddMaking::Support(a) => quantify_ops::support(store, *a),
         BddMaking::AtLeast(a, value) => at_least_in(store, *a, value),
         BddMaking::Pattern(a) => add_ops::pattern(store, *a),
-        // No operator makes the function of a cover.
-        BddMaking::CoverOf(_) => unreachable!(),
+        BddMaking::CoverOf(a) => function_of_cover(store, *a),
     }
 }
 
 /// What makes an ADD whose values are in range.
 fn run_add<G: Grow>(store: &mut G, making: &AddMaking<Edge>) -> Result<Edge, Stop>
-    requires { add_takes making.now (G.view store.old) }
-    ensures { CallsTo kinds.Add (add_answer making.now (G.view store.old) (G.view store.new)) ⊥ (add_work making.now (G.view store.old)) (G.view store.old) (G.view store.new) (halts result) }
+    requires { takes (of_lent (makings.Add making.now)) (G.view store.old) }
+    ensures { ServesMaking (of_lent (makings.Add making.now)) (G.view store.old) (G.view store.new) (halts result) }
 {
     match making {
         AddMaking::Constant(value) => add_ops::constant(store, *value),
@@ -99,8 +112,8 @@ fn run_exact<G: Grow>(
     store: &mut G,
     making: &ExactMaking<Edge>,
 ) -> Result<Result<Edge, Overflow>, Stop>
-    requires { exact_takes making.now (G.view store.old) }
-    ensures { Calls kinds.Add (exact_value making.now (G.view store.old)) (exact_work making.now (G.view store.old)) (G.view store.old) (G.view store.new) (exact_halts result) }
+    requires { takes (of_lent (makings.Exact making.now)) (G.view store.old) }
+    ensures { ServesMaking (of_lent (makings.Exact making.now)) (G.view store.old) (G.view store.new) (exact_halts result) }
 {
     match making {
         ExactMaking::Plus(a, b) => add_ops::plus(store, *a, *b),
@@ -110,10 +123,23 @@ fn run_exact<G: Grow>(
     }
 }
 
-/// What makes a ZDD.
+/// A cover between two bounds, where the first is below the second.
+fn run_isop<G: Grow>(store: &mut G, lower: Edge, upper: Edge) -> Result<Result<Edge, Unmade>, Stop>
+    requires { takes (makings.Zdd (zdds.Isop lower upper)) (G.view store.old) }
+    ensures { RunsMaking (makings.Zdd (zdds.Isop lower upper)) (G.view store.old) (G.view store.new) result }
+{
+    match ite_core::leq(store, lower, upper) {
+        Ok(true) => Ok(Ok(cover_isop::isop(store, lower, upper)?)),
+        Ok(false) => Ok(Err(Unmade::Apart)),
+        Err(Memory) => Err(Stop::Memory),
+    }
+}
+
+/// What makes a ZDD, if there is always one.
 fn run_zdd<G: Grow>(store: &mut G, making: &ZddMaking<Edge>) -> Result<Edge, Stop>
-    requires { zdd_takes making.now (G.view store.old) }
-    ensures serves { CallsTo kinds.Zdd (zdd_answer making.now (G.view store.old) (G.view store.new)) ⊥ (zdd_work making.now (G.view store.old)) (G.view store.old) (G.view store.new) (halts result) }
+    requires takes { takes (of_lent (makings.Zdd making.now)) (G.view store.old) }
+    requires sure { unmade_as (of_lent (makings.Zdd making.now)) ≡ None }
+    ensures serves { ServesMaking (of_lent (makings.Zdd making.now)) (G.view store.old) (G.view store.new) (halts result) }
     ensures sure { IsTrue (is_err result) → IsTrue (needs_nodes (of_lent (makings.Zdd making.now))) }
 {
     match making {
@@ -128,26 +154,29 @@ fn run_zdd<G: Grow>(store: &mut G, making: &ZddMaking<Edge>) -> Result<Edge, Sto
         ZddMaking::Change(a, element) => zdd_ops::change(store, *a, *element),
         ZddMaking::Product(a, b) => zdd_ops::product(store, *a, *b),
         ZddMaking::Quotient(a, b) => zdd_ops::quotient(store, *a, *b),
-        // No operator makes a cover.
         ZddMaking::Isop(_, _) => unreachable!(),
     }
 }
 
 /// What makes a function, run by the operator of its name. Only what makes a sum, a difference, a product or a sum over a variable
-/// may find a value out of range, and what makes a constant BDD, a projection, a complement or a family of no operand is never refused.
+/// may find a value out of range, only what makes a cover may find its bounds apart, and what makes a constant BDD, a projection, a complement or a family of no operand is never refused.
 /// It takes the operator's time.
 pub fn run<G: Grow>(
     store: &mut G,
     making: &Making<Edge, &[u32], &[(u32, Edge)]>,
-) -> Result<Result<Edge, Overflow>, Stop>
+) -> Result<Result<Edge, Unmade>, Stop>
     requires { takes (of_lent making.now) (G.view store.old) }
-    ensures serves { CallsTo (kind_made making.now) (answer (of_lent making.now) (G.view store.old) (G.view store.new)) (exceeds (of_lent making.now) (G.view store.old)) (work (of_lent making.now) (G.view store.old)) (G.view store.old) (G.view store.new) (exact_halts result) }
+    ensures runs { RunsMaking (of_lent making.now) (G.view store.old) (G.view store.new) result }
     ensures sure { IsTrue (is_err result) → IsTrue (needs_nodes (of_lent making.now)) }
 {
     match making {
         Making::Bdd(making) => Ok(Ok(run_bdd(store, making)?)),
         Making::Add(making) => Ok(Ok(run_add(store, making)?)),
-        Making::Exact(making) => run_exact(store, making),
+        Making::Exact(making) => match run_exact(store, making)? {
+            Ok(edge) => Ok(Ok(edge)),
+            Err(Overflow) => Ok(Err(Unmade::Overflow)),
+        },
+        Making::Zdd(ZddMaking::Isop(lower, upper)) => run_isop(store, *lower, *upper),
         Making::Zdd(making) => Ok(Ok(run_zdd(store, making)?)),
     }
 }

@@ -4,7 +4,9 @@
 
 mod dispatch;
 mod renaming;
+mod unmade;
 
 pub use add_ops::Overflow;
 pub use dispatch::run;
 pub use renaming::{Renaming, renamed, renamed_pairs};
+pub use unmade::Unmade;

@@ -3,7 +3,7 @@
 ghost use Rattle.std.specs.Prelude.{◌≡◌, map, IfOk};
 ghost use Rattle.function_laws.specs.declared.making.Making.TheVariants as makings;
 ghost use Rattle.function_laws.specs.Makings.{needs_nodes, taken};
-ghost use Rattle.operator_calls.specs.Making.{may_exceed};
+ghost use Rattle.operator_calls.specs.Making.{unmade_as};
 ghost use Rattle.operator_calls.specs.Taking.{CanTakeAll, of_lent, pairs_in, renamed_by, with_given, with_lists};
 
 use edge_bits::Memory;
@@ -20,6 +20,9 @@ pub trait Renaming<R, S, V, P> {
 
     // It stands for a function of the kind.
     ghost is: { Self → Kind → R → Type 0 };
+
+    // How many variables there may be at most.
+    ghost most: { Self → ℕ };
 
     // How many variables and elements there are.
     ghost vars: { Self → ℕ };
@@ -51,7 +54,7 @@ fn bdd_pairs<R, S, V, P, N: Renaming<R, S, V, P>>(
     alloc: Global,
     making: &BddMaking<R, V, P>,
 ) -> Result<Vec<(u32, S)>, Memory>
-    requires { CanTakeAll (N.is names.now) (N.vars names.now) (N.elements names.now) (taken (with_lists N.listed N.paired (makings.Bdd making.now))) }
+    requires { CanTakeAll (N.is names.now) (N.most names.now) (N.vars names.now) (N.elements names.now) (taken (with_lists N.listed N.paired (makings.Bdd making.now))) }
     ensures { IfOk result (λ given. given.items ≡ map (with_given (N.gives names.now)) (pairs_in (with_lists N.listed N.paired (makings.Bdd making.now)))) }
 {
     match making {
@@ -66,7 +69,7 @@ pub fn renamed_pairs<R, S, V, P, N: Renaming<R, S, V, P>>(
     alloc: Global,
     making: &Making<R, V, P>,
 ) -> Result<Vec<(u32, S)>, Memory>
-    requires { CanTakeAll (N.is names.now) (N.vars names.now) (N.elements names.now) (taken (with_lists N.listed N.paired making.now)) }
+    requires { CanTakeAll (N.is names.now) (N.most names.now) (N.vars names.now) (N.elements names.now) (taken (with_lists N.listed N.paired making.now)) }
     ensures { IfOk result (λ given. given.items ≡ map (with_given (N.gives names.now)) (pairs_in (with_lists N.listed N.paired making.now))) }
 {
     match making {
@@ -81,11 +84,11 @@ fn bdd_renamed<'a, R, S, V, P, N: Renaming<R, S, V, P>>(
     making: &'a BddMaking<R, V, P>,
     given: &'a [(u32, S)],
 ) -> BddMaking<S, &'a [u32], &'a [(u32, S)]>
-    requires can { CanTakeAll (N.is names.now) (N.vars names.now) (N.elements names.now) (taken (with_lists N.listed N.paired (makings.Bdd making.now))) }
+    requires can { CanTakeAll (N.is names.now) (N.most names.now) (N.vars names.now) (N.elements names.now) (taken (with_lists N.listed N.paired (makings.Bdd making.now))) }
     requires given { given.now ≡ map (with_given (N.gives names.now)) (pairs_in (with_lists N.listed N.paired (makings.Bdd making.now))) }
     ensures same { of_lent (makings.Bdd result) ≡ renamed_by (N.gives names.now) (with_lists N.listed N.paired (makings.Bdd making.now)) }
     ensures needs { needs_nodes (of_lent (makings.Bdd result)) ≡ needs_nodes (with_lists N.listed N.paired (makings.Bdd making.now)) }
-    ensures exceeds { may_exceed (of_lent (makings.Bdd result)) ≡ may_exceed (with_lists N.listed N.paired (makings.Bdd making.now)) }
+    ensures unmade { unmade_as (of_lent (makings.Bdd result)) ≡ unmade_as (with_lists N.listed N.paired (makings.Bdd making.now)) }
 {
     match making {
         BddMaking::One => BddMaking::One,
@@ -117,10 +120,10 @@ fn add_renamed<R, S, V, P, N: Renaming<R, S, V, P>>(
     names: &N,
     making: &AddMaking<R>,
 ) -> AddMaking<S>
-    requires can { CanTakeAll (N.is names.now) (N.vars names.now) (N.elements names.now) (taken (with_lists N.listed N.paired (makings.Add making.now))) }
+    requires can { CanTakeAll (N.is names.now) (N.most names.now) (N.vars names.now) (N.elements names.now) (taken (with_lists N.listed N.paired (makings.Add making.now))) }
     ensures same { of_lent (makings.Add result) ≡ renamed_by (N.gives names.now) (with_lists N.listed N.paired (makings.Add making.now)) }
     ensures needs { needs_nodes (of_lent (makings.Add result)) ≡ needs_nodes (with_lists N.listed N.paired (makings.Add making.now)) }
-    ensures exceeds { may_exceed (of_lent (makings.Add result)) ≡ may_exceed (with_lists N.listed N.paired (makings.Add making.now)) }
+    ensures unmade { unmade_as (of_lent (makings.Add result)) ≡ unmade_as (with_lists N.listed N.paired (makings.Add making.now)) }
 {
     match making {
         AddMaking::Constant(value) => AddMaking::Constant(*value),
@@ -139,10 +142,10 @@ fn exact_renamed<R, S, V, P, N: Renaming<R, S, V, P>>(
     names: &N,
     making: &ExactMaking<R>,
 ) -> ExactMaking<S>
-    requires can { CanTakeAll (N.is names.now) (N.vars names.now) (N.elements names.now) (taken (with_lists N.listed N.paired (makings.Exact making.now))) }
+    requires can { CanTakeAll (N.is names.now) (N.most names.now) (N.vars names.now) (N.elements names.now) (taken (with_lists N.listed N.paired (makings.Exact making.now))) }
     ensures same { of_lent (makings.Exact result) ≡ renamed_by (N.gives names.now) (with_lists N.listed N.paired (makings.Exact making.now)) }
     ensures needs { needs_nodes (of_lent (makings.Exact result)) ≡ needs_nodes (with_lists N.listed N.paired (makings.Exact making.now)) }
-    ensures exceeds { may_exceed (of_lent (makings.Exact result)) ≡ may_exceed (with_lists N.listed N.paired (makings.Exact making.now)) }
+    ensures unmade { unmade_as (of_lent (makings.Exact result)) ≡ unmade_as (with_lists N.listed N.paired (makings.Exact making.now)) }
 {
     match making {
         ExactMaking::Plus(a, b) => ExactMaking::Plus(names.give(a), names.give(b)),
@@ -157,10 +160,10 @@ fn zdd_renamed<R, S, V, P, N: Renaming<R, S, V, P>>(
     names: &N,
     making: &ZddMaking<R>,
 ) -> ZddMaking<S>
-    requires can { CanTakeAll (N.is names.now) (N.vars names.now) (N.elements names.now) (taken (with_lists N.listed N.paired (makings.Zdd making.now))) }
+    requires can { CanTakeAll (N.is names.now) (N.most names.now) (N.vars names.now) (N.elements names.now) (taken (with_lists N.listed N.paired (makings.Zdd making.now))) }
     ensures same { of_lent (makings.Zdd result) ≡ renamed_by (N.gives names.now) (with_lists N.listed N.paired (makings.Zdd making.now)) }
     ensures needs { needs_nodes (of_lent (makings.Zdd result)) ≡ needs_nodes (with_lists N.listed N.paired (makings.Zdd making.now)) }
-    ensures exceeds { may_exceed (of_lent (makings.Zdd result)) ≡ may_exceed (with_lists N.listed N.paired (makings.Zdd making.now)) }
+    ensures unmade { unmade_as (of_lent (makings.Zdd result)) ≡ unmade_as (with_lists N.listed N.paired (makings.Zdd making.now)) }
 {
     match making {
         ZddMaking::Empty => ZddMaking::Empty,
@@ -184,11 +187,11 @@ pub fn renamed<'a, R, S, V, P, N: Renaming<R, S, V, P>>(
     making: &'a Making<R, V, P>,
     given: &'a [(u32, S)],
 ) -> Making<S, &'a [u32], &'a [(u32, S)]>
-    requires can { CanTakeAll (N.is names.now) (N.vars names.now) (N.elements names.now) (taken (with_lists N.listed N.paired making.now)) }
+    requires can { CanTakeAll (N.is names.now) (N.most names.now) (N.vars names.now) (N.elements names.now) (taken (with_lists N.listed N.paired making.now)) }
     requires given { given.now ≡ map (with_given (N.gives names.now)) (pairs_in (with_lists N.listed N.paired making.now)) }
     ensures same { of_lent result ≡ renamed_by (N.gives names.now) (with_lists N.listed N.paired making.now) }
     ensures needs { needs_nodes (of_lent result) ≡ needs_nodes (with_lists N.listed N.paired making.now) }
-    ensures exceeds { may_exceed (of_lent result) ≡ may_exceed (with_lists N.listed N.paired making.now) }
+    ensures unmade { unmade_as (of_lent result) ≡ unmade_as (with_lists N.listed N.paired making.now) }
 {
     match making {
         Making::Bdd(making) => Making::Bdd(bdd_renamed(names, making, given)),

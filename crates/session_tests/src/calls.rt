@@ -25,7 +25,7 @@ fn is_bdd(session: &Session, h: H) -> bool
 }
 
 /// The session has few rows and has made few calls.
-fn has_room(rt: &impl Abort, session: &Session)
+pub fn has_room(rt: &impl Abort, session: &Session)
     ensures { HasRoom session.now }
 {
     assert!(rt; session.live() < 1000 && session.calls() < 100_000);

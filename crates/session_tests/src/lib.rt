@@ -4,6 +4,8 @@
 #[cfg(test)]
 mod calls;
 #[cfg(test)]
+mod covers;
+#[cfg(test)]
 mod full_tables;
 #[cfg(test)]
 mod listings;

@@ -1,7 +1,7 @@
 use Rattle.dd_session.proofs.session.Session.sum_over.Goals as goal
 
-pub make-requires : goal.make-requires
-make-requires g c = c.requires
+pub make_exact-requires-clause-may : goal.make_exact-requires-clause-may
+make_exact-requires-clause-may g c = c.requires
 
 pub returns : goal.returns
-returns g c = c.make.ensures
+returns g c = c.make_exact.ensures
