@@ -8,7 +8,7 @@ import sys
 from legal import Illegal, TooLarge, judge
 from rows import rows_of
 
-OTHERS = {"yes": "no", "no": "yes", "ok": "full", "full": "ok", "overflow": "ok", "posted": "empty", "empty": "posted"}
+OTHERS = {"yes": "no", "no": "yes", "ok": "full", "full": "ok", "overflow": "ok", "apart": "ok", "posted": "empty", "empty": "posted"}
 
 
 def is_legal(job, history):

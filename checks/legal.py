@@ -9,11 +9,13 @@ LEAST, MOST = -(2**46), 2**46 - 1
 MANY = 10
 # At how many places an answer of `restrict` may be left free, so that all of them are gone through.
 FREE = 8
+# Of how many products a cover may be chosen, so that all covers are gone through.
+PRIMES = 12
 # The commands whose result is there already, so that they are never refused a slot.
 READY = {"true", "false", "var", "not", "empty", "base", "copy", "fetch"}
 # The commands that make numbers and families. What copies and fetches make is of the kind of their operand, the others make BDDs.
 NUMBERS = {"num", "ofbdd", "plus", "minus", "times", "min", "max", "threshold", "addite", "sum"}
-FAMILIES = {"empty", "base", "single", "union", "meet", "diff", "on", "off", "flip", "product", "quotient"}
+FAMILIES = {"empty", "base", "single", "union", "meet", "diff", "on", "off", "flip", "product", "quotient", "isop"}
 
 
 class Illegal(Exception):
@@ -26,6 +28,10 @@ class TooLarge(Exception):
 
 class Overflow(Exception):
     """A value is out of range."""
+
+
+class Apart(Exception):
+    """The first of two functions is not below the second."""
 
 
 def job_of(text):
@@ -139,8 +145,34 @@ def quotient_of(p, q):
     return tuple(int(bool(divisor) and all(a & b == 0 and p[a | b] for b in divisor)) for a in range(len(p)))
 
 
+def holds(a, k, n):
+    """Whether a combination holds at k as a product of literals: element 2v is the variable v, and 2v + 1 its complement."""
+    return not any(a >> 2 * v + (k >> v & 1) & 1 for v in range(n))
+
+
+def function_of_cover(p, n):
+    members = [a for a in range(len(p)) if p[a]]
+    return tuple(int(any(holds(a, k, n) for a in members)) for k in range(2**n))
+
+
+def covers_between(lower, upper, n, m):
+    """All irredundant covers between two functions. Raises Apart if the first is not below the second."""
+    if any(x > y for x, y in zip(lower, upper)):
+        raise Apart
+    is_within = lambda a: all(upper[k] for k in range(2**n) if holds(a, k, n))
+    within = [a for a in map(sum, product(*[(0, 1 << 2 * v, 2 << 2 * v) for v in range(n)])) if is_within(a)]
+    primes = [a for a in within if not any(a >> e & 1 and is_within(a & ~(1 << e)) for e in range(2 * n))]
+    if len(primes) > PRIMES:
+        raise TooLarge
+    covers = lambda chosen: all(any(holds(a, k, n) for a in chosen) for k in range(2**n) if lower[k])
+    subsets = [[a for a, is_in in zip(primes, choice) if is_in] for choice in product((0, 1), repeat=len(primes))]
+    irredundant = [it for it in subsets if covers(it) and not any(covers([b for b in it if b != a]) for a in it)]
+    return [tuple(int(a in it) for a in range(2**m)) for it in irredundant]
+
+
 def made(words, given, n, m):
-    """The functions that a command may make of these operands: one, but for `restrict`. Raises Overflow if a value is out of range."""
+    """The functions that a command may make of these operands: one, but for `restrict` and `isop`. Raises Overflow if a value is out
+    of range, and Apart if bounds are."""
     word, rest = words[0], words[1:]
     size, places = 2**n, range(2**n)
     numbers = [int(it) for it in rest if it.lstrip("-").isdigit()]
@@ -213,6 +245,10 @@ def made(words, given, n, m):
             return [product_of(f, g)]
         case "quotient":
             return [quotient_of(f, g)]
+        case "isop":
+            return covers_between(f, g, n, m)
+        case "coverof":
+            return [function_of_cover(f, n)]
     raise Illegal(f"no such command: {word}")
 
 
@@ -250,7 +286,7 @@ class Session:
         """Goes past its next call."""
         if self.left and not self.has_stopped:
             self.left.pop(0)
-        self.has_stopped = self.has_stopped or reply in ("full", "overflow")
+        self.has_stopped = self.has_stopped or reply in ("full", "overflow", "apart")
         if words[0] == "drop":
             self.assigned.remove(words[1])
         elif words[1:2] == ["="] and reply in ("ok", "posted", "empty"):
@@ -274,6 +310,8 @@ def after(words, reply, session, kinds, world, n, m):
             functions = made(words[2:], given, n, m)
         except Overflow:
             return [world] if reply in ("overflow", "full") else []
+        except Apart:
+            return [world] if reply == "apart" else []
         if reply == "full":
             return [] if words[2] in READY else [world]
         if reply != "ok":

@@ -101,7 +101,7 @@ fitting (p ∷ ps) repeated (w ∷ words) h =
     ap (option_map (λ more. (p, w) ∷ more)) (fitting ps repeated words (sym (is_some_map (λ more. (p, w) ∷ more) (filled ps repeated words)) ∙ h))
 
 -- the line of a command that was found
-pub filled_is : (forms : List Form) (before : List (Place × Word)) (command : Word) (words : List Word) (own : Known) → Some (form_of own) ≡ form_in forms command
-    → option_map {U = Opcode × List (Place × Word)} (λ more. (own.opcode, before ++ more)) (filled own.places.now own.repeated.now words) ≡ command_in forms before command words
-filled_is forms before command words own found =
-    ap (λ o. option_and_then (λ known. option_map {U = Opcode × List (Place × Word)} (λ more. (known.opcode, before ++ more)) (filled known.places known.repeated words)) o) found
+pub filled_is : (forms : List Form) (before : List (Place × Word)) (command : Word) (due : Form → List Word) (own : Known) → Some (form_of own) ≡ form_in forms command
+    → option_map {U = Opcode × List (Place × Word)} (λ more. (own.opcode, before ++ more)) (filled own.places.now own.repeated.now (due (form_of own))) ≡ command_in forms before command due
+filled_is forms before command due own found =
+    ap (λ o. option_and_then (λ known. option_map {U = Opcode × List (Place × Word)} (λ more. (known.opcode, before ++ more)) (filled known.places known.repeated (due known))) o) found

@@ -1,5 +1,5 @@
 -- The commands: their words, what is due behind them, and what they do with it; and the form of a line.
-use Rattle.std.specs.Prelude.{ℕ, pos, Bool, false, List, [], ◌∷◌, ◌++◌, Option, Some, None, codes, drop, if◌then◌else◌, find, option_and_then, slice_index, slice_index_or}
+use Rattle.std.specs.Prelude.{ℕ, pos, Bool, true, false, List, [], ◌∷◌, ◌++◌, Option, Some, None, codes, drop, if◌then◌else◌, find, option_and_then, slice_index, slice_index_or}
 use Rattle.std.specs.List.{zip}
 use Rattle.std.specs.Option.{option_map}
 use Rattle.std.specs.Str.{bytes_eq}
@@ -18,12 +18,12 @@ use Rattle.job_commands.specs.declared.acts.Act.TheVariants as acts
 use Rattle.job_commands.specs.declared.commands.Opcode.{Opcode}
 use Rattle.job_commands.specs.declared.commands.Opcode.TheVariants as does
 use Rattle.job_commands.specs.declared.commands.Place.{Place}
-use Rattle.job_commands.specs.declared.commands.Place.TheVariants.{Fresh, Held, Any, Alike, Variable, NewVariable, Element, Level, Cell, Value, Bit, Bits}
+use Rattle.job_commands.specs.declared.commands.Place.TheVariants.{Fresh, Held, Any, Alike, Variable, NewVariable, Element, Level, Cell, Value, Bit, Bits, Literals}
 use Rattle.job_commands.specs.declared.operands.Operands.{Operands}
 use Rattle.job_words.specs.Text.{Word, is_number, is_integer, is_name, is_bit, is_bits}
 
 -- A command: its word, what it does, and what is due behind the word. First come the places, and then those that repeat,
--- from the first to the last, any number of times.
+-- from the first to the last, any number of times. Where the first place is that of literals, the word itself stands there.
 pub record Form : Type 0 where
   pub word : Word
   pub opcode : Opcode
@@ -85,6 +85,8 @@ assigning =
     ∷ form (codes "flip") (does.Makes (makings.Zdd (zdds.Change tt 0))) (zdd ∷ Element ∷ []) []
     ∷ form (codes "product") (does.Makes (makings.Zdd (zdds.Product tt tt))) (zdd ∷ zdd ∷ []) []
     ∷ form (codes "quotient") (does.Makes (makings.Zdd (zdds.Quotient tt tt))) (zdd ∷ zdd ∷ []) []
+    ∷ form (codes "isop") (does.Makes (makings.Zdd (zdds.Isop tt tt))) (Literals ∷ bdd ∷ bdd ∷ []) []
+    ∷ form (codes "coverof") (does.Makes (makings.Bdd (bdds.CoverOf tt))) (Literals ∷ zdd ∷ []) []
     ∷ form (codes "copy") does.Copy (Any ∷ []) []
     ∷ form (codes "fetch") does.Fetch (Cell ∷ Any ∷ []) []
     ∷ []
@@ -129,18 +131,27 @@ filled [] [] (word ∷ words) = None
 filled [] (place ∷ places) (word ∷ words) = option_map (λ slots. (place, word) ∷ slots) (filled places (place ∷ places) words)
 filled (place ∷ places) repeated (word ∷ words) = option_map (λ slots. (place, word) ∷ slots) (filled places repeated words)
 
--- what a command of a table does, behind these places, and all places with their words
-abbrev pub command_in : List Form → List (Place × Word) → Word → List Word → Option (Opcode × List (Place × Word))
-command_in forms before command words =
-    option_and_then (λ known. option_map (λ slots. (known.opcode, before ++ slots)) (filled known.places known.repeated words)) (form_in forms command)
+-- something is due at the word of a command itself
+abbrev pub is_at_word : List Place → Bool
+is_at_word (Literals ∷ places) = true
+is_at_word _ = false
+
+-- the words at the places of a command that assigns: those behind its word, and before them this word where something is due at it
+abbrev pub words_at : List Place → Word → List Word → List Word
+words_at places command words = if is_at_word places then command ∷ words else words
+
+-- what a command of a table does, behind these places, and all places with their words, where these are due for it
+abbrev pub command_in : List Form → List (Place × Word) → Word → (Form → List Word) → Option (Opcode × List (Place × Word))
+command_in forms before command due =
+    option_and_then (λ known. option_map (λ slots. (known.opcode, before ++ slots)) (filled known.places known.repeated (due known))) (form_in forms command)
 
 -- of `r = COMMAND WORDS`
 abbrev pub assignment_of : Word → Word → List Word → Option (Opcode × List (Place × Word))
-assignment_of r command words = command_in assigning ((Fresh, r) ∷ []) command words
+assignment_of r command words = command_in assigning ((Fresh, r) ∷ []) command (λ known. words_at known.places command words)
 
 -- of `COMMAND WORDS`
 abbrev pub telling_of : Word → List Word → Option (Opcode × List (Place × Word))
-telling_of command words = command_in telling [] command words
+telling_of command words = command_in telling [] command (λ known. words)
 
 -- what a line does and its places with their words, where it has the form of a command; where the second word is `=`, it assigns
 abbrev pub command_of : List Word → Option (Opcode × List (Place × Word))
@@ -164,6 +175,7 @@ has_form (Cell, word) = is_number word
 has_form (Value, word) = is_integer word
 has_form (Bit, word) = is_bit word
 has_form (Bits, word) = is_bits word
+has_form (Literals, word) = is_name word
 
 -- what makes a function of the operands, each taken in its turn
 abbrev pub made_of : Making (Unit {0}) (Unit {0}) (Unit {0}) → Operands → Making ℕ (List ℕ) (List (ℕ × ℕ))

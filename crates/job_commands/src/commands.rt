@@ -67,9 +67,12 @@ pub enum Place {
     Bit,
     /// As many bits as are due for the register to its left.
     Bits,
+    /// The word of the command itself, where there must be an element for each literal: two for each variable.
+    Literals,
 }
 
 /// A command: its word, what it does, and what is due behind the word, first the places and then those that repeat any number of times.
+/// Where the first place is `Literals`, the word itself stands there.
 #[derive(Clone, Copy)]
 pub struct Known {
     pub word: &'static [u8],
@@ -88,7 +91,7 @@ const ADD: Place = Place::Held(Kind::Add);
 const ZDD: Place = Place::Held(Kind::Zdd);
 
 /// The commands that assign, by the word behind `r =`.
-const ASSIGNING: [Known; 41] = [
+const ASSIGNING: [Known; 43] = [
     Known {
         word: b"true",
         opcode: Opcode::Makes(Making::Bdd(BddMaking::One)),
@@ -321,6 +324,18 @@ const ASSIGNING: [Known; 41] = [
         word: b"quotient",
         opcode: Opcode::Makes(Making::Zdd(ZddMaking::Quotient((), ()))),
         places: &[ZDD, ZDD],
+        repeated: &[],
+    },
+    Known {
+        word: b"isop",
+        opcode: Opcode::Makes(Making::Zdd(ZddMaking::Isop((), ()))),
+        places: &[Place::Literals, BDD, BDD],
+        repeated: &[],
+    },
+    Known {
+        word: b"coverof",
+        opcode: Opcode::Makes(Making::Bdd(BddMaking::CoverOf(()))),
+        places: &[Place::Literals, ZDD],
         repeated: &[],
     },
     Known {

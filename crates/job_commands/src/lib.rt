@@ -9,4 +9,4 @@ mod slots;
 pub use acts::Act;
 pub use commands::{Opcode, Place};
 pub use operands::Operands;
-pub use slots::{Line, Slot, Slots, all_have_form, as_assignment, command_line};
+pub use slots::{Line, Slot, Slots, all_have_form, command_line};

@@ -1,9 +1,9 @@
 //! The words of a line at the places of its command.
 
-ghost use Rattle.std.specs.Prelude.{◌≡◌, ◌++◌, ◌∷◌, [], ◌<◌, codes, false, is_some, length, option_map, MatchOption};
+ghost use Rattle.std.specs.Prelude.{◌≡◌, ◌++◌, ◌∷◌, [], ◌<◌, codes, false, is_some, length, option_map, MatchOption, List as ListOf};
 ghost use Rattle.std.specs.List.{list_all};
-ghost use Rattle.job_words.specs.Text.{is_assignment, split_words};
-ghost use Rattle.job_commands.specs.Commands.{filled, assignment_of, telling_of, command_of, has_form};
+ghost use Rattle.job_words.specs.Text.{Word, is_assignment, split_words};
+ghost use Rattle.job_commands.specs.Commands.{filled, assignment_of, telling_of, command_of, has_form, is_at_word};
 ghost use Rattle.job_commands.specs.Slots.{slot_of, slots_of, slots_before, line_of, or_again};
 
 use crate::commands::{Known, Opcode, Place, assigning, telling};
@@ -38,7 +38,9 @@ impl Slot<'_> {
         ensures { result ≡ has_form (slot_of self.now) }
     {
         match self.place {
-            Place::Fresh | Place::Held(_) | Place::Any | Place::Alike => is_name(self.word),
+            Place::Fresh | Place::Held(_) | Place::Any | Place::Alike | Place::Literals => {
+                is_name(self.word)
+            }
             Place::Variable | Place::NewVariable | Place::Element | Place::Level(_) | Place::Cell =>
                 { is_number(self.word) }
             Place::Value => is_integer(self.word),
@@ -144,18 +146,27 @@ fn filled<'a>(first: Option<Slot<'a>>, command: Known, words: &'a [u8]) -> Optio
     })
 }
 
-/// `r = COMMAND WORDS`
-fn assignment<'a>(r: &'a [u8], command: &[u8], words: &'a [u8]) -> Option<Line<'a>>
-    ensures { option_map line_of result ≡ assignment_of r.now command.now (split_words words.now) }
+/// Whether something is due at the word of the command itself.
+fn is_at_word(command: Known) -> bool
+    ensures { result ≡ is_at_word command.places.now }
 {
-    let Some(command) = assigning(command) else {
+    matches!(command.places, [Place::Literals, ..])
+}
+
+/// `r = WORDS`, the first of which is the command.
+fn assignment<'a>(r: &'a [u8], words: &'a [u8]) -> Option<Line<'a>>
+    ensures { (command : Word) (rest : ListOf Word) → split_words words.now ≡ command ∷ rest → option_map line_of result ≡ assignment_of r.now command rest }
+{
+    let (word, behind) = first_word(words)?;
+    let Some(command) = assigning(word) else {
         return None;
     };
     let target = Slot {
         place: Place::Fresh,
         word: r,
     };
-    filled(Some(target), command, words)
+    let due = if is_at_word(command) { words } else { behind };
+    filled(Some(target), command, due)
 }
 
 /// `COMMAND WORDS`
@@ -168,15 +179,14 @@ fn statement<'a>(command: &[u8], words: &'a [u8]) -> Option<Line<'a>>
     filled(None, command, words)
 }
 
-/// A target and, behind `=`, a command and its words.
-pub fn as_assignment(words: &[u8]) -> Option<(&[u8], &[u8], &[u8])>
-    ensures { MatchOption result (is_assignment (split_words words.now) ≡ false) (λ p. split_words words.now ≡ p.0.now ∷ codes "=" ∷ p.1.now ∷ split_words p.2.now) }
+/// A target and, behind `=`, the words from that of the command on.
+fn as_assignment(words: &[u8]) -> Option<(&[u8], &[u8])>
+    ensures { MatchOption result (is_assignment (split_words words.now) ≡ false) (λ p. (command : Word) × (rest : ListOf Word) × (split_words words.now ≡ p.0.now ∷ codes "=" ∷ command ∷ rest) × (split_words p.1.now ≡ command ∷ rest)) }
 {
     let (r, rest) = first_word(words)?;
     let (equals, rest) = first_word(rest)?;
-    let (command, rest) = first_word(rest)?;
-    if equals == b"=".as_slice() {
-        Some((r, command, rest))
+    if equals == b"=".as_slice() && first_word(rest).is_some() {
+        Some((r, rest))
     } else {
         None
     }
@@ -199,7 +209,7 @@ pub fn command_line<'a>(words: &'a [u8]) -> Option<Line<'a>>
     ensures { option_map line_of result ≡ command_of (split_words words.now) }
 {
     match as_assignment(words) {
-        Some((r, command, rest)) => assignment(r, command, rest),
+        Some((r, rest)) => assignment(r, rest),
         None => {
             let (command, rest) = as_command(words);
             statement(command, rest)

@@ -18,7 +18,7 @@ use Rattle.job_commands.specs.Commands.{no_operands}
 use Rattle.job_text.specs.Places.{AllStandFor, Follows, StandsFor, is_called, place_of as due_at, with_operands}
 use Rattle.job_text.specs.Grammar.{CommandsSay, Forms, IsCommand, Says, assigns, registers_after, section_lines, tells}
 use Rattle.job_text.specs.Faults.{is_session}
-use Rattle.job_commands.specs.Commands.{Form, assigning, form_in, telling}
+use Rattle.job_commands.specs.Commands.{Form, assigning, form_in, telling, words_at}
 use Rattle.job_words.proofs.Bits.{digits_of, no_none}
 use Rattle.job_text.proofs.Meanings.{no_assignment, says_words}
 
@@ -53,6 +53,7 @@ operand_at rs places.Cell w = operands.Cell (digits_value 10 w)
 operand_at rs places.Value w = operands.Value (integer_value w)
 operand_at rs places.Bit w = operands.Bit (bytes_eq w (codes "1"))
 operand_at rs places.Bits w = operands.Bits (bits_from w)
+operand_at rs places.Literals w = operands.Literals
 
 bit_back : (b : Bool) → bytes_eq (bit_word (b ∷ [])) (codes "1") ≡ b
 bit_back true = refl
@@ -72,6 +73,7 @@ at_its_place n rs w (operands.Cell k) h = ap operands.Cell h.0.1
 at_its_place n rs w (operands.Value v) h = ap operands.Value h.0.1
 at_its_place n rs w (operands.Bit b) h = ap operands.Bit (ap (λ t. bytes_eq t (codes "1")) h ∙ bit_back b)
 at_its_place n rs w (operands.Bits bs) h = ap operands.Bits (ap bits_from h ∙ bits_back bs)
+at_its_place n rs w operands.Literals h = refl
 
 one_operand : (n : Counts) (rs : List Register) (w : Word) (o o' : Operand) (place : Place) → due_at o ≡ place → due_at o' ≡ place → StandsFor n rs w o → StandsFor n rs w o' → o ≡ o'
 one_operand n rs w o o' place e e' h h' =
@@ -91,15 +93,15 @@ same_operands n rs [] (p ∷ ps) (w ∷ words) (o ∷ os) (o' ∷ os') f f' h h'
 same_operands n rs (p ∷ ps) repeated (w ∷ words) (o ∷ os) (o' ∷ os') f f' h h' =
     ap (λ t. t ∷ os) (one_operand n rs w o o' p f.0 f'.0 h.0 h'.0) ∙ ap (λ t. o' ∷ t) (same_operands n rs ps repeated words os os' f.1 f'.1 h.1 h'.1)
 
--- commands of one word with the same words behind it are one, with the same operands
-one_command : (n : Counts) (rs : List Register) (forms : List Form) (command command' : Word) (rest rest' : List Word) (own own' : Form) (os os' : List Operand)
-    → IsCommand n rs forms command rest own os → IsCommand n rs forms command' rest' own' os' → command ≡ command' → rest ≡ rest' → (own ≡ own') × (os ≡ os')
-one_command n rs forms command command' rest rest' own own' os os' k k' e e' =
+-- commands of one word, for which the same words are due, are one, with the same operands
+one_command : (n : Counts) (rs : List Register) (forms : List Form) (command command' : Word) (due due' : Form → List Word) (own own' : Form) (os os' : List Operand)
+    → IsCommand n rs forms command (due own) own os → IsCommand n rs forms command' (due' own') own' os' → command ≡ command' → due own' ≡ due' own' → (own ≡ own') × (os ≡ os')
+one_command n rs forms command command' due due' own own' os os' k k' e e' =
     let found : Some own ≡ Some own' = sym k.found ∙ ap (form_in forms) e ∙ k'.found in
     let same : own ≡ own' = cc in (
       same,
-      same_operands n rs own'.places own'.repeated rest' os os' (subst (λ (t : Form). Follows t.places t.repeated os) same k.follows) k'.follows
-          (subst (λ (t : List Word). AllStandFor n rs t os) e' k.stand) k'.stand,
+      same_operands n rs own'.places own'.repeated (due' own') os os' (subst (λ (t : Form). Follows t.places t.repeated os) same k.follows) k'.follows
+          (subst (λ (t : List Word). AllStandFor n rs t os) e' (subst (λ (t : Form). AllStandFor n rs (due t) os) same k.stand)) k'.stand,
     )
 
 told_apart : (n : Counts) (rs : List Register) (words : List Word) (r command command' : Word) (rest rest' : List Word) (os' : List Operand) → words ≡ r ∷ codes "=" ∷ command ∷ rest
@@ -110,14 +112,17 @@ told_apart n rs words r command command' rest rest' os' e e' h' =
 one_form : (n : Counts) (rs : List Register) (words : List Word) (own own' : Form) (os os' : List Operand) → Forms n rs words own os → Forms n rs words own' os' → (own ≡ own') × (os ≡ os')
 one_form n rs words own own' os os' (assigns r command rest e fresh k) (assigns r' command' rest' e' fresh' k') =
     let lines : r ∷ codes "=" ∷ command ∷ rest ≡ r' ∷ codes "=" ∷ command' ∷ rest' = sym e ∙ e' in
-    one_command n rs assigning command command' rest rest' own own' os os' k k' (cc) (cc)
+    let words : command ≡ command' = cc in
+    let others : rest ≡ rest' = cc in
+    one_command n rs assigning command command' (λ f. words_at f.places command rest) (λ f. words_at f.places command' rest') own own' os os' k k' words
+    (ap (λ w. words_at own'.places w rest) words ∙ ap (λ t. words_at own'.places command' t) others)
 one_form n rs words own own' os os' (assigns r command rest e fresh k) (tells command' rest' e' k') =
     absurd (told_apart n rs words r command command' rest rest' os' e e' k'.stand)
 one_form n rs words own own' os os' (tells command rest e k) (assigns r' command' rest' e' fresh' k') =
     absurd (told_apart n rs words r' command' command rest' rest os e' e k.stand)
 one_form n rs words own own' os os' (tells command rest e k) (tells command' rest' e' k') =
     let lines : command ∷ rest ≡ command' ∷ rest' = sym e ∙ e' in
-    one_command n rs telling command command' rest rest' own own' os os' k k' (cc) (cc)
+    one_command n rs telling command command' (λ f. rest) (λ f. rest') own own' os os' k k' (cc) (cc)
 
 one_act : (n : Counts) (rs : List Register) (words words' : List Word) (act act' : Act) → words ≡ words' → Says n rs words act → Says n rs words' act' → act ≡ act'
 one_act n rs words words' act act' e h h' =

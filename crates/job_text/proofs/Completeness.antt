@@ -1,5 +1,5 @@
 -- Words without a fault say something, and each text has a reading.
-use Rattle.std.proofs.Common.{◌≡◌, ◌⊎◌, ℕ, ◌+◌, ◌==◌, ◌<◌, ◌≤◌, ◌&&◌, ◌||◌, Bool, true, false, not, cond, List, [], ◌∷◌, ◌++◌, length, map, Option, Some, None, option_map, Result, Ok, inl, inr, refl, ap, sym, ◌∙◌, subst, arith, codes, append_assoc}
+use Rattle.std.proofs.Common.{◌≡◌, ◌⊎◌, ℕ, ◌+◌, ◌*◌, ◌==◌, ◌<◌, ◌≤◌, ◌&&◌, ◌||◌, Bool, true, false, not, cond, List, [], ◌∷◌, ◌++◌, length, map, Option, Some, None, option_map, Result, Ok, inl, inr, refl, ap, sym, ◌∙◌, subst, arith, codes, append_assoc}
 use Rattle.std.specs.Prelude.{◌-◌, nat_lt, nat_le, is_some}
 use Rattle.std.specs.List.{list_any, list_all, position_or_len}
 use Rattle.std.specs.Str.{bytes_eq}
@@ -92,6 +92,9 @@ variable_of n rs w h = (digits_value 10 w, (h.0, refl), below (digits_value 10 w
 element_of : (n : Counts) (rs : List Register) (w : Word) → Fits n rs (places.Element, w) → (e : ℕ) × IsNumber w e × (e < n.elements)
 element_of n rs w h = (digits_value 10 w, (h.0, refl), below (digits_value 10 w) n.elements (where_true (nat_lt (digits_value 10 w) n.elements) kinds.Range h.1))
 
+not_above : (m n : ℕ) → nat_le m n ≡ true → m ≤ n
+not_above m n e = grind (arith, nat_tests)
+
 below_next : (d n : ℕ) → nat_lt d (n - 1) ≡ true → d + 1 < n
 below_next d n e = grind (arith, nat_tests)
 
@@ -129,6 +132,7 @@ operand_at n rs places.Cell w h = let k = cell_of n rs w h in (operands.Cell k.0
 operand_at n rs places.Value w h = (operands.Value (integer_value w), (refl, ((h.0, refl), where_true (is_value (integer_value w)) kinds.Range h.1)))
 operand_at n rs places.Bit w h = let b = bit_of w h.0 in (operands.Bit b.0, (refl, b.1))
 operand_at n rs places.Bits w h = let bs = word_of_bits w h.0 in (operands.Bits bs.0, (refl, bs.1))
+operand_at n rs places.Literals w h = (operands.Literals, (refl, (h.0, not_above (2 * n.vars) n.elements (where_true (nat_le (2 * n.vars) n.elements) kinds.Range h.1))))
 
 operands_at : (n : Counts) (rs : List Register) (others : Operands) (slots : List (Place × Word)) → list_all has_form slots ≡ true → first_fault n rs (left_by others) slots ≡ None
     → (os : List Operand) × AreOperands n rs slots os × AllFit n rs others os

@@ -6,6 +6,7 @@ use Rattle.std.specs.List.{list_any}
 use Rattle.std.specs.Str.{bytes_eq}
 use Rattle.job_commands.specs.declared.acts.Act.{Act}
 use Rattle.job_commands.specs.declared.acts.Act.TheVariants as acts
+use Rattle.job_commands.specs.declared.commands.Place.{Place}
 use Rattle.job_text.specs.declared.job.Counts.{Counts}
 use Rattle.job_text.specs.declared.job.Register.{Register}
 use Rattle.job_text.specs.declared.operands.Operand.{Operand}
@@ -17,7 +18,7 @@ use Rattle.job_commands.specs.Commands.{act_of}
 use Rattle.job_commands.specs.Commands.{no_operands}
 use Rattle.job_text.specs.Places.{AllStandFor, IsFresh, Refers, StandsFor, is_called, kind_at, with_operands}
 use Rattle.job_text.specs.Grammar.{Forms, Says, assigns, is_drop, kind_called, kind_given, register_made, registers_after, target_of, tells, without}
-use Rattle.job_commands.specs.Commands.{Form, assigning, kind_made, telling}
+use Rattle.job_commands.specs.Commands.{Form, assigning, is_at_word, kind_made, telling, words_at}
 use Rattle.job_text.proofs.Meanings.{any_none, no_assignment}
 use Rattle.job_commands.specs.declared.operands.Operands.{Operands}
 use Rattle.job_text.proofs.RegisterLists.{kind_is}
@@ -34,7 +35,7 @@ each_stands n rs [] (o ∷ os) h = absurd h
 each_stands n rs (word ∷ words) (o ∷ os) h = ((word, h.0), each_stands n rs words os h.1)
 
 forms_stand : (n : Counts) (rs : List Register) (words : List Word) (own : Form) (os : List Operand) → Forms n rs words own os → EachStands n rs os
-forms_stand n rs words own os (assigns r command rest e fresh is) = each_stands n rs rest os is.stand
+forms_stand n rs words own os (assigns r command rest e fresh is) = each_stands n rs (words_at own.places command rest) os is.stand
 forms_stand n rs words own os (tells command rest e is) = each_stands n rs rest os is.stand
 
 pub operands_stand : (n : Counts) (rs : List Register) (words : List Word) (act : Act) (says : Says n rs words act) → EachStands n rs says.operands
@@ -87,14 +88,14 @@ one_register_less n rs words (x ∷ y ∷ rest) a e h = absurd h.1
 -- no register has the name that an assignment says
 -- What the words of a command leave of the registers, by what it does
 module _ (n : Counts) (rs : List Register) where
-  -- the word of a command that assigns tells the kind of what it makes
-  abbrev TellsKind : Word → Act → Type 0
-  TellsKind word (acts.Makes making) = (rest : List Word) → kind_given rs word rest ≡ kind_of_making making
-  TellsKind word (acts.Copy a) = word ≡ codes "copy"
-  TellsKind word (acts.Fetch k a) = word ≡ codes "fetch"
-  TellsKind word _ = ⊥
+  -- the word of a command that assigns tells the kind of what it makes, or of which of the words behind it that is the kind
+  abbrev TellsKind : Word → List Place → Act → Type 0
+  TellsKind word places (acts.Makes making) = (rest : List Word) → kind_given rs word rest ≡ kind_of_making making
+  TellsKind word places (acts.Copy a) = (word ≡ codes "copy") × (is_at_word places ≡ false)
+  TellsKind word places (acts.Fetch k a) = (word ≡ codes "fetch") × (is_at_word places ≡ false)
+  TellsKind word places _ = ⊥
 
-  each_tells_kind : EachRow (λ own. (given : Operands) → TellsKind own.word (act_of own.opcode given)) assigning
+  each_tells_kind : EachRow (λ own. (given : Operands) → TellsKind own.word own.places (act_of own.opcode given)) assigning
   each_tells_kind = (
     (λ g rest. refl),
     (
@@ -165,7 +166,7 @@ module _ (n : Counts) (rs : List Register) where
                                                                       (λ g rest. refl),
                                                                       (
                                                                         (λ g rest. refl),
-                                                                        ((λ g rest. refl), ((λ g rest. refl), ((λ g rest. refl), ((λ g rest. refl), ((λ g. refl), ((λ g. refl), tt)))))),
+                                                                        ((λ g rest. refl), ((λ g rest. refl), ((λ g rest. refl), ((λ g rest. refl), ((λ g rest. refl), ((λ g rest. refl), ((λ g. (refl, refl)), ((λ g. (refl, refl)), tt)))))))),
                                                                       ),
                                                                     ),
                                                                   ),
@@ -230,13 +231,21 @@ module _ (n : Counts) (rs : List Register) where
   is_target : (words : List Word) (r command : Word) (rest : List Word) → words ≡ r ∷ codes "=" ∷ command ∷ rest → IsFresh rs r → IsTarget words r
   is_target words r command rest e fresh = (ap target_of e, any_none rs r fresh.1)
 
-  assigned : (words : List Word) (act : Act) (r command : Word) (rest : List Word) (os : List Operand) → words ≡ r ∷ codes "=" ∷ command ∷ rest → IsFresh rs r → TellsKind command act → Takes n rs act os → AllStandFor n rs rest os → Leaves words act
-  assigned words (acts.Makes making) r command rest os e fresh kind takes stand = (r, with_more words r command rest (kind_of_making making) e (kind rest), is_target words r command rest e fresh)
-  assigned words (acts.Copy a) r command rest os e fresh kind takes stand =
-      (r, with_more words r command rest (kind_at rs a) e (ap (λ c. kind_given rs c rest) kind ∙ kind_of_copy n rs rest a (subst (AllStandFor n rs rest) takes stand)), is_target words r command rest e fresh)
-  assigned words (acts.Fetch k a) r command rest os e fresh kind takes stand =
-      (r, with_more words r command rest (kind_at rs a) e (ap (λ c. kind_given rs c rest) kind ∙ kind_of_fetch n rs rest k a (subst (AllStandFor n rs rest) takes stand)), is_target words r command rest e fresh)
-  assigned words act r command rest os e fresh kind takes stand = absurd kind
+  -- the words behind that of a command stand for its operands, where nothing is due at that
+  behind_stand : (places : List Place) (command : Word) (rest : List Word) (os given : List Operand) → is_at_word places ≡ false → os ≡ given → AllStandFor n rs (words_at places command rest) os → AllStandFor n rs rest given
+  behind_stand places command rest os given none is stand =
+      subst (λ (words : List Word). AllStandFor n rs words given) (ap (λ b. cond b (command ∷ rest) rest) none) (subst (AllStandFor n rs (words_at places command rest)) is stand)
+
+  assigned : (words : List Word) (act : Act) (places : List Place) (r command : Word) (rest : List Word) (os : List Operand) → words ≡ r ∷ codes "=" ∷ command ∷ rest → IsFresh rs r → TellsKind command places act → Takes n rs act os
+      → AllStandFor n rs (words_at places command rest) os → Leaves words act
+  assigned words (acts.Makes making) places r command rest os e fresh kind takes stand = (r, with_more words r command rest (kind_of_making making) e (kind rest), is_target words r command rest e fresh)
+  assigned words (acts.Copy a) places r command rest os e fresh kind takes stand =
+      let behind = behind_stand places command rest os (operands.Any a ∷ []) kind.1 takes stand in
+      (r, with_more words r command rest (kind_at rs a) e (ap (λ c. kind_given rs c rest) kind.0 ∙ kind_of_copy n rs rest a behind), is_target words r command rest e fresh)
+  assigned words (acts.Fetch k a) places r command rest os e fresh kind takes stand =
+      let behind = behind_stand places command rest os (operands.Cell k ∷ operands.Any a ∷ []) kind.1 takes stand in
+      (r, with_more words r command rest (kind_at rs a) e (ap (λ c. kind_given rs c rest) kind.0 ∙ kind_of_fetch n rs rest k a behind), is_target words r command rest e fresh)
+  assigned words act places r command rest os e fresh kind takes stand = absurd kind
 
   told : (words : List Word) (act : Act) (command : Word) (rest : List Word) (os : List Operand) → words ≡ command ∷ rest → TellsDrop command act → Takes n rs act os → AllStandFor n rs rest os → Leaves words act
   told words (acts.Makes making) command rest os e drops takes stand = absurd drops
@@ -250,10 +259,10 @@ module _ (n : Counts) (rs : List Register) where
     where
       by : Forms n rs words says.own says.operands → Leaves words act
       by (assigns r command rest e fresh is) =
-          let row = row_has (λ own. (given : Operands) → TellsKind own.word (act_of own.opcode given)) assigning command says.own is.found each_tells_kind in
-          let kind = subst (λ (t : Act). TellsKind command t) (sym says.means)
-          (subst (λ (w : Word). TellsKind w (act_of says.own.opcode (with_operands rs no_operands says.operands))) row.1 (row.0 (with_operands rs no_operands says.operands))) in
-          assigned words act r command rest says.operands e fresh kind (takes n rs words act says) is.stand
+          let row = row_has (λ own. (given : Operands) → TellsKind own.word own.places (act_of own.opcode given)) assigning command says.own is.found each_tells_kind in
+          let kind = subst (λ (t : Act). TellsKind command says.own.places t) (sym says.means)
+          (subst (λ (w : Word). TellsKind w says.own.places (act_of says.own.opcode (with_operands rs no_operands says.operands))) row.1 (row.0 (with_operands rs no_operands says.operands))) in
+          assigned words act says.own.places r command rest says.operands e fresh kind (takes n rs words act says) is.stand
       by (tells command rest e is) =
           let row = row_has (λ own. (given : Operands) → TellsDrop own.word (act_of own.opcode given)) telling command says.own is.found each_tells_drop in
           let drops = subst (λ (t : Act). TellsDrop command t) (sym says.means)

@@ -15,24 +15,24 @@ use Rattle.job_commands.specs.Commands.{act_of}
 use Rattle.job_commands.specs.Commands.{no_operands}
 use Rattle.job_text.specs.Places.{AllFit, AllStandFor, Follows, IsFresh, with_operand, with_operands}
 use Rattle.job_text.specs.Grammar.{Says, assigns, tells}
-use Rattle.job_commands.specs.Commands.{Form, form_in, filled, command_in, command_of, assignment_of, telling_of, assigning, telling}
+use Rattle.job_commands.specs.Commands.{Form, form_in, filled, command_in, command_of, assignment_of, telling_of, assigning, telling, words_at}
 use Rattle.job_text.specs.Drafts.{AreOperands, IsOperand}
 
 -- The command of a line in a table, and its places.
-record IsFilled (forms : List Form) (before : List (Place × Word)) (command : Word) (words : List Word) (opcode : Opcode) (slots : List (Place × Word)) : Type 0 where
+record IsFilled (forms : List Form) (before : List (Place × Word)) (command : Word) (due : Form → List Word) (opcode : Opcode) (slots : List (Place × Word)) : Type 0 where
   own : Form
   found : form_in forms command ≡ Some own
   behind : List (Place × Word)
-  fills : filled own.places own.repeated words ≡ Some behind
+  fills : filled own.places own.repeated (due own) ≡ Some behind
   does : own.opcode ≡ opcode
   all : before ++ behind ≡ slots
 
-filled_from : (forms : List Form) (before : List (Place × Word)) (command : Word) (words : List Word) (opcode : Opcode) (slots : List (Place × Word)) → command_in forms before command words ≡ Some (opcode, slots)
-    → IsFilled forms before command words opcode slots
-filled_from forms before command words opcode slots h = by_form (form_in forms command) refl h
+filled_from : (forms : List Form) (before : List (Place × Word)) (command : Word) (due : Form → List Word) (opcode : Opcode) (slots : List (Place × Word)) → command_in forms before command due ≡ Some (opcode, slots)
+    → IsFilled forms before command due opcode slots
+filled_from forms before command due opcode slots h = by_form (form_in forms command) refl h
   where
-    by_slots : (own : Form) → form_in forms command ≡ Some own → (o : Option (List (Place × Word))) → filled own.places own.repeated words ≡ o
-        → option_map {U = Opcode × List (Place × Word)} (λ more. (own.opcode, before ++ more)) o ≡ Some (opcode, slots) → IsFilled forms before command words opcode slots
+    by_slots : (own : Form) → form_in forms command ≡ Some own → (o : Option (List (Place × Word))) → filled own.places own.repeated (due own) ≡ o
+        → option_map {U = Opcode × List (Place × Word)} (λ more. (own.opcode, before ++ more)) o ≡ Some (opcode, slots) → IsFilled forms before command due opcode slots
     by_slots own e None f g = cc
     by_slots own e (Some behind) f g =
         let one : Opcode × List (Place × Word) = (own.opcode, before ++ behind) in
@@ -41,9 +41,9 @@ filled_from forms before command words opcode slots h = by_form (form_in forms c
         record { own = own; found = e; behind = behind; fills = f; does = ap (λ t. t.0) same; all = ap (λ t. t.1) same }
 
     by_form : (o : Option Form) → form_in forms command ≡ o
-        → option_and_then (λ own. option_map {U = Opcode × List (Place × Word)} (λ more. (own.opcode, before ++ more)) (filled own.places own.repeated words)) o ≡ Some (opcode, slots) → IsFilled forms before command words opcode slots
+        → option_and_then (λ own. option_map {U = Opcode × List (Place × Word)} (λ more. (own.opcode, before ++ more)) (filled own.places own.repeated (due own))) o ≡ Some (opcode, slots) → IsFilled forms before command due opcode slots
     by_form None e g = cc
-    by_form (Some own) e g = by_slots own e (filled own.places own.repeated words) refl g
+    by_form (Some own) e g = by_slots own e (filled own.places own.repeated (due own)) refl g
 
 -- the operands of words at their places
 abbrev Meant : Counts → List Register → List Place → List Place → List Word → List Operand → Type 0
@@ -89,14 +89,15 @@ target_is n rs r (operands.Cell k) h = cc h.0
 target_is n rs r (operands.Value w) h = cc h.0
 target_is n rs r (operands.Bit b) h = cc h.0
 target_is n rs r (operands.Bits bits) h = cc h.0
+target_is n rs r operands.Literals h = cc h.0
 
 assigns_from : (n : Counts) (rs : List Register) (words : List Word) (r command : Word) (rest : List Word) (opcode : Opcode) (slots : List (Place × Word)) (os : List Operand)
-    → words ≡ r ∷ codes "=" ∷ command ∷ rest → IsFilled assigning ((Fresh, r) ∷ []) command rest opcode slots → AreOperands n rs slots os → AllFit n rs no_operands os → Says n rs words (act_of opcode (with_operands rs no_operands os))
+    → words ≡ r ∷ codes "=" ∷ command ∷ rest → IsFilled assigning ((Fresh, r) ∷ []) command (λ known. words_at known.places command rest) opcode slots → AreOperands n rs slots os → AllFit n rs no_operands os → Says n rs words (act_of opcode (with_operands rs no_operands os))
 assigns_from n rs words r command rest opcode slots [] e h a new = absurd (subst (λ (t : List (Place × Word)). AreOperands n rs t []) (sym h.all) a)
 assigns_from n rs words r command rest opcode slots (o ∷ os) e h a new =
     let all : IsOperand n rs (Fresh, r) o × AreOperands n rs h.behind os = subst (λ (t : List (Place × Word)). AreOperands n rs t (o ∷ os)) (sym h.all) a in
     let target = target_is n rs r o all.0 in
-    let own = meant n rs h.own.places h.own.repeated rest h.behind os h.fills all.1 in
+    let own = meant n rs h.own.places h.own.repeated (words_at h.own.places command rest) h.behind os h.fills all.1 in
     record {
       own = h.own;
       operands = os;
@@ -105,7 +106,7 @@ assigns_from n rs words r command rest opcode slots (o ∷ os) e h a new =
     }
 
 tells_from : (n : Counts) (rs : List Register) (words : List Word) (command : Word) (rest : List Word) (opcode : Opcode) (slots : List (Place × Word)) (os : List Operand)
-    → words ≡ command ∷ rest → IsFilled telling [] command rest opcode slots → AreOperands n rs slots os → AllFit n rs no_operands os → Says n rs words (act_of opcode (with_operands rs no_operands os))
+    → words ≡ command ∷ rest → IsFilled telling [] command (λ known. rest) opcode slots → AreOperands n rs slots os → AllFit n rs no_operands os → Says n rs words (act_of opcode (with_operands rs no_operands os))
 tells_from n rs words command rest opcode slots os e h a new =
     let all : AreOperands n rs h.behind os = subst (λ (t : List (Place × Word)). AreOperands n rs t os) (sym h.all) a in
     let own = meant n rs h.own.places h.own.repeated rest h.behind os h.fills all in
@@ -119,15 +120,15 @@ tells_from n rs words command rest opcode slots os e h a new =
 pub says_from : (n : Counts) (rs : List Register) (words : List Word) (opcode : Opcode) (slots : List (Place × Word)) (os : List Operand) → command_of words ≡ Some (opcode, slots) → AreOperands n rs slots os
     → AllFit n rs no_operands os → Says n rs words (act_of opcode (with_operands rs no_operands os))
 says_from n rs [] opcode slots os e h new = cc
-says_from n rs (first ∷ []) opcode slots os e h new = tells_from n rs (first ∷ []) first [] opcode slots os refl (filled_from telling [] first [] opcode slots e) h new
+says_from n rs (first ∷ []) opcode slots os e h new = tells_from n rs (first ∷ []) first [] opcode slots os refl (filled_from telling [] first (λ known. []) opcode slots e) h new
 says_from n rs (first ∷ second ∷ []) opcode slots os e h new =
-    tells_from n rs (first ∷ second ∷ []) first (second ∷ []) opcode slots os refl (filled_from telling [] first (second ∷ []) opcode slots e) h new
+    tells_from n rs (first ∷ second ∷ []) first (second ∷ []) opcode slots os refl (filled_from telling [] first (λ known. second ∷ []) opcode slots e) h new
 says_from n rs (first ∷ second ∷ third ∷ words) opcode slots os e h new = by_cases (bytes_eq second (codes "=")) refl
   where
     by_cases : (b : Bool) → bytes_eq second (codes "=") ≡ b → Says n rs (first ∷ second ∷ third ∷ words) (act_of opcode (with_operands rs no_operands os))
     by_cases true f =
         assigns_from n rs (first ∷ second ∷ third ∷ words) first third words opcode slots os (ap (λ t. first ∷ t ∷ third ∷ words) ((bytes_eq-Decides second (codes "=")).0 f))
-        (filled_from assigning ((Fresh, first) ∷ []) third words opcode slots (sym (ap (λ b. cond b (assignment_of first third words) (telling_of first (second ∷ third ∷ words))) f) ∙ e)) h new
+        (filled_from assigning ((Fresh, first) ∷ []) third (λ known. words_at known.places third words) opcode slots (sym (ap (λ b. cond b (assignment_of first third words) (telling_of first (second ∷ third ∷ words))) f) ∙ e)) h new
     by_cases false f =
         tells_from n rs (first ∷ second ∷ third ∷ words) first (second ∷ third ∷ words) opcode slots os refl
-        (filled_from telling [] first (second ∷ third ∷ words) opcode slots (sym (ap (λ b. cond b (assignment_of first third words) (telling_of first (second ∷ third ∷ words))) f) ∙ e)) h new
+        (filled_from telling [] first (λ known. second ∷ third ∷ words) opcode slots (sym (ap (λ b. cond b (assignment_of first third words) (telling_of first (second ∷ third ∷ words))) f) ∙ e)) h new

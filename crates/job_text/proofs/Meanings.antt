@@ -1,6 +1,6 @@
 -- Words that say something have no fault.
-use Rattle.std.proofs.Common.{◌≡◌, ◌≢◌, ℕ, suc, ◌+◌, ◌<◌, ◌&&◌, ◌||◌, Bool, true, false, cond, List, [], ◌∷◌, ◌++◌, Some, None, option_map, option_and_then, refl, ap, sym, ◌∙◌, subst, arith, codes}
-use Rattle.std.specs.Prelude.{◌-◌, nat_lt}
+use Rattle.std.proofs.Common.{◌≡◌, ◌≢◌, ℕ, suc, ◌+◌, ◌*◌, ◌<◌, ◌≤◌, ◌&&◌, ◌||◌, Bool, true, false, cond, List, [], ◌∷◌, ◌++◌, Some, None, option_map, option_and_then, refl, ap, sym, ◌∙◌, subst, arith, codes}
+use Rattle.std.specs.Prelude.{◌-◌, nat_le, nat_lt}
 use Rattle.std.specs.List.{list_any, list_all, All}
 use Rattle.std.specs.Str.{bytes_eq}
 use Rattle.std.specs.Str.Parse.{digits_value}
@@ -25,7 +25,7 @@ use Rattle.job_commands.specs.Commands.{no_operands}
 use Rattle.job_text.specs.Places.{AllFit, AllStandFor, Follows, IsFresh, Refers, StandsFor, is_called, kind_fault, kind_of, levels_of, misfit, place_of, with_operand}
 use Rattle.job_text.specs.Grammar.{Forms, Says, assigns, register_called, tells}
 use Rattle.job_text.specs.Faults.{slot_fault, beside_fault, word_fault, left_after, nothing_left, first_fault, fault_in, or_else, command_fault, is_session, name_fault}
-use Rattle.job_commands.specs.Commands.{Form, form_in, assigning, telling, filled, command_in, has_form, command_of}
+use Rattle.job_commands.specs.Commands.{Form, form_in, assigning, telling, filled, command_in, has_form, command_of, words_at}
 use Rattle.job_text.specs.Drafts.{AreOperands, IsOperand, left_by}
 use Rattle.job_words.proofs.Bits.{form_of_bits}
 use Rattle.job_commands.proofs.Forms.{telling_is}
@@ -78,6 +78,12 @@ pub bit_fits : (n : Counts) (rs : List Register) (w : Word) (b : Bool) → w ≡
 bit_fits n rs w true e = (ap is_bit e, refl)
 bit_fits n rs w false e = (ap is_bit e, refl)
 
+enough : (m n : ℕ) → m ≤ n → nat_le m n ≡ true
+enough m n h = grind (arith, nat_tests)
+
+pub literals_fit : (n : Counts) (rs : List Register) (w : Word) → is_name w ≡ true → 2 * n.vars ≤ n.elements → Fits n rs (places.Literals, w)
+literals_fit n rs w h le = (h, ap (λ b. cond b None (Some kinds.Range)) (enough (2 * n.vars) n.elements le))
+
 -- A word that stands for the operand of its place has no fault there.
 pub operand_fits : (n : Counts) (rs : List Register) (slot : Place × Word) (operand : Operand) → IsOperand n rs slot operand → Fits n rs slot
 operand_fits n rs slot operands.Target h = subst (λ (p : Place). Fits n rs (p, slot.1)) h.0 (fresh_fits n rs slot.1 h.1)
@@ -92,6 +98,7 @@ operand_fits n rs slot (operands.Cell k) h = subst (λ (p : Place). Fits n rs (p
 operand_fits n rs slot (operands.Value w) h = subst (λ (p : Place). Fits n rs (p, slot.1)) h.0 (h.1.0.0, ap (λ b. cond b None (Some kinds.Range)) (ap is_value h.1.0.1 ∙ h.1.1))
 operand_fits n rs slot (operands.Bit b) h = subst (λ (p : Place). Fits n rs (p, slot.1)) h.0 (bit_fits n rs slot.1 b h.1)
 operand_fits n rs slot (operands.Bits bs) h = subst (λ (p : Place). Fits n rs (p, slot.1)) h.0 (ap is_bits h.1 ∙ form_of_bits bs, refl)
+operand_fits n rs slot operands.Literals h = subst (λ (p : Place). Fits n rs (p, slot.1)) h.0 (literals_fit n rs slot.1 h.1.0 h.1.1)
 
 -- all that may be wrong with it there is that the operand doesn't fit those to its left
 pub word_fault_is : (n : Counts) (rs : List Register) (others : Operands) (slot : Place × Word) (o : Operand) → IsOperand n rs slot o → word_fault n rs (left_by others) slot ≡ misfit n rs others o
@@ -141,10 +148,10 @@ filled_by n rs [] (p ∷ ps) (w ∷ words) (o ∷ os) h f =
 filled_by n rs (p ∷ ps) repeated (w ∷ words) (o ∷ os) h f =
     ap (λ slots. option_map (λ more. (p, w) ∷ more) slots) (filled_by n rs ps repeated words os h.1 f.1) ∙ ap (λ q. Some ((q, w) ∷ slots_for os words)) (sym f.0)
 
-pub command_is : (forms : List Form) (before : List (Place × Word)) (command : Word) (words : List Word) (own : Form) (slots : List (Place × Word)) → form_in forms command ≡ Some own
-    → filled own.places own.repeated words ≡ Some slots → command_in forms before command words ≡ Some (own.opcode, before ++ slots)
-command_is forms before command words own slots e f =
-    ap (λ o. option_and_then (λ known. option_map (λ slots. (known.opcode, before ++ slots)) (filled known.places known.repeated words)) o) e
+pub command_is : (forms : List Form) (before : List (Place × Word)) (command : Word) (due : Form → List Word) (own : Form) (slots : List (Place × Word)) → form_in forms command ≡ Some own
+    → filled own.places own.repeated (due own) ≡ Some slots → command_in forms before command due ≡ Some (own.opcode, before ++ slots)
+command_is forms before command due own slots e f =
+    ap (λ o. option_and_then (λ known. option_map (λ slots. (known.opcode, before ++ slots)) (filled known.places known.repeated (due known))) o) e
     ∙ ap (λ o. option_map (λ slots. (own.opcode, before ++ slots)) o) f
 
 -- `=` stands for nothing
@@ -177,6 +184,7 @@ no_equals n rs w (operands.Cell k) h = unlike_equals is_number w equals_is_none.
 no_equals n rs w (operands.Value v) h = unlike_equals is_integer w equals_is_none.2 h.0.0
 no_equals n rs w (operands.Bit b) h = ap (λ t. bytes_eq t (codes "=")) h ∙ bits_no_equals (b ∷ [])
 no_equals n rs w (operands.Bits bs) h = ap (λ t. bytes_eq t (codes "=")) h ∙ bits_no_equals bs
+no_equals n rs w operands.Literals h = unlike_equals is_name w equals_is_none.0 h.0
 
 pub no_assignment : (n : Counts) (rs : List Register) (command : Word) (words : List Word) (os : List Operand) → AllStandFor n rs words os → is_assignment (command ∷ words) ≡ false
 no_assignment n rs command [] os h = refl
@@ -188,15 +196,16 @@ no_assignment n rs command (w ∷ x ∷ words) (o ∷ os) h = no_equals n rs w o
 formed_well : (n : Counts) (rs : List Register) (words : List Word) (own : Form) (os : List Operand) → Forms n rs words own os → command_fault n rs words ≡ None
 unfolding command_fault
 formed_well n rs words own os (assigns r command rest e fresh is) =
+    let due = words_at own.places command rest in
     ap (λ ws. fault_in n rs (option_map (λ known. known.1) (command_of ws))) e
     ∙ ap (λ o. fault_in n rs (option_map (λ known. known.1) o))
-    (command_is assigning ((places.Fresh, r) ∷ []) command rest own (slots_for os rest) is.found (filled_by n rs own.places own.repeated rest os is.stand is.follows))
-    ∙ fits_all n rs ((places.Fresh, r) ∷ slots_for os rest) (operands.Target ∷ os) ((refl, fresh), are_operands n rs rest os is.stand) (refl, is.fit)
+    (command_is assigning ((places.Fresh, r) ∷ []) command (λ known. words_at known.places command rest) own (slots_for os due) is.found (filled_by n rs own.places own.repeated due os is.stand is.follows))
+    ∙ fits_all n rs ((places.Fresh, r) ∷ slots_for os due) (operands.Target ∷ os) ((refl, fresh), are_operands n rs due os is.stand) (refl, is.fit)
 formed_well n rs words own os (tells command rest e is) =
     ap (λ ws. fault_in n rs (option_map (λ known. known.1) (command_of ws))) e
     ∙ ap (λ o. fault_in n rs (option_map (λ known. known.1) o))
     (telling_is command rest (no_assignment n rs command rest os is.stand)
-    ∙ command_is telling [] command rest own (slots_for os rest) is.found (filled_by n rs own.places own.repeated rest os is.stand is.follows))
+    ∙ command_is telling [] command (λ known. rest) own (slots_for os rest) is.found (filled_by n rs own.places own.repeated rest os is.stand is.follows))
     ∙ fits_all n rs (slots_for os rest) os (are_operands n rs rest os is.stand) is.fit
 
 pub says_well : (n : Counts) (rs : List Register) (words : List Word) (act : Act) → Says n rs words act → command_fault n rs words ≡ None

@@ -47,6 +47,8 @@ left_is n rs others slot (operands.Bit b) h =
     subst (λ (p : Place). left_after rs (left_by others) (p, slot.1) ≡ left_by (with_operand rs others (operands.Bit b))) h.0 refl
 left_is n rs others slot (operands.Bits bits) h =
     subst (λ (p : Place). left_after rs (left_by others) (p, slot.1) ≡ left_by (with_operand rs others (operands.Bits bits))) h.0 refl
+left_is n rs others slot operands.Literals h =
+    subst (λ (p : Place). left_after rs (left_by others) (p, slot.1) ≡ left_by (with_operand rs others operands.Literals)) h.0 refl
 
 -- and is at fault beside others where its operand is
 pub beside_is : (n : Counts) (rs : List Register) (others : Operands) (slot : Place × Word) (o : Operand) → IsOperand n rs slot o → beside_fault n rs (left_by others) slot ≡ misfit n rs others o
@@ -74,6 +76,8 @@ beside_is n rs others slot (operands.Bit b) h =
     subst (λ (p : Place). beside_fault n rs (left_by others) (p, slot.1) ≡ misfit n rs others (operands.Bit b)) h.0 refl
 beside_is n rs others slot (operands.Bits bits) h =
     subst (λ (p : Place). beside_fault n rs (left_by others) (p, slot.1) ≡ misfit n rs others (operands.Bits bits)) h.0 (ap (λ k. cond (k == bits_for n others.kind) None (Some kinds.Range)) (ap bits_in h.1 ∙ length_bit_word bits))
+beside_is n rs others slot operands.Literals h =
+    subst (λ (p : Place). beside_fault n rs (left_by others) (p, slot.1) ≡ misfit n rs others operands.Literals) h.0 refl
 
 -- Numbers that are distinct, where each is tested against those before it
 turned : (u v : ℕ) → (u == v) ≡ false → (v == u) ≡ false

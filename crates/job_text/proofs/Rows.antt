@@ -17,7 +17,7 @@ use Rattle.job_text.specs.declared.job.Register.{Register}
 use Rattle.job_commands.specs.declared.commands.Opcode.{Opcode}
 use Rattle.job_commands.specs.declared.commands.Opcode.TheVariants as does
 use Rattle.job_commands.specs.declared.commands.Place.{Place}
-use Rattle.job_commands.specs.declared.commands.Place.TheVariants.{Fresh, Held, Any, Alike, Variable, NewVariable, Element, Level, Cell, Value, Bit, Bits}
+use Rattle.job_commands.specs.declared.commands.Place.TheVariants.{Fresh, Held, Any, Alike, Variable, NewVariable, Element, Level, Cell, Value, Bit, Bits, Literals}
 use Rattle.job_text.specs.declared.faults.FaultKind.TheVariants as kinds
 use Rattle.job_text.specs.declared.operands.Operand.{Operand}
 use Rattle.job_text.specs.declared.operands.Operand.TheVariants as operands
@@ -64,6 +64,7 @@ Carried Cell = ℕ
 Carried Value = ℤ
 Carried Bit = Bool
 Carried Bits = List Bool
+Carried Literals = Unit {0}
 
 abbrev operand_with : (place : Place) → Carried place → Operand
 operand_with Fresh x = operands.Target
@@ -78,6 +79,7 @@ operand_with Cell k = operands.Cell k
 operand_with Value w = operands.Value w
 operand_with Bit b = operands.Bit b
 operand_with Bits bits = operands.Bits bits
+operand_with Literals x = operands.Literals
 
 abbrev IsAt : Operand → Place → Type 0
 IsAt o place = (x : Carried place) × (o ≡ operand_with place x)
@@ -95,6 +97,7 @@ at_own (operands.Cell k) = (k, refl)
 at_own (operands.Value w) = (w, refl)
 at_own (operands.Bit b) = (b, refl)
 at_own (operands.Bits bits) = (bits, refl)
+at_own operands.Literals = (tt, refl)
 
 at_due : (o : Operand) (place : Place) → place_of o ≡ place → IsAt o place
 at_due o place e = subst (IsAt o) e (at_own o)
@@ -132,13 +135,12 @@ operands_for (number w) = operands.Value w ∷ []
 operands_for (bit b) = operands.Bit b ∷ []
 operands_for (variables vs) = map operands.Variable vs
 operands_for (pairs ps) = flat_map pair_operands ps
-operands_for literals = []
+operands_for literals = operands.Literals ∷ []
 
--- as a command takes it: no variable is put twice, and no command asks for the literals of all variables
+-- as a command takes it: no variable is put twice
 abbrev pub AreOfCommand : List (Taken ℕ) → Type 0
 AreOfCommand [] = Unit {0}
 AreOfCommand (pairs ps ∷ more) = (are_distinct (map (λ pair. pair.0) ps) ≡ true) × AreOfCommand more
-AreOfCommand (literals ∷ more) = ⊥
 AreOfCommand (_ ∷ more) = AreOfCommand more
 
 module _ (n : Counts) (rs : List Register) where
@@ -379,7 +381,7 @@ module _ (n : Counts) (rs : List Register) where
                                                                             makes (λ g. (refl, tt)),
                                                                             (
                                                                               makes (λ g. (refl, tt)),
-                                                                              (makes (λ g. (refl, tt)), (makes (λ g. refl), (makes (λ g. refl), tt))),
+                                                                              (makes (λ g. (refl, tt)), (makes (λ g. (refl, tt)), (makes (λ g. (refl, tt)), (makes (λ g. refl), (makes (λ g. refl), tt))))),
                                                                             ),
                                                                           ),
                                                                         ),

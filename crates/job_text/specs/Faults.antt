@@ -1,5 +1,5 @@
 -- What is wrong with a text: its first faulty line, and on it the first fault.
-use Rattle.std.specs.Prelude.{◌≡◌, ℕ, ◌+◌, ◌-◌, ◌==◌, nat_lt, nat_le, Bool, true, false, ◌&&◌, not, List, [], ◌∷◌, ◌++◌, Option, Some, None, length, codes, if◌then◌else◌, ◌⊎◌, unwrap_or, is_some}
+use Rattle.std.specs.Prelude.{◌≡◌, ℕ, ◌+◌, ◌-◌, ◌*◌, ◌==◌, nat_lt, nat_le, Bool, true, false, ◌&&◌, not, List, [], ◌∷◌, ◌++◌, Option, Some, None, length, codes, if◌then◌else◌, ◌⊎◌, unwrap_or, is_some}
 use Rattle.std.specs.List.{list_all, list_any}
 use Rattle.std.specs.Option.{option_map}
 use Rattle.std.specs.Str.{bytes_eq}
@@ -9,7 +9,7 @@ use Rattle.edge_bits.specs.declared.edges.Kind.{Kind}
 use Rattle.edge_bits.specs.declared.edges.Kind.TheVariants.{Bdd}
 use Rattle.function_laws.specs.Numbers.{is_value}
 use Rattle.job_commands.specs.declared.commands.Place.{Place}
-use Rattle.job_commands.specs.declared.commands.Place.TheVariants.{Fresh, Held, Any, Alike, Variable, NewVariable, Element, Level, Cell, Value, Bit, Bits}
+use Rattle.job_commands.specs.declared.commands.Place.TheVariants.{Fresh, Held, Any, Alike, Variable, NewVariable, Element, Level, Cell, Value, Bit, Bits, Literals}
 use Rattle.job_text.specs.declared.faults.FaultKind.{FaultKind}
 use Rattle.job_text.specs.declared.faults.FaultKind.TheVariants as kinds
 use Rattle.job_text.specs.declared.faults.JobError.{JobError}
@@ -48,6 +48,7 @@ slot_fault n registers (Cell, word) = below_fault CELLS word
 slot_fault n registers (Value, word) = if is_value (integer_value word) then None else Some kinds.Range
 slot_fault n registers (Bit, word) = None
 slot_fault n registers (Bits, word) = None
+slot_fault n registers (Literals, word) = if nat_le (2 * n.vars) n.elements then None else Some kinds.Range
 
 -- What the words to the left of a word name: the variables, and the kind of the last register (that of a BDD, if there is none).
 pub record Left : Type 0 where
@@ -72,6 +73,7 @@ beside_fault n registers left (Cell, word) = None
 beside_fault n registers left (Value, word) = None
 beside_fault n registers left (Bit, word) = None
 beside_fault n registers left (Bits, word) = if bits_in word == bits_for n left.kind then None else Some kinds.Range
+beside_fault n registers left (Literals, word) = None
 
 -- the fault of a word of due form, where this stands to its left
 abbrev pub word_fault : Counts → List Register → Left → Place × Word → Option FaultKind
@@ -91,6 +93,7 @@ left_after registers left (Cell, word) = left
 left_after registers left (Value, word) = left
 left_after registers left (Bit, word) = left
 left_after registers left (Bits, word) = left
+left_after registers left (Literals, word) = left
 
 -- the first fault from the left, where the words before these name this
 abbrev pub first_fault : Counts → List Register → Left → List (Place × Word) → Option FaultKind

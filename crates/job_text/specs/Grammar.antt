@@ -11,22 +11,23 @@ use Rattle.job_text.specs.declared.job.Job.{Job}
 use Rattle.job_text.specs.declared.job.Register.{Register}
 use Rattle.job_text.specs.declared.operands.Operand.{Operand}
 use Rattle.job_words.specs.Text.{Word, IsNumber, is_allowed, lines_of, words_of, is_assignment}
-use Rattle.job_commands.specs.Commands.{Form, assigning, form_in, kind_made, telling}
+use Rattle.job_commands.specs.Commands.{Form, assigning, form_in, kind_made, telling, words_at}
 use Rattle.job_commands.specs.Commands.{act_of}
 use Rattle.job_commands.specs.Commands.{no_operands}
 use Rattle.job_text.specs.Places.{AllFit, AllStandFor, Follows, IsFresh, is_called, kind_of, with_operands}
 
--- The command of this word in a table, what its operands are, and that the words behind it stand for them: each stands at its place,
--- and fits those to its left.
+-- The command of this word in a table, what its operands are, and that these words stand for them: each stands at its place, and fits
+-- those to its left.
 pub record IsCommand (n : Counts) (registers : List Register) (forms : List Form) (command : Word) (words : List Word) (own : Form) (operands : List Operand) : Type 0 where
   pub found : form_in forms command ≡ Some own
   pub follows : Follows own.places own.repeated operands
   pub stand : AllStandFor n registers words operands
   pub fit : AllFit n registers no_operands operands
 
--- The words have this form of a command, and stand for these operands: `r = COMMAND ..` for a new name, or `COMMAND ..`.
+-- The words have this form of a command, and stand for these operands: `r = COMMAND ..` for a new name, or `COMMAND ..`. Behind the
+-- target the word of the command stands for one where something is due at it.
 pub data Forms (n : Counts) (registers : List Register) (words : List Word) (own : Form) (operands : List Operand) : Type 0 where
-  assigns : (r command : Word) (rest : List Word) → words ≡ r ∷ codes "=" ∷ command ∷ rest → IsFresh registers r → IsCommand n registers assigning command rest own operands
+  assigns : (r command : Word) (rest : List Word) → words ≡ r ∷ codes "=" ∷ command ∷ rest → IsFresh registers r → IsCommand n registers assigning command (words_at own.places command rest) own operands
       → Forms n registers words own operands
   tells : (command : Word) (rest : List Word) → words ≡ command ∷ rest → IsCommand n registers telling command rest own operands → Forms n registers words own operands
 

@@ -32,6 +32,7 @@ reply_text reply.No = codes "no"
 reply_text (reply.Number value) = signed_decimal value
 reply_text reply.Full = codes "full"
 reply_text reply.Overflow = codes "overflow"
+reply_text reply.Apart = codes "apart"
 reply_text reply.Posted = codes "posted"
 reply_text reply.Empty = codes "empty"
 
@@ -53,7 +54,7 @@ pub record HistoryLine : Type 0 where
 abbrev pub text_of : HistoryLine → List ℕ
 text_of line = line_text line.entry.place line.entry.session line.words line.reply
 
--- what the reply of an entry is called; no job is told that two functions are apart, or that there are as many variables as may be
+-- what the reply of an entry is called; no job is told that there are as many variables as may be
 abbrev pub told_of : Answer → Option Reply
 told_of (replies.Made name) = Some reply.Done
 told_of (replies.Chose name f) = Some reply.Done
@@ -65,7 +66,7 @@ told_of (replies.Truth true) = Some reply.Yes
 told_of (replies.Truth false) = Some reply.No
 told_of (replies.Value value) = Some (reply.Number value)
 told_of replies.Overflow = Some reply.Overflow
-told_of replies.Apart = None
+told_of replies.Apart = Some reply.Apart
 told_of replies.Most = None
 told_of (replies.Full in_use need) = Some reply.Full
 
@@ -81,6 +82,7 @@ given_by _ = None
 abbrev pub stops : Reply → Bool
 stops reply.Full = true
 stops reply.Overflow = true
+stops reply.Apart = true
 stops _ = false
 
 -- A register of a session: the word that it is called by, and its name in the table.

@@ -1,5 +1,5 @@
 -- The words of a command: what each stands for at its place, and which fit those to their left.
-use Rattle.std.specs.Prelude.{◌≡◌, ◌≢◌, ℕ, ◌+◌, ◌<◌, ◌==◌, Bool, true, false, List, [], ◌∷◌, ◌++◌, Option, Some, None, All, length, slice_get, if◌then◌else◌}
+use Rattle.std.specs.Prelude.{◌≡◌, ◌≢◌, ℕ, ◌+◌, ◌*◌, ◌<◌, ◌≤◌, ◌==◌, Bool, true, false, List, [], ◌∷◌, ◌++◌, Option, Some, None, All, length, slice_get, if◌then◌else◌}
 use Rattle.std.specs.List.{list_any, position_or_len}
 use Rattle.std.specs.Str.{bytes_eq}
 use Rattle.edge_bits.specs.declared.limits.TheConstants.{CELLS}
@@ -52,6 +52,7 @@ StandsFor n registers word (operands.Cell k) = IsNumber word k × (k < CELLS)
 StandsFor n registers word (operands.Value w) = IsInteger word w × (is_value w ≡ true)
 StandsFor n registers word (operands.Bit b) = word ≡ bit_word (b ∷ [])
 StandsFor n registers word (operands.Bits bits) = word ≡ bit_word bits
+StandsFor n registers word operands.Literals = (is_name word ≡ true) × (2 * n.vars ≤ n.elements)
 
 -- the words stand for these, one by one
 abbrev pub AllStandFor : Counts → List Register → List Word → List Operand → Type 0
@@ -73,6 +74,7 @@ place_of (operands.Cell k) = places.Cell
 place_of (operands.Value w) = places.Value
 place_of (operands.Bit b) = places.Bit
 place_of (operands.Bits bits) = places.Bits
+place_of operands.Literals = places.Literals
 
 -- these operands stand at the places, and then at those that repeat, any number of times
 abbrev pub Follows : List Place → List Place → List Operand → Type 0
@@ -100,7 +102,7 @@ bits_for n Zdd = n.elements
 abbrev pub with_register : List Register → Operands → ℕ → Operands
 with_register registers others a = record others { registers = others.registers ++ a ∷ []; kind = kind_at registers a }
 
--- the operands with one more; that a target is new is all there is to it
+-- the operands with one more; that a target is new is all there is to it, and that there are elements for all literals to another
 abbrev pub with_operand : List Register → Operands → Operand → Operands
 with_operand registers others operands.Target = others
 with_operand registers others (operands.Register kind a) = with_register registers others a
@@ -114,6 +116,7 @@ with_operand registers others (operands.Cell k) = record others { cells = others
 with_operand registers others (operands.Value w) = record others { values = others.values ++ w ∷ [] }
 with_operand registers others (operands.Bit b) = record others { bits = others.bits ++ b ∷ [] }
 with_operand registers others (operands.Bits bits) = record others { bits = bits }
+with_operand registers others operands.Literals = others
 
 abbrev pub with_operands : List Register → Operands → List Operand → Operands
 with_operands registers others [] = others
@@ -144,6 +147,7 @@ misfit n registers others (operands.Cell k) = None
 misfit n registers others (operands.Value w) = None
 misfit n registers others (operands.Bit b) = None
 misfit n registers others (operands.Bits bits) = if length bits == bits_for n others.kind then None else Some kinds.Range
+misfit n registers others operands.Literals = None
 
 -- each operand fits those to its left
 abbrev pub AllFit : Counts → List Register → Operands → List Operand → Type 0

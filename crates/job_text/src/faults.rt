@@ -13,7 +13,7 @@ pub enum FaultKind {
     Name,
     /// A register of another kind of diagram than is due.
     Kind,
-    /// A number out of its range, bits of a wrong length, or a variable that stands twice in `vcompose`.
+    /// A number out of its range, bits of a wrong length, a variable that stands twice in `vcompose`, or too few elements for literals.
     Range,
     /// A session too many, or a limit out of its range.
     Limit,

@@ -21,6 +21,8 @@ pub enum Reply {
     Full,
     /// A value was out of range. The session stops.
     Overflow,
+    /// Of two functions the first did not lie below the second. The session stops.
+    Apart,
     /// A `fetch` found what a `post` had left.
     Posted,
     /// A `fetch` found nothing of the kind.
@@ -38,6 +40,7 @@ fn said(alloc: Global, reply: Reply) -> Result<String, AllocError>
         Reply::Number(value) => value.to_string(alloc),
         Reply::Full => String::from_str(alloc, "full"),
         Reply::Overflow => String::from_str(alloc, "overflow"),
+        Reply::Apart => String::from_str(alloc, "apart"),
         Reply::Posted => String::from_str(alloc, "posted"),
         Reply::Empty => String::from_str(alloc, "empty"),
     }

@@ -38,6 +38,8 @@ pub enum Operand {
     Bit(bool),
     /// The values of all variables, or of all elements.
     Bits(List<bool>),
+    /// The word of a command that takes an element for each literal.
+    Literals,
 }
 
 /// Takes one more register, where these are known.
@@ -57,7 +59,7 @@ pub fn add_operand(
     ensures { OnOk result (others.new ≡ with_operand known.now others.old operand) }
 {
     match operand {
-        Operand::Target => {}
+        Operand::Target | Operand::Literals => {}
         Operand::Register(_, a) | Operand::Any(a) | Operand::Alike(a) => {
             add_register(others, known, a)?;
         }

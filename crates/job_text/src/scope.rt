@@ -195,6 +195,20 @@ impl Scope {
         Ok(Operand::Bits(bits_of(alloc, word)?))
     }
 
+    /// The word of a command that takes an element for each literal.
+    fn literals(&self, word: &[u8]) -> Result<Operand, JobStop>
+        requires name { is_name word.now ≡ true }
+        requires vars { self.now.counts.vars ≤ MOST_VARIABLES }
+        ensures ok { IfOk result (λ operand. IsOperand self.now.counts self.now.registers (places.Literals, word.now) operand) }
+        ensures stop { IfErr result (λ stop. SlotStop self.now.counts self.now.registers (places.Literals, word.now) stop) }
+    {
+        if 2 * self.counts.vars <= self.counts.elements {
+            Ok(Operand::Literals)
+        } else {
+            Err(JobStop::Fault(FaultKind::Range))
+        }
+    }
+
     /// What a word of due form stands for.
     fn operand(&self, alloc: Global, slot: &Slot<'_>) -> Result<Operand, JobStop>
         requires form { has_form (slot_of slot.now) ≡ true }
@@ -216,6 +230,7 @@ impl Scope {
             Place::Value => self.value(slot.word),
             Place::Bit => Ok(Operand::Bit(slot.word == b"1".as_slice())),
             Place::Bits => self.bits(alloc, slot.word),
+            Place::Literals => self.literals(slot.word),
         }
     }
 

@@ -84,7 +84,7 @@ stand_back n registers [] ys each = each
 stand_back n registers (x ∷ xs) ys each = stand_back n registers xs ys each.1
 
 -- what an operation takes, where words stand for it
-can_take : (n : Counts) (registers : List Register) (s : Seen) (names : List Assigned) (one : Taken ℕ) → Covers registers s names → EachStands n registers (operands_for one) → AreOfCommand (one ∷ []) → CanTake (λ k a. IsHeldAs k s names a) n.vars n.elements one
+can_take : (n : Counts) (registers : List Register) (s : Seen) (names : List Assigned) (one : Taken ℕ) → Covers registers s names → EachStands n registers (operands_for one) → AreOfCommand (one ∷ []) → CanTake (λ k a. IsHeldAs k s names a) n.vars n.vars n.elements one
 can_take n registers s names (function k a) covers each once = held n registers s names k a covers each.0
 can_take n registers s names (variable v) covers each once = each.0.1.1
 can_take n registers s names (element e) covers each once = each.0.1.1
@@ -93,14 +93,13 @@ can_take n registers s names (number z) covers each once = tt
 can_take n registers s names (bit b) covers each once = tt
 can_take n registers s names (variables vs) covers each once = variables_stand n registers vs each
 can_take n registers s names (pairs ps) covers each once = (pair_variables_stand n registers ps each, pair_registers_stand n registers s names ps covers each, once.0)
-can_take n registers s names literals covers each once = absurd once
+can_take n registers s names literals covers each once = each.0.1.1
 
 once_first : (one : Taken ℕ) (more : List (Taken ℕ)) → AreOfCommand (one ∷ more) → AreOfCommand (one ∷ []) × AreOfCommand more
 once_first (pairs ps) more once = ((once.0, tt), once.1)
-once_first literals more once = absurd once
 once_first one more once = (tt, once)
 
-can_take_all : (n : Counts) (registers : List Register) (s : Seen) (names : List Assigned) (all : List (Taken ℕ)) → Covers registers s names → EachStands n registers (flat_map operands_for all) → AreOfCommand all → CanTakeAll (λ k a. IsHeldAs k s names a) n.vars n.elements all
+can_take_all : (n : Counts) (registers : List Register) (s : Seen) (names : List Assigned) (all : List (Taken ℕ)) → Covers registers s names → EachStands n registers (flat_map operands_for all) → AreOfCommand all → CanTakeAll (λ k a. IsHeldAs k s names a) n.vars n.vars n.elements all
 can_take_all n registers s names [] covers each once = tt
 can_take_all n registers s names (one ∷ more) covers each once =
     let apart = once_first one more once in (

@@ -89,7 +89,7 @@ module _ (n : Counts) (s : Seen) (commands : List Command) (names : List Assigne
       subst (IsNamedAs (registers_of said) a) (sym name)
       ((register_of commands at.0).word, ap (λ rs. slice_get rs a) registers ∙ slice_get-map (register_of commands) names a ∙ ap (option_map (register_of commands)) at.1)
 
-  are_named : (all : List (Taken ℕ)) → CanTakeAll (λ k a. IsHeldAs k s names a) n.vars n.elements all → AreNamed (registers_of said) (name_at names) all
+  are_named : (all : List (Taken ℕ)) → CanTakeAll (λ k a. IsHeldAs k s names a) n.vars n.vars n.elements all → AreNamed (registers_of said) (name_at names) all
   are_named [] can = tt
   are_named (function k a ∷ all) can = (named k a can.0, are_named all can.1)
   are_named (pairs ps ∷ all) can =
@@ -98,7 +98,7 @@ module _ (n : Counts) (s : Seen) (commands : List Command) (names : List Assigne
   are_named (element e ∷ all) can = are_named all can.1
   are_named (value z ∷ all) can = are_named all can.1
   are_named (number z ∷ all) can = are_named all can.1
-  are_named (literals ∷ all) can = absurd can.0
+  are_named (literals ∷ all) can = are_named all can.1
   are_named (bit b ∷ all) can = are_named all can.1
   are_named (variables vs ∷ all) can = are_named all can.1
 

@@ -43,9 +43,9 @@ name_at names a = name_in (slice_get names a)
 abbrev pub IsHeldAs : Kind → Seen → List Assigned → ℕ → Type 0
 IsHeldAs k s names a = (a < length names) × IsLiveAs k s (name_at names a)
 
--- the registers have what it takes that makes a function of them
+-- the registers have what it takes that makes a function of them; no variable comes in a job, so there may be as many as there are
 abbrev pub CanMake : Counts → Seen → List Assigned → Making ℕ (List ℕ) (List (ℕ × ℕ)) → Type 0
-CanMake n s names making = CanTakeAll (λ k a. IsHeldAs k s names a) n.vars n.elements (taken making)
+CanMake n s names making = CanTakeAll (λ k a. IsHeldAs k s names a) n.vars n.vars n.elements (taken making)
 
 -- the conditions of a command's call: it has as many bits as the kind of its register asks for
 abbrev pub CanCall : Counts → Seen → List Assigned → Act → Type 0

@@ -6,12 +6,12 @@ ghost use Rattle.function_laws.specs.declared.history.Call.TheVariants as calls;
 ghost use Rattle.function_laws.specs.declared.history.Reply.TheVariants as laws;
 ghost use Rattle.function_laws.specs.declared.making.Making.{Making};
 ghost use Rattle.dd_session.specs.declared.answers.Refusal.TheVariants as refusals;
-ghost use Rattle.dd_session.specs.MadeRows.{MakesOrExceeds, TellsRow};
+ghost use Rattle.dd_session.specs.MadeRows.{MakesOrTells, TellsRow, with_why};
 ghost use Rattle.dd_session.specs.Managing.{is_posted};
 ghost use Rattle.dd_session.specs.Sessions.{Called, Denies, Seen};
 ghost use Rattle.net_jobs.specs.Saying.{IsAnswered, makes_row};
 
-use dd_session::{Fetched, Full, Overflow, Placed, Refusal};
+use dd_session::{Fetched, Full, Placed, Refusal, Unmade};
 use edge_bits::Memory;
 use function_laws::Name;
 use job_text::Reply;
@@ -24,9 +24,9 @@ pub struct Answered {
     pub made: Option<Name>,
 }
 
-/// What is answered of a row, or of a value out of range.
-fn row_or_overflow(told: Placed<Result<Name, Overflow>>) -> Answered
-    ensures { (old new : Seen) (call : Call) (chosen : Bool) → makes_row call ≡ true → TellsRow chosen old new call told.value told.place → IsAnswered old new call result }
+/// What is answered of a row, or of why there is none.
+fn row_or_why(told: Placed<Result<Name, Unmade>>) -> Answered
+    ensures { (old new : Seen) (call : Call) (chosen : Bool) → makes_row call ≡ true → TellsRow chosen old new call (with_why (λ why. why) told.value) told.place → IsAnswered old new call result }
 {
     match told.value {
         Ok(name) => Answered {
@@ -34,20 +34,25 @@ fn row_or_overflow(told: Placed<Result<Name, Overflow>>) -> Answered
             reply: Reply::Done,
             made: Some(name),
         },
-        Err(Overflow) => Answered {
+        Err(Unmade::Overflow) => Answered {
             place: told.place,
             reply: Reply::Overflow,
+            made: None,
+        },
+        Err(Unmade::Apart) => Answered {
+            place: told.place,
+            reply: Reply::Apart,
             made: None,
         },
     }
 }
 
 /// What a command that makes a row of others is answered.
-pub fn answer_of(made: Result<Placed<Result<Name, Overflow>>, Refusal>) -> Result<Answered, Memory>
-    ensures { IfOk result (λ answered. (old new : Seen) (making : Making Name (List ℕ) (List (ℕ × Name))) → MakesOrExceeds old new making made → IsAnswered old new (calls.Makes making) answered) }
+pub fn answer_of(made: Result<Placed<Result<Name, Unmade>>, Refusal>) -> Result<Answered, Memory>
+    ensures { IfOk result (λ answered. (old new : Seen) (making : Making Name (List ℕ) (List (ℕ × Name))) → MakesOrTells old new making made → IsAnswered old new (calls.Makes making) answered) }
 {
     match made {
-        Ok(placed) => Ok(row_or_overflow(placed)),
+        Ok(placed) => Ok(row_or_why(placed)),
         Err(Refusal::Full(full)) => Ok(Answered {
             place: full.place,
             reply: Reply::Full,

@@ -53,6 +53,8 @@ pub struct Registers<'a> {
 impl Renaming<u32, Name, List<u32>, List<(u32, u32)>> for Registers<'_> {
     ghost is = { λ r k a. IsHeldAs k r.session.now r.names.now a };
 
+    ghost most = { λ r. r.session.now.manager.vars };
+
     ghost vars = { λ r. r.session.now.manager.vars };
 
     ghost elements = { λ r. r.session.now.manager.elements };

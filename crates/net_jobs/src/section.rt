@@ -60,7 +60,7 @@ fn speak<R: Wait>(
 fn goes_on(reply: Reply) -> bool
     ensures { result ≡ not (stops reply) }
 {
-    !matches!(reply, Reply::Full | Reply::Overflow)
+    !matches!(reply, Reply::Full | Reply::Overflow | Reply::Apart)
 }
 
 /// Notes the register that the command at this place assigned, where it did.

@@ -10,3 +10,8 @@ returns-in-None c =
     let rest = split_words c.as_command.result.1.now in
     let same = c.as_command.ensures in
     c.statement.ensures ∙ sym (ap command_of same ∙ telling_is first rest (sym (ap is_assignment same) ∙ c.in-None.ensures))
+
+pub returns-in-Some : goal.returns-in-Some
+returns-in-Some c =
+    let line = c.in-Some.ensures in
+    c.assignment.ensures line.0 line.1 line.3 ∙ sym (ap command_of line.2)

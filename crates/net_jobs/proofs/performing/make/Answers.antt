@@ -27,7 +27,7 @@ pub make-requires : goal.make-requires
 make-requires g c =
     let s = c.args.session.now in
     let names = c.args.names.now in
-    let can = can-renamed (name_at names) (λ k a. IsHeldAs k s names a) (λ k a. IsLiveAs k s a) (λ k a held. held.1) s.manager.vars s.manager.elements (with_lists (λ vars. vars) (λ pairs. pairs) c.args.making.now)
+    let can = can-renamed (name_at names) (λ k a. IsHeldAs k s names a) (λ k a. IsLiveAs k s a) (λ k a held. held.1) s.manager.vars s.manager.vars s.manager.elements (with_lists (λ vars. vars) (λ pairs. pairs) c.args.making.now)
     (can_as_lists s names c.args.making.now c.requires.can) in
     record { own = c.requires.own; room = c.requires.room; can = subst (HasTaken s) (sym c.renamed-named.ensures.same) (can_still s (renamed_by (name_at names) (with_lists (λ vars. vars) (λ pairs. pairs) c.args.making.now)) can) }
 
