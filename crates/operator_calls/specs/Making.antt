@@ -1,5 +1,5 @@
 -- What makes a function of edges, by what makes it: what it takes, what answers it, and what it may store. All of these stand on views alone.
-use Rattle.std.specs.Prelude.{◌≡◌, ◌⊎◌, ◌≤◌, ◌<◌, max, Bool, true, false, not, if◌then◌else◌, ◌&&◌, ◌||◌, ◌+◌, ◌*◌, ◌^◌, ℕ, ℤ, pos, ◌+ℤ◌, ◌-ℤ◌, ◌*ℤ◌, int_le, List, All, Option, Some, None, Result, Ok, Err, IfOk, IsErrOf, MatchResult}
+use Rattle.std.specs.Prelude.{◌≡◌, ◌⊎◌, ◌≤◌, ◌<◌, max, true, false, not, if◌then◌else◌, ◌&&◌, ◌||◌, ◌+◌, ◌*◌, ◌^◌, ℕ, ℤ, pos, ◌+ℤ◌, ◌-ℤ◌, ◌*ℤ◌, int_le, List, All, Option, Some, None, Result, Ok, Err, IfOk, IsErrOf, MatchResult}
 use Rattle.edge_bits.specs.Permanent.{first_element}
 use Rattle.edge_bits.specs.Words.{IsLeafValue}
 use Rattle.edge_bits.specs.declared.edges.Edge.{Edge}
