@@ -1,6 +1,7 @@
 -- What the clause of a call tells of its session, for callers to cite in place of the clause.
 use Rattle.std.proofs.Common.{◌≡◌, ℕ, ℤ, pos, Bool, true, false, cond, ◌&&◌, ◌==◌, Option, Some, None, option_map, List, [], ◌∷◌, length, take_all, IsTrue, ◌↔◌, refl, ap, ap₂, sym, subst, ◌∙◌, arith, eq-eqb}
-use Rattle.std.specs.Prelude.{nat_lt, if◌then◌else◌}
+use Rattle.std.specs.Prelude.{◌^◌, ◌%◌, ◌<◌, nat_lt, if◌then◌else◌}
+use Rattle.std.specs.Cmp.{both_ways}
 use Rattle.std.proofs.lemmas.Bool.{le-ltb}
 use Rattle.edge_bits.specs.Words.{digit}
 use Rattle.function_laws.specs.declared.history.Name.{Name}
@@ -12,16 +13,20 @@ use Rattle.function_laws.specs.declared.history.Reply.{Reply}
 use Rattle.function_laws.specs.declared.history.Reply.TheVariants as replies
 use Rattle.function_laws.specs.Tables.{Sizes, Table, same_name}
 use Rattle.function_laws.specs.Functions.{leq_of}
-use Rattle.function_laws.specs.IrredundantCovers.{IsIrredundant}
-use Rattle.function_laws.specs.Lists.{truth}
-use Rattle.function_laws.specs.Outcomes.{Outcome, makes, restricts, covers, is_apart, fetches, counts, overflows, is_most, compares, tells, shows, is_done, in_range, with_one}
+use Rattle.function_laws.specs.IrredundantCovers.{IsIrredundant, cover_value}
+use Rattle.function_laws.specs.Lists.{list_of, truth, whole}
+use Rattle.function_laws.specs.Outcomes.{Outcome, makes, restricts, covers, is_apart, fetches, counts, overflows, is_most, compares, tells, shows, is_done, as_bdd, as_zdd, in_range, when, with_one, with_two}
 use Rattle.function_laws.specs.Steps.{outcome, value_at, with_result, IsAllowed, Replies, after}
 use Rattle.function_laws.specs.Values.{assignment_of}
 use Rattle.function_laws.specs.Widening.{at_sizes}
+use Rattle.function_laws.proofs.ListLemmas.{length-list_of, same_truths, truth-list_of}
 use Rattle.seat_guard.specs.Views.{stands_for}
 use Rattle.edge_bits.specs.declared.edges.Kind.{Kind}
 use Rattle.function_laws.specs.declared.making.Making.{Making}
-use Rattle.function_laws.specs.Makings.{Taken, function, variable, element, value, number, bit, variables, pairs, literals, covered, taken}
+use Rattle.function_laws.specs.declared.making.Making.TheVariants as makings
+use Rattle.function_laws.specs.declared.making.BddMaking.TheVariants as bdds
+use Rattle.function_laws.specs.declared.making.ZddMaking.TheVariants as zdds
+use Rattle.function_laws.specs.Makings.{Taken, function, variable, element, value, number, bit, variables, pairs, literals, cover_function, covered, has_literals, taken}
 use Rattle.operator_calls.specs.Taking.{CanTake, CanTakeAll}
 use Rattle.dd_session.specs.MadeRows.{HasTaken}
 use Rattle.dd_session.specs.Sessions.{Called, IsLiveAs, Seen, SeenIn, elements_in, kind_of, known_sizes, stands_now, variables_in}
@@ -275,3 +280,60 @@ module _ (old new : Seen) (call : Call) (place : ℕ) (lower upper : List Bool) 
       by : (b : Bool) → IsAllowed (table_of old called.board) old.number call replies.Apart → outcome (table_of old called.board) old.number call ≡ Some (if b then covers lower upper else is_apart) → b ≡ false
       by true (o, at, says) is = absurd (subst (λ (x : Outcome). Replies (table_of old called.board) old.number x replies.Apart) (some_same o (covers lower upper) (sym at ∙ is)) says)
       by false allowed is = refl
+
+-- a cover between a function and itself has that function
+module _ (z : Sizes) (f p : List Bool) where
+  abbrev covering : ℕ → Bool
+  covering = cover_value z.variables z.elements (truth p)
+
+  pub covers_exactly : length f ≡ 2 ^ z.variables → IsIrredundant z.variables z.elements (truth f) (truth f) (truth p) → cover_function z p ≡ f
+  covers_exactly long is = same_truths (cover_function z p) f (length-list_of (2 ^ z.variables) covering ∙ sym long) at
+    where
+      at : (k : ℕ) → k < length (cover_function z p) → truth (cover_function z p) k ≡ truth f k
+      at k below =
+          let here : k < 2 ^ z.variables = subst (λ (n : ℕ). k < n) (length-list_of (2 ^ z.variables) covering) below in
+          truth-list_of (2 ^ z.variables) k covering here ∙ both_ways (covering k) (truth f k) (is.stays k here) (is.reaches k here)
+
+-- a function of Booleans has a value for each assignment
+now_long : (s : Seen) (a : Name) (f : List Bool) → stands_now s a ≡ Some (Bdd f) → length f ≡ 2 ^ variables_in s
+now_long s a f is = by (stands_for s.rows a) is
+  where
+    by : (o : Option Function) → option_map (at_sizes (known_sizes s)) o ≡ Some (Bdd f) → length f ≡ 2 ^ variables_in s
+    by None e = absurd (let z : None ≡ Some (Bdd f) = e in cc)
+    by (Some (Bdd g)) e =
+        let now : Some (Bdd (list_of (2 ^ variables_in s) (λ k. truth g (k % length g)))) ≡ Some (Bdd f) = e in
+        let same : list_of (2 ^ variables_in s) (λ k. truth g (k % length g)) ≡ f = cc in
+        ap length (sym same) ∙ length-list_of (2 ^ variables_in s) (λ k. truth g (k % length g))
+    by (Some (Add g)) e = absurd (let now : Some (Add (list_of (2 ^ variables_in s) (λ k. whole g (k % length g)))) ≡ Some (Bdd f) = e in cc)
+    by (Some (Zdd g)) e = absurd (let now : Some (Zdd (list_of (2 ^ elements_in s) (truth g))) ≡ Some (Bdd f) = e in cc)
+
+-- the function of a cover between a function and itself is that function: what `isop a a` made, `coverof` turns back
+module _ (old between new : Seen) (a c d : Name) (f p : List Bool) (place later : ℕ) where
+  abbrev asks : Call
+  asks = calls.Makes (makings.Zdd (zdds.Isop a a))
+
+  abbrev reads : Call
+  reads = calls.Makes (makings.Bdd (bdds.CoverOf c))
+
+  pub cover_of_isop : Called old between asks (replies.Chose c (Zdd p)) place → Called between new reads (replies.Made d) later → stands_now old a ≡ Some (Bdd f) → stands_now new d ≡ Some (Bdd f)
+  cover_of_isop chosen made is =
+      made_as between new reads d later made (Bdd f)
+      (ap (λ o. when (has_literals (known_sizes between)) (with_one (as_zdd o) (λ q. makes (Bdd (cover_function (known_sizes between) q))))) cover_stands
+      ∙ ap (λ (z : Sizes). when (has_literals z) (Some (makes (Bdd (cover_function z p))))) (sym (stepped old between asks (replies.Chose c (Zdd p)) place chosen).2)
+      ∙ ap₂ (λ b g. when b (Some (makes (Bdd g)))) literals_fit (covers_exactly (known_sizes old) f p (now_long old a f is) irredundant))
+    where
+      cover_stands : (table_of between made.board).live between.number c ≡ Some (Zdd p)
+      cover_stands = stood_before between new reads (replies.Made d) later made c ∙ chosen_as old between asks c (Zdd p) place chosen
+
+      asked : outcome (table_of old chosen.board) old.number asks ≡ when (has_literals (known_sizes old)) (Some (covered f f))
+      asked = ap (λ o. when (has_literals (known_sizes old)) (with_two (as_bdd o) (as_bdd o) covered)) (stood_before old between asks (replies.Chose c (Zdd p)) place chosen a ∙ is)
+
+      literals_fit : has_literals (known_sizes old) ≡ true
+      literals_fit = by (has_literals (known_sizes old)) asked (is_allowed old between asks (replies.Chose c (Zdd p)) place chosen)
+        where
+          by : (b : Bool) → outcome (table_of old chosen.board) old.number asks ≡ when b (Some (covered f f)) → IsAllowed (table_of old chosen.board) old.number asks (replies.Chose c (Zdd p)) → b ≡ true
+          by true at allowed = refl
+          by false at (o, may, says) = absurd (let z : None ≡ Some o = sym at ∙ may in cc)
+
+      irredundant : IsIrredundant (variables_in old) (elements_in old) (truth f) (truth f) (truth p)
+      irredundant = chosen_cover old between asks place f f c p chosen (asked ∙ ap (λ b. when b (Some (covered f f))) literals_fit)

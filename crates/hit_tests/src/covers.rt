@@ -1,12 +1,12 @@
-//! The function of a cover: of products of literals of the 32 variables with an even number, whose parts are two at each variable.
+//! Covers and their functions: products of literals of the 32 variables with an even number, whose parts are two at each variable, and the cover that is found of a parity.
 
 ghost use Rattle.std.specs.Prelude.{◌≡◌, ◌<◌, IfOk};
 ghost use Rattle.edge_bits.specs.declared.edges.Kind.TheVariants.{Zdd};
 ghost use Rattle.node_store.specs.Views.{AreTwo, Grown, Is};
 
-use crate::diagrams::Pair;
+use crate::diagrams::{Pair, parity};
 use crate::watched::Watched;
-use cover_isop::cover_of;
+use cover_isop::{cover_of, isop};
 use edge_bits::Edge;
 use node_store::{Grow, Stop};
 use std::process::Abort;
@@ -70,4 +70,21 @@ fn cover<G: Grow>(rt: &impl Abort, store: &mut G) -> Result<(), Fail>
 fn cover_of_remembers(rt: HostRuntime) -> Result<(), Fail> {
     let mut store = Watched::new(&rt, rt.alloc(), 64, 128)?;
     cover(&rt, &mut store)
+}
+
+/// The cover of a parity of 32 variables, which has 2^31 products, and its function, which is that parity again.
+fn between<G: Grow>(rt: &impl Abort, store: &mut G) -> Result<(), Fail>
+    requires vars { (G.view store.old).vars ≡ 64 }
+    requires elements { (G.view store.old).elements ≡ 128 }
+{
+    let even = parity(store, 0)?;
+    let products = isop(store, even, even)?;
+    assert!(rt; cover_of(store, products, 64)? == even);
+    Ok(())
+}
+
+#[test]
+fn isop_remembers(rt: HostRuntime) -> Result<(), Fail> {
+    let mut store = Watched::new(&rt, rt.alloc(), 64, 128)?;
+    between(&rt, &mut store)
 }

@@ -50,7 +50,7 @@ fn toggled<G: Grow>(store: &mut G, sum: Edge, var: u32) -> Result<Edge, Stop>
 }
 
 /// The parity of the 32 variables with an even number, or of those with an odd one.
-fn parity<G: Grow>(store: &mut G, odd: u32) -> Result<Edge, Stop>
+pub fn parity<G: Grow>(store: &mut G, odd: u32) -> Result<Edge, Stop>
     requires vars { (G.view store.old).vars ≡ 64 }
     requires odd { odd < 2 }
     ensures grown { Grown (G.view store.old) (G.view store.new) }
