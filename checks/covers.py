@@ -60,6 +60,9 @@ def bits(number, count):
     return "".join("01"[has(number, at)] for at in range(count))
 
 
+SET_WORDS, PLACE_WORDS = [bits(c, ELEMENTS) for c in SETS], [bits(k, VARS) for k in PLACES]
+
+
 def fits(c, k, n):
     """Whether the literals of a combination hold at k: element 2v is the variable v, and 2v + 1 its complement."""
     return all((not has(c, 2 * v) or has(k, v)) and (not has(c, 2 * v + 1) or not has(k, v)) for v in range(n))
@@ -134,8 +137,8 @@ def registers(made):
 def asking(lower, upper):
     """The commands about two functions that are in order."""
     z, g = f"z{lower}x{upper}", f"g{lower}x{upper}"
-    members = [f"eval {z} {bits(c, ELEMENTS)}" for c in SETS]
-    function = [f"eval {g} {bits(k, VARS)}" for k in PLACES]
+    members = [f"eval {z} {word}" for word in SET_WORDS]
+    function = [f"eval {g} {word}" for word in PLACE_WORDS]
     return [f"{z} = isop f{lower} f{upper}", f"{g} = coverof {z}", *members, *function, f"drop {z}", f"drop {g}"]
 
 
@@ -166,7 +169,7 @@ def judged(lower, upper, told):
     family = [c for c, reply in zip(SETS, asked) if reply == "1"]
     faults = broken(values(lower), values(upper), family, VARS, ELEMENTS)
     if faults:
-        return f"no irredundant cover: {[bits(c, ELEMENTS) for c in family]} breaks {sorted(faults)}"
+        return f"no irredundant cover: {[SET_WORDS[c] for c in family]} breaks {sorted(faults)}"
     due = ["01"[any(fits(c, k, VARS) for c in family)] for k in PLACES]
     return "" if asked[len(SETS) :] == due else f"coverof tells {asked[len(SETS):]}, not {due}"
 

@@ -70,14 +70,3 @@ int posix_memalign(void **block, size_t alignment, size_t size) {
     *block = made;
     return 0;
 }
-
-/* A mapping of a file or at a place of its own is no call for memory. */
-void *mmap(void *place, size_t size, int protection, int flags, int file, off_t offset) {
-    if (flags & MAP_ANONYMOUS && !(flags & MAP_FIXED) && is_refused()) {
-        no_memory();
-        return MAP_FAILED;
-    }
-    return (void *)syscall(SYS_mmap, place, size, protection, flags, file, offset);
-}
-
-void *mmap64(void *, size_t, int, int, int, off_t) __attribute__((alias("mmap")));
