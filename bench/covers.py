@@ -1,5 +1,5 @@
-"""Makes irredundant covers by `isop f f`, each script at n, 2n and 4n, and prints a table: seconds of whole plays, the least of three, and
-their greatest size in MB.
+"""Makes irredundant covers by `isop f f`, each script at n, 2n and 4n and at the most variables that there are elements for, and prints a
+table: seconds of processor time of whole plays, the least of three.
 
 usage: covers.py PROGRAM
 
@@ -9,13 +9,10 @@ usage: covers.py PROGRAM
 `functions` is a play that makes the functions alone, `covers` one that makes their covers too, and `again` one that makes each of these
 100 times more.
 """
-import os
-import re
-import subprocess
 import sys
-import tempfile
 
-RUNS = 3
+from networks import least
+
 AGAIN = 100
 
 
@@ -42,30 +39,27 @@ def parity(n):
     return lines, [last]
 
 
-# Each script with its name and its least size.
-SCRIPTS = [("sum", sums, 4), ("parity", parity, 7)]
-
-TOLD = re.compile(r"status 0, (\d+) of \1 lines ok, left \d+, ([\d.]+) s, (\d+) MB")
-timed = os.path.join(os.path.dirname(os.path.abspath(__file__)), "timed_play.py")
+# Each script with its name and its sizes.
+SCRIPTS = [("sum", sums, (4, 8, 16, 256)), ("parity", parity, (7, 14, 28, 512))]
 
 
 def play(lines):
-    """The seconds and the size in memory of a play of these lines."""
-    with tempfile.NamedTemporaryFile("w", suffix=".job") as job:
-        job.write("\n".join(lines) + "\n")
-        job.flush()
-        told = subprocess.run([sys.executable, timed, sys.argv[1], job.name], stdout=subprocess.PIPE, check=True, text=True).stdout.strip()
-    row = TOLD.fullmatch(told)
-    if row is None:
-        sys.exit(told)
-    return float(row.group(2)), int(row.group(3))
+    """The seconds of a play of these lines, which all have to say `ok`."""
+    seconds, _, told = least([sys.argv[1], "play"], "\n".join(lines) + "\n")
+    if told.count(" -> ok\n") != told.count("\n") - 1:
+        sys.exit(told[:2000])
+    return seconds
 
 
-print(f"{'script':8}{'n':>4}{'functions':>11}{'covers':>8}{'MB':>5}{'again':>7}")
-for name, script, least in SCRIPTS:
-    for n in (least, 2 * least, 4 * least):
-        lines, functions = script(n)
-        covers = [f"z{i} = isop {f} {f}" for i, f in enumerate(functions)]
-        again = [f"y{time}x{i} = isop {f} {f}" for time in range(AGAIN) for i, f in enumerate(functions)]
-        made, covered, kept = (min(play(part) for _ in range(RUNS)) for part in (lines, lines + covers, lines + covers + again))
-        print(f"{name:8}{n:>4}{made[0]:>11.2f}{covered[0]:>8.2f}{covered[1]:>5}{kept[0]:>7.2f}", flush=True)
+def main():
+    print(f"{'script':8}{'n':>4}{'functions':>11}{'covers':>8}{'again':>8}")
+    for name, script, sizes in SCRIPTS:
+        for n in sizes:
+            lines, functions = script(n)
+            covers = [f"z{i} = isop {f} {f}" for i, f in enumerate(functions)]
+            again = [f"y{time}x{i} = isop {f} {f}" for time in range(AGAIN) for i, f in enumerate(functions)]
+            made, covered, kept = play(lines), play(lines + covers), play(lines + covers + again)
+            print(f"{name:8}{n:>4}{made:>11.3f}{covered:>8.3f}{kept:>8.3f}", flush=True)
+
+
+main()
