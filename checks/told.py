@@ -12,7 +12,7 @@ import sys
 
 MOST = 10
 COMMANDS = {"Or": "or", "Xor": "xor", "Min": "min", "Max": "max", "Threshold": "threshold", "Plus": "plus", "Minus": "minus", "Times": "times", "Union": "union", "Meet": "meet", "Diff": "diff"}
-TESTS = {"hit_tests", "store_tests", "seat_tests", "session_tests", "truth_lists", "row_tests", "run_tests", "reader_rows"}
+TESTS = {"hit_tests", "store_tests", "seat_tests", "session_tests", "refused_calls", "truth_lists", "row_tests", "run_tests", "reader_rows"}
 OPERATORS = {"node_store", "ite_core", "add_ops", "zdd_ops", "quantify_ops"}
 OTHERS = re.compile(r"proofs/Rows|net_jobs/.*([Hh]osting|HostLaws)")
 IMPORT = re.compile(r"(pub )?(ghost )?use ")
