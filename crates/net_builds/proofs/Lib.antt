@@ -2,6 +2,7 @@ pub mod BackLemmas
 pub mod Built
 pub mod Classed
 pub mod Contained
+pub mod FactorLemmas
 pub mod Finishing
 pub mod Gathered
 pub mod Gathering

@@ -8,12 +8,14 @@ use Rattle.cover_nets.specs.declared.net.Literal.{Literal}
 use Rattle.cover_nets.specs.Networks.{cover_value, fits, matches}
 use Rattle.function_laws.specs.declared.history.Name.{Name}
 use Rattle.function_laws.specs.Values.{disjunction, negation}
-use Rattle.net_builds.specs.Products.{Replaces, match_any, match_at, with_fit}
+use Rattle.net_builds.specs.declared.factors.Factor.{Factor}
+use Rattle.net_builds.specs.Factors.{GivesForIf, GivesIf, HoldsIf}
+use Rattle.net_builds.specs.Products.{match_any, match_at, with_fit}
 use Rattle.net_builds.specs.Signals.{HaveValues}
 use Rattle.net_builds.specs.Standings.{Holds, Makes, Standing}
-use Rattle.net_builds.proofs.StandingLemmas.{kept_holds, makes_same}
-use Rattle.net_builds.proofs.ReplaceLemmas.{makes_then}
-use Rattle.net_builds.proofs.RowLemmas.{row_holds, values_later}
+use Rattle.net_builds.proofs.FactorLemmas.{given_holds, given_kept, given_same, given_then, given_values}
+use Rattle.net_builds.proofs.StandingLemmas.{makes_same}
+use Rattle.net_builds.proofs.RowLemmas.{row_holds}
 
 -- past the end of the literals or of the signals nothing is asked
 matches_none : (v : ℕ → Bool) (literals : List Literal) → matches v literals [] ≡ true
@@ -41,31 +43,30 @@ matches_front v (suc at) (first ∷ literals) [] literal is below = absurd (omeg
 matches_front v (suc at) (first ∷ literals) (signal ∷ ins) literal is below = matches_front v at literals ins literal is (omega (arith, below))
 
 -- the product with that literal
-pub product_step : (start now new : Standing) (rows : List (Option Name)) (ins : List ℕ) (literals : List Literal) (values : ℕ → ℕ → Bool) (at before : ℕ) (product name row : Name) (literal : Literal)
+pub product_step : (start now new : Standing) (rows : List (Option Name)) (ins : List ℕ) (literals : List Literal) (values : ℕ → ℕ → Bool) (at before : ℕ) (product next : Option Factor) (row : Name) (literal : Literal)
     → suc before ≡ at → slice_get literals before ≡ Some literal → before < length ins → slice_get rows (get_or ins before 0) ≡ Some (Some row)
-    → ((f p : ℕ → Bool) → Holds now row f → Holds now product p → Replaces now new product name (with_fit literal f p))
-    → HaveValues start rows values ins → Makes start now product (match_at values (drop at ins) (drop at literals))
-    → Makes start new name (match_at values (drop before ins) (drop before literals))
-product_step start now new rows ins literals values at before product name row literal next is below has step have makes =
-    let signal = get_or ins before 0 in
-    let f = values signal in
+    → ((f p : ℕ → Bool) → Holds now row f → HoldsIf true now product p → GivesForIf true now new product next (with_fit literal f p))
+    → HaveValues start rows values ins → GivesIf true start now product (match_at values (drop at ins) (drop at literals))
+    → GivesIf true start new next (match_at values (drop before ins) (drop before literals))
+product_step start now new rows ins literals values at before product next row literal below_is is below has step have gives =
+    let f = values (get_or ins before 0) in
     let p = match_at values (drop at ins) (drop at literals) in
-    let replaces = step f p (kept_holds start now product row p f makes (row_holds start rows ins values before row have below has)) makes.holds in
-    makes_same start new name (with_fit literal f p) (match_at values (drop before ins) (drop before literals)) (makes_then start now new product name p (with_fit literal f p) makes replaces)
-    (λ k. subst (λ n. (fits literal (f k) && matches (λ s. values s k) (drop n literals) (drop n ins)) ≡ matches (λ s. values s k) (drop before literals) (drop before ins)) next
+    let replaces = step f p (given_kept true start now product row p f gives (row_holds start rows ins values before row have below has)) (given_holds true start now product p gives) in
+    given_same true start new next (with_fit literal f p) (match_at values (drop before ins) (drop before literals)) (given_then true start now new product next p (with_fit literal f p) gives replaces)
+    (λ k. subst (λ n. (fits literal (f k) && matches (λ s. values s k) (drop n literals) (drop n ins)) ≡ matches (λ s. values s k) (drop before literals) (drop before ins)) below_is
     (sym (matches_front (λ s. values s k) before literals ins literal is below)))
 
 -- the sum with one product more
-pub sum_step : (start now new : Standing) (rows : List (Option Name)) (ins : List ℕ) (cubes : List Cube) (values : ℕ → ℕ → Bool) (i : ℕ) (sum name : Name) (cube : Cube)
+pub sum_step : (start now new : Standing) (rows : List (Option Name)) (ins : List ℕ) (cubes : List Cube) (values : ℕ → ℕ → Bool) (i : ℕ) (sum : Option Factor) (next : Factor) (cube : Cube)
     → i < length cubes → get_or cubes i cube ≡ cube
-    → ((v : ℕ → ℕ → Bool) (f : ℕ → Bool) → HaveValues now rows v ins → Holds now sum f → Replaces now new sum name (disjunction f (match_at v ins cube.literals)))
-    → HaveValues start rows values ins → Makes start now sum (match_any values ins (take i cubes))
-    → Makes start new name (match_any values ins (take (i + 1) cubes))
-sum_step start now new rows ins cubes values i sum name cube below is step have makes =
+    → ((v : ℕ → ℕ → Bool) (f : ℕ → Bool) → HaveValues now rows v ins → HoldsIf false now sum f → GivesForIf false now new sum (Some next) (disjunction f (match_at v ins cube.literals)))
+    → HaveValues start rows values ins → GivesIf false start now sum (match_any values ins (take i cubes))
+    → GivesIf false start new (Some next) (match_any values ins (take (i + 1) cubes))
+sum_step start now new rows ins cubes values i sum next cube below is step have gives =
     let f = match_any values ins (take i cubes) in
     let p = match_at values ins cube.literals in
-    let replaces = step values f (values_later start now rows ins values sum f makes have) makes.holds in
-    makes_same start new name (disjunction f p) (match_any values ins (take (i + 1) cubes)) (makes_then start now new sum name f (disjunction f p) makes replaces)
+    let replaces = step values f (given_values false start now sum f rows ins values gives have) (given_holds false start now sum f gives) in
+    given_same false start new (Some next) (disjunction f p) (match_any values ins (take (i + 1) cubes)) (given_then false start now new sum (Some next) f (disjunction f p) gives replaces)
     (λ k. subst (λ (c : Cube). (f k || matches (λ s. values s k) c.literals ins) ≡ match_any values ins (take (i + 1) cubes) k) is
     (sym (list_any_more (λ (c : Cube). matches (λ s. values s k) c.literals ins) cubes i cube below)))
 

@@ -4,6 +4,7 @@ pub mod Asked
 pub mod Signals
 pub mod Building
 pub mod Products
+pub mod Factors
 pub mod Handings
 pub mod Outputs
 pub mod Shares

@@ -15,6 +15,10 @@ pub record Replaces (old new : Standing) (gone name : Name) (f : ℕ → Bool) :
   pub kept : KeepsOthers old new gone
   pub rows : new.rows ≤ old.rows
 
+-- whether the literal fits the value of f
+abbrev pub fit : Literal → (ℕ → Bool) → ℕ → Bool
+fit literal f k = fits literal (f k)
+
 -- whether the literal fits the value of f, and g is 1
 abbrev pub with_fit : Literal → (ℕ → Bool) → (ℕ → Bool) → ℕ → Bool
 with_fit literal f g k = fits literal (f k) && g k

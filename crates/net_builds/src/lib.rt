@@ -3,6 +3,7 @@
 
 mod building;
 mod diagrams;
+mod factors;
 mod handing;
 mod handovers;
 mod host;
