@@ -56,7 +56,7 @@ fn listing_of(
 {
     shared.store.tell_sound();
     let edges = edges_of(alloc, pass, book, rows)?;
-    diagram_lists::list(alloc, &shared.store, &edges)
+    diagram_lists::list(alloc, shared.store.get(), &edges)
 }
 
 /// Notes the orders, and gives the turn back.

@@ -38,7 +38,7 @@ fn try_once(
     ensures sure { IsTrue (is_err result) → IsTrue (needs_nodes (of_lent making.now)) }
 {
     shared.store.tell_sound();
-    let made = run(&mut shared.store, making);
+    let made = run(shared.store.get_mut(), making);
     shared.store.tell_sound();
     made
 }

@@ -21,7 +21,7 @@ pub fn implies(shared: &mut Shared, f: Edge, g: Edge) -> Result<bool, Memory>
     ensures implies { IfOk result (λ told. (told ≡ true) ↔ Implies (bdd_at (view_of shared.old) f) (bdd_at (view_of shared.old) g)) }
 {
     shared.store.tell_sound();
-    let told = ite_core::leq(&mut shared.store, f, g);
+    let told = ite_core::leq(shared.store.get_mut(), f, g);
     shared.store.tell_sound();
     told
 }
@@ -47,7 +47,7 @@ pub fn walked(shared: &mut Shared, kind: Kind, edge: Edge, bits: &[bool]) -> i64
     ensures value { result ≡ number_of kind (values_at kind (view_of shared.old) edge (assignment_of bits.now)) }
 {
     shared.store.tell_sound();
-    let value = value_of(&mut shared.store, kind, edge, bits);
+    let value = value_of(shared.store.get_mut(), kind, edge, bits);
     shared.store.tell_sound();
     value
 }

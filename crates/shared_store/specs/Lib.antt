@@ -1,4 +1,5 @@
 pub mod Sharing
+pub mod Heap
 pub mod Lasting
 pub mod Storing
 pub mod Reordering

@@ -3,6 +3,7 @@
 
 mod board;
 mod counted;
+mod heap;
 mod opening;
 mod reordering;
 mod returning;
@@ -10,6 +11,7 @@ mod shared;
 mod sifting;
 mod sweeping;
 
+pub use heap::HeapStore;
 pub use reordering::Crowded;
 pub use returning::put_back;
 pub use shared::{Cell, Shared};

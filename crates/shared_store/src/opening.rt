@@ -3,9 +3,9 @@
 ghost use Rattle.std.specs.Prelude.{◌≡◌, ◌+◌, ◌≤◌, IfOk, None, replicate};
 ghost use Rattle.shared_store.specs.Sharing.{IsNew};
 
+use crate::heap::HeapStore;
 use crate::shared::{Cell, Shared};
 use edge_bits::{CELLS, MOST_ELEMENTS, MOST_SLOTS, MOST_VARIABLES, Memory};
-use node_slots::PlainStore;
 use seat_guard::content::Content;
 use std::alloc::Global;
 
@@ -48,7 +48,7 @@ impl Shared {
         requires most { limit ≤ MOST_SLOTS }
         ensures { IfOk result (IsNew vars elements limit) }
     {
-        let store = PlainStore::new(alloc, vars, elements, limit)?;
+        let store = HeapStore::new(alloc, vars, elements, limit)?;
         let cells = empty_board(alloc)?;
         Ok(Shared { store, cells })
     }

@@ -51,9 +51,9 @@ impl Shared {
     {
         self.store.tell_sound();
         let Shared { store, cells } = self;
-        let mut held = store.hold();
+        let (mut held, place) = store.hold();
         let done = sweep_and_swap(&mut held, order, level);
-        let store = held.release();
+        let store = place.release(held);
         store.tell_sound();
         (Shared { store, cells }, done)
     }

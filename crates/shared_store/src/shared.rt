@@ -4,8 +4,8 @@ ghost use Rattle.std.specs.Prelude.{◌≡◌, length, false};
 ghost use Rattle.edge_bits.specs.declared.limits.TheConstants.{CELLS};
 ghost use Rattle.node_slots.specs.Stores.{is_held};
 
+use crate::heap::HeapStore;
 use edge_bits::{Edge, Kind};
-use node_slots::PlainStore;
 
 /// What stands in a cell of the board: an edge, and the kind of what it denotes.
 #[derive(Debug, Clone, Copy, PartialEq, Eq)]
@@ -17,7 +17,7 @@ pub struct Cell {
 /// The store, and the cells of the board. Between two calls no sweep is on, and no slot is pinned.
 #[derive(Drop)]
 pub struct Shared {
-    pub store: PlainStore,
+    pub store: HeapStore,
     pub cells: Vec<Option<Cell>>,
     ghost as_many: { length cells.items ≡ CELLS },
     // No sweep is on, and no slot is pinned.

@@ -42,9 +42,9 @@ impl Shared {
     {
         self.store.tell_sound();
         let Shared { store, cells } = self;
-        let mut held = store.hold();
+        let (mut held, place) = store.hold();
         let sifted = sift_order(&mut held, order, blocks);
-        let store = held.release();
+        let store = place.release(held);
         store.tell_sound();
         (Shared { store, cells }, sifted)
     }

@@ -25,9 +25,9 @@ impl Shared {
     {
         self.store.tell_sound();
         let Shared { store, cells } = self;
-        let mut held = store.hold();
+        let (mut held, place) = store.hold();
         let swept = sweep(&mut held);
-        let store = held.release();
+        let store = place.release(held);
         store.tell_sound();
         (Shared { store, cells }, swept)
     }
