@@ -59,7 +59,7 @@ fn fill_cell(rt: &impl Abort, shared: &mut Shared) -> Cell
     let edge = Edge::new(0, false);
     let before = shared.cell(7);
     assert!(rt; before.is_none());
-    let _permanent = shared.store.levels(Kind::Bdd);
+    let _permanent = shared.store.get_mut().levels(Kind::Bdd);
     shared.set_cell(7, Cell { kind, edge });
     Cell { kind, edge }
 }
@@ -67,7 +67,7 @@ fn fill_cell(rt: &impl Abort, shared: &mut Shared) -> Cell
 /// The cell stands at its place alone, and holds its slot.
 fn is_counted(rt: &impl Abort, shared: &Shared, cell: Cell) {
     assert!(rt; shared.cell(7) == Some(cell) && shared.cell(8) == None);
-    assert!(rt; shared.store.count_of(0) == 1);
+    assert!(rt; shared.store.get().count_of(0) == 1);
 }
 
 /// A cell holds the slot of what stands in it, through a sweep too.
