@@ -1,7 +1,13 @@
+pub mod Layouts
+pub mod Bits
+pub mod Totals
 pub mod RowCounts
 pub mod NameSteps
 pub mod NoteLemmas
 pub mod Journals
 pub mod Turns
 pub mod Allotments
+pub mod Phases
+pub mod PartSteps
 pub mod Keeps
+pub mod PhaseSteps

@@ -3,7 +3,11 @@ pub mod Sifted
 pub mod Allots
 pub mod Notes
 pub mod Views
+pub mod Layout
+pub mod Phase
 pub mod Journal
 pub mod Turn
 pub mod Rule
 pub mod Passes
+pub mod PhasePlays
+pub mod Tokens

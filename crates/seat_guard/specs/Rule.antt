@@ -1,7 +1,7 @@
 -- The rule over the table and all seats, and what each step tells.
 use Rattle.std.specs.Prelude.{◌≡◌, ◌≢◌, ℕ, suc, ◌+◌, ◌==◌, ◌^◌, ◌<◌, ◌≤◌, List, [], ◌∷◌, map, length, slice_index, Bool, true, false, All}
 use Rattle.std.specs.Prelude as std
-use mathlib.Core.Option.{some}
+use mathlib.Core.Option.{Option, some}
 use lib.ListN.{get_elem?}
 use Rattle.edge_bits.specs.declared.limits.TheConstants.{CELLS, MOST_COUNT}
 use Rattle.atomic_table.specs.Table.{State, Me, Step}
@@ -22,7 +22,10 @@ use Rattle.seat_guard.specs.declared.view.Draws.{Draws}
 use Rattle.seat_guard.specs.declared.view.View.{View}
 use Rattle.seat_guard.specs.Allots.{Allotted}
 use Rattle.seat_guard.specs.Notes.{AreNotedIn}
-use Rattle.seat_guard.specs.Views.{sizes_for, stands_for, told_of, holding, letting_go, noting}
+use Rattle.seat_guard.specs.Views.{sizes_for, stands_for, told_of, holding, letting_go, noting, with_draws}
+use Rattle.seat_guard.specs.declared.layout.TheConstants.{WORDS}
+use Rattle.seat_guard.specs.Layout.{Words, words_of}
+use Rattle.seat_guard.specs.Phase.{Footing, footing_of, HasNoShare, Phase}
 use Rattle.seat_guard.specs.Journal.{Journal}
 use Rattle.seat_guard.specs.Turn.{AreSized, IsKeptCell, KeepsRows, Serves, Turn, row_count, cells_count}
 
@@ -44,20 +47,36 @@ pub record Whole (n : ℕ) (start : Sizes) (given : ℕ) (gone : List Gone) : Ty
   pub beyond : (p : ℕ) → given ≤ p → entries_of p log ≡ []
   pub noted : (k : ℕ) (g : Gone) → get_elem? gone k ≡ some g → AreNotedIn start log g.session g.noted g.placed
 
+abbrev pub draws_in : List View → List Draws
+draws_in vs = map (λ (v : View). v.draws) vs
+
+abbrev pub footings_in : List View → List Footing
+footings_in vs = map footing_of vs
+
+-- only a live seat has a share or a hold
+abbrev pub Tied : View → Type 0
+Tied v = v.draws.live ≡ false → HasNoShare v.shares
+
 module _ {S : Type 0} (keeps : S → Held → Type 0) (board : S → List (std.Option Held)) (counts : S → ℕ × ℕ × ℕ) (count : S → ℕ → ℕ) (orders : S → Orders) where
-  pub record Rule (s : State (std.Option S) View) : Type 0 where
-    pub wide : length s.words ≡ 2
-    pub long : length s.homes ≡ 1
+  -- the parts, over the words by what they are
+  pub record Parts (ws : Words) (home : Option (Option (std.Option S))) (vs : List View) : Type 0 where
     pub start : Sizes
     pub slots : ℕ
     -- how many sessions the table was made for
     pub sessions : ℕ
     pub log : List Entry
     pub table : Table
-    pub journal : Journal (slice_index s.words 0) (slice_index s.words 1) (map (λ (v : View). v.draws) s.views) start log table
-    pub turn : Turn keeps board counts count orders slots (slice_index s.words 1) (get_elem? s.homes 0) (map (λ (v : View). v.draws) s.views) table (orders_from (opening_orders start) log)
-    pub rows : Allotted (map (λ (v : View). v.draws) s.views)
-    pub sized : AreSized slots sessions (map (λ (v : View). v.draws) s.views)
+    pub journal : Journal ws.journal ws.turn (draws_in vs) start log table
+    pub turn : Turn keeps board counts count orders slots ws.turn home (draws_in vs) table (orders_from (opening_orders start) log)
+    pub rows : Allotted (draws_in vs)
+    pub sized : AreSized slots sessions (draws_in vs)
+    pub phase : Phase ws.phase (footings_in vs)
+    pub tied : (id : ℕ) (v : View) → get_elem? vs id ≡ some v → Tied v
+
+  pub record Rule (s : State (std.Option S) View) : Type 0 where
+    pub wide : length s.words ≡ WORDS
+    pub long : length s.homes ≡ 1
+    pub parts : Parts (words_of s.words) (get_elem? s.homes 0) s.views
 
   -- the content after all sessions came back: only the rows of the closing seat and the cells are left
   pub record Ends (x : S) (d : Draws) : Type 0 where
@@ -79,7 +98,7 @@ module _ {S : Type 0} (keeps : S → Held → Type 0) (board : S → List (std.O
 
   abbrev pub took : (S → List Function) → Step (std.Option S) → Me (std.Option S) View → ℕ → Me (std.Option S) View → Type 0
   took functions st m r m' =
-      (r ≡ 0 → (x : S) × (others : List Held) × (m'.0.draws ≡ holding m.0.draws (board x) others (orders x) (functions x)) × (m'.1 ≡ (0, std.Some x) ∷ []) × (length (board x) ≡ CELLS) × Serves keeps board counts count orders x (holding m.0.draws (board x) others (orders x) (functions x)) × ((k : ℕ) → count x k ≤ MOST_COUNT))
+      (r ≡ 0 → (x : S) × (others : List Held) × (m'.0 ≡ with_draws m.0 (holding m.0.draws (board x) others (orders x) (functions x))) × (m'.1 ≡ (0, std.Some x) ∷ []) × (length (board x) ≡ CELLS) × Serves keeps board counts count orders x (holding m.0.draws (board x) others (orders x) (functions x)) × ((k : ℕ) → count x k ≤ MOST_COUNT))
       × (r ≢ 0 → m' ≡ m)
 
 -- each session that was given a seat has come back
@@ -88,13 +107,13 @@ AllBack d = (p : ℕ) → p < d.given → (k : ℕ) × (g : Gone) × (get_elem? 
 
 module _ {S : Type 0} where
   abbrev pub gave : Leaving → Step S → Me S View → ℕ → Me S View → Type 0
-  gave x st m r m' = (m'.0.draws ≡ letting_go m.0.draws x) × (m'.1 ≡ [])
+  gave x st m r m' = (m'.0 ≡ with_draws m.0 (letting_go m.0.draws x)) × (m'.1 ≡ [])
 
   abbrev pub drew : Telling → Step S → Me S View → ℕ → Me S View → Type 0
-  drew x st m r m' = (m'.0.draws ≡ told_of m.0.draws r x) × (m'.1 ≡ m.1) × All (λ (e : Entry). e.place < r) m.0.draws.entries
+  drew x st m r m' = (m'.0 ≡ with_draws m.0 (told_of m.0.draws r x)) × (m'.1 ≡ m.1) × All (λ (e : Entry). e.place < r) m.0.draws.entries
 
   abbrev pub looked : Step S → Me S View → ℕ → Me S View → Type 0
-  looked st m r m' = (m'.0.draws ≡ noting m.0.draws r) × (m'.1 ≡ m.1) × All (λ (e : Entry). e.place < r) m.0.draws.entries
+  looked st m r m' = (m'.0 ≡ with_draws m.0 (noting m.0.draws r)) × (m'.1 ≡ m.1) × All (λ (e : Entry). e.place < r) m.0.draws.entries
 
 abbrev pub closed : {S : Type 0} → Step S → Me S View → ℕ → Me S View → Type 0
 closed st m r m' = (m' ≡ m) × (m.0.draws.closing ≡ true → Whole r (sizes_for m.0.draws.vars m.0.draws.elements) m.0.draws.given m.0.draws.gone)

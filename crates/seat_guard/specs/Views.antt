@@ -26,6 +26,7 @@ use Rattle.seat_guard.specs.declared.view.Opening.{Opening}
 pub use Rattle.seat_guard.specs.Known.{known_at, sizes_for}
 use Rattle.seat_guard.specs.Sifted.{MayCarry}
 use Rattle.seat_guard.specs.Allots.{HasRoomFor}
+use Rattle.seat_guard.specs.Phase.{no_shares}
 
 -- what a name stands for
 abbrev pub stands_for : List Row → Name → Option Function
@@ -106,8 +107,12 @@ nothing_told = record { call = calls.Sweep; reply = replies.Done; change = Nothi
 abbrev pub nothing_left : Leaving
 nothing_left = record { stored = []; due = None }
 
+-- a seat that has nothing of the phase word
 abbrev pub viewed : Draws → View
-viewed d = record { draws = d }
+viewed d = record { draws = d; shares = no_shares }
+
+abbrev pub with_draws : View → Draws → View
+with_draws v d = record v { draws = d }
 
 -- a spent seat
 abbrev pub blank : Draws

@@ -6,19 +6,17 @@ ghost use Rattle.seat_guard.specs.declared.view.Held.{Held};
 ghost use Rattle.seat_guard.specs.Views.{sizes_for, session_of, holding, letting_go, one_more, with_gone, told_of, noting, AreTold, MayTell};
 ghost use Rattle.seat_guard.specs.Rule.{AllBack, Ends, Whole};
 ghost use Rattle.seat_guard.specs.Turn.{Serves};
-ghost use Rattle.seat_guard.specs.Passes.{known, in_hand, IsPassOf, IsIdle};
+ghost use Rattle.seat_guard.specs.Phase.{HasNoShare};
+ghost use Rattle.seat_guard.specs.Passes.{known, in_hand, shares, IsPassOf, IsIdle};
 
 use crate::content::Content;
+use crate::layout::{JOURNAL, TURN};
 use crate::plays::{Back, Draw, End, Give, Last, Look, Next, Take};
 use crate::seat::{Guard, Pass};
 use crate::told::{Leaves, Told};
 use crossbeam_utils::Backoff;
 use edge_bits::MOST_SESSIONS;
 use std::sync::Wait;
-
-const JOURNAL: usize = 0;
-
-const TURN: usize = 1;
 
 /// What the turn word holds from the closing on: no session has this number.
 const CLOSING_TURN: u64 = MOST_SESSIONS as u64 + 1;
@@ -32,6 +30,7 @@ impl<S: Content> Guard<S> {
         requires few { (known pass.old).sessions ≤ MOST_SESSIONS }
         ensures closing { IsPassOf self.now pass.new × (known pass.new ≡ one_more (known pass.old)) × (in_hand pass.new ≡ in_hand pass.old) }
         ensures session { IsPassOf self.now result × (known result ≡ session_of (known pass.old)) × (in_hand result ≡ []) }
+        ensures unshared { HasNoShare (shares result) }
     {
         let seat = self.table.shared.split_seat::<Next>(&mut pass.seat);
         let number = pass.given;
@@ -47,6 +46,7 @@ impl<S: Content> Guard<S> {
     pub fn join(&self, pass: &mut Pass<S>, other: Pass<S>)
         requires own { IsPassOf self.now pass.old × ((known pass.old).closing ≡ true) }
         requires other { IsIdle self.now other }
+        requires unshared { HasNoShare (shares other) }
         ensures { IsPassOf self.now pass.new × (known pass.new ≡ with_gone (known pass.old) (known other)) × (in_hand pass.new ≡ in_hand pass.old) }
     {
         let Pass {
@@ -65,6 +65,7 @@ impl<S: Content> Guard<S> {
         ensures board { length (S.board result) ≡ CELLS }
         ensures few { (k : ℕ) → S.count result k ≤ MOST_COUNT }
         ensures hand { in_hand pass.new ≡ (0, None) ∷ [] }
+        ensures stands { shares pass.new ≡ shares pass.old }
     {
         let backoff = Backoff::new();
         let turn = u64::from(pass.number) + 1;
@@ -88,6 +89,7 @@ impl<S: Content> Guard<S> {
         requires step { MayTell (known pass.old) E.told }
         ensures own { IsPassOf self.now pass.new × (in_hand pass.new ≡ in_hand pass.old) }
         ensures drew { known pass.new ≡ told_of (known pass.old) result E.told }
+        ensures stands { shares pass.new ≡ shares pass.old }
         ensures later { All (λ (e : Entry). e.place < result) (known pass.old).entries }
     {
         self.table
@@ -100,6 +102,7 @@ impl<S: Content> Guard<S> {
         requires own { IsPassOf self.now pass.old × ((known pass.old).holds ≡ true) }
         ensures own { IsPassOf self.now pass.new × (in_hand pass.new ≡ in_hand pass.old) }
         ensures noted { known pass.new ≡ noting (known pass.old) result }
+        ensures stands { shares pass.new ≡ shares pass.old }
         ensures later { All (λ (e : Entry). e.place < result) (known pass.old).entries }
     {
         self.table.shared.load::<Look>(&mut pass.seat, JOURNAL)
@@ -115,6 +118,7 @@ impl<S: Content> Guard<S> {
         ensures own { IsPassOf self.now pass.new }
         ensures gave { known pass.new ≡ letting_go (known pass.old) E.leaving }
         ensures hand { in_hand pass.new ≡ [] }
+        ensures stands { shares pass.new ≡ shares pass.old }
     {
         match self.table.shared.exchange(&mut pass.seat, 0, Some(content)) {
             None => {}

@@ -8,6 +8,7 @@ ghost use Rattle.seat_guard.specs.Turn.{IsKeptCell};
 ghost use Rattle.seat_guard.specs.Passes.{known, in_hand, IsPassOf};
 
 use crate::content::Content;
+use crate::layout::WORDS;
 use crate::seat::{Guard, Pass};
 use crate::view::Opening;
 use atomic_table::Table;
@@ -30,7 +31,7 @@ pub fn open<S: Content + Drop>(
 {
     let mut slots = Vec::new(alloc);
     slots.push(Some(content))?;
-    let Ok((table, seat)) = Table::new(alloc, &[0, 0], slots, key) else {
+    let Ok((table, seat)) = Table::new(alloc, &[0; WORDS], slots, key) else {
         return Err(AllocError);
     };
     Ok((

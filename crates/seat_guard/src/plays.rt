@@ -68,9 +68,9 @@ impl<S> Play<Option<S>, View> for Last {
 pub struct Next;
 
 impl Split<View> for Next {
-    ghost use Rattle.seat_guard.specs.Views.{viewed, one_more, session_of};
+    ghost use Rattle.seat_guard.specs.Views.{viewed, with_draws, one_more, session_of};
 
-    ghost left = { λ v. viewed (one_more v.draws) };
+    ghost left = { λ v. with_draws v (one_more v.draws) };
 
     ghost right = { λ v. viewed (session_of v.draws) };
 }
@@ -79,9 +79,9 @@ impl Split<View> for Next {
 pub struct Back;
 
 impl Join<View> for Back {
-    ghost use Rattle.seat_guard.specs.Views.{viewed, blank, with_gone};
+    ghost use Rattle.seat_guard.specs.Views.{viewed, with_draws, blank, with_gone};
 
-    ghost both = { λ v w. viewed (with_gone v.draws w.draws) };
+    ghost both = { λ v w. with_draws v (with_gone v.draws w.draws) };
 
     ghost spent = { viewed blank };
 }

@@ -1,6 +1,9 @@
 //! The types of the table and of a seat.
 ghost use Rattle.std.specs.Prelude.{◌≡◌, ◌<◌};
 ghost use Rattle.edge_bits.specs.declared.limits.TheConstants.{MOST_SESSIONS};
+ghost use Rattle.seat_guard.specs.declared.layout.TheConstants.{WORDS};
+ghost use Rattle.seat_guard.specs.declared.view.Hold.TheVariants.{Holding};
+ghost use Rattle.seat_guard.specs.declared.view.Share.TheVariants as shares;
 
 use crate::content::Content;
 use crate::view::{Opening, View};
@@ -22,11 +25,11 @@ impl<S: Content> TableRule<Option<S>, View, Opening> for Turns<S> {
     ghost first = { λ key. viewed (closing_of key) };
 }
 
-/// The table: a journal word, a turn word, and a slot for what all sessions share.
+/// The table: a journal word, a phase word, a turn word, and a slot for what all sessions share.
 #[derive(Drop)]
 pub struct Guard<S: Content> {
     pub(crate) table: Table<Option<S>, View, Opening, Turns<S>, Global>,
-    ghost sized: { (table.shared.table_id.words ≡ 2) × (table.shared.table_id.slots ≡ 1) },
+    ghost sized: { (table.shared.table_id.words ≡ WORDS) × (table.shared.table_id.slots ≡ 1) },
 }
 
 /// A session's seat, or the closing one, which counts the seats that it has given.
@@ -47,4 +50,32 @@ pub struct Rest<S> {
     pub(crate) given: u32,
     ghost number_is: { (number ≡ perch.view.draws.session) × (number < MOST_SESSIONS) },
     ghost given_is: { given ≡ perch.view.draws.given },
+}
+
+/// An operation share, which owns its session's seat: nobody has the order meanwhile.
+#[derive(Drop)]
+pub struct OpShare<S> {
+    pub pass: Pass<S>,
+    ghost held: { pass.seat.me.0.shares.op ≡ shares.Held },
+}
+
+/// A walk share: nobody has the full hold meanwhile.
+#[derive(Drop)]
+pub struct WalkShare<S> {
+    pub pass: Pass<S>,
+    ghost held: { pass.seat.me.0.shares.walk ≡ shares.Held },
+}
+
+/// The order hold: nobody has an operation share meanwhile, nor the order.
+#[derive(Drop)]
+pub struct OrderHold<S> {
+    pub pass: Pass<S>,
+    ghost held: { pass.seat.me.0.shares.order ≡ Holding },
+}
+
+/// The full hold, on top of the order: nobody has a share of either kind meanwhile.
+#[derive(Drop)]
+pub struct FullHold<S> {
+    pub pass: Pass<S>,
+    ghost held: { (pass.seat.me.0.shares.order ≡ Holding) × (pass.seat.me.0.shares.full ≡ Holding) },
 }

@@ -1,0 +1,116 @@
+//! The forms of shares and holds that wait. Each peeks at the word until it would let it through, and only then makes its step: who
+//! adds a share and takes it back would keep the count above 0, and the holder of the order would never find it clear.
+ghost use Rattle.std.specs.Prelude.{◌≡◌};
+ghost use Rattle.seat_guard.specs.Tokens.{IsClaim, IsFreeOf, IsFull, IsFullClaim, IsFullHold, IsHold, IsOrdered, IsShare, Keeps};
+
+use crate::content::Content;
+use crate::layout::PHASE;
+use crate::phase::{FULL, ORDER, WALK};
+use crate::phase_plays::{ClaimFull, ClaimOrder, LookFull, LookOrder};
+use crate::seat::{FullHold, Guard, OpShare, OrderHold, Pass};
+use crossbeam_utils::Backoff;
+use std::sync::Wait;
+
+impl<S: Content> Guard<S> {
+    /// Waits for an operation share.
+    pub fn op_wait<R: Wait>(&self, rt: &R, pass: Pass<S>) -> OpShare<S>
+        requires { IsFreeOf self.now pass }
+        ensures { IsShare self.now result × Keeps pass result.pass }
+    {
+        let backoff = Backoff::new();
+        let mut mine = pass;
+        for _ in rt.forever() {
+            if self.table.shared.peek(PHASE) < ORDER {
+                match self.op_in(mine) {
+                    Ok(share) => return share,
+                    Err((back, _)) => mine = back,
+                }
+            }
+            backoff.snooze();
+        }
+        unreachable!()
+    }
+
+    /// Waits for the order hold: for the bit, and then for the operation shares to go.
+    pub fn order_wait<R: Wait>(&self, rt: &R, mut pass: Pass<S>) -> OrderHold<S>
+        requires { IsFreeOf self.now pass }
+        ensures { IsHold self.now result × Keeps pass result.pass }
+    {
+        self.claim_order(rt, &mut pass);
+        self.await_order(rt, &mut pass);
+        OrderHold { pass }
+    }
+
+    /// Waits for the full hold: for the walk shares to go.
+    pub fn full_wait<R: Wait>(&self, rt: &R, hold: OrderHold<S>) -> FullHold<S>
+        requires { IsHold self.now hold }
+        ensures { IsFullHold self.now result × Keeps hold.pass result.pass }
+    {
+        let OrderHold { mut pass } = hold;
+        self.table
+            .shared
+            .fetch_xor::<ClaimFull>(&mut pass.seat, PHASE, FULL);
+        self.await_full(rt, &mut pass);
+        FullHold { pass }
+    }
+
+    /// Waits for the order bit.
+    fn claim_order<R: Wait>(&self, rt: &R, pass: &mut Pass<S>)
+        requires { IsFreeOf self.now pass.old }
+        ensures { IsClaim self.now pass.new × Keeps pass.old pass.new }
+    {
+        let backoff = Backoff::new();
+        for _ in rt.forever() {
+            if self.table.shared.peek(PHASE) / ORDER % 2 == 0 {
+                let found =
+                    self.table
+                        .shared
+                        .fetch_or::<ClaimOrder>(&mut pass.seat, PHASE, ORDER);
+                if found / ORDER % 2 == 0 {
+                    return;
+                }
+            }
+            backoff.snooze();
+        }
+        unreachable!()
+    }
+
+    /// Waits for the operation shares to go.
+    fn await_order<R: Wait>(&self, rt: &R, pass: &mut Pass<S>)
+        requires { IsClaim self.now pass.old }
+        ensures { IsOrdered self.now pass.new × Keeps pass.old pass.new }
+    {
+        let backoff = Backoff::new();
+        for _ in rt.forever() {
+            if self.table.shared.peek(PHASE) % WALK == 0 {
+                let found = self
+                    .table
+                    .shared
+                    .load::<LookOrder>(&mut pass.seat, PHASE);
+                if found % WALK == 0 {
+                    return;
+                }
+            }
+            backoff.snooze();
+        }
+        unreachable!()
+    }
+
+    /// Waits for the walk shares to go.
+    fn await_full<R: Wait>(&self, rt: &R, pass: &mut Pass<S>)
+        requires { IsFullClaim self.now pass.old }
+        ensures { IsFull self.now pass.new × Keeps pass.old pass.new }
+    {
+        let backoff = Backoff::new();
+        for _ in rt.forever() {
+            if self.table.shared.peek(PHASE) / WALK % WALK == 0 {
+                let found = self.table.shared.load::<LookFull>(&mut pass.seat, PHASE);
+                if found / WALK % WALK == 0 {
+                    return;
+                }
+            }
+            backoff.snooze();
+        }
+        unreachable!()
+    }
+}
