@@ -1,6 +1,10 @@
 //! Shares and holds of the phase word, each of which owns its session's seat.
-ghost use Rattle.std.specs.Prelude.{MatchResult};
-ghost use Rattle.seat_guard.specs.Tokens.{BarsFull, BarsOperations, BarsOrder, BarsWalks, IsFreeOf, IsFullHold, IsHold, IsShare, IsWalk, Keeps, Looked};
+ghost use Rattle.std.specs.Prelude.{◌≡◌, MatchResult};
+ghost use Rattle.seat_guard.specs.declared.view.Hold.TheVariants.{Free};
+ghost use Rattle.seat_guard.specs.declared.view.Share.TheVariants.{Nothing};
+ghost use Rattle.seat_guard.specs.Passes.{IsPassOf, shares};
+ghost use Rattle.seat_guard.specs.Phase.{bit, passed, weight};
+ghost use Rattle.seat_guard.specs.Tokens.{BarsFull, BarsOperations, BarsOrder, BarsWalks, IsFreeOf, IsFullHold, IsHold, IsLiveOf, IsShare, IsWalk, Keeps, Looked};
 
 use crate::content::Content;
 use crate::layout::PHASE;
@@ -38,9 +42,7 @@ impl<S: Content> Guard<S> {
         if found < ORDER {
             return Ok(OpShare { pass });
         }
-        self.table
-            .shared
-            .fetch_sub::<LeaveOperation>(&mut pass.seat, PHASE, 1);
+        self.leave_operation(&mut pass);
         Err((pass, Busy { phase: found }))
     }
 
@@ -50,10 +52,18 @@ impl<S: Content> Guard<S> {
         ensures { IsFreeOf self.now result × Keeps share.pass result }
     {
         let OpShare { mut pass } = share;
+        self.leave_operation(&mut pass);
+        pass
+    }
+
+    /// Takes an operation share, or what is owed of one, out of the word.
+    fn leave_operation(&self, pass: &mut Pass<S>)
+        requires { IsLiveOf self.now pass.old × (weight (shares pass.old).op ≡ 1) }
+        ensures { IsPassOf self.now pass.new × Keeps pass.old pass.new × (shares pass.new ≡ record (passed (shares pass.old)) { op = Nothing }) }
+    {
         self.table
             .shared
             .fetch_sub::<LeaveOperation>(&mut pass.seat, PHASE, 1);
-        pass
     }
 
     /// Takes a walk share. Busy comes exactly where the word before has the full bit.
@@ -68,9 +78,7 @@ impl<S: Content> Guard<S> {
         if found < FULL {
             return Ok(WalkShare { pass });
         }
-        self.table
-            .shared
-            .fetch_sub::<LeaveWalk>(&mut pass.seat, PHASE, WALK);
+        self.leave_walk(&mut pass);
         Err((pass, Busy { phase: found }))
     }
 
@@ -80,10 +88,18 @@ impl<S: Content> Guard<S> {
         ensures { IsFreeOf self.now result × Keeps share.pass result }
     {
         let WalkShare { mut pass } = share;
+        self.leave_walk(&mut pass);
+        pass
+    }
+
+    /// Takes a walk share, or what is owed of one, out of the word.
+    fn leave_walk(&self, pass: &mut Pass<S>)
+        requires { IsLiveOf self.now pass.old × (weight (shares pass.old).walk ≡ 1) }
+        ensures { IsPassOf self.now pass.new × Keeps pass.old pass.new × (shares pass.new ≡ record (passed (shares pass.old)) { walk = Nothing }) }
+    {
         self.table
             .shared
             .fetch_sub::<LeaveWalk>(&mut pass.seat, PHASE, WALK);
-        pass
     }
 
     /// Takes the order hold. Busy comes exactly where the word before has the order bit, or where the load behind it shows an
@@ -106,9 +122,7 @@ impl<S: Content> Guard<S> {
         if found % WALK == 0 {
             return Ok(OrderHold { pass });
         }
-        self.table
-            .shared
-            .fetch_and::<ClearOrder>(&mut pass.seat, PHASE, !ORDER);
+        self.clear_order(&mut pass);
         Err((pass, Busy { phase: found }))
     }
 
@@ -118,10 +132,18 @@ impl<S: Content> Guard<S> {
         ensures { IsFreeOf self.now result × Keeps hold.pass result }
     {
         let OrderHold { mut pass } = hold;
+        self.clear_order(&mut pass);
+        pass
+    }
+
+    /// Clears the order bit, which the seat has claimed or holds.
+    fn clear_order(&self, pass: &mut Pass<S>)
+        requires { IsLiveOf self.now pass.old × (bit (shares pass.old).order ≡ 1) × ((shares pass.old).full ≡ Free) }
+        ensures { IsPassOf self.now pass.new × Keeps pass.old pass.new × (shares pass.new ≡ record (passed (shares pass.old)) { order = Free }) }
+    {
         self.table
             .shared
             .fetch_and::<ClearOrder>(&mut pass.seat, PHASE, !ORDER);
-        pass
     }
 
     /// Takes the full hold. Busy comes exactly where its load shows a walk share; then the full bit is clear again.
@@ -137,9 +159,7 @@ impl<S: Content> Guard<S> {
         if found / WALK % WALK == 0 {
             return Ok(FullHold { pass });
         }
-        self.table
-            .shared
-            .fetch_xor::<ClearFull>(&mut pass.seat, PHASE, FULL);
+        self.clear_full(&mut pass);
         Err((OrderHold { pass }, Busy { phase: found }))
     }
 
@@ -149,9 +169,17 @@ impl<S: Content> Guard<S> {
         ensures { IsHold self.now result × Keeps hold.pass result.pass }
     {
         let FullHold { mut pass } = hold;
+        self.clear_full(&mut pass);
+        OrderHold { pass }
+    }
+
+    /// Clears the full bit, which the seat has claimed or holds.
+    fn clear_full(&self, pass: &mut Pass<S>)
+        requires { IsLiveOf self.now pass.old × (bit (shares pass.old).full ≡ 1) }
+        ensures { IsPassOf self.now pass.new × Keeps pass.old pass.new × (shares pass.new ≡ record (passed (shares pass.old)) { full = Free }) }
+    {
         self.table
             .shared
             .fetch_xor::<ClearFull>(&mut pass.seat, PHASE, FULL);
-        OrderHold { pass }
     }
 }

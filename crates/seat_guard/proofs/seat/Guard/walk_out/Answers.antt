@@ -1,7 +1,0 @@
-use Rattle.std.proofs.Common.{rules, ap}
-use Rattle.seat_guard.specs.Phase.{weight}
-use Rattle.seat_guard.proofs.PhaseSteps.{walk_leaves}
-use Rattle.seat_guard.proofs.seat.Guard.walk_out.Goals as goal
-
-pub fetch_sub-requires : goal.fetch_sub-requires
-fetch_sub-requires g c = (search rules, search rules, walk_leaves g.S.Content.keeps g.S.Content.board g.S.Content.counts g.S.Content.count g.S.Content.orders _ _ _ c.requires.0.1 (ap weight c.args.share.held))
