@@ -43,6 +43,7 @@ use Rattle.shared_store.specs.declared.shared.Shared.{Shared}
 use Rattle.shared_store.specs.Lasting.{Lasts}
 use Rattle.shared_store.specs.Sharing.{Serving, board, count, counts, functions, keeps, orders, view_of}
 use Rattle.shared_store.proofs.Lasting.{lasts-grown, serves-lasts}
+use Rattle.shared_store.specs.Storing.{IsLeaving, IsListedWork}
 use Rattle.shared_store.proofs.Storing.{stored-only}
 use Rattle.dd_session.specs.declared.answers.Full.{Full}
 use Rattle.dd_session.specs.declared.answers.Placed.{Placed}
@@ -57,7 +58,7 @@ use Rattle.dd_session.specs.MadeRows.{Refuses, TellsRow, adding_by, with_why}
 use Rattle.operator_calls.specs.declared.unmade.Unmade.{Unmade}
 use Rattle.std.specs.Prelude.{IsErrOf, IsTrue}
 use Rattle.node_store.specs.declared.grow.Stop.TheVariants as stop
-use Rattle.dd_session.specs.Turns.{Gives, IsAdded, IsCausedBy, IsRefused, IsSeatOf, IsSmall, IsWorkFrom, Notes, Stands, Tied, Told, Took, Tried, managed_by, names_by, seen_by, seen_of}
+use Rattle.dd_session.specs.Turns.{Gives, IsAdded, IsCausedBy, IsRefused, IsSeatOf, IsSmall, IsWorkFrom, Notes, Ran, Stands, Tied, Told, Took, Tried, managed_by, names_by, seen_by, seen_of}
 use Rattle.node_slots.specs.Wholes.{content_view}
 use Rattle.dd_session.proofs.Sweepings.{swept_beside}
 use Rattle.dd_session.proofs.Tying.{tied_room, tied_same}
@@ -231,6 +232,16 @@ module _ (old held new : Draws) (x : Shared) (table table' : TableId) (spare spa
 -- a full table where nodes may be needed
 pub full_needs : {X : Type 0} {nodes : Bool} (made : Result X Stop) → IsErrOf made stop.Full → (IsTrue (is_err made) → IsTrue nodes) → IsTrue nodes
 full_needs made is sure = sure (ap is_err is)
+
+-- what one try stored are parts of its operation's work
+pub stored_ran : {X : Type 0} (old held new : Draws) (x y : Shared) (table : TableId) (spare : ℕ) (made : Result X Stop) → Took old held x → (Answers : View → View → X → Type 0) (Work : View → Denoted → Type 0) → Ran Answers Work x y made
+    → (l : Leaving) → new.stored ≡ l.stored → IsLeaving held y l → (f : Function) → Contains new.stored f → (o : Orders) × IsOfWork (seen_by table old spare) o Work f
+stored_ran old held new x y table spare made took Answers Work ran l same leaving f there =
+    (orders x, stored-only (IsOfWork (seen_by table old spare) (orders x) Work) x y held l (ap (λ (z : Draws). z.functions) took.is) (λ g at. by g (ran.stored g at)) leaving f (subst (λ (fs : List Function). Contains fs f) same there))
+  where
+    by : (g : Function) → Contains (functions x) g ⊎ IsListedWork (view_of x) (Work (view_of x)) g → Contains (functions x) g ⊎ IsOfWork (seen_by table old spare) (orders x) Work g
+    by g (inl at) = inl at
+    by g (inr part) = inr (view_of x, has_rows table old spare x (stands_taken old held x took), ordered_as x (orders x) ran.store refl, part)
 
 -- an operation that was tried and settled
 module _ {X : Type 0} (old held new : Draws) (x y : Shared) (table table' : TableId) (spare spare' : ℕ) (made : Result X Stop) (took : Took old held x) where

@@ -21,3 +21,5 @@ mod Sweepings
 mod Swappings
 mod SiftTellings
 pub mod Makings
+pub mod AtRest
+mod Awaiting

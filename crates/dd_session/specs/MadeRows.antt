@@ -1,5 +1,5 @@
 -- What a session has to have to make a function of its rows, and what it tells of that.
-use Rattle.std.specs.Prelude.{◌≡◌, ℕ, ◌+◌, ◌≤◌, max, Bool, true, false, List, Some, Result, Ok, Err, MatchResult, IfOk}
+use Rattle.std.specs.Prelude.{◌≡◌, ℕ, ◌+◌, ◌≤◌, max, Bool, true, false, Contains, List, Some, Result, Ok, Err, MatchResult, IfOk}
 use Rattle.add_ops.specs.declared.arithmetic.Overflow.{Overflow}
 use Rattle.edge_bits.specs.declared.edges.Edge.{Edge}
 use Rattle.function_laws.specs.declared.history.Name.{Name}
@@ -11,7 +11,10 @@ use Rattle.function_laws.specs.declared.making.Making.{Making}
 use Rattle.function_laws.specs.declared.making.Making.TheVariants as makings
 use Rattle.function_laws.specs.declared.making.BddMaking.TheVariants as bdds
 use Rattle.function_laws.specs.declared.making.ZddMaking.TheVariants as zdds
+use Rattle.function_laws.specs.Kinds.{Denoted}
 use Rattle.function_laws.specs.Makings.{needs_nodes, taken}
+use Rattle.function_laws.specs.Sizes.{Orders}
+use Rattle.node_store.specs.Views.{View}
 use Rattle.operator_calls.specs.declared.unmade.Unmade.{Unmade}
 use Rattle.operator_calls.specs.declared.unmade.Unmade.TheVariants as unmade
 use Rattle.operator_calls.specs.Making.{unmade_as, work}
@@ -23,8 +26,8 @@ use Rattle.dd_session.specs.declared.answers.Refusal.{Refusal}
 use Rattle.dd_session.specs.declared.answers.Refusal.TheVariants as refusals
 use Rattle.dd_session.specs.declared.request.Adding.{Adding}
 use Rattle.dd_session.specs.declared.request.Adding.TheVariants.{Made, Chosen}
-use Rattle.dd_session.specs.Sessions.{Called, Denies, HasRoom, IsLiveAs, Managed, Seen, edge_in, elements_in, reply_unmade, told_as, variables_in}
-use Rattle.dd_session.specs.Works.{StoresWork}
+use Rattle.dd_session.specs.Sessions.{Called, Denies, HasRoom, IsAsBefore, IsLiveAs, Managed, Seen, edge_in, elements_in, reply_unmade, told_as, variables_in}
+use Rattle.dd_session.specs.Works.{IsOfWork, StoresWork}
 
 -- the session has what it takes; there may be as many variables as its manager was opened with
 abbrev pub HasTaken : Seen → Making Name (List ℕ) (List (ℕ × Name)) → Type 0
@@ -59,6 +62,10 @@ TellsRow false old new call told place = Called old new call (told_as told) plac
 abbrev pub Refuses : Bool → Seen → Seen → Call → Refusal → Type 0
 Refuses true old new call refusal = Denies old new call refusal
 Refuses false old new call refusal = (refusal ≡ refusals.Memory) × Denies old new call refusal
+
+-- what a try leaves that another one follows: nothing was told, and what it stored are parts of its operation's work
+abbrev pub Awaits : (View → Denoted → Type 0) → Seen → Seen → Type 0
+Awaits Work old new = IsAsBefore old new × (new.spare ≡ max old.spare 1) × ((f : Function) → Contains new.stored f → (o : Orders) × IsOfWork old o Work f)
 
 -- the same result, where what tells why nothing was made may be told by any call
 abbrev pub with_why : {X : Type 0} → (X → Unmade) → Result Name X → Result Name Unmade

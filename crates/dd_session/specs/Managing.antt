@@ -1,5 +1,5 @@
 -- What callers see of a manager and of its sessions.
-use Rattle.std.specs.Prelude.{◌≡◌, ℕ, zero, suc, ◌+◌, ◌<◌, ◌≤◌, List, [], ◌∷◌, ◌++◌, Bool, true, false, None, length, All}
+use Rattle.std.specs.Prelude.{◌≡◌, ℕ, zero, suc, ◌+◌, ◌<◌, ◌≤◌, List, [], ◌∷◌, ◌++◌, Bool, true, false, Option, Some, None, length, All}
 use mathlib.Core.Option.{some}
 use lib.ListN.{get_elem?}
 use Rattle.edge_bits.specs.declared.limits.TheConstants.{MOST_ELEMENTS, MOST_SESSIONS, MOST_SLOTS, MOST_VARIABLES}
@@ -36,11 +36,18 @@ Managed = sessions.Managed
 abbrev pub Seen : Type 0
 Seen = sessions.Seen
 
-abbrev pub seen_in : Pass Shared → Book → Seen
-seen_in = turns.seen_of
+-- a session whose seat is away, which no caller meets
+abbrev pub seatless : Seen
+seatless = record { manager = record { table = record { words = 0; slots = 0; views_name = 0; atom = 0; block = 0; offset = 0; slot_names = [] }; vars = 0; elements = 0; limit = 0; sessions = 0 }; number = 0; rows = []; more_variables = 0; more_elements = 0; adds = 0; spare = 0; entries = []; found = []; stored = []; due = None; noted = []; placed = [] }
 
-abbrev pub Ready : Pass Shared → Book → Type 0
-Ready p book = turns.IsReady p × turns.Keeps (known p) book
+abbrev pub seen_in : Option (Pass Shared) → Book → Seen
+seen_in (Some p) book = turns.seen_of p book
+seen_in None book = seatless
+
+-- between two calls the seat is there, and is at rest
+abbrev pub Ready : Option (Pass Shared) → Book → Type 0
+Ready (Some p) book = turns.IsReady p × turns.Keeps (known p) book
+Ready None book = ⊥
 
 abbrev pub managed_of : Guard Shared → Rest Shared → Managed
 managed_of g r = turns.managed_by g.table.shared.table_id (resting r)

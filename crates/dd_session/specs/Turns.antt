@@ -37,7 +37,8 @@ use Rattle.seat_guard.specs.declared.view.Held.{Held}
 use Rattle.seat_guard.specs.declared.view.Leaving.{Leaving}
 use Rattle.seat_guard.specs.declared.view.Row.{Row}
 use Rattle.seat_guard.specs.declared.view.Telling.{Telling}
-use Rattle.seat_guard.specs.Passes.{IsPassOf, in_hand, known}
+use Rattle.seat_guard.specs.Passes.{IsPassOf, in_hand, known, shares}
+use Rattle.seat_guard.specs.Phase.{HasNoShare}
 use Rattle.seat_guard.specs.Turn.{one_if, row_count}
 use Rattle.seat_guard.specs.declared.view.Change.{Change}
 use Rattle.seat_guard.specs.declared.view.Change.TheVariants.{Adds}
@@ -137,7 +138,7 @@ ordered_by d o = record d { variable_order = o.variables; element_order = o.elem
 -- the turn
 
 abbrev pub IsReady : Pass Shared → Type 0
-IsReady p = ((known p).live ≡ true) × ((known p).holds ≡ false) × (in_hand p ≡ [])
+IsReady p = ((known p).live ≡ true) × ((known p).holds ≡ false) × (in_hand p ≡ []) × HasNoShare (shares p)
 
 -- the pass has the turn, and what all share is in hand
 abbrev pub IsHolding : Guard Shared → Pass Shared → Type 0
@@ -157,6 +158,7 @@ pub record Started (g : Guard Shared) (p p' : Pass Shared) (book book' : Book) (
   pub keeps : Keeps (known p') book'
   pub spare : book'.rows.spare ≡ max book.rows.spare 1
   pub few : (k : ℕ) → count x k ≤ MOST_COUNT
+  pub stands : shares p' ≡ shares p
 
 -- how many variables, elements and slots a view has
 abbrev pub sizes_in : View → ℕ × ℕ × ℕ

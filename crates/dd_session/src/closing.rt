@@ -8,7 +8,7 @@ ghost use Rattle.dd_session.specs.Managing.{IsClosing, Seen, all_live, gone_as};
 ghost use Rattle.dd_session.specs.Turns.{live_count, managed_by};
 
 use crate::book::Book;
-use crate::session::Session;
+use crate::session::{Session, parted};
 use handle_count::Rows;
 use seat_guard::seat::{Guard, Pass};
 use shared_store::Shared;
@@ -30,7 +30,7 @@ pub fn join_all(
     ensures rows { (k : ℕ) → all_live k ended.new.items ≡ row_count k (known closing.new).rows }
 {
     for session in sessions {
-        let Session { pass, book } = session;
+        let (pass, book) = parted(session);
         let Book {
             rows,
             calls: _,

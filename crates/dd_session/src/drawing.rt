@@ -3,7 +3,7 @@
 ghost use Rattle.std.specs.Prelude.{◌≡◌, ◌+◌, ◌<◌, ◌^◌, [], ◌∷◌, length, true, false, None, Some, All};
 ghost use Rattle.edge_bits.specs.declared.edges.Kind.{Kind as KindOf};
 ghost use Rattle.function_laws.specs.declared.history.Entry.{Entry};
-ghost use Rattle.seat_guard.specs.Passes.{IsPassOf, in_hand, known};
+ghost use Rattle.seat_guard.specs.Passes.{IsPassOf, in_hand, known, shares};
 ghost use Rattle.seat_guard.specs.Views.{MayTell, told_of};
 ghost use Rattle.shared_store.specs.Sharing.{Serving, view_of};
 ghost use Rattle.dd_session.specs.Requests.{is_refusal, telling_of};
@@ -44,6 +44,7 @@ fn draw<E: Tells>(
     requires step { MayTell (known pass.old) (telling_of (view_of shared.now) request.now answer.now) }
     ensures own { IsPassOf guard.now pass.new × (in_hand pass.new ≡ in_hand pass.old) }
     ensures drew { known pass.new ≡ told_of (known pass.old) result (telling_of (view_of shared.now) request.now answer.now) }
+    ensures stands { shares pass.new ≡ shares pass.old }
     ensures later { All (λ (e : Entry). e.place < result) (known pass.old).entries }
 {
     guard.place::<E>(pass)
@@ -75,6 +76,7 @@ pub fn finish(
     requires serves { Serving shared (told_of (known pass.old) 0 (telling_of (view_of shared) request answer)) }
     ensures own { IsPassOf guard.now pass.new × (in_hand pass.new ≡ []) }
     ensures drew { Drew (known pass.old) (known pass.new) shared (telling_of (view_of shared) request.entry answer) result }
+    ensures stands { shares pass.new ≡ shares pass.old }
     ensures calls { (book.new.calls ≡ length (known pass.new).entries) × (book.new.fulls ≡ fulls_in (known pass.new).entries) }
     ensures rows { book.new.rows ≡ book.old.rows }
 {

@@ -2,12 +2,14 @@
 #![tactic(auto)]
 
 mod answers;
+mod asking;
 mod bdd_calls;
 mod book;
 mod closing;
 mod drawing;
 mod family_calls;
 mod fetching;
+mod held;
 mod listing;
 mod making;
 mod manager;
@@ -17,6 +19,7 @@ mod own_rows;
 mod questions;
 mod reordering;
 mod request;
+mod seated;
 mod session;
 mod settling;
 mod sifting;

@@ -4,7 +4,7 @@ ghost use Rattle.std.specs.Prelude.{◌≡◌, ◌<◌, [], map, All, IfOk, Matc
 ghost use Rattle.edge_bits.specs.declared.edges.Kind.TheVariants as kinds;
 ghost use Rattle.function_laws.specs.declared.history.Entry.{Entry};
 ghost use Rattle.seat_guard.specs.declared.view.Leaving.{Leaving};
-ghost use Rattle.seat_guard.specs.Passes.{IsIdle, IsPassOf, in_hand, known};
+ghost use Rattle.seat_guard.specs.Passes.{IsIdle, IsPassOf, in_hand, known, shares};
 ghost use Rattle.seat_guard.specs.Views.{known_as, letting_go, noting};
 ghost use Rattle.shared_store.specs.Sharing.{Serving, orders};
 ghost use Rattle.shared_store.specs.Storing.{IsLeaving};
@@ -65,6 +65,7 @@ fn note(guard: &Guard<Shared>, pass: &mut Pass<Shared>, shared: Shared) -> u64
     requires serves { Serving shared (known pass.old) }
     ensures own { IsPassOf guard.now pass.new × (in_hand pass.new ≡ []) }
     ensures gave { (x : Leaving) × (known pass.new ≡ letting_go (noting (known pass.old) result) x) × IsLeaving (known pass.old) shared x }
+    ensures stands { shares pass.new ≡ shares pass.old }
     ensures later { All (λ (e : Entry). e.place < result) (known pass.old).entries }
 {
     let place = guard.look(pass);
@@ -88,6 +89,7 @@ pub fn list<R: Wait>(
     ensures keeps { Keeps (known pass.new) book.now }
     ensures told { MatchResult result (IsListed (seen_of pass.old book.now) (seen_of pass.new book.now) rows.now) (λ _. IsAsBefore (seen_of pass.old book.now) (seen_of pass.new book.now)) }
     ensures stored { StoresNothing (seen_of pass.new book.now) }
+    ensures stands { shares pass.new ≡ shares pass.old }
 {
     let shared = guard.take(rt, pass);
     match listing_of(alloc, pass, book, &shared, rows) {

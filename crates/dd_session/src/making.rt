@@ -1,6 +1,6 @@
-//! What makes a function of a session's rows: by their edges, in one turn, with a sweep and another try where no slot was free.
+//! What makes a function of a session's rows: by their edges, in one turn; where no slot was free with a sweep and another try in a second one.
 
-ghost use Rattle.std.specs.Prelude.{◌≡◌, is_err, map, All, IfOk, IsErrOf, IsTrue, None, Some};
+ghost use Rattle.std.specs.Prelude.{◌≡◌, is_err, map, All, IfNone, IfOk, IfSome, IsErrOf, IsTrue, None, Some, false, true};
 ghost use Rattle.edge_bits.specs.declared.edges.Kind.{Kind as KindOf};
 ghost use Rattle.edge_bits.specs.declared.edges.Kind.TheVariants as kinds;
 ghost use Rattle.function_laws.specs.Makings.{kind_made as kind_of_made, needs_nodes};
@@ -9,14 +9,17 @@ ghost use Rattle.operator_calls.specs.Making.{takes, told_by, unmade_as, work};
 ghost use Rattle.operator_calls.specs.Taking.{of_lent, with_given};
 ghost use Rattle.shared_store.specs.Lasting.{Lasts};
 ghost use Rattle.shared_store.specs.Sharing.{orders, view_of};
-ghost use Rattle.dd_session.specs.MadeRows.{MakesRow, MakesOrExceeds, MakesOrTells, MayMake, adding_by, chooses};
+ghost use Rattle.seat_guard.specs.Passes.{IsIdle, known, shares};
+ghost use Rattle.dd_session.specs.MadeRows.{Awaits, HasTaken, MakesRow, MakesOrExceeds, MakesOrTells, MayMake, adding_by, by_edges, chooses};
 ghost use Rattle.dd_session.specs.Sessions.{IsLiveAs, edge_in, elements_in, variables_in};
-ghost use Rattle.dd_session.specs.Turns.{Ran, Tried};
+ghost use Rattle.dd_session.specs.Turns.{HasPlace, Keeps, Ran, Tried, seen_of};
 
 use crate::answers::{Placed, Refusal};
+use crate::book::Book;
+use crate::held;
 use crate::manager::Manager;
 use crate::request::{Adding, Request};
-use crate::session::Session;
+use crate::session::{Session, take_seat};
 use crate::settling::settle;
 use crate::starting::start;
 use edge_bits::{Edge, Kind, Memory};
@@ -24,7 +27,8 @@ use function_laws::{BddMaking, Making, ZddMaking};
 use handle_count::H;
 use node_slots::Stop;
 use operator_calls::{Overflow, Renaming, Unmade, renamed, renamed_pairs, run};
-use shared_store::Shared;
+use seat_guard::seat::{Guard, Pass};
+use shared_store::{Shared, put_back};
 use std::alloc::Global;
 use std::sync::Wait;
 
@@ -57,26 +61,29 @@ fn sweep_and_try(
     (shared, made)
 }
 
-/// Whether no slot was free.
-fn is_full(made: &Result<Result<Edge, Unmade>, Stop>) -> bool
-    ensures { IsErrOf made.now Stop.Full → IsTrue result }
+/// Whether another try is due: no slot was free, and this one was not the last.
+fn awaits(made: &Result<Result<Edge, Unmade>, Stop>, is_last: bool) -> bool
+    ensures first { result ≡ true → is_last ≡ false }
+    ensures last { result ≡ false → IsErrOf made.now Stop.Full → is_last ≡ true }
 {
-    matches!(made, Err(Stop::Full))
+    !is_last && matches!(made, Err(Stop::Full))
 }
 
-/// A try, and where no slot was free a sweep and another try.
-fn try_all(
+/// A try: the last one begins with a sweep.
+fn try_of(
     mut shared: Shared,
     making: &Making<Edge, &[u32], &[(u32, Edge)]>,
+    is_last: bool,
 ) -> (Shared, Result<Result<Edge, Unmade>, Stop>)
     requires { (y : Shared) → Lasts shared y → orders y ≡ orders shared → IsStore y.store → takes (of_lent making.now) (view_of y) }
-    ensures tried { Tried (told_by (of_lent making.now)) (work (of_lent making.now)) shared result.0 result.1 }
+    ensures ran { is_last ≡ false → Ran (told_by (of_lent making.now)) (work (of_lent making.now)) shared result.0 result.1 }
+    ensures tried { (IsErrOf result.1 Stop.Full → is_last ≡ true) → Tried (told_by (of_lent making.now)) (work (of_lent making.now)) shared result.0 result.1 }
     ensures sure { IsTrue (is_err result.1) → IsTrue (needs_nodes (of_lent making.now)) }
 {
-    let made = try_once(&mut shared, making);
-    if is_full(&made) {
+    if is_last {
         return sweep_and_try(shared, making);
     }
+    let made = try_once(&mut shared, making);
     (shared, made)
 }
 
@@ -145,6 +152,52 @@ impl<'b> Renaming<H, Edge, &'b [u32], &'b [(u32, H)]> for Edges<'_> {
     }
 }
 
+/// A try to make a function of rows by their edges, in one turn, over a session's seat and its rows. None where no slot was free and it
+/// is not the last: then nothing was told, and another try is due.
+pub fn make_once<R: Wait>(
+    rt: &R,
+    guard: &Guard<Shared>,
+    pass: &mut Pass<Shared>,
+    book: &mut Book,
+    making: Making<H, &[u32], &[(u32, H)]>,
+    edges: &Making<Edge, &[u32], &[(u32, Edge)]>,
+    is_last: bool,
+) -> Option<Result<Placed<Result<H, Unmade>>, Refusal>>
+    requires idle { IsIdle guard.now pass.old }
+    requires keeps { Keeps (known pass.old) book.old }
+    requires place { HasPlace (known pass.old) }
+    requires can { HasTaken (seen_of pass.old book.old) (of_lent making) }
+    requires same { of_lent edges.now ≡ by_edges (known pass.old).rows (of_lent making) }
+    requires needs { needs_nodes (of_lent edges.now) ≡ needs_nodes (of_lent making) }
+    requires unmade { unmade_as (of_lent edges.now) ≡ unmade_as (of_lent making) }
+    ensures idle { IsIdle guard.now pass.new }
+    ensures stands { shares pass.new ≡ shares pass.old }
+    ensures keeps { Keeps (known pass.new) book.new }
+    ensures made { IfSome result (MakesOrTells (seen_of pass.old book.old) (seen_of pass.new book.new) (of_lent making.entry)) }
+    ensures waits { IfNone result ((is_last ≡ false) × Awaits (work (by_edges (known pass.old).rows (of_lent making.entry))) (seen_of pass.old book.old) (seen_of pass.new book.new)) }
+{
+    let Ok(shared) = start(rt, guard, pass, book) else {
+        return Some(Err(Refusal::Memory));
+    };
+    let (shared, made) = try_of(shared, edges, is_last);
+    if awaits(&made, is_last) {
+        put_back(guard, pass, shared);
+        return None;
+    }
+    let kind = kind_made(&making);
+    let adding = adding_of(&making);
+    Some(settle(
+        guard,
+        pass,
+        book,
+        shared,
+        Request::Makes(making),
+        adding,
+        kind,
+        made,
+    ))
+}
+
 impl Session {
     /// Makes a function of rows, as a new row; or tells why there is none, where that may be.
     pub fn make<R: Wait>(
@@ -161,22 +214,10 @@ impl Session {
             return Err(Refusal::Memory);
         };
         let edges = renamed(&rows, &making, &pairs);
-        let Ok(shared) = start(rt, &manager.guard, &mut self.pass, &mut self.book) else {
-            return Err(Refusal::Memory);
-        };
-        let (shared, made) = try_all(shared, &edges);
-        let kind = kind_made(&making);
-        let adding = adding_of(&making);
-        settle(
-            &manager.guard,
-            &mut self.pass,
-            &mut self.book,
-            shared,
-            Request::Makes(making),
-            adding,
-            kind,
-            made,
-        )
+        let pass = take_seat(&mut self.seat);
+        let (pass, made) = held::make(rt, &manager.guard, pass, &mut self.book, making, &edges);
+        self.seat = Some(pass);
+        made
     }
 
     /// The same, where there is always one.

@@ -76,7 +76,10 @@ fn next_session(alloc: Global, guard: &Guard<Shared>, closing: &mut Pass<Shared>
         calls: 0,
         fulls: 0,
     };
-    Session { pass, book }
+    Session {
+        seat: Some(pass),
+        book,
+    }
 }
 
 /// The sessions of a new manager.

@@ -12,19 +12,15 @@ ghost use Rattle.dd_session.specs.Managing.{is_posted};
 ghost use Rattle.dd_session.specs.Reorderings.{levels_of};
 
 use crate::answers::{Fetched, Placed};
-use crate::drawing::finish;
-use crate::fetching::{choose, fetched};
-use crate::listing;
+use crate::held;
 use crate::manager::Manager;
-use crate::request::{Adding, Answer, Request};
-use crate::session::Session;
-use crate::settling::add_row;
+use crate::seated;
+use crate::session::{Session, take_seat};
 use dead_sweep::Swept;
 use diagram_dumps::Listing;
 use edge_bits::{Kind, Memory};
 use function_laws::Order;
 use handle_count::H;
-use shared_store::Cell;
 use std::sync::Wait;
 
 impl Session {
@@ -70,7 +66,7 @@ impl Session {
         requires { self.now.manager ≡ manager.now }
         ensures { result ≡ levels_of self.now order }
     {
-        let _ = &self.pass;
+        let _ = &self.seat;
         manager.levels(order)
     }
 
@@ -99,20 +95,10 @@ impl Session {
         ensures stored { StoresNothing self.new }
         ensures spare { self.new.spare + 1 ≡ self.old.spare }
     {
-        let cell = Cell {
-            kind: self.kind(h),
-            edge: self.edge(h),
-        };
-        let shared = manager.guard.take(rt, &mut self.pass);
-        add_row(
-            &manager.guard,
-            &mut self.pass,
-            &mut self.book,
-            shared,
-            Request::Copy(h),
-            Adding::Made,
-            cell,
-        )
+        let mut pass = take_seat(&mut self.seat);
+        let placed = seated::copy(rt, &manager.guard, &mut pass, &mut self.book, h);
+        self.seat = Some(pass);
+        placed
     }
 
     /// Lets a row go. Its name is live no more.
@@ -125,18 +111,10 @@ impl Session {
         ensures fewer { length self.new.rows + 1 ≡ length self.old.rows }
         ensures spare { self.new.spare ≡ self.old.spare + 1 }
     {
-        let mut shared = manager.guard.take(rt, &mut self.pass);
-        let (_kind, edge) = self.book.rows.remove(h);
-        shared.lower(edge);
-        let place = finish(
-            &manager.guard,
-            &mut self.pass,
-            &mut self.book,
-            shared,
-            Request::DropRow(h),
-            Answer::Dropped(h),
-        );
-        Placed { place, value: () }
+        let mut pass = take_seat(&mut self.seat);
+        let placed = seated::drop_row(rt, &manager.guard, &mut pass, &mut self.book, h);
+        self.seat = Some(pass);
+        placed
     }
 
     /// Whether two rows of one kind have one function.
@@ -148,19 +126,10 @@ impl Session {
         ensures stored { StoresNothing self.new }
         ensures spare { self.new.spare ≡ self.old.spare }
     {
-        let first = self.edge(f);
-        let second = self.edge(g);
-        let shared = manager.guard.take(rt, &mut self.pass);
-        let told = shared.store.same(first, second);
-        let place = finish(
-            &manager.guard,
-            &mut self.pass,
-            &mut self.book,
-            shared,
-            Request::Same(f, g),
-            Answer::Truth(told),
-        );
-        Placed { place, value: told }
+        let mut pass = take_seat(&mut self.seat);
+        let placed = seated::same(rt, &manager.guard, &mut pass, &mut self.book, f, g);
+        self.seat = Some(pass);
+        placed
     }
 
     /// Puts the function of a row into a cell of the board, in place of what was there.
@@ -172,20 +141,10 @@ impl Session {
         ensures stored { StoresNothing self.new }
         ensures spare { self.new.spare ≡ self.old.spare }
     {
-        let kind = self.kind(h);
-        let edge = self.edge(h);
-        let mut shared = manager.guard.take(rt, &mut self.pass);
-        shared.set_cell(cell, Cell { kind, edge });
-        let number = u32::from(cell);
-        let place = finish(
-            &manager.guard,
-            &mut self.pass,
-            &mut self.book,
-            shared,
-            Request::Post(number, h),
-            Answer::Posted(number, Cell { kind, edge }),
-        );
-        Placed { place, value: () }
+        let mut pass = take_seat(&mut self.seat);
+        let placed = seated::post(rt, &manager.guard, &mut pass, &mut self.book, cell, h);
+        self.seat = Some(pass);
+        placed
     }
 
     /// A new row with the function of a cell, and Posted, where that has the kind of another row; else with the other's, and
@@ -205,26 +164,10 @@ impl Session {
         ensures stored { StoresNothing self.new }
         ensures spare { self.new.spare + 1 ≡ self.old.spare }
     {
-        let own = Cell {
-            kind: self.kind(other),
-            edge: self.edge(other),
-        };
-        let shared = manager.guard.take(rt, &mut self.pass);
-        let (chosen, posted) = choose(shared.cell(cell), own);
-        let request = Request::Fetch(u32::from(cell), other);
-        let made = add_row(
-            &manager.guard,
-            &mut self.pass,
-            &mut self.book,
-            shared,
-            request,
-            Adding::Taken(posted),
-            chosen,
-        );
-        Placed {
-            place: made.place,
-            value: (made.value, fetched(posted)),
-        }
+        let mut pass = take_seat(&mut self.seat);
+        let placed = seated::fetch(rt, &manager.guard, &mut pass, &mut self.book, cell, other);
+        self.seat = Some(pass);
+        placed
     }
 
     /// The nodes of some rows under the order of the variables that the calls of all sessions below a place leave, which the
@@ -242,7 +185,10 @@ impl Session {
         ensures spare { self.new.spare ≡ self.old.spare }
     {
         let alloc = manager.allocator();
-        listing::list(rt, alloc, &manager.guard, &mut self.pass, &self.book, rows)
+        let pass = take_seat(&mut self.seat);
+        let (pass, listing) = held::list(rt, alloc, &manager.guard, pass, &self.book, rows);
+        self.seat = Some(pass);
+        listing
     }
 
     /// Frees the slots that nothing reaches.
@@ -254,19 +200,9 @@ impl Session {
         ensures stored { StoresNothing self.new }
         ensures spare { self.new.spare ≡ self.old.spare }
     {
-        let shared = manager.guard.take(rt, &mut self.pass);
-        let (shared, swept) = shared.sweep();
-        let place = finish(
-            &manager.guard,
-            &mut self.pass,
-            &mut self.book,
-            shared,
-            Request::Sweep,
-            Answer::Done,
-        );
-        Placed {
-            place,
-            value: swept,
-        }
+        let pass = take_seat(&mut self.seat);
+        let (pass, placed) = held::sweep(rt, &manager.guard, pass, &mut self.book);
+        self.seat = Some(pass);
+        placed
     }
 }

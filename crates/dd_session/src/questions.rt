@@ -10,15 +10,12 @@ ghost use Rattle.dd_session.specs.Walking.{bits_of};
 ghost use Rattle.dd_session.specs.Works.{StoresNothing};
 
 use crate::answers::{Again, Placed};
-use crate::drawing::finish;
+use crate::held;
 use crate::manager::Manager;
-use crate::nodeless::{implies, walked};
-use crate::request::{Answer, Request};
-use crate::session::Session;
+use crate::session::{Session, take_seat};
 use edge_bits::{Kind, Memory};
 use function_laws::Order;
 use handle_count::H;
-use shared_store::put_back;
 use std::sync::Wait;
 
 /// How many bits an evaluation of a kind's function reads: one for each variable, or for each element.
@@ -50,26 +47,10 @@ impl Session {
         ensures stored { StoresNothing self.new }
         ensures spare { self.new.spare ≡ self.old.spare }
     {
-        let first = self.edge(f);
-        let second = self.edge(g);
-        let mut shared = manager.guard.take(rt, &mut self.pass);
-        match implies(&mut shared, first, second) {
-            Ok(told) => {
-                let place = finish(
-                    &manager.guard,
-                    &mut self.pass,
-                    &mut self.book,
-                    shared,
-                    Request::Leq(f, g),
-                    Answer::Truth(told),
-                );
-                Ok(Placed { place, value: told })
-            }
-            Err(Memory) => {
-                put_back(&manager.guard, &mut self.pass, shared);
-                Err(Memory)
-            }
-        }
+        let pass = take_seat(&mut self.seat);
+        let (pass, told) = held::leq(rt, &manager.guard, pass, &mut self.book, f, g);
+        self.seat = Some(pass);
+        told
     }
 
     /// The value of a row: of a BDD 0 or 1, and of an ADD its number, where bit i is the value of variable i; of a family 1 where the
@@ -91,18 +72,10 @@ impl Session {
         ensures spare { self.new.spare ≡ self.old.spare }
     {
         let kind = self.kind(f);
-        let edge = self.edge(f);
-        let mut shared = manager.guard.take(rt, &mut self.pass);
-        let read = &bits[..bits_read(manager, kind)];
-        let value = walked(&mut shared, kind, edge, read);
-        let place = finish(
-            &manager.guard,
-            &mut self.pass,
-            &mut self.book,
-            shared,
-            Request::Eval(f, bits),
-            Answer::Value(value),
-        );
-        Ok(Placed { place, value })
+        let count = bits_read(manager, kind);
+        let pass = take_seat(&mut self.seat);
+        let (pass, placed) = held::eval(rt, &manager.guard, pass, &mut self.book, kind, f, bits, count);
+        self.seat = Some(pass);
+        Ok(placed)
     }
 }

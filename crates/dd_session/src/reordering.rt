@@ -2,20 +2,21 @@
 
 ghost use Rattle.std.specs.Prelude.{◌≡◌, ◌+◌, ◌<◌, ◌≤◌, [], IfErr, IsTrue, MatchResult, is_err};
 ghost use Rattle.function_laws.specs.declared.history.Reply.TheVariants as replies;
-ghost use Rattle.seat_guard.specs.Passes.{IsPassOf, in_hand, known};
+ghost use Rattle.seat_guard.specs.Passes.{IsIdle, IsPassOf, in_hand, known, shares};
 ghost use Rattle.seat_guard.specs.Views.{orders_of};
 ghost use Rattle.shared_store.specs.Reordering.{orders_left, swap_call};
 ghost use Rattle.shared_store.specs.Sharing.{Serving, orders};
 ghost use Rattle.dd_session.specs.Reorderings.{SwapsLevels, crowded_in, levels_of};
 ghost use Rattle.dd_session.specs.Sessions.{HasRoom, elements_in, variables_in};
-ghost use Rattle.dd_session.specs.Turns.{HasPlace, IsHolding, IsRefused, Keeps, Notes, Told, levels_in, ordered_by};
+ghost use Rattle.dd_session.specs.Turns.{HasPlace, IsHolding, IsRefused, Keeps, Notes, Told, levels_in, ordered_by, seen_of};
 
 use crate::answers::{Full, Placed, Refusal};
 use crate::book::Book;
 use crate::drawing::finish;
+use crate::held;
 use crate::manager::Manager;
 use crate::request::{Answer, Request};
-use crate::session::Session;
+use crate::session::{Session, take_seat};
 use crate::settling::be_full;
 use function_laws::Order;
 use seat_guard::seat::{Guard, Pass};
@@ -44,6 +45,7 @@ fn settle_swap(
     ensures told { MatchResult result (λ placed. Told (known pass.old) (known pass.new) (swap_call order level) replies.Done placed.place) (λ full. IsRefused (known pass.old) (known pass.new) (swap_call order level) (Refusal.Full full)) }
     ensures notes { Notes (known pass.old) (known pass.new) shared }
     ensures done { crowded_in result ≡ done }
+    ensures stands { shares pass.new ≡ shares pass.old }
     ensures rows { book.new.rows ≡ book.old.rows }
 {
     let request = Request::Swap(order, level);
@@ -57,6 +59,30 @@ fn settle_swap(
             Err(be_full(guard, pass, book, shared, request, in_use, need))
         }
     }
+}
+
+/// A swap of a level of an order and the next, over a session's seat and its rows.
+pub fn swap_at<R: Wait>(
+    rt: &R,
+    guard: &Guard<Shared>,
+    pass: &mut Pass<Shared>,
+    book: &mut Book,
+    order: Order,
+    level: u32,
+) -> Result<Placed<()>, Full>
+    requires idle { IsIdle guard.now pass.old }
+    requires keeps { Keeps (known pass.old) book.old }
+    requires place { HasPlace (known pass.old) }
+    requires level { level + 1 < levels_in (known pass.old) order }
+    ensures idle { IsIdle guard.now pass.new }
+    ensures stands { shares pass.new ≡ shares pass.old }
+    ensures keeps { Keeps (known pass.new) book.new }
+    ensures swaps { SwapsLevels order level (seen_of pass.old book.old) (seen_of pass.new book.new) result }
+{
+    let shared = guard.take(rt, pass);
+    shared.store.tell_sound();
+    let (shared, done) = shared.swap(order, level);
+    settle_swap(guard, pass, book, shared, order, level, done)
 }
 
 impl Session {
@@ -73,18 +99,10 @@ impl Session {
         requires level { level + 1 < levels_of self.old order }
         ensures { SwapsLevels order level self.old self.new result }
     {
-        let shared = manager.guard.take(rt, &mut self.pass);
-        shared.store.tell_sound();
-        let (shared, done) = shared.swap(order, level);
-        settle_swap(
-            &manager.guard,
-            &mut self.pass,
-            &mut self.book,
-            shared,
-            order,
-            level,
-            done,
-        )
+        let pass = take_seat(&mut self.seat);
+        let (pass, done) = held::swap(rt, &manager.guard, pass, &mut self.book, order, level);
+        self.seat = Some(pass);
+        done
     }
 
     /// Sweeps, and exchanges a level of the variables and the next in place (Rudell 1993), where as many slots are free as twice

@@ -5,7 +5,7 @@ ghost use Rattle.edge_bits.specs.declared.limits.TheConstants.{MOST_COUNT};
 ghost use Rattle.function_laws.specs.declared.history.Function.{Function};
 ghost use Rattle.function_laws.specs.Steps.{TellsFull, may_be_full};
 ghost use Rattle.node_store.specs.Views.{Is};
-ghost use Rattle.seat_guard.specs.Passes.{IsPassOf, in_hand, known};
+ghost use Rattle.seat_guard.specs.Passes.{IsPassOf, in_hand, known, shares};
 ghost use Rattle.shared_store.specs.Sharing.{Serving, count, due, view_of};
 ghost use Rattle.dd_session.specs.Requests.{added_as, call_of};
 ghost use Rattle.dd_session.specs.Sessions.{reply_unmade};
@@ -43,6 +43,7 @@ pub fn add_row(
     ensures own { IsPassOf guard.now pass.new × (in_hand pass.new ≡ []) }
     ensures keeps { Keeps (known pass.new) book.new }
     ensures told { Told (known pass.old) (known pass.new) (call_of request.entry) (added_as (view_of shared) adding result.value cell) result.place }
+    ensures stands { shares pass.new ≡ shares pass.old }
     ensures notes { Notes (known pass.old) (known pass.new) shared }
     ensures spare { book.new.rows.spare + 1 ≡ book.old.rows.spare }
 {
@@ -73,6 +74,7 @@ pub fn be_full(
     ensures own { IsPassOf guard.now pass.new × (in_hand pass.new ≡ []) }
     ensures keeps { Keeps (known pass.new) book.new }
     ensures told { IsRefused (known pass.old) (known pass.new) (call_of request.entry) (Refusal.Full result) }
+    ensures stands { shares pass.new ≡ shares pass.old }
     ensures numbers { (result.in_use ≡ in_use) × (result.need ≡ need) }
     ensures notes { Notes (known pass.old) (known pass.new) shared }
     ensures rows { book.new.rows ≡ book.old.rows }
@@ -105,6 +107,7 @@ pub fn tell_unmade(
     ensures own { IsPassOf guard.now pass.new × (in_hand pass.new ≡ []) }
     ensures keeps { Keeps (known pass.new) book.new }
     ensures told { Told (known pass.old) (known pass.new) (call_of request.entry) (reply_unmade why) result }
+    ensures stands { shares pass.new ≡ shares pass.old }
     ensures notes { Notes (known pass.old) (known pass.new) shared }
     ensures rows { book.new.rows ≡ book.old.rows }
 {
@@ -138,6 +141,7 @@ pub fn settle(
     ensures notes { Notes (known pass.old) (known pass.new) shared }
     ensures spare { MatchResult result (λ placed. MatchResult placed.value (λ name. book.new.rows.spare + 1 ≡ book.old.rows.spare) (λ why. book.new.rows.spare ≡ book.old.rows.spare)) (λ refusal. book.new.rows.spare ≡ book.old.rows.spare) }
     ensures cause { IsCausedBy made result }
+    ensures stands { shares pass.new ≡ shares pass.old }
 {
     match made {
         Ok(Ok(edge)) => {

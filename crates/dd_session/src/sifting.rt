@@ -7,7 +7,7 @@ ghost use Rattle.group_sift.specs.Turns.{last_end};
 ghost use Rattle.node_slots.specs.Held.{Alone};
 ghost use Rattle.node_slots.specs.Stores.{IsStore};
 ghost use Rattle.node_slots.specs.Wholes.{content_view};
-ghost use Rattle.seat_guard.specs.Passes.{IsPassOf, in_hand, known};
+ghost use Rattle.seat_guard.specs.Passes.{IsIdle, IsPassOf, in_hand, known, shares};
 ghost use Rattle.seat_guard.specs.Views.{MayTell, told_of};
 ghost use Rattle.seat_guard.specs.declared.view.Change.TheVariants.{Nothing};
 ghost use Rattle.shared_store.specs.declared.shared.Shared.{Shared as SharedOf};
@@ -16,12 +16,13 @@ ghost use Rattle.shared_store.specs.Sifting.{sift_call, sifting_of};
 ghost use Rattle.dd_session.specs.Reorderings.{levels_of};
 ghost use Rattle.dd_session.specs.Sessions.{HasRoom, elements_in, variables_in};
 ghost use Rattle.dd_session.specs.Siftings.{SiftsLevels, sift_telling};
-ghost use Rattle.dd_session.specs.Turns.{Drew, HasPlace, IsHolding, Keeps, Told, levels_in};
+ghost use Rattle.dd_session.specs.Turns.{Drew, HasPlace, IsHolding, Keeps, Told, levels_in, seen_of};
 
 use crate::answers::Placed;
 use crate::book::Book;
+use crate::held;
 use crate::manager::Manager;
-use crate::session::Session;
+use crate::session::{Session, take_seat};
 use function_laws::Order;
 use group_sift::{Blocks, Sifted};
 use seat_guard::seat::{Guard, Pass};
@@ -46,6 +47,7 @@ fn finish_done<E: Tells>(
     requires serves { Serving shared (told_of (known pass.old) 0 E.told) }
     ensures own { IsPassOf guard.now pass.new × (in_hand pass.new ≡ []) }
     ensures drew { Drew (known pass.old) (known pass.new) shared E.told result }
+    ensures stands { shares pass.new ≡ shares pass.old }
     ensures keeps { Keeps (known pass.new) book.new }
     ensures rows { book.new.rows ≡ book.old.rows }
 {
@@ -75,6 +77,7 @@ fn sift_shared<E: Tells>(
     ensures keeps { Keeps (known pass.new) book.new }
     ensures told { Told (known pass.old) (known pass.new) (sift_call order (sifting_of order blocks.old shared)) replies.Done result.place }
     ensures sifted { (y : SharedOf) × IsSifted Alone order blocks.old (content_view shared.store) (content_view y.store) result.value }
+    ensures stands { shares pass.new ≡ shares pass.old }
     ensures blocks { blocks.new ≡ blocks.old }
     ensures rows { book.new.rows ≡ book.old.rows }
 {
@@ -84,6 +87,30 @@ fn sift_shared<E: Tells>(
         place,
         value: sifted,
     }
+}
+
+/// A sift of one of both orders, over a session's seat and its rows.
+pub fn sift_at<R: Wait>(
+    rt: &R,
+    guard: &Guard<Shared>,
+    pass: &mut Pass<Shared>,
+    book: &mut Book,
+    order: Order,
+    blocks: &mut Blocks,
+) -> Placed<Sifted>
+    requires idle { IsIdle guard.now pass.old }
+    requires keeps { Keeps (known pass.old) book.old }
+    requires place { HasPlace (known pass.old) }
+    requires end { last_end 0 blocks.old ≡ levels_in (known pass.old) order }
+    ensures idle { IsIdle guard.now pass.new }
+    ensures stands { shares pass.new ≡ shares pass.old }
+    ensures keeps { Keeps (known pass.new) book.new }
+    ensures sifted { SiftsLevels order blocks.old (seen_of pass.old book.old) (seen_of pass.new book.new) result }
+    ensures blocks { blocks.new ≡ blocks.old }
+{
+    let shared = guard.take(rt, pass);
+    shared.store.tell_sound();
+    sift_shared::<Brand>(guard, pass, book, shared, order, blocks)
 }
 
 impl Session {
@@ -101,16 +128,10 @@ impl Session {
         ensures sifted { SiftsLevels order blocks.old self.old self.new result }
         ensures blocks { blocks.new ≡ blocks.old }
     {
-        let shared = manager.guard.take(rt, &mut self.pass);
-        shared.store.tell_sound();
-        sift_shared::<Brand>(
-            &manager.guard,
-            &mut self.pass,
-            &mut self.book,
-            shared,
-            order,
-            blocks,
-        )
+        let pass = take_seat(&mut self.seat);
+        let (pass, placed) = held::sift(rt, &manager.guard, pass, &mut self.book, order, blocks);
+        self.seat = Some(pass);
+        placed
     }
 
     /// Sifts the variables in blocks (Rudell 1993), for the functions that rows and cells hold: `sift` of group_sift says how. Every

@@ -1,13 +1,13 @@
 //! The forms of shares and holds that wait. Each peeks at the word until it would let it through, and only then makes its step: who
 //! adds a share and takes it back would keep the count above 0, and the holder of the order would never find it clear.
 ghost use Rattle.std.specs.Prelude.{◌≡◌};
-ghost use Rattle.seat_guard.specs.Tokens.{IsClaim, IsFreeOf, IsFull, IsFullClaim, IsFullHold, IsHold, IsOrdered, IsShare, Keeps};
+ghost use Rattle.seat_guard.specs.Tokens.{IsClaim, IsFreeOf, IsFull, IsFullClaim, IsFullHold, IsHold, IsOrdered, IsShare, IsWalk, Keeps};
 
 use crate::content::Content;
 use crate::layout::PHASE;
 use crate::phase::{FULL, ORDER, WALK};
 use crate::phase_plays::{ClaimFull, ClaimOrder, LookFull, LookOrder};
-use crate::seat::{FullHold, Guard, OpShare, OrderHold, Pass};
+use crate::seat::{FullHold, Guard, OpShare, OrderHold, Pass, WalkShare};
 use crossbeam_utils::Backoff;
 use std::sync::Wait;
 
@@ -22,6 +22,25 @@ impl<S: Content> Guard<S> {
         for _ in rt.forever() {
             if self.table.shared.peek(PHASE) < ORDER {
                 match self.op_in(mine) {
+                    Ok(share) => return share,
+                    Err((back, _)) => mine = back,
+                }
+            }
+            backoff.snooze();
+        }
+        unreachable!()
+    }
+
+    /// Waits for a walk share.
+    pub fn walk_wait<R: Wait>(&self, rt: &R, pass: Pass<S>) -> WalkShare<S>
+        requires { IsFreeOf self.now pass }
+        ensures { IsWalk self.now result × Keeps pass result.pass }
+    {
+        let backoff = Backoff::new();
+        let mut mine = pass;
+        for _ in rt.forever() {
+            if self.table.shared.peek(PHASE) < FULL {
+                match self.walk_in(mine) {
                     Ok(share) => return share,
                     Err((back, _)) => mine = back,
                 }

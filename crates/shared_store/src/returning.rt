@@ -2,7 +2,7 @@
 
 ghost use Rattle.std.specs.Prelude.{◌≡◌, [], ◌∷◌, true, None};
 ghost use Rattle.seat_guard.specs.declared.view.Leaving.{Leaving};
-ghost use Rattle.seat_guard.specs.Passes.{known, in_hand, IsPassOf};
+ghost use Rattle.seat_guard.specs.Passes.{known, in_hand, IsPassOf, shares};
 ghost use Rattle.seat_guard.specs.Views.{letting_go};
 ghost use Rattle.shared_store.specs.Sharing.{Serving};
 ghost use Rattle.shared_store.specs.Storing.{IsLeaving};
@@ -19,6 +19,7 @@ fn leave<E: Leaves>(guard: &Guard<Shared>, pass: &mut Pass<Shared>, shared: Shar
     requires leaving { IsLeaving (known pass.old) shared E.leaving }
     ensures own { IsPassOf guard.now pass.new × (in_hand pass.new ≡ []) }
     ensures gave { known pass.new ≡ letting_go (known pass.old) E.leaving }
+    ensures stands { shares pass.new ≡ shares pass.old }
 {
     guard.put_back::<E>(pass, shared);
 }
@@ -31,6 +32,7 @@ pub fn put_back(guard: &Guard<Shared>, pass: &mut Pass<Shared>, shared: Shared)
     requires serves { Serving shared (known pass.old) }
     ensures own { IsPassOf guard.now pass.new × (in_hand pass.new ≡ []) }
     ensures gave { (x : Leaving) × (known pass.new ≡ letting_go (known pass.old) x) × IsLeaving (known pass.old) shared x }
+    ensures stands { shares pass.new ≡ shares pass.old }
 {
     leave::<Brand>(guard, pass, shared);
 }

@@ -20,4 +20,5 @@ returns g c =
       keeps = record { rows = k.0; calls = k.1; fulls = k.2 };
       spare = room.2;
       few = c.take.ensures.few;
+      stands = c.take.ensures.stands;
     }

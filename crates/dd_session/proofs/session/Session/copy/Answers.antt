@@ -1,29 +1,34 @@
-use Rattle.std.proofs.Common.{sym, ◌∙◌}
+use Rattle.std.proofs.Common.{◌≡◌, ◌+◌, ◌<◌, ◌≤◌, ℕ, All, ap, length, subst, sym, ◌∙◌, MatchResult}
 use Rattle.function_laws.specs.declared.history.Call.TheVariants as calls
 use Rattle.function_laws.specs.declared.history.Reply.TheVariants as replies
-use Rattle.seat_guard.specs.Passes.{known}
-use Rattle.dd_session.specs.Turns.{Took}
-use Rattle.dd_session.proofs.Calls.{called, took_of, same_table, seat_of}
-use Rattle.dd_session.proofs.Outcomes.{gives_copy, is_kind}
-use Rattle.dd_session.proofs.Turning.{notes_nothing}
+use Rattle.dd_session.specs.Sessions.{Called, HasRoom, IsLive, Seen}
+use Rattle.dd_session.specs.Turns.{seen_of}
+use Rattle.dd_session.proofs.AtRest.{has_seat, idle_at, ready_at, rests, seen_at, unshared_still}
 use Rattle.dd_session.proofs.session.Session.copy.Goals as goal
 
-pub add_row-requires-clause-is : goal.add_row-requires-clause-is
-add_row-requires-clause-is g c =
-    let t : Took (known c.self.inside.pass) (known c.take-shared.new.pass) c.take-shared.result = took_of c.take-shared.ensures.took c.take-shared.ensures.board in
-    let live = c.requires.live in
-    is_kind (known c.self.inside.pass) (known c.take-shared.new.pass) c.take-shared.result t c.self.invariant.0.1 live.0 c.kind.result c.args.h c.edge.result (c.kind.ensures live.0 live.1) (c.edge.ensures.edge live.0 live.1 (known c.self.inside.pass) (seat_of c.self.inside.pass c.self.inside.book c.self.view_is))
+pub take_seat-pass-requires : goal.take_seat-pass-requires
+take_seat-pass-requires g c = has_seat c.self.inside.seat c.self.inside.book c.self.invariant
 
-pub add_row-requires-clause-adds : goal.add_row-requires-clause-adds
-add_row-requires-clause-adds g c =
-    let t : Took (known c.self.inside.pass) (known c.take-shared.new.pass) c.take-shared.result = took_of c.take-shared.ensures.took c.take-shared.ensures.board in
-    let live = c.requires.live in
-    gives_copy (known c.self.inside.pass) (known c.take-shared.new.pass) c.take-shared.result t c.self.invariant.0.1 live.0 c.kind.result c.args.h c.edge.result (c.kind.ensures live.0 live.1) (c.edge.ensures.edge live.0 live.1 (known c.self.inside.pass) (seat_of c.self.inside.pass c.self.inside.book c.self.view_is))
+pub copy-placed-requires-clause-idle : goal.copy-placed-requires-clause-idle
+copy-placed-requires-clause-idle g c = idle_at c.self.inside.seat c.take_seat-pass.result c.self.inside.book c.take_seat-pass.ensures c.manager.inside.guard c.manager.inside.closing c.self.invariant c.self.view_is c.requires.own c.manager.view_is
+
+pub copy-placed-requires-clause-keeps : goal.copy-placed-requires-clause-keeps
+copy-placed-requires-clause-keeps g c = (ready_at c.self.inside.seat c.take_seat-pass.result c.self.inside.book c.take_seat-pass.ensures c.self.invariant).1
+
+pub copy-placed-requires-clause-place : goal.copy-placed-requires-clause-place
+copy-placed-requires-clause-place g c = subst HasRoom (sym (seen_at c.self.inside.seat c.take_seat-pass.result c.self.inside.book c.take_seat-pass.ensures c.self.view_is)) c.requires.room
+
+pub copy-placed-requires-clause-spare : goal.copy-placed-requires-clause-spare
+copy-placed-requires-clause-spare g c = subst (λ (s : Seen). 1 ≤ s.spare) (sym (seen_at c.self.inside.seat c.take_seat-pass.result c.self.inside.book c.take_seat-pass.ensures c.self.view_is)) c.requires.spare
+
+pub copy-placed-requires-clause-live : goal.copy-placed-requires-clause-live
+copy-placed-requires-clause-live g c = subst (λ (s : Seen). IsLive s c.args.h) (sym (seen_at c.self.inside.seat c.take_seat-pass.result c.self.inside.book c.take_seat-pass.ensures c.self.view_is)) c.requires.live
+
+pub invariant_of-self : goal.invariant_of-self
+invariant_of-self g c = (rests c.manager.inside.guard c.copy-placed.new.pass c.copy-placed.ensures.idle (unshared_still _ _ c.copy-placed.ensures.stands (ready_at c.self.inside.seat c.take_seat-pass.result c.self.inside.book c.take_seat-pass.ensures c.self.invariant).0.3), c.copy-placed.ensures.keeps)
 
 pub returns-clause-told : goal.returns-clause-told
-returns-clause-told g c =
-    rw (← c.self.view_is) (called (known c.self.inside.pass) (known c.take-shared.new.pass) (known c.add_row.new.pass) c.take-shared.result _ _ _ _ (calls.Copy c.args.h) (replies.Made c.add_row.result.value) c.add_row.result.place (c.add_row.ensures.own.0 ∙ sym (same_table c.manager.inside.guard c.manager.inside.closing c.self.inside.pass c.self.inside.book c.self.view_is c.requires.own c.manager.view_is))
-    (took_of c.take-shared.ensures.took c.take-shared.ensures.board) c.add_row.ensures.told)
+returns-clause-told g c = subst (λ (s : Seen). Called s (seen_of c.copy-placed.new.pass c.copy-placed.new.book) (calls.Copy c.args.h) (replies.Made c.copy-placed.result.value) c.copy-placed.result.place) (seen_at c.self.inside.seat c.take_seat-pass.result c.self.inside.book c.take_seat-pass.ensures c.self.view_is) c.copy-placed.ensures.told
 
-pub returns-clause-stored : goal.returns-clause-stored
-returns-clause-stored g c = notes_nothing (known c.self.inside.pass) (known c.take-shared.new.pass) c.take-shared.result (took_of c.take-shared.ensures.took c.take-shared.ensures.board) (known c.add_row.new.pass) c.add_row.ensures.notes
+pub returns-clause-spare : goal.returns-clause-spare
+returns-clause-spare g c = c.copy-placed.ensures.spare ∙ ap (λ (s : Seen). s.spare) (seen_at c.self.inside.seat c.take_seat-pass.result c.self.inside.book c.take_seat-pass.ensures c.self.view_is)

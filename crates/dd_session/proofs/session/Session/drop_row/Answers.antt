@@ -1,70 +1,34 @@
-use Rattle.std.proofs.Common.{refl, ap, sym, subst, ◌∙◌, arith, length, rules}
+use Rattle.std.proofs.Common.{◌≡◌, ◌+◌, ◌<◌, ◌≤◌, ℕ, All, ap, length, subst, sym, ◌∙◌, MatchResult}
 use Rattle.function_laws.specs.declared.history.Call.TheVariants as calls
 use Rattle.function_laws.specs.declared.history.Reply.TheVariants as replies
-use Rattle.seat_guard.specs.Passes.{known}
-use Rattle.seat_guard.specs.Views.{stands_for, without}
-use Rattle.seat_guard.specs.declared.view.Change.TheVariants.{Takes}
-use Rattle.seat_guard.specs.declared.view.Draws.{Draws}
-use Rattle.shared_store.proofs.Stored.{functions-recounted}
-use Rattle.dd_session.specs.Turns.{Tied, Took, IsReady}
-use Rattle.dd_session.specs.Sessions.{IsLive, Seen}
-use Rattle.dd_session.proofs.Calls.{called, took_of, same_table}
-use Rattle.dd_session.proofs.Naming.{finds_row, finds_some}
-use Rattle.dd_session.proofs.Serving.{serves-taken}
-use Rattle.dd_session.proofs.Tellings.{knows_dropped, may_drop}
-use Rattle.dd_session.proofs.Turning.{drew_nothing, removed_counted, removed_fewer, removed_tied, stores_recounted}
-use Rattle.dd_session.proofs.Tying.{fewer}
+use Rattle.dd_session.specs.Sessions.{Called, HasRoom, IsLive, Seen}
+use Rattle.dd_session.specs.Turns.{seen_of}
+use Rattle.dd_session.proofs.AtRest.{has_seat, idle_at, ready_at, rests, seen_at, unshared_still}
 use Rattle.dd_session.proofs.session.Session.drop_row.Goals as goal
 
-pub remove-kind-requires : goal.remove-kind-requires
-remove-kind-requires g c =
-    let live = subst (λ (s : Seen). IsLive s c.args.h) (sym c.self.view_is) c.requires.live in
-    finds_some (known c.self.inside.pass) c.self.inside.book.rows c.args.h c.self.invariant.1.rows live
+pub take_seat-pass-requires : goal.take_seat-pass-requires
+take_seat-pass-requires g c = has_seat c.self.inside.seat c.self.inside.book c.self.invariant
 
-pub lower-requires : goal.lower-requires
-lower-requires g c =
-    let live = subst (λ (s : Seen). IsLive s c.args.h) (sym c.self.view_is) c.requires.live in
-    removed_counted (known c.self.inside.pass) (known c.take-shared.new.pass) c.take-shared.result (took_of c.take-shared.ensures.took c.take-shared.ensures.board) c.self.inside.book.rows c.remove-kind.new.self c.args.h c.remove-kind.result.0 c.remove-kind.result.1 c.self.invariant.1.rows live c.remove-kind.ensures.removed c.remove-kind.ensures.gone
+pub drop_row-placed-requires-clause-idle : goal.drop_row-placed-requires-clause-idle
+drop_row-placed-requires-clause-idle g c = idle_at c.self.inside.seat c.take_seat-pass.result c.self.inside.book c.take_seat-pass.ensures c.manager.inside.guard c.manager.inside.closing c.self.invariant c.self.view_is c.requires.own c.manager.view_is
 
-pub finish-place-requires-clause-step : goal.finish-place-requires-clause-step
-finish-place-requires-clause-step g c =
-    let live = subst (λ (s : Seen). IsLive s c.args.h) (sym c.self.view_is) c.requires.live in
-    may_drop (known c.take-shared.new.pass) c.args.h live.1.0 (ap (λ (z : Draws). stands_for z.rows c.args.h) c.take-shared.ensures.took.1 ∙ live.1.1)
+pub drop_row-placed-requires-clause-keeps : goal.drop_row-placed-requires-clause-keeps
+drop_row-placed-requires-clause-keeps g c = (ready_at c.self.inside.seat c.take_seat-pass.result c.self.inside.book c.take_seat-pass.ensures c.self.invariant).1
 
-pub finish-place-requires-clause-serves : goal.finish-place-requires-clause-serves
-finish-place-requires-clause-serves g c =
-    let live = subst (λ (s : Seen). IsLive s c.args.h) (sym c.self.view_is) c.requires.live in
-    let e = known c.take-shared.new.pass in
-    let x = c.take-shared.result in
-    let t : Took (known c.self.inside.pass) e x = took_of c.take-shared.ensures.took c.take-shared.ensures.board in
-    let less = removed_fewer (known c.self.inside.pass) e x t c.self.inside.book.rows c.remove-kind.new.self c.args.h c.remove-kind.result.0 c.remove-kind.result.1 c.self.invariant.1.rows live c.remove-kind.ensures.removed c.remove-kind.ensures.gone in
-    serves-taken x c.lower.new.self c.lower.ensures.rest.view e _ c.args.h c.remove-kind.result.1 t.serves (knows_dropped e c.args.h) c.lower.ensures.rest.cells less c.lower.ensures.count c.lower.ensures.rest.orders_are
+pub drop_row-placed-requires-clause-place : goal.drop_row-placed-requires-clause-place
+drop_row-placed-requires-clause-place g c = subst HasRoom (sym (seen_at c.self.inside.seat c.take_seat-pass.result c.self.inside.book c.take_seat-pass.ensures c.self.view_is)) c.requires.room
+
+pub drop_row-placed-requires-clause-live : goal.drop_row-placed-requires-clause-live
+drop_row-placed-requires-clause-live g c = subst (λ (s : Seen). IsLive s c.args.h) (sym (seen_at c.self.inside.seat c.take_seat-pass.result c.self.inside.book c.take_seat-pass.ensures c.self.view_is)) c.requires.live
 
 pub invariant_of-self : goal.invariant_of-self
-invariant_of-self g c =
-    let live = subst (λ (s : Seen). IsLive s c.args.h) (sym c.self.view_is) c.requires.live in
-    let t = took_of c.take-shared.ensures.took c.take-shared.ensures.board in
-    let ready : IsReady c.finish-place.new.pass = search rules in
-    let new = known c.finish-place.new.pass in
-    let tied : Tied new c.remove-kind.new.self =
-    removed_tied (known c.self.inside.pass) (known c.take-shared.new.pass) c.take-shared.result t c.self.inside.book.rows c.remove-kind.new.self c.args.h c.remove-kind.result.0 c.remove-kind.result.1 c.self.invariant.1.rows live c.remove-kind.ensures.removed c.remove-kind.ensures.gone new _ _ c.finish-place.result c.finish-place.ensures.drew refl refl c.remove-kind.ensures.adds in
-    (ready, record { rows = subst (Tied new) (sym c.finish-place.ensures.rows) tied; calls = c.finish-place.ensures.calls.0; fulls = c.finish-place.ensures.calls.1 })
+invariant_of-self g c = (rests c.manager.inside.guard c.drop_row-placed.new.pass c.drop_row-placed.ensures.idle (unshared_still _ _ c.drop_row-placed.ensures.stands (ready_at c.self.inside.seat c.take_seat-pass.result c.self.inside.book c.take_seat-pass.ensures c.self.invariant).0.3), c.drop_row-placed.ensures.keeps)
 
 pub returns-clause-told : goal.returns-clause-told
-returns-clause-told g c =
-    rw (← c.self.view_is) (called (known c.self.inside.pass) (known c.take-shared.new.pass) (known c.finish-place.new.pass) c.take-shared.result _ _ _ _ (calls.DropRow c.args.h) replies.Done c.finish-place.result (c.finish-place.ensures.own.0 ∙ sym (same_table c.manager.inside.guard c.manager.inside.closing c.self.inside.pass c.self.inside.book c.self.view_is c.requires.own c.manager.view_is))
-    (took_of c.take-shared.ensures.took c.take-shared.ensures.board) (c.lower.new.self, record { call = calls.DropRow c.args.h; reply = replies.Done; change = Takes c.args.h }, refl, refl, c.finish-place.ensures.drew))
-
-pub returns-clause-stored : goal.returns-clause-stored
-returns-clause-stored g c = drew_nothing (known c.self.inside.pass) (known c.take-shared.new.pass) c.take-shared.result (took_of c.take-shared.ensures.took c.take-shared.ensures.board) (known c.finish-place.new.pass) c.lower.new.self _ c.finish-place.result (stores_recounted c.take-shared.result c.lower.new.self (functions-recounted c.take-shared.result c.lower.new.self c.lower.ensures.rest)) c.finish-place.ensures.drew
+returns-clause-told g c = subst (λ (s : Seen). Called s (seen_of c.drop_row-placed.new.pass c.drop_row-placed.new.book) (calls.DropRow c.args.h) replies.Done c.drop_row-placed.result.place) (seen_at c.self.inside.seat c.take_seat-pass.result c.self.inside.book c.take_seat-pass.ensures c.self.view_is) c.drop_row-placed.ensures.told
 
 pub returns-clause-fewer : goal.returns-clause-fewer
-returns-clause-fewer g c =
-    let live = subst (λ (s : Seen). IsLive s c.args.h) (sym c.self.view_is) c.requires.live in
-    let d = known c.self.inside.pass in
-    let h = finds_row d c.self.inside.book.rows c.args.h c.self.invariant.1.rows live.0 live.1 in
-    let one = (fewer c.args.h d.rows h.0 c.self.invariant.1.rows.apart h.1).0 in
-    let left = ap (λ (z : Draws). length z.rows) c.finish-place.ensures.drew.left in
-    let took = ap (λ (z : Draws). length (without c.args.h z.rows)) c.take-shared.ensures.took.1 in
-    let seen = ap (λ (s : Seen). length s.rows) c.self.view_is in
-    omega (arith, one, left, took, seen)
+returns-clause-fewer g c = c.drop_row-placed.ensures.fewer ∙ ap (λ (s : Seen). length s.rows) (seen_at c.self.inside.seat c.take_seat-pass.result c.self.inside.book c.take_seat-pass.ensures c.self.view_is)
+
+pub returns-clause-spare : goal.returns-clause-spare
+returns-clause-spare g c = c.drop_row-placed.ensures.spare ∙ ap (λ (s : Seen). s.spare + 1) (seen_at c.self.inside.seat c.take_seat-pass.result c.self.inside.book c.take_seat-pass.ensures c.self.view_is)

@@ -1,52 +1,35 @@
-use Rattle.std.proofs.Common.{◌≡◌, ℕ, Some, option_map, ap, sym, subst, ◌∙◌, ⊎_elim, arith}
+use Rattle.std.proofs.Common.{◌≡◌, ◌+◌, ◌<◌, ◌≤◌, ℕ, All, ap, length, subst, sym, ◌∙◌, MatchResult}
 use Rattle.function_laws.specs.declared.history.Call.TheVariants as calls
 use Rattle.function_laws.specs.declared.history.Reply.TheVariants as replies
-use Rattle.function_laws.specs.Steps.{from_cell}
-use Rattle.node_store.specs.Listed.{listed_at}
-use Rattle.node_store.specs.Views.{Is}
-use Rattle.seat_guard.specs.Passes.{known}
-use Rattle.seat_guard.specs.Known.{known_at}
-use Rattle.seat_guard.specs.Views.{cell_in}
-use Rattle.shared_store.specs.declared.shared.Cell.{Cell}
-use Rattle.shared_store.specs.Sharing.{view_of}
-use Rattle.dd_session.specs.Turns.{Took}
-use Rattle.dd_session.proofs.Calls.{called, took_of, same_table, seat_of}
-use Rattle.dd_session.proofs.Outcomes.{cell-known, is_kind, stands_held_as}
-use Rattle.dd_session.proofs.Tellings.{outcome-of_fetch}
-use Rattle.dd_session.proofs.Turning.{cell-board, cell-kept, notes_nothing}
+use Rattle.dd_session.specs.Managing.{is_posted}
+use Rattle.dd_session.specs.Sessions.{Called, HasRoom, IsLive, Seen}
+use Rattle.dd_session.specs.Turns.{seen_of}
+use Rattle.dd_session.proofs.AtRest.{has_seat, idle_at, ready_at, rests, seen_at, unshared_still}
 use Rattle.dd_session.proofs.session.Session.fetch.Goals as goal
 
-pub add_row-made-requires-clause-is : goal.add_row-made-requires-clause-is
-add_row-made-requires-clause-is g c =
-    let d = known c.self.inside.pass in
-    let e = known c.take-shared.new.pass in
-    let x = c.take-shared.result in
-    let t : Took d e x = took_of c.take-shared.ensures.took c.take-shared.ensures.board in
-    let live = c.requires.live in
-    let own = is_kind d e x t c.self.invariant.0.1 live.0 c.kind.result c.args.other c.edge.result (c.kind.ensures live.0 live.1) (c.edge.ensures.edge live.0 live.1 (known c.self.inside.pass) (seat_of c.self.inside.pass c.self.inside.book c.self.view_is)) in
-    ⊎_elim (λ same. subst (λ (y : Cell). Is y.kind (view_of x) y.edge) (sym same) own)
-    (λ found. cell-kept x e t.serves.board_is t.serves.cells_kept c.args.cell c.choose-chosen.result.0 (c.cell.ensures ∙ ap Some found)) c.choose-chosen.ensures.origin
+pub take_seat-pass-requires : goal.take_seat-pass-requires
+take_seat-pass-requires g c = has_seat c.self.inside.seat c.self.inside.book c.self.invariant
 
-pub add_row-made-requires-clause-adds : goal.add_row-made-requires-clause-adds
-add_row-made-requires-clause-adds g c =
-    let d = known c.self.inside.pass in
-    let e = known c.take-shared.new.pass in
-    let x = c.take-shared.result in
-    let t : Took d e x = took_of c.take-shared.ensures.took c.take-shared.ensures.board in
-    let live = c.requires.live in
-    let i = c.from.result in
-    let at : i ≡ c.args.cell = c.from.ensures in
-    let kind = c.kind.ensures live.0 live.1 in
-    let stands = stands_held_as d e x t c.self.invariant.0.1 live.0 c.args.other c.edge.result (c.edge.ensures.edge live.0 live.1 (known c.self.inside.pass) (seat_of c.self.inside.pass c.self.inside.book c.self.view_is)) ∙ ap (λ k. Some (listed_at k (view_of x) c.edge.result)) (sym kind) in
-    outcome-of_fetch e i c.args.other (listed_at c.kind.result (view_of x) c.edge.result) _ (let f = c.ranges.cell.fits in omega (arith, at, f)) (ap (λ z. z.holds) t.is) stands
-    (ap (λ o. from_cell o (listed_at c.kind.result (view_of x) c.edge.result)) (ap (option_map (known_at e)) (ap (cell_in e.cells) at ∙ cell-board x e t.serves.board_is t.serves.cells_kept c.args.cell c.cell.result c.cell.ensures) ∙ cell-known e (view_of x) t.serves.counts_are c.cell.result)
-    ∙ c.choose-chosen.ensures.taken (view_of x))
+pub fetch-placed-requires-clause-idle : goal.fetch-placed-requires-clause-idle
+fetch-placed-requires-clause-idle g c = idle_at c.self.inside.seat c.take_seat-pass.result c.self.inside.book c.take_seat-pass.ensures c.manager.inside.guard c.manager.inside.closing c.self.invariant c.self.view_is c.requires.own c.manager.view_is
+
+pub fetch-placed-requires-clause-keeps : goal.fetch-placed-requires-clause-keeps
+fetch-placed-requires-clause-keeps g c = (ready_at c.self.inside.seat c.take_seat-pass.result c.self.inside.book c.take_seat-pass.ensures c.self.invariant).1
+
+pub fetch-placed-requires-clause-place : goal.fetch-placed-requires-clause-place
+fetch-placed-requires-clause-place g c = subst HasRoom (sym (seen_at c.self.inside.seat c.take_seat-pass.result c.self.inside.book c.take_seat-pass.ensures c.self.view_is)) c.requires.room
+
+pub fetch-placed-requires-clause-spare : goal.fetch-placed-requires-clause-spare
+fetch-placed-requires-clause-spare g c = subst (λ (s : Seen). 1 ≤ s.spare) (sym (seen_at c.self.inside.seat c.take_seat-pass.result c.self.inside.book c.take_seat-pass.ensures c.self.view_is)) c.requires.spare
+
+pub fetch-placed-requires-clause-live : goal.fetch-placed-requires-clause-live
+fetch-placed-requires-clause-live g c = subst (λ (s : Seen). IsLive s c.args.other) (sym (seen_at c.self.inside.seat c.take_seat-pass.result c.self.inside.book c.take_seat-pass.ensures c.self.view_is)) c.requires.live
+
+pub invariant_of-self : goal.invariant_of-self
+invariant_of-self g c = (rests c.manager.inside.guard c.fetch-placed.new.pass c.fetch-placed.ensures.idle (unshared_still _ _ c.fetch-placed.ensures.stands (ready_at c.self.inside.seat c.take_seat-pass.result c.self.inside.book c.take_seat-pass.ensures c.self.invariant).0.3), c.fetch-placed.ensures.keeps)
 
 pub returns-clause-told : goal.returns-clause-told
-returns-clause-told g c =
-    let told = c.add_row-made.ensures.told in
-    rw (← c.self.view_is) (called (known c.self.inside.pass) (known c.take-shared.new.pass) (known c.add_row-made.new.pass) c.take-shared.result _ _ _ _ _ _ c.add_row-made.result.place (c.add_row-made.ensures.own.0 ∙ sym (same_table c.manager.inside.guard c.manager.inside.closing c.self.inside.pass c.self.inside.book c.self.view_is c.requires.own c.manager.view_is))
-    (took_of c.take-shared.ensures.took c.take-shared.ensures.board) (told.0, told.1, told.2 ∙ ap (λ (n : ℕ). calls.Fetch n c.args.other) c.from.ensures, told.3 ∙ ap (replies.Fetched c.add_row-made.result.value) (sym c.fetched.ensures), told.4))
+returns-clause-told g c = subst (λ (s : Seen). Called s (seen_of c.fetch-placed.new.pass c.fetch-placed.new.book) (calls.Fetch c.args.cell c.args.other) (replies.Fetched c.fetch-placed.result.value.0 (is_posted c.fetch-placed.result.value.1)) c.fetch-placed.result.place) (seen_at c.self.inside.seat c.take_seat-pass.result c.self.inside.book c.take_seat-pass.ensures c.self.view_is) c.fetch-placed.ensures.told
 
-pub returns-clause-stored : goal.returns-clause-stored
-returns-clause-stored g c = notes_nothing (known c.self.inside.pass) (known c.take-shared.new.pass) c.take-shared.result (took_of c.take-shared.ensures.took c.take-shared.ensures.board) (known c.add_row-made.new.pass) c.add_row-made.ensures.notes
+pub returns-clause-spare : goal.returns-clause-spare
+returns-clause-spare g c = c.fetch-placed.ensures.spare ∙ ap (λ (s : Seen). s.spare) (seen_at c.self.inside.seat c.take_seat-pass.result c.self.inside.book c.take_seat-pass.ensures c.self.view_is)

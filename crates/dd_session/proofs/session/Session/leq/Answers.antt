@@ -1,52 +1,39 @@
-use Rattle.std.proofs.Common.{◌≡◌, ◌↔◌, Bool, true, Result, IfOk, ap, refl, subst, sym, ◌∙◌, rules}
-use Rattle.edge_bits.specs.declared.lists.Memory.{Memory}
-use Rattle.node_store.specs.Memo.{Implies}
-use Rattle.node_store.specs.Views.{bdd_at}
-use Rattle.shared_store.specs.Sharing.{view_of}
-use Rattle.seat_guard.specs.declared.view.Draws.{Draws}
-use Rattle.edge_bits.specs.declared.edges.Kind.TheVariants as kinds
+use Rattle.std.proofs.Common.{◌≡◌, ◌+◌, ◌<◌, ◌≤◌, ℕ, All, ap, length, subst, sym, ◌∙◌, MatchResult}
 use Rattle.function_laws.specs.declared.history.Call.TheVariants as calls
 use Rattle.function_laws.specs.declared.history.Reply.TheVariants as replies
-use Rattle.seat_guard.specs.Passes.{known}
-use Rattle.shared_store.proofs.Lasting.{serves-lasts}
-use Rattle.dd_session.specs.declared.request.Request.TheVariants as requests
-use Rattle.dd_session.proofs.Calls.{called, took_of, same_table, seat_of}
-use Rattle.dd_session.proofs.OperationLaws.{gives_leq, two_held}
-use Rattle.dd_session.proofs.Serving.{serves-same}
-use Rattle.dd_session.proofs.Tellings.{knows_quiet, may_tell_truth, quiet}
-use Rattle.dd_session.proofs.Turning.{drew_nothing, kept_book, stored_nothing}
+use Rattle.handle_count.specs.RowMaps.{RowMap}
+use Rattle.edge_bits.specs.declared.edges.Kind.TheVariants as kinds
+use Rattle.dd_session.specs.Sessions.{Called, HasRoom, IsAsBefore, IsLiveAs, Seen}
+use Rattle.dd_session.specs.Turns.{seen_of}
+use Rattle.dd_session.proofs.AtRest.{has_seat, idle_at, ready_at, rests, seen_at, unshared_still}
 use Rattle.dd_session.proofs.session.Session.leq.Goals as goal
 
-pub implies-requires : goal.implies-requires
-implies-requires g c = two_held (known c.self.inside.pass) (known c.take-shared.new.pass) c.take-shared.result (took_of c.take-shared.ensures.took c.take-shared.ensures.board) c.args.f c.args.g c.edge-first.result c.edge-second.result (c.edge-first.ensures.edge kinds.Bdd c.requires.first (known c.self.inside.pass) (seat_of c.self.inside.pass c.self.inside.book c.self.view_is)) (c.edge-second.ensures.edge kinds.Bdd c.requires.second (known c.self.inside.pass) (seat_of c.self.inside.pass c.self.inside.book c.self.view_is))
+pub take_seat-pass-requires : goal.take_seat-pass-requires
+take_seat-pass-requires g c = has_seat c.self.inside.seat c.self.inside.book c.self.invariant
 
-pub finish-place-requires-clause-step : goal.finish-place-requires-clause-step
-finish-place-requires-clause-step g c =
-    let e = known c.take-shared.new.pass in
-    let gives = gives_leq (known c.self.inside.pass) e c.take-shared.result (took_of c.take-shared.ensures.took c.take-shared.ensures.board) c.self.invariant.0.1 c.args.f c.args.g c.edge-first.result c.edge-second.result (c.edge-first.ensures.edge kinds.Bdd c.requires.first (known c.self.inside.pass) (seat_of c.self.inside.pass c.self.inside.book c.self.view_is)) (c.edge-second.ensures.edge kinds.Bdd c.requires.second (known c.self.inside.pass) (seat_of c.self.inside.pass c.self.inside.book c.self.view_is)) c.in-Ok.told (subst (λ (r : Result Bool Memory). IfOk r (λ told. (told ≡ true) ↔ Implies (bdd_at (view_of c.take-shared.result) c.edge-first.result) (bdd_at (view_of c.take-shared.result) c.edge-second.result))) c.in-Ok.is c.implies.ensures.implies) in
-    may_tell_truth e (requests.Leq c.args.f c.args.g) gives.0 c.in-Ok.told gives.1 gives.2
+pub leq-pass-requires-clause-idle : goal.leq-pass-requires-clause-idle
+leq-pass-requires-clause-idle g c = idle_at c.self.inside.seat c.take_seat-pass.result c.self.inside.book c.take_seat-pass.ensures c.manager.inside.guard c.manager.inside.closing c.self.invariant c.self.view_is c.requires.own c.manager.view_is
 
-pub finish-place-requires-clause-serves : goal.finish-place-requires-clause-serves
-finish-place-requires-clause-serves g c =
-    let e = known c.take-shared.new.pass in
-    let stays = c.implies.ensures.asked in
-    serves-same c.implies.new.shared e _ (serves-lasts c.take-shared.result c.implies.new.shared stays.lasts e stays.orders_are c.take-shared.ensures.took.2) (knows_quiet e (requests.Leq c.args.f c.args.g) (replies.Truth c.in-Ok.told) (record { plain = λ name n e. cc; no_swap = λ order level a b. cc }))
+pub leq-pass-requires-clause-unshared : goal.leq-pass-requires-clause-unshared
+leq-pass-requires-clause-unshared g c = (ready_at c.self.inside.seat c.take_seat-pass.result c.self.inside.book c.take_seat-pass.ensures c.self.invariant).0.3
 
-pub put_back-requires-clause-serves : goal.put_back-requires-clause-serves
-put_back-requires-clause-serves g c =
-    let stays = c.implies.ensures.asked in
-    serves-lasts c.take-shared.result c.implies.new.shared stays.lasts (known c.take-shared.new.pass) stays.orders_are c.take-shared.ensures.took.2
+pub leq-pass-requires-clause-keeps : goal.leq-pass-requires-clause-keeps
+leq-pass-requires-clause-keeps g c = (ready_at c.self.inside.seat c.take_seat-pass.result c.self.inside.book c.take_seat-pass.ensures c.self.invariant).1
+
+pub leq-pass-requires-clause-place : goal.leq-pass-requires-clause-place
+leq-pass-requires-clause-place g c = subst HasRoom (sym (seen_at c.self.inside.seat c.take_seat-pass.result c.self.inside.book c.take_seat-pass.ensures c.self.view_is)) c.requires.room
+
+pub leq-pass-requires-clause-first : goal.leq-pass-requires-clause-first
+leq-pass-requires-clause-first g c = subst (λ (s : Seen). IsLiveAs kinds.Bdd s c.args.f) (sym (seen_at c.self.inside.seat c.take_seat-pass.result c.self.inside.book c.take_seat-pass.ensures c.self.view_is)) c.requires.first
+
+pub leq-pass-requires-clause-second : goal.leq-pass-requires-clause-second
+leq-pass-requires-clause-second g c = subst (λ (s : Seen). IsLiveAs kinds.Bdd s c.args.g) (sym (seen_at c.self.inside.seat c.take_seat-pass.result c.self.inside.book c.take_seat-pass.ensures c.self.view_is)) c.requires.second
 
 pub invariant_of-self : goal.invariant_of-self
-invariant_of-self g c = (search rules, kept_book (known c.self.inside.pass) (known c.take-shared.new.pass) c.take-shared.result (took_of c.take-shared.ensures.took c.take-shared.ensures.board) (known c.finish-place.new.pass) _ _ c.finish-place.result c.self.inside.book c.finish-place.new.book c.self.invariant.1 c.finish-place.ensures.drew refl refl c.finish-place.ensures.rows c.finish-place.ensures.calls)
+invariant_of-self g c = (rests c.manager.inside.guard c.leq-pass.result.0 c.leq-pass.ensures.idle c.leq-pass.ensures.unshared, c.leq-pass.ensures.keeps)
 
-pub returns-in-Ok-clause-told : goal.returns-in-Ok-clause-told
-returns-in-Ok-clause-told g c =
-    rw (← c.self.view_is) (called (known c.self.inside.pass) (known c.take-shared.new.pass) (known c.finish-place.new.pass) c.take-shared.result _ _ _ _ (calls.Leq c.args.f c.args.g) (replies.Truth c.in-Ok.told) c.finish-place.result (c.finish-place.ensures.own.0 ∙ sym (same_table c.manager.inside.guard c.manager.inside.closing c.self.inside.pass c.self.inside.book c.self.view_is c.requires.own c.manager.view_is))
-    (took_of c.take-shared.ensures.took c.take-shared.ensures.board) (c.implies.new.shared, quiet (calls.Leq c.args.f c.args.g) (replies.Truth c.in-Ok.told), refl, refl, c.finish-place.ensures.drew))
+pub returns-clause-told : goal.returns-clause-told
+returns-clause-told g c = subst (λ (s : Seen). MatchResult c.leq-pass.result.1 (λ placed. Called s (seen_of c.leq-pass.result.0 c.leq-pass.new.book) (calls.Leq c.args.f c.args.g) (replies.Truth placed.value) placed.place) (λ _. IsAsBefore s (seen_of c.leq-pass.result.0 c.leq-pass.new.book))) (seen_at c.self.inside.seat c.take_seat-pass.result c.self.inside.book c.take_seat-pass.ensures c.self.view_is) c.leq-pass.ensures.told
 
-pub returns-in-Ok-clause-stored : goal.returns-in-Ok-clause-stored
-returns-in-Ok-clause-stored g c = drew_nothing (known c.self.inside.pass) (known c.take-shared.new.pass) c.take-shared.result (took_of c.take-shared.ensures.took c.take-shared.ensures.board) (known c.finish-place.new.pass) _ _ c.finish-place.result c.implies.ensures.asked.stored c.finish-place.ensures.drew
-
-pub returns-in-Err-clause-stored : goal.returns-in-Err-clause-stored
-returns-in-Err-clause-stored g c = let gave = c.put_back.ensures.gave in stored_nothing (known c.self.inside.pass) (known c.take-shared.new.pass) c.take-shared.result (took_of c.take-shared.ensures.took c.take-shared.ensures.board) (known c.put_back.new.pass) c.implies.new.shared gave.0 c.implies.ensures.asked.stored (ap (λ (d : Draws). d.stored) gave.1) gave.2
+pub returns-clause-spare : goal.returns-clause-spare
+returns-clause-spare g c = ap (λ (r : RowMap). r.spare) c.leq-pass.ensures.rows ∙ ap (λ (s : Seen). s.spare) (seen_at c.self.inside.seat c.take_seat-pass.result c.self.inside.book c.take_seat-pass.ensures c.self.view_is)

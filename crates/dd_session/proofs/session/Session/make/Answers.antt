@@ -1,63 +1,35 @@
-use Rattle.std.proofs.Common.{ℕ, List, sym, subst, ◌∙◌}
-use Rattle.edge_bits.specs.declared.edges.Edge.{Edge}
-use Rattle.function_laws.specs.declared.making.Making.{Making}
-use Rattle.function_laws.specs.declared.history.Call.TheVariants as calls
-use Rattle.function_laws.specs.Makings.{needs_nodes}
-use Rattle.operator_calls.specs.Making.{told_by, unmade_as, work}
+use Rattle.std.proofs.Common.{ap, subst, sym, ◌∙◌}
 use Rattle.operator_calls.specs.Taking.{of_lent}
-use Rattle.seat_guard.specs.Passes.{known}
-use Rattle.shared_store.specs.Sharing.{view_of}
-use Rattle.dd_session.specs.MadeRows.{adding_by, chooses}
+use Rattle.dd_session.specs.MadeRows.{HasTaken, MakesOrTells, by_edges}
+use Rattle.dd_session.specs.Sessions.{HasRoom, Seen}
 use Rattle.dd_session.specs.Turns.{seen_of}
-use Rattle.dd_session.specs.Works.{StoresWork}
-use Rattle.dd_session.proofs.Calls.{counted_few, full_needs, same_table, seat_of, served, small_store, spare_kept, spare_made, stands_of, stores_work, told_made}
-use Rattle.dd_session.proofs.Makings.{nothing_made, outcome_makes, outcome_may_full, told_by_edges, told_why}
+use Rattle.dd_session.proofs.AtRest.{has_seat, idle_at, ready_at, rests, seen_at}
+use Rattle.dd_session.proofs.Makings.{nothing_made}
 use Rattle.dd_session.proofs.session.Session.make.Goals as goal
 
-pub try_all-shared-requires : goal.try_all-shared-requires
-try_all-shared-requires g c = λ y lasts same of.
-    (told_by_edges c.args.self.now (known c.self.inside.pass) (seat_of c.self.inside.pass c.self.inside.book c.self.view_is) (of_lent c.args.making) (of_lent c.renamed-edges.result) c.renamed-edges.ensures.same c.requires.can
-    (view_of y) (small_store y of) (stands_of (known c.self.inside.pass) (known c.start.new.pass) c.in-Ok-start.shared y c.in-Ok-start.ensures.took lasts same)).0
+pub take_seat-pass-requires : goal.take_seat-pass-requires
+take_seat-pass-requires g c = has_seat c.self.inside.seat c.self.inside.book c.self.invariant
 
-pub settle-requires-clause-serves : goal.settle-requires-clause-serves
-settle-requires-clause-serves g c = served (known c.self.inside.pass) (known c.start.new.pass) c.in-Ok-start.shared c.try_all-shared.result.0 (told_by (of_lent c.renamed-edges.result)) (work (of_lent c.renamed-edges.result)) c.try_all-shared.result.1 c.in-Ok-start.ensures.took c.try_all-shared.ensures.tried
+pub make-pass-requires-clause-idle : goal.make-pass-requires-clause-idle
+make-pass-requires-clause-idle g c = idle_at c.self.inside.seat c.take_seat-pass.result c.self.inside.book c.take_seat-pass.ensures c.manager.inside.guard c.manager.inside.closing c.self.invariant c.self.view_is c.requires.own c.manager.view_is
 
-pub settle-requires-clause-few : goal.settle-requires-clause-few
-settle-requires-clause-few g c = counted_few c.in-Ok-start.shared c.try_all-shared.result.0 (told_by (of_lent c.renamed-edges.result)) (work (of_lent c.renamed-edges.result)) c.try_all-shared.result.1 _ c.try_all-shared.ensures.tried c.in-Ok-start.ensures.few
+pub make-pass-requires-clause-unshared : goal.make-pass-requires-clause-unshared
+make-pass-requires-clause-unshared g c = (ready_at c.self.inside.seat c.take_seat-pass.result c.self.inside.book c.take_seat-pass.ensures c.self.invariant).0.3
 
-pub settle-requires-clause-ok : goal.settle-requires-clause-ok
-settle-requires-clause-ok g c =
-    let tried = c.try_all-shared.ensures.tried in
-    rw (c.kind_made-kind.ensures, c.adding_of-adding.ensures)
-    (outcome_makes (known c.self.inside.pass) (known c.start.new.pass) c.in-Ok-start.shared c.try_all-shared.result.0 (calls.Makes (of_lent c.args.making)) _ (adding_by (chooses (of_lent c.args.making))) (of_lent c.renamed-edges.result) (work (of_lent c.renamed-edges.result)) c.try_all-shared.result.1 c.in-Ok-start.ensures.took c.self.invariant.0.1 tried
-    (told_by_edges c.args.self.now (known c.self.inside.pass) (seat_of c.self.inside.pass c.self.inside.book c.self.view_is) (of_lent c.args.making) (of_lent c.renamed-edges.result) c.renamed-edges.ensures.same c.requires.can
-    (view_of tried.from) (small_store tried.from tried.ran.store) (stands_of (known c.self.inside.pass) (known c.start.new.pass) c.in-Ok-start.shared tried.from c.in-Ok-start.ensures.took tried.lasts tried.orders_are)).1 c.try_all-shared.result.1 tried.ran.answer)
+pub make-pass-requires-clause-keeps : goal.make-pass-requires-clause-keeps
+make-pass-requires-clause-keeps g c = (ready_at c.self.inside.seat c.take_seat-pass.result c.self.inside.book c.take_seat-pass.ensures c.self.invariant).1
 
-pub settle-requires-clause-full : goal.settle-requires-clause-full
-settle-requires-clause-full g c = λ is.
-    let tried = c.try_all-shared.ensures.tried in
-    let due = tried.ran.due_is is in (
-      full_needs c.try_all-shared.result.1 is (rw (← c.renamed-edges.ensures.needs) c.try_all-shared.ensures.sure),
-      outcome_may_full (known c.self.inside.pass) (known c.start.new.pass) c.in-Ok-start.shared c.try_all-shared.result.0 (calls.Makes (of_lent c.args.making)) _ (adding_by (chooses (of_lent c.args.making))) (of_lent c.renamed-edges.result) (work (of_lent c.renamed-edges.result)) c.try_all-shared.result.1 c.in-Ok-start.ensures.took c.self.invariant.0.1 tried
-          (told_by_edges c.args.self.now (known c.self.inside.pass) (seat_of c.self.inside.pass c.self.inside.book c.self.view_is) (of_lent c.args.making) (of_lent c.renamed-edges.result) c.renamed-edges.ensures.same c.requires.can
-          (view_of tried.from) (small_store tried.from tried.ran.store) (stands_of (known c.self.inside.pass) (known c.start.new.pass) c.in-Ok-start.shared tried.from c.in-Ok-start.ensures.took tried.lasts tried.orders_are)).1 due,
-      (due.0, due.1),
-    )
+pub make-pass-requires-clause-place : goal.make-pass-requires-clause-place
+make-pass-requires-clause-place g c = subst HasRoom (sym (seen_at c.self.inside.seat c.take_seat-pass.result c.self.inside.book c.take_seat-pass.ensures c.self.view_is)) c.requires.room
+
+pub make-pass-requires-clause-can : goal.make-pass-requires-clause-can
+make-pass-requires-clause-can g c = subst (λ (s : Seen). HasTaken s (of_lent c.args.making)) (sym (seen_at c.self.inside.seat c.take_seat-pass.result c.self.inside.book c.take_seat-pass.ensures c.self.view_is)) c.requires.can
+
+pub make-pass-requires-clause-same : goal.make-pass-requires-clause-same
+make-pass-requires-clause-same g c = c.renamed-edges.ensures.same ∙ ap (λ (s : Seen). by_edges s.rows (of_lent c.args.making)) (sym (seen_at c.self.inside.seat c.take_seat-pass.result c.self.inside.book c.take_seat-pass.ensures c.self.view_is))
+
+pub invariant_of-self : goal.invariant_of-self
+invariant_of-self g c = (rests c.manager.inside.guard c.make-pass.result.0 c.make-pass.ensures.idle c.make-pass.ensures.unshared, c.make-pass.ensures.keeps)
 
 pub returns : goal.returns
-returns g c = record {
-  told = rw (← c.self.view_is)
-      (told_made (known c.self.inside.pass) (known c.start.new.pass) (known c.settle.new.pass) c.in-Ok-start.shared _ _ _ _ (calls.Makes (of_lent c.args.making)) (c.settle.ensures.own.0 ∙ sym (same_table c.manager.inside.guard c.manager.inside.closing c.self.inside.pass c.self.inside.book c.self.view_is c.requires.own c.manager.view_is)) c.in-Ok-start.ensures.took
-      c.try_all-shared.result.1 (needs_nodes (of_lent c.args.making)) (rw (← c.renamed-edges.ensures.needs) c.try_all-shared.ensures.sure) (chooses (of_lent c.args.making)) c.settle.result
-      (spare_kept _ c.settle.result c.self.inside.book.rows.spare c.start.new.book.rows.spare c.settle.new.book.rows.spare c.in-Ok-start.ensures.spare c.settle.ensures.spare) c.settle.ensures.cause (rw (← c.adding_of-adding.ensures) c.settle.ensures.told));
-  may = told_why (of_lent c.renamed-edges.result) (unmade_as (of_lent c.args.making)) c.renamed-edges.ensures.unmade _ _ c.try_all-shared.result.1 c.settle.result c.try_all-shared.ensures.tried.ran.answer c.settle.ensures.why;
-  stored = subst (λ (by : Making Edge (List ℕ) (List (ℕ × Edge))). StoresWork (work by) c.args.self.now (seen_of c.settle.new.pass c.settle.new.book) c.settle.result) c.renamed-edges.ensures.same
-      (rw (← c.self.view_is)
-      (stores_work (known c.self.inside.pass) (known c.start.new.pass) (known c.settle.new.pass) c.in-Ok-start.shared c.try_all-shared.result.0 _ c.settle.new.pass.seat.table_id c.self.inside.book.rows.spare c.settle.new.book.rows.spare c.try_all-shared.result.1 c.in-Ok-start.ensures.took
-      (told_by (of_lent c.renamed-edges.result)) (work (of_lent c.renamed-edges.result)) c.try_all-shared.ensures.tried c.settle.ensures.notes (calls.Makes (of_lent c.args.making)) (chooses (of_lent c.args.making)) c.settle.result c.settle.ensures.cause
-      (rw (← c.adding_of-adding.ensures) c.settle.ensures.told)));
-  spare = rw (← c.self.view_is) (spare_made c.settle.result c.self.inside.book.rows.spare c.start.new.book.rows.spare c.settle.new.book.rows.spare c.in-Ok-start.ensures.spare c.settle.ensures.spare);
-}
-
-pub returns-in_default-start : goal.returns-in_default-start
-returns-in_default-start g c = nothing_made c.args.self.now _ (of_lent c.args.making) ((λ i. seen_of (c.in_default-start.ensures.0 i) (c.in_default-start.ensures.1 i)) ∙ c.self.view_is)
+returns g c = subst (λ (s : Seen). MakesOrTells s (seen_of c.make-pass.result.0 c.make-pass.new.book) (of_lent c.args.making) c.make-pass.result.1) (seen_at c.self.inside.seat c.take_seat-pass.result c.self.inside.book c.take_seat-pass.ensures c.self.view_is) c.make-pass.ensures.made

@@ -1,46 +1,34 @@
-use Rattle.std.proofs.Common.{◌≡◌, refl, ap, sym, subst, ◌∙◌}
-use Rattle.function_laws.specs.declared.history.Reply.TheVariants as replies
+use Rattle.std.proofs.Common.{◌≡◌, ◌+◌, ◌<◌, ◌≤◌, ℕ, All, ap, length, subst, sym, ◌∙◌, MatchResult, arith}
 use Rattle.group_sift.specs.Turns.{last_end}
-use Rattle.handle_count.specs.RowMaps.{RowMap}
-use Rattle.seat_guard.specs.Passes.{known}
-use Rattle.shared_store.specs.Sifting.{sift_call, sifting_of}
 use Rattle.dd_session.specs.Reorderings.{levels_of}
-use Rattle.dd_session.specs.Sessions.{Called, Seen}
-use Rattle.dd_session.specs.Siftings.{IsSiftTold}
+use Rattle.dd_session.specs.Siftings.{SiftsLevels}
+use Rattle.dd_session.specs.Sessions.{Called, HasRoom, IsLiveAs, Seen}
 use Rattle.dd_session.specs.Turns.{seen_of}
-use Rattle.dd_session.proofs.Calls.{called, same_table, took_of}
-use Rattle.dd_session.proofs.SiftTellings.{found_sift, sift_told}
-use Rattle.dd_session.proofs.Swappings.{levels_are, levels_known}
+use Rattle.seat_guard.specs.Passes.{known}
+use Rattle.dd_session.proofs.Swappings.{levels_known}
+use Rattle.dd_session.proofs.AtRest.{has_seat, idle_at, ready_at, rests, seen_at, unshared_still}
 use Rattle.dd_session.proofs.session.Session.sift_levels.Goals as goal
 
-pub sift_shared-requires-clause-end : goal.sift_shared-requires-clause-end
-sift_shared-requires-clause-end g c =
-    let d = known c.self.inside.pass in
-    let e = known c.take-shared.new.pass in
-    subst (λ (s : Seen). last_end 0 c.args.blocks.now ≡ levels_of s c.args.order) (sym c.self.view_is) c.requires.end
-    ∙ levels_known c.self.inside.pass.seat.table_id d c.self.inside.book.rows.spare c.args.order
-    ∙ sym (levels_are d e c.take-shared.result (took_of c.take-shared.ensures.took c.take-shared.ensures.board) c.args.order)
+pub take_seat-pass-requires : goal.take_seat-pass-requires
+take_seat-pass-requires g c = has_seat c.self.inside.seat c.self.inside.book c.self.invariant
 
-pub sift_shared-requires-clause-tells : goal.sift_shared-requires-clause-tells
-sift_shared-requires-clause-tells g c = refl
+pub sift-pass-requires-clause-idle : goal.sift-pass-requires-clause-idle
+sift-pass-requires-clause-idle g c = idle_at c.self.inside.seat c.take_seat-pass.result c.self.inside.book c.take_seat-pass.ensures c.manager.inside.guard c.manager.inside.closing c.self.invariant c.self.view_is c.requires.own c.manager.view_is
+
+pub sift-pass-requires-clause-unshared : goal.sift-pass-requires-clause-unshared
+sift-pass-requires-clause-unshared g c = (ready_at c.self.inside.seat c.take_seat-pass.result c.self.inside.book c.take_seat-pass.ensures c.self.invariant).0.3
+
+pub sift-pass-requires-clause-keeps : goal.sift-pass-requires-clause-keeps
+sift-pass-requires-clause-keeps g c = (ready_at c.self.inside.seat c.take_seat-pass.result c.self.inside.book c.take_seat-pass.ensures c.self.invariant).1
+
+pub sift-pass-requires-clause-place : goal.sift-pass-requires-clause-place
+sift-pass-requires-clause-place g c = subst HasRoom (sym (seen_at c.self.inside.seat c.take_seat-pass.result c.self.inside.book c.take_seat-pass.ensures c.self.view_is)) c.requires.room
+
+pub sift-pass-requires-clause-end : goal.sift-pass-requires-clause-end
+sift-pass-requires-clause-end g c = subst (λ (s : Seen). last_end 0 c.args.blocks.now ≡ levels_of s c.args.order) (sym (seen_at c.self.inside.seat c.take_seat-pass.result c.self.inside.book c.take_seat-pass.ensures c.self.view_is)) c.requires.end ∙ levels_known c.take_seat-pass.result.seat.table_id (known c.take_seat-pass.result) c.self.inside.book.rows.spare c.args.order
+
+pub invariant_of-self : goal.invariant_of-self
+invariant_of-self g c = (rests c.manager.inside.guard c.sift-pass.result.0 c.sift-pass.ensures.idle c.sift-pass.ensures.unshared, c.sift-pass.ensures.keeps)
 
 pub returns-clause-sifted : goal.returns-clause-sifted
-returns-clause-sifted g c =
-    let d = known c.self.inside.pass in
-    let e = known c.take-shared.new.pass in
-    let x = c.take-shared.result in
-    let new = known c.sift_shared.new.pass in
-    let took = took_of c.take-shared.ensures.took c.take-shared.ensures.board in
-    let sifting = sifting_of c.args.order c.args.blocks.now x in
-    let call = sift_call c.args.order sifting in
-    let told = c.sift_shared.ensures.told in
-    record {
-      sifting = sifting;
-      told = subst (λ (s : Seen). Called s (seen_of c.sift_shared.new.pass c.sift_shared.new.book) call replies.Done c.sift_shared.result.place) c.self.view_is
-          (called d e new x c.self.inside.pass.seat.table_id c.sift_shared.new.pass.seat.table_id c.self.inside.book.rows.spare c.sift_shared.new.book.rows.spare call replies.Done c.sift_shared.result.place
-          (c.sift_shared.ensures.own.0 ∙ sym (same_table c.manager.inside.guard c.manager.inside.closing c.self.inside.pass c.self.inside.book c.self.view_is c.requires.own c.manager.view_is)) took told);
-      sift = subst (λ (s : Seen). IsSiftTold c.args.order c.args.blocks.now s (seen_of c.sift_shared.new.pass c.sift_shared.new.book) sifting c.sift_shared.result.value) c.self.view_is
-          (sift_told d e x took c.sift_shared.ensures.sifted.0 new c.args.order c.args.blocks.now c.sift_shared.result.value c.self.inside.pass.seat.table_id c.sift_shared.new.pass.seat.table_id c.self.inside.book.rows.spare c.sift_shared.new.book.rows.spare
-          c.sift_shared.ensures.sifted.1 (found_sift d e x took new call c.sift_shared.result.place told));
-      spare = ap (λ (r : RowMap). r.spare) c.sift_shared.ensures.rows ∙ ap (λ (s : Seen). s.spare) c.self.view_is;
-    }
+returns-clause-sifted g c = subst (λ (s : Seen). SiftsLevels c.args.order c.args.blocks.now s (seen_of c.sift-pass.result.0 c.sift-pass.new.book) c.sift-pass.result.1) (seen_at c.self.inside.seat c.take_seat-pass.result c.self.inside.book c.take_seat-pass.ensures c.self.view_is) c.sift-pass.ensures.sifted

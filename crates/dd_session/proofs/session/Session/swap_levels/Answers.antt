@@ -1,46 +1,32 @@
-use Rattle.std.proofs.Common.{◌+◌, ◌<◌, ap, sym, subst, ◌∙◌, arith}
-use Rattle.handle_count.specs.RowMaps.{RowMap}
-use Rattle.seat_guard.specs.Passes.{known}
-use Rattle.shared_store.specs.Reordering.{swap_call}
-use Rattle.shared_store.proofs.Lasting.{serves-under}
-use Rattle.dd_session.specs.Reorderings.{IsSwapOf, crowded_in, levels_of}
-use Rattle.dd_session.specs.Sessions.{Seen}
+use Rattle.std.proofs.Common.{◌≡◌, ◌+◌, ◌<◌, ◌≤◌, ℕ, All, ap, length, subst, sym, ◌∙◌, MatchResult, arith}
+use Rattle.dd_session.specs.Reorderings.{SwapsLevels, levels_of}
+use Rattle.dd_session.specs.Sessions.{Called, HasRoom, IsLiveAs, Seen}
 use Rattle.dd_session.specs.Turns.{seen_of}
-use Rattle.dd_session.proofs.Calls.{same_table, took_of}
-use Rattle.dd_session.proofs.Swappings.{found_swap, levels_are, levels_known, numbers_taken, swap_of, swap_stored, told_swap}
+use Rattle.seat_guard.specs.Passes.{known}
+use Rattle.dd_session.proofs.Swappings.{levels_known}
+use Rattle.dd_session.proofs.AtRest.{has_seat, idle_at, ready_at, rests, seen_at, unshared_still}
 use Rattle.dd_session.proofs.session.Session.swap_levels.Goals as goal
 
-pub settle_swap-requires-clause-serves : goal.settle_swap-requires-clause-serves
-settle_swap-requires-clause-serves g c =
-    serves-under c.take-shared.result c.swap-shared.result.0 c.swap-shared.ensures.lasts (known c.take-shared.new.pass) c.take-shared.ensures.took.2
+pub take_seat-pass-requires : goal.take_seat-pass-requires
+take_seat-pass-requires g c = has_seat c.self.inside.seat c.self.inside.book c.self.invariant
 
-pub settle_swap-requires-clause-level : goal.settle_swap-requires-clause-level
-settle_swap-requires-clause-level g c =
-    let d = known c.self.inside.pass in
-    let e = known c.take-shared.new.pass in
-    let asked = subst (λ (s : Seen). c.args.level + 1 < levels_of s c.args.order) (sym c.self.view_is) c.requires.level in
-    let managed = levels_known c.self.inside.pass.seat.table_id d c.self.inside.book.rows.spare c.args.order in
-    let taken = levels_are d e c.take-shared.result (took_of c.take-shared.ensures.took c.take-shared.ensures.board) c.args.order in
-    omega (arith, asked, managed, taken)
+pub swap-pass-requires-clause-idle : goal.swap-pass-requires-clause-idle
+swap-pass-requires-clause-idle g c = idle_at c.self.inside.seat c.take_seat-pass.result c.self.inside.book c.take_seat-pass.ensures c.manager.inside.guard c.manager.inside.closing c.self.invariant c.self.view_is c.requires.own c.manager.view_is
 
-pub settle_swap-requires-clause-full : goal.settle_swap-requires-clause-full
-settle_swap-requires-clause-full g c =
-    numbers_taken (known c.self.inside.pass) (known c.take-shared.new.pass) c.take-shared.result (took_of c.take-shared.ensures.took c.take-shared.ensures.board) c.swap-shared.result.0 c.args.order c.args.level c.swap-shared.result.1 c.swap-shared.ensures.reorders
+pub swap-pass-requires-clause-unshared : goal.swap-pass-requires-clause-unshared
+swap-pass-requires-clause-unshared g c = (ready_at c.self.inside.seat c.take_seat-pass.result c.self.inside.book c.take_seat-pass.ensures c.self.invariant).0.3
+
+pub swap-pass-requires-clause-keeps : goal.swap-pass-requires-clause-keeps
+swap-pass-requires-clause-keeps g c = (ready_at c.self.inside.seat c.take_seat-pass.result c.self.inside.book c.take_seat-pass.ensures c.self.invariant).1
+
+pub swap-pass-requires-clause-place : goal.swap-pass-requires-clause-place
+swap-pass-requires-clause-place g c = subst HasRoom (sym (seen_at c.self.inside.seat c.take_seat-pass.result c.self.inside.book c.take_seat-pass.ensures c.self.view_is)) c.requires.room
+
+pub swap-pass-requires-clause-level : goal.swap-pass-requires-clause-level
+swap-pass-requires-clause-level g c = let asked = subst (λ (s : Seen). c.args.level + 1 < levels_of s c.args.order) (sym (seen_at c.self.inside.seat c.take_seat-pass.result c.self.inside.book c.take_seat-pass.ensures c.self.view_is)) c.requires.level in let known_as = levels_known c.take_seat-pass.result.seat.table_id (known c.take_seat-pass.result) c.self.inside.book.rows.spare c.args.order in omega (arith, asked, known_as)
+
+pub invariant_of-self : goal.invariant_of-self
+invariant_of-self g c = (rests c.manager.inside.guard c.swap-pass.result.0 c.swap-pass.ensures.idle c.swap-pass.ensures.unshared, c.swap-pass.ensures.keeps)
 
 pub returns : goal.returns
-returns g c =
-    let d = known c.self.inside.pass in
-    let e = known c.take-shared.new.pass in
-    let x = c.take-shared.result in
-    let y = c.swap-shared.result.0 in
-    let new = known c.settle_swap.new.pass in
-    let took = took_of c.take-shared.ensures.took c.take-shared.ensures.board in
-    let told = c.settle_swap.ensures.told in
-    record {
-      told = rw (← c.self.view_is) (told_swap d e x took new (swap_call c.args.order c.args.level) c.settle_swap.result _ _ _ _
-          (c.settle_swap.ensures.own.0 ∙ sym (same_table c.manager.inside.guard c.manager.inside.closing c.self.inside.pass c.self.inside.book c.self.view_is c.requires.own c.manager.view_is)) told);
-      swap = subst (λ (s : Seen). IsSwapOf c.args.order c.args.level s (seen_of c.settle_swap.new.pass c.settle_swap.new.book) (crowded_in c.settle_swap.result)) c.self.view_is
-          (swap_of d e x took y new c.args.order c.args.level c.swap-shared.result.1 c.settle_swap.result c.self.inside.pass.seat.table_id c.settle_swap.new.pass.seat.table_id c.self.inside.book.rows.spare c.settle_swap.new.book.rows.spare c.swap-shared.ensures.reorders c.settle_swap.ensures.done (found_swap d e x took new (swap_call c.args.order c.args.level) c.settle_swap.result told));
-      stored = swap_stored d e x took y new c.swap-shared.result.1 c.settle_swap.result c.settle_swap.ensures.done c.swap-shared.ensures.stored c.settle_swap.ensures.notes;
-      spare = ap (λ (r : RowMap). r.spare) c.settle_swap.ensures.rows ∙ ap (λ (s : Seen). s.spare) c.self.view_is;
-    }
+returns g c = subst (λ (s : Seen). SwapsLevels c.args.order c.args.level s (seen_of c.swap-pass.result.0 c.swap-pass.new.book) c.swap-pass.result.1) (seen_at c.self.inside.seat c.take_seat-pass.result c.self.inside.book c.take_seat-pass.ensures c.self.view_is) c.swap-pass.ensures.swaps

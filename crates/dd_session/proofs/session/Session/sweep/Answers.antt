@@ -1,48 +1,36 @@
-use Rattle.std.proofs.Common.{refl, ap, sym, ◌∙◌, rules, subst}
+use Rattle.std.proofs.Common.{◌≡◌, ◌+◌, ◌<◌, ◌≤◌, ℕ, All, ap, length, subst, sym, ◌∙◌, MatchResult}
 use Rattle.function_laws.specs.declared.history.Call.TheVariants as calls
 use Rattle.function_laws.specs.declared.history.Reply.TheVariants as replies
-use Rattle.seat_guard.specs.declared.view.Draws.{Draws}
-use Rattle.seat_guard.specs.Passes.{known}
-use Rattle.shared_store.proofs.Lasting.{serves-lasts}
-use Rattle.dd_session.specs.declared.request.Request.TheVariants as requests
-use Rattle.dd_session.specs.Works.{HasRows}
-use Rattle.shared_store.specs.Sharing.{view_of}
-use Rattle.dd_session.proofs.Calls.{called, has_rows, stands_taken, took_of, same_table}
-use Rattle.node_slots.specs.Wholes.{content_view}
-use Rattle.dd_session.proofs.Serving.{serves-same}
-use Rattle.dd_session.proofs.Sweepings.{swept_beside}
-use Rattle.dd_session.proofs.Tellings.{knows_quiet, may_sweep, quiet}
-use Rattle.dd_session.proofs.Turning.{drew_nothing, kept_book}
+use Rattle.handle_count.specs.RowMaps.{RowMap}
+use Rattle.dd_session.specs.Works.{IsSweepAsked}
+use Rattle.dd_session.specs.Sessions.{Called, HasRoom, Seen}
+use Rattle.dd_session.specs.Turns.{seen_of}
+use Rattle.dd_session.proofs.AtRest.{has_seat, idle_at, ready_at, rests, seen_at, unshared_still}
 use Rattle.dd_session.proofs.session.Session.sweep.Goals as goal
 
-pub finish-place-requires-clause-step : goal.finish-place-requires-clause-step
-finish-place-requires-clause-step g c = may_sweep (known c.take-shared.new.pass)
+pub take_seat-pass-requires : goal.take_seat-pass-requires
+take_seat-pass-requires g c = has_seat c.self.inside.seat c.self.inside.book c.self.invariant
 
-pub finish-place-requires-clause-serves : goal.finish-place-requires-clause-serves
-finish-place-requires-clause-serves g c =
-    let e = known c.take-shared.new.pass in
-    serves-same c.sweep-shared.result.0 e _ (serves-lasts c.take-shared.result c.sweep-shared.result.0 c.sweep-shared.ensures.lasts e c.sweep-shared.ensures.orders c.take-shared.ensures.took.2) (knows_quiet e requests.Sweep replies.Done (record { plain = λ name n e. cc; no_swap = λ order level a b. cc }))
+pub sweep-pass-requires-clause-idle : goal.sweep-pass-requires-clause-idle
+sweep-pass-requires-clause-idle g c = idle_at c.self.inside.seat c.take_seat-pass.result c.self.inside.book c.take_seat-pass.ensures c.manager.inside.guard c.manager.inside.closing c.self.invariant c.self.view_is c.requires.own c.manager.view_is
+
+pub sweep-pass-requires-clause-unshared : goal.sweep-pass-requires-clause-unshared
+sweep-pass-requires-clause-unshared g c = (ready_at c.self.inside.seat c.take_seat-pass.result c.self.inside.book c.take_seat-pass.ensures c.self.invariant).0.3
+
+pub sweep-pass-requires-clause-keeps : goal.sweep-pass-requires-clause-keeps
+sweep-pass-requires-clause-keeps g c = (ready_at c.self.inside.seat c.take_seat-pass.result c.self.inside.book c.take_seat-pass.ensures c.self.invariant).1
+
+pub sweep-pass-requires-clause-place : goal.sweep-pass-requires-clause-place
+sweep-pass-requires-clause-place g c = subst HasRoom (sym (seen_at c.self.inside.seat c.take_seat-pass.result c.self.inside.book c.take_seat-pass.ensures c.self.view_is)) c.requires.room
 
 pub invariant_of-self : goal.invariant_of-self
-invariant_of-self g c = (search rules, kept_book (known c.self.inside.pass) (known c.take-shared.new.pass) c.take-shared.result (took_of c.take-shared.ensures.took c.take-shared.ensures.board) (known c.finish-place.new.pass) _ _ c.finish-place.result c.self.inside.book c.finish-place.new.book c.self.invariant.1 c.finish-place.ensures.drew refl refl c.finish-place.ensures.rows c.finish-place.ensures.calls)
+invariant_of-self g c = (rests c.manager.inside.guard c.sweep-pass.result.0 c.sweep-pass.ensures.idle c.sweep-pass.ensures.unshared, c.sweep-pass.ensures.keeps)
 
 pub returns-clause-told : goal.returns-clause-told
-returns-clause-told g c =
-    rw (← c.self.view_is) (called (known c.self.inside.pass) (known c.take-shared.new.pass) (known c.finish-place.new.pass) c.take-shared.result _ _ _ _ calls.Sweep replies.Done c.finish-place.result (c.finish-place.ensures.own.0 ∙ sym (same_table c.manager.inside.guard c.manager.inside.closing c.self.inside.pass c.self.inside.book c.self.view_is c.requires.own c.manager.view_is))
-    (took_of c.take-shared.ensures.took c.take-shared.ensures.board) (c.sweep-shared.result.0, quiet calls.Sweep replies.Done, refl, refl, c.finish-place.ensures.drew))
-
-pub returns-clause-stored : goal.returns-clause-stored
-returns-clause-stored g c = drew_nothing (known c.self.inside.pass) (known c.take-shared.new.pass) c.take-shared.result (took_of c.take-shared.ensures.took c.take-shared.ensures.board) (known c.finish-place.new.pass) _ _ c.finish-place.result c.sweep-shared.ensures.stored c.finish-place.ensures.drew
+returns-clause-told g c = subst (λ (s : Seen). Called s (seen_of c.sweep-pass.result.0 c.sweep-pass.new.book) calls.Sweep replies.Done c.sweep-pass.result.1.place) (seen_at c.self.inside.seat c.take_seat-pass.result c.self.inside.book c.take_seat-pass.ensures c.self.view_is) c.sweep-pass.ensures.told
 
 pub returns-clause-swept : goal.returns-clause-swept
-returns-clause-swept g c = record {
-  sweep = record {
-    before = content_view c.take-shared.result.store;
-    after = content_view c.sweep-shared.result.0.store;
-    seen = view_of c.take-shared.result;
-    has = subst (HasRows (view_of c.take-shared.result)) c.self.view_is (has_rows _ (known c.self.inside.pass) _ c.take-shared.result (stands_taken (known c.self.inside.pass) (known c.take-shared.new.pass) c.take-shared.result (took_of c.take-shared.ensures.took c.take-shared.ensures.board)));
-    same = refl;
-    is_swept = swept_beside _ _ _ c.sweep-shared.ensures.swept;
-  };
-  found = sym (ap (λ (d : Draws). d.functions) c.finish-place.ensures.drew.left ∙ ap (λ (d : Draws). d.functions) c.take-shared.ensures.took.1);
-}
+returns-clause-swept g c = subst (λ (s : Seen). IsSweepAsked s (seen_of c.sweep-pass.result.0 c.sweep-pass.new.book) c.sweep-pass.result.1.value) (seen_at c.self.inside.seat c.take_seat-pass.result c.self.inside.book c.take_seat-pass.ensures c.self.view_is) c.sweep-pass.ensures.swept
+
+pub returns-clause-spare : goal.returns-clause-spare
+returns-clause-spare g c = ap (λ (r : RowMap). r.spare) c.sweep-pass.ensures.rows ∙ ap (λ (s : Seen). s.spare) (seen_at c.self.inside.seat c.take_seat-pass.result c.self.inside.book c.take_seat-pass.ensures c.self.view_is)
