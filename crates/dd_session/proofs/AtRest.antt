@@ -1,5 +1,5 @@
 -- The seat of a session between two calls, and under a share or a hold.
-use Rattle.std.proofs.Common.{◌≡◌, ℕ, true, false, [], Option, Some, None, refl, ap, sym, subst, ◌∙◌}
+use Rattle.std.proofs.Common.{◌≡◌, Option, Some, None, refl, ap, sym, subst, ◌∙◌}
 use Rattle.std.specs.Prelude.{Bool, IfSome, IsSome, IsTrue, ◌↔◌}
 use Rattle.edge_bits.specs.declared.edges.Kind.{Kind}
 use Rattle.function_laws.specs.declared.history.Name.{Name}
@@ -12,7 +12,7 @@ use Rattle.seat_guard.specs.declared.view.Draws.{Draws}
 use Rattle.seat_guard.specs.declared.view.Leaving.{Leaving}
 use Rattle.seat_guard.specs.declared.view.Shares.{Shares}
 use Rattle.seat_guard.specs.Views.{letting_go}
-use Rattle.seat_guard.specs.Passes.{IsIdle, IsPassOf, in_hand, known, resting, shares}
+use Rattle.seat_guard.specs.Passes.{IsIdle, IsPassOf, known, resting, shares}
 use Rattle.seat_guard.specs.Phase.{HasNoShare}
 use Rattle.seat_guard.specs.Tokens.{Keeps as KeepsPass}
 use Rattle.shared_store.specs.declared.shared.Shared.{Shared}

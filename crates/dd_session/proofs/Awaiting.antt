@@ -1,6 +1,5 @@
 -- A call of which another try came before the last one.
-use Rattle.std.proofs.Common.{◌≡◌, ◌⊎◌, inl, inr, ⊎_elim, ℕ, ◌+◌, ◌≤◌, max, Bool, true, false, List, Contains, Option, Result, Ok, Err, MatchResult, refl, sym, subst, ◌∙◌, arith}
-use Rattle.edge_bits.specs.declared.edges.Edge.{Edge}
+use Rattle.std.proofs.Common.{◌≡◌, ◌⊎◌, inr, ⊎_elim, ℕ, ◌+◌, ◌≤◌, max, Bool, true, false, List, Contains, Option, Result, Ok, Err, MatchResult, refl, subst, arith}
 use Rattle.function_laws.specs.declared.history.Call.{Call}
 use Rattle.function_laws.specs.declared.history.Call.TheVariants as calls
 use Rattle.function_laws.specs.declared.history.Function.{Function}
@@ -17,8 +16,8 @@ use Rattle.dd_session.specs.declared.answers.Placed.{Placed}
 use Rattle.dd_session.specs.declared.answers.Refusal.{Refusal}
 use Rattle.dd_session.specs.declared.answers.Refusal.TheVariants as refusals
 use Rattle.dd_session.specs.MadeRows.{Awaits, MakesOrTells, Refuses, TellsRow, by_edges, chooses, with_why}
-use Rattle.dd_session.specs.Sessions.{Called, Denies, IsAsBefore, Seen}
-use Rattle.dd_session.specs.Works.{HasRows, IsDueAfterSweep, IsOfWork, IsSweepOf, StoresAt, StoresWork}
+use Rattle.dd_session.specs.Sessions.{Called, Denies, Seen}
+use Rattle.dd_session.specs.Works.{HasRows, IsOfWork, StoresAt, StoresWork}
 
 module _ (old new : Seen) (spare : ℕ) (found stored : List Function) (due : Option Function) where
   abbrev mid : Seen

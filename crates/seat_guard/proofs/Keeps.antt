@@ -1,5 +1,5 @@
 -- Each step keeps the rule.
-use Rattle.std.proofs.Common.{◌≡◌, ◌≢◌, ℕ, suc, ◌+◌, ◌*◌, ◌%◌, ◌^◌, ◌<◌, ◌≤◌, ◌==◌, true, List, [], ◌∷◌, ◌++◌, length, get_or, set, refl, ap, sym, subst, ◌∙◌, arith, length-set, eq-eqb, ne_eqb, false}
+use Rattle.std.proofs.Common.{◌≡◌, ℕ, suc, ◌+◌, ◌*◌, ◌%◌, ◌^◌, ◌<◌, ◌≤◌, ◌==◌, true, List, [], ◌∷◌, length, get_or, set, refl, ap, sym, subst, ◌∙◌, arith, length-set, eq-eqb, ne_eqb, false}
 use Rattle.std.specs.Prelude as std
 use mathlib.Core.Logic.{dite}
 use mathlib.Core.Option.{Option, none, some}
@@ -8,7 +8,7 @@ use native.Mathlib.Decide.{ℕ_discrete}
 use lib.ListN.{get_elem?}
 use lib.Seq.{set-get_or}
 use prog.Atomic.{either}
-use Rattle.edge_bits.specs.declared.limits.TheConstants.{CELLS, MOST_SESSIONS}
+use Rattle.edge_bits.specs.declared.limits.TheConstants.{MOST_SESSIONS}
 use Rattle.atomic_table.specs.Table.{State, Me, step, keeps, takes, gives, stepped, Allows, Splits, Joins, rest}
 use Rattle.atomic_table.proofs.Lists.{set_again, at_map, set_here}
 use Rattle.function_laws.specs.declared.history.Function.{Function}

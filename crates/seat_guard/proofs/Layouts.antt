@@ -1,5 +1,5 @@
 -- A word is set: all others are as they were.
-use Rattle.std.proofs.Common.{◌≡◌, ℕ, ◌<◌, List, length, set, get_or, arith, get_or-set_other, get_or-set_same}
+use Rattle.std.proofs.Common.{◌≡◌, ℕ, List, length, set, get_or, arith, get_or-set_other, get_or-set_same}
 use Rattle.seat_guard.specs.declared.layout.TheConstants.{JOURNAL, PHASE, TURN, WORDS}
 use Rattle.seat_guard.specs.Layout.{Words, words_of}
 

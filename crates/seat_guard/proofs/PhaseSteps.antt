@@ -1,24 +1,21 @@
 -- Each step on the phase word keeps the rule.
-use Rattle.std.proofs.Common.{◌≡◌, ◌≢◌, ℕ, suc, ◌+◌, ◌-◌, ◌/◌, ◌%◌, ◌^◌, ◌<◌, ◌≤◌, true, cond, List, length, get_or, set, refl, ap, sym, subst, ◌∙◌, arith, length-set}
+use Rattle.std.proofs.Common.{◌≡◌, ℕ, suc, ◌+◌, ◌-◌, ◌%◌, ◌^◌, ◌<◌, true, cond, List, length, get_or, set, refl, ap, ◌∙◌, arith, length-set}
 use Rattle.std.specs.Prelude as std
 use Rattle.std.specs.Int.Bits.{bit_and, bit_or, bit_xor}
 use mathlib.Core.Logic.{dite}
 use mathlib.Core.Option.{none, some}
 use native.Mathlib.Decide.{ℕ_discrete, dec_lt}
 use lib.ListN.{get_elem?}
-use lib.Seq.{set-get_or}
 use Rattle.atomic_table.specs.Table.{step, keeps, stepped, Allows}
 use Rattle.atomic_table.proofs.Lists.{at_map}
 use Rattle.seat_guard.specs.declared.layout.TheConstants.{PHASE}
 use Rattle.seat_guard.specs.declared.view.Held.{Held as HeldEdge}
 use Rattle.seat_guard.specs.declared.view.Share.TheVariants.{Nothing, Held, Owed}
 use Rattle.seat_guard.specs.declared.view.Hold.TheVariants.{Free, Claimed, Holding}
-use Rattle.seat_guard.specs.declared.view.Draws.{Draws}
 use Rattle.seat_guard.specs.declared.view.Shares.{Shares}
-use Rattle.seat_guard.specs.declared.view.View.{View}
 use Rattle.seat_guard.specs.Allots.{parts_of}
 use Rattle.seat_guard.specs.Layout.{words_of}
-use Rattle.seat_guard.specs.Phase.{Footing, Phase, bit, footing_of, full_of, on, op_weight, ops_of, order_bit, order_of, full_bit, passed, saw, walk_weight, walks_of}
+use Rattle.seat_guard.specs.Phase.{Footing, Phase, footing_of, on, op_weight, ops_of, order_bit, order_of, full_bit, passed, saw, walk_weight, walks_of}
 use Rattle.seat_guard.specs.PhasePlays.{full_claimed, full_cleared, full_looked, op_entered, op_left, order_claimed, order_cleared, order_looked, walk_entered, walk_left}
 use Rattle.seat_guard.specs.Rule.{footings_in}
 use Rattle.function_laws.specs.Sizes.{Orders}

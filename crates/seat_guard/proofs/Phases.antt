@@ -7,7 +7,6 @@ use Rattle.seat_guard.specs.declared.view.Share.{Share}
 use Rattle.seat_guard.specs.declared.view.Share.TheVariants.{Nothing, Held, Owed}
 use Rattle.seat_guard.specs.declared.view.Hold.{Hold}
 use Rattle.seat_guard.specs.declared.view.Hold.TheVariants.{Free, Claimed, Holding}
-use Rattle.seat_guard.specs.declared.view.Shares.{Shares}
 use Rattle.seat_guard.specs.Phase.{Footing, weight, share, bit, hold, op_weight, op_share, walk_weight, walk_share, order_bit, order_hold, full_bit, full_hold, part, Phase, HasNoShare, total, saw, passed, on, ops_of, walks_of, order_of, full_of}
 use Rattle.seat_guard.proofs.RowCounts.{at_end, each_set}
 use Rattle.seat_guard.proofs.Totals.{total_le, total-append, total-set, total-has, total-two}

@@ -4,4 +4,6 @@
 #[cfg(test)]
 mod boards;
 #[cfg(test)]
+mod tokens;
+#[cfg(test)]
 mod turns;

@@ -1,7 +1,8 @@
 //! Two sessions, each in a thread, take turns.
 
 ghost use Rattle.std.specs.Prelude.{◌≡◌, ◌+◌, ◌<◌, ◌^◌, ◌≤◌, List, [], length, None, replicate, IfOk};
-ghost use Rattle.seat_guard.specs.Passes.{known, IsIdle};
+ghost use Rattle.seat_guard.specs.Passes.{known, shares, IsIdle};
+ghost use Rattle.seat_guard.specs.Phase.{HasNoShare};
 
 use seat_guard::content::Content;
 use seat_guard::opening::open;
@@ -16,8 +17,8 @@ use std::thread::{Threads, join};
 
 /// What they share: how often the turn was taken.
 #[derive(Drop)]
-struct Tally {
-    turns: u64,
+pub(crate) struct Tally {
+    pub(crate) turns: u64,
 }
 
 impl Content for Tally {
@@ -45,6 +46,7 @@ fn turn<R: Wait>(rt: &R, guard: &Guard<Tally>, pass: &mut Pass<Tally>) -> u64
     requires room { length (known pass.old).entries < 2 ^ 48 }
     ensures idle { IsIdle guard.now pass.new }
     ensures session { (known pass.new).session ≡ (known pass.old).session }
+    ensures stands { shares pass.new ≡ shares pass.old }
     ensures more { length (known pass.new).entries ≡ length (known pass.old).entries + 1 }
 {
     let mut tally = guard.take(rt, pass);
@@ -63,7 +65,9 @@ fn turns<R: Wait>(
 ) -> (Pass<Tally>, u32)
     requires idle { IsIdle guard.now pass }
     requires new { (known pass).entries ≡ [] }
+    requires unshared { HasNoShare (shares pass) }
     ensures idle { IsIdle guard.now result.0 }
+    ensures unshared { HasNoShare (shares result.0) }
     ensures session { (known result.0).session ≡ (known pass).session }
 {
     let mut last = None;
@@ -101,12 +105,12 @@ fn two<R: Threads + Wait + Sync>(rt: &R, alloc: Global, times: u32) -> Result<To
     let ((first, low), (second, high)) = join(
         rt,
         move || -> (Pass<Tally>, u32)
-            requires { IsIdle shared.now first × ((known first).entries ≡ []) × ((known first).session ≡ 0) }
-            ensures { IsIdle shared.entry.now result.0 × ((known result.0).session ≡ 0) }
+            requires { IsIdle shared.now first × ((known first).entries ≡ []) × HasNoShare (shares first) × ((known first).session ≡ 0) }
+            ensures { IsIdle shared.entry.now result.0 × HasNoShare (shares result.0) × ((known result.0).session ≡ 0) }
         { turns(rt, shared, first, times) },
         move || -> (Pass<Tally>, u32)
-            requires { IsIdle shared.now second × ((known second).entries ≡ []) × ((known second).session ≡ 1) }
-            ensures { IsIdle shared.entry.now result.0 × ((known result.0).session ≡ 1) }
+            requires { IsIdle shared.now second × ((known second).entries ≡ []) × HasNoShare (shares second) × ((known second).session ≡ 1) }
+            ensures { IsIdle shared.entry.now result.0 × HasNoShare (shares result.0) × ((known result.0).session ≡ 1) }
         { turns(rt, shared, second, times) },
     );
     guard.join(&mut closing, first);

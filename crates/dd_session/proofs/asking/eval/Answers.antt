@@ -6,7 +6,6 @@ use Rattle.function_laws.specs.declared.history.Call.TheVariants as calls
 use Rattle.function_laws.specs.declared.history.Reply.TheVariants as replies
 use Rattle.function_laws.specs.Values.{assignment_of}
 use Rattle.node_store.specs.Listed.{number_of}
-use Rattle.edge_bits.specs.declared.edges.Kind.{Kind}
 use Rattle.node_store.specs.Views.{levels, values_at}
 use Rattle.seat_guard.specs.Passes.{known}
 use Rattle.shared_store.specs.Sharing.{view_of}

@@ -1,4 +1,4 @@
-use Rattle.std.proofs.Common.{◌≡◌, ◌↔◌, Bool, true, Result, IfOk, ap, refl, subst, sym, ◌∙◌, rules}
+use Rattle.std.proofs.Common.{◌≡◌, ◌↔◌, Bool, true, Result, IfOk, ap, refl, subst, sym, ◌∙◌}
 use Rattle.edge_bits.specs.declared.lists.Memory.{Memory}
 use Rattle.node_store.specs.Memo.{Implies}
 use Rattle.node_store.specs.Views.{bdd_at}
@@ -10,7 +10,7 @@ use Rattle.function_laws.specs.declared.history.Reply.TheVariants as replies
 use Rattle.seat_guard.specs.Passes.{known}
 use Rattle.shared_store.proofs.Lasting.{serves-lasts}
 use Rattle.dd_session.specs.declared.request.Request.TheVariants as requests
-use Rattle.dd_session.proofs.Calls.{called, took_of, same_table, seat_of}
+use Rattle.dd_session.proofs.Calls.{called, took_of}
 use Rattle.dd_session.proofs.OperationLaws.{gives_leq, two_held}
 use Rattle.dd_session.proofs.Serving.{serves-same}
 use Rattle.dd_session.proofs.Tellings.{knows_quiet, may_tell_truth, quiet}

@@ -1,8 +1,7 @@
-use Rattle.std.proofs.Common.{◌≡◌, ◌+◌, ◌<◌, Some, ap, subst, sym, ◌∙◌, MatchResult}
-use Rattle.seat_guard.specs.Passes.{known}
+use Rattle.std.proofs.Common.{ap, subst, sym, ◌∙◌}
 use Rattle.dd_session.specs.Sessions.{Seen}
-use Rattle.dd_session.specs.Turns.{HasPlace, seen_of}
-use Rattle.dd_session.proofs.AtRest.{idle_still, keeps_still, kept_then, seen_still, unshared_still}
+use Rattle.dd_session.specs.Turns.{HasPlace}
+use Rattle.dd_session.proofs.AtRest.{idle_still, keeps_still, seen_still}
 use Rattle.function_laws.specs.declared.history.Call.TheVariants as calls
 use Rattle.function_laws.specs.declared.history.Reply.TheVariants as replies
 use Rattle.dd_session.specs.Sessions.{Called, IsNamed}

@@ -1,8 +1,6 @@
-use Rattle.std.proofs.Common.{ap, subst, sym, ◌∙◌, MatchResult}
-use Rattle.seat_guard.specs.Passes.{known}
+use Rattle.std.proofs.Common.{subst, sym, MatchResult}
 use Rattle.dd_session.specs.Sessions.{Seen}
-use Rattle.dd_session.specs.Turns.{seen_of}
-use Rattle.dd_session.proofs.AtRest.{idle_still, keeps_still, kept_then, seen_still, unshared_still}
+use Rattle.dd_session.proofs.AtRest.{idle_still, keeps_still, seen_still}
 use Rattle.std.specs.List.{All}
 use Rattle.dd_session.specs.Sessions.{IsAsBefore, IsNamed}
 use Rattle.dd_session.specs.Listings.{IsListed}

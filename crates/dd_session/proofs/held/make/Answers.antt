@@ -1,11 +1,8 @@
-use Rattle.std.proofs.Common.{◌≡◌, List, ℕ, Some, None, ap, subst, sym, ◌∙◌}
-use Rattle.std.specs.Prelude.{IfNone, IfSome}
-use Rattle.function_laws.specs.declared.history.Name.{Name}
-use Rattle.operator_calls.specs.Making.{work}
+use Rattle.std.proofs.Common.{Some, None, ap, subst, sym, ◌∙◌}
+use Rattle.std.specs.Prelude.{IfSome}
 use Rattle.operator_calls.specs.Taking.{of_lent}
-use Rattle.seat_guard.specs.Passes.{known}
 use Rattle.seat_guard.specs.declared.view.Draws.{Draws}
-use Rattle.dd_session.specs.MadeRows.{Awaits, HasTaken, MakesOrTells, by_edges}
+use Rattle.dd_session.specs.MadeRows.{HasTaken, MakesOrTells, by_edges}
 use Rattle.dd_session.specs.Sessions.{Seen}
 use Rattle.dd_session.specs.Turns.{HasPlace, seen_of}
 use Rattle.dd_session.proofs.AtRest.{idle_still, keeps_still, seen_still}

@@ -1,8 +1,7 @@
-use Rattle.std.proofs.Common.{◌≡◌, ◌+◌, ◌<◌, Some, ap, subst, sym, ◌∙◌, MatchResult}
-use Rattle.seat_guard.specs.Passes.{known}
+use Rattle.std.proofs.Common.{Some, ap, subst, sym, ◌∙◌}
 use Rattle.dd_session.specs.Sessions.{Seen}
 use Rattle.dd_session.specs.Turns.{HasPlace, seen_of}
-use Rattle.dd_session.proofs.AtRest.{idle_still, keeps_still, kept_then, seen_still, unshared_still}
+use Rattle.dd_session.proofs.AtRest.{idle_still, keeps_still, kept_then, seen_still}
 use Rattle.std.specs.Prelude.{IfSome}
 use Rattle.operator_calls.specs.Taking.{of_lent}
 use Rattle.dd_session.specs.MadeRows.{HasTaken, MakesOrTells, by_edges}

@@ -1,8 +1,7 @@
-use Rattle.std.proofs.Common.{◌≡◌, ◌+◌, ◌<◌, Some, ap, subst, sym, ◌∙◌, MatchResult}
-use Rattle.seat_guard.specs.Passes.{known}
+use Rattle.std.proofs.Common.{◌≡◌, subst, sym}
 use Rattle.dd_session.specs.Sessions.{Seen}
-use Rattle.dd_session.specs.Turns.{HasPlace, levels_in, seen_of}
-use Rattle.dd_session.proofs.AtRest.{idle_still, keeps_still, kept_then, seen_still, unshared_still}
+use Rattle.dd_session.specs.Turns.{HasPlace, levels_in}
+use Rattle.dd_session.proofs.AtRest.{idle_still, keeps_still, kept_then, seen_still}
 use Rattle.dd_session.specs.Siftings.{SiftsLevels}
 use Rattle.seat_guard.specs.declared.view.Draws.{Draws}
 use Rattle.group_sift.specs.Turns.{last_end}

@@ -1,13 +1,10 @@
-use Rattle.std.proofs.Common.{◌+◌, ◌<◌, ap, sym, subst, ◌∙◌, arith}
+use Rattle.std.proofs.Common.{ap, sym, ◌∙◌, arith}
 use Rattle.handle_count.specs.RowMaps.{RowMap}
 use Rattle.seat_guard.specs.Passes.{known}
 use Rattle.shared_store.specs.Reordering.{swap_call}
 use Rattle.shared_store.proofs.Lasting.{serves-under}
-use Rattle.dd_session.specs.Reorderings.{IsSwapOf, crowded_in, levels_of}
-use Rattle.dd_session.specs.Sessions.{Seen}
-use Rattle.dd_session.specs.Turns.{seen_of}
-use Rattle.dd_session.proofs.Calls.{same_table, took_of}
-use Rattle.dd_session.proofs.Swappings.{found_swap, levels_are, levels_known, numbers_taken, swap_of, swap_stored, told_swap}
+use Rattle.dd_session.proofs.Calls.{took_of}
+use Rattle.dd_session.proofs.Swappings.{found_swap, levels_are, numbers_taken, swap_of, swap_stored, told_swap}
 use Rattle.dd_session.proofs.reordering.swap_at.Goals as goal
 
 pub settle_swap-requires-clause-serves : goal.settle_swap-requires-clause-serves

@@ -3,7 +3,7 @@ use Rattle.function_laws.specs.declared.history.Call.TheVariants as calls
 use Rattle.function_laws.specs.declared.history.Reply.TheVariants as replies
 use Rattle.seat_guard.specs.Passes.{known}
 use Rattle.dd_session.specs.Turns.{Took}
-use Rattle.dd_session.proofs.Calls.{called, took_of, same_table, seat_of}
+use Rattle.dd_session.proofs.Calls.{called, took_of}
 use Rattle.dd_session.proofs.Outcomes.{gives_copy, is_kind}
 use Rattle.dd_session.proofs.Turning.{notes_nothing}
 use Rattle.dd_session.proofs.seated.copy.Goals as goal

@@ -1,4 +1,4 @@
-use Rattle.std.proofs.Common.{refl, ap, sym, subst, ◌∙◌, arith, length, rules}
+use Rattle.std.proofs.Common.{refl, ap, sym, subst, ◌∙◌, arith, length}
 use Rattle.function_laws.specs.declared.history.Call.TheVariants as calls
 use Rattle.function_laws.specs.declared.history.Reply.TheVariants as replies
 use Rattle.seat_guard.specs.Passes.{known}
@@ -6,9 +6,8 @@ use Rattle.seat_guard.specs.Views.{stands_for, without}
 use Rattle.seat_guard.specs.declared.view.Change.TheVariants.{Takes}
 use Rattle.seat_guard.specs.declared.view.Draws.{Draws}
 use Rattle.shared_store.proofs.Stored.{functions-recounted}
-use Rattle.dd_session.specs.Turns.{Tied, Took, IsReady}
-use Rattle.dd_session.specs.Sessions.{IsLive, Seen}
-use Rattle.dd_session.proofs.Calls.{called, took_of, same_table}
+use Rattle.dd_session.specs.Turns.{Tied, Took}
+use Rattle.dd_session.proofs.Calls.{called, took_of}
 use Rattle.dd_session.proofs.Naming.{finds_row, finds_some}
 use Rattle.dd_session.proofs.Serving.{serves-taken}
 use Rattle.dd_session.proofs.Tellings.{knows_dropped, may_drop}

@@ -10,7 +10,7 @@ use Rattle.seat_guard.specs.Views.{cell_in}
 use Rattle.shared_store.specs.declared.shared.Cell.{Cell}
 use Rattle.shared_store.specs.Sharing.{view_of}
 use Rattle.dd_session.specs.Turns.{Took}
-use Rattle.dd_session.proofs.Calls.{called, took_of, same_table, seat_of}
+use Rattle.dd_session.proofs.Calls.{called, took_of}
 use Rattle.dd_session.proofs.Outcomes.{cell-known, is_kind, stands_held_as}
 use Rattle.dd_session.proofs.Tellings.{outcome-of_fetch}
 use Rattle.dd_session.proofs.Turning.{cell-board, cell-kept, notes_nothing}

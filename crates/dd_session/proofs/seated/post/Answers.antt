@@ -1,4 +1,4 @@
-use Rattle.std.proofs.Common.{◌≡◌, ℕ, Some, refl, ap, sym, ◌∙◌, arith, length, set, rules}
+use Rattle.std.proofs.Common.{◌≡◌, ℕ, Some, refl, ap, sym, ◌∙◌, arith, length, set}
 use Rattle.std.specs.Prelude.{slice_get}
 use Rattle.edge_bits.specs.declared.edges.Kind.{Kind}
 use Rattle.function_laws.specs.declared.history.Call.TheVariants as calls
@@ -11,7 +11,7 @@ use Rattle.seat_guard.specs.declared.view.Draws.{Draws}
 use Rattle.shared_store.specs.declared.shared.Cell.{Cell}
 use Rattle.shared_store.specs.Sharing.{count_at_cell, functions_below, held_of, view_of, whole_of}
 use Rattle.dd_session.specs.Turns.{Took, sizes_in}
-use Rattle.dd_session.proofs.Calls.{called, stands_taken, took_of, same_table, seat_of}
+use Rattle.dd_session.proofs.Calls.{called, stands_taken, took_of}
 use Rattle.dd_session.proofs.Outcomes.{is_kind, listed-known, stands_held_as}
 use Rattle.dd_session.proofs.Serving.{keeps-on, serves-posted}
 use Rattle.dd_session.proofs.Tellings.{knows_posted, listed-same, may_post, row-kept}

@@ -1,4 +1,4 @@
-use Rattle.std.proofs.Common.{refl, sym, ◌∙◌, rules}
+use Rattle.std.proofs.Common.{refl, sym, ◌∙◌}
 use Rattle.function_laws.specs.declared.history.Call.TheVariants as calls
 use Rattle.function_laws.specs.declared.history.Reply.TheVariants as replies
 use Rattle.node_store.specs.Listed.{listed_at}
@@ -6,7 +6,7 @@ use Rattle.seat_guard.specs.Passes.{known}
 use Rattle.shared_store.specs.Sharing.{view_of}
 use Rattle.dd_session.specs.declared.request.Request.TheVariants as requests
 use Rattle.dd_session.specs.Turns.{Took}
-use Rattle.dd_session.proofs.Calls.{called, stands_taken, took_of, same_table, seat_of}
+use Rattle.dd_session.proofs.Calls.{called, stands_taken, took_of}
 use Rattle.dd_session.proofs.Outcomes.{gives_same, same_told}
 use Rattle.dd_session.proofs.Tellings.{may_compare, quiet}
 use Rattle.dd_session.proofs.Turning.{drew_nothing, kept_book, stores_same}

@@ -1,13 +1,12 @@
-use Rattle.std.proofs.Common.{refl, ap, sym, ◌∙◌, rules, subst}
+use Rattle.std.proofs.Common.{refl, ap, sym, ◌∙◌}
 use Rattle.function_laws.specs.declared.history.Call.TheVariants as calls
 use Rattle.function_laws.specs.declared.history.Reply.TheVariants as replies
 use Rattle.seat_guard.specs.declared.view.Draws.{Draws}
 use Rattle.seat_guard.specs.Passes.{known}
 use Rattle.shared_store.proofs.Lasting.{serves-lasts}
 use Rattle.dd_session.specs.declared.request.Request.TheVariants as requests
-use Rattle.dd_session.specs.Works.{HasRows}
 use Rattle.shared_store.specs.Sharing.{view_of}
-use Rattle.dd_session.proofs.Calls.{called, has_rows, stands_taken, took_of, same_table}
+use Rattle.dd_session.proofs.Calls.{called, has_rows, stands_taken, took_of}
 use Rattle.node_slots.specs.Wholes.{content_view}
 use Rattle.dd_session.proofs.Serving.{serves-same}
 use Rattle.dd_session.proofs.Sweepings.{swept_beside}

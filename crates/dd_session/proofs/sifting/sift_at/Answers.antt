@@ -1,16 +1,11 @@
-use Rattle.std.proofs.Common.{◌≡◌, refl, ap, sym, subst, ◌∙◌}
+use Rattle.std.proofs.Common.{refl, ap, sym, ◌∙◌}
 use Rattle.function_laws.specs.declared.history.Reply.TheVariants as replies
-use Rattle.group_sift.specs.Turns.{last_end}
 use Rattle.handle_count.specs.RowMaps.{RowMap}
 use Rattle.seat_guard.specs.Passes.{known}
 use Rattle.shared_store.specs.Sifting.{sift_call, sifting_of}
-use Rattle.dd_session.specs.Reorderings.{levels_of}
-use Rattle.dd_session.specs.Sessions.{Called, Seen}
-use Rattle.dd_session.specs.Siftings.{IsSiftTold}
-use Rattle.dd_session.specs.Turns.{seen_of}
-use Rattle.dd_session.proofs.Calls.{called, same_table, took_of}
+use Rattle.dd_session.proofs.Calls.{called, took_of}
 use Rattle.dd_session.proofs.SiftTellings.{found_sift, sift_told}
-use Rattle.dd_session.proofs.Swappings.{levels_are, levels_known}
+use Rattle.dd_session.proofs.Swappings.{levels_are}
 use Rattle.dd_session.proofs.sifting.sift_at.Goals as goal
 
 pub sift_shared-requires-clause-end : goal.sift_shared-requires-clause-end

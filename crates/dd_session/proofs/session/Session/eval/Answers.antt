@@ -1,4 +1,4 @@
-use Rattle.std.proofs.Common.{◌≡◌, ◌≤◌, ℕ, ap, length, subst, sym, ◌∙◌}
+use Rattle.std.proofs.Common.{◌≤◌, ℕ, ap, length, subst, sym, ◌∙◌}
 use Rattle.edge_bits.specs.declared.edges.Kind.{Kind}
 use Rattle.function_laws.specs.declared.history.Call.TheVariants as calls
 use Rattle.function_laws.specs.declared.history.Reply.TheVariants as replies
@@ -7,7 +7,6 @@ use Rattle.dd_session.specs.Sessions.{Called, HasRoom, IsLiveAs, Seen}
 use Rattle.dd_session.specs.Turns.{seen_of}
 use Rattle.dd_session.specs.Walking.{bits_of}
 use Rattle.dd_session.proofs.AtRest.{has_seat, idle_at, ready_at, rests, seen_at}
-use Rattle.dd_session.proofs.Outcomes.{read_many}
 use Rattle.dd_session.proofs.session.Session.eval.Goals as goal
 
 pub take_seat-pass-requires : goal.take_seat-pass-requires

@@ -1,11 +1,11 @@
-use Rattle.std.proofs.Common.{◌≡◌, ◌+◌, ◌<◌, ◌≤◌, ℕ, All, ap, length, subst, sym, ◌∙◌, MatchResult}
+use Rattle.std.proofs.Common.{ap, subst, sym, ◌∙◌, MatchResult}
 use Rattle.function_laws.specs.declared.history.Call.TheVariants as calls
 use Rattle.function_laws.specs.declared.history.Reply.TheVariants as replies
 use Rattle.handle_count.specs.RowMaps.{RowMap}
 use Rattle.edge_bits.specs.declared.edges.Kind.TheVariants as kinds
 use Rattle.dd_session.specs.Sessions.{Called, HasRoom, IsAsBefore, IsLiveAs, Seen}
 use Rattle.dd_session.specs.Turns.{seen_of}
-use Rattle.dd_session.proofs.AtRest.{has_seat, idle_at, ready_at, rests, seen_at, unshared_still}
+use Rattle.dd_session.proofs.AtRest.{has_seat, idle_at, ready_at, rests, seen_at}
 use Rattle.dd_session.proofs.session.Session.leq.Goals as goal
 
 pub take_seat-pass-requires : goal.take_seat-pass-requires

@@ -1,9 +1,9 @@
-use Rattle.std.proofs.Common.{◌≡◌, ◌+◌, ◌<◌, ◌≤◌, ℕ, All, ap, length, subst, sym, ◌∙◌, MatchResult}
+use Rattle.std.proofs.Common.{All, ap, subst, sym, MatchResult}
 use Rattle.edge_bits.specs.declared.edges.Kind.TheVariants as kinds
 use Rattle.dd_session.specs.Listings.{IsListed}
 use Rattle.dd_session.specs.Sessions.{IsAsBefore, IsLiveAs, Seen}
 use Rattle.dd_session.specs.Turns.{seen_of}
-use Rattle.dd_session.proofs.AtRest.{has_seat, idle_at, ready_at, rests, seen_at, unshared_still}
+use Rattle.dd_session.proofs.AtRest.{has_seat, idle_at, ready_at, rests, seen_at}
 use Rattle.dd_session.proofs.session.Session.list.Goals as goal
 
 pub take_seat-pass-requires : goal.take_seat-pass-requires

@@ -4,7 +4,6 @@ use Rattle.dd_session.specs.MadeRows.{HasTaken, MakesOrTells, by_edges}
 use Rattle.dd_session.specs.Sessions.{HasRoom, Seen}
 use Rattle.dd_session.specs.Turns.{seen_of}
 use Rattle.dd_session.proofs.AtRest.{has_seat, idle_at, ready_at, rests, seen_at}
-use Rattle.dd_session.proofs.Makings.{nothing_made}
 use Rattle.dd_session.proofs.session.Session.make.Goals as goal
 
 pub take_seat-pass-requires : goal.take_seat-pass-requires

@@ -1,4 +1,4 @@
-use Rattle.std.proofs.Common.{◌≡◌, ◌+◌, ◌<◌, ◌≤◌, ℕ, All, ap, length, subst, sym, ◌∙◌, MatchResult}
+use Rattle.std.proofs.Common.{ap, subst, sym, ◌∙◌}
 use Rattle.function_laws.specs.declared.history.Call.TheVariants as calls
 use Rattle.function_laws.specs.declared.history.Reply.TheVariants as replies
 use Rattle.edge_bits.specs.declared.edges.Kind.{Kind}

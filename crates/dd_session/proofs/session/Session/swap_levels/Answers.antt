@@ -1,10 +1,10 @@
-use Rattle.std.proofs.Common.{◌≡◌, ◌+◌, ◌<◌, ◌≤◌, ℕ, All, ap, length, subst, sym, ◌∙◌, MatchResult, arith}
+use Rattle.std.proofs.Common.{◌+◌, ◌<◌, subst, sym, arith}
 use Rattle.dd_session.specs.Reorderings.{SwapsLevels, levels_of}
-use Rattle.dd_session.specs.Sessions.{Called, HasRoom, IsLiveAs, Seen}
+use Rattle.dd_session.specs.Sessions.{HasRoom, Seen}
 use Rattle.dd_session.specs.Turns.{seen_of}
 use Rattle.seat_guard.specs.Passes.{known}
 use Rattle.dd_session.proofs.Swappings.{levels_known}
-use Rattle.dd_session.proofs.AtRest.{has_seat, idle_at, ready_at, rests, seen_at, unshared_still}
+use Rattle.dd_session.proofs.AtRest.{has_seat, idle_at, ready_at, rests, seen_at}
 use Rattle.dd_session.proofs.session.Session.swap_levels.Goals as goal
 
 pub take_seat-pass-requires : goal.take_seat-pass-requires

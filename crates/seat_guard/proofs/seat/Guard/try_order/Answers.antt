@@ -1,5 +1,4 @@
 use Rattle.std.proofs.Common.{rules, ap, ◌∙◌}
-use Rattle.seat_guard.specs.Phase.{bit}
 use Rattle.seat_guard.proofs.PhaseSteps.{order_claims, order_looks}
 use Rattle.seat_guard.proofs.seat.Guard.try_order.Goals as goal
 
