@@ -22,13 +22,11 @@ ghost use Rattle.dd_session.specs.Walking.{bits_of};
 ghost use Rattle.dd_session.specs.Works.{IsSweepAsked, StoresNothing};
 
 use crate::answers::{Full, Placed, Refusal};
-use crate::asking;
 use crate::book::Book;
-use crate::listing;
 use crate::making::make_once;
 use crate::reordering::swap_at;
-use crate::seated;
 use crate::sifting::sift_at;
+use crate::{asking, listing, seated};
 use dead_sweep::Swept;
 use diagram_dumps::Listing;
 use edge_bits::{Edge, Kind, Memory};

@@ -12,10 +12,9 @@ ghost use Rattle.dd_session.specs.Managing.{is_posted};
 ghost use Rattle.dd_session.specs.Reorderings.{levels_of};
 
 use crate::answers::{Fetched, Placed};
-use crate::held;
 use crate::manager::Manager;
-use crate::seated;
 use crate::session::{Session, take_seat};
+use crate::{held, seated};
 use dead_sweep::Swept;
 use diagram_dumps::Listing;
 use edge_bits::{Kind, Memory};

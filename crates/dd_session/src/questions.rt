@@ -74,7 +74,16 @@ impl Session {
         let kind = self.kind(f);
         let count = bits_read(manager, kind);
         let pass = take_seat(&mut self.seat);
-        let (pass, placed) = held::eval(rt, &manager.guard, pass, &mut self.book, kind, f, bits, count);
+        let (pass, placed) = held::eval(
+            rt,
+            &manager.guard,
+            pass,
+            &mut self.book,
+            kind,
+            f,
+            bits,
+            count,
+        );
         self.seat = Some(pass);
         Ok(placed)
     }

@@ -115,10 +115,7 @@ impl<S: Content> Guard<S> {
         if found / ORDER % 2 != 0 {
             return Err((pass, Busy { phase: found }));
         }
-        let found = self
-            .table
-            .shared
-            .load::<LookOrder>(&mut pass.seat, PHASE);
+        let found = self.table.shared.load::<LookOrder>(&mut pass.seat, PHASE);
         if found % WALK == 0 {
             return Ok(OrderHold { pass });
         }

@@ -81,10 +81,10 @@ impl<S: Content> Guard<S> {
         let backoff = Backoff::new();
         for _ in rt.forever() {
             if self.table.shared.peek(PHASE) / ORDER % 2 == 0 {
-                let found =
-                    self.table
-                        .shared
-                        .fetch_or::<ClaimOrder>(&mut pass.seat, PHASE, ORDER);
+                let found = self
+                    .table
+                    .shared
+                    .fetch_or::<ClaimOrder>(&mut pass.seat, PHASE, ORDER);
                 if found / ORDER % 2 == 0 {
                     return;
                 }
@@ -102,10 +102,7 @@ impl<S: Content> Guard<S> {
         let backoff = Backoff::new();
         for _ in rt.forever() {
             if self.table.shared.peek(PHASE) % WALK == 0 {
-                let found = self
-                    .table
-                    .shared
-                    .load::<LookOrder>(&mut pass.seat, PHASE);
+                let found = self.table.shared.load::<LookOrder>(&mut pass.seat, PHASE);
                 if found % WALK == 0 {
                     return;
                 }

@@ -79,11 +79,12 @@ returns-then-awaits-clause-waits g c =
     let gave = c.put_back.ensures.gave in
     let d = known c.args.pass.now in
     let e = known c.start.new.pass in
-    let x = c.in-Ok.shared in
-    (
+    let x = c.in-Ok.shared in (
       c.awaits.ensures.first c.if-awaits.true,
-      (as_before d e (known c.put_back.new.pass) x c.args.pass.now.seat.table_id c.put_back.new.pass.seat.table_id c.args.book.now.rows.spare c.start.new.book.rows.spare gave.0 (c.put_back.ensures.own.0 ∙ sym c.requires.idle.0) (let s = c.in-Ok.ensures.spare in omega (arith, s)) c.in-Ok.ensures.took gave.1,
-      c.in-Ok.ensures.spare,
-      subst (λ (by : Making Edge (List ℕ) (List (ℕ × Edge))). (f : Function) → Contains (known c.put_back.new.pass).stored f → (o : Orders) × IsOfWork (seen_of c.args.pass.now c.args.book.now) o (work by) f) c.requires.same
-          (stored_ran d e (known c.put_back.new.pass) x c.try_of-shared.result.0 c.args.pass.now.seat.table_id c.args.book.now.rows.spare c.try_of-shared.result.1 c.in-Ok.ensures.took (told_by (of_lent c.args.edges.now)) (work (of_lent c.args.edges.now)) ran gave.0 (ap (λ (z : Draws). z.stored) gave.1) gave.2)),
+      (
+        as_before d e (known c.put_back.new.pass) x c.args.pass.now.seat.table_id c.put_back.new.pass.seat.table_id c.args.book.now.rows.spare c.start.new.book.rows.spare gave.0 (c.put_back.ensures.own.0 ∙ sym c.requires.idle.0) (let s = c.in-Ok.ensures.spare in omega (arith, s)) c.in-Ok.ensures.took gave.1,
+        c.in-Ok.ensures.spare,
+        subst (λ (by : Making Edge (List ℕ) (List (ℕ × Edge))). (f : Function) → Contains (known c.put_back.new.pass).stored f → (o : Orders) × IsOfWork (seen_of c.args.pass.now c.args.book.now) o (work by) f) c.requires.same
+            (stored_ran d e (known c.put_back.new.pass) x c.try_of-shared.result.0 c.args.pass.now.seat.table_id c.args.book.now.rows.spare c.try_of-shared.result.1 c.in-Ok.ensures.took (told_by (of_lent c.args.edges.now)) (work (of_lent c.args.edges.now)) ran gave.0 (ap (λ (z : Draws). z.stored) gave.1) gave.2),
+      ),
     )

@@ -35,9 +35,11 @@ pub with_literal-requires-clause-row : goal.with_literal-requires-clause-row
 with_literal-requires-clause-row g c =
     let some = some_values (g.H.Host.standing c.args.session.now) c.args.rows.now c.args.ins.now c.requires.rows in
     let before = c.loop-at.at - 1 in
-    let f = some.0 (get_or c.args.ins.now before 0) in
-    (f, given_kept true _ _ c.loop-at.product c.row_of-row.result (match_at some.0 (drop c.loop-at.at c.args.ins.now) (drop c.loop-at.at c.args.literals.now)) f (c.loop-at.invariant.up some.0 some.1)
-    (row_holds _ c.args.rows.now c.args.ins.now some.0 before c.row_of-row.result some.1 (omega (arith, c.loop-at.invariant.read, c.loop-at-test.true)) c.row_of-row.ensures))
+    let f = some.0 (get_or c.args.ins.now before 0) in (
+      f,
+      given_kept true _ _ c.loop-at.product c.row_of-row.result (match_at some.0 (drop c.loop-at.at c.args.ins.now) (drop c.loop-at.at c.args.literals.now)) f (c.loop-at.invariant.up some.0 some.1)
+          (row_holds _ c.args.rows.now c.args.ins.now some.0 before c.row_of-row.result some.1 (omega (arith, c.loop-at.invariant.read, c.loop-at-test.true)) c.row_of-row.ensures),
+    )
 
 pub with_literal-requires-clause-product : goal.with_literal-requires-clause-product
 with_literal-requires-clause-product g c =

@@ -71,7 +71,7 @@ pub returns-in-Made-clause-back : goal.returns-in-Made-clause-back
 returns-in-Made-clause-back g c =
     let some = some_values (g.H.Host.standing c.args.session.now) c.args.rows.now c.args.ins.now c.requires.rows in
     let added = all_added g.H.Host.standing c.args.session.now c.loop-cube.session c.args.rows.now c.args.ins.now c.args.cubes.now c.loop-cube.cube-index c.loop-cube.sum _
-        (omega (arith, c.loop-cube.auto.cube-index-end, c.loop-cube-test.false)) (c.in-Some.is ∙ ap Some c.in-Made.is) c.loop-cube.invariant.up in
+    (omega (arith, c.loop-cube.auto.cube-index-end, c.loop-cube-test.false)) (c.in-Some.is ∙ ap Some c.in-Made.is) c.loop-cube.invariant.up in
     comes_given g.H.Host.has g.H.Host.standing g.H.Host.tells c.args.host.now c.args.session.now c.loop-cube.session (Made c.in-Made.name) (match_any some.0 c.args.ins.now c.args.cubes.now) c.in-Made.name
     c.loop-cube.invariant.own (added some.0 some.1)
 
@@ -100,7 +100,7 @@ returns-in-Given-clause-made g c =
     let new = g.H.Host.standing c.conjunction.new.session in
     let given = c.in-Given.name in
     let added = all_added g.H.Host.standing c.args.session.now c.loop-cube.session c.args.rows.now c.args.ins.now c.args.cubes.now c.loop-cube.cube-index c.loop-cube.sum _
-        (omega (arith, c.loop-cube.auto.cube-index-end, c.loop-cube-test.false)) (c.in-Some.is ∙ ap Some c.in-Given.is) c.loop-cube.invariant.up in
+    (omega (arith, c.loop-cube.auto.cube-index-end, c.loop-cube-test.false)) (c.in-Some.is ∙ ap Some c.in-Given.is) c.loop-cube.invariant.up in
     ok_weaker (λ name. (a b : ℕ → Bool) → Holds now given a → Holds now given b → Makes now new name (conjunction a b))
     (λ name. (values : ℕ → ℕ → Bool) → HaveValues start c.args.rows.now values c.args.ins.now → Makes start new name (match_any values c.args.ins.now c.args.cubes.now))
     (λ name made values have.
@@ -114,7 +114,7 @@ pub returns-in-Given-clause-back : goal.returns-in-Given-clause-back
 returns-in-Given-clause-back g c =
     let some = some_values (g.H.Host.standing c.args.session.now) c.args.rows.now c.args.ins.now c.requires.rows in
     let added = all_added g.H.Host.standing c.args.session.now c.loop-cube.session c.args.rows.now c.args.ins.now c.args.cubes.now c.loop-cube.cube-index c.loop-cube.sum _
-        (omega (arith, c.loop-cube.auto.cube-index-end, c.loop-cube-test.false)) (c.in-Some.is ∙ ap Some c.in-Given.is) c.loop-cube.invariant.up in
+    (omega (arith, c.loop-cube.auto.cube-index-end, c.loop-cube-test.false)) (c.in-Some.is ∙ ap Some c.in-Given.is) c.loop-cube.invariant.up in
     comes_behind g.H.Host.has g.H.Host.standing g.H.Host.tells c.args.host.now c.args.session.now c.loop-cube.session c.conjunction.new.session c.conjunction.result (added some.0 some.1).0 c.conjunction.ensures.back
 
 pub constant-requires : goal.constant-requires
@@ -129,7 +129,7 @@ returns-in-None-clause-made g c =
     let now = g.H.Host.standing c.loop-cube.session in
     let new = g.H.Host.standing c.constant.new.session in
     let added = all_added g.H.Host.standing c.args.session.now c.loop-cube.session c.args.rows.now c.args.ins.now c.args.cubes.now c.loop-cube.cube-index c.loop-cube.sum _
-        (omega (arith, c.loop-cube.auto.cube-index-end, c.loop-cube-test.false)) c.in-None.is c.loop-cube.invariant.up in
+    (omega (arith, c.loop-cube.auto.cube-index-end, c.loop-cube-test.false)) c.in-None.is c.loop-cube.invariant.up in
     ok_weaker (λ name. Makes now new name (constant false))
     (λ name. (values : ℕ → ℕ → Bool) → HaveValues start c.args.rows.now values c.args.ins.now → Makes start new name (match_any values c.args.ins.now c.args.cubes.now))
     (λ name made values have.
@@ -142,5 +142,5 @@ pub returns-in-None-clause-back : goal.returns-in-None-clause-back
 returns-in-None-clause-back g c =
     let some = some_values (g.H.Host.standing c.args.session.now) c.args.rows.now c.args.ins.now c.requires.rows in
     let added = all_added g.H.Host.standing c.args.session.now c.loop-cube.session c.args.rows.now c.args.ins.now c.args.cubes.now c.loop-cube.cube-index c.loop-cube.sum _
-        (omega (arith, c.loop-cube.auto.cube-index-end, c.loop-cube-test.false)) c.in-None.is c.loop-cube.invariant.up in
+    (omega (arith, c.loop-cube.auto.cube-index-end, c.loop-cube-test.false)) c.in-None.is c.loop-cube.invariant.up in
     comes_behind g.H.Host.has g.H.Host.standing g.H.Host.tells c.args.host.now c.args.session.now c.loop-cube.session c.constant.new.session c.constant.result (added some.0 some.1).0 c.constant.ensures.back
