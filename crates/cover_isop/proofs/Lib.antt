@@ -14,5 +14,4 @@ pub mod Rooms
 pub mod FunctionJoins
 pub mod IsopRuns
 pub mod FamilyJoins
-pub mod LiteralRuns
 pub mod IsopCalls

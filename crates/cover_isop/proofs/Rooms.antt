@@ -3,7 +3,8 @@ use Rattle.std.proofs.Common.{◌≡◌, ◌≤◌, Bool, true, false, refl, ap,
 use Rattle.edge_bits.specs.declared.edges.Edge.{Edge}
 use Rattle.node_store.specs.Stacks.{Scratch}
 use Rattle.node_store.specs.Views.{View, Grown}
-use Rattle.cover_isop.specs.Isops.{HasBounds, KeepsRoom, morreale_extra}
+use Rattle.zdd_ops.specs.Rooms.{KeepsRoom}
+use Rattle.cover_isop.specs.Isops.{HasBounds, morreale_extra}
 use Rattle.cover_isop.specs.IsopLasts.{morreale_extra-stays}
 
 pub keeps_none : (s : Scratch) → KeepsRoom s s

@@ -10,7 +10,6 @@ use Rattle.function_laws.specs.MorrealeCalls.{Interval, IsCall, IsWorkOfIsop, bo
 use Rattle.function_laws.specs.Values.{IsFree}
 use Rattle.function_laws.proofs.DistinctLemmas.{In}
 use Rattle.node_store.specs.Memo.{by_level}
-use Rattle.node_store.specs.Stacks.{Scratch}
 use Rattle.node_store.specs.Views.{View, AreTwo, Denotes, Is, IsTop, IsVariable, Permanent, Rose, Splits, bdd_at}
 use Rattle.node_store.specs.Work.{IsWork, Moves}
 use Rattle.node_store.specs.declared.grow.Stop.{Stop}
@@ -167,12 +166,6 @@ pub record Does {X : Type 0} (IsAnswer : X → Type 0) (lower upper : Edge) (old
   pub memory : IsErrOf outcome Memory → old.may_want_memory ≡ true
   pub full : IsErrOf outcome Full → Rose old new
   pub due : IsErrOf outcome Full → IsWork new (isop_work lower upper new) new.due
-
--- a step leaves the frames of the scratch, and its room
-pub record KeepsRoom (old new : Scratch) : Type 0 where
-  pub frames : new.frames ≡ old.frames
-  pub free : new.free ≡ old.free
-  pub marks : new.marks ≡ old.marks
 
 -- the key under which answers are kept
 abbrev pub number_of : Bool → ℕ

@@ -2,4 +2,3 @@ pub mod Covers
 pub mod CoverLasts
 pub mod Isops
 pub mod IsopLasts
-pub mod Literals

@@ -4,17 +4,17 @@ ghost use Rattle.std.specs.Prelude.{◌+◌, ◌*◌, ◌≤◌};
 ghost use Rattle.edge_bits.specs.declared.edges.Kind.TheVariants.{Bdd, Zdd};
 ghost use Rattle.node_store.specs.Operations.{Runs, halts};
 ghost use Rattle.node_store.specs.Views.{Permanent};
-ghost use Rattle.cover_isop.specs.Isops.{HasBounds, KeepsRoom, bounds_at, cover_in, function_in, isop_work};
+ghost use Rattle.zdd_ops.specs.Rooms.{KeepsRoom};
+ghost use Rattle.cover_isop.specs.Isops.{HasBounds, bounds_at, cover_in, function_in, isop_work};
 
 use crate::calls::{Half, without};
-use crate::literals::change;
 use crate::morreale::{Morreale, Wanted};
 use edge_bits::{Edge, FIRST_ELEMENT};
 use ite_core::nested::or;
 use node_store::evaluate::evaluate;
 use node_store::operator::{Task, without_overflow};
 use node_store::{Grow, Stack, Stop, numbers};
-use zdd_ops::nested::union;
+use zdd_ops::nested::{change, union};
 
 /// The function of the cover between two bounds.
 #[derive(Drop)]

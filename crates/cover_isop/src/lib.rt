@@ -4,7 +4,6 @@
 mod calls;
 mod covering;
 mod covers;
-mod literals;
 mod morreale;
 pub mod nested;
 mod operations;

@@ -1,7 +1,8 @@
 //! Morreale's calls (Minato 1993), as the evaluator runs them.
 
 ghost use Rattle.std.specs.Prelude.{◌≡◌, ◌≤◌};
-ghost use Rattle.cover_isop.specs.Isops.{AreAnswered, Does, IsFurther, IsSplit, KeepsRoom, MorrealeAnswers, MorrealeDue, Shows, both_at, cover_in, high_at, low_at, morreale_extra};
+ghost use Rattle.zdd_ops.specs.Rooms.{KeepsRoom};
+ghost use Rattle.cover_isop.specs.Isops.{AreAnswered, Does, IsFurther, IsSplit, MorrealeAnswers, MorrealeDue, Shows, both_at, cover_in, high_at, low_at, morreale_extra};
 
 use crate::calls::{Half, Sides, first_variable, sides_of, without};
 use edge_bits::Edge;
@@ -17,7 +18,8 @@ pub(crate) trait Wanted<G: Grow> {
     ghost use Rattle.edge_bits.specs.declared.edges.Kind.TheVariants.{Bdd};
     ghost use Rattle.function_laws.specs.Families.{base, empty};
     ghost use Rattle.node_store.specs.Views.{View, Denotes, Permanent};
-    ghost use Rattle.cover_isop.specs.Isops.{AreAnswered, Does, IsHalf, KeepsRoom, MorrealeAnswers, Shows, cover_in, function_in, half_at, morreale_extra, number_of};
+    ghost use Rattle.zdd_ops.specs.Rooms.{KeepsRoom};
+    ghost use Rattle.cover_isop.specs.Isops.{AreAnswered, Does, IsHalf, MorrealeAnswers, Shows, cover_in, function_in, half_at, morreale_extra, number_of};
 
     /// Whether it is the cover.
     ghost family: { Bool };

@@ -6,8 +6,9 @@ ghost use Rattle.function_laws.specs.IrredundantCovers.{cover_value};
 ghost use Rattle.node_store.specs.Memo.{cover_between};
 ghost use Rattle.node_store.specs.Operations.{Runs, halts};
 ghost use Rattle.node_store.specs.Views.{AreTwo, Is, Permanent, bdd_at, family_at};
+ghost use Rattle.zdd_ops.specs.Rooms.{KeepsRoom};
 ghost use Rattle.cover_isop.specs.Covers.{AreVariables, cover_work};
-ghost use Rattle.cover_isop.specs.Isops.{KeepsRoom, isop_work};
+ghost use Rattle.cover_isop.specs.Isops.{isop_work};
 
 use crate::covering::cover;
 use crate::covers::cover_between;
