@@ -1,12 +1,16 @@
 //! The lines of a history.
 
-ghost use Rattle.std.specs.Prelude.{◌≡◌, IfOk, codes, string_bytes};
+ghost use Rattle.std.specs.Prelude.{◌≡◌, IfOk, codes};
 ghost use Rattle.std.specs.Fmt.{decimal};
 ghost use Rattle.job_text.specs.Histories.{line_text, reply_text};
 
 use crate::job::Command;
 use edge_bits::Memory;
-use std::alloc::{AllocError, Global};
+use itoa::Buffer;
+use std::alloc::Global;
+
+/// How many bytes of a line are not its command's, where its numbers are not long.
+const REST: usize = 32;
 
 /// The reply to a command.
 #[derive(Debug, Clone, Copy, PartialEq, Eq)]
@@ -29,20 +33,20 @@ pub enum Reply {
     Empty,
 }
 
-/// A reply in words.
-fn said(alloc: Global, reply: Reply) -> Result<String, AllocError>
-    ensures { IfOk result (λ text. string_bytes text ≡ reply_text reply) }
+/// A reply in words, whose digits are kept if it is a number.
+fn said<'a>(digits: &'a mut Buffer, reply: Reply) -> &'a str
+    ensures { result.now ≡ reply_text reply }
 {
     match reply {
-        Reply::Done => String::from_str(alloc, "ok"),
-        Reply::Yes => String::from_str(alloc, "yes"),
-        Reply::No => String::from_str(alloc, "no"),
-        Reply::Number(value) => value.to_string(alloc),
-        Reply::Full => String::from_str(alloc, "full"),
-        Reply::Overflow => String::from_str(alloc, "overflow"),
-        Reply::Apart => String::from_str(alloc, "apart"),
-        Reply::Posted => String::from_str(alloc, "posted"),
-        Reply::Empty => String::from_str(alloc, "empty"),
+        Reply::Done => "ok",
+        Reply::Yes => "yes",
+        Reply::No => "no",
+        Reply::Number(value) => digits.format(value),
+        Reply::Full => "full",
+        Reply::Overflow => "overflow",
+        Reply::Apart => "apart",
+        Reply::Posted => "posted",
+        Reply::Empty => "empty",
     }
 }
 
@@ -57,14 +61,16 @@ pub fn line(
 ) -> Result<Vec<u8>, Memory>
     ensures { IfOk result (λ text. text.items ≡ line_text place session command.now.words reply) }
 {
-    let mut text = Vec::new(alloc);
-    text.extend_from_slice(place.to_string(alloc)?.as_bytes())?;
+    let words = command.words.as_slice();
+    let mut digits = Buffer::new();
+    let mut text = Vec::with_capacity(alloc, words.len().saturating_add(REST))?;
+    text.extend_from_slice(digits.format(place).as_bytes())?;
     text.push(b' ')?;
-    text.extend_from_slice(session.to_string(alloc)?.as_bytes())?;
+    text.extend_from_slice(digits.format(session).as_bytes())?;
     text.push(b' ')?;
-    text.extend_from_slice(command.words.as_slice())?;
+    text.extend_from_slice(words)?;
     text.extend_from_slice(b" -> ")?;
-    text.extend_from_slice(said(alloc, reply)?.as_bytes())?;
+    text.extend_from_slice(said(&mut digits, reply).as_bytes())?;
     text.push(b'\n')?;
     Ok(text)
 }
