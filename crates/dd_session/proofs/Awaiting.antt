@@ -1,5 +1,5 @@
 -- A call of which another try came before the last one.
-use Rattle.std.proofs.Common.{◌≡◌, ◌⊎◌, inr, ⊎_elim, ℕ, ◌+◌, ◌≤◌, max, Bool, true, false, List, Contains, Option, Result, Ok, Err, MatchResult, refl, subst, arith}
+use Rattle.std.proofs.Common.{◌≡◌, ◌⊎◌, inl, inr, ℕ, ◌+◌, ◌≤◌, max, Bool, true, false, List, [], ◌∷◌, ◌++◌, Contains, Option, Result, Ok, Err, MatchResult, refl, ap, sym, ◌∙◌, subst, arith}
 use Rattle.function_laws.specs.declared.history.Call.{Call}
 use Rattle.function_laws.specs.declared.history.Call.TheVariants as calls
 use Rattle.function_laws.specs.declared.history.Function.{Function}
@@ -17,11 +17,13 @@ use Rattle.dd_session.specs.declared.answers.Refusal.{Refusal}
 use Rattle.dd_session.specs.declared.answers.Refusal.TheVariants as refusals
 use Rattle.dd_session.specs.MadeRows.{Awaits, MakesOrTells, Refuses, TellsRow, by_edges, chooses, with_why}
 use Rattle.dd_session.specs.Sessions.{Called, Denies, Seen}
-use Rattle.dd_session.specs.Works.{HasRows, IsOfWork, StoresAt, StoresWork}
+use Rattle.std.proofs.lemmas.List.{append-nil, append_assoc}
+use Rattle.function_laws.specs.SessionEntries.{Each}
+use Rattle.dd_session.specs.Works.{HadNoTurn, HadTurns, HasRows, IsOfWork, StoresAt, StoresWork}
 
-module _ (old new : Seen) (spare : ℕ) (found stored : List Function) (due : Option Function) where
+module _ (old new : Seen) (spare : ℕ) (found stored : List Function) (turns : List (List Function)) (due : Option Function) where
   abbrev mid : Seen
-  mid = record old { spare = spare; found = found; stored = stored; due = due }
+  mid = record old { spare = spare; found = found; stored = stored; turns = turns; due = due }
 
   called_later : {call : Call} {reply : Reply} {place : ℕ} → Called mid new call reply place → Called old new call reply place
   called_later c = record {
@@ -50,8 +52,31 @@ module _ (old new : Seen) (spare : ℕ) (found stored : List Function) (due : Op
   work_later : (o : Orders) (Work : View → Denoted → Type 0) (f : Function) → IsOfWork mid o Work f → IsOfWork old o Work f
   work_later o Work f is = (is.0, rows_later is.0 is.1, is.2, is.3)
 
-  stores_later : (Work : View → Denoted → Type 0) (place : ℕ) → StoresAt Work mid new place → StoresAt Work old new place
-  stores_later Work place stores = record { note = stores.note; place_is = stores.place_is; placed = stores.placed; stored = λ f there. work_later _ Work f (stores.stored f there) }
+  module _ (Work : View → Denoted → Type 0) (one : turns ≡ old.turns ++ stored ∷ []) (before : (f : Function) → Contains stored f → (o : Orders) × IsOfWork old o Work f) where
+    abbrev IsPart : List Function → Type 0
+    IsPart fs = (f : Function) → Contains fs f → (o : Orders) × IsOfWork old o Work f
+
+    parts_later : (lists : List (List Function)) → Each (λ (fs : List Function). (f : Function) → Contains fs f → (o : Orders) × IsOfWork mid o Work f) lists → Each IsPart lists
+    parts_later [] all = tt
+    parts_later (fs ∷ lists) (here, there) = ((λ f at. let is = here f at in (is.0, work_later is.0 Work f is.1)), parts_later lists there)
+
+    turns_later : HadTurns Work mid new → HadTurns Work old new
+    turns_later (earlier, is, all) = (
+      stored ∷ earlier,
+      is ∙ ap (λ (ts : List (List Function)). ts ++ earlier ++ new.stored ∷ []) one ∙ ap (λ (ts : List (List Function)). ts ++ new.stored ∷ []) (append_assoc old.turns (stored ∷ []) earlier),
+      (before, parts_later earlier all),
+    )
+
+    stores_later : (place : ℕ) → StoresAt Work mid new place → StoresAt Work old new place
+    stores_later place stores = record { note = stores.note; place_is = stores.place_is; placed = stores.placed; turns = turns_later stores.turns; stored = λ f there. work_later _ Work f (stores.stored f there) }
+
+    -- at want of memory
+    memory_later : HadNoTurn mid new ⊎ (HadTurns Work mid new × ((f : Function) → Contains new.stored f → (o : Orders) × IsOfWork mid o Work f)) → HadNoTurn old new ⊎ (HadTurns Work old new × ((f : Function) → Contains new.stored f → (o : Orders) × IsOfWork old o Work f))
+    memory_later (inl none) = inr (
+      ([], none.0 ∙ one ∙ ap (λ (s : List Function). old.turns ++ s ∷ []) (sym none.1) ∙ ap (λ (ts : List (List Function)). ts ++ new.stored ∷ []) (sym (append-nil old.turns)), tt),
+      subst (λ (s : List Function). IsPart s) (sym none.1) before,
+    )
+    memory_later (inr had) = inr (turns_later had.0, λ f at. let is = had.1 f at in (is.0, work_later is.0 Work f is.1))
 
   denies_later : (call : Call) (refusal : Refusal) → old.spare ≤ spare → Denies mid new call refusal → Denies old new call refusal
   denies_later call refusals.Memory more told = (told.0, (let a = told.1 in omega (arith, a, more)))
@@ -66,7 +91,7 @@ module _ (old new : Seen) (spare : ℕ) (found stored : List Function) (due : Op
   tells_later true call (Err why) place told = called_later told
   tells_later false call r place told = called_later told
 
-  module _ (making : Making Name (List ℕ) (List (ℕ × Name))) (room : spare ≡ max old.spare 1) (before : (f : Function) → Contains stored f → (o : Orders) × IsOfWork old o (work (by_edges old.rows making)) f) where
+  module _ (making : Making Name (List ℕ) (List (ℕ × Name))) (room : spare ≡ max old.spare 1) (one : turns ≡ old.turns ++ stored ∷ []) (before : (f : Function) → Contains stored f → (o : Orders) × IsOfWork old o (work (by_edges old.rows making)) f) where
     abbrev Work : View → Denoted → Type 0
     Work = work (by_edges old.rows making)
 
@@ -77,10 +102,10 @@ module _ (old new : Seen) (spare : ℕ) (found stored : List Function) (due : Op
 
     stored_later : (r : Result (Placed (Result Name Unmade)) Refusal) → StoresWork Work mid new r → StoresWork Work old new r
     unfolding stores_later
-    stored_later (Ok placed) stores = stores_later Work placed.place stores
-    stored_later (Err refusals.Memory) stores = λ f there. ⊎_elim (λ was. inr (before f was)) (λ is. inr (is.0, work_later is.0 Work f is.1)) (stores f there)
+    stored_later (Ok placed) stores = stores_later Work one before placed.place stores
+    stored_later (Err refusals.Memory) stores = memory_later Work one before stores
     stored_later (Err (refusals.Full full)) stores = (
-      stores_later Work full.place stores.0,
+      stores_later Work one before full.place stores.0,
       (let d = stores.1 in record {
         function = d.function;
         is = d.is;
@@ -108,4 +133,4 @@ module _ (old new : Seen) (spare : ℕ) (found stored : List Function) (due : Op
 
 pub makes_later : (old mid new : Seen) (making : Making Name (List ℕ) (List (ℕ × Name))) (r : Result (Placed (Result Name Unmade)) Refusal) → Awaits (work (by_edges old.rows making)) old mid → MakesOrTells mid new making r → MakesOrTells old new making r
 makes_later old mid new making r awaits made =
-    makes_mid old new mid.spare mid.found mid.stored mid.due making awaits.1 awaits.2 r (subst (λ (s : Seen). MakesOrTells s new making r) awaits.0.0 made)
+    makes_mid old new mid.spare mid.found mid.stored mid.turns mid.due making awaits.1 awaits.3 awaits.2 r (subst (λ (s : Seen). MakesOrTells s new making r) awaits.0.0 made)

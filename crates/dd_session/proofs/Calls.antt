@@ -1,6 +1,8 @@
 -- What a call is for its caller.
 use Rattle.std.proofs.Common.{◌≡◌, ◌⊎◌, inl, inr, ℕ, suc, ◌+◌, ◌≤◌, ◌^◌, Bool, true, false, cond, List, [], ◌∷◌, ◌++◌, length, max, Contains, Option, Some, Result, Ok, Err, MatchResult, OnOk, refl, ap, sym, subst, ◌∙◌, arith, true≢false}
 use Rattle.std.proofs.Math.Nat.{zero-add}
+use Rattle.std.proofs.lemmas.List.{append-nil}
+use Rattle.dd_session.proofs.Turning.{had_turn}
 use Rattle.edge_bits.specs.declared.limits.TheConstants.{CELLS}
 use Rattle.atomic_table.specs.Seated.{TableId}
 use Rattle.std.specs.Result.{is_err}
@@ -53,7 +55,7 @@ use Rattle.dd_session.specs.declared.book.Book.{Book}
 use Rattle.dd_session.specs.Sessions.{Called, Denies, IsAsBefore, Managed, Seen, fulls_in, known_sizes, reply_unmade}
 use Rattle.node_slots.specs.Stores.{IsStore}
 use Rattle.node_slots.proofs.Settling.{level_same}
-use Rattle.dd_session.specs.Works.{HasRows, IsOfWork, IsOrderedBy, StoresAt, StoresWork}
+use Rattle.dd_session.specs.Works.{HadTurns, HasRows, IsOfWork, IsOrderedBy, StoresAt, StoresWork}
 use Rattle.dd_session.specs.MadeRows.{Refuses, TellsRow, adding_by, with_why}
 use Rattle.operator_calls.specs.declared.unmade.Unmade.{Unmade}
 use Rattle.std.specs.Prelude.{IsErrOf, IsTrue}
@@ -193,9 +195,9 @@ called old held new x table table' spare spare' call reply place same took told 
 -- want of memory
 pub as_before : (old held new : Draws) (x : Shared) (table table' : TableId) (spare spare' : ℕ) (l : Leaving) → table' ≡ table → spare ≤ spare' → Took old held x → new ≡ letting_go held l → IsAsBefore (seen_by table old spare) (seen_by table' new spare')
 as_before old held new x table table' spare spare' l same more took left = (
-  subst (λ (i : TableId). seen_by i new spare' ≡ record (seen_by table old spare) { spare = spare'; found = new.functions; stored = new.stored; due = new.due }) (sym same)
-      (subst (λ (d : Draws). seen_by table d spare' ≡ record (seen_by table old spare) { spare = spare'; found = d.functions; stored = d.stored; due = d.due }) (sym left)
-      (subst (λ (d : Draws). seen_by table (letting_go d l) spare' ≡ record (seen_by table old spare) { spare = spare'; found = d.functions; stored = l.stored; due = l.due }) (sym took.is) refl)),
+  subst (λ (i : TableId). seen_by i new spare' ≡ record (seen_by table old spare) { spare = spare'; found = new.functions; stored = new.stored; turns = new.turns; due = new.due }) (sym same)
+      (subst (λ (d : Draws). seen_by table d spare' ≡ record (seen_by table old spare) { spare = spare'; found = d.functions; stored = d.stored; turns = d.turns; due = d.due }) (sym left)
+      (subst (λ (d : Draws). seen_by table (letting_go d l) spare' ≡ record (seen_by table old spare) { spare = spare'; found = d.functions; stored = l.stored; turns = d.turns ++ l.stored ∷ []; due = l.due }) (sym took.is) refl)),
   more,
 )
 
@@ -257,11 +259,15 @@ module _ {X : Type 0} (old held new : Draws) (x y : Shared) (table table' : Tabl
         by g (inl there) = inl there
         by g (inr part) = inr (of_work g part)
 
+    one_turn : HadTurns Work (seen_by table old spare) (seen_by table' new spare')
+    one_turn = ([], had_turn old held x took new notes.0 notes.1 notes.4 ∙ ap (λ (ts : List (List Function)). ts ++ new.stored ∷ []) (sym (append-nil old.turns)), tt)
+
     stores_at : {call : Call} {reply : Reply} (place : ℕ) → Told held new call reply place → StoresAt Work (seen_by table old spare) (seen_by table' new spare') place
     stores_at place told = record {
       note = note_of held place;
       place_is = refl;
       placed = placed_told old held new x place took told;
+      turns = one_turn;
       stored = λ f c. subst (λ (o : Orders). IsOfWork (seen_by table old spare) o Work f) (noted_orders old held x place took) (stored_work f c);
     }
 
@@ -276,7 +282,7 @@ module _ {X : Type 0} (old held new : Draws) (x y : Shared) (table table' : Tabl
         → StoresWork Work (seen_by table old spare) (seen_by table' new spare') r
     unfolding stores_at
     stores_work call chose (Ok placed) cause told = stored_row call chose placed.place placed.value told
-    stores_work call chose (Err refusals.Memory) cause told = λ f c. inr (orders x, stored_work f c)
+    stores_work call chose (Err refusals.Memory) cause told = inr (one_turn, λ f c. (orders x, stored_work f c))
     stores_work call chose (Err (refusals.Full full)) cause told = let due = tried.ran.due_is cause in let sweep = tried.swept cause in (
       stores_at full.place told.0,
       record {

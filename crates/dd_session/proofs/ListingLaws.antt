@@ -80,9 +80,9 @@ pub is_listed : (old held new : Draws) (x : Shared) (table table' : TableId) (sp
     → All (λ (e : Entry). e.place < place) held.entries → (listing.order ≡ held.variable_order) × ListsRows held.vars (known_as held) names listing → IsListed (seen_by table old spare) (seen_by table' new spare) names listing
 is_listed old held new x table table' spare place l names listing same took left later lists = record {
   note = note_of held place;
-  new_is = subst (λ (i : TableId). seen_by i new spare ≡ record (seen_by table old spare) { noted = old.noted ++ note_of held place ∷ []; found = new.functions; stored = new.stored; due = new.due }) (sym same)
-      (subst (λ (d : Draws). seen_by table d spare ≡ record (seen_by table old spare) { noted = old.noted ++ note_of held place ∷ []; found = d.functions; stored = d.stored; due = d.due }) (sym left)
-      (subst (λ (d : Draws). seen_by table (letting_go (noting d place) l) spare ≡ record (seen_by table old spare) { noted = old.noted ++ note_of d place ∷ []; found = d.functions; stored = l.stored; due = l.due }) (sym took.is) refl));
+  new_is = subst (λ (i : TableId). seen_by i new spare ≡ record (seen_by table old spare) { noted = old.noted ++ note_of held place ∷ []; found = new.functions; stored = new.stored; turns = new.turns; due = new.due }) (sym same)
+      (subst (λ (d : Draws). seen_by table d spare ≡ record (seen_by table old spare) { noted = old.noted ++ note_of held place ∷ []; found = d.functions; stored = d.stored; turns = d.turns; due = d.due }) (sym left)
+      (subst (λ (d : Draws). seen_by table (letting_go (noting d place) l) spare ≡ record (seen_by table old spare) { noted = old.noted ++ note_of d place ∷ []; found = d.functions; stored = l.stored; turns = d.turns ++ l.stored ∷ []; due = l.due }) (sym took.is) refl));
   later = subst (λ (es : List Entry). All (λ (e : Entry). e.place < place) es) (ap (λ (d : Draws). d.entries) took.is) later;
   order_is = lists.0;
   rows_noted = ap (λ (d : Draws). d.rows) took.is;

@@ -267,7 +267,7 @@ pub nothing_made : (old new : Seen) (making : Making Name (List ℕ) (List (ℕ 
 nothing_made old new making same = subst (λ (s : Seen). MakesOrTells old s making (Err refusals.Memory)) (sym same) (record {
   told = refuses (needs_nodes_in making);
   may = tt;
-  stored = λ f there. inl there;
+  stored = inl (refl, refl);
   spare = omega arith;
 })
   where

@@ -1,5 +1,5 @@
 -- Turns in which two levels were swapped, and what they are for their caller.
-use Rattle.std.proofs.Common.{◌≡◌, ◌+◌, ◌<◌, ◌≤◌, ℕ, Contains, length, Result, Ok, Err, IsTrue, refl, ap, sym, subst, ◌∙◌}
+use Rattle.std.proofs.Common.{◌≡◌, ◌+◌, ◌<◌, ◌≤◌, ℕ, ◌∷◌, ◌++◌, [], Contains, length, Result, Ok, Err, IsTrue, refl, ap, sym, subst, ◌∙◌}
 use Rattle.std.proofs.Math.Nat.{zero-add}
 use Rattle.std.specs.Prelude.{IfErr, MatchResult}
 use Rattle.std.specs.Result.{is_err}
@@ -89,8 +89,8 @@ module _ (d e : Draws) (x : Shared) (took : Took d e x) where
 
   -- where it was refused, nothing was stored
   pub swap_stored : (y : Shared) (new : Draws) (done : Result (Unit {0}) Crowded) (result : Result (Placed (Unit {0})) Full) → crowded_in result ≡ done → (IsTrue (is_err done) → StoresOnly (λ _. ⊥) x y) → Notes e new y
-      → IsTrue (is_err result) → (f : Function) → Contains new.stored f → ⊥
-  swap_stored y new done result same only notes failed = stored_nothing d e x took new y notes.0 (only (subst (λ (r : Result (Unit {0}) Crowded). IsTrue (is_err r)) same (by result failed))) notes.1 notes.3
+      → IsTrue (is_err result) → (new.turns ≡ d.turns ++ new.stored ∷ []) × ((f : Function) → Contains new.stored f → ⊥)
+  swap_stored y new done result same only notes failed = stored_nothing d e x took new y notes.0 (only (subst (λ (r : Result (Unit {0}) Crowded). IsTrue (is_err r)) same (by result failed))) notes.1 notes.3 notes.4
     where
       by : (result : Result (Placed (Unit {0})) Full) → IsTrue (is_err result) → IsTrue (is_err (crowded_in result))
       by (Ok placed) failed = failed

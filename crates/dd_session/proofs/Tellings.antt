@@ -452,8 +452,8 @@ pub held-row : (w : View) (cell : Cell) (name : Name) (old new : List Live) → 
 held-row w cell name old new one = subst (λ (k : Kind). IsWithOne old (record { name = name; kind = k; edge = cell.edge }) new) (sym (kind-listed cell.kind w (values_at cell.kind w cell.edge))) one
 
 -- the seat notes the same of a content whose counts changed
-pub notes_on : (x y : Shared) → IsRecounted x y → (d e : Draws) (l : Leaving) → e.stored ≡ l.stored → e.due ≡ l.due → IsLeaving d y l → Notes d e x
-notes_on x y same d e l stored due_is is = (
+pub notes_on : (x y : Shared) → IsRecounted x y → (d e : Draws) (l : Leaving) → e.stored ≡ l.stored → e.due ≡ l.due → IsLeaving d y l → e.turns ≡ d.turns ++ l.stored ∷ [] → Notes d e x
+notes_on x y same d e l stored due_is is turns = (
   l,
   stored,
   due_is,
@@ -462,6 +462,7 @@ notes_on x y same d e l stored due_is is = (
     new = λ f c. let n = is.new f c in (subst (λ (fs : List Function). Contains fs f) (functions-recounted x y same) n.0, n.1);
     due_is = is.due_is ∙ due-recounted x y same;
   },
+  turns,
 )
   where
     due-recounted : (x y : Shared) → IsRecounted x y → due y ≡ due x

@@ -1,5 +1,5 @@
 -- Turns in which a place was drawn, and what they leave.
-use Rattle.std.proofs.Common.{◌≡◌, inl, ℕ, zero, suc, ◌+◌, ◌<◌, ◌≤◌, ◌==◌, Bool, true, false, cond, List, [], ◌∷◌, Contains, length, map, Option, Some, None, option_map, refl, ap, sym, subst, ◌∙◌, arith, eq-eqb}
+use Rattle.std.proofs.Common.{◌≡◌, inl, ℕ, zero, suc, ◌+◌, ◌<◌, ◌≤◌, ◌==◌, Bool, true, false, cond, List, [], ◌∷◌, ◌++◌, Contains, length, map, Option, Some, None, option_map, refl, ap, sym, subst, ◌∙◌, arith, eq-eqb}
 use Rattle.std.specs.Prelude.{slice_get}
 use Rattle.edge_bits.specs.declared.edges.Edge.{Edge}
 use Rattle.edge_bits.specs.declared.edges.Kind.{Kind}
@@ -34,15 +34,23 @@ pub stores_same : (x : Shared) → StoresOnly (λ _. ⊥) x x
 stores_same x f c = inl c
 
 module _ (old held : Draws) (x : Shared) (took : Took old held x) where
-  -- nothing was stored
-  pub stored_nothing : (new : Draws) (y : Shared) (l : Leaving) → StoresOnly (λ _. ⊥) x y → new.stored ≡ l.stored → IsLeaving held y l → (f : Function) → Contains new.stored f → ⊥
-  stored_nothing new y l none stored is f c = stored-only (λ _. ⊥) x y held l (ap (λ (z : Draws). z.functions) took.is) none is f (subst (λ (fs : List Function). Contains fs f) stored c)
+  -- there was one turn
+  pub had_turn : (new : Draws) (l : Leaving) → new.stored ≡ l.stored → new.turns ≡ held.turns ++ l.stored ∷ [] → new.turns ≡ old.turns ++ new.stored ∷ []
+  had_turn new l stored turns = turns ∙ ap (λ (z : Draws). z.turns ++ l.stored ∷ []) took.is ∙ ap (λ (s : List Function). old.turns ++ s ∷ []) (sym stored)
 
-  pub drew_nothing : (new : Draws) (y : Shared) (t : Telling) (place : ℕ) → StoresOnly (λ _. ⊥) x y → Drew held new y t place → (f : Function) → Contains new.stored f → ⊥
-  drew_nothing new y t place none drew = stored_nothing new y drew.leaving none (ap (λ (z : Draws). z.stored) drew.left) drew.is_leaving
+  -- in which nothing was stored
+  pub stored_nothing : (new : Draws) (y : Shared) (l : Leaving) → StoresOnly (λ _. ⊥) x y → new.stored ≡ l.stored → IsLeaving held y l → new.turns ≡ held.turns ++ l.stored ∷ []
+      → (new.turns ≡ old.turns ++ new.stored ∷ []) × ((f : Function) → Contains new.stored f → ⊥)
+  stored_nothing new y l none stored is turns = (
+    had_turn new l stored turns,
+    λ f c. stored-only (λ _. ⊥) x y held l (ap (λ (z : Draws). z.functions) took.is) none is f (subst (λ (fs : List Function). Contains fs f) stored c),
+  )
 
-  pub notes_nothing : (new : Draws) → Notes held new x → (f : Function) → Contains new.stored f → ⊥
-  notes_nothing new notes = stored_nothing new x notes.0 (stores_same x) notes.1 notes.3
+  pub drew_nothing : (new : Draws) (y : Shared) (t : Telling) (place : ℕ) → StoresOnly (λ _. ⊥) x y → Drew held new y t place → (new.turns ≡ old.turns ++ new.stored ∷ []) × ((f : Function) → Contains new.stored f → ⊥)
+  drew_nothing new y t place none drew = stored_nothing new y drew.leaving none (ap (λ (z : Draws). z.stored) drew.left) drew.is_leaving (ap (λ (z : Draws). z.turns) drew.left)
+
+  pub notes_nothing : (new : Draws) → Notes held new x → (new.turns ≡ old.turns ++ new.stored ∷ []) × ((f : Function) → Contains new.stored f → ⊥)
+  notes_nothing new notes = stored_nothing new x notes.0 (stores_same x) notes.1 notes.3 notes.4
 
   -- the same rows
   pub kept_rows : (new : Draws) (y : Shared) (t : Telling) (place : ℕ) (rows : RowMap) → Tied old rows → Drew held new y t place → rows_after t.change held.rows ≡ held.rows → adds_after t.change held.adds ≡ held.adds → Tied new rows

@@ -20,7 +20,7 @@ pub record ListsRows (n : ℕ) (stands : Name → Option Function) (names : List
 -- The session noted what there was at a place above all its calls, and nothing else of it changed but what its last turn stored. The listing is that of the names under the order of the variables that it noted.
 pub record IsListed (old new : Seen) (names : List Name) (listing : Listing) : Type 0 where
   pub note : Noted
-  pub new_is : new ≡ record old { noted = old.noted ++ note ∷ []; found = new.found; stored = new.stored; due = new.due }
+  pub new_is : new ≡ record old { noted = old.noted ++ note ∷ []; found = new.found; stored = new.stored; turns = new.turns; due = new.due }
   pub later : All (λ (e : Entry). e.place < note.place) old.entries
   pub order_is : listing.order ≡ note.variable_order
   -- what there was at the place; so far no call adds a variable or an element

@@ -27,7 +27,7 @@ use Rattle.dd_session.specs.declared.answers.Refusal.TheVariants as refusals
 use Rattle.dd_session.specs.declared.request.Adding.{Adding}
 use Rattle.dd_session.specs.declared.request.Adding.TheVariants.{Made, Chosen}
 use Rattle.dd_session.specs.Sessions.{Called, Denies, HasRoom, IsAsBefore, IsLiveAs, Managed, Seen, edge_in, elements_in, reply_unmade, told_as, variables_in}
-use Rattle.dd_session.specs.Works.{IsOfWork, StoresWork}
+use Rattle.dd_session.specs.Works.{HadOneTurn, IsOfWork, StoresWork}
 
 -- the session has what it takes; there may be as many variables as its manager was opened with
 abbrev pub HasTaken : Seen → Making Name (List ℕ) (List (ℕ × Name)) → Type 0
@@ -63,9 +63,9 @@ abbrev pub Refuses : Bool → Seen → Seen → Call → Refusal → Type 0
 Refuses true old new call refusal = Denies old new call refusal
 Refuses false old new call refusal = (refusal ≡ refusals.Memory) × Denies old new call refusal
 
--- what a try leaves that another one follows: nothing was told, and what it stored are parts of its operation's work
+-- what a try leaves that another one follows: it had one turn, nothing was told, and what it stored are parts of its operation's work
 abbrev pub Awaits : (View → Denoted → Type 0) → Seen → Seen → Type 0
-Awaits Work old new = IsAsBefore old new × (new.spare ≡ max old.spare 1) × ((f : Function) → Contains new.stored f → (o : Orders) × IsOfWork old o Work f)
+Awaits Work old new = IsAsBefore old new × (new.spare ≡ max old.spare 1) × ((f : Function) → Contains new.stored f → (o : Orders) × IsOfWork old o Work f) × HadOneTurn old new
 
 -- the same result, where what tells why nothing was made may be told by any call
 abbrev pub with_why : {X : Type 0} → (X → Unmade) → Result Name X → Result Name Unmade

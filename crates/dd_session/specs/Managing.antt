@@ -38,7 +38,7 @@ Seen = sessions.Seen
 
 -- a session whose seat is away, which no caller meets
 abbrev pub seatless : Seen
-seatless = record { manager = record { table = record { words = 0; slots = 0; views_name = 0; atom = 0; block = 0; offset = 0; slot_names = [] }; vars = 0; elements = 0; limit = 0; sessions = 0 }; number = 0; rows = []; more_variables = 0; more_elements = 0; adds = 0; spare = 0; entries = []; found = []; stored = []; due = None; noted = []; placed = [] }
+seatless = record { manager = record { table = record { words = 0; slots = 0; views_name = 0; atom = 0; block = 0; offset = 0; slot_names = [] }; vars = 0; elements = 0; limit = 0; sessions = 0 }; number = 0; rows = []; more_variables = 0; more_elements = 0; adds = 0; spare = 0; entries = []; found = []; stored = []; turns = []; due = None; noted = []; placed = [] }
 
 abbrev pub seen_in : Option (Pass Shared) → Book → Seen
 seen_in (Some p) book = turns.seen_of p book
@@ -58,7 +58,7 @@ IsClosing d = (d.closing ≡ true) × (d.gone ≡ []) × (d.given ≡ d.sessions
 
 -- a session that has made no call
 abbrev pub newcomer : Managed → ℕ → Seen
-newcomer m number = record { manager = m; number = number; rows = []; more_variables = 0; more_elements = 0; adds = 0; spare = 0; entries = []; found = []; stored = []; due = None; noted = []; placed = [] }
+newcomer m number = record { manager = m; number = number; rows = []; more_variables = 0; more_elements = 0; adds = 0; spare = 0; entries = []; found = []; stored = []; turns = []; due = None; noted = []; placed = [] }
 
 -- the first n sessions, as they are opened
 abbrev pub newcomers : Managed → ℕ → List Seen

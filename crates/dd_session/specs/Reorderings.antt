@@ -45,5 +45,5 @@ pub record IsSwapOf (order : Order) (level : ℕ) (old new : Seen) (done : Resul
 pub record SwapsLevels (order : Order) (level : ℕ) (old new : Seen) (result : Result (Placed (Unit {0})) Full) : Type 0 where
   pub told : MatchResult result (λ placed. Called old new (swap_call order level) replies.Done placed.place) (λ full. Denies old new (swap_call order level) (refusals.Full full))
   pub swap : IsSwapOf order level old new (crowded_in result)
-  pub stored : IsTrue (is_err result) → StoresNothing new
+  pub stored : IsTrue (is_err result) → StoresNothing old new
   pub spare : new.spare ≡ old.spare

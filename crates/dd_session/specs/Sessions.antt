@@ -53,6 +53,8 @@ pub record Seen : Type 0 where
   pub found : List Function
   -- the functions that its last call stored, and the one that was due at the last Full before the end of that call
   pub stored : List Function
+  -- what it stored in each of its turns at the store, the oldest first: a call has one, and another where a second try was due
+  pub turns : List (List Function)
   pub due : Option Function
   -- what it noted at its listings, the oldest first
   pub noted : List Noted
@@ -118,7 +120,7 @@ pub record Called (old new : Seen) (call : Call) (reply : Reply) (place : ℕ) :
 
 -- want of memory leaves all as it was; what was found and stored may be another, and the room for rows more
 abbrev pub IsAsBefore : Seen → Seen → Type 0
-IsAsBefore old new = (new ≡ record old { spare = new.spare; found = new.found; stored = new.stored; due = new.due }) × (old.spare ≤ new.spare)
+IsAsBefore old new = (new ≡ record old { spare = new.spare; found = new.found; stored = new.stored; turns = new.turns; due = new.due }) × (old.spare ≤ new.spare)
 
 -- full is a call of the history that changes nothing, and tells how many slots were in use and how many were needed
 abbrev pub Denies : Seen → Seen → Call → Refusal → Type 0

@@ -1,5 +1,5 @@
 -- What the functions over a seat and its rows say.
-use Rattle.std.specs.Prelude.{◌≡◌, Bool, ◌==◌, ℕ, ◌+◌, ◌≤◌, ◌<◌, ◌^◌, List, [], ◌∷◌, All, length, option_map, Option, Some, None, true, false, ℤ, Result, Ok, Err, IfOk, IsErrOf, max}
+use Rattle.std.specs.Prelude.{◌≡◌, Bool, ◌==◌, ℕ, ◌+◌, ◌≤◌, ◌<◌, ◌^◌, List, [], ◌∷◌, ◌++◌, All, length, option_map, Option, Some, None, true, false, ℤ, Result, Ok, Err, IfOk, IsErrOf, max}
 use Rattle.edge_bits.specs.declared.limits.TheConstants.{CELLS, MOST_COUNT, MOST_ELEMENTS, MOST_ROWS, MOST_VARIABLES}
 use Rattle.atomic_table.specs.Seated.{TableId}
 use Rattle.edge_bits.specs.declared.edges.Edge.{Edge}
@@ -78,6 +78,7 @@ seen_by table d spare = record {
   entries = d.entries;
   found = d.functions;
   stored = d.stored;
+  turns = d.turns;
   due = d.due;
   noted = d.noted;
   placed = d.placed;
@@ -209,7 +210,7 @@ IsAdded d d' call (Taken posted) name place = Told d d' call (replies.Fetched na
 
 -- what the seat notes as stored, and as due, is as if this content had been given back
 abbrev pub Notes : Draws → Draws → Shared → Type 0
-Notes d d' y = (l : Leaving) × (d'.stored ≡ l.stored) × (d'.due ≡ l.due) × IsLeaving d y l
+Notes d d' y = (l : Leaving) × (d'.stored ≡ l.stored) × (d'.due ≡ l.due) × IsLeaving d y l × (d'.turns ≡ d.turns ++ l.stored ∷ [])
 
 -- what a refusal leaves
 abbrev pub IsRefused : Draws → Draws → Call → Refusal → Type 0

@@ -1,5 +1,5 @@
 -- What a call stored, as a part of its operation's work.
-use Rattle.std.specs.Prelude.{◌≡◌, ◌⊎◌, ℕ, [], ◌∷◌, ◌++◌, Contains, Option, Some, Result, Ok, Err}
+use Rattle.std.specs.Prelude.{◌≡◌, ◌⊎◌, ℕ, List, [], ◌∷◌, ◌++◌, Contains, Option, Some, Result, Ok, Err}
 use Rattle.edge_bits.specs.declared.edges.Kind.{Kind}
 use Rattle.function_laws.specs.declared.history.Function.{Function}
 use Rattle.function_laws.specs.Kinds.{Denoted}
@@ -61,19 +61,32 @@ pub record IsDueAfterSweep (s : Seen) (o : Orders) (Work : View → Denoted → 
   pub same : view.content ≡ sweep.after.function
   pub work : IsListedWork view (Work view) function
 
--- Each function that the call stored is a part of this work, under the orders at its place, which the session noted.
+-- the call had no turn at the store
+abbrev pub HadNoTurn : Seen → Seen → Type 0
+HadNoTurn old new = (new.turns ≡ old.turns) × (new.stored ≡ old.stored)
+
+-- it had one turn alone
+abbrev pub HadOneTurn : Seen → Seen → Type 0
+HadOneTurn old new = new.turns ≡ old.turns ++ new.stored ∷ []
+
+-- It had a last turn, and what it stored in each earlier one are parts of this work, each under orders of its own: others may exchange levels between two turns.
+abbrev pub HadTurns : (View → Denoted → Type 0) → Seen → Seen → Type 0
+HadTurns Work old new = (earlier : List (List Function)) × (new.turns ≡ old.turns ++ earlier ++ new.stored ∷ []) × Each (λ (stored : List Function). (f : Function) → Contains stored f → (o : Orders) × IsOfWork old o Work f) earlier
+
+-- Each function that the call stored is a part of this work: in its last turn under the orders at its place, which the session noted.
 pub record StoresAt (Work : View → Denoted → Type 0) (old new : Seen) (place : ℕ) : Type 0 where
   pub note : Noted
   pub place_is : note.place ≡ place
   pub placed : new.placed ≡ old.placed ++ note ∷ []
+  pub turns : HadTurns Work old new
   pub stored : (f : Function) → Contains new.stored f → IsOfWork old (orders_in note) Work f
 
--- What a call stored is of its work. Where it was refused, a sweep came before the last try, and a part of the work was due after it. At want of memory it has no place, and there may have been no try.
+-- What a call stored is of its work. Where it was refused, a sweep came before the last try, and a part of the work was due after it. At want of memory it has no place, and there may have been no turn.
 abbrev pub StoresWork : {X : Type 0} → (View → Denoted → Type 0) → Seen → Seen → Result (Placed X) Refusal → Type 0
 StoresWork Work old new (Ok placed) = StoresAt Work old new placed.place
-StoresWork Work old new (Err refusals.Memory) = (f : Function) → Contains new.stored f → Contains old.stored f ⊎ ((o : Orders) × IsOfWork old o Work f)
+StoresWork Work old new (Err refusals.Memory) = HadNoTurn old new ⊎ (HadTurns Work old new × ((f : Function) → Contains new.stored f → (o : Orders) × IsOfWork old o Work f))
 StoresWork Work old new (Err (refusals.Full full)) = (stores : StoresAt Work old new full.place) × IsDueAfterSweep old (orders_in stores.note) Work new.due
 
--- a call that makes nothing stores nothing
-abbrev pub StoresNothing : Seen → Type 0
-StoresNothing s = (f : Function) → Contains s.stored f → ⊥
+-- a call that makes nothing has one turn, and stores nothing
+abbrev pub StoresNothing : Seen → Seen → Type 0
+StoresNothing old new = HadOneTurn old new × ((f : Function) → Contains new.stored f → ⊥)

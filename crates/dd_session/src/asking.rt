@@ -39,7 +39,7 @@ pub fn leq<R: Wait>(
     ensures stands { shares pass.new ≡ shares pass.old }
     ensures keeps { Keeps (known pass.new) book.new }
     ensures told { MatchResult result (λ placed. Called (seen_of pass.old book.old) (seen_of pass.new book.new) (calls.Leq f g) (replies.Truth placed.value) placed.place) (λ _. IsAsBefore (seen_of pass.old book.old) (seen_of pass.new book.new)) }
-    ensures stored { StoresNothing (seen_of pass.new book.new) }
+    ensures stored { StoresNothing (seen_of pass.old book.old) (seen_of pass.new book.new) }
     ensures rows { book.new.rows ≡ book.old.rows }
 {
     let first = edge_at(pass, book, f);
@@ -85,7 +85,7 @@ pub fn eval<R: Wait>(
     ensures stands { shares pass.new ≡ shares pass.old }
     ensures keeps { Keeps (known pass.new) book.new }
     ensures told { Called (seen_of pass.old book.old) (seen_of pass.new book.new) (calls.Eval f bits.now) (replies.Value result.value) result.place }
-    ensures stored { StoresNothing (seen_of pass.new book.new) }
+    ensures stored { StoresNothing (seen_of pass.old book.old) (seen_of pass.new book.new) }
     ensures rows { book.new.rows ≡ book.old.rows }
 {
     let edge = edge_at(pass, book, f);

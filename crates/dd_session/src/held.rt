@@ -119,7 +119,7 @@ pub fn leq<R: Wait>(
     ensures unshared { HasNoShare (shares result.0) }
     ensures keeps { Keeps (known result.0) book.new }
     ensures told { MatchResult result.1 (λ placed. Called (seen_of pass book.old) (seen_of result.0 book.new) (calls.Leq f g) (replies.Truth placed.value) placed.place) (λ _. IsAsBefore (seen_of pass book.old) (seen_of result.0 book.new)) }
-    ensures stored { StoresNothing (seen_of result.0 book.new) }
+    ensures stored { StoresNothing (seen_of pass book.old) (seen_of result.0 book.new) }
     ensures rows { book.new.rows ≡ book.old.rows }
 {
     let mut share = guard.op_wait(rt, pass);
@@ -149,7 +149,7 @@ pub fn eval<R: Wait>(
     ensures unshared { HasNoShare (shares result.0) }
     ensures keeps { Keeps (known result.0) book.new }
     ensures told { Called (seen_of pass book.old) (seen_of result.0 book.new) (calls.Eval f bits.now) (replies.Value result.1.value) result.1.place }
-    ensures stored { StoresNothing (seen_of result.0 book.new) }
+    ensures stored { StoresNothing (seen_of pass book.old) (seen_of result.0 book.new) }
     ensures rows { book.new.rows ≡ book.old.rows }
 {
     let mut share = guard.walk_wait(rt, pass);
@@ -174,7 +174,7 @@ pub fn list<R: Wait>(
     ensures unshared { HasNoShare (shares result.0) }
     ensures keeps { Keeps (known result.0) book.now }
     ensures told { MatchResult result.1 (IsListed (seen_of pass book.now) (seen_of result.0 book.now) rows.now) (λ _. IsAsBefore (seen_of pass book.now) (seen_of result.0 book.now)) }
-    ensures stored { StoresNothing (seen_of result.0 book.now) }
+    ensures stored { StoresNothing (seen_of pass book.now) (seen_of result.0 book.now) }
 {
     let mut hold = guard.order_wait(rt, pass);
     let listing = listing::list(rt, alloc, guard, &mut hold.pass, book, rows);
@@ -197,7 +197,7 @@ pub fn sweep<R: Wait>(
     ensures keeps { Keeps (known result.0) book.new }
     ensures told { Called (seen_of pass book.old) (seen_of result.0 book.new) calls.Sweep replies.Done result.1.place }
     ensures swept { IsSweepAsked (seen_of pass book.old) (seen_of result.0 book.new) result.1.value }
-    ensures stored { StoresNothing (seen_of result.0 book.new) }
+    ensures stored { StoresNothing (seen_of pass book.old) (seen_of result.0 book.new) }
     ensures rows { book.new.rows ≡ book.old.rows }
 {
     let hold = guard.order_wait(rt, pass);

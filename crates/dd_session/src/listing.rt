@@ -88,7 +88,7 @@ pub fn list<R: Wait>(
     ensures idle { IsIdle guard.now pass.new }
     ensures keeps { Keeps (known pass.new) book.now }
     ensures told { MatchResult result (IsListed (seen_of pass.old book.now) (seen_of pass.new book.now) rows.now) (λ _. IsAsBefore (seen_of pass.old book.now) (seen_of pass.new book.now)) }
-    ensures stored { StoresNothing (seen_of pass.new book.now) }
+    ensures stored { StoresNothing (seen_of pass.old book.now) (seen_of pass.new book.now) }
     ensures stands { shares pass.new ≡ shares pass.old }
 {
     let shared = guard.take(rt, pass);

@@ -91,7 +91,7 @@ impl Session {
         requires spare { 1 ≤ self.old.spare }
         requires live { IsLive self.old h }
         ensures told { Called self.old self.new (calls.Copy h) (replies.Made result.value) result.place }
-        ensures stored { StoresNothing self.new }
+        ensures stored { StoresNothing self.old self.new }
         ensures spare { self.new.spare + 1 ≡ self.old.spare }
     {
         let mut pass = take_seat(&mut self.seat);
@@ -106,7 +106,7 @@ impl Session {
         requires room { HasRoom self.old }
         requires live { IsLive self.old h }
         ensures told { Called self.old self.new (calls.DropRow h) replies.Done result.place }
-        ensures stored { StoresNothing self.new }
+        ensures stored { StoresNothing self.old self.new }
         ensures fewer { length self.new.rows + 1 ≡ length self.old.rows }
         ensures spare { self.new.spare ≡ self.old.spare + 1 }
     {
@@ -122,7 +122,7 @@ impl Session {
         requires room { HasRoom self.old }
         requires alike { (k : KindOf) × IsLiveAs k self.old f × IsLiveAs k self.old g }
         ensures told { Called self.old self.new (calls.Same f g) (replies.Truth result.value) result.place }
-        ensures stored { StoresNothing self.new }
+        ensures stored { StoresNothing self.old self.new }
         ensures spare { self.new.spare ≡ self.old.spare }
     {
         let mut pass = take_seat(&mut self.seat);
@@ -137,7 +137,7 @@ impl Session {
         requires room { HasRoom self.old }
         requires live { IsLive self.old h }
         ensures told { Called self.old self.new (calls.Post cell h) replies.Done result.place }
-        ensures stored { StoresNothing self.new }
+        ensures stored { StoresNothing self.old self.new }
         ensures spare { self.new.spare ≡ self.old.spare }
     {
         let mut pass = take_seat(&mut self.seat);
@@ -160,7 +160,7 @@ impl Session {
         requires spare { 1 ≤ self.old.spare }
         requires live { IsLive self.old other }
         ensures told { Called self.old self.new (calls.Fetch cell other) (replies.Fetched result.value.0 (is_posted result.value.1)) result.place }
-        ensures stored { StoresNothing self.new }
+        ensures stored { StoresNothing self.old self.new }
         ensures spare { self.new.spare + 1 ≡ self.old.spare }
     {
         let mut pass = take_seat(&mut self.seat);
@@ -180,7 +180,7 @@ impl Session {
         requires own { self.old.manager ≡ manager.now }
         requires live { All (IsLiveAs kinds.Bdd self.old) rows.now }
         ensures told { MatchResult result (IsListed self.old self.new rows.now) (λ _. IsAsBefore self.old self.new) }
-        ensures stored { StoresNothing self.new }
+        ensures stored { StoresNothing self.old self.new }
         ensures spare { self.new.spare ≡ self.old.spare }
     {
         let alloc = manager.allocator();
@@ -196,7 +196,7 @@ impl Session {
         requires room { HasRoom self.old }
         ensures told { Called self.old self.new calls.Sweep replies.Done result.place }
         ensures swept { IsSweepAsked self.old self.new result.value }
-        ensures stored { StoresNothing self.new }
+        ensures stored { StoresNothing self.old self.new }
         ensures spare { self.new.spare ≡ self.old.spare }
     {
         let pass = take_seat(&mut self.seat);

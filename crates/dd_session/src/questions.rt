@@ -44,7 +44,7 @@ impl Session {
         requires first { IsLiveAs kinds.Bdd self.old f }
         requires second { IsLiveAs kinds.Bdd self.old g }
         ensures told { MatchResult result (λ placed. Called self.old self.new (calls.Leq f g) (replies.Truth placed.value) placed.place) (λ _. IsAsBefore self.old self.new) }
-        ensures stored { StoresNothing self.new }
+        ensures stored { StoresNothing self.old self.new }
         ensures spare { self.new.spare ≡ self.old.spare }
     {
         let pass = take_seat(&mut self.seat);
@@ -68,7 +68,7 @@ impl Session {
         requires live { (k : KindOf) × IsLiveAs k self.old f × (bits_of k self.old.manager ≤ length bits.now) }
         ensures ok { IsOk result }
         ensures told { IfOk result (λ placed. Called self.old self.new (calls.Eval f bits.now) (replies.Value placed.value) placed.place) }
-        ensures stored { StoresNothing self.new }
+        ensures stored { StoresNothing self.old self.new }
         ensures spare { self.new.spare ≡ self.old.spare }
     {
         let kind = self.kind(f);

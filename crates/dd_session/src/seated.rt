@@ -50,7 +50,7 @@ pub fn copy<R: Wait>(
     ensures stands { shares pass.new ≡ shares pass.old }
     ensures keeps { Keeps (known pass.new) book.new }
     ensures told { Called (seen_of pass.old book.old) (seen_of pass.new book.new) (calls.Copy h) (replies.Made result.value) result.place }
-    ensures stored { StoresNothing (seen_of pass.new book.new) }
+    ensures stored { StoresNothing (seen_of pass.old book.old) (seen_of pass.new book.new) }
     ensures spare { book.new.rows.spare + 1 ≡ book.old.rows.spare }
 {
     let cell = Cell {
@@ -85,7 +85,7 @@ pub fn drop_row<R: Wait>(
     ensures stands { shares pass.new ≡ shares pass.old }
     ensures keeps { Keeps (known pass.new) book.new }
     ensures told { Called (seen_of pass.old book.old) (seen_of pass.new book.new) (calls.DropRow h) replies.Done result.place }
-    ensures stored { StoresNothing (seen_of pass.new book.new) }
+    ensures stored { StoresNothing (seen_of pass.old book.old) (seen_of pass.new book.new) }
     ensures fewer { length (known pass.new).rows + 1 ≡ length (known pass.old).rows }
     ensures spare { book.new.rows.spare ≡ book.old.rows.spare + 1 }
 {
@@ -120,7 +120,7 @@ pub fn same<R: Wait>(
     ensures stands { shares pass.new ≡ shares pass.old }
     ensures keeps { Keeps (known pass.new) book.new }
     ensures told { Called (seen_of pass.old book.old) (seen_of pass.new book.new) (calls.Same f g) (replies.Truth result.value) result.place }
-    ensures stored { StoresNothing (seen_of pass.new book.new) }
+    ensures stored { StoresNothing (seen_of pass.old book.old) (seen_of pass.new book.new) }
     ensures rows { book.new.rows ≡ book.old.rows }
 {
     let first = edge_at(pass, book, f);
@@ -155,7 +155,7 @@ pub fn post<R: Wait>(
     ensures stands { shares pass.new ≡ shares pass.old }
     ensures keeps { Keeps (known pass.new) book.new }
     ensures told { Called (seen_of pass.old book.old) (seen_of pass.new book.new) (calls.Post cell h) replies.Done result.place }
-    ensures stored { StoresNothing (seen_of pass.new book.new) }
+    ensures stored { StoresNothing (seen_of pass.old book.old) (seen_of pass.new book.new) }
     ensures rows { book.new.rows ≡ book.old.rows }
 {
     let kind = kind_at(pass, book, h);
@@ -193,7 +193,7 @@ pub fn fetch<R: Wait>(
     ensures stands { shares pass.new ≡ shares pass.old }
     ensures keeps { Keeps (known pass.new) book.new }
     ensures told { Called (seen_of pass.old book.old) (seen_of pass.new book.new) (calls.Fetch cell other) (replies.Fetched result.value.0 (is_posted result.value.1)) result.place }
-    ensures stored { StoresNothing (seen_of pass.new book.new) }
+    ensures stored { StoresNothing (seen_of pass.old book.old) (seen_of pass.new book.new) }
     ensures spare { book.new.rows.spare + 1 ≡ book.old.rows.spare }
 {
     let own = Cell {
@@ -233,7 +233,7 @@ pub fn sweep<R: Wait>(
     ensures keeps { Keeps (known pass.new) book.new }
     ensures told { Called (seen_of pass.old book.old) (seen_of pass.new book.new) calls.Sweep replies.Done result.place }
     ensures swept { IsSweepAsked (seen_of pass.old book.old) (seen_of pass.new book.new) result.value }
-    ensures stored { StoresNothing (seen_of pass.new book.new) }
+    ensures stored { StoresNothing (seen_of pass.old book.old) (seen_of pass.new book.new) }
     ensures rows { book.new.rows ≡ book.old.rows }
 {
     let shared = guard.take(rt, pass);

@@ -131,6 +131,7 @@ blank = record {
   element_order = [];
   functions = [];
   stored = [];
+  turns = [];
   due = None;
   entries = [];
   noted = [];
@@ -170,6 +171,7 @@ letting_go d x = record d {
   variable_order = [];
   element_order = [];
   stored = x.stored;
+  turns = d.turns ++ x.stored ∷ [];
   due = x.due;
 }
 

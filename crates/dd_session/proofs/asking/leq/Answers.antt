@@ -49,4 +49,4 @@ pub returns-in-Ok-clause-stored : goal.returns-in-Ok-clause-stored
 returns-in-Ok-clause-stored g c = drew_nothing (known c.args.pass.now) (known c.take-shared.new.pass) c.take-shared.result (took_of c.take-shared.ensures.took c.take-shared.ensures.board) (known c.finish-place.new.pass) _ _ c.finish-place.result c.implies.ensures.asked.stored c.finish-place.ensures.drew
 
 pub returns-in-Err-clause-stored : goal.returns-in-Err-clause-stored
-returns-in-Err-clause-stored g c = let gave = c.put_back.ensures.gave in stored_nothing (known c.args.pass.now) (known c.take-shared.new.pass) c.take-shared.result (took_of c.take-shared.ensures.took c.take-shared.ensures.board) (known c.put_back.new.pass) c.implies.new.shared gave.0 c.implies.ensures.asked.stored (ap (λ (d : Draws). d.stored) gave.1) gave.2
+returns-in-Err-clause-stored g c = let gave = c.put_back.ensures.gave in stored_nothing (known c.args.pass.now) (known c.take-shared.new.pass) c.take-shared.result (took_of c.take-shared.ensures.took c.take-shared.ensures.board) (known c.put_back.new.pass) c.implies.new.shared gave.0 c.implies.ensures.asked.stored (ap (λ (d : Draws). d.stored) gave.1) gave.2 (ap (λ (d : Draws). d.turns) gave.1)

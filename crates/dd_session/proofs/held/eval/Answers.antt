@@ -38,4 +38,4 @@ pub returns-clause-told : goal.returns-clause-told
 returns-clause-told g c = subst (λ (z : Seen × Seen). Called z.0 z.1 (calls.Eval c.args.f c.args.bits.now) (replies.Value c.eval-placed.result.value) c.eval-placed.result.place) (λ i. (seen_still c.args.guard.now c.args.pass c.walk_wait-share.result.pass c.requires.idle.0 c.walk_wait-share.ensures.0.0.0 c.walk_wait-share.ensures.1 c.args.book.now i, sym (seen_still c.args.guard.now c.eval-placed.new.pass c.walk_out.result c.eval-placed.ensures.idle.0 c.walk_out.ensures.0.0.0 c.walk_out.ensures.1 c.eval-placed.new.book) i)) c.eval-placed.ensures.told
 
 pub returns-clause-stored : goal.returns-clause-stored
-returns-clause-stored g c = subst (λ (z : Seen × Seen). StoresNothing z.1) (λ i. (seen_still c.args.guard.now c.args.pass c.walk_wait-share.result.pass c.requires.idle.0 c.walk_wait-share.ensures.0.0.0 c.walk_wait-share.ensures.1 c.args.book.now i, sym (seen_still c.args.guard.now c.eval-placed.new.pass c.walk_out.result c.eval-placed.ensures.idle.0 c.walk_out.ensures.0.0.0 c.walk_out.ensures.1 c.eval-placed.new.book) i)) c.eval-placed.ensures.stored
+returns-clause-stored g c = subst (λ (z : Seen × Seen). StoresNothing z.0 z.1) (λ i. (seen_still c.args.guard.now c.args.pass c.walk_wait-share.result.pass c.requires.idle.0 c.walk_wait-share.ensures.0.0.0 c.walk_wait-share.ensures.1 c.args.book.now i, sym (seen_still c.args.guard.now c.eval-placed.new.pass c.walk_out.result c.eval-placed.ensures.idle.0 c.walk_out.ensures.0.0.0 c.walk_out.ensures.1 c.eval-placed.new.book) i)) c.eval-placed.ensures.stored

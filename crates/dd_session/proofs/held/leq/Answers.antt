@@ -38,4 +38,4 @@ pub returns-clause-told : goal.returns-clause-told
 returns-clause-told g c = subst (λ (z : Seen × Seen). MatchResult c.leq-told.result (λ placed. Called z.0 z.1 (calls.Leq c.args.f c.args.g) (replies.Truth placed.value) placed.place) (λ _. IsAsBefore z.0 z.1)) (λ i. (seen_still c.args.guard.now c.args.pass c.op_wait-share.result.pass c.requires.idle.0 c.op_wait-share.ensures.0.0.0 c.op_wait-share.ensures.1 c.args.book.now i, sym (seen_still c.args.guard.now c.leq-told.new.pass c.op_out.result c.leq-told.ensures.idle.0 c.op_out.ensures.0.0.0 c.op_out.ensures.1 c.leq-told.new.book) i)) c.leq-told.ensures.told
 
 pub returns-clause-stored : goal.returns-clause-stored
-returns-clause-stored g c = subst (λ (z : Seen × Seen). StoresNothing z.1) (λ i. (seen_still c.args.guard.now c.args.pass c.op_wait-share.result.pass c.requires.idle.0 c.op_wait-share.ensures.0.0.0 c.op_wait-share.ensures.1 c.args.book.now i, sym (seen_still c.args.guard.now c.leq-told.new.pass c.op_out.result c.leq-told.ensures.idle.0 c.op_out.ensures.0.0.0 c.op_out.ensures.1 c.leq-told.new.book) i)) c.leq-told.ensures.stored
+returns-clause-stored g c = subst (λ (z : Seen × Seen). StoresNothing z.0 z.1) (λ i. (seen_still c.args.guard.now c.args.pass c.op_wait-share.result.pass c.requires.idle.0 c.op_wait-share.ensures.0.0.0 c.op_wait-share.ensures.1 c.args.book.now i, sym (seen_still c.args.guard.now c.leq-told.new.pass c.op_out.result c.leq-told.ensures.idle.0 c.op_out.ensures.0.0.0 c.op_out.ensures.1 c.leq-told.new.book) i)) c.leq-told.ensures.stored

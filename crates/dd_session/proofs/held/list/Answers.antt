@@ -31,4 +31,4 @@ pub returns-clause-told : goal.returns-clause-told
 returns-clause-told g c = subst (λ (z : Seen × Seen). MatchResult c.list-listing.result (IsListed z.0 z.1 c.args.rows.now) (λ _. IsAsBefore z.0 z.1)) (λ i. (seen_still c.args.guard.now c.args.pass c.order_wait-hold.result.pass c.requires.idle.0 c.order_wait-hold.ensures.0.0.0 c.order_wait-hold.ensures.1 c.args.book.now i, sym (seen_still c.args.guard.now c.list-listing.new.pass c.order_out.result c.list-listing.ensures.idle.0 c.order_out.ensures.0.0.0 c.order_out.ensures.1 c.args.book.now) i)) c.list-listing.ensures.told
 
 pub returns-clause-stored : goal.returns-clause-stored
-returns-clause-stored g c = subst (λ (z : Seen × Seen). StoresNothing z.1) (λ i. (seen_still c.args.guard.now c.args.pass c.order_wait-hold.result.pass c.requires.idle.0 c.order_wait-hold.ensures.0.0.0 c.order_wait-hold.ensures.1 c.args.book.now i, sym (seen_still c.args.guard.now c.list-listing.new.pass c.order_out.result c.list-listing.ensures.idle.0 c.order_out.ensures.0.0.0 c.order_out.ensures.1 c.args.book.now) i)) c.list-listing.ensures.stored
+returns-clause-stored g c = subst (λ (z : Seen × Seen). StoresNothing z.0 z.1) (λ i. (seen_still c.args.guard.now c.args.pass c.order_wait-hold.result.pass c.requires.idle.0 c.order_wait-hold.ensures.0.0.0 c.order_wait-hold.ensures.1 c.args.book.now i, sym (seen_still c.args.guard.now c.list-listing.new.pass c.order_out.result c.list-listing.ensures.idle.0 c.order_out.ensures.0.0.0 c.order_out.ensures.1 c.args.book.now) i)) c.list-listing.ensures.stored

@@ -33,4 +33,4 @@ pub returns-clause-swept : goal.returns-clause-swept
 returns-clause-swept g c = subst (λ (z : Seen × Seen). IsSweepAsked z.0 z.1 c.sweep-placed.result.value) (λ i. (seen_still c.args.guard.now c.args.pass c.full_wait-hold.result.pass c.requires.idle.0 c.full_wait-hold.ensures.0.0.0 (kept_then c.order_wait-hold.ensures.1 c.full_wait-hold.ensures.1) c.args.book.now i, sym (seen_still c.args.guard.now c.sweep-placed.new.pass c.order_out.result c.sweep-placed.ensures.idle.0 c.order_out.ensures.0.0.0 (kept_then c.full_out-hold.ensures.1 c.order_out.ensures.1) c.sweep-placed.new.book) i)) c.sweep-placed.ensures.swept
 
 pub returns-clause-stored : goal.returns-clause-stored
-returns-clause-stored g c = subst (λ (z : Seen × Seen). StoresNothing z.1) (λ i. (seen_still c.args.guard.now c.args.pass c.full_wait-hold.result.pass c.requires.idle.0 c.full_wait-hold.ensures.0.0.0 (kept_then c.order_wait-hold.ensures.1 c.full_wait-hold.ensures.1) c.args.book.now i, sym (seen_still c.args.guard.now c.sweep-placed.new.pass c.order_out.result c.sweep-placed.ensures.idle.0 c.order_out.ensures.0.0.0 (kept_then c.full_out-hold.ensures.1 c.order_out.ensures.1) c.sweep-placed.new.book) i)) c.sweep-placed.ensures.stored
+returns-clause-stored g c = subst (λ (z : Seen × Seen). StoresNothing z.0 z.1) (λ i. (seen_still c.args.guard.now c.args.pass c.full_wait-hold.result.pass c.requires.idle.0 c.full_wait-hold.ensures.0.0.0 (kept_then c.order_wait-hold.ensures.1 c.full_wait-hold.ensures.1) c.args.book.now i, sym (seen_still c.args.guard.now c.sweep-placed.new.pass c.order_out.result c.sweep-placed.ensures.idle.0 c.order_out.ensures.0.0.0 (kept_then c.full_out-hold.ensures.1 c.order_out.ensures.1) c.sweep-placed.new.book) i)) c.sweep-placed.ensures.stored

@@ -43,7 +43,7 @@ returns-in-Ok-clause-told g c =
     (subst (λ (r : Result Listing Memory). IfOk r (λ listing. (listing.order ≡ e.variable_order) × ListsRows e.vars (known_as e) c.args.rows.now listing)) c.in-Ok.is c.listing_of.ensures)
 
 pub returns-in-Ok-clause-stored : goal.returns-in-Ok-clause-stored
-returns-in-Ok-clause-stored g c = let gave = c.note.ensures.gave in stored_nothing (known c.args.pass.now) (known c.take-shared.new.pass) c.take-shared.result (took_of c.take-shared.ensures.took c.take-shared.ensures.board) (known c.note.new.pass) c.take-shared.result gave.0 (stores_same c.take-shared.result) (ap (λ (d : Draws). d.stored) gave.1) gave.2
+returns-in-Ok-clause-stored g c = let gave = c.note.ensures.gave in stored_nothing (known c.args.pass.now) (known c.take-shared.new.pass) c.take-shared.result (took_of c.take-shared.ensures.took c.take-shared.ensures.board) (known c.note.new.pass) c.take-shared.result gave.0 (stores_same c.take-shared.result) (ap (λ (d : Draws). d.stored) gave.1) gave.2 (ap (λ (d : Draws). d.turns) gave.1)
 
 pub returns-in-Err-clause-stored : goal.returns-in-Err-clause-stored
-returns-in-Err-clause-stored g c = let gave = c.put_back.ensures.gave in stored_nothing (known c.args.pass.now) (known c.take-shared.new.pass) c.take-shared.result (took_of c.take-shared.ensures.took c.take-shared.ensures.board) (known c.put_back.new.pass) c.take-shared.result gave.0 (stores_same c.take-shared.result) (ap (λ (d : Draws). d.stored) gave.1) gave.2
+returns-in-Err-clause-stored g c = let gave = c.put_back.ensures.gave in stored_nothing (known c.args.pass.now) (known c.take-shared.new.pass) c.take-shared.result (took_of c.take-shared.ensures.took c.take-shared.ensures.board) (known c.put_back.new.pass) c.take-shared.result gave.0 (stores_same c.take-shared.result) (ap (λ (d : Draws). d.stored) gave.1) gave.2 (ap (λ (d : Draws). d.turns) gave.1)

@@ -14,6 +14,7 @@ use Rattle.shared_store.specs.Sharing.{view_of}
 use Rattle.dd_session.specs.MadeRows.{adding_by, chooses}
 use Rattle.dd_session.specs.Turns.{seen_of}
 use Rattle.dd_session.specs.Works.{IsOfWork, StoresWork}
+use Rattle.dd_session.proofs.Turning.{had_turn}
 use Rattle.dd_session.proofs.Calls.{as_before, counted_few, full_needs, seat_of, served, small_store, spare_kept, spare_made, stands_of, stored_ran, stores_work, told_made}
 use Rattle.dd_session.proofs.AtRest.{keeps_left}
 use Rattle.dd_session.proofs.Makings.{nothing_made, outcome_makes, outcome_may_full, told_by_edges, told_why}
@@ -86,5 +87,6 @@ returns-then-awaits-clause-waits g c =
         c.in-Ok.ensures.spare,
         subst (λ (by : Making Edge (List ℕ) (List (ℕ × Edge))). (f : Function) → Contains (known c.put_back.new.pass).stored f → (o : Orders) × IsOfWork (seen_of c.args.pass.now c.args.book.now) o (work by) f) c.requires.same
             (stored_ran d e (known c.put_back.new.pass) x c.try_of-shared.result.0 c.args.pass.now.seat.table_id c.args.book.now.rows.spare c.try_of-shared.result.1 c.in-Ok.ensures.took (told_by (of_lent c.args.edges.now)) (work (of_lent c.args.edges.now)) ran gave.0 (ap (λ (z : Draws). z.stored) gave.1) gave.2),
+        had_turn d e x c.in-Ok.ensures.took (known c.put_back.new.pass) gave.0 (ap (λ (z : Draws). z.stored) gave.1) (ap (λ (z : Draws). z.turns) gave.1),
       ),
     )

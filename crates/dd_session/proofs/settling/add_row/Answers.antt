@@ -45,4 +45,4 @@ returns-clause-told c = (c.raise.new.self, telling_of (view_of c.raise.new.self)
 pub returns-clause-notes : goal.returns-clause-notes
 returns-clause-notes c =
     let drew = c.finish-place.ensures.drew in
-    notes_on c.args.shared c.raise.new.self c.raise.ensures.rest (known c.args.pass.now) (known c.finish-place.new.pass) drew.leaving (ap (λ (z : Draws). z.stored) drew.left) (ap (λ (z : Draws). z.due) drew.left) drew.is_leaving
+    notes_on c.args.shared c.raise.new.self c.raise.ensures.rest (known c.args.pass.now) (known c.finish-place.new.pass) drew.leaving (ap (λ (z : Draws). z.stored) drew.left) (ap (λ (z : Draws). z.due) drew.left) drew.is_leaving (ap (λ (z : Draws). z.turns) drew.left)

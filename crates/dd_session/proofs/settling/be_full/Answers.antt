@@ -34,4 +34,4 @@ returns-clause-told c = (
 )
 
 pub returns-clause-notes : goal.returns-clause-notes
-returns-clause-notes c = let drew = c.finish-place.ensures.drew in (drew.leaving, ap (λ (z : Draws). z.stored) drew.left, ap (λ (z : Draws). z.due) drew.left, drew.is_leaving)
+returns-clause-notes c = let drew = c.finish-place.ensures.drew in (drew.leaving, ap (λ (z : Draws). z.stored) drew.left, ap (λ (z : Draws). z.due) drew.left, drew.is_leaving, ap (λ (z : Draws). z.turns) drew.left)

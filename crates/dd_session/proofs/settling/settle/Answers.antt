@@ -22,7 +22,7 @@ returns-in-Err-Memory-clause-keeps c =
     }
 
 pub returns-in-Err-Memory-clause-notes : goal.returns-in-Err-Memory-clause-notes
-returns-in-Err-Memory-clause-notes c = let gave = c.put_back.ensures.gave in (gave.0, ap (λ (z : Draws). z.stored) gave.1, ap (λ (z : Draws). z.due) gave.1, gave.2)
+returns-in-Err-Memory-clause-notes c = let gave = c.put_back.ensures.gave in (gave.0, ap (λ (z : Draws). z.stored) gave.1, ap (λ (z : Draws). z.due) gave.1, gave.2, ap (λ (z : Draws). z.turns) gave.1)
 
 pub returns-in-Ok-Ok-clause-told : goal.returns-in-Ok-Ok-clause-told
 returns-in-Ok-Ok-clause-told c = added-told (known c.args.pass.now) (known c.add_row-added.new.pass) (call_of c.args.request) c.args.adding c.add_row-added.result.value _ c.add_row-added.result.place _ c.add_row-added.ensures.told

@@ -30,4 +30,4 @@ pub returns-clause-told : goal.returns-clause-told
 returns-clause-told c = (c.args.shared, quiet (call_of c.args.request) (reply_unmade c.args.why), refl, refl, c.finish.ensures.drew)
 
 pub returns-clause-notes : goal.returns-clause-notes
-returns-clause-notes c = let drew = c.finish.ensures.drew in (drew.leaving, ap (λ (z : Draws). z.stored) drew.left, ap (λ (z : Draws). z.due) drew.left, drew.is_leaving)
+returns-clause-notes c = let drew = c.finish.ensures.drew in (drew.leaving, ap (λ (z : Draws). z.stored) drew.left, ap (λ (z : Draws). z.due) drew.left, drew.is_leaving, ap (λ (z : Draws). z.turns) drew.left)
