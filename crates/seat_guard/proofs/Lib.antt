@@ -7,6 +7,7 @@ pub mod NoteLemmas
 pub mod Journals
 pub mod Turns
 pub mod Allotments
+pub mod Aparts
 pub mod Phases
 pub mod PartSteps
 pub mod Keeps

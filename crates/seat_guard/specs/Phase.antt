@@ -1,5 +1,5 @@
 -- The part of the phase word: shares and holds, and which of them exclude each other.
-use Rattle.std.specs.Prelude.{◌≡◌, ℕ, suc, ◌+◌, ◌*◌, ◌/◌, ◌%◌, ◌<◌, ◌≤◌, List, [], ◌∷◌}
+use Rattle.std.specs.Prelude.{◌≡◌, ◌⊎◌, ℕ, suc, ◌+◌, ◌*◌, ◌/◌, ◌%◌, ◌<◌, ◌≤◌, List, [], ◌∷◌}
 use mathlib.Core.Option.{some}
 use lib.ListN.{get_elem?}
 use Rattle.edge_bits.specs.declared.limits.TheConstants.{MOST_SESSIONS}
@@ -88,6 +88,14 @@ HasNoShare x = (x.op ≡ Nothing) × (x.walk ≡ Nothing) × (x.order ≡ Free) 
 
 abbrev pub no_shares : Shares
 no_shares = record { op = Nothing; walk = Nothing; order = Free; full = Free; looks = 0; noted = 0 }
+
+-- what two seats never have at once: an operation share and the order, a walk share and the full hold, and the order twice
+abbrev pub AreApart : Shares → Shares → Type 0
+AreApart x y = ((x.op ≡ Held) × (y.order ≡ Holding)) ⊎ ((x.walk ≡ Held) × (y.full ≡ Holding)) ⊎ ((x.order ≡ Holding) × (y.order ≡ Holding))
+
+-- a seat that would have an operation share and the order
+abbrev pub crossed : View → View
+crossed v = record v { shares = record v.shares { op = Held; order = Holding } }
 
 -- after a step that looked at the word, which found n
 abbrev pub saw : Shares → ℕ → Shares

@@ -47,3 +47,6 @@ module _ {S : Type 0} where
 
   abbrev pub full_cleared : Step S → Me S View → ℕ → Me S View → Type 0
   full_cleared st m n m' = IsWith m (record (passed m.0.shares) { full = Free }) m'
+
+  abbrev pub never : Step S → Me S View → ℕ → Me S View → Type 0
+  never st m n m' = ⊥

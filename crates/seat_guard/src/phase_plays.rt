@@ -1,7 +1,7 @@
 //! What each step on the phase word tells.
 
 use crate::view::View;
-use atomic_table::Play;
+use atomic_table::{Join, Play};
 
 /// An operation share is taken, or owed.
 pub struct EnterOperation;
@@ -91,4 +91,25 @@ impl<S> Play<Option<S>, View> for ClearFull {
     ghost use Rattle.seat_guard.specs.PhasePlays.{full_cleared};
 
     ghost then = { full_cleared };
+}
+
+/// One seat has what two would have that are never there at once.
+pub struct Crossed;
+
+impl Join<View> for Crossed {
+    ghost use Rattle.seat_guard.specs.Phase.{crossed};
+    ghost use Rattle.seat_guard.specs.Views.{blank, viewed};
+
+    ghost both = { λ v w. crossed v };
+
+    ghost spent = { viewed blank };
+}
+
+/// No table has such a seat.
+pub struct Never;
+
+impl<S> Play<Option<S>, View> for Never {
+    ghost use Rattle.seat_guard.specs.PhasePlays.{never};
+
+    ghost then = { never };
 }
