@@ -1,0 +1,6 @@
+mod Judging
+mod Makings
+mod Comparing
+mod Putting
+mod Calls
+mod Whole

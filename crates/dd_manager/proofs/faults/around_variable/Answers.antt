@@ -1,0 +1,8 @@
+use Rattle.std.proofs.Common.{[], ◌∷◌}
+use Rattle.edge_bits.specs.declared.edges.Kind.TheVariants as kinds
+use Rattle.function_laws.specs.Makings as things
+use Rattle.dd_manager.proofs.Judging.{judges-both}
+use Rattle.dd_manager.proofs.faults.around_variable.Goals as goal
+
+pub returns : goal.returns
+returns c = judges-both c.args.there.now.rows.now (things.function kinds.Bdd c.args.a ∷ things.variable c.args.v ∷ []) (things.function kinds.Bdd c.args.b ∷ []) c.with_variable.result c.function.result c.first.result c.first.ensures c.with_variable.ensures c.function.ensures

@@ -1,0 +1,10 @@
+pub mod Answers
+pub mod LevelCalls
+pub mod ListCalls
+pub mod Makings
+pub mod NodeCalls
+pub mod Refusals
+pub mod Requests
+pub mod RowCalls
+pub mod Served
+pub mod Statuses

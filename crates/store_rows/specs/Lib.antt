@@ -1,0 +1,4 @@
+pub mod RowStores
+pub mod MadeRows
+pub mod Nodes
+pub mod Levels
