@@ -1,0 +1,11 @@
+pub mod Learning
+pub mod Passing
+pub mod Placements
+pub mod Answering
+pub mod Opened
+pub mod Chaining
+pub mod Packing
+pub mod Tables
+pub mod Moves
+pub mod Beginnings
+pub mod WalkLemmas

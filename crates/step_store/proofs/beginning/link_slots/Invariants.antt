@@ -1,0 +1,11 @@
+use Rattle.std.proofs.Common.{◌≡◌, length}
+use Rattle.step_store.proofs.Beginnings.{AreLinked}
+use Rattle.step_store.proofs.beginning.link_slots.Given as goal
+
+abbrev pub invariant-loop-slot : goal.invariant-loop-slot
+invariant-loop-slot l = record {
+  heads : length l.heads.items ≡ length l.initial.heads.items;
+  places : l.places ≡ length l.initial.heads.items;
+  nexts : length l.nexts.items ≡ length l.initial.nexts.items;
+  linked : AreLinked l.heads.items l.nexts.items l.words.items l.slot;
+}

@@ -1,0 +1,5 @@
+pub mod Chains
+pub mod Knowing
+pub mod Plain
+pub mod TableLaws
+pub mod Walking
