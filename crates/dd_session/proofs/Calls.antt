@@ -32,6 +32,7 @@ use Rattle.seat_guard.specs.declared.seat.Pass.{Pass}
 use Rattle.seat_guard.specs.declared.seat.Rest.{Rest}
 use Rattle.seat_guard.specs.declared.view.Change.{Change}
 use Rattle.seat_guard.specs.declared.view.Change.TheVariants.{Nothing, Adds, Takes, Posts}
+use Rattle.seat_guard.specs.declared.view.Counts.{Counts}
 use Rattle.seat_guard.specs.declared.view.Draws.{Draws}
 use Rattle.seat_guard.specs.declared.view.Held.{Held}
 use Rattle.seat_guard.specs.declared.view.Leaving.{Leaving}
@@ -42,9 +43,8 @@ use Rattle.seat_guard.specs.Turn.{KeepsRows}
 use Rattle.seat_guard.specs.Notes.{orders_in}
 use Rattle.seat_guard.specs.Views.{Agrees, sizes_for, adds_after, cell_at, holding, letting_go, note_of, rows_after, told_of, without}
 use Rattle.shared_store.specs.declared.shared.Shared.{Shared}
-use Rattle.shared_store.specs.Lasting.{Lasts}
-use Rattle.shared_store.specs.Sharing.{Serving, board, count, counts, functions, keeps, orders, view_of}
-use Rattle.shared_store.proofs.Lasting.{lasts-grown, serves-lasts}
+use Rattle.shared_store.specs.Sharing.{Serving, board, counts, functions, keeps, orders, view_of}
+use Rattle.shared_store.proofs.Lasting.{serves-grown}
 use Rattle.shared_store.specs.Storing.{IsLeaving, IsListedWork}
 use Rattle.shared_store.proofs.Storing.{stored-only}
 use Rattle.dd_session.specs.declared.answers.Full.{Full}
@@ -60,14 +60,14 @@ use Rattle.dd_session.specs.MadeRows.{Refuses, TellsRow, adding_by, with_why}
 use Rattle.operator_calls.specs.declared.unmade.Unmade.{Unmade}
 use Rattle.std.specs.Prelude.{IsErrOf, IsTrue}
 use Rattle.node_store.specs.declared.grow.Stop.TheVariants as stop
-use Rattle.dd_session.specs.Turns.{Gives, IsAdded, IsCausedBy, IsRefused, IsSeatOf, IsSmall, IsWorkFrom, Notes, Ran, Stands, Tied, Told, Took, Tried, managed_by, names_by, seen_by, seen_of}
+use Rattle.dd_session.specs.Turns.{Gives, IsAdded, IsCausedBy, IsRefused, IsSeatOf, IsSmall, IsWorkFor, Notes, Ran, Stands, Tied, Told, Took, Tried, managed_by, names_by, seen_by, seen_of}
 use Rattle.node_slots.specs.Wholes.{content_view}
 use Rattle.dd_session.proofs.Sweepings.{swept_beside}
 use Rattle.dd_session.proofs.Tying.{tied_room, tied_same}
 
 -- from what a taking of the turn tells
-pub took_of : {d e : Draws} {x : Shared} → (others : List Held) × (e ≡ holding d (board x) others (orders x) (functions x)) × Serving x e → length (board x) ≡ CELLS → Took d e x
-took_of took many = record { others = took.0; is = took.1; serves = took.2; many = many }
+pub took_of : {d e : Draws} {x : Shared} {c : Counts} → (others : List Held) × (e ≡ holding d (board x) others (orders x) (functions x)) × Serving x e c → length (board x) ≡ CELLS → Took d e x
+took_of {c = c} took many = record { others = took.0; is = took.1; counts = c; serves = took.2; many = many }
 
 -- a session's seat is seen as the session
 pub seat_of : {s : Seen} (p : Pass Shared) (book : Book) → seen_of p book ≡ s → IsSeatOf s (known p)
@@ -95,16 +95,20 @@ gives_held d e x call o took idle gives t agrees =
 pub small_store : (x : Shared) → IsStore x.store → IsSmall (view_of x)
 small_store x of = (of.few_variables, of.few_elements)
 
--- each store that lasts from the one that was taken keeps the rows
-pub stands_of : (d e : Draws) (x y : Shared) → Took d e x → Lasts x y → orders y ≡ orders x → Stands (view_of y) d
-stands_of d e x y took lasts same = let serves = serves-lasts x y lasts e same took.serves in record {
-  rows_kept = subst (KeepsRows keeps board counts count orders y) (ap (λ (z : Draws). z.rows) took.is) serves.rows_kept;
+-- each store that serves the seat that took the turn has its rows
+pub stands_of : (d e : Draws) (c : Counts) (x y : Shared) → Took d e x → Serving y e c → Stands (view_of y) d
+stands_of d e c x y took serves = record {
+  rows_kept = subst (KeepsRows keeps board counts orders y) (ap (λ (z : Draws). z.rows) took.is) serves.rows_kept;
   counts_are = serves.counts_are ∙ (λ i. ((took.is i).vars, (took.is i).elements, (took.is i).slots));
 }
 
+-- and the orders that it knows
+orders_of_taken : (d e : Draws) (c : Counts) (x y : Shared) → Took d e x → Serving y e c → orders y ≡ orders x
+orders_of_taken d e c x y took serves = serves.orders_are ∙ sym took.serves.orders_are
+
 pub stands_taken : (d e : Draws) (x : Shared) → Took d e x → Stands (view_of x) d
 stands_taken d e x took = record {
-  rows_kept = subst (KeepsRows keeps board counts count orders x) (ap (λ (z : Draws). z.rows) took.is) took.serves.rows_kept;
+  rows_kept = subst (KeepsRows keeps board counts orders x) (ap (λ (z : Draws). z.rows) took.is) took.serves.rows_kept;
   counts_are = took.serves.counts_are ∙ (λ i. ((took.is i).vars, (took.is i).elements, (took.is i).slots));
 }
 
@@ -129,13 +133,13 @@ placed_told old held new x place took told =
 noted_orders : (old held : Draws) (x : Shared) (place : ℕ) → Took old held x → orders x ≡ orders_in (note_of held place)
 noted_orders old held x place took = sym (ap (λ (d : Draws). orders_in (note_of d place)) took.is)
 
-adds_are : (c : Change) (n : ℕ) → adds_after c n ≡ n + names_by c
+pub adds_are : (c : Change) (n : ℕ) → adds_after c n ≡ n + names_by c
 adds_are (Adds row) n = omega arith
 adds_are (Takes name) n = omega arith
 adds_are (Posts i held) n = omega arith
 adds_are Nothing n = omega arith
 
-rows_few : (c : Change) (rows : List Row) → length (rows_after c rows) ≤ length rows + names_by c
+pub rows_few : (c : Change) (rows : List Row) → length (rows_after c rows) ≤ length rows + names_by c
 rows_few (Adds row) rows = omega arith
 rows_few (Takes name) rows = let a = without_few name rows in omega (arith, a)
   where
@@ -247,15 +251,15 @@ stored_ran old held new x y table spare made took Answers Work ran l same leavin
 
 -- an operation that was tried and settled
 module _ {X : Type 0} (old held new : Draws) (x y : Shared) (table table' : TableId) (spare spare' : ℕ) (made : Result X Stop) (took : Took old held x) where
-  module _ (Answers : View → View → X → Type 0) (Work : View → Denoted → Type 0) (tried : Tried Answers Work x y made) (notes : Notes held new y) where
-    of_work : (f : Function) → IsWorkFrom Work x f → IsOfWork (seen_by table old spare) (orders x) Work f
-    of_work f part = let v = part.0 in (view_of v, has_rows table old spare v (stands_of old held x v took part.1 part.2), ordered_as v (orders x) part.3 part.2, part.4)
+  module _ (Answers : View → View → X → Type 0) (Work : View → Denoted → Type 0) (noted : Counts) (tried : Tried held noted Answers Work x y made) (notes : Notes held new y) where
+    of_work : (f : Function) → IsWorkFor held noted Work f → IsOfWork (seen_by table old spare) (orders x) Work f
+    of_work f part = let v = part.0 in (view_of v, has_rows table old spare v (stands_of old held noted x v took part.1), ordered_as v (orders x) part.2 (orders_of_taken old held noted x v took part.1), part.3)
 
     stored_work : (f : Function) → Contains new.stored f → IsOfWork (seen_by table old spare) (orders x) Work f
     stored_work f c = stored-only (IsOfWork (seen_by table old spare) (orders x) Work) x y held notes.0 (ap (λ (z : Draws). z.functions) took.is)
         (λ g there. by g (tried.stored g there)) notes.3 f (subst (λ (fs : List Function). Contains fs f) notes.1 c)
       where
-        by : (g : Function) → Contains (functions x) g ⊎ IsWorkFrom Work x g → Contains (functions x) g ⊎ IsOfWork (seen_by table old spare) (orders x) Work g
+        by : (g : Function) → Contains (functions x) g ⊎ IsWorkFor held noted Work g → Contains (functions x) g ⊎ IsOfWork (seen_by table old spare) (orders x) Work g
         by g (inl there) = inl there
         by g (inr part) = inr (of_work g part)
 
@@ -288,31 +292,26 @@ module _ {X : Type 0} (old held new : Draws) (x y : Shared) (table table' : Tabl
       record {
         function = due.0;
         is = notes.2 ∙ notes.3.due_is ∙ due.1;
-        swept = sweep.3;
+        swept = sweep.2;
         sweep = record {
           before = content_view sweep.0.store;
           after = content_view tried.from.store;
           seen = view_of sweep.0;
-          has = has_rows table old spare sweep.0 (stands_of old held x sweep.0 took sweep.1 sweep.2);
+          has = has_rows table old spare sweep.0 (stands_of old held noted x sweep.0 took sweep.1);
           same = refl;
-          is_swept = swept_beside _ _ _ sweep.4;
+          is_swept = swept_beside _ _ _ sweep.3;
         };
         view = view_of tried.from;
-        has = has_rows table old spare tried.from (stands_of old held x tried.from took tried.lasts tried.orders_are);
-        ordered = subst (IsOrderedBy (view_of tried.from)) (noted_orders old held x full.place took) (ordered_as tried.from (orders x) tried.ran.store tried.orders_are);
+        has = has_rows table old spare tried.from (stands_of old held noted x tried.from took tried.serves);
+        ordered = subst (IsOrderedBy (view_of tried.from)) (noted_orders old held x full.place took) (ordered_as tried.from (orders x) tried.ran.store (orders_of_taken old held noted x tried.from took tried.serves));
         same = refl;
         work = due.2;
       },
     )
 
 -- the last try's store serves, and so does the one that it left
-pub served : {X : Type 0} (d e : Draws) (x y : Shared) (Answers : View → View → X → Type 0) (Work : View → Denoted → Type 0) (made : Result X Stop) → Took d e x → Tried Answers Work x y made → Serving y e
-served d e x y Answers Work made took tried =
-    serves-lasts tried.from y (lasts-grown tried.from y tried.ran.grown tried.ran.cells) e tried.ran.orders_are (serves-lasts x tried.from tried.lasts e tried.orders_are took.serves)
-
-pub counted_few : {X : Type 0} (x y : Shared) (Answers : View → View → X → Type 0) (Work : View → Denoted → Type 0) (made : Result X Stop) (n : ℕ) → Tried Answers Work x y made → ((k : ℕ) → count x k ≤ n) → (k : ℕ) → count y k ≤ n
-counted_few x y Answers Work made n tried few k =
-    let a = ap (λ (f : ℕ → ℕ). f k) tried.lasts.counted in let b = ap (λ (f : ℕ → ℕ). f k) tried.ran.grown.counts in let c = few k in omega (arith, a, b, c)
+pub served : {X : Type 0} (e : Draws) (c : Counts) (x y : Shared) (Answers : View → View → X → Type 0) (Work : View → Denoted → Type 0) (made : Result X Stop) → Tried e c Answers Work x y made → Serving y e c
+served e c x y Answers Work made tried = serves-grown tried.from y e c tried.ran.grown tried.ran.cells tried.ran.orders_are tried.serves
 
 -- what the call makes is what the edge denotes
 pub listed-made : (k : Kind) (w w' : View) (e : Edge) (f : ℕ → ValueOf k) → Grown w w' → Denotes k w' e f → listed k w f ≡ listed_at k w' e

@@ -8,7 +8,8 @@ use Rattle.function_laws.specs.declared.history.Entry.{Entry}
 use Rattle.function_laws.specs.Tables.{Sizes, Table, opening}
 use Rattle.function_laws.specs.Histories.{IsLegal, IsLegalFrom, after_entry, table_after}
 use Rattle.function_laws.specs.EntryOrders.{EachWith, opening_orders}
-use Rattle.function_laws.specs.SiftEntries.{Carries}
+use Rattle.seat_guard.specs.Finds.{Finds}
+use Rattle.seat_guard.specs.Sifted.{ArePlaced, IsHadAt}
 use Rattle.function_laws.specs.SessionEntries.{Each, IsByPlace, entries_of}
 use Rattle.function_laws.proofs.PlaceOrder.{one_order}
 use Rattle.seat_guard.specs.declared.view.Gone.{Gone}
@@ -16,7 +17,7 @@ use Rattle.seat_guard.specs.declared.view.Draws.{Draws}
 use Rattle.seat_guard.specs.Notes.{IsNotedIn}
 use Rattle.seat_guard.specs.Views.{sizes_for}
 use Rattle.seat_guard.specs.Rule.{AllBack, RowsStand, Whole}
-use Rattle.seat_guard.proofs.RowCounts.{each_map}
+use Rattle.seat_guard.proofs.Lists.{each_map}
 use Rattle.dd_session.specs.Managing.{AreAll, IsHistoryOf, Managed, Seen, gone_as}
 
 -- a history's places rise
@@ -49,7 +50,8 @@ history_of m d n k sessions vars elements given gone all first whole = (
     log = whole.log;
     legal = subst (λ (z : Sizes). IsLegal z whole.log) (λ i. sizes_for (vars i) (elements i)) whole.legal;
     count = sym (ap (λ (l : List Entry). length l) (one_log d (sizes_for d.vars d.elements) n k (all_back m d sessions given gone all) first whole)) ∙ first.count;
-    carried = subst (λ (z : Sizes). EachWith Carries (opening z) (opening_orders z) whole.log) (λ i. sizes_for (vars i) (elements i)) whole.carried;
+    found = subst (λ (z : Sizes). EachWith Finds (opening z) (opening_orders z) whole.log) (λ i. sizes_for (vars i) (elements i)) whole.found;
+    had = subst (λ (z : Sizes). ArePlaced (IsHadAt z whole.log) whole.log) (λ i. sizes_for (vars i) (elements i)) (whole.placed (all_back m d sessions given gone all));
     each = λ k s at. whole.each k (gone_as s) (ap (λ (l : List Gone). get_elem? l k) gone ∙ at_map gone_as sessions k s at);
     rows = λ k s at. subst (λ (z : Sizes). RowsStand (table_after (opening z) whole.log) (gone_as s)) (λ i. sizes_for (vars i) (elements i)) (whole.rows k (gone_as s) (ap (λ (l : List Gone). get_elem? l k) gone ∙ at_map gone_as sessions k s at));
     known = λ k s at. whole.known k (gone_as s) (ap (λ (l : List Gone). get_elem? l k) gone ∙ at_map gone_as sessions k s at) ∙ (λ i. sizes_for (vars i) (elements i));

@@ -1,17 +1,20 @@
 pub mod Naming
 pub mod Serving
+pub mod Soundness
+pub mod Movings
+pub mod Calm
 pub mod RequestLemmas
 pub mod Tellings
 pub mod Tying
 pub mod Tries
 pub mod Calls
+pub mod OnRows
 pub mod Outcomes
 pub mod OperationLaws
 pub mod NumberLaws
 pub mod FamilyLaws
 mod CoverLists
 mod CoverLaws
-pub mod Letting
 pub mod Ending
 pub mod Turning
 pub mod SessionLaws

@@ -15,6 +15,7 @@ use Rattle.function_laws.specs.Lists.{list_of}
 use Rattle.function_laws.specs.Sizes.{Orders}
 use Rattle.node_slots.specs.Stores.{IsStore}
 use Rattle.node_store.specs.Views.{Is, bdd_at}
+use Rattle.seat_guard.specs.declared.view.Counts.{Counts}
 use Rattle.seat_guard.specs.declared.view.Draws.{Draws}
 use Rattle.seat_guard.specs.declared.view.Leaving.{Leaving}
 use Rattle.function_laws.specs.Widening.{at_sizes}
@@ -29,12 +30,12 @@ use Rattle.dd_session.specs.Turns.{Keeps, Stands, Took, seen_by}
 use Rattle.std.proofs.Math.Nat.{zero-add}
 use Rattle.dd_session.proofs.Calls.{seen_sizes}
 use Rattle.dd_session.proofs.Naming.{own_edge}
-use Rattle.dd_session.proofs.Serving.{serves-same}
+use Rattle.dd_session.proofs.Soundness.{sound_same, sizes_of}
 use Rattle.dd_session.proofs.Tying.{tied_same}
 
 -- a store that serves keeps the rows
-pub serving_stands : (d : Draws) (x : Shared) → Serving x d → Stands (view_of x) d
-serving_stands d x serves = record { rows_kept = serves.rows_kept; counts_are = serves.counts_are }
+pub serving_stands : (d : Draws) (c : Counts) (x : Shared) → Serving x d c → Stands (view_of x) d
+serving_stands d c x serves = record { rows_kept = serves.rows_kept; counts_are = serves.counts_are }
 
 module _ (d : Draws) (x : Shared) (stands : Stands (view_of x) d) where
   -- the edges of BDDs' rows are BDDs of the store
@@ -54,9 +55,9 @@ module _ (d : Draws) (x : Shared) (stands : Stands (view_of x) d) where
       ∙ ap (λ (z : ℕ × ℕ × ℕ). Some (Bdd (list_of (2 ^ z.0) (bdd_at (view_of x) (edge_in d.rows name))))) stands.counts_are)
       (stand_all names (All-tail (IsNamed kinds.Bdd d.rows) name names all))
 
-  pub lists_rows : (names : List Name) (edges : List Edge) (listing : Listing) → Serving x d → IsStore x.store → All (IsNamed kinds.Bdd d.rows) names → edges ≡ map (edge_in d.rows) names
+  pub lists_rows : (names : List Name) (edges : List Edge) (listing : Listing) (c : Counts) → Serving x d c → IsStore x.store → All (IsNamed kinds.Bdd d.rows) names → edges ≡ map (edge_in d.rows) names
       → IsListing x.store.variables_at (map (bdd_at (view_of x)) edges) listing → (listing.order ≡ d.variable_order) × ListsRows d.vars (known_as d) names listing
-  lists_rows names edges listing serves store all is told = (
+  lists_rows names edges listing c serves store all is told = (
     told.order_is ∙ ap (λ (o : Orders). o.variables) serves.orders_are,
     record {
       functions = map (bdd_at (view_of x)) edges;
@@ -66,14 +67,14 @@ module _ (d : Draws) (x : Shared) (stands : Stands (view_of x) d) where
     },
   )
 
-pub list_told : (d : Draws) (x : Shared) (names : List Name) (edges : List Edge) → Serving x d → IsStore x.store → All (IsNamed kinds.Bdd d.rows) names → edges ≡ map (edge_in d.rows) names
+pub list_told : (d : Draws) (c : Counts) (x : Shared) (names : List Name) (edges : List Edge) → Serving x d c → IsStore x.store → All (IsNamed kinds.Bdd d.rows) names → edges ≡ map (edge_in d.rows) names
     → (r : Result Listing Memory) → IfOk r (IsListing x.store.variables_at (map (bdd_at (view_of x)) edges)) → IfOk r (λ listing. (listing.order ≡ d.variable_order) × ListsRows d.vars (known_as d) names listing)
-list_told d x names edges serves store all is (Ok listing) told = lists_rows d x (serving_stands d x serves) names edges listing serves store all is told
-list_told d x names edges serves store all is (Err e) told = tt
+list_told d c x names edges serves store all is (Ok listing) told = lists_rows d x (serving_stands d c x serves) names edges listing c serves store all is told
+list_told d c x names edges serves store all is (Err e) told = tt
 
 -- a store that serves still does once the orders are noted
-pub serves_noting : (d : Draws) (x : Shared) (place : ℕ) → Serving x d → Serving x (noting d place)
-serves_noting d x place serves = serves-same x d (noting d place) serves (record { rows_are = refl; cells_are = refl; others_are = refl; counts_are = (refl, refl, refl); orders_are = refl })
+pub serves_noting : (d : Draws) (c : Counts) (x : Shared) (place : ℕ) → Serving x d c → Serving x (noting d place) c
+serves_noting d c x place serves = record { rows_kept = serves.rows_kept; raised_kept = serves.raised_kept; owed_kept = serves.owed_kept; others_kept = serves.others_kept; cells_kept = serves.cells_kept; board_is = serves.board_is; counts_are = serves.counts_are; orders_are = serves.orders_are }
 
 -- what a listing is for its caller
 pub is_listed : (old held new : Draws) (x : Shared) (table table' : TableId) (spare place : ℕ) (l : Leaving) (names : List Name) (listing : Listing) → table' ≡ table → Took old held x → new ≡ letting_go (noting held place) l
@@ -95,8 +96,9 @@ pub leaves_noting : (d : Draws) (y : Shared) (place : ℕ) (l : Leaving) → IsL
 leaves_noting d y place l is = record { told = is.told; new = is.new; due_is = is.due_is }
 
 -- the book of a seat that has made no call
-pub keeps_uncalled : (d e : Draws) (book : Book) → Keeps d book → e.rows ≡ d.rows → e.adds ≡ d.adds → e.entries ≡ d.entries → Keeps e book
-keeps_uncalled d e book keeps rows adds entries = record {
+pub keeps_uncalled : (d e : Draws) (book : Book) → Keeps d book → sizes_of e ≡ sizes_of d → e.rows ≡ d.rows → e.adds ≡ d.adds → e.entries ≡ d.entries → Keeps e book
+keeps_uncalled d e book keeps sizes rows adds entries = record {
+  sound = sound_same d e rows sizes keeps.sound;
   rows = tied_same d e book.rows keeps.rows rows adds (let a = ap (λ (l : List Entry). length l) entries in omega (arith, a));
   calls = keeps.calls ∙ sym (ap (λ (l : List Entry). length l) entries);
   fulls = keeps.fulls ∙ sym (ap fulls_in entries);

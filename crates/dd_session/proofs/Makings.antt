@@ -2,7 +2,6 @@
 use Rattle.std.proofs.Common.{◌≡◌, ℕ, ◌*◌, ◌^◌, ◌<◌, ◌≤◌, Bool, true, false, cond, ℤ, pos, ◌+ℤ◌, ◌-ℤ◌, ◌*ℤ◌, int_le, length, List, Option, Some, None, Result, Ok, Err, IfOk, MatchResult, inl, arith, ap, refl, sym, subst, ◌∙◌}
 use Rattle.std.proofs.Math.Nat.{zero-add}
 use Rattle.std.proofs.lemmas.Bool.{false≢true}
-use Rattle.std.specs.Prelude.{IsErrOf}
 use Rattle.std.proofs.lemmas.List.Folds.{list_all_at}
 use Rattle.std.proofs.lemmas.List.Sums.{list_all-from_AllPass}
 use Rattle.edge_bits.specs.declared.edges.Edge.{Edge}
@@ -47,6 +46,7 @@ use Rattle.operator_calls.specs.Taking.{CanTakeAll}
 use Rattle.quantify_ops.specs.Restricted.{Restricted}
 use Rattle.quantify_ops.proofs.OutcomeLaws.{outcome-restrict}
 use Rattle.zdd_ops.proofs.OutcomeLaws.{outcome-base, outcome-diff, outcome-empty, outcome-meet, outcome-product, outcome-quotient, outcome-union}
+use Rattle.seat_guard.specs.declared.view.Counts.{Counts}
 use Rattle.seat_guard.specs.declared.view.Draws.{Draws}
 use Rattle.seat_guard.specs.Views.{Agrees}
 use Rattle.shared_store.specs.declared.shared.Shared.{Shared}
@@ -242,8 +242,8 @@ module _ (d : Draws) (v : View) (of : IsSmall v) (stands : Stands v d) where
   told (makings.Zdd (zdds.Isop a b)) can = ((record { first = (own kinds.Bdd a can.1.0 v stands).0; second = (own kinds.Bdd b can.1.1.0 v stands).0 }, covers.literals_in d v of stands can.0), covered a b can.1.0 can.1.1.0 can.0)
 
 -- what a try of a making leaves, by what comes of it
-module _ (d e : Draws) (x y : Shared) (call : Call) (k : Kind) (adding : Adding) (making : Making Edge (List ℕ) (List (ℕ × Edge))) (Work : View → Denoted → Type 0) (made : Result (Result Edge Unmade) Stop) (took : Took d e x) (idle : d.holds ≡ false)
-    (tried : Tried (told_by making) Work x y made) (has : HasOutcome d (view_of tried.from) call k adding (answer making (view_of tried.from)) (exceeds making (view_of tried.from)) (is_apart making (view_of tried.from)) (Work (view_of tried.from))) where
+module _ (d e : Draws) (x y : Shared) (call : Call) (k : Kind) (adding : Adding) (making : Making Edge (List ℕ) (List (ℕ × Edge))) (Work : View → Denoted → Type 0) (made : Result (Result Edge Unmade) Stop) (c : Counts) (took : Took d e x) (idle : d.holds ≡ false)
+    (tried : Tried e c (told_by making) Work x y made) (has : HasOutcome d (view_of tried.from) call k adding (answer making (view_of tried.from)) (exceeds making (view_of tried.from)) (is_apart making (view_of tried.from)) (Work (view_of tried.from))) where
   outcome_gives : Gives e call has.outcome
   outcome_gives = gives_held d e x call has.outcome took idle has.gives
 

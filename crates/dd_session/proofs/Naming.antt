@@ -1,5 +1,7 @@
 -- What names stand for, and the rows in memory that they name.
-use Rattle.std.proofs.Common.{◌≡◌, Bool, true, false, cond, ◌&&◌, ◌==◌, List, [], ◌∷◌, Option, Some, None, option_map, IsSome, IfSome, IsTrue, ◌↔◌, refl, ap, ap₂, sym, subst, ◌∙◌, eq-eqb}
+use Rattle.std.proofs.Common.{◌≡◌, Bool, true, false, cond, ◌&&◌, ◌==◌, List, [], ◌∷◌, Option, Some, None, option_map, IsSome, IfSome, IsTrue, ◌↔◌, refl, ap, ap₂, sym, subst, ◌∙◌, eq-eqb, ne_eqb, ℕ}
+use mathlib.Core.Logic.{dite}
+use native.Mathlib.Decide.{ℕ_discrete}
 use Rattle.std.proofs.lemmas.Bool.{eqb-true}
 use Rattle.edge_bits.specs.declared.edges.Edge.{Edge}
 use Rattle.edge_bits.specs.declared.edges.Kind.{Kind}
@@ -33,6 +35,13 @@ same_name-eq a b is =
     let t = both_true (a.row == b.row) (a.generation == b.generation) is in
     let rows = eqb-true a.row b.row t.0 in
     let generations = eqb-true a.generation b.generation t.1 in λ i. record { row = rows i; generation = generations i }
+
+-- it is told of both alike
+pub same_back : (a b : Name) → same_name a b ≡ same_name b a
+same_back a b = ap₂ (λ x y. x && y) (eqb-back a.row b.row) (eqb-back a.generation b.generation)
+  where
+    eqb-back : (m n : ℕ) → (m == n) ≡ (n == m)
+    eqb-back m n = dite (ℕ_discrete m n) (λ e. eq-eqb m n e ∙ sym (eq-eqb n m (sym e))) (λ e. ne_eqb m n e ∙ sym (ne_eqb n m (λ s. e (sym s))))
 
 abbrev nothing : (X : Type 0) → Option X
 nothing X = None

@@ -3,24 +3,22 @@ use Rattle.std.proofs.lemmas.List.{length-take, length-take-le}
 use Rattle.edge_bits.specs.Words.{digit}
 use Rattle.function_laws.specs.Lists.{list_of, truth, whole}
 use Rattle.function_laws.specs.Steps.{value_at}
-use Rattle.std.proofs.Common.{◌≡◌, ◌≤◌, ◌^◌, ℕ, pos, take, take_all, arith, Bool, false, Option, Some, None, option_map, refl, IsTrue, ◌↔◌, ap, sym, subst, ◌∙◌, List, length}
+use Rattle.std.proofs.Common.{◌≡◌, ◌≤◌, ◌^◌, ℕ, pos, take, take_all, arith, Bool, false, Option, Some, None, option_map, refl, ap, sym, subst, ◌∙◌, List, length}
 use Rattle.atomic_table.specs.Seated.{TableId}
 use Rattle.edge_bits.specs.declared.edges.Edge.{Edge}
 use Rattle.edge_bits.specs.declared.edges.Kind.{Kind}
 use Rattle.edge_bits.specs.declared.edges.Kind.TheVariants as kinds
 use Rattle.function_laws.specs.declared.history.Name.{Name}
-use Rattle.function_laws.specs.declared.history.Function.{Function}
 use Rattle.function_laws.specs.declared.history.Call.{Call}
 use Rattle.function_laws.specs.declared.history.Call.TheVariants as calls
-use Rattle.function_laws.specs.Outcomes.{compares, makes, shows, with_one}
+use Rattle.function_laws.specs.Outcomes.{makes, shows, with_one}
 use Rattle.function_laws.specs.Tables.{Sizes, Table}
 use Rattle.function_laws.specs.Widening.{at_sizes}
 use Rattle.function_laws.specs.Kinds.{ValueOf}
 use Rattle.function_laws.specs.Values.{assignment_of}
 use Rattle.node_store.specs.Listed.{listed, listed_at, number_of}
 use Rattle.node_store.specs.Views.{View, Denotes, Is, levels, values_at}
-use Rattle.node_store.proofs.ListedLaws.{same-listed}
-use Rattle.node_store.proofs.Outcomes.{outcome-eval, outcome-same}
+use Rattle.node_store.proofs.Outcomes.{outcome-eval}
 use Rattle.seat_guard.specs.declared.view.Draws.{Draws}
 use Rattle.seat_guard.specs.Views.{Agrees, known_as, stands_for}
 use Rattle.shared_store.specs.declared.shared.Shared.{Shared}
@@ -60,21 +58,8 @@ has_value k d w call f gives = record { value = f; gives = gives; denotes = λ u
 
 -- the calls on rows and cells
 module _ (old held : Draws) (x : Shared) (took : Took old held x) (idle : old.holds ≡ false) where
-  pub gives_copy : (k k' : Kind) (a : Name) (e : Edge) → k' ≡ k → IsEdgeOf k old a e → Gives held (calls.Copy a) (makes (listed_at k' (view_of x) e))
-  gives_copy k k' a e is edge = subst (λ (j : Kind). Gives held (calls.Copy a) (makes (listed_at j (view_of x) e))) (sym is) (gives_held old held x (calls.Copy a) (makes (listed_at k (view_of x) e)) took idle
-      (λ t agrees. ap (λ o. with_one o makes) (live old t a k (view_of x) e agrees (stands_taken old held x took) (edge (view_of x) (stands_taken old held x took)).1)))
-
   pub is_kind : (k k' : Kind) (a : Name) (e : Edge) → k' ≡ k → IsEdgeOf k old a e → Is k' (view_of x) e
   is_kind k k' a e is edge = subst (λ (j : Kind). Is j (view_of x) e) (sym is) (edge (view_of x) (stands_taken old held x took)).0
-
-  -- a comparison
-  pub gives_same : (k : Kind) (a b : Name) (e i : Edge) → IsEdgeOf k old a e → IsEdgeOf k old b i → Gives held (calls.Same a b) (compares (listed_at k (view_of x) e) (listed_at k (view_of x) i))
-  gives_same k a b e i first second = gives_held old held x (calls.Same a b) (compares (listed_at k (view_of x) e) (listed_at k (view_of x) i)) took idle (λ t agrees.
-      outcome-same (view_of x) t.sizes t.cells (t.live old.session) k a b e i (live old t a k (view_of x) e agrees (stands_taken old held x took) (first (view_of x) (stands_taken old held x took)).1) (live old t b k (view_of x) i agrees (stands_taken old held x took) (second (view_of x) (stands_taken old held x took)).1))
-
-  pub same_told : (k : Kind) (a b : Name) (e i : Edge) (told : Bool) → IsEdgeOf k old a e → IsEdgeOf k old b i → IsTrue told ↔ (values_at k (view_of x) e ≡ values_at k (view_of x) i) → IsTrue told ↔ (listed_at k (view_of x) e ≡ listed_at k (view_of x) i)
-  same_told k a b e i told first second is = let s = stands_taken old held x took in
-      ((λ yes. ap (listed k (view_of x)) (is.0 yes)), (λ same. is.1 (same-listed k (view_of x) (values_at k (view_of x) e) (values_at k (view_of x) i) (first (view_of x) s).0.beyond (second (view_of x) s).0.beyond same)))
 
   -- what the name stands for as the turn was taken
   pub stands_held_as : (k : Kind) (a : Name) (e : Edge) → IsEdgeOf k old a e → known_as held a ≡ Some (listed_at k (view_of x) e)

@@ -1,4 +1,4 @@
--- What no call here does: it carries no functions; and but for a swap it changes no order.
+-- What no call here does: it finds and carries no functions; and but for a swap it changes no order.
 use Rattle.std.proofs.Common.{◌≡◌, ℕ, refl}
 use Rattle.function_laws.specs.declared.history.Name.{Name}
 use Rattle.function_laws.specs.declared.history.Reply.{Reply}
@@ -8,16 +8,25 @@ use Rattle.function_laws.specs.declared.orders.Order.{Order}
 use Rattle.function_laws.specs.declared.orders.Order.TheVariants.{Variables, Elements}
 use Rattle.function_laws.specs.Sizes.{Orders}
 use Rattle.seat_guard.specs.declared.view.Draws.{Draws}
-use Rattle.seat_guard.specs.Sifted.{MayCarry}
+use Rattle.seat_guard.specs.declared.view.Counts.{Counts}
+use Rattle.function_laws.specs.SessionEntries.{Each}
+use Rattle.seat_guard.specs.Finds.{MayFind, carried_by}
+use Rattle.seat_guard.specs.Moves.{HasNoted}
 use Rattle.dd_session.specs.declared.request.Request.{Request}
 use Rattle.dd_session.specs.declared.request.Request.TheVariants as requests
 use Rattle.dd_session.specs.Requests.{call_of}
 
-pub carries_none : (d : Draws) (r : Request) → MayCarry d (call_of r)
-carries_none d requests.Sweep = tt
-carries_none d (requests.Swap Variables level) = tt
-carries_none d (requests.Swap Elements level) = tt
-carries_none d r = tt
+pub finds_none : (d : Draws) (r : Request) → MayFind d (call_of r)
+finds_none d requests.Sweep = tt
+finds_none d (requests.Swap Variables level) = tt
+finds_none d (requests.Swap Elements level) = tt
+finds_none d r = tt
+
+pub carries_none : (c : Counts) (r : Request) → Each (HasNoted c) (carried_by (call_of r))
+carries_none c requests.Sweep = tt
+carries_none c (requests.Swap Variables level) = tt
+carries_none c (requests.Swap Elements level) = tt
+carries_none c r = tt
 
 -- the call is no swap that was done, and numbers nothing
 pub record LeavesOrders (r : Request) (reply : Reply) : Type 0 where

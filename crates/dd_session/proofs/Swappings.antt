@@ -47,6 +47,7 @@ module _ (d e : Draws) (x : Shared) (took : Took d e x) where
   pub keeps_taken : (book : Book) → Keeps d book → Keeps e book
   keeps_taken book keeps = subst (λ (z : Draws). Keeps z book) (sym took.is) (record {
     rows = record { adds_are = keeps.rows.adds_are; few = keeps.rows.few; found = keeps.rows.found; many = keeps.rows.many; counted = keeps.rows.counted; apart = keeps.rows.apart };
+    sound = record { within = keeps.sound.within; canonical = keeps.sound.canonical };
     calls = keeps.calls;
     fulls = keeps.fulls;
   })

@@ -1,12 +1,11 @@
 -- What each call may tell, and what it then is for its caller.
-use Rattle.std.proofs.Common.{◌≡◌, ◌≢◌, ℕ, zero, suc, ◌+◌, ◌<◌, ◌≤◌, Bool, true, false, cond, ◌&&◌, ◌||◌, ◌==◌, List, [], ◌∷◌, ◌++◌, length, set, Option, Some, None, option_map, IsTrue, ◌↔◌, refl, ap, ap₂, sym, subst, ◌∙◌, arith, eq-eqb, ne_eqb, ℤ, nat_lt}
+use Rattle.std.proofs.Common.{◌≡◌, ◌≢◌, ℕ, zero, suc, ◌+◌, ◌<◌, ◌≤◌, Bool, true, false, cond, ◌&&◌, ◌||◌, ◌==◌, List, [], ◌∷◌, ◌++◌, length, set, Option, Some, None, option_map, IsTrue, refl, ap, ap₂, sym, subst, ◌∙◌, arith, eq-eqb, ne_eqb, true≢false, inl, inr, ℤ, nat_lt}
 use Rattle.std.specs.Prelude.{slice_get, All, Contains}
 use Rattle.std.proofs.Math.ListN.{length-set}
 use Rattle.std.proofs.lemmas.Bool.{lt-ltb}
 use mathlib.Core.Logic.{dite}
 use native.Mathlib.Decide.{ℕ_discrete}
-use Rattle.edge_bits.specs.declared.limits.TheConstants.{CELLS, MOST_ROWS}
-use Rattle.edge_bits.specs.declared.edges.Edge.{Edge}
+use Rattle.edge_bits.specs.declared.limits.TheConstants.{CELLS}
 use Rattle.edge_bits.specs.declared.edges.Kind.{Kind}
 use Rattle.function_laws.specs.declared.history.Name.{Name}
 use Rattle.function_laws.specs.declared.history.Function.{Function}
@@ -20,7 +19,7 @@ use Rattle.function_laws.specs.Kinds.{Denoted}
 use Rattle.function_laws.specs.Sizes.{Orders}
 use Rattle.function_laws.specs.Tables.{Sizes, Table, same_name, with_name}
 use Rattle.function_laws.specs.Widening.{at_sizes}
-use Rattle.function_laws.specs.Outcomes.{Outcome, makes, fetches, overflows, is_apart, compares, tells, shows, is_done, with_one, when}
+use Rattle.function_laws.specs.Outcomes.{Outcome, makes, fetches, overflows, is_apart, tells, shows, is_done, with_one, when}
 use Rattle.function_laws.specs.declared.orders.Order.{Order}
 use Rattle.function_laws.specs.declared.orders.Order.TheVariants.{Variables, Elements}
 use Rattle.function_laws.specs.Steps.{TellsFull, may_be_full, with_result, from_cell}
@@ -33,31 +32,36 @@ use Rattle.operator_calls.specs.declared.unmade.Unmade.TheVariants as unmade
 use Rattle.seat_guard.specs.declared.view.Held.{Held}
 use Rattle.seat_guard.specs.declared.view.Row.{Row}
 use Rattle.seat_guard.specs.declared.view.Change.TheVariants.{Nothing, Adds, Takes, Posts}
+use Rattle.seat_guard.specs.declared.seat.Pass.{Pass}
 use Rattle.seat_guard.specs.declared.view.Telling.{Telling}
+use Rattle.seat_guard.specs.Moves.{IsChangeOf}
+use Rattle.seat_guard.specs.Passes.{known}
 use Rattle.seat_guard.specs.declared.view.Leaving.{Leaving}
 use Rattle.seat_guard.specs.declared.view.Draws.{Draws}
 use Rattle.seat_guard.specs.Known.{known_at, sizes_for}
-use Rattle.seat_guard.specs.Views.{Agrees, AreTold, MayTell, told_of, known_as, letting_go, orders_of, stands_for, without, cell_at, function_in}
+use Rattle.seat_guard.specs.Views.{Agrees, MayTell, is_ordering, is_post, told_of, known_as, letting_go, orders_of, stands_for, without, cell_at, function_in}
 use Rattle.shared_store.specs.declared.shared.Cell.{Cell}
 use Rattle.shared_store.specs.declared.shared.Shared.{Shared}
-use Rattle.shared_store.specs.Lasting.{IsRecounted}
 use Rattle.shared_store.specs.Reordering.{swap_call}
-use Rattle.shared_store.specs.Sharing.{count, due, held_of, keeps, noted_in, view_of, whole_of}
+use Rattle.shared_store.specs.Sharing.{due, held_of, keeps, noted_in, view_of, whole_of}
 use Rattle.shared_store.proofs.Keeping.{kind-listed, listed-noted}
-use Rattle.shared_store.proofs.Stored.{functions-recounted}
 use Rattle.shared_store.specs.Storing.{IsLeaving}
 use Rattle.dd_session.specs.declared.request.Request.{Request}
 use Rattle.dd_session.specs.declared.request.Adding.{Adding}
 use Rattle.dd_session.specs.declared.request.Adding.TheVariants.{Made, Chosen, Taken}
 use Rattle.dd_session.specs.declared.request.Answer.{Answer}
-use Rattle.dd_session.specs.declared.request.Answer.TheVariants.{Added, Dropped, Posted, Truth, Value, Done, Unmade, Full}
+use Rattle.dd_session.specs.declared.request.Answer.TheVariants.{Added, Posted, Truth, Value, Done, Unmade, Full}
 use Rattle.dd_session.specs.Requests.{added_as, call_of, change_of, is_refusal, reply_of}
 use Rattle.dd_session.specs.Sessions.{fulls_in, is_full, names_in, reply_unmade}
-use Rattle.dd_session.specs.Turns.{sizes_in, AddsRow, Chooses, Drew, Gives, IsAdded, MayBeFull, Notes, Told, levels_in, live_as, names_by, ordered_by, outcome_unmade}
+use Rattle.dd_session.specs.Turns.{sizes_in, AddsRow, Drew, Gives, IsAdded, MayBeFull, Told, levels_in, live_as, names_by, ordered_by, outcome_unmade}
 use Rattle.dd_session.proofs.Naming.{cond_none, same_name-eq}
 use Rattle.dd_session.proofs.Outcomes.{listed-known}
-use Rattle.dd_session.proofs.RequestLemmas.{LeavesOrders, carries_none, orders_stay}
-use Rattle.dd_session.proofs.Serving.{KnowsAs, listed-on}
+use Rattle.dd_session.proofs.RequestLemmas.{LeavesOrders, finds_none, orders_stay}
+use Rattle.dd_session.proofs.Serving.{KnowsAs}
+
+-- who has the turn is told all
+held_free : (d : Draws) (b : Bool) → d.holds ≡ true → d.holds ≡ false → b ≡ false
+held_free d b holds not = absurd (true≢false (sym holds ∙ not))
 
 no_number : (w : View) (adding : Adding) (name : Name) (cell : Cell) (r : Name) (n : ℕ) → added_as w adding name cell ≡ replies.Numbered r n → ⊥
 no_number w Made name cell r n e = cc
@@ -73,27 +77,27 @@ none_and : (b : Bool) → (b && false) ≡ false
 none_and true = refl
 none_and false = refl
 
-abbrev adds : Call → Reply → Name → Held → Telling
+abbrev pub adds : Call → Reply → Name → Held → Telling
 adds call reply name held = record { call = call; reply = reply; change = Adds (record { name = name; held = held }) }
 
 -- a table with one name more agrees with one row more
-agrees_made : (d : Draws) (t : Table) (name : Name) (held : Held) (call : Call) (reply : Reply) → Agrees d t → name.generation ≡ d.adds → known_at d held.function ≡ held.function
-    → Agrees (told_of d 0 (adds call reply name held)) (with_name t d.session name held.function)
-agrees_made d t name held call reply agrees is noted = let here = eq-eqb d.session d.session refl in record {
+pub agrees_made : (d : Draws) (t : Table) (name : Name) (held : Held) (g : Function) (call : Call) (reply : Reply) → Agrees d t → name.generation ≡ d.adds → known_at d held.function ≡ g
+    → Agrees (told_of d 0 (adds call reply name held)) (with_name t d.session name g)
+agrees_made d t name held g call reply agrees is noted = let here = eq-eqb d.session d.session refl in record {
   sizes_are = agrees.sizes_are;
-  live = λ other. ap (λ b. cond (b && same_name other name) (Some held.function) (t.live d.session other)) here ∙ by other (same_name other name);
+  live = λ other. ap (λ b. cond (b && same_name other name) (Some g) (t.live d.session other)) here ∙ by other (same_name other name);
   fresh = λ other le.
       let apart : same_name other name ≡ false = ap (λ b. (other.row == name.row) && b) (ne_eqb other.generation name.generation (λ e. omega (arith, e, is, le))) ∙ none_and (other.row == name.row) in
       ap (λ b. b || t.given d.session other) (ap (λ b. (d.session == d.session) && b) apart ∙ none_and (d.session == d.session)) ∙ agrees.fresh other (omega (arith, le));
   cells = agrees.cells;
 }
   where
-    by : (other : Name) (b : Bool) → cond (true && b) (Some held.function) (t.live d.session other) ≡ option_map (at_sizes t.sizes) (cond b (Some held.function) (stands_for d.rows other))
+    by : (other : Name) (b : Bool) → cond (true && b) (Some g) (t.live d.session other) ≡ option_map (at_sizes t.sizes) (cond b (Some held.function) (stands_for d.rows other))
     by other true = ap Some (sym (ap (λ (z : Sizes). at_sizes z held.function) agrees.sizes_are ∙ noted))
     by other false = agrees.live other
 
 -- a call that adds a row
-module _ (d : Draws) (w : View) (r : Request) (name : Name) (cell : Cell) (counts : sizes_in w ≡ (d.vars, d.elements, d.slots)) (new : name.generation ≡ d.adds) (few : length d.rows < MOST_ROWS) where
+module _ (d : Draws) (w : View) (r : Request) (name : Name) (cell : Cell) (counts : sizes_in w ≡ (d.vars, d.elements, d.slots)) (new : name.generation ≡ d.adds) (holds : d.holds ≡ true) where
   abbrev held : Held
   held = held_of w cell
 
@@ -105,10 +109,11 @@ module _ (d : Draws) (w : View) (r : Request) (name : Name) (cell : Cell) (count
     plain = refl;
     step = λ t agrees. let is = is_outcome t agrees in (
       (makes held.function, is, agrees.fresh name (omega (arith, new))),
-      subst (λ (u : Table). Agrees (told_of d 0 (adds (call_of r) (replies.Made name) name held)) u) (sym (ap (with_result t d.session name) is)) (agrees_made d t name held (call_of r) (replies.Made name) agrees new noted),
+      subst (λ (u : Table). Agrees (told_of d 0 (adds (call_of r) (replies.Made name) name held)) u) (sym (ap (with_result t d.session name) is)) (agrees_made d t name held held.function (call_of r) (replies.Made name) agrees new noted),
     );
-    carries = carries_none d r;
-    room = few;
+    finds = finds_none d r;
+    board = held_free d (is_post (call_of r)) holds;
+    orders = held_free d (is_ordering (call_of r)) holds;
   }
 
   may_fetch : (posted : Bool) → Gives d (call_of r) (fetches held.function posted) → MayTell d (adds (call_of r) (replies.Fetched name posted) name held)
@@ -116,24 +121,26 @@ module _ (d : Draws) (w : View) (r : Request) (name : Name) (cell : Cell) (count
     plain = refl;
     step = λ t agrees. let is = is_outcome t agrees in (
       (fetches held.function posted, is, (agrees.fresh name (omega (arith, new)), refl)),
-      subst (λ (u : Table). Agrees (told_of d 0 (adds (call_of r) (replies.Fetched name posted) name held)) u) (sym (ap (with_result t d.session name) is)) (agrees_made d t name held (call_of r) (replies.Fetched name posted) agrees new noted),
+      subst (λ (u : Table). Agrees (told_of d 0 (adds (call_of r) (replies.Fetched name posted) name held)) u) (sym (ap (with_result t d.session name) is)) (agrees_made d t name held held.function (call_of r) (replies.Fetched name posted) agrees new noted),
     );
-    carries = carries_none d r;
-    room = few;
+    finds = finds_none d r;
+    board = held_free d (is_post (call_of r)) holds;
+    orders = held_free d (is_ordering (call_of r)) holds;
   }
 
-pub may_add : (d : Draws) (w : View) (r : Request) (adding : Adding) (name : Name) (cell : Cell) → sizes_in w ≡ (d.vars, d.elements, d.slots) → name.generation ≡ d.adds → length d.rows < MOST_ROWS → AddsRow d w (call_of r) adding cell
+pub may_add : (d : Draws) (w : View) (r : Request) (adding : Adding) (name : Name) (cell : Cell) → sizes_in w ≡ (d.vars, d.elements, d.slots) → name.generation ≡ d.adds → d.holds ≡ true → AddsRow d w (call_of r) adding cell
     → MayTell d (record { call = call_of r; reply = added_as w adding name cell; change = Adds (record { name = name; held = held_of w cell }) })
-may_add d w r Made name cell counts new few gives = may_make d w r name cell counts new few gives
-may_add d w r (Taken posted) name cell counts new few gives = may_fetch d w r name cell counts new few posted gives
-may_add d w r Chosen name cell counts new few gives = let held = held_of w cell in record {
+may_add d w r Made name cell counts new holds gives = may_make d w r name cell counts new holds gives
+may_add d w r (Taken posted) name cell counts new holds gives = may_fetch d w r name cell counts new holds posted gives
+may_add d w r Chosen name cell counts new holds gives = let held = held_of w cell in record {
   plain = refl;
   step = λ t agrees. (
     (gives.outcome, gives.gives t agrees, gives.may t agrees name (agrees.fresh name (omega (arith, new)))),
-    agrees_made d t name held (call_of r) (replies.Chose name held.function) agrees new (noted d w r name cell counts new few),
+    agrees_made d t name held held.function (call_of r) (replies.Chose name held.function) agrees new (noted d w r name cell counts new holds),
   );
-  carries = carries_none d r;
-  room = few;
+  finds = finds_none d r;
+  board = held_free d (is_post (call_of r)) holds;
+  orders = held_free d (is_ordering (call_of r)) holds;
 }
 
 -- and what the seat then knows
@@ -154,52 +161,49 @@ quiet call reply = record { call = call; reply = reply; change = Nothing }
 pub agrees_quiet : (d : Draws) (t : Table) (call : Call) (reply : Reply) → Agrees d t → Agrees (told_of d 0 (quiet call reply)) t
 agrees_quiet d t call reply agrees = record { sizes_are = agrees.sizes_are; live = agrees.live; fresh = agrees.fresh; cells = agrees.cells }
 
-pub may_be_refused : (d : Draws) (r : Request) (in_use need : ℕ) → IsTrue (may_be_full (call_of r)) → MayBeFull d (call_of r) → MayTell d (quiet (call_of r) (replies.Full in_use need))
-may_be_refused d r in_use need may is_outcome = record {
+pub may_be_refused : (d : Draws) (r : Request) (in_use need : ℕ) → d.holds ≡ true → IsTrue (may_be_full (call_of r)) → MayBeFull d (call_of r) → MayTell d (quiet (call_of r) (replies.Full in_use need))
+may_be_refused d r in_use need holds may is_outcome = record {
   plain = refl;
   step = λ t agrees. let o = is_outcome t agrees in ((o.0, o.1, o.2, may), agrees_quiet d t (call_of r) (replies.Full in_use need) agrees);
-  carries = carries_none d r;
-  room = tt;
+  finds = finds_none d r;
+  board = held_free d (is_post (call_of r)) holds;
+  orders = held_free d (is_ordering (call_of r)) holds;
 }
 
--- a truth that is told, of a comparison or of a test
-pub may_compare : (d : Draws) (r : Request) (f g : Function) (told : Bool) → IsTrue told ↔ (f ≡ g) → Gives d (call_of r) (compares f g) → MayTell d (quiet (call_of r) (replies.Truth told))
-may_compare d r f g told iff is_outcome = record {
-  plain = refl;
-  step = λ t agrees. ((compares f g, is_outcome t agrees, iff), agrees_quiet d t (call_of r) (replies.Truth told) agrees);
-  carries = carries_none d r;
-  room = tt;
-}
-
-pub may_tell_truth : (d : Draws) (r : Request) (b told : Bool) → told ≡ b → Gives d (call_of r) (tells b) → MayTell d (quiet (call_of r) (replies.Truth told))
-may_tell_truth d r b told is is_outcome = record {
+-- a truth that is told
+pub may_tell_truth : (d : Draws) (r : Request) (b told : Bool) → d.holds ≡ true → told ≡ b → Gives d (call_of r) (tells b) → MayTell d (quiet (call_of r) (replies.Truth told))
+may_tell_truth d r b told holds is is_outcome = record {
   plain = refl;
   step = λ t agrees. ((tells b, is_outcome t agrees, is), agrees_quiet d t (call_of r) (replies.Truth told) agrees);
-  carries = carries_none d r;
-  room = tt;
+  finds = finds_none d r;
+  board = held_free d (is_post (call_of r)) holds;
+  orders = held_free d (is_ordering (call_of r)) holds;
 }
 
-pub may_show : (d : Draws) (r : Request) (x told : ℤ) → told ≡ x → Gives d (call_of r) (shows x) → MayTell d (quiet (call_of r) (replies.Value told))
-may_show d r x told is is_outcome = record {
+pub may_show : (d : Draws) (r : Request) (x told : ℤ) → d.holds ≡ true → told ≡ x → Gives d (call_of r) (shows x) → MayTell d (quiet (call_of r) (replies.Value told))
+may_show d r x told holds is is_outcome = record {
   plain = refl;
   step = λ t agrees. ((shows x, is_outcome t agrees, is), agrees_quiet d t (call_of r) (replies.Value told) agrees);
-  carries = carries_none d r;
-  room = tt;
+  finds = finds_none d r;
+  board = held_free d (is_post (call_of r)) holds;
+  orders = held_free d (is_ordering (call_of r)) holds;
 }
 
 -- a call that makes nothing
-pub may_be_unmade : (d : Draws) (r : Request) (why : Why) → Gives d (call_of r) (outcome_unmade why) → MayTell d (quiet (call_of r) (reply_unmade why))
-may_be_unmade d r unmade.Overflow is_outcome = record {
+pub may_be_unmade : (d : Draws) (r : Request) (why : Why) → d.holds ≡ true → Gives d (call_of r) (outcome_unmade why) → MayTell d (quiet (call_of r) (reply_unmade why))
+may_be_unmade d r unmade.Overflow holds is_outcome = record {
   plain = refl;
   step = λ t agrees. ((overflows, is_outcome t agrees, tt), agrees_quiet d t (call_of r) replies.Overflow agrees);
-  carries = carries_none d r;
-  room = tt;
+  finds = finds_none d r;
+  board = held_free d (is_post (call_of r)) holds;
+  orders = held_free d (is_ordering (call_of r)) holds;
 }
-may_be_unmade d r unmade.Apart is_outcome = record {
+may_be_unmade d r unmade.Apart holds is_outcome = record {
   plain = refl;
   step = λ t agrees. ((is_apart, is_outcome t agrees, tt), agrees_quiet d t (call_of r) replies.Apart agrees);
-  carries = carries_none d r;
-  room = tt;
+  finds = finds_none d r;
+  board = held_free d (is_post (call_of r)) holds;
+  orders = held_free d (is_ordering (call_of r)) holds;
 }
 
 pub leaves_unmade : (r : Request) (why : Why) → LeavesOrders r (reply_unmade why)
@@ -210,8 +214,9 @@ pub may_sweep : (d : Draws) → MayTell d (quiet calls.Sweep replies.Done)
 may_sweep d = record {
   plain = refl;
   step = λ t agrees. ((is_done, refl, tt), agrees_quiet d t calls.Sweep replies.Done agrees);
-  carries = tt;
-  room = tt;
+  finds = tt;
+  board = λ _. refl;
+  orders = λ _. refl;
 }
 
 pub knows_quiet : (d : Draws) (r : Request) (reply : Reply) → LeavesOrders r reply → KnowsAs d (told_of d 0 (quiet (call_of r) reply)) d.rows d.cells
@@ -222,21 +227,23 @@ swap_done : (d : Draws) (order : Order) (level : ℕ) → level + 1 < levels_in 
 swap_done d Variables level within t agrees = ap (λ (z : Sizes). when (nat_lt (level + 1) z.variables) (Some is_done)) agrees.sizes_are ∙ ap (λ b. when b (Some is_done)) (lt-ltb (level + 1) d.vars within)
 swap_done d Elements level within t agrees = ap (λ (z : Sizes). when (nat_lt (level + 1) z.elements) (Some is_done)) agrees.sizes_are ∙ ap (λ b. when b (Some is_done)) (lt-ltb (level + 1) d.elements within)
 
-pub may_swap : (d : Draws) (order : Order) (level : ℕ) → level + 1 < levels_in d order → MayTell d (quiet (swap_call order level) replies.Done)
-may_swap d order level within = by order (swap_done d order level within)
+pub may_swap : (d : Draws) (order : Order) (level : ℕ) → d.holds ≡ true → level + 1 < levels_in d order → MayTell d (quiet (swap_call order level) replies.Done)
+may_swap d order level holds within = by order (swap_done d order level within)
   where
     by : (order : Order) → Gives d (swap_call order level) is_done → MayTell d (quiet (swap_call order level) replies.Done)
     by Variables gives = record {
       plain = refl;
       step = λ t agrees. ((is_done, gives t agrees, tt), agrees_quiet d t (swap_call Variables level) replies.Done agrees);
-      carries = tt;
-      room = tt;
+      finds = tt;
+      board = λ _. refl;
+      orders = held_free d true holds;
     }
     by Elements gives = record {
       plain = refl;
       step = λ t agrees. ((is_done, gives t agrees, tt), agrees_quiet d t (swap_call Elements level) replies.Done agrees);
-      carries = tt;
-      room = tt;
+      finds = tt;
+      board = λ _. refl;
+      orders = held_free d true holds;
     }
 
 -- which may be refused
@@ -254,9 +261,9 @@ pub knows_swapped : (d : Draws) (order : Order) (level : ℕ) (o : Orders) → o
 knows_swapped d order level o same = record { rows_are = refl; cells_are = refl; others_are = refl; counts_are = (refl, refl, refl); orders_are = sym same }
 
 -- a post puts a function into a cell
-pub may_post : (d : Draws) (i : ℕ) (a : Name) (held : Held) → i < CELLS → length d.cells ≡ CELLS → known_as d a ≡ Some (known_at d held.function)
+pub may_post : (d : Draws) (i : ℕ) (a : Name) (held : Held) → d.holds ≡ true → i < CELLS → length d.cells ≡ CELLS → known_as d a ≡ Some (known_at d held.function)
     → MayTell d (record { call = calls.Post i a; reply = replies.Done; change = Posts i held })
-may_post d i a held within len is = record {
+may_post d i a held holds within len is = record {
   plain = refl;
   step = λ t agrees.
       let live : t.live d.session a ≡ Some (at_sizes t.sizes held.function) =
@@ -279,8 +286,9 @@ may_post d i a held within len is = record {
           cells = λ h. ((λ j k. each h k j), length-set d.cells i (Some held) ∙ len);
         },
       );
-  carries = tt;
-  room = tt;
+  finds = tt;
+  board = held_free d true holds;
+  orders = λ _. refl;
 }
   where
     get-set_same : {X : Type 0} (xs : List X) (y : X) (i : ℕ) → i < length xs → slice_get (set xs i y) i ≡ Some y
@@ -308,16 +316,11 @@ may_drop d a f is = record {
       cells = agrees.cells;
     },
   );
-  carries = tt;
-  room = tt;
+  finds = tt;
+  board = λ _. refl;
+  orders = λ _. refl;
 }
   where
-    same_back : (a b : Name) → same_name a b ≡ same_name b a
-    same_back a b = ap₂ (λ x y. x && y) (eqb-back a.row b.row) (eqb-back a.generation b.generation)
-      where
-        eqb-back : (m n : ℕ) → (m == n) ≡ (n == m)
-        eqb-back m n = dite (ℕ_discrete m n) (λ e. eq-eqb m n e ∙ sym (eq-eqb n m (sym e))) (λ e. ne_eqb m n e ∙ sym (ne_eqb n m (λ s. e (sym s))))
-
     stands-without : (rows : List Row) (name : Name) → stands_for (without a rows) name ≡ cond (same_name name a) None (stands_for rows name)
     stands-without [] name = cond_none Function (same_name name a)
     stands-without (row ∷ rows) name = by (same_name row.name a) refl (same_name name row.name) refl (same_name name a) refl (stands-without rows name)
@@ -358,7 +361,6 @@ pub counted_answer : (w : View) (answer : Answer) → names_by (change_of w answ
 counted_answer w (Added Made name cell) = refl
 counted_answer w (Added Chosen name cell) = refl
 counted_answer w (Added (Taken posted) name cell) = refl
-counted_answer w (Dropped name) = refl
 counted_answer w (Posted i cell) = refl
 counted_answer w (Truth told) = refl
 counted_answer w (Value x) = refl
@@ -371,7 +373,6 @@ pub is_full-reply : (w : View) (answer : Answer) → is_full (reply_of w answer)
 is_full-reply w (Added Made name cell) = refl
 is_full-reply w (Added Chosen name cell) = refl
 is_full-reply w (Added (Taken posted) name cell) = refl
-is_full-reply w (Dropped name) = refl
 is_full-reply w (Posted i cell) = refl
 is_full-reply w (Truth told) = refl
 is_full-reply w (Value x) = refl
@@ -403,7 +404,6 @@ fulls-most (e ∷ es) = let a = is_full-most e.reply in let b = fulls-most es in
 
 pub refusal-most : (answer : Answer) → is_refusal answer ≤ 1
 refusal-most (Added adding name cell) = omega arith
-refusal-most (Dropped name) = omega arith
 refusal-most (Posted i cell) = omega arith
 refusal-most (Truth told) = omega arith
 refusal-most (Value x) = omega arith
@@ -425,48 +425,15 @@ drew_turn d told left y x place may counted later is gave = record {
     by : IsLeaving (told_of d place x) y gave.0 → IsLeaving d y gave.0
     by l = record { told = l.told; new = l.new; due_is = l.due_is }
 
--- counts that change change nothing else
-module _ (x y : Shared) (view : view_of y ≡ record (view_of x) { count = count y }) where
-  pub listed-same : (k : Kind) (e : Edge) → listed_at k (view_of y) e ≡ listed_at k (view_of x) e
-  listed-same k e = ap (λ (w : View). listed_at k w e) view ∙ listed-on k (view_of x) (count y) e
-
-  pub adds-on : (d : Draws) (call : Call) (adding : Adding) (cell : Cell) → AddsRow d (view_of x) call adding cell → AddsRow d (view_of y) call adding cell
-  adds-on d call Made cell gives = subst (λ (f : Function). Gives d call (makes f)) (sym (listed-same cell.kind cell.edge)) gives
-  adds-on d call Chosen cell gives = subst (λ (f : Function). Chooses d call f) (sym (listed-same cell.kind cell.edge)) gives
-  adds-on d call (Taken posted) cell gives = subst (λ (f : Function). Gives d call (fetches f posted)) (sym (listed-same cell.kind cell.edge)) gives
-
-  pub added-reply : (adding : Adding) (name : Name) (cell : Cell) → added_as (view_of y) adding name cell ≡ added_as (view_of x) adding name cell
-  added-reply Made name cell = refl
-  added-reply Chosen name cell = ap (λ (f : Function). replies.Chose name f) (listed-same cell.kind cell.edge)
-  added-reply (Taken posted) name cell = refl
-
-  -- what the cell's edge denotes is kept
-  pub row-kept : (cell : Cell) → Is cell.kind (view_of x) cell.edge → keeps x (held_of (view_of y) cell)
-  row-kept cell is =
-      subst (λ (f : Function). keeps x (record { edge = cell.edge; function = f })) (sym (listed-same cell.kind cell.edge))
-      (subst (λ (k : Kind). Is k (view_of x) cell.edge × (listed_at k (view_of x) cell.edge ≡ noted_in (view_of x) (listed_at cell.kind (view_of x) cell.edge))) (sym (kind-listed cell.kind (view_of x) (values_at cell.kind (view_of x) cell.edge)))
-      (is, sym (listed-noted cell.kind (view_of x) (values_at cell.kind (view_of x) cell.edge) (sizes_for (view_of x).vars (view_of x).elements) refl refl)))
+-- what the cell's edge denotes is kept
+pub row-kept : (x : Shared) (cell : Cell) → Is cell.kind (view_of x) cell.edge → keeps x (held_of (view_of x) cell)
+row-kept x cell is =
+    subst (λ (k : Kind). Is k (view_of x) cell.edge × (listed_at k (view_of x) cell.edge ≡ noted_in (view_of x) (listed_at cell.kind (view_of x) cell.edge))) (sym (kind-listed cell.kind (view_of x) (values_at cell.kind (view_of x) cell.edge)))
+    (is, sym (listed-noted cell.kind (view_of x) (values_at cell.kind (view_of x) cell.edge) (sizes_for (view_of x).vars (view_of x).elements) refl refl))
 
 -- a row in memory is the one that the seat knows
 pub held-row : (w : View) (cell : Cell) (name : Name) (old new : List Live) → IsWithOne old (record { name = name; kind = cell.kind; edge = cell.edge }) new → IsWithOne old (live_as name (held_of w cell)) new
 held-row w cell name old new one = subst (λ (k : Kind). IsWithOne old (record { name = name; kind = k; edge = cell.edge }) new) (sym (kind-listed cell.kind w (values_at cell.kind w cell.edge))) one
-
--- the seat notes the same of a content whose counts changed
-pub notes_on : (x y : Shared) → IsRecounted x y → (d e : Draws) (l : Leaving) → e.stored ≡ l.stored → e.due ≡ l.due → IsLeaving d y l → e.turns ≡ d.turns ++ l.stored ∷ [] → Notes d e x
-notes_on x y same d e l stored due_is is turns = (
-  l,
-  stored,
-  due_is,
-  record {
-    told = subst (λ (fs : List Function). AreTold d l.stored fs) (functions-recounted x y same) is.told;
-    new = λ f c. let n = is.new f c in (subst (λ (fs : List Function). Contains fs f) (functions-recounted x y same) n.0, n.1);
-    due_is = is.due_is ∙ due-recounted x y same;
-  },
-  turns,
-)
-  where
-    due-recounted : (x y : Shared) → IsRecounted x y → due y ≡ due x
-    due-recounted x y same = ap (λ (w : View). Rattle.std.specs.Prelude.option_map (whole_of w) w.due) same.view
 
 -- what was due is what the store denotes by it
 pub due_denoted : (x : Shared) (f : Function) → due x ≡ Some f → (o : Denoted) × ((view_of x).due ≡ Some o)
@@ -480,12 +447,18 @@ due_denoted x f is = by (view_of x).due refl is
 pub knows_posted : (d : Draws) (w : View) (i : ℕ) (a : Name) (cell : Cell) → KnowsAs d (told_of d 0 (record { call = calls.Post i a; reply = replies.Done; change = Posts i (held_of w cell) })) d.rows (set d.cells i (Some (held_of w cell)))
 knows_posted d w i a cell = record { rows_are = refl; cells_are = refl; others_are = refl; counts_are = (refl, refl, refl); orders_are = refl }
 
--- a drop takes a row
-pub knows_dropped : (d : Draws) (a : Name) → KnowsAs d (told_of d 0 (record { call = calls.DropRow a; reply = replies.Done; change = Takes a })) (without a d.rows) d.cells
-knows_dropped d a = record { rows_are = refl; cells_are = refl; others_are = refl; counts_are = (refl, refl, refl); orders_are = refl }
-
 -- what a new row is told as
 pub added-told : (d d' : Draws) (call : Call) (adding : Adding) (name : Name) (w : View) (place : ℕ) (cell : Cell) → Told d d' call (added_as w adding name cell) place → IsAdded d d' call adding name place
 added-told d d' call Made name w place cell told = told
 added-told d d' call Chosen name w place cell told = (listed_at cell.kind w cell.edge, told)
 added-told d d' call (Taken posted) name w place cell told = told
+
+-- and is a row's
+pub is_adding : (w : View) (adding : Adding) (name : Name) (cell : Cell) → IsChangeOf (Adds (record { name = name; held = held_of w cell })) (calls.Sweep) (added_as w adding name cell)
+is_adding w Made name cell = inl refl
+is_adding w Chosen name cell = inr (inl (listed_at cell.kind w cell.edge, refl))
+is_adding w (Taken posted) name cell = inr (inr (posted, refl))
+
+-- a place that was drawn by a seat whose counts changed meanwhile
+pub added_drew : (p q : Pass Shared) (e : Draws) (y : Shared) (x : Telling) (place : ℕ) → known q ≡ known p → Drew (known q) e y x place → Drew (known p) e y x place
+added_drew p q e y x place same drew = subst (λ (d : Draws). Drew d e y x place) same drew

@@ -1,9 +1,7 @@
 -- The rows in memory stay those that the seat knows.
-use Rattle.std.proofs.Common.{◌≡◌, ℕ, suc, ◌+◌, ◌<◌, ◌≤◌, Bool, true, false, cond, ◌&&◌, ◌==◌, List, [], ◌∷◌, ◌++◌, length, Option, Some, None, option_map, refl, ap, ap₂, sym, subst, ◌∙◌, arith, eq-eqb, ne_eqb, length-append}
+use Rattle.std.proofs.Common.{◌≡◌, ℕ, suc, ◌+◌, ◌<◌, ◌≤◌, Bool, true, false, cond, ◌&&◌, ◌==◌, List, [], ◌∷◌, ◌++◌, length, Option, Some, None, option_map, refl, ap, ap₂, sym, subst, ◌∙◌, arith, ne_eqb, length-append}
 use Rattle.std.specs.List.{All}
 use Rattle.std.proofs.lemmas.List.Elements.{All-head, All-tail}
-use mathlib.Core.Logic.{dite}
-use native.Mathlib.Decide.{ℕ_discrete}
 use Rattle.edge_bits.specs.declared.edges.Edge.{Edge}
 use Rattle.function_laws.specs.declared.history.Name.{Name}
 use Rattle.function_laws.specs.declared.history.Entry.{Entry}
@@ -17,7 +15,7 @@ use Rattle.seat_guard.specs.Turn.{one_if, row_count}
 use Rattle.seat_guard.specs.Views.{without}
 use Rattle.dd_session.specs.Sessions.{held_as}
 use Rattle.dd_session.specs.Turns.{AreApart, Tied, live_as, live_count}
-use Rattle.dd_session.proofs.Naming.{cond_none, same_name-eq}
+use Rattle.dd_session.proofs.Naming.{same_back, cond_none, same_name-eq}
 
 -- lists of rows in memory
 
@@ -104,12 +102,6 @@ tied_more d e rows rows' name held tied is adds longer_by one never more =
 
 -- lists of rows that the seat knows, without a name
 module _ (name : Name) where
-  same_back : (a b : Name) → same_name a b ≡ same_name b a
-  same_back a b = ap₂ (λ x y. x && y) (eqb-back a.row b.row) (eqb-back a.generation b.generation)
-    where
-      eqb-back : (m n : ℕ) → (m == n) ≡ (n == m)
-      eqb-back m n = dite (ℕ_discrete m n) (λ e. eq-eqb m n e ∙ sym (eq-eqb n m (sym e))) (λ e. ne_eqb m n e ∙ sym (ne_eqb n m (λ s. e (sym s))))
-
   without-none : (rows : List Row) → held_as rows name ≡ None → without name rows ≡ rows
   without-none [] none = refl
   without-none (row ∷ rows) none = by (without-none rows) (same_name name row.name) refl none

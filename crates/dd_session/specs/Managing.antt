@@ -7,7 +7,8 @@ use Rattle.function_laws.specs.declared.history.Entry.{Entry}
 use Rattle.function_laws.specs.EntryOrders.{EachWith, opening_orders, orders_from}
 use Rattle.function_laws.specs.Histories.{IsLegal, table_after}
 use Rattle.function_laws.specs.SessionEntries.{Each, entries_of}
-use Rattle.function_laws.specs.SiftEntries.{Carries}
+use Rattle.seat_guard.specs.Finds.{Finds}
+use Rattle.seat_guard.specs.Sifted.{ArePlaced, IsHadAt}
 use Rattle.function_laws.specs.Tables.{Table, opening}
 use Rattle.function_laws.specs.Widening.{AgreesAt}
 use Rattle.node_store.specs.Contents.{Content}
@@ -22,7 +23,6 @@ use Rattle.seat_guard.specs.Notes.{IsNotedIn}
 use Rattle.seat_guard.specs.Passes.{known, resting}
 pub use Rattle.seat_guard.specs.Views.{sizes_for, stands_for}
 use Rattle.shared_store.specs.declared.shared.Shared.{Shared}
-use Rattle.handle_count.specs.RowMaps.{RowMap}
 use Rattle.dd_session.specs.declared.answers.Fetched.{Fetched}
 use Rattle.dd_session.specs.Counting.{ZeroStays}
 use Rattle.dd_session.specs.declared.book.Book.{Book}
@@ -88,8 +88,10 @@ pub record IsHistoryOf (m : Managed) (sessions : List Seen) (n : ℕ) : Type 0 w
   pub log : List Entry
   pub legal : IsLegal (sizes_for m.vars m.elements) log
   pub count : length log ≡ n
-  -- a sift's entry carries both orders, and functions of rows and cells, as the calls below it leave them
-  pub carried : EachWith Carries (opening (sizes_for m.vars m.elements)) (opening_orders (sizes_for m.vars m.elements)) log
+  -- a sift's entry carries both orders as the calls below it leave them, functions of which no two are one, and among them those of its session's rows
+  pub found : EachWith Finds (opening (sizes_for m.vars m.elements)) (opening_orders (sizes_for m.vars m.elements)) log
+  -- and each of them was, at a place above its session's call before it and at most its own, that of a row or a cell, or had just gone, or was about to come
+  pub had : ArePlaced (IsHadAt (sizes_for m.vars m.elements) log) log
   pub each : (k : ℕ) (s : Seen) → get_elem? sessions k ≡ some s → entries_of s.number log ≡ s.entries
   -- the table that the history leaves has these rows of each session
   pub rows : (k : ℕ) (s : Seen) → get_elem? sessions k ≡ some s → HasRowsOf s (table_after (opening (sizes_for m.vars m.elements)) log)
@@ -124,8 +126,3 @@ gone_as s = record { session = s.number; vars = variables_in s; elements = eleme
 
 abbrev pub is_posted : Fetched → Bool
 is_posted = turns.is_posted
-
--- how often the rows of some sessions name the slot k
-abbrev pub all_live : ℕ → List RowMap → ℕ
-all_live k [] = 0
-all_live k (rows ∷ rest) = turns.live_count k rows.live + all_live k rest

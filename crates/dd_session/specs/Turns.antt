@@ -1,6 +1,8 @@
 -- What the functions over a seat and its rows say.
-use Rattle.std.specs.Prelude.{◌≡◌, Bool, ◌==◌, ℕ, ◌+◌, ◌≤◌, ◌<◌, ◌^◌, List, [], ◌∷◌, ◌++◌, All, length, option_map, Option, Some, None, true, false, ℤ, Result, Ok, Err, IfOk, IsErrOf, max}
-use Rattle.edge_bits.specs.declared.limits.TheConstants.{CELLS, MOST_COUNT, MOST_ELEMENTS, MOST_ROWS, MOST_VARIABLES}
+use Rattle.std.specs.Prelude.{◌≡◌, ◌⊎◌, ◌↔◌, Bool, ◌==◌, ℕ, ◌+◌, ◌≤◌, ◌<◌, ◌^◌, List, [], ◌∷◌, ◌++◌, All, length, option_map, Option, Some, None, true, false, ℤ, Result, Ok, Err, IfOk, IsErrOf, max}
+use mathlib.Core.Option.{some}
+use lib.ListN.{get_elem?}
+use Rattle.edge_bits.specs.declared.limits.TheConstants.{CELLS, MOST_ELEMENTS, MOST_ROWS, MOST_VARIABLES}
 use Rattle.atomic_table.specs.Seated.{TableId}
 use Rattle.edge_bits.specs.declared.edges.Edge.{Edge}
 use Rattle.edge_bits.specs.declared.edges.Kind.{Kind}
@@ -32,25 +34,28 @@ use Rattle.operator_calls.specs.declared.unmade.Unmade.{Unmade}
 use Rattle.operator_calls.specs.declared.unmade.Unmade.TheVariants.{Overflow, Apart}
 use Rattle.seat_guard.specs.declared.seat.Guard.{Guard}
 use Rattle.seat_guard.specs.declared.seat.Pass.{Pass}
+use Rattle.seat_guard.specs.declared.view.Counts.{Counts}
 use Rattle.seat_guard.specs.declared.view.Draws.{Draws}
 use Rattle.seat_guard.specs.declared.view.Held.{Held}
 use Rattle.seat_guard.specs.declared.view.Leaving.{Leaving}
 use Rattle.seat_guard.specs.declared.view.Row.{Row}
+use Rattle.seat_guard.specs.declared.view.Hold.TheVariants.{Holding}
+use Rattle.seat_guard.specs.declared.view.Share.TheVariants as share
+use Rattle.seat_guard.specs.declared.view.Shares.{Shares}
 use Rattle.seat_guard.specs.declared.view.Telling.{Telling}
-use Rattle.seat_guard.specs.Passes.{IsPassOf, in_hand, known, shares}
+use Rattle.seat_guard.specs.Passes.{IsPassOf, counts_of, in_hand, known, shares}
 use Rattle.seat_guard.specs.Phase.{HasNoShare}
 use Rattle.seat_guard.specs.Turn.{one_if, row_count}
 use Rattle.seat_guard.specs.declared.view.Change.{Change}
 use Rattle.seat_guard.specs.declared.view.Change.TheVariants.{Adds}
-use Rattle.seat_guard.specs.Views.{Agrees, MayTell, holding, letting_go, stands_for, told_of}
+use Rattle.seat_guard.specs.Views.{Agrees, MayTell, holding, known_at, letting_go, stands_for, told_of, told_with}
 use Rattle.dead_sweep.specs.declared.sweeping.Swept.{Swept}
 use Rattle.dead_sweep.specs.Swept.{IsSwept}
 use Rattle.node_slots.specs.Held.{Alone}
 use Rattle.node_slots.specs.Wholes.{content_view}
 use Rattle.shared_store.specs.declared.shared.Cell.{Cell}
 use Rattle.shared_store.specs.declared.shared.Shared.{Shared}
-use Rattle.shared_store.specs.Lasting.{Lasts}
-use Rattle.shared_store.specs.Sharing.{noted_in, IsHeldIn, Serving, board, count, due, functions, kind_of, orders, view_of}
+use Rattle.shared_store.specs.Sharing.{noted_in, IsHeldIn, Serving, board, due, functions, kind_of, orders, view_of}
 use Rattle.shared_store.specs.Storing.{IsLeaving, IsListedWork, StoresOnly}
 use Rattle.dd_session.specs.declared.answers.Fetched.{Fetched}
 use Rattle.dd_session.specs.declared.answers.Fetched.TheVariants.{Posted, Empty}
@@ -117,9 +122,15 @@ pub record Tied (d : Draws) (rows : RowMap) : Type 0 where
   pub counted : (k : ℕ) → live_count k rows.live ≡ row_count k d.rows
   pub apart : AreApart d.rows
 
+-- Each row's edge is that of a slot, and of rows of one kind those that have one function, and those alone, have one edge.
+pub record AreSound (d : Draws) : Type 0 where
+  pub within : (i : ℕ) (row : Row) → get_elem? d.rows i ≡ some row → row.held.edge.index < d.slots
+  pub canonical : (i j : ℕ) (a b : Row) → get_elem? d.rows i ≡ some a → get_elem? d.rows j ≡ some b → kind_of a.held.function ≡ kind_of b.held.function → (a.held.edge ≡ b.held.edge) ↔ (known_at d a.held.function ≡ known_at d b.held.function)
+
 -- and the calls are as many
 pub record Keeps (d : Draws) (book : Book) : Type 0 where
   pub rows : Tied d book.rows
+  pub sound : AreSound d
   pub calls : book.calls ≡ length d.entries
   pub fulls : book.fulls ≡ fulls_in d.entries
 
@@ -138,18 +149,50 @@ ordered_by d o = record d { variable_order = o.variables; element_order = o.elem
 
 -- the turn
 
+-- nothing is raised, owed or pinned
+pub record IsSettled (c : Counts) : Type 0 where
+  pub raised : c.raised ≡ []
+  pub owed : c.owed ≡ []
+  pub pins : c.pins ≡ []
+
+-- and no count was found at 0
+abbrev pub IsClear : Counts → Type 0
+IsClear c = IsSettled c × (c.zeros ≡ [])
+
+-- it is so after a call, and the counts that were found at 0 are those of before
+abbrev pub Settles : Counts → Counts → Type 0
+Settles c c' = IsSettled c' × (c'.zeros ≡ c.zeros)
+
 abbrev pub IsReady : Pass Shared → Type 0
-IsReady p = ((known p).live ≡ true) × ((known p).holds ≡ false) × (in_hand p ≡ []) × HasNoShare (shares p)
+IsReady p = ((known p).live ≡ true) × ((known p).holds ≡ false) × (in_hand p ≡ []) × HasNoShare (shares p) × IsClear (counts_of p)
+
+-- a live pass of this table, with nothing in hand and nothing of the counts
+abbrev pub IsCalm : Guard Shared → Pass Shared → Type 0
+IsCalm g p = IsPassOf g p × ((known p).live ≡ true) × ((known p).holds ≡ false) × (in_hand p ≡ []) × IsClear (counts_of p)
+
+-- the same, which may have found counts under its order hold
+abbrev pub IsStill : Guard Shared → Pass Shared → Type 0
+IsStill g p = IsPassOf g p × ((known p).live ≡ true) × ((known p).holds ≡ false) × (in_hand p ≡ []) × IsSettled (counts_of p)
+
+-- what stood in a cell is owed, and no more
+abbrev pub OwesCell : Option Cell → List Held → Type 0
+OwesCell None owed = owed ≡ []
+OwesCell (Some cell) owed = (held : Held) × (owed ≡ held ∷ []) × (held.edge ≡ cell.edge)
+
+-- a session with the turn may count a slot up under an operation share, or the full hold
+abbrev pub MayCount : Shares → Type 0
+MayCount x = (x.op ≡ share.Held) ⊎ (x.full ≡ Holding)
 
 -- the pass has the turn, and what all share is in hand
 abbrev pub IsHolding : Guard Shared → Pass Shared → Type 0
-IsHolding g p = IsPassOf g p × ((known p).live ≡ true) × ((known p).holds ≡ true) × (in_hand p ≡ (0, None) ∷ []) × (length (known p).cells ≡ CELLS)
+IsHolding g p = IsPassOf g p × ((known p).live ≡ true) × ((known p).holds ≡ true) × (in_hand p ≡ (0, None) ∷ []) × (length (known p).cells ≡ CELLS) × IsSettled (counts_of p)
 
 -- what the taker of the turn knows
 pub record Took (d e : Draws) (x : Shared) : Type 0 where
   pub others : List Held
   pub is : e ≡ holding d (board x) others (orders x) (functions x)
-  pub serves : Serving x e
+  pub counts : Counts
+  pub serves : Serving x e counts
   pub many : length (board x) ≡ CELLS
 
 -- the turn was taken, with room for one more row
@@ -158,8 +201,8 @@ pub record Started (g : Guard Shared) (p p' : Pass Shared) (book book' : Book) (
   pub took : Took (known p) (known p') x
   pub keeps : Keeps (known p') book'
   pub spare : book'.rows.spare ≡ max book.rows.spare 1
-  pub few : (k : ℕ) → count x k ≤ MOST_COUNT
-  pub stands : shares p' ≡ shares p
+  pub serves : Serving x (known p') (counts_of p')
+  pub stands : (shares p' ≡ shares p) × (counts_of p' ≡ counts_of p)
 
 -- how many variables, elements and slots a view has
 abbrev pub sizes_in : View → ℕ × ℕ × ℕ
@@ -197,6 +240,14 @@ pub record Drew (d d' : Draws) (y : Shared) (x : Telling) (place : ℕ) : Type 0
   pub leaving : Leaving
   pub is_leaving : IsLeaving d y leaving
   pub left : d' ≡ letting_go (told_of d place x) leaving
+
+-- a place was drawn with this telling, without the turn
+pub record DrewAlone (d d' : Draws) (x : Telling) (place : ℕ) : Type 0 where
+  pub may : MayTell d x
+  pub counted : names_by x.change ≡ names_in x.reply
+  pub later : All (λ (e : Entry). e.place < place) d.entries
+  pub now : Orders
+  pub left : d' ≡ told_with now d place x
 
 -- the same, where the telling has this call and this reply
 abbrev pub Told : Draws → Draws → Call → Reply → ℕ → Type 0
@@ -263,8 +314,7 @@ pub record HasExact (d : Draws) (v : View) (call : Call) (f : ℕ → ℤ) : Typ
 
 -- what was asked of the store changed nothing that all share, and stored nothing
 pub record IsAsked (x y : Shared) : Type 0 where
-  pub lasts : Lasts x y
-  pub orders_are : orders y ≡ orders x
+  pub serves : (d : Draws) (c : Counts) → Serving x d c → Serving y d c
   pub stored : StoresOnly (λ _. ⊥) x y
 
 -- one try of an operation, from a store with the first view
@@ -277,23 +327,22 @@ pub record Ran {X : Type 0} (Answers : View → View → X → Type 0) (Work : V
   pub stored : StoresOnly (IsListedWork (view_of x) (Work (view_of x))) x y
   pub due_is : IsErrOf made stop.Full → (f : Function) × (due y ≡ Some f) × IsListedWork (view_of x) (Work (view_of x)) f
 
--- what a sweep left of a store in which all that lasts of the first one lasts
-abbrev pub IsSweptFrom : Shared → Shared → Type 0
-IsSweptFrom x y = (b : Shared) × Lasts x b × (orders b ≡ orders x) × (swept : Swept) × IsSwept Alone (content_view b.store) (content_view y.store) swept
+-- what a sweep left of a store that serves the seat
+abbrev pub IsSweptFrom : Draws → Counts → Shared → Type 0
+IsSweptFrom d c y = (b : Shared) × Serving b d c × (swept : Swept) × IsSwept Alone (content_view b.store) (content_view y.store) swept
 
--- a part of the work in some store in which all that lasts of this one lasts, and which has its orders
-abbrev pub IsWorkFrom : (View → Denoted → Type 0) → Shared → Function → Type 0
-IsWorkFrom Work x f = (v : Shared) × Lasts x v × (orders v ≡ orders x) × IsStore v.store × IsListedWork (view_of v) (Work (view_of v)) f
+-- a part of the work in some store that serves the seat
+abbrev pub IsWorkFor : Draws → Counts → (View → Denoted → Type 0) → Function → Type 0
+IsWorkFor d c Work f = (v : Shared) × Serving v d c × IsStore v.store × IsListedWork (view_of v) (Work (view_of v)) f
 
 -- the last try of an operation, and what all tries stored
-pub record Tried {X : Type 0} (Answers : View → View → X → Type 0) (Work : View → Denoted → Type 0) (x y : Shared) (made : Result X Stop) : Type 0 where
+pub record Tried (d : Draws) (c : Counts) {X : Type 0} (Answers : View → View → X → Type 0) (Work : View → Denoted → Type 0) (x y : Shared) (made : Result X Stop) : Type 0 where
   pub from : Shared
-  pub lasts : Lasts x from
-  pub orders_are : orders from ≡ orders x
+  pub serves : Serving from d c
   pub ran : Ran Answers Work from y made
-  pub stored : StoresOnly (IsWorkFrom Work x) x y
+  pub stored : StoresOnly (IsWorkFor d c Work) x y
   -- where no slot was free, it began with what a sweep left
-  pub swept : IsErrOf made stop.Full → IsSweptFrom x from
+  pub swept : IsErrOf made stop.Full → IsSweptFrom d c from
 
 -- the board
 

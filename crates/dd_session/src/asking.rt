@@ -4,9 +4,9 @@ ghost use Rattle.std.specs.Prelude.{◌≡◌, ◌≤◌, length, MatchResult};
 ghost use Rattle.edge_bits.specs.declared.edges.Kind.TheVariants as kinds;
 ghost use Rattle.function_laws.specs.declared.history.Call.TheVariants as calls;
 ghost use Rattle.function_laws.specs.declared.history.Reply.TheVariants as replies;
-ghost use Rattle.seat_guard.specs.Passes.{IsIdle, known, shares};
+ghost use Rattle.seat_guard.specs.Passes.{known, shares};
 ghost use Rattle.dd_session.specs.Sessions.{Called, IsAsBefore, IsNamed};
-ghost use Rattle.dd_session.specs.Turns.{HasPlace, Keeps, seen_of};
+ghost use Rattle.dd_session.specs.Turns.{HasPlace, IsCalm, Keeps, seen_of};
 ghost use Rattle.dd_session.specs.Walking.{bits_of};
 ghost use Rattle.dd_session.specs.Works.{StoresNothing};
 
@@ -30,12 +30,12 @@ pub fn leq<R: Wait>(
     f: Name,
     g: Name,
 ) -> Result<Placed<bool>, Memory>
-    requires idle { IsIdle guard.now pass.old }
+    requires idle { IsCalm guard.now pass.old }
     requires keeps { Keeps (known pass.old) book.old }
     requires place { HasPlace (known pass.old) }
     requires first { IsNamed kinds.Bdd (known pass.old).rows f }
     requires second { IsNamed kinds.Bdd (known pass.old).rows g }
-    ensures idle { IsIdle guard.now pass.new }
+    ensures idle { IsCalm guard.now pass.new }
     ensures stands { shares pass.new ≡ shares pass.old }
     ensures keeps { Keeps (known pass.new) book.new }
     ensures told { MatchResult result (λ placed. Called (seen_of pass.old book.old) (seen_of pass.new book.new) (calls.Leq f g) (replies.Truth placed.value) placed.place) (λ _. IsAsBefore (seen_of pass.old book.old) (seen_of pass.new book.new)) }
@@ -75,13 +75,13 @@ pub fn eval<R: Wait>(
     bits: &[bool],
     count: usize,
 ) -> Placed<i64>
-    requires idle { IsIdle guard.now pass.old }
+    requires idle { IsCalm guard.now pass.old }
     requires keeps { Keeps (known pass.old) book.old }
     requires place { HasPlace (known pass.old) }
     requires live { IsNamed kind (known pass.old).rows f }
     requires count { count ≡ bits_of kind (seen_of pass.old book.old).manager }
     requires bits { count ≤ length bits.now }
-    ensures idle { IsIdle guard.now pass.new }
+    ensures idle { IsCalm guard.now pass.new }
     ensures stands { shares pass.new ≡ shares pass.old }
     ensures keeps { Keeps (known pass.new) book.new }
     ensures told { Called (seen_of pass.old book.old) (seen_of pass.new book.new) (calls.Eval f bits.now) (replies.Value result.value) result.place }

@@ -1,8 +1,9 @@
 //! The calls of a session under a share or a hold, which owns its seat meanwhile: an operation and a comparison under an operation share, a
-//! walk under a walk share, a listing under the order, and what sweeps or reorders under the full hold. What waits for a share or a hold
-//! has not the turn.
+//! walk under a walk share, a listing under the order, and what sweeps or reorders under the full hold. A post and a fetch count a slot up
+//! under an operation share. What waits for a share or a hold has not the turn.
 
 ghost use Rattle.std.specs.Prelude.{◌≡◌, ◌+◌, ◌<◌, ◌≤◌, All, length, MatchResult};
+ghost use Rattle.edge_bits.specs.declared.edges.Kind.{Kind as KindOf};
 ghost use Rattle.edge_bits.specs.declared.edges.Kind.TheVariants as kinds;
 ghost use Rattle.function_laws.specs.Makings.{needs_nodes};
 ghost use Rattle.function_laws.specs.declared.history.Call.TheVariants as calls;
@@ -10,18 +11,19 @@ ghost use Rattle.function_laws.specs.declared.history.Reply.TheVariants as repli
 ghost use Rattle.group_sift.specs.Turns.{last_end};
 ghost use Rattle.operator_calls.specs.Making.{unmade_as};
 ghost use Rattle.operator_calls.specs.Taking.{of_lent};
-ghost use Rattle.seat_guard.specs.Passes.{IsIdle, known, shares};
+ghost use Rattle.seat_guard.specs.Passes.{known, shares};
 ghost use Rattle.seat_guard.specs.Phase.{HasNoShare};
 ghost use Rattle.dd_session.specs.Listings.{IsListed};
+ghost use Rattle.dd_session.specs.Managing.{is_posted};
 ghost use Rattle.dd_session.specs.MadeRows.{Awaits, HasTaken, MakesOrTells, by_edges};
 ghost use Rattle.dd_session.specs.Reorderings.{SwapsLevels};
 ghost use Rattle.dd_session.specs.Sessions.{Called, IsAsBefore, IsNamed};
 ghost use Rattle.dd_session.specs.Siftings.{SiftsLevels};
-ghost use Rattle.dd_session.specs.Turns.{HasPlace, Keeps, levels_in, seen_of};
+ghost use Rattle.dd_session.specs.Turns.{HasPlace, IsCalm, Keeps, levels_in, seen_of};
 ghost use Rattle.dd_session.specs.Walking.{bits_of};
 ghost use Rattle.dd_session.specs.Works.{IsSweepAsked, StoresNothing};
 
-use crate::answers::{Full, Placed, Refusal};
+use crate::answers::{Fetched, Full, Placed, Refusal};
 use crate::book::Book;
 use crate::making::make_once;
 use crate::reordering::swap_at;
@@ -47,7 +49,7 @@ pub fn make<R: Wait>(
     making: Making<Name, &[u32], &[(u32, Name)]>,
     edges: &Making<Edge, &[u32], &[(u32, Edge)]>,
 ) -> (Pass<Shared>, Result<Placed<Result<Name, Unmade>>, Refusal>)
-    requires idle { IsIdle guard.now pass }
+    requires idle { IsCalm guard.now pass }
     requires unshared { HasNoShare (shares pass) }
     requires keeps { Keeps (known pass) book.old }
     requires place { HasPlace (known pass) }
@@ -55,7 +57,7 @@ pub fn make<R: Wait>(
     requires same { of_lent edges.now ≡ by_edges (known pass).rows (of_lent making) }
     requires needs { needs_nodes (of_lent edges.now) ≡ needs_nodes (of_lent making) }
     requires unmade { unmade_as (of_lent edges.now) ≡ unmade_as (of_lent making) }
-    ensures idle { IsIdle guard.now result.0 }
+    ensures idle { IsCalm guard.now result.0 }
     ensures unshared { HasNoShare (shares result.0) }
     ensures keeps { Keeps (known result.0) book.new }
     ensures made { MakesOrTells (seen_of pass book.old) (seen_of result.0 book.new) (of_lent making.entry) result.1 }
@@ -78,7 +80,7 @@ fn make_last<R: Wait>(
     making: Making<Name, &[u32], &[(u32, Name)]>,
     edges: &Making<Edge, &[u32], &[(u32, Edge)]>,
 ) -> (Pass<Shared>, Result<Placed<Result<Name, Unmade>>, Refusal>)
-    requires idle { IsIdle guard.now pass }
+    requires idle { IsCalm guard.now pass }
     requires unshared { HasNoShare (shares pass) }
     requires keeps { Keeps (known pass) book.old }
     requires place { HasPlace (known pass) }
@@ -86,7 +88,7 @@ fn make_last<R: Wait>(
     requires same { of_lent edges.now ≡ by_edges (known pass).rows (of_lent making) }
     requires needs { needs_nodes (of_lent edges.now) ≡ needs_nodes (of_lent making) }
     requires unmade { unmade_as (of_lent edges.now) ≡ unmade_as (of_lent making) }
-    ensures idle { IsIdle guard.now result.0 }
+    ensures idle { IsCalm guard.now result.0 }
     ensures unshared { HasNoShare (shares result.0) }
     ensures keeps { Keeps (known result.0) book.new }
     ensures made { MakesOrTells (seen_of pass book.old) (seen_of result.0 book.new) (of_lent making.entry) result.1 }
@@ -109,13 +111,13 @@ pub fn leq<R: Wait>(
     f: Name,
     g: Name,
 ) -> (Pass<Shared>, Result<Placed<bool>, Memory>)
-    requires idle { IsIdle guard.now pass }
+    requires idle { IsCalm guard.now pass }
     requires unshared { HasNoShare (shares pass) }
     requires keeps { Keeps (known pass) book.old }
     requires place { HasPlace (known pass) }
     requires first { IsNamed kinds.Bdd (known pass).rows f }
     requires second { IsNamed kinds.Bdd (known pass).rows g }
-    ensures idle { IsIdle guard.now result.0 }
+    ensures idle { IsCalm guard.now result.0 }
     ensures unshared { HasNoShare (shares result.0) }
     ensures keeps { Keeps (known result.0) book.new }
     ensures told { MatchResult result.1 (λ placed. Called (seen_of pass book.old) (seen_of result.0 book.new) (calls.Leq f g) (replies.Truth placed.value) placed.place) (λ _. IsAsBefore (seen_of pass book.old) (seen_of result.0 book.new)) }
@@ -138,14 +140,14 @@ pub fn eval<R: Wait>(
     bits: &[bool],
     count: usize,
 ) -> (Pass<Shared>, Placed<i64>)
-    requires idle { IsIdle guard.now pass }
+    requires idle { IsCalm guard.now pass }
     requires unshared { HasNoShare (shares pass) }
     requires keeps { Keeps (known pass) book.old }
     requires place { HasPlace (known pass) }
     requires live { IsNamed kind (known pass).rows f }
     requires count { count ≡ bits_of kind (seen_of pass book.old).manager }
     requires bits { count ≤ length bits.now }
-    ensures idle { IsIdle guard.now result.0 }
+    ensures idle { IsCalm guard.now result.0 }
     ensures unshared { HasNoShare (shares result.0) }
     ensures keeps { Keeps (known result.0) book.new }
     ensures told { Called (seen_of pass book.old) (seen_of result.0 book.new) (calls.Eval f bits.now) (replies.Value result.1.value) result.1.place }
@@ -157,6 +159,60 @@ pub fn eval<R: Wait>(
     (guard.walk_out(share), placed)
 }
 
+/// Puts the function of a row into a cell of the board, in place of what was there.
+pub fn post<R: Wait>(
+    rt: &R,
+    guard: &Guard<Shared>,
+    pass: Pass<Shared>,
+    book: &mut Book,
+    cell: u8,
+    h: Name,
+) -> (Pass<Shared>, Placed<()>)
+    requires idle { IsCalm guard.now pass }
+    requires unshared { HasNoShare (shares pass) }
+    requires keeps { Keeps (known pass) book.old }
+    requires place { HasPlace (known pass) }
+    requires live { (k : KindOf) × IsNamed k (known pass).rows h }
+    ensures idle { IsCalm guard.now result.0 }
+    ensures unshared { HasNoShare (shares result.0) }
+    ensures keeps { Keeps (known result.0) book.new }
+    ensures told { Called (seen_of pass book.old) (seen_of result.0 book.new) (calls.Post cell h) replies.Done result.1.place }
+    ensures stored { StoresNothing (seen_of pass book.old) (seen_of result.0 book.new) }
+    ensures rows { book.new.rows ≡ book.old.rows }
+{
+    let mut share = guard.op_wait(rt, pass);
+    let placed = seated::post(rt, guard, &mut share.pass, book, cell, h);
+    (guard.op_out(share), placed)
+}
+
+/// A new row with the function of a cell, and Posted, where that has the kind of another row; else with the other's, and
+/// Empty. There is room for it.
+pub fn fetch<R: Wait>(
+    rt: &R,
+    guard: &Guard<Shared>,
+    pass: Pass<Shared>,
+    book: &mut Book,
+    cell: u8,
+    other: Name,
+) -> (Pass<Shared>, Placed<(Name, Fetched)>)
+    requires idle { IsCalm guard.now pass }
+    requires unshared { HasNoShare (shares pass) }
+    requires keeps { Keeps (known pass) book.old }
+    requires place { HasPlace (known pass) }
+    requires spare { 1 ≤ book.old.rows.spare }
+    requires live { (k : KindOf) × IsNamed k (known pass).rows other }
+    ensures idle { IsCalm guard.now result.0 }
+    ensures unshared { HasNoShare (shares result.0) }
+    ensures keeps { Keeps (known result.0) book.new }
+    ensures told { Called (seen_of pass book.old) (seen_of result.0 book.new) (calls.Fetch cell other) (replies.Fetched result.1.value.0 (is_posted result.1.value.1)) result.1.place }
+    ensures stored { StoresNothing (seen_of pass book.old) (seen_of result.0 book.new) }
+    ensures spare { book.new.rows.spare + 1 ≡ book.old.rows.spare }
+{
+    let mut share = guard.op_wait(rt, pass);
+    let placed = seated::fetch(rt, guard, &mut share.pass, book, cell, other);
+    (guard.op_out(share), placed)
+}
+
 /// The nodes of some rows.
 pub fn list<R: Wait>(
     rt: &R,
@@ -166,11 +222,11 @@ pub fn list<R: Wait>(
     book: &Book,
     rows: &[Name],
 ) -> (Pass<Shared>, Result<Listing, Memory>)
-    requires idle { IsIdle guard.now pass }
+    requires idle { IsCalm guard.now pass }
     requires unshared { HasNoShare (shares pass) }
     requires keeps { Keeps (known pass) book.now }
     requires live { All (IsNamed kinds.Bdd (known pass).rows) rows.now }
-    ensures idle { IsIdle guard.now result.0 }
+    ensures idle { IsCalm guard.now result.0 }
     ensures unshared { HasNoShare (shares result.0) }
     ensures keeps { Keeps (known result.0) book.now }
     ensures told { MatchResult result.1 (IsListed (seen_of pass book.now) (seen_of result.0 book.now) rows.now) (λ _. IsAsBefore (seen_of pass book.now) (seen_of result.0 book.now)) }
@@ -188,11 +244,11 @@ pub fn sweep<R: Wait>(
     pass: Pass<Shared>,
     book: &mut Book,
 ) -> (Pass<Shared>, Placed<Swept>)
-    requires idle { IsIdle guard.now pass }
+    requires idle { IsCalm guard.now pass }
     requires unshared { HasNoShare (shares pass) }
     requires keeps { Keeps (known pass) book.old }
     requires place { HasPlace (known pass) }
-    ensures idle { IsIdle guard.now result.0 }
+    ensures idle { IsCalm guard.now result.0 }
     ensures unshared { HasNoShare (shares result.0) }
     ensures keeps { Keeps (known result.0) book.new }
     ensures told { Called (seen_of pass book.old) (seen_of result.0 book.new) calls.Sweep replies.Done result.1.place }
@@ -216,12 +272,12 @@ pub fn swap<R: Wait>(
     order: Order,
     level: u32,
 ) -> (Pass<Shared>, Result<Placed<()>, Full>)
-    requires idle { IsIdle guard.now pass }
+    requires idle { IsCalm guard.now pass }
     requires unshared { HasNoShare (shares pass) }
     requires keeps { Keeps (known pass) book.old }
     requires place { HasPlace (known pass) }
     requires level { level + 1 < levels_in (known pass) order }
-    ensures idle { IsIdle guard.now result.0 }
+    ensures idle { IsCalm guard.now result.0 }
     ensures unshared { HasNoShare (shares result.0) }
     ensures keeps { Keeps (known result.0) book.new }
     ensures swaps { SwapsLevels order level (seen_of pass book.old) (seen_of result.0 book.new) result.1 }
@@ -242,12 +298,12 @@ pub fn sift<R: Wait>(
     order: Order,
     blocks: &mut Blocks,
 ) -> (Pass<Shared>, Placed<Sifted>)
-    requires idle { IsIdle guard.now pass }
+    requires idle { IsCalm guard.now pass }
     requires unshared { HasNoShare (shares pass) }
     requires keeps { Keeps (known pass) book.old }
     requires place { HasPlace (known pass) }
     requires end { last_end 0 blocks.old ≡ levels_in (known pass) order }
-    ensures idle { IsIdle guard.now result.0 }
+    ensures idle { IsCalm guard.now result.0 }
     ensures unshared { HasNoShare (shares result.0) }
     ensures keeps { Keeps (known result.0) book.new }
     ensures sifted { SiftsLevels order blocks.old (seen_of pass book.old) (seen_of result.0 book.new) result.1 }

@@ -1,6 +1,7 @@
 //! Sessions that share one store of decision diagrams and a board, and take turns.
 #![tactic(auto)]
 
+mod alone;
 mod answers;
 mod asking;
 mod bdd_calls;

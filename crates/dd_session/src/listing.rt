@@ -1,16 +1,16 @@
 //! The listing of rows, which draws no place.
 
-ghost use Rattle.std.specs.Prelude.{◌≡◌, ◌<◌, [], map, All, IfOk, MatchResult};
+ghost use Rattle.std.specs.Prelude.{◌≡◌, ◌<◌, [], ◌∷◌, None, true, map, All, IfOk, MatchResult};
 ghost use Rattle.edge_bits.specs.declared.edges.Kind.TheVariants as kinds;
 ghost use Rattle.function_laws.specs.declared.history.Entry.{Entry};
 ghost use Rattle.seat_guard.specs.declared.view.Leaving.{Leaving};
-ghost use Rattle.seat_guard.specs.Passes.{IsIdle, IsPassOf, in_hand, known, shares};
+ghost use Rattle.seat_guard.specs.Passes.{IsPassOf, counts_of, in_hand, known, shares};
 ghost use Rattle.seat_guard.specs.Views.{known_as, letting_go, noting};
 ghost use Rattle.shared_store.specs.Sharing.{Serving, orders};
 ghost use Rattle.shared_store.specs.Storing.{IsLeaving};
 ghost use Rattle.dd_session.specs.Listings.{IsListed, ListsRows};
 ghost use Rattle.dd_session.specs.Sessions.{IsAsBefore, IsNamed, edge_in};
-ghost use Rattle.dd_session.specs.Turns.{IsHolding, Keeps, Tied, seen_of};
+ghost use Rattle.dd_session.specs.Turns.{IsCalm, Keeps, Tied, seen_of};
 ghost use Rattle.dd_session.specs.Works.{StoresNothing};
 
 use crate::book::Book;
@@ -51,7 +51,7 @@ fn listing_of(
 ) -> Result<Listing, Memory>
     requires tied { Tied (known pass.now) book.now.rows }
     requires live { All (IsNamed kinds.Bdd (known pass.now).rows) rows.now }
-    requires serves { Serving shared.now (known pass.now) }
+    requires serves { Serving shared.now (known pass.now) (counts_of pass.now) }
     ensures { IfOk result (λ listing. (listing.order ≡ (known pass.now).variable_order) × ListsRows (known pass.now).vars (known_as (known pass.now)) rows.now listing) }
 {
     shared.store.tell_sound();
@@ -61,11 +61,11 @@ fn listing_of(
 
 /// Notes the orders, and gives the turn back.
 fn note(guard: &Guard<Shared>, pass: &mut Pass<Shared>, shared: Shared) -> u64
-    requires hold { IsHolding guard.now pass.old }
-    requires serves { Serving shared (known pass.old) }
+    requires own { IsPassOf guard.now pass.old × ((known pass.old).live ≡ true) × ((known pass.old).holds ≡ true) × (in_hand pass.old ≡ (0, None) ∷ []) }
+    requires serves { Serving shared (known pass.old) (counts_of pass.old) }
     ensures own { IsPassOf guard.now pass.new × (in_hand pass.new ≡ []) }
     ensures gave { (x : Leaving) × (known pass.new ≡ letting_go (noting (known pass.old) result) x) × IsLeaving (known pass.old) shared x }
-    ensures stands { shares pass.new ≡ shares pass.old }
+    ensures stands { (shares pass.new ≡ shares pass.old) × (counts_of pass.new ≡ counts_of pass.old) }
     ensures later { All (λ (e : Entry). e.place < result) (known pass.old).entries }
 {
     let place = guard.look(pass);
@@ -82,10 +82,10 @@ pub fn list<R: Wait>(
     book: &Book,
     rows: &[Name],
 ) -> Result<Listing, Memory>
-    requires idle { IsIdle guard.now pass.old }
+    requires idle { IsCalm guard.now pass.old }
     requires keeps { Keeps (known pass.old) book.now }
     requires live { All (IsNamed kinds.Bdd (known pass.old).rows) rows.now }
-    ensures idle { IsIdle guard.now pass.new }
+    ensures idle { IsCalm guard.now pass.new }
     ensures keeps { Keeps (known pass.new) book.now }
     ensures told { MatchResult result (IsListed (seen_of pass.old book.now) (seen_of pass.new book.now) rows.now) (λ _. IsAsBefore (seen_of pass.old book.now) (seen_of pass.new book.now)) }
     ensures stored { StoresNothing (seen_of pass.old book.now) (seen_of pass.new book.now) }

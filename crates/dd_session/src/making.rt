@@ -1,18 +1,21 @@
 //! What makes a function of a session's rows: by their edges, in one turn; where no slot was free with a sweep and another try in a second one.
 
-ghost use Rattle.std.specs.Prelude.{◌≡◌, is_err, map, All, IfNone, IfOk, IfSome, IsErrOf, IsTrue, None, Some, false, true};
+ghost use Rattle.std.specs.Prelude.{◌≡◌, [], is_err, map, All, IfNone, IfOk, IfSome, IsErrOf, IsTrue, None, Some, false, true};
 ghost use Rattle.edge_bits.specs.declared.edges.Kind.{Kind as KindOf};
 ghost use Rattle.edge_bits.specs.declared.edges.Kind.TheVariants as kinds;
 ghost use Rattle.function_laws.specs.Makings.{kind_made as kind_of_made, needs_nodes};
 ghost use Rattle.node_slots.specs.Stores.{IsStore};
 ghost use Rattle.operator_calls.specs.Making.{takes, told_by, unmade_as, work};
 ghost use Rattle.operator_calls.specs.Taking.{of_lent, with_given};
-ghost use Rattle.shared_store.specs.Lasting.{Lasts};
-ghost use Rattle.shared_store.specs.Sharing.{orders, view_of};
-ghost use Rattle.seat_guard.specs.Passes.{IsIdle, known, shares};
+ghost use Rattle.shared_store.specs.Counted.{AreRead};
+ghost use Rattle.shared_store.specs.Sharing.{Serving, view_of};
+ghost use Rattle.seat_guard.specs.declared.view.Hold.TheVariants.{Holding};
+ghost use Rattle.seat_guard.specs.Passes.{IsPassOf, counts_of, known, shares};
+ghost use Rattle.seat_guard.specs.Recounts.{OnlyCounts};
+ghost use Rattle.shared_store.specs.Lasting.{IsRecounted};
 ghost use Rattle.dd_session.specs.MadeRows.{Awaits, HasTaken, MakesRow, MakesOrExceeds, MakesOrTells, MayMake, adding_by, by_edges, chooses};
 ghost use Rattle.dd_session.specs.Sessions.{IsLiveAs, edge_in, elements_in, variables_in};
-ghost use Rattle.dd_session.specs.Turns.{HasPlace, Keeps, Ran, Tried, seen_of};
+ghost use Rattle.dd_session.specs.Turns.{HasPlace, IsCalm, IsClear, IsSettled, IsStill, Keeps, MayCount, Ran, Tried, seen_of};
 
 use crate::answers::{Placed, Refusal};
 use crate::book::Book;
@@ -28,7 +31,7 @@ use handle_count::H;
 use node_slots::Stop;
 use operator_calls::{Overflow, Renaming, Unmade, renamed, renamed_pairs, run};
 use seat_guard::seat::{Guard, Pass};
-use shared_store::{Shared, put_back};
+use shared_store::{Shared, put_back, read_counts};
 use std::alloc::Global;
 use std::sync::Wait;
 
@@ -49,13 +52,18 @@ fn try_once(
 
 /// A sweep, and a try.
 fn sweep_and_try(
+    pass: &Pass<Shared>,
     shared: Shared,
     making: &Making<Edge, &[u32], &[(u32, Edge)]>,
 ) -> (Shared, Result<Result<Edge, Unmade>, Stop>)
-    requires { (y : Shared) → Lasts shared y → orders y ≡ orders shared → IsStore y.store → takes (of_lent making.now) (view_of y) }
-    ensures tried { Tried (told_by (of_lent making.now)) (work (of_lent making.now)) shared result.0 result.1 }
+    requires serves { Serving shared (known pass.now) (counts_of pass.now) }
+    requires read { AreRead shared (known pass.now) (counts_of pass.now) }
+    requires takes { (y : Shared) → Serving y (known pass.now) (counts_of pass.now) → IsStore y.store → takes (of_lent making.now) (view_of y) }
+    ensures tried { Tried (known pass.now) (counts_of pass.now) (told_by (of_lent making.now)) (work (of_lent making.now)) shared result.0 result.1 }
     ensures sure { IsTrue (is_err result.1) → IsTrue (needs_nodes (of_lent making.now)) }
 {
+    let _ = pass;
+    shared.store.tell_sound();
     let (mut shared, _swept) = shared.sweep();
     let made = try_once(&mut shared, making);
     (shared, made)
@@ -71,20 +79,47 @@ fn awaits(made: &Result<Result<Edge, Unmade>, Stop>, is_last: bool) -> bool
 
 /// A try: the last one begins with a sweep.
 fn try_of(
+    pass: &Pass<Shared>,
     mut shared: Shared,
     making: &Making<Edge, &[u32], &[(u32, Edge)]>,
     is_last: bool,
 ) -> (Shared, Result<Result<Edge, Unmade>, Stop>)
-    requires { (y : Shared) → Lasts shared y → orders y ≡ orders shared → IsStore y.store → takes (of_lent making.now) (view_of y) }
+    requires serves { Serving shared (known pass.now) (counts_of pass.now) }
+    requires read { is_last ≡ true → AreRead shared (known pass.now) (counts_of pass.now) }
+    requires takes { (y : Shared) → Serving y (known pass.now) (counts_of pass.now) → IsStore y.store → takes (of_lent making.now) (view_of y) }
     ensures ran { is_last ≡ false → Ran (told_by (of_lent making.now)) (work (of_lent making.now)) shared result.0 result.1 }
-    ensures tried { (IsErrOf result.1 Stop.Full → is_last ≡ true) → Tried (told_by (of_lent making.now)) (work (of_lent making.now)) shared result.0 result.1 }
+    ensures tried { (IsErrOf result.1 Stop.Full → is_last ≡ true) → Tried (known pass.now) (counts_of pass.now) (told_by (of_lent making.now)) (work (of_lent making.now)) shared result.0 result.1 }
     ensures sure { IsTrue (is_err result.1) → IsTrue (needs_nodes (of_lent making.now)) }
 {
     if is_last {
-        return sweep_and_try(shared, making);
+        return sweep_and_try(pass, shared, making);
     }
     let made = try_once(&mut shared, making);
     (shared, made)
+}
+
+/// What all share, with the counts of its slots as the words have them where a sweep follows.
+fn counted(
+    guard: &Guard<Shared>,
+    pass: &mut Pass<Shared>,
+    mut shared: Shared,
+    is_last: bool,
+) -> Shared
+    requires own { IsPassOf guard.now pass.old × ((known pass.old).live ≡ true) × ((known pass.old).holds ≡ true) }
+    requires hold { is_last ≡ true → (shares pass.old).order ≡ Holding }
+    requires serves { Serving shared (known pass.old) (counts_of pass.old) }
+    requires clear { IsClear (counts_of pass.old) }
+    ensures own { OnlyCounts guard.now pass.old pass.new }
+    ensures settled { IsSettled (counts_of pass.new) }
+    ensures first { is_last ≡ false → counts_of pass.new ≡ counts_of pass.old }
+    ensures read { is_last ≡ true → AreRead result (known pass.new) (counts_of pass.new) }
+    ensures serves { Serving result (known pass.new) (counts_of pass.new) }
+    ensures rest { IsRecounted shared result }
+{
+    if is_last {
+        read_counts(guard, pass, &mut shared);
+    }
+    shared
 }
 
 /// The kind of what is made.
@@ -163,14 +198,17 @@ pub fn make_once<R: Wait>(
     edges: &Making<Edge, &[u32], &[(u32, Edge)]>,
     is_last: bool,
 ) -> Option<Result<Placed<Result<H, Unmade>>, Refusal>>
-    requires idle { IsIdle guard.now pass.old }
+    requires idle { IsCalm guard.now pass.old }
     requires keeps { Keeps (known pass.old) book.old }
     requires place { HasPlace (known pass.old) }
+    requires may { MayCount (shares pass.old) }
+    requires hold { is_last ≡ true → (shares pass.old).order ≡ Holding }
     requires can { HasTaken (seen_of pass.old book.old) (of_lent making) }
     requires same { of_lent edges.now ≡ by_edges (known pass.old).rows (of_lent making) }
     requires needs { needs_nodes (of_lent edges.now) ≡ needs_nodes (of_lent making) }
     requires unmade { unmade_as (of_lent edges.now) ≡ unmade_as (of_lent making) }
-    ensures idle { IsIdle guard.now pass.new }
+    ensures idle { IsStill guard.now pass.new }
+    ensures first { is_last ≡ false → (counts_of pass.new).zeros ≡ [] }
     ensures stands { shares pass.new ≡ shares pass.old }
     ensures keeps { Keeps (known pass.new) book.new }
     ensures made { IfSome result (MakesOrTells (seen_of pass.old book.old) (seen_of pass.new book.new) (of_lent making.entry)) }
@@ -179,7 +217,8 @@ pub fn make_once<R: Wait>(
     let Ok(shared) = start(rt, guard, pass, book) else {
         return Some(Err(Refusal::Memory));
     };
-    let (shared, made) = try_of(shared, edges, is_last);
+    let shared = counted(guard, pass, shared, is_last);
+    let (shared, made) = try_of(pass, shared, edges, is_last);
     if awaits(&made, is_last) {
         put_back(guard, pass, shared);
         return None;

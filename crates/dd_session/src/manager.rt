@@ -1,6 +1,6 @@
 //! The manager, which opens and closes the sessions of one store.
 
-ghost use Rattle.std.specs.Prelude.{◌≡◌, ◌+◌, ◌<◌, ◌≤◌, ◌↔◌, [], IfOk, IsErrOf, true, vec_capacity};
+ghost use Rattle.std.specs.Prelude.{◌≡◌, ◌+◌, ◌<◌, ◌≤◌, ◌↔◌, [], IfOk, IsErrOf, true};
 ghost use Rattle.seat_guard.specs.Passes.{IsPassOf, in_hand, known};
 ghost use Rattle.seat_guard.specs.Views.{one_more};
 ghost use Rattle.dd_session.specs.Managing.{AreAll, IsClosing, IsClosed, IsConfig, newcomer, opened};
@@ -8,7 +8,7 @@ ghost use Rattle.dd_session.specs.Reorderings.{opened_levels};
 ghost use Rattle.dd_session.specs.Turns.{managed_by};
 
 use crate::book::Book;
-use crate::closing::{clear_board, join_all, let_all_go};
+use crate::closing::join_all;
 use crate::session::Session;
 use edge_bits::{
     FIRST_PROJECTION, MOST_ELEMENTS, MOST_SESSIONS, MOST_SLOTS, MOST_VARIABLES, Memory,
@@ -46,12 +46,12 @@ pub struct Manager {
     closing: Rest<Shared>,
     vars: u32,
     elements: u32,
-    /// Room for the rows of all sessions, for the end.
-    ended: Vec<Rows>,
+    /// Where calls take memory for lists of their own.
+    alloc: Global,
 }
 
 impl Model for Manager {
-    ghost use Rattle.std.specs.Prelude.{◌≡◌, ◌≤◌, [], vec_capacity};
+    ghost use Rattle.std.specs.Prelude.{◌≡◌};
     ghost use Rattle.seat_guard.specs.Passes.{IsRestOf, resting};
     ghost use Rattle.dd_session.specs.Managing.{IsClosing, Managed, managed_of};
 
@@ -59,7 +59,7 @@ impl Model for Manager {
 
     ghost view = { λ m. managed_of m.guard m.closing };
 
-    ghost invariant = { λ m. IsRestOf m.guard m.closing × IsClosing (resting m.closing) × (m.ended.items ≡ []) × ((resting m.closing).sessions ≤ vec_capacity m.ended) × ((resting m.closing).vars ≡ m.vars) × ((resting m.closing).elements ≡ m.elements) };
+    ghost invariant = { λ m. IsRestOf m.guard m.closing × IsClosing (resting m.closing) × ((resting m.closing).vars ≡ m.vars) × ((resting m.closing).elements ≡ m.elements) };
 }
 
 /// The next session.
@@ -109,7 +109,6 @@ fn with_sessions(
     alloc: Global,
     guard: Guard<Shared>,
     mut closing: Pass<Shared>,
-    ended: Vec<Rows>,
     config: Config,
     sessions: u32,
 ) -> Result<(Manager, Vec<Session>), Memory>
@@ -118,7 +117,6 @@ fn with_sessions(
     requires closing { ((known closing).closing ≡ true) × ((known closing).gone ≡ []) × ((known closing).rows ≡ []) }
     requires first { (known closing).given ≡ 0 }
     requires room { (sessions ≡ (known closing).sessions) × (sessions ≤ MOST_SESSIONS) }
-    requires ended { (ended.items ≡ []) × (sessions ≤ vec_capacity ended) }
     ensures { IfOk result (λ r. (r.0 ≡ managed_by guard.table.shared.table_id (known closing)) × (r.1.items ≡ opened r.0)) }
 {
     let all = open_sessions(alloc, &guard, &mut closing, sessions)?;
@@ -129,7 +127,7 @@ fn with_sessions(
             closing,
             vars: config.vars,
             elements: config.elements,
-            ended,
+            alloc,
         },
         all,
     ))
@@ -150,10 +148,9 @@ fn open_in_range(
         slots: config.limit,
         sessions,
     };
-    let ended = Vec::with_capacity(alloc, sessions as usize)?;
     let shared = Shared::new(alloc, config.vars, config.elements, config.limit)?;
     let (guard, closing) = open(alloc, shared, &key)?;
-    with_sessions(alloc, guard, closing, ended, config, sessions)
+    with_sessions(alloc, guard, closing, config, sessions)
 }
 
 /// How many calls there were, and how many slots were left in use.
@@ -166,7 +163,7 @@ pub struct Closed {
 impl Manager {
     /// Where a call takes memory for a list of its own.
     pub(crate) fn allocator(&self) -> Global {
-        *self.ended.allocator()
+        self.alloc
     }
 
     /// How many levels an order had as the manager was opened: one for each variable, or for each element.
@@ -209,7 +206,7 @@ impl Manager {
         }
     }
 
-    /// Takes the sessions in, empties the board, drops all rows and sweeps. The calls of all sessions, each once, are one legal
+    /// Takes the sessions in, lets go what they and the board held, and sweeps. The calls of all sessions, each once, are one legal
     /// history, which leaves each session its rows; what is left in use is 5 slots and one for each variable.
     pub fn close<R: Wait>(self, rt: &R, sessions: Vec<Session>) -> Closed
         requires { AreAll self sessions.items }
@@ -221,14 +218,13 @@ impl Manager {
             closing,
             vars: _,
             elements: _,
-            mut ended,
+            alloc: _,
         } = self;
         let mut closing = closing.wake(rt);
-        join_all(&guard, &mut closing, &mut ended, sessions);
+        join_all(&guard, &mut closing, sessions);
         let calls = guard.calls(&mut closing);
         let mut shared = guard.take_last(rt, &mut closing);
-        clear_board(&mut shared);
-        let_all_go(&mut shared, ended);
+        shared.let_all_go();
         let (_shared, swept) = shared.sweep();
         Closed {
             calls,

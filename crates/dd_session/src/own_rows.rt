@@ -7,14 +7,14 @@ ghost use Rattle.function_laws.specs.declared.history.Call.TheVariants as calls;
 ghost use Rattle.function_laws.specs.declared.history.Reply.TheVariants as replies;
 ghost use Rattle.dd_session.specs.Sessions.{Called, HasRoom, IsAsBefore, IsLive, IsLiveAs, fulls_in};
 ghost use Rattle.dd_session.specs.Listings.{IsListed};
-ghost use Rattle.dd_session.specs.Works.{IsSweepAsked, StoresNothing};
+ghost use Rattle.dd_session.specs.Works.{HadNoTurn, IsSweepAsked, StoresNothing};
 ghost use Rattle.dd_session.specs.Managing.{is_posted};
 ghost use Rattle.dd_session.specs.Reorderings.{levels_of};
 
 use crate::answers::{Fetched, Placed};
 use crate::manager::Manager;
 use crate::session::{Session, take_seat};
-use crate::{held, seated};
+use crate::{alone, held};
 use dead_sweep::Swept;
 use diagram_dumps::Listing;
 use edge_bits::{Kind, Memory};
@@ -85,48 +85,48 @@ impl Session {
     }
 
     /// A further row with the function of a row. There is room for it.
-    pub fn copy<R: Wait>(&mut self, rt: &R, manager: &Manager, h: H) -> Placed<H>
+    pub fn copy(&mut self, manager: &Manager, h: H) -> Placed<H>
         requires own { self.old.manager ≡ manager.now }
         requires room { HasRoom self.old }
         requires spare { 1 ≤ self.old.spare }
         requires live { IsLive self.old h }
         ensures told { Called self.old self.new (calls.Copy h) (replies.Made result.value) result.place }
-        ensures stored { StoresNothing self.old self.new }
+        ensures turns { HadNoTurn self.old self.new }
         ensures spare { self.new.spare + 1 ≡ self.old.spare }
     {
         let mut pass = take_seat(&mut self.seat);
-        let placed = seated::copy(rt, &manager.guard, &mut pass, &mut self.book, h);
+        let placed = alone::copy(&manager.guard, &mut pass, &mut self.book, h);
         self.seat = Some(pass);
         placed
     }
 
     /// Lets a row go. Its name is live no more.
-    pub fn drop_row<R: Wait>(&mut self, rt: &R, manager: &Manager, h: H) -> Placed<()>
+    pub fn drop_row(&mut self, manager: &Manager, h: H) -> Placed<()>
         requires own { self.old.manager ≡ manager.now }
         requires room { HasRoom self.old }
         requires live { IsLive self.old h }
         ensures told { Called self.old self.new (calls.DropRow h) replies.Done result.place }
-        ensures stored { StoresNothing self.old self.new }
+        ensures turns { HadNoTurn self.old self.new }
         ensures fewer { length self.new.rows + 1 ≡ length self.old.rows }
         ensures spare { self.new.spare ≡ self.old.spare + 1 }
     {
         let mut pass = take_seat(&mut self.seat);
-        let placed = seated::drop_row(rt, &manager.guard, &mut pass, &mut self.book, h);
+        let placed = alone::drop_row(&manager.guard, &mut pass, &mut self.book, h);
         self.seat = Some(pass);
         placed
     }
 
     /// Whether two rows of one kind have one function.
-    pub fn same<R: Wait>(&mut self, rt: &R, manager: &Manager, f: H, g: H) -> Placed<bool>
+    pub fn same(&mut self, manager: &Manager, f: H, g: H) -> Placed<bool>
         requires own { self.old.manager ≡ manager.now }
         requires room { HasRoom self.old }
         requires alike { (k : KindOf) × IsLiveAs k self.old f × IsLiveAs k self.old g }
         ensures told { Called self.old self.new (calls.Same f g) (replies.Truth result.value) result.place }
-        ensures stored { StoresNothing self.old self.new }
+        ensures turns { HadNoTurn self.old self.new }
         ensures spare { self.new.spare ≡ self.old.spare }
     {
         let mut pass = take_seat(&mut self.seat);
-        let placed = seated::same(rt, &manager.guard, &mut pass, &mut self.book, f, g);
+        let placed = alone::same(&manager.guard, &mut pass, &mut self.book, f, g);
         self.seat = Some(pass);
         placed
     }
@@ -140,8 +140,8 @@ impl Session {
         ensures stored { StoresNothing self.old self.new }
         ensures spare { self.new.spare ≡ self.old.spare }
     {
-        let mut pass = take_seat(&mut self.seat);
-        let placed = seated::post(rt, &manager.guard, &mut pass, &mut self.book, cell, h);
+        let pass = take_seat(&mut self.seat);
+        let (pass, placed) = held::post(rt, &manager.guard, pass, &mut self.book, cell, h);
         self.seat = Some(pass);
         placed
     }
@@ -163,8 +163,8 @@ impl Session {
         ensures stored { StoresNothing self.old self.new }
         ensures spare { self.new.spare + 1 ≡ self.old.spare }
     {
-        let mut pass = take_seat(&mut self.seat);
-        let placed = seated::fetch(rt, &manager.guard, &mut pass, &mut self.book, cell, other);
+        let pass = take_seat(&mut self.seat);
+        let (pass, placed) = held::fetch(rt, &manager.guard, pass, &mut self.book, cell, other);
         self.seat = Some(pass);
         placed
     }

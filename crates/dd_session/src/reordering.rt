@@ -2,13 +2,14 @@
 
 ghost use Rattle.std.specs.Prelude.{◌≡◌, ◌+◌, ◌<◌, ◌≤◌, [], IfErr, IsTrue, MatchResult, is_err};
 ghost use Rattle.function_laws.specs.declared.history.Reply.TheVariants as replies;
-ghost use Rattle.seat_guard.specs.Passes.{IsIdle, IsPassOf, in_hand, known, shares};
+ghost use Rattle.seat_guard.specs.declared.view.Hold.TheVariants.{Holding};
+ghost use Rattle.seat_guard.specs.Passes.{IsPassOf, counts_of, in_hand, known, shares};
 ghost use Rattle.seat_guard.specs.Views.{orders_of};
 ghost use Rattle.shared_store.specs.Reordering.{orders_left, swap_call};
 ghost use Rattle.shared_store.specs.Sharing.{Serving, orders};
 ghost use Rattle.dd_session.specs.Reorderings.{SwapsLevels, crowded_in, levels_of};
 ghost use Rattle.dd_session.specs.Sessions.{HasRoom, elements_in, variables_in};
-ghost use Rattle.dd_session.specs.Turns.{HasPlace, IsHolding, IsRefused, Keeps, Notes, Told, levels_in, ordered_by, seen_of};
+ghost use Rattle.dd_session.specs.Turns.{HasPlace, IsCalm, IsHolding, IsRefused, IsStill, Keeps, Notes, Settles, Told, levels_in, ordered_by, seen_of};
 
 use crate::answers::{Full, Placed, Refusal};
 use crate::book::Book;
@@ -20,7 +21,7 @@ use crate::session::{Session, take_seat};
 use crate::settling::be_full;
 use function_laws::Order;
 use seat_guard::seat::{Guard, Pass};
-use shared_store::{Crowded, Shared};
+use shared_store::{Crowded, Shared, read_counts};
 use std::sync::Wait;
 
 /// What a swap leaves that was made, or for which there was no room.
@@ -34,7 +35,7 @@ fn settle_swap(
     done: Result<(), Crowded>,
 ) -> Result<Placed<()>, Full>
     requires hold { IsHolding guard.now pass.old }
-    requires serves { Serving shared (ordered_by (known pass.old) (orders shared)) }
+    requires serves { Serving shared (ordered_by (known pass.old) (orders shared)) (counts_of pass.old) }
     requires ordered { orders shared ≡ orders_left order level (orders_of (known pass.old)) done }
     requires keeps { Keeps (known pass.old) book.old }
     requires place { HasPlace (known pass.old) }
@@ -46,6 +47,7 @@ fn settle_swap(
     ensures notes { Notes (known pass.old) (known pass.new) shared }
     ensures done { crowded_in result ≡ done }
     ensures stands { shares pass.new ≡ shares pass.old }
+    ensures settles { Settles (counts_of pass.old) (counts_of pass.new) }
     ensures rows { book.new.rows ≡ book.old.rows }
 {
     let request = Request::Swap(order, level);
@@ -70,16 +72,18 @@ pub fn swap_at<R: Wait>(
     order: Order,
     level: u32,
 ) -> Result<Placed<()>, Full>
-    requires idle { IsIdle guard.now pass.old }
+    requires idle { IsCalm guard.now pass.old }
     requires keeps { Keeps (known pass.old) book.old }
     requires place { HasPlace (known pass.old) }
     requires level { level + 1 < levels_in (known pass.old) order }
-    ensures idle { IsIdle guard.now pass.new }
+    requires hold { (shares pass.old).order ≡ Holding }
+    ensures idle { IsStill guard.now pass.new }
     ensures stands { shares pass.new ≡ shares pass.old }
     ensures keeps { Keeps (known pass.new) book.new }
     ensures swaps { SwapsLevels order level (seen_of pass.old book.old) (seen_of pass.new book.new) result }
 {
-    let shared = guard.take(rt, pass);
+    let mut shared = guard.take(rt, pass);
+    read_counts(guard, pass, &mut shared);
     shared.store.tell_sound();
     let (shared, done) = shared.swap(order, level);
     settle_swap(guard, pass, book, shared, order, level, done)

@@ -9,9 +9,6 @@ use shared_store::Cell;
 pub enum Request<'a> {
     /// A function is made of others.
     Makes(Making<Name, &'a [u32], &'a [(u32, Name)]>),
-    Copy(Name),
-    DropRow(Name),
-    Same(Name, Name),
     Leq(Name, Name),
     Eval(Name, &'a [bool]),
     Post(u32, Name),
@@ -19,6 +16,17 @@ pub enum Request<'a> {
     Sweep,
     /// A level of an order and the next are exchanged.
     Swap(Order, u32),
+}
+
+/// A call on the rows of a session alone, with its answer.
+#[derive(Clone, Copy)]
+pub enum Alone {
+    /// A row was copied, under this name.
+    Copied(Name, Name),
+    /// The row of this name is gone.
+    Dropped(Name),
+    /// Two rows were compared.
+    Compared(Name, Name, bool),
 }
 
 /// How a row came to be.
@@ -37,8 +45,6 @@ pub enum Adding {
 pub enum Answer {
     /// A new row, under this name.
     Added(Adding, Name, Cell),
-    /// The row of this name is gone.
-    Dropped(Name),
     /// This stands in the cell from now on.
     Posted(u32, Cell),
     Truth(bool),

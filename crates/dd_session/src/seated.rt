@@ -1,141 +1,42 @@
-//! The calls of a session on its rows and on the board, over its seat and its rows.
+//! The calls of a session on the board, and the sweep, over its seat and its rows.
 
-ghost use Rattle.std.specs.Prelude.{◌≡◌, ◌+◌, ◌≤◌, length};
+ghost use Rattle.std.specs.Prelude.{◌≡◌, ◌+◌, ◌<◌, ◌≤◌, [], length, true, Some};
 ghost use Rattle.edge_bits.specs.declared.edges.Kind.{Kind as KindOf};
 ghost use Rattle.function_laws.specs.declared.history.Call.TheVariants as calls;
 ghost use Rattle.function_laws.specs.declared.history.Reply.TheVariants as replies;
-ghost use Rattle.seat_guard.specs.Passes.{IsIdle, known, shares};
+ghost use Rattle.seat_guard.specs.declared.view.Hold.TheVariants.{Holding};
+ghost use Rattle.seat_guard.specs.Passes.{IsPassOf, counts_of, known, shares};
+ghost use Rattle.seat_guard.specs.Recounts.{OnlyCounts};
+ghost use Rattle.shared_store.specs.declared.shared.Cell.{Cell as CellOf};
 ghost use Rattle.dd_session.specs.Managing.{is_posted};
 ghost use Rattle.dd_session.specs.Sessions.{Called, IsNamed};
-ghost use Rattle.dd_session.specs.Turns.{HasPlace, Keeps, Tied, seen_of};
+ghost use Rattle.dd_session.specs.Turns.{HasPlace, IsCalm, IsStill, Keeps, MayCount, OwesCell, seen_of};
 ghost use Rattle.dd_session.specs.Works.{IsSweepAsked, StoresNothing};
 
 use crate::answers::{Fetched, Placed};
 use crate::book::Book;
-use crate::drawing::{edge_at, finish};
+use crate::drawing::{edge_at, finish, kind_at};
 use crate::fetching::{choose, fetched};
 use crate::request::{Adding, Answer, Request};
-use crate::settling::add_row;
+use crate::settling::{add_row, raise};
 use dead_sweep::Swept;
-use edge_bits::Kind;
 use function_laws::Name;
 use seat_guard::seat::{Guard, Pass};
-use shared_store::{Cell, Shared};
+use shared_store::{Cell, Shared, read_counts};
+use std::marker::Brand;
 use std::sync::Wait;
 
-/// The kind of a row.
-pub fn kind_at(pass: &Pass<Shared>, book: &Book, name: Name) -> Kind
-    requires tied { Tied (known pass.now) book.now.rows }
-    requires live { (k : KindOf) × IsNamed k (known pass.now).rows name }
-    ensures { (k : KindOf) → IsNamed k (known pass.now).rows name → result ≡ k }
+/// Counts down the slot of what stood in a cell, which is owed.
+fn pay(guard: &Guard<Shared>, pass: &mut Pass<Shared>, gone: Option<Cell>)
+    requires own { IsPassOf guard.now pass.old × ((known pass.old).live ≡ true) }
+    requires within { (cell : CellOf) → gone ≡ Some cell → cell.edge.index < (known pass.old).slots }
+    requires owed { OwesCell gone (counts_of pass.old).owed }
+    ensures own { OnlyCounts guard.now pass.old pass.new }
+    ensures paid { counts_of pass.new ≡ record (counts_of pass.old) { owed = [] } }
 {
-    let _ = pass;
-    book.rows.kind(name)
-}
-
-/// A further row with the function of a row. There is room for it.
-pub fn copy<R: Wait>(
-    rt: &R,
-    guard: &Guard<Shared>,
-    pass: &mut Pass<Shared>,
-    book: &mut Book,
-    h: Name,
-) -> Placed<Name>
-    requires idle { IsIdle guard.now pass.old }
-    requires keeps { Keeps (known pass.old) book.old }
-    requires place { HasPlace (known pass.old) }
-    requires spare { 1 ≤ book.old.rows.spare }
-    requires live { (k : KindOf) × IsNamed k (known pass.old).rows h }
-    ensures idle { IsIdle guard.now pass.new }
-    ensures stands { shares pass.new ≡ shares pass.old }
-    ensures keeps { Keeps (known pass.new) book.new }
-    ensures told { Called (seen_of pass.old book.old) (seen_of pass.new book.new) (calls.Copy h) (replies.Made result.value) result.place }
-    ensures stored { StoresNothing (seen_of pass.old book.old) (seen_of pass.new book.new) }
-    ensures spare { book.new.rows.spare + 1 ≡ book.old.rows.spare }
-{
-    let cell = Cell {
-        kind: kind_at(pass, book, h),
-        edge: edge_at(pass, book, h),
-    };
-    let shared = guard.take(rt, pass);
-    add_row(
-        guard,
-        pass,
-        book,
-        shared,
-        Request::Copy(h),
-        Adding::Made,
-        cell,
-    )
-}
-
-/// Lets a row go. Its name is live no more.
-pub fn drop_row<R: Wait>(
-    rt: &R,
-    guard: &Guard<Shared>,
-    pass: &mut Pass<Shared>,
-    book: &mut Book,
-    h: Name,
-) -> Placed<()>
-    requires idle { IsIdle guard.now pass.old }
-    requires keeps { Keeps (known pass.old) book.old }
-    requires place { HasPlace (known pass.old) }
-    requires live { (k : KindOf) × IsNamed k (known pass.old).rows h }
-    ensures idle { IsIdle guard.now pass.new }
-    ensures stands { shares pass.new ≡ shares pass.old }
-    ensures keeps { Keeps (known pass.new) book.new }
-    ensures told { Called (seen_of pass.old book.old) (seen_of pass.new book.new) (calls.DropRow h) replies.Done result.place }
-    ensures stored { StoresNothing (seen_of pass.old book.old) (seen_of pass.new book.new) }
-    ensures fewer { length (known pass.new).rows + 1 ≡ length (known pass.old).rows }
-    ensures spare { book.new.rows.spare ≡ book.old.rows.spare + 1 }
-{
-    let mut shared = guard.take(rt, pass);
-    let (_kind, edge) = book.rows.remove(h);
-    shared.lower(edge);
-    let place = finish(
-        guard,
-        pass,
-        book,
-        shared,
-        Request::DropRow(h),
-        Answer::Dropped(h),
-    );
-    Placed { place, value: () }
-}
-
-/// Whether two rows of one kind have one function.
-pub fn same<R: Wait>(
-    rt: &R,
-    guard: &Guard<Shared>,
-    pass: &mut Pass<Shared>,
-    book: &mut Book,
-    f: Name,
-    g: Name,
-) -> Placed<bool>
-    requires idle { IsIdle guard.now pass.old }
-    requires keeps { Keeps (known pass.old) book.old }
-    requires place { HasPlace (known pass.old) }
-    requires alike { (k : KindOf) × IsNamed k (known pass.old).rows f × IsNamed k (known pass.old).rows g }
-    ensures idle { IsIdle guard.now pass.new }
-    ensures stands { shares pass.new ≡ shares pass.old }
-    ensures keeps { Keeps (known pass.new) book.new }
-    ensures told { Called (seen_of pass.old book.old) (seen_of pass.new book.new) (calls.Same f g) (replies.Truth result.value) result.place }
-    ensures stored { StoresNothing (seen_of pass.old book.old) (seen_of pass.new book.new) }
-    ensures rows { book.new.rows ≡ book.old.rows }
-{
-    let first = edge_at(pass, book, f);
-    let second = edge_at(pass, book, g);
-    let shared = guard.take(rt, pass);
-    let told = shared.store.same(first, second);
-    let place = finish(
-        guard,
-        pass,
-        book,
-        shared,
-        Request::Same(f, g),
-        Answer::Truth(told),
-    );
-    Placed { place, value: told }
+    if let Some(cell) = gone {
+        guard.count_down(pass, cell.edge.index());
+    }
 }
 
 /// Puts the function of a row into a cell of the board, in place of what was there.
@@ -147,11 +48,12 @@ pub fn post<R: Wait>(
     cell: u8,
     h: Name,
 ) -> Placed<()>
-    requires idle { IsIdle guard.now pass.old }
+    requires idle { IsCalm guard.now pass.old }
     requires keeps { Keeps (known pass.old) book.old }
     requires place { HasPlace (known pass.old) }
+    requires may { MayCount (shares pass.old) }
     requires live { (k : KindOf) × IsNamed k (known pass.old).rows h }
-    ensures idle { IsIdle guard.now pass.new }
+    ensures idle { IsCalm guard.now pass.new }
     ensures stands { shares pass.new ≡ shares pass.old }
     ensures keeps { Keeps (known pass.new) book.new }
     ensures told { Called (seen_of pass.old book.old) (seen_of pass.new book.new) (calls.Post cell h) replies.Done result.place }
@@ -161,6 +63,8 @@ pub fn post<R: Wait>(
     let kind = kind_at(pass, book, h);
     let edge = edge_at(pass, book, h);
     let mut shared = guard.take(rt, pass);
+    let old = shared.cell(cell);
+    raise::<Brand>(guard, pass, &shared, Cell { kind, edge });
     shared.set_cell(cell, Cell { kind, edge });
     let number = u32::from(cell);
     let place = finish(
@@ -171,6 +75,7 @@ pub fn post<R: Wait>(
         Request::Post(number, h),
         Answer::Posted(number, Cell { kind, edge }),
     );
+    pay(guard, pass, old);
     Placed { place, value: () }
 }
 
@@ -184,12 +89,13 @@ pub fn fetch<R: Wait>(
     cell: u8,
     other: Name,
 ) -> Placed<(Name, Fetched)>
-    requires idle { IsIdle guard.now pass.old }
+    requires idle { IsCalm guard.now pass.old }
     requires keeps { Keeps (known pass.old) book.old }
     requires place { HasPlace (known pass.old) }
+    requires may { MayCount (shares pass.old) }
     requires spare { 1 ≤ book.old.rows.spare }
     requires live { (k : KindOf) × IsNamed k (known pass.old).rows other }
-    ensures idle { IsIdle guard.now pass.new }
+    ensures idle { IsCalm guard.now pass.new }
     ensures stands { shares pass.new ≡ shares pass.old }
     ensures keeps { Keeps (known pass.new) book.new }
     ensures told { Called (seen_of pass.old book.old) (seen_of pass.new book.new) (calls.Fetch cell other) (replies.Fetched result.value.0 (is_posted result.value.1)) result.place }
@@ -225,10 +131,11 @@ pub fn sweep<R: Wait>(
     pass: &mut Pass<Shared>,
     book: &mut Book,
 ) -> Placed<Swept>
-    requires idle { IsIdle guard.now pass.old }
+    requires idle { IsCalm guard.now pass.old }
     requires keeps { Keeps (known pass.old) book.old }
     requires place { HasPlace (known pass.old) }
-    ensures idle { IsIdle guard.now pass.new }
+    requires hold { (shares pass.old).order ≡ Holding }
+    ensures idle { IsStill guard.now pass.new }
     ensures stands { shares pass.new ≡ shares pass.old }
     ensures keeps { Keeps (known pass.new) book.new }
     ensures told { Called (seen_of pass.old book.old) (seen_of pass.new book.new) calls.Sweep replies.Done result.place }
@@ -236,7 +143,9 @@ pub fn sweep<R: Wait>(
     ensures stored { StoresNothing (seen_of pass.old book.old) (seen_of pass.new book.new) }
     ensures rows { book.new.rows ≡ book.old.rows }
 {
-    let shared = guard.take(rt, pass);
+    let mut shared = guard.take(rt, pass);
+    read_counts(guard, pass, &mut shared);
+    shared.store.tell_sound();
     let (shared, swept) = shared.sweep();
     let place = finish(guard, pass, book, shared, Request::Sweep, Answer::Done);
     Placed {

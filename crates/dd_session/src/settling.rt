@@ -1,15 +1,18 @@
 //! What a call leaves that adds a row, or that was refused.
 
-ghost use Rattle.std.specs.Prelude.{◌≡◌, ◌+◌, ◌<◌, ◌≤◌, ◌^◌, ℕ, [], Err, IfOk, IsErrOf, IsTrue, MatchResult, Ok, Some};
-ghost use Rattle.edge_bits.specs.declared.limits.TheConstants.{MOST_COUNT};
+ghost use Rattle.std.specs.Prelude.{◌≡◌, ◌+◌, ◌<◌, ◌≤◌, ◌^◌, ℕ, [], Err, IfOk, IsErrOf, IsTrue, MatchResult, Ok, Some, true};
+ghost use Rattle.node_slots.specs.Stores.{IsStore};
 ghost use Rattle.function_laws.specs.declared.history.Function.{Function};
 ghost use Rattle.function_laws.specs.Steps.{TellsFull, may_be_full};
 ghost use Rattle.node_store.specs.Views.{Is};
-ghost use Rattle.seat_guard.specs.Passes.{IsPassOf, in_hand, known, shares};
-ghost use Rattle.shared_store.specs.Sharing.{Serving, count, due, view_of};
+ghost use Rattle.seat_guard.specs.CountPlays.{MayRaise};
+ghost use Rattle.seat_guard.specs.Passes.{IsPassOf, counts_of, in_hand, known, shares};
+ghost use Rattle.seat_guard.specs.Recounts.{OnlyCounts};
+ghost use Rattle.seat_guard.specs.Tallies.{raised_by};
+ghost use Rattle.shared_store.specs.Sharing.{Serving, due, held_of, view_of};
 ghost use Rattle.dd_session.specs.Requests.{added_as, call_of};
 ghost use Rattle.dd_session.specs.Sessions.{reply_unmade};
-ghost use Rattle.dd_session.specs.Turns.{AddsRow, Gives, HasPlace, IsAdded, IsCausedBy, IsHolding, IsRefused, Keeps, MayBeFull, Notes, Told, outcome_unmade};
+ghost use Rattle.dd_session.specs.Turns.{AddsRow, Gives, HasPlace, IsAdded, IsCausedBy, IsHolding, IsRefused, IsSettled, Keeps, MayBeFull, MayCount, Notes, Settles, Told, outcome_unmade};
 
 use crate::answers::{Full, Placed, Refusal};
 use crate::book::Book;
@@ -20,36 +23,57 @@ use function_laws::Name;
 use node_slots::Stop;
 use operator_calls::Unmade;
 use seat_guard::seat::{Guard, Pass};
+use seat_guard::told::Raises;
 use shared_store::{Cell, Shared, put_back};
+use std::marker::Brand;
+
+/// Counts the slot up of what is to be held, under a share or the full hold.
+pub fn raise<E: Raises>(guard: &Guard<Shared>, pass: &mut Pass<Shared>, shared: &Shared, cell: Cell)
+    requires held { E.held ≡ held_of (view_of shared.now) cell }
+    requires own { IsPassOf guard.now pass.old × ((known pass.old).live ≡ true) × ((known pass.old).holds ≡ true) }
+    requires may { MayCount (shares pass.old) }
+    requires serves { Serving shared.now (known pass.old) (counts_of pass.old) }
+    requires place { HasPlace (known pass.old) }
+    requires settled { IsSettled (counts_of pass.old) }
+    requires is { Is cell.kind (view_of shared.now) cell.edge }
+    ensures own { OnlyCounts guard.now pass.old pass.new }
+    ensures store { IsStore shared.now.store }
+    ensures raised { (g : ℕ) × (counts_of pass.new ≡ raised_by (held_of (view_of shared.now) cell) g (counts_of pass.old)) }
+{
+    shared.store.tell_sound();
+    guard.count_up::<E>(pass, cell.edge.index());
+}
 
 /// A new row of what the cell's edge denotes. There is room for it.
 pub fn add_row(
     guard: &Guard<Shared>,
     pass: &mut Pass<Shared>,
     book: &mut Book,
-    mut shared: Shared,
+    shared: Shared,
     request: Request<'_>,
     adding: Adding,
     cell: Cell,
 ) -> Placed<Name>
     requires hold { IsHolding guard.now pass.old }
-    requires serves { Serving shared (known pass.old) }
+    requires serves { Serving shared (known pass.old) (counts_of pass.old) }
     requires keeps { Keeps (known pass.old) book.old }
     requires place { HasPlace (known pass.old) }
     requires spare { 1 ≤ book.old.rows.spare }
-    requires few { count shared cell.edge.index ≤ MOST_COUNT }
+    requires may { MayCount (shares pass.old) }
     requires is { Is cell.kind (view_of shared) cell.edge }
     requires adds { AddsRow (known pass.old) (view_of shared) (call_of request) adding cell }
     ensures own { IsPassOf guard.now pass.new × (in_hand pass.new ≡ []) }
     ensures keeps { Keeps (known pass.new) book.new }
     ensures told { Told (known pass.old) (known pass.new) (call_of request.entry) (added_as (view_of shared) adding result.value cell) result.place }
     ensures stands { shares pass.new ≡ shares pass.old }
+    ensures settles { Settles (counts_of pass.old) (counts_of pass.new) }
     ensures notes { Notes (known pass.old) (known pass.new) shared }
     ensures spare { book.new.rows.spare + 1 ≡ book.old.rows.spare }
 {
-    shared.raise(cell.edge);
-    let name = book.rows.add(cell.kind, cell.edge);
-    let answer = Answer::Added(adding, name, cell);
+    let Cell { kind, edge } = cell;
+    raise::<Brand>(guard, pass, &shared, Cell { kind, edge });
+    let name = book.rows.add(kind, edge);
+    let answer = Answer::Added(adding, name, Cell { kind, edge });
     let place = finish(guard, pass, book, shared, request, answer);
     Placed { place, value: name }
 }
@@ -65,16 +89,17 @@ pub fn be_full(
     need: u32,
 ) -> Full
     requires hold { IsHolding guard.now pass.old }
-    requires serves { Serving shared (known pass.old) }
+    requires serves { Serving shared (known pass.old) (counts_of pass.old) }
     requires keeps { Keeps (known pass.old) book.old }
     requires place { HasPlace (known pass.old) }
-    requires may { IsTrue (may_be_full (call_of request)) }
+    requires fits { IsTrue (may_be_full (call_of request)) }
     requires outcome { MayBeFull (known pass.old) (call_of request) }
     requires numbers { TellsFull (known pass.old).slots (call_of request) in_use need }
     ensures own { IsPassOf guard.now pass.new × (in_hand pass.new ≡ []) }
     ensures keeps { Keeps (known pass.new) book.new }
     ensures told { IsRefused (known pass.old) (known pass.new) (call_of request.entry) (Refusal.Full result) }
     ensures stands { shares pass.new ≡ shares pass.old }
+    ensures settles { Settles (counts_of pass.old) (counts_of pass.new) }
     ensures numbers { (result.in_use ≡ in_use) × (result.need ≡ need) }
     ensures notes { Notes (known pass.old) (known pass.new) shared }
     ensures rows { book.new.rows ≡ book.old.rows }
@@ -100,7 +125,7 @@ pub fn tell_unmade(
     why: Unmade,
 ) -> u64
     requires hold { IsHolding guard.now pass.old }
-    requires serves { Serving shared (known pass.old) }
+    requires serves { Serving shared (known pass.old) (counts_of pass.old) }
     requires keeps { Keeps (known pass.old) book.old }
     requires place { HasPlace (known pass.old) }
     requires outcome { Gives (known pass.old) (call_of request) (outcome_unmade why) }
@@ -108,6 +133,7 @@ pub fn tell_unmade(
     ensures keeps { Keeps (known pass.new) book.new }
     ensures told { Told (known pass.old) (known pass.new) (call_of request.entry) (reply_unmade why) result }
     ensures stands { shares pass.new ≡ shares pass.old }
+    ensures settles { Settles (counts_of pass.old) (counts_of pass.new) }
     ensures notes { Notes (known pass.old) (known pass.new) shared }
     ensures rows { book.new.rows ≡ book.old.rows }
 {
@@ -126,11 +152,11 @@ pub fn settle(
     made: Result<Result<Edge, Unmade>, Stop>,
 ) -> Result<Placed<Result<Name, Unmade>>, Refusal>
     requires hold { IsHolding guard.now pass.old }
-    requires serves { Serving shared (known pass.old) }
+    requires serves { Serving shared (known pass.old) (counts_of pass.old) }
     requires keeps { Keeps (known pass.old) book.old }
     requires place { HasPlace (known pass.old) }
     requires spare { 1 ≤ book.old.rows.spare }
-    requires few { (k : ℕ) → count shared k ≤ MOST_COUNT }
+    requires may { MayCount (shares pass.old) }
     requires ok { IfOk made (λ told. MatchResult told (λ edge. Is kind (view_of shared) edge × AddsRow (known pass.old) (view_of shared) (call_of request) adding (record { kind = kind; edge = edge })) (λ why. Gives (known pass.old) (call_of request) (outcome_unmade why))) }
     requires one { (slots : ℕ) → TellsFull slots (call_of request) slots 1 }
     requires full { IsErrOf made Stop.Full → IsTrue (may_be_full (call_of request)) × MayBeFull (known pass.old) (call_of request) × ((f : Function) × (due shared ≡ Some f)) }
@@ -142,6 +168,7 @@ pub fn settle(
     ensures spare { MatchResult result (λ placed. MatchResult placed.value (λ name. book.new.rows.spare + 1 ≡ book.old.rows.spare) (λ why. book.new.rows.spare ≡ book.old.rows.spare)) (λ refusal. book.new.rows.spare ≡ book.old.rows.spare) }
     ensures cause { IsCausedBy made result }
     ensures stands { shares pass.new ≡ shares pass.old }
+    ensures settles { Settles (counts_of pass.old) (counts_of pass.new) }
 {
     match made {
         Ok(Ok(edge)) => {

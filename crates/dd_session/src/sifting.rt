@@ -7,16 +7,20 @@ ghost use Rattle.group_sift.specs.Turns.{last_end};
 ghost use Rattle.node_slots.specs.Held.{Alone};
 ghost use Rattle.node_slots.specs.Stores.{IsStore};
 ghost use Rattle.node_slots.specs.Wholes.{content_view};
-ghost use Rattle.seat_guard.specs.Passes.{IsIdle, IsPassOf, in_hand, known, shares};
+ghost use Rattle.seat_guard.specs.declared.view.Hold.TheVariants.{Holding};
+ghost use Rattle.seat_guard.specs.Moves.{MayMove};
+ghost use Rattle.seat_guard.specs.Tallies.{counts_after};
+ghost use Rattle.seat_guard.specs.Passes.{IsPassOf, counts_of, in_hand, known, shares};
 ghost use Rattle.seat_guard.specs.Views.{MayTell, told_of};
 ghost use Rattle.seat_guard.specs.declared.view.Change.TheVariants.{Nothing};
 ghost use Rattle.shared_store.specs.declared.shared.Shared.{Shared as SharedOf};
+ghost use Rattle.shared_store.specs.Counted.{AreRead};
 ghost use Rattle.shared_store.specs.Sharing.{Serving};
 ghost use Rattle.shared_store.specs.Sifting.{sift_call, sifting_of};
 ghost use Rattle.dd_session.specs.Reorderings.{levels_of};
 ghost use Rattle.dd_session.specs.Sessions.{HasRoom, elements_in, variables_in};
 ghost use Rattle.dd_session.specs.Siftings.{SiftsLevels, sift_telling};
-ghost use Rattle.dd_session.specs.Turns.{Drew, HasPlace, IsHolding, Keeps, Told, levels_in, seen_of};
+ghost use Rattle.dd_session.specs.Turns.{Drew, HasPlace, IsCalm, IsHolding, IsStill, Keeps, Settles, Told, levels_in, seen_of};
 
 use crate::answers::Placed;
 use crate::book::Book;
@@ -27,7 +31,7 @@ use function_laws::Order;
 use group_sift::{Blocks, Sifted};
 use seat_guard::seat::{Guard, Pass};
 use seat_guard::told::Told as Tells;
-use shared_store::{Shared, put_back};
+use shared_store::{Shared, put_back, read_counts};
 use std::marker::Brand;
 use std::sync::Wait;
 
@@ -44,10 +48,12 @@ fn finish_done<E: Tells>(
     requires done { E.told.reply ≡ replies.Done }
     requires quiet { E.told.change ≡ Nothing }
     requires step { MayTell (known pass.old) E.told }
-    requires serves { Serving shared (told_of (known pass.old) 0 E.told) }
+    requires moves { MayMove (known pass.old) (counts_of pass.old) E.told }
+    requires serves { Serving shared (told_of (known pass.old) 0 E.told) (counts_after E.told.change (known pass.old).cells (known pass.old).rows (counts_of pass.old)) }
     ensures own { IsPassOf guard.now pass.new × (in_hand pass.new ≡ []) }
     ensures drew { Drew (known pass.old) (known pass.new) shared E.told result }
     ensures stands { shares pass.new ≡ shares pass.old }
+    ensures settles { Settles (counts_of pass.old) (counts_of pass.new) }
     ensures keeps { Keeps (known pass.new) book.new }
     ensures rows { book.new.rows ≡ book.old.rows }
 {
@@ -67,7 +73,8 @@ fn sift_shared<E: Tells>(
     blocks: &mut Blocks,
 ) -> Placed<Sifted>
     requires hold { IsHolding guard.now pass.old }
-    requires serves { Serving shared (known pass.old) }
+    requires serves { Serving shared (known pass.old) (counts_of pass.old) }
+    requires read { AreRead shared (known pass.old) (counts_of pass.old) }
     requires store { IsStore shared.store }
     requires place { HasPlace (known pass.old) }
     requires keeps { Keeps (known pass.old) book.old }
@@ -78,6 +85,7 @@ fn sift_shared<E: Tells>(
     ensures told { Told (known pass.old) (known pass.new) (sift_call order (sifting_of order blocks.old shared)) replies.Done result.place }
     ensures sifted { (y : SharedOf) × IsSifted Alone order blocks.old (content_view shared.store) (content_view y.store) result.value }
     ensures stands { shares pass.new ≡ shares pass.old }
+    ensures settles { Settles (counts_of pass.old) (counts_of pass.new) }
     ensures blocks { blocks.new ≡ blocks.old }
     ensures rows { book.new.rows ≡ book.old.rows }
 {
@@ -98,17 +106,19 @@ pub fn sift_at<R: Wait>(
     order: Order,
     blocks: &mut Blocks,
 ) -> Placed<Sifted>
-    requires idle { IsIdle guard.now pass.old }
+    requires idle { IsCalm guard.now pass.old }
     requires keeps { Keeps (known pass.old) book.old }
     requires place { HasPlace (known pass.old) }
     requires end { last_end 0 blocks.old ≡ levels_in (known pass.old) order }
-    ensures idle { IsIdle guard.now pass.new }
+    requires hold { (shares pass.old).order ≡ Holding }
+    ensures idle { IsStill guard.now pass.new }
     ensures stands { shares pass.new ≡ shares pass.old }
     ensures keeps { Keeps (known pass.new) book.new }
     ensures sifted { SiftsLevels order blocks.old (seen_of pass.old book.old) (seen_of pass.new book.new) result }
     ensures blocks { blocks.new ≡ blocks.old }
 {
-    let shared = guard.take(rt, pass);
+    let mut shared = guard.take(rt, pass);
+    read_counts(guard, pass, &mut shared);
     shared.store.tell_sound();
     sift_shared::<Brand>(guard, pass, book, shared, order, blocks)
 }

@@ -1,8 +1,8 @@
 //! How a call starts that adds a row.
 
 ghost use Rattle.std.specs.Prelude.{◌≡◌, MatchResult};
-ghost use Rattle.seat_guard.specs.Passes.{IsIdle, known};
-ghost use Rattle.dd_session.specs.Turns.{Keeps, Started};
+ghost use Rattle.seat_guard.specs.Passes.{known};
+ghost use Rattle.dd_session.specs.Turns.{IsCalm, Keeps, Started};
 
 use crate::book::Book;
 use edge_bits::Memory;
@@ -17,7 +17,7 @@ pub fn start<R: Wait>(
     pass: &mut Pass<Shared>,
     book: &mut Book,
 ) -> Result<Shared, Memory>
-    requires idle { IsIdle guard.now pass.old }
+    requires idle { IsCalm guard.now pass.old }
     requires keeps { Keeps (known pass.old) book.old }
     ensures { MatchResult result (Started guard.now pass.old pass.new book.old book.new) (λ _. (pass.new ≡ pass.old) × (book.new ≡ book.old)) }
 {

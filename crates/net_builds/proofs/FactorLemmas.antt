@@ -1,5 +1,5 @@
 -- Rows that are there already, and rows that are made on the way to a cover's function.
-use Rattle.std.proofs.Common.{◌≡◌, ℕ, ◌+◌, ◌<◌, ◌≤◌, ◌^◌, ◌++◌, Bool, true, false, ◌&&◌, ◌||◌, List, get_or, Option, None, Some, Result, Ok, Err, IfErr, [], refl, sym, ap, subst, ◌∙◌, arith}
+use Rattle.std.proofs.Common.{◌≡◌, ℕ, ◌+◌, ◌≤◌, ◌^◌, ◌++◌, Bool, true, false, ◌&&◌, ◌||◌, List, get_or, Option, None, Some, Result, Ok, Err, [], refl, sym, ap, subst, ◌∙◌, arith}
 use Rattle.std.proofs.lemmas.List.{append-nil}
 use Rattle.std.proofs.lemmas.List.Elements.{All-nil}
 use Rattle.cover_nets.specs.declared.net.Literal.{Literal}
@@ -16,7 +16,7 @@ use Rattle.net_builds.specs.declared.host.HostRefusal.{HostRefusal}
 use Rattle.net_builds.specs.Factors.{Gives, GivesFor, GivesForIf, GivesIf, HoldsIf, IsHeldIf, IsLet, TakesUp, TakesUpIf, name_of}
 use Rattle.net_builds.specs.Products.{with_fit}
 use Rattle.net_builds.specs.Signals.{HaveRows, HaveValues}
-use Rattle.net_builds.specs.Standings.{Gains, Holds, IsCaused, IsHeld, IsLive, IsQuiet, KeepsAll, Makes, Standing, Works}
+use Rattle.net_builds.specs.Standings.{Holds, IsCaused, IsLive, IsQuiet, KeepsAll, Makes, Standing, Works}
 use Rattle.net_builds.proofs.BackLemmas.{comes_none, comes_over, err_weaker, takes_none, takes_over}
 use Rattle.net_builds.proofs.ReplaceLemmas.{makes_in_place, makes_then, replaces_none}
 use Rattle.net_builds.proofs.StandingLemmas.{caused_before, caused_behind, gains_none, gains_then, holds_live, kept_holds, kept_live, makes_over, makes_same}

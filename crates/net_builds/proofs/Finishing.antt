@@ -1,5 +1,5 @@
 -- What was told of shares that were gathered, when all rows were let go.
-use Rattle.std.proofs.Common.{◌≡◌, ◌⊎◌, ℕ, zero, suc, ◌+◌, ◌<◌, ◌≤◌, ◌++◌, Bool, false, true, Option, Some, None, List, [], ◌∷◌, length, map, refl, ap, sym, ◌∙◌, subst, append_assoc, length-append, inl, inr, arith, All}
+use Rattle.std.proofs.Common.{◌≡◌, ◌⊎◌, ℕ, zero, suc, ◌<◌, ◌≤◌, ◌++◌, Bool, false, true, Option, Some, None, List, [], ◌∷◌, length, map, refl, ap, sym, ◌∙◌, subst, append_assoc, length-append, inl, inr, arith, All}
 use Rattle.std.specs.Prelude.{slice_get}
 use Rattle.std.specs.List.{AllZip, Contains}
 use Rattle.std.proofs.Math.ListN.{drop, set}
@@ -82,6 +82,9 @@ sift_passes cell hs true limit a b ((place, sifts), counted) = record {
     never : false ≡ true → ⊥
     never same = cc
 
+not_dropped : {cell : ℕ} {other : Name} (a : Name) → calls.Fetch cell other ≡ calls.DropRow a → ⊥
+not_dropped a is = cc
+
 -- names that stand for wanted functions
 held_one : (s : Standing) (ws : List (ℕ → Bool)) (names : List Name) (wanted : List (ℕ → Bool)) (name : Name) → AllHold s ws names → All (Contains wanted) ws → Contains names name
     → (w : ℕ → Bool) × Contains wanted w × (s.stands name ≡ values_of s.vars w)
@@ -100,13 +103,6 @@ contains_either (y ∷ xs) ys x (suc i, inside, is) = elim (contains_either xs y
   | inl there ↦ inl (suc there.0, omega (arith, there.1), there.2)
   | inr there ↦ inr there
 ]
-
--- the place of a post among handovers in turn, all fetches of which lie below a place
-post_below : (low place p : ℕ) (hs : List Handover) → AreInTurn low hs → All (λ (h : Handover). h.fetch < place) hs → Contains (map (λ (h : Handover). h.post) hs) p → p < place
-post_below low place p [] turns below (i, inside, is) = absurd (omega (arith, inside))
-post_below low place p (h ∷ hs) turns below (zero, inside, is) = omega (arith, is, turns.1, All-head (λ (x : Handover). x.fetch < place) h hs below)
-post_below low place p (h ∷ hs) turns below (suc i, inside, is) =
-    post_below (h.fetch + 1) place p hs turns.2 (All-tail (λ (x : Handover). x.fetch < place) h hs below) (i, omega (arith, inside), is)
 
 module _ {F : Type 0} (tells : F → Entry → Type 0) (net : Net) (workers cell : ℕ) (hs : List Handover) where
   abbrev wanted : List (ℕ → Bool)
@@ -179,9 +175,9 @@ module _ {F : Type 0} (tells : F → Entry → Type 0) (net : Net) (workers cell
           (All-weaker IsQuiet KeepsOrders (λ e quiet. quiet.keeps) gone.0.works.gained gone.0.works.each)))
 
   -- what the sift's law asks of another session
-  module _ (n place : ℕ) (turns : AreInTurn 0 hs) (behind : All (λ (h : Handover). h.fetch < place) hs) (many : length hs ≡ length wanted) where
+  module _ (n : ℕ) (many : length hs ≡ length wanted) where
     gives_one : (k : ℕ) (a b c d : Standing) (one : Share F) → (k ≡ 0 → ⊥) → one.stop ≡ None → IsShared tells (wanted_of net workers k) (signal_count net) a b one.outputs one.stop → Given k b c
-        → LetsAllGo c d (names_in one.outputs.rows.items) → IsCounted b → b.vars ≡ n → GivesOnly n wanted place a d
+        → LetsAllGo c d (names_in one.outputs.rows.items) → IsCounted b → b.vars ≡ n → GivesOnly n wanted hs a d
     gives_one k a b c d one apart stop shared gives gone counted vars = by (cases_lt k (length hs))
       where
         offers : Offers hs k b c gives.gains.gained
@@ -205,13 +201,14 @@ module _ {F : Type 0} (tells : F → Entry → Type 0) (net : Net) (workers cell
             let one_of = share_holds k b one built.0.has name there in
             (one_of.0, one_of.1, same_Some f _ (sym is ∙ same name ∙ one_of.2 ∙ ap (λ m. values_of m one_of.0) vars))
 
-        by : (k < length hs) ⊎ (length hs ≤ k) → GivesOnly n wanted place a d
+        by : (k < length hs) ⊎ (length hs ≤ k) → GivesOnly n wanted hs a d
         by (inl less) =
             let first = offers.first less in
             inr (
               first.0,
               subst (λ (notes : List Note). Contains notes first.0) (sym gone.works.placed_are) (Contains-append_left c.placed gone.works.behind first.0 first.1),
-              post_below 0 place first.0.place hs turns behind first.2,
+              first.2,
+              (first.5.0, subst (λ (es : List Entry). Contains es first.5.0) (sym gone.works.entries_are) (Contains-append_left c.entries gone.works.gained first.5.0 first.5.1), first.5.2),
               holds first.0.stands first.3,
               subst (All (λ (e : Entry). first.0.place ≤ e.place → e.reply ≡ replies.Done)) (sym entries)
                   (All-append (λ (e : Entry). first.0.place ≤ e.place → e.reply ≡ replies.Done) b.entries behind_b
@@ -223,7 +220,7 @@ module _ {F : Type 0} (tells : F → Entry → Type 0) (net : Net) (workers cell
             inl (behind_b, entries ∙ ap (λ (x : Standing). x.entries ++ behind_b) same, done)
 
     gives_all : (k : ℕ) (old built mid new : List Standing) (shares : List (Share F)) → (k ≡ 0 → ⊥) → AreBuilt shares → AreShared tells net workers k old built shares → PairsFrom Given k built mid → AllGo mid new shares
-        → All IsCounted built → All (λ (s : Standing). s.vars ≡ n) built → AllZip (GivesOnly n wanted place) old new
+        → All IsCounted built → All (λ (s : Standing). s.vars ≡ n) built → AllZip (GivesOnly n wanted hs) old new
     gives_all k [] [] [] [] [] apart all shared gives gone counted vars = tt
     gives_all k [] [] mid new (one ∷ shares) apart all shared gives gone counted vars = absurd shared
     gives_all k [] [] (c ∷ mid) new [] apart all shared gives gone counted vars = absurd gives
@@ -303,7 +300,8 @@ module _ {F : Type 0} (tells : F → Entry → Type 0) (net : Net) (workers cell
 
     -- where it sifted
     module _ (does : sifts ≡ true) (done : AreBuilt (one ∷ shares)) (unsifted : AreUnsifted os zs) (held : All (λ (h : Handover). IsLive g h.to) hs) (newer : All (λ (h : Handover). b.adds ≤ h.to.generation) hs)
-        (rising : AreRising (map (λ (h : Handover). h.to) hs)) (counted : All IsCounted bs) (vars : All (λ (x : Standing). x.vars ≡ z.vars) (b ∷ bs)) where
+        (rising : AreRising (map (λ (h : Handover). h.to) hs)) (counted : All IsCounted bs) (vars : All (λ (x : Standing). x.vars ≡ z.vars) (b ∷ bs))
+        (ended : (es : List Entry) × (h : Handover) × (g.entries ≡ es ++ entry h.fetch g.number (calls.Fetch cell h.other) (replies.Fetched h.to true) ∷ [])) where
       here : ((place : ℕ) × Sifts limit g s place) × IsCounted g
       here = subst (λ c. SiftsIf c limit g s) does sifted
 
@@ -380,8 +378,9 @@ module _ {F : Type 0} (tells : F → Entry → Type 0) (net : Net) (workers cell
         at_place = sift.place_is;
         stood = all_stood hs;
         own = own_names;
-        givers = gives_all z.vars place turns fetched_before (as_many_handed cell wanted (g ∷ gs) g hs handed) 1 os bs gs zs shares (λ e. omega (arith, e)) (All-tail (λ (x : Share F). x.stop ≡ None) one shares done) others givers others_gone
+        givers = gives_all z.vars (as_many_handed cell wanted (g ∷ gs) g hs handed) 1 os bs gs zs shares (λ e. omega (arith, e)) (All-tail (λ (x : Share F). x.stop ≡ None) one shares done) others givers others_gone
             counted (All-tail (λ (x : Standing). x.vars ≡ z.vars) b bs vars);
+        ends = (ended.0, entry ended.1.fetch g.number (calls.Fetch cell ended.1.other) (replies.Fetched ended.1.to true), sym before_sift ∙ ended.2, λ a. not_dropped a);
         sift = subst (λ n. IsSiftedBy limit n sift.told) (sym grows_first.vars_are) sift.sift;
       }
         where
@@ -436,7 +435,7 @@ module _ {F : Type 0} (tells : F → Entry → Type 0) (net : Net) (workers cell
           (sifted_here g gs same_g) handed.tells.2 handed.gone goes.0 goes.1
 
   -- and where it sifted
-  module _ (does : sifts ≡ true) (n : ℕ) where
+  module _ (does : sifts ≡ true) (n : ℕ) (some : 0 < length (output_functions net)) where
     pub finish_sifted : (old new : List Standing) (shares : List (Share F)) → AreBuilt shares → All IsCounted built → All (λ (s : Standing). s.vars ≡ n) built → AreShared tells net workers 0 old built shares → AllGo mid new shares
         → BuildsSifted Tells limit cell (output_functions net) old new found
     finish_sifted old new shares done counted vars shared gone = by old built new shares handed.mid refl refl done shared gone
@@ -461,7 +460,12 @@ module _ {F : Type 0} (tells : F → Entry → Type 0) (net : Net) (workers cell
             (subst (λ (s : Standing). All (λ (h : Handover). s.adds ≤ h.to.generation) hs) (before_is b bs same_b) gathers.newer) gathers.rising
             (All-tail IsCounted b bs counted_here)
             (All-weaker (λ (x : Standing). x.vars ≡ n) (λ (x : Standing). x.vars ≡ z.vars) (λ x is. is ∙ sym first_vars) (b ∷ bs) vars_here)
+            (ended_here g gs same_g)
           where
+            ended_here : (x : Standing) (xs : List Standing) → x ∷ xs ≡ handed.mid → (es : List Entry) × (h : Handover) × (x.entries ≡ es ++ entry h.fetch x.number (calls.Fetch cell h.other) (replies.Fetched h.to true) ∷ [])
+            ended_here x xs same = subst (λ (s : Standing). (es : List Entry) × (h : Handover) × (s.entries ≡ es ++ entry h.fetch s.number (calls.Fetch cell h.other) (replies.Fetched h.to true) ∷ [])) (first_is x xs same)
+                (elim gathers.ends [ inl none ↦ absurd (omega (arith, ap (length {A = Handover}) none, as_many_handed cell (output_functions net) handed.mid gathers.first hs gathers.handed, some)) | inr ended ↦ ended ])
+
             sift_vars : (c : Bool) (x y : Standing) → SiftsIf c limit x y → y.vars ≡ x.vars
             sift_vars false x y same = ap (λ (s : Standing). s.vars) same
             sift_vars true x y (sift, counted) = sift.1.vars_are

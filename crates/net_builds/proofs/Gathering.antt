@@ -1,5 +1,5 @@
 -- One function more is handed over, and what is left where that was refused.
-use Rattle.std.proofs.Common.{◌≡◌, ℕ, zero, suc, ◌+◌, ◌<◌, ◌≤◌, Bool, false, true, List, [], ◌∷◌, ◌++◌, length, map, set, Some, refl, ap, sym, ◌∙◌, subst, append_assoc, length-append, arith}
+use Rattle.std.proofs.Common.{◌≡◌, ℕ, zero, suc, ◌+◌, ◌<◌, ◌≤◌, Bool, false, true, List, [], ◌∷◌, ◌++◌, length, map, set, Some, refl, ap, sym, ◌∙◌, subst, append_assoc, length-append, inl, inr, arith}
 use Rattle.std.specs.Prelude.{slice_get}
 use Rattle.std.specs.List.{AllZip, Contains}
 use Rattle.std.proofs.lemmas.List.{append-nil, length-map, map-append}
@@ -33,6 +33,7 @@ gathers_none cell sessions s at = record {
   first_is = at;
   handed = tt;
   turns = tt;
+  ends = inl refl;
   held = All-nil (λ (h : Handover). IsLive s h.to);
   newer = All-nil (λ (h : Handover). s.adds ≤ h.to.generation);
   rising = tt;
@@ -127,6 +128,7 @@ module _ (cell : ℕ) (old ns new : List Standing) (some : List (ℕ → Bool)) 
     handed = handed_more cell some w new one.last hs h
         (handed_grown cell some ns new so_far.first one.last hs grown (zip_at Grows ns new 0 so_far.first one.last grown so_far.first_is new_first) so_far.handed) delivered_now;
     turns = turns;
+    ends = inr (one.first.entries, h, one.fetches.entries_are ∙ ap (λ m. one.first.entries ++ fetch_of cell m h ∷ []) (sym one.fetches.number_is));
     held = All-append (λ (x : Handover). IsLive one.last x.to) hs (h ∷ [])
         (All-weaker (λ (x : Handover). IsLive so_far.first x.to) (λ (x : Handover). IsLive one.last x.to) (λ x. kept_to x.to) hs so_far.held)
         (All-cons (λ (x : Handover). IsLive one.last x.to) h [] one.fetches.held (All-nil (λ (x : Handover). IsLive one.last x.to)));

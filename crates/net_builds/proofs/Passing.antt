@@ -186,7 +186,7 @@ posts_more cell fetched k a b c hs h gives posts =
     }
       where
         by : k < length (hs ++ h ∷ []) → (k < length hs) ⊎ (length hs ≤ k)
-            → (note : Note) × Contains c.placed note × Contains (places (hs ++ h ∷ [])) note.place × ((other : Name) → note.stands other ≡ a.stands other) × All (λ (e : Entry). e.place < note.place) a.entries
+            → (note : Note) × Contains c.placed note × Contains (places (hs ++ h ∷ [])) note.place × ((other : Name) → note.stands other ≡ a.stands other) × All (λ (e : Entry). e.place < note.place) a.entries × ((e : Entry) × Contains c.entries e × (e.place ≡ note.place))
         by less (inl before) =
             let was = offers.first before in (
               was.0,
@@ -194,6 +194,7 @@ posts_more cell fetched k a b c hs h gives posts =
               subst (λ ps. Contains ps was.0.place) (sym (places_more hs h)) (Contains-append_left (places hs) (h.post ∷ []) was.0.place was.2),
               was.3,
               was.4,
+              (was.5.0, subst (λ (es : List Entry). Contains es was.5.0) (sym posts.entries_are) (Contains-append_left b.entries (post_of cell b.number h ∷ []) was.5.0 was.5.1), was.5.2),
             )
         by less (inr now) = (
           posts.note,
@@ -203,6 +204,12 @@ posts_more cell fetched k a b c hs h gives posts =
           λ other. posts.stood other ∙ offers.stands other,
           subst (λ p. All (λ (e : Entry). e.place < p) a.entries) (sym posts.place_is)
               (all_front (λ (e : Entry). e.place < h.post) a.entries gives.gains.gained (subst (All (λ (e : Entry). e.place < h.post)) gives.gains.entries_are posts.later)),
+          (
+            post_of cell b.number h,
+            subst (λ (es : List Entry). Contains es (post_of cell b.number h)) (sym posts.entries_are)
+                (Contains-append_right b.entries (post_of cell b.number h ∷ []) (post_of cell b.number h) (0, omega arith, refl)),
+            sym posts.place_is,
+          ),
         )
 
 -- another one posts
@@ -230,6 +237,7 @@ posts_elsewhere cell fetched k a b hs h other gives = record {
       subst (λ ps. Contains ps was.0.place) (sym (places_more hs h)) (Contains-append_left (places hs) (h.post ∷ []) was.0.place was.2),
       was.3,
       was.4,
+      was.5,
     ));
   });
 }

@@ -89,6 +89,30 @@ module _ (s : ℕ) (name : Name) where
         let here = none e (inl refl) in
         was_live t e.session e.call e.reply here.0 here.1 (stood_before (after_entry t e) es (λ x has. none x (inr has)) stands)
 
+-- what a name stands for behind entries of other sessions it stood for before
+module _ (s : ℕ) (name : Name) where
+  kept_done : (t : Table) (p : ℕ) (call : Call) → (p ≡ s → ⊥) → (changed t p call).live s name ≡ t.live s name
+  kept_done t p (calls.DropRow a) apart = ap (λ b. cond (b && same_name name a) None (t.live s name)) (ne_eqb s p (λ is. apart (sym is)))
+  kept_done t p _ apart = refl
+
+  kept_live : (t : Table) (p : ℕ) (call : Call) (reply : Reply) → is_numbered reply ≡ false → (p ≡ s → ⊥) → (after t p call reply).live s name ≡ t.live s name
+  kept_live t p call (Made r) plain apart = live_result s name t p r (outcome t p call) apart
+  kept_live t p call (Chose r f) plain apart = live_named s name t p r f apart
+  kept_live t p call (Fetched r posted) plain apart = live_result s name t p r (outcome t p call) apart
+  kept_live t p call (Numbered r m) plain apart = absurd (true≢false plain)
+  kept_live t p call Done plain apart = kept_done t p call apart
+  kept_live t p call (Truth told) plain apart = refl
+  kept_live t p call (Value z) plain apart = refl
+  kept_live t p call Overflow plain apart = refl
+  kept_live t p call Apart plain apart = refl
+  kept_live t p call Most plain apart = refl
+  kept_live t p call (Full a b) plain apart = refl
+
+  pub stays_live : (t : Table) (es : List Entry) → ((e : Entry) → Has e es → is_numbered e.reply ≡ false) → ((e : Entry) → Has e es → e.session ≡ s → ⊥) → (table_after t es).live s name ≡ t.live s name
+  stays_live t [] plain apart = refl
+  stays_live t (e ∷ es) plain apart =
+      stays_live (after_entry t e) es (λ x has. plain x (inr has)) (λ x has. apart x (inr has)) ∙ kept_live t e.session e.call e.reply (plain e (inl refl)) (apart e (inl refl))
+
 -- A fact on functions, of those that cells have.
 module _ (P : Function → Type 0) where
   abbrev pub CellsHave : Table → Type 0

@@ -22,7 +22,10 @@ use Rattle.function_laws.specs.EntryOrders.{opening_orders, orders_from}
 use Rattle.function_laws.specs.Handovers.{posts_to}
 use Rattle.function_laws.specs.Histories.{IsLegal, table_after}
 use Rattle.function_laws.specs.Lists.{all_below, list_of}
-use Rattle.function_laws.specs.SessionEntries.{entries_of, entry}
+use Rattle.function_laws.specs.SessionEntries.{Each, entries_of, entry}
+use Rattle.seat_guard.specs.Finds.{carried_by}
+use Rattle.seat_guard.specs.Sifted.{IsHadAt, IsPlaced}
+use Rattle.net_builds.proofs.Contained.{each_placed}
 use Rattle.function_laws.specs.Sizes.{all_parts, distinct, parts}
 use Rattle.function_laws.specs.Outcomes.{fetches, is_done, makes}
 use Rattle.function_laws.specs.Tables.{Sizes, opening}
@@ -130,7 +133,8 @@ right s place order = record { order_is = order; rows = λ x. refl }
 history : IsLegalHistoryOf sizes log (first ∷ second ∷ [])
 history = record {
   legal = legal;
-  carried = (tt, (tt, (tt, (tt, tt))));
+  found = (tt, (tt, (tt, (tt, tt))));
+  had = each_placed (λ (i : ℕ) (e : Entry). Each (IsPlaced (IsHadAt sizes log) (entries_of e.session (take i log)) i) (carried_by e.call)) log (tt, (tt, (tt, (tt, tt))));
   each = all_two (λ (s : Standing). entries_of s.number log ≡ s.entries) first second refl refl;
   noted = all_two (λ (s : Standing). All (IsNoted sizes log s.number) s.notes) first second (all_one (IsNoted sizes log 0) note (right 0 4 refl)) (λ k d inside. absurd (omega (arith, inside)));
   placed = all_two (λ (s : Standing). All (IsNoted sizes log s.number) s.placed) first second

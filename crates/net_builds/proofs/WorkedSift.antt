@@ -1,5 +1,5 @@
 -- A worked history with a sift: a second session builds a multiplexer whose selector is the lowest variable, and hands it over to the first, which sifts the variables. The sift moves the selector up.
-use Rattle.std.proofs.Common.{◌≡◌, ◌<◌, ◌≤◌, ℕ, Bool, zero, suc, true, false, cond, ◌++◌, List, [], ◌∷◌, refl, ap, sym, ◌∙◌, arith, inl, inr, ne_eqb, codes, subst, take, true≢false}
+use Rattle.std.proofs.Common.{◌≡◌, ◌<◌, ◌≤◌, ℕ, Bool, zero, suc, true, false, cond, ◌++◌, List, [], ◌∷◌, refl, ap, sym, ◌∙◌, arith, get_or, inl, inr, ne_eqb, codes, subst, take, true≢false}
 use Rattle.std.specs.Prelude.{Some, None, slice_get}
 use Rattle.std.specs.List.{All}
 use Rattle.std.specs.Fmt.{digits}
@@ -26,12 +26,17 @@ use Rattle.function_laws.specs.Histories.{IsLegal, table_after}
 use Rattle.function_laws.specs.Kinds.{BddFunction}
 use Rattle.function_laws.specs.Lists.{all_below, any_below, list_of}
 use Rattle.function_laws.specs.SessionEntries.{Each, entries_of, entry}
-use Rattle.function_laws.specs.SiftEntries.{IsAmong, IsSiftOf}
+use Rattle.function_laws.specs.SiftEntries.{IsAmong}
 use Rattle.function_laws.specs.SiftedOrders.{reach}
 use Rattle.function_laws.specs.Sizes.{all_parts, distinct, parts, topmost}
 use Rattle.function_laws.specs.Outcomes.{fetches, is_done, makes}
 use Rattle.function_laws.specs.Tables.{Sizes, opening, same_name}
 use Rattle.function_laws.specs.Values.{constant, if_then_else, projection}
+use Rattle.seat_guard.specs.Finds.{IsFoundIn, carried_by}
+use Rattle.seat_guard.specs.Sifted.{ArePlaced, IsHadAt, IsPlaced}
+use Rattle.net_builds.proofs.Contained.{each_placed, has-at}
+use Rattle.net_builds.proofs.HandedLaw.{legal-front, places}
+use Rattle.net_builds.proofs.ToldLaws.{has_own}
 use Rattle.net_reports.specs.Classes.{AreClasses, Function as Values, IsClass}
 use Rattle.net_reports.specs.Reports.{report_text}
 use Rattle.net_reports.specs.declared.classes.Class.{Class}
@@ -78,14 +83,17 @@ abbrev told : Sifting
 told = record { variables = 0 ∷ 1 ∷ 2 ∷ []; elements = []; functions = whole chosen ∷ []; order = 2 ∷ 0 ∷ 1 ∷ [] }
 
 abbrev sift : Entry
-sift = entry 11 0 (calls.Sift told) replies.Done
+sift = entry 12 0 (calls.Sift told) replies.Done
+
+abbrev sweep : Entry
+sweep = entry 11 0 calls.Sweep replies.Done
 
 abbrev building : List Entry
 building = makes_at 0 1 (bdds.Var 2) 0 ∷ makes_at 1 1 (bdds.Var 0) 1 ∷ makes_at 2 1 (bdds.Var 1) 2 ∷ makes_at 3 1 (bdds.Ite (name 0) (name 1) (name 2)) 3
     ∷ drops_at 4 1 0 ∷ drops_at 5 1 1 ∷ drops_at 6 1 2 ∷ post ∷ []
 
 abbrev low : List Entry
-low = makes_at 8 0 bdds.One 0 ∷ fetch ∷ drops_at 10 0 0 ∷ []
+low = makes_at 8 0 bdds.One 0 ∷ fetch ∷ drops_at 10 0 0 ∷ sweep ∷ []
 
 abbrev log : List Entry
 log = building ++ low ++ sift ∷ []
@@ -105,10 +113,10 @@ abbrev posting : Note
 posting = noted_at 1 7 (0 ∷ 1 ∷ 2 ∷ [])
 
 abbrev sifting : Note
-sifting = noted_at 0 11 (0 ∷ 1 ∷ 2 ∷ [])
+sifting = noted_at 0 12 (0 ∷ 1 ∷ 2 ∷ [])
 
 abbrev note : Note
-note = noted_at 0 12 (2 ∷ 0 ∷ 1 ∷ [])
+note = noted_at 0 13 (2 ∷ 0 ∷ 1 ∷ [])
 
 abbrev first : Standing
 first = after 0 2 (low ++ sift ∷ []) (note ∷ []) (sifting ∷ [])
@@ -148,7 +156,7 @@ legal = (
                 (
                   refl,
                   (makes (whole (constant true)), refl, refl),
-                  (refl, (fetches (whole chosen) true, refl, (refl, refl)), (refl, (is_done, refl, tt), (refl, (is_done, refl, tt), tt))),
+                  (refl, (fetches (whole chosen) true, refl, (refl, refl)), (refl, (is_done, refl, tt), (refl, (is_done, refl, tt), (refl, (is_done, refl, tt), tt)))),
                 ),
               ),
             ),
@@ -167,7 +175,7 @@ no_other : (p : ℕ) → All (λ (s : Standing). s.number ≡ p → ⊥) (first 
 no_other p none =
     let one : 0 ≡ p → ⊥ = none 0 first (omega arith) in
     let two : 1 ≡ p → ⊥ = none 1 first (omega arith) in
-    none_of log p (two, (two, (two, (two, (two, (two, (two, (two, (one, (one, (one, (one, tt))))))))))))
+    none_of log p (two, (two, (two, (two, (two, (two, (two, (two, (one, (one, (one, (one, (one, tt)))))))))))))
 
 -- the first session has one name at the sift's place, and so has the second one at its post's place
 first_has : (x y : Function) (b c : Bool) (f : Function) → cond b None (cond c (Some x) (cond b (Some y) None)) ≡ Some f → x ≡ f
@@ -192,15 +200,32 @@ unfolding list_of
 posted_alone at f stands =
     second_has (whole (projection 2)) (whole (projection 0)) (whole (projection 1)) (whole chosen) (same_name at (name 0)) (same_name at (name 1)) (same_name at (name 2)) (same_name at (name 3)) f stands
 
-carries : IsSiftOf (table_after (opening sizes) (take 11 log)) (opening_orders sizes) 0 told
+carries : IsFoundIn (table_after (opening sizes) (take 12 log)) (opening_orders sizes) 0 told
 unfolding list_of
 carries = record {
   variables_are = refl;
   elements_are = refl;
   apart = (tt, tt);
-  of_table = (inl (0, name 1, whole chosen, refl, inl refl), tt);
   own = λ at f stands. subst (IsAmong (whole chosen ∷ [])) (fetched_alone at f stands) (inl (inl refl));
 }
+
+no_drop : (a : Name) → calls.Sweep ≡ calls.DropRow a → ⊥
+no_drop a is = cc
+
+-- the sift's function was that of a row of its session
+own_low : All (λ (e : Entry). e.place < 12) (entries_of 0 (take 12 log))
+own_low k d inside =
+    let e : Entry = get_or (entries_of 0 (take 12 log)) k d in
+    let at = places 0 (opening sizes) (take 12 log) e (legal-front 0 12 (opening sizes) log legal) (has_own 0 (take 12 log) e (has-at (entries_of 0 (take 12 log)) k d inside)) in
+    omega (arith, at.1)
+
+sifted_row : IsPlaced (IsHadAt sizes log) (entries_of 0 (take 12 log)) 12 (whole chosen)
+unfolding list_of
+sifted_row = record { place = 12; within = omega arith; later = own_low; is = inl (inl (0, name 1, whole chosen, refl, inl refl)) }
+
+had : ArePlaced (IsHadAt sizes log) log
+had = each_placed (λ (i : ℕ) (e : Entry). Each (IsPlaced (IsHadAt sizes log) (entries_of e.session (take i log)) i) (carried_by e.call)) log
+    (tt, (tt, (tt, (tt, (tt, (tt, (tt, (tt, (tt, (tt, (tt, (tt, ((sifted_row, tt), tt)))))))))))))
 
 noted : (s place : ℕ) (order : List ℕ) → (orders_from (opening_orders sizes) (take place log)).variables ≡ order → IsNoted sizes log s (noted_at s place order)
 noted s place order is = record { order_is = is; rows = λ x. refl }
@@ -209,12 +234,13 @@ noted s place order is = record { order_is = is; rows = λ x. refl }
 history : IsLegalHistoryOf sizes log (first ∷ second ∷ [])
 history = record {
   legal = legal;
-  carried = (tt, (tt, (tt, (tt, (tt, (tt, (tt, (tt, (tt, (tt, (tt, (carries, tt))))))))))));
+  found = (tt, (tt, (tt, (tt, (tt, (tt, (tt, (tt, (tt, (tt, (tt, (tt, (carries, tt)))))))))))));
+  had = had;
   each = all_of (λ (s : Standing). entries_of s.number log ≡ s.entries) (first ∷ second ∷ []) (refl, (refl, tt));
   noted = all_of (λ (s : Standing). All (IsNoted sizes log s.number) s.notes) (first ∷ second ∷ [])
-      (all_of (IsNoted sizes log 0) (note ∷ []) (noted 0 12 (2 ∷ 0 ∷ 1 ∷ []) refl, tt), (All-nil (IsNoted sizes log 1), tt));
+      (all_of (IsNoted sizes log 0) (note ∷ []) (noted 0 13 (2 ∷ 0 ∷ 1 ∷ []) refl, tt), (All-nil (IsNoted sizes log 1), tt));
   placed = all_of (λ (s : Standing). All (IsNoted sizes log s.number) s.placed) (first ∷ second ∷ []) (
-    all_of (IsNoted sizes log 0) (sifting ∷ []) (noted 0 11 (0 ∷ 1 ∷ 2 ∷ []) refl, tt),
+    all_of (IsNoted sizes log 0) (sifting ∷ []) (noted 0 12 (0 ∷ 1 ∷ 2 ∷ []) refl, tt),
     (all_of (IsNoted sizes log 1) (posting ∷ []) (noted 1 7 (0 ∷ 1 ∷ 2 ∷ []) refl, tt), tt),
   );
   no_other = no_other;
@@ -229,7 +255,7 @@ its_post = (record { plain = refl; elsewhere = λ cell apart. ne_eqb cell 0 apar
 
 first_known : All (IsKnown 0 (handover ∷ [])) (low ++ sift ∷ [])
 first_known = all_of (IsKnown 0 (handover ∷ [])) (low ++ sift ∷ [])
-    (quiet _ refl (λ cell. refl), (quiet _ refl (λ cell. refl), (quiet _ refl (λ cell. refl), (quiet _ refl (λ cell. refl), tt))))
+    (quiet _ refl (λ cell. refl), (quiet _ refl (λ cell. refl), (quiet _ refl (λ cell. refl), (quiet _ refl (λ cell. refl), (quiet _ refl (λ cell. refl), tt)))))
 
 second_known : All (IsKnown 0 (handover ∷ [])) building
 second_known = all_of (IsKnown 0 (handover ∷ [])) building (
@@ -264,11 +290,12 @@ one_class = record { as_many = refl; each = each }
 abbrev Tells : List (ℕ → Bool) → List ℕ → Findings → Type 0
 Tells = FindingsOf 3 (codes "f" ∷ []) [] Report
 
-gives : GivesOnly 3 (chosen ∷ []) 11 (before 1) second
+gives : GivesOnly 3 (chosen ∷ []) (handover ∷ []) (before 1) second
 gives = inr (
   posting,
   (0, omega arith, refl),
-  omega arith,
+  (0, omega arith, refl),
+  (post, (7, omega arith, refl), refl),
   λ at f stands. (chosen, (0, omega arith, refl), sym (posted_alone at f stands)),
   all_of (λ (e : Entry). 7 ≤ e.place → e.reply ≡ replies.Done) building
       ((λ le. absurd (omega (arith, le))), ((λ le. absurd (omega (arith, le))), ((λ le. absurd (omega (arith, le))), ((λ le. absurd (omega (arith, le))), ((λ le. refl), ((λ le. refl), ((λ le. refl), ((λ le. refl), tt)))))))),
@@ -305,7 +332,7 @@ module _ (found : Findings) (text : found.text.items ≡ codes "inputs 3\noutput
     note = note;
     noted = refl;
     functions = chosen ∷ [];
-    later = all_of (λ (h : Handover). h.fetch < 12) (handover ∷ []) (omega arith, tt);
+    later = all_of (λ (h : Handover). h.fetch < 13) (handover ∷ []) (omega arith, tt);
     stand = refl;
     tells = tells;
   }
@@ -314,18 +341,18 @@ module _ (found : Findings) (text : found.text.items ≡ codes "inputs 3\noutput
   unfolding list_of builds
   behind = record {
     builds = builds;
-    place = 11;
+    place = 12;
     told = told;
     low = low;
     high = [];
     entries_are = refl;
-    low_keeps = all_of KeepsOrders low ((λ o. refl), ((λ o. refl), ((λ o. refl), tt)));
+    low_keeps = all_of KeepsOrders low ((λ o. refl), ((λ o. refl), ((λ o. refl), ((λ o. refl), tt))));
     high_keeps = All-nil KeepsOrders;
     others_keep = (
       all_of KeepsOrders building ((λ o. refl), ((λ o. refl), ((λ o. refl), ((λ o. refl), ((λ o. refl), ((λ o. refl), ((λ o. refl), ((λ o. refl), tt)))))))),
       tt,
     );
-    behind = all_of (λ (h : Handover). h.fetch < 11) (handover ∷ []) (omega arith, tt);
+    behind = all_of (λ (h : Handover). h.fetch < 12) (handover ∷ []) (omega arith, tt);
     above = omega arith;
     sifting = sifting;
     among = (0, omega arith, refl);
@@ -333,5 +360,6 @@ module _ (found : Findings) (text : found.text.items ≡ codes "inputs 3\noutput
     stood = all_of (λ (h : Handover). sifting.stands h.to ≡ note.stands h.to) (handover ∷ []) (refl, tt);
     own = λ at f stands. inr (chosen, (0, omega arith, refl), sym (fetched_alone at f stands));
     givers = (gives, tt);
+    ends = (makes_at 8 0 bdds.One 0 ∷ fetch ∷ drops_at 10 0 0 ∷ [], sweep, refl, λ a. no_drop a);
     sift = sifted_by;
   }

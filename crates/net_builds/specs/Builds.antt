@@ -6,9 +6,10 @@ use Rattle.function_laws.specs.declared.history.Entry.{Entry}
 use Rattle.function_laws.specs.declared.history.Name.{Name}
 use Rattle.function_laws.specs.EntryOrders.{EachWith, opening_orders, orders_from}
 use Rattle.function_laws.specs.Histories.{IsLegal, table_after}
-use Rattle.function_laws.specs.SiftEntries.{Carries}
 use Rattle.function_laws.specs.SessionEntries.{entries_of}
 use Rattle.function_laws.specs.Tables.{Sizes, opening}
+use Rattle.seat_guard.specs.Finds.{Finds}
+use Rattle.seat_guard.specs.Sifted.{ArePlaced, IsHadAt}
 use Rattle.diagram_dumps.specs.Listings.{IsListing}
 use Rattle.net_reports.specs.Reports.{IsReport, IsSummary, Subject, output_names, root_names}
 pub use Rattle.net_builds.specs.Handings.{AllHandedOver, IsDelivered}
@@ -86,8 +87,10 @@ pub record IsNoted (sizes : Sizes) (log : List Entry) (session : ℕ) (note : No
 -- The entries are a legal history of these sessions, which had made no call, and what they noted, at their listings and at their calls, is what the entries below its place leave.
 pub record IsLegalHistoryOf (sizes : Sizes) (log : List Entry) (sessions : List Standing) : Type 0 where
   pub legal : IsLegal sizes log
-  -- a sift's entry carries both orders, and functions of rows and cells, as the entries below it leave them
-  pub carried : EachWith Carries (opening sizes) (opening_orders sizes) log
+  -- a sift's entry carries both orders as the entries below it leave them, functions of which no two are one, and among them those of its session's rows
+  pub found : EachWith Finds (opening sizes) (opening_orders sizes) log
+  -- and each of them was, at a place above its session's entry before it and at most its own, that of a row or a cell, or had just gone, or was about to come
+  pub had : ArePlaced (IsHadAt sizes log) log
   pub each : All (λ (s : Standing). entries_of s.number log ≡ s.entries) sessions
   pub noted : All (λ (s : Standing). All (IsNoted sizes log s.number) s.notes) sessions
   pub placed : All (λ (s : Standing). All (IsNoted sizes log s.number) s.placed) sessions

@@ -1,6 +1,6 @@
 -- What is handed over by a cell of the board, and what is told of it.
 use Rattle.std.specs.List.{AllZip}
-use Rattle.std.specs.Prelude.{◌≡◌, ℕ, zero, suc, ◌+◌, ◌<◌, ◌≤◌, Bool, false, true, List, [], ◌∷◌, ◌++◌, All, Contains, Some, length, map, slice_get, slice_set}
+use Rattle.std.specs.Prelude.{◌≡◌, ◌⊎◌, ℕ, zero, suc, ◌+◌, ◌<◌, ◌≤◌, Bool, false, true, List, [], ◌∷◌, ◌++◌, All, Contains, Some, length, map, slice_get, slice_set}
 use Rattle.function_laws.specs.declared.history.Call.TheVariants as calls
 use Rattle.function_laws.specs.declared.history.Entry.{Entry}
 use Rattle.function_laws.specs.declared.history.Name.{Name}
@@ -71,12 +71,13 @@ pub record HandsOne (cell giver : ℕ) (old new : List Standing) (name : Name) (
   pub turn : h.post < h.fetch
   pub name_is : h.from ≡ name
 
--- What a session leaves that only posts and lets go: its names stand for what they did, and each of its calls was answered Done, which gives no name. If it is one of the first so many, there is a note of the place of its first post.
+-- What a session leaves that only posts and lets go: its names stand for what they did, and each of its calls was answered Done, which gives no name. If it is one of the first so many, there is a note of the place of its first post, which is an entry of its own.
 pub record Offers (handovers : List Handover) (k : ℕ) (old new : Standing) (gained : List Entry) : Type 0 where
   pub done : All (λ (e : Entry). e.reply ≡ replies.Done) gained
   pub stands : (other : Name) → new.stands other ≡ old.stands other
   pub first : k < length handovers
       → (note : Note) × Contains new.placed note × Contains (map (λ (h : Handover). h.post) handovers) note.place × ((other : Name) → note.stands other ≡ old.stands other) × All (λ (e : Entry). e.place < note.place) old.entries
+      × ((e : Entry) × Contains new.entries e × (e.place ≡ note.place))
 
 -- the first session may have so many rows more
 abbrev pub rows_more : ℕ → ℕ → ℕ
@@ -99,6 +100,8 @@ pub record Gathers (cell : ℕ) (wanted : List (ℕ → Bool)) (old new : List S
   pub first_is : slice_get new 0 ≡ Some first
   pub handed : AllHandedOver cell wanted new first handovers
   pub turns : AreInTurn 0 handovers
+  -- its last call was a fetch, if there was one
+  pub ends : (handovers ≡ []) ⊎ ((es : List Entry) × (h : Handover) × (first.entries ≡ es ++ entry h.fetch first.number (calls.Fetch cell h.other) (replies.Fetched h.to true) ∷ []))
   pub held : All (λ (h : Handover). IsLive first h.to) handovers
   pub newer : All (λ (h : Handover). before.adds ≤ h.to.generation) handovers
   pub rising : AreRising (map (λ (h : Handover). h.to) handovers)

@@ -33,11 +33,11 @@ IsOneOf n wanted f = (g : ℕ → Bool) × Contains wanted g × (f ≡ Bdd (list
 abbrev pub HoldsOnly : ℕ → List (ℕ → Bool) → (Name → Option Function) → Type 0
 HoldsOnly n wanted stands = (name : Name) (f : Function) → stands name ≡ Some f → IsOneOf n wanted f
 
--- All that the session gained was answered Done, which gives no name; or at the place of some call below this place its names stood for such functions alone, and from there on all was answered so.
-abbrev pub GivesOnly : ℕ → List (ℕ → Bool) → ℕ → Standing → Standing → Type 0
-GivesOnly n wanted place old new =
+-- All that the session gained was answered Done, which gives no name; or at the place of some call of its own, which posted one of these handovers, its names stood for such functions alone, and from there on all was answered so.
+abbrev pub GivesOnly : ℕ → List (ℕ → Bool) → List Handover → Standing → Standing → Type 0
+GivesOnly n wanted handovers old new =
     ((gained : List Entry) × (new.entries ≡ old.entries ++ gained) × All (λ (e : Entry). e.reply ≡ replies.Done) gained)
-    ⊎ ((note : Note) × Contains new.placed note × (note.place < place) × HoldsOnly n wanted note.stands × All (λ (e : Entry). note.place ≤ e.place → e.reply ≡ replies.Done) new.entries)
+    ⊎ ((note : Note) × Contains new.placed note × Contains (map (λ (h : Handover). h.post) handovers) note.place × ((e : Entry) × Contains new.entries e × (e.place ≡ note.place)) × HoldsOnly n wanted note.stands × All (λ (e : Entry). note.place ≤ e.place → e.reply ≡ replies.Done) new.entries)
 
 -- The wanted functions were built and handed over, then the first session sifted the variables by this limit, and then it told of what it had fetched. At the sift's place each name of it was one that it had fetched, or stood for a wanted function; names of the others stood for wanted functions alone.
 pub record BuildsSifted (Tells : List (ℕ → Bool) → List ℕ → Findings → Type 0) (limit cell : ℕ) (wanted : List (ℕ → Bool)) (old new : List Standing) (found : Findings) : Type 0 where
@@ -59,7 +59,9 @@ pub record BuildsSifted (Tells : List (ℕ → Bool) → List ℕ → Findings �
   pub at_place : sifting.place ≡ place
   pub stood : All (λ (h : Handover). sifting.stands h.to ≡ builds.note.stands h.to) builds.handovers
   pub own : (name : Name) (f : Function) → sifting.stands name ≡ Some f → Contains (map (λ (h : Handover). h.to) builds.handovers) name ⊎ IsOneOf builds.first.vars wanted f
-  pub givers : AllZip (GivesOnly builds.first.vars wanted place) builds.others builds.rest
+  pub givers : AllZip (GivesOnly builds.first.vars wanted builds.handovers) builds.others builds.rest
+  -- its last call before the sift let no row go
+  pub ends : (es : List Entry) × (e : Entry) × (builds.before.entries ++ low ≡ es ++ e ∷ []) × ((a : Name) → e.call ≡ calls.DropRow a → ⊥)
   pub sift : IsSiftedBy limit builds.first.vars told
 
 -- In a legal history of sessions that had made no call, what was told behind a sift is told of the wanted functions under the sifted order of these.

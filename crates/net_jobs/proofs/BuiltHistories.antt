@@ -79,7 +79,8 @@ at_place P (t ∷ sessions) all (suc k) s at = at_place P sessions (All-tail P (
 pub history_of : (m : Managed) (new : List Seen) (n : ℕ) (h : IsHistoryOf m new n) → builds.IsLegalHistoryOf (sizes_for m.vars m.elements) h.log (map standing_of new)
 history_of m new n h = record {
   legal = h.legal;
-  carried = h.carried;
+  found = h.found;
+  had = h.had;
   each = all_seen (λ (t : Standing). entries_of t.number h.log ≡ t.entries) new h.each;
   noted = all_seen (λ (t : Standing). All (builds.IsNoted (sizes_for m.vars m.elements) h.log t.number) t.notes) new
       (λ k s at. all_noted (sizes_for m.vars m.elements) h.log s.number s.noted (h.noted k s at));

@@ -169,7 +169,7 @@ impl<'a, R: Wait, G: Gate> Host for SessionHost<'a, R, G> {
     fn let_go(&self, session: &mut Session, f: Name) {
         self.pace.step(self.rt, self.worker, session.calls());
         ready(self.rt, session);
-        let _placed = session.drop_row(self.rt, self.manager, f);
+        let _placed = session.drop_row(self.manager, f);
     }
 
     fn value(&self, session: &mut Session, f: Name, bits: &[bool]) -> bool {

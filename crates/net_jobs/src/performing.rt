@@ -41,12 +41,7 @@ fn make<R: Wait>(
 }
 
 /// Makes the call of a `copy`.
-fn copy<R: Wait>(
-    rt: &R,
-    manager: &Manager,
-    session: &mut Session,
-    name: H,
-) -> Result<Answered, Memory>
+fn copy(manager: &Manager, session: &mut Session, name: H) -> Result<Answered, Memory>
     requires own { session.old.manager ≡ manager.now }
     requires room { HasRoom session.old }
     requires live { IsLive session.old name }
@@ -54,7 +49,7 @@ fn copy<R: Wait>(
     ensures kept { IsKept session.old session.new }
 {
     session.reserve(1)?;
-    Ok(made(session.copy(rt, manager, name)))
+    Ok(made(session.copy(manager, name)))
 }
 
 /// Makes the call of a `fetch`.
@@ -112,15 +107,15 @@ pub fn perform<R: Wait>(
     ensures kept { IsKept session.old session.new }
 {
     Ok(match act {
-        Act::Copy(a) => copy(rt, manager, session, at(names, *a))?,
+        Act::Copy(a) => copy(manager, session, at(names, *a))?,
         Act::Fetch(cell, a) => fetch(rt, manager, session, *cell, at(names, *a))?,
         Act::Post(cell, a) => done(session.post(rt, manager, *cell, at(names, *a)).place),
-        Act::Drop(a) => done(session.drop_row(rt, manager, at(names, *a)).place),
+        Act::Drop(a) => done(session.drop_row(manager, at(names, *a)).place),
         Act::Sweep => done(session.sweep(rt, manager).place),
         Act::Swap(Order::Variables, level) => swapped(session.swap(rt, manager, *level)),
         Act::Swap(Order::Elements, level) => swapped(session.swap_elements(rt, manager, *level)),
         Act::Sift(order) => sift(rt, alloc, manager, session, *order)?,
-        Act::Same(a, b) => { yes_or_no(session.same(rt, manager, at(names, *a), at(names, *b))) }
+        Act::Same(a, b) => { yes_or_no(session.same(manager, at(names, *a), at(names, *b))) }
         Act::Leq(a, b) => { yes_or_no(session.leq(rt, manager, at(names, *a), at(names, *b))?) }
         Act::Eval(a, bits) => valued(evaluate(
             rt,

@@ -19,11 +19,11 @@ fn is_held<R: Wait>(rt: &R, opened: &mut Opened, held: &Held) -> Result<(), Stop
 }
 
 /// Two rows of one kind are told to be the same exactly if they have one function.
-fn are_told<R: Wait>(rt: &R, opened: &mut Opened, f: &Held, g: &Held) -> Result<(), Stop> {
+fn are_told(opened: &mut Opened, f: &Held, g: &Held) -> Result<(), Stop> {
     if f.table.kind != g.table.kind {
         return Ok(());
     }
-    let same = opened.same(rt, f.table.kind, f.name, g.name)?;
+    let same = opened.same(f.table.kind, f.name, g.name)?;
     is_due(same == (f.table == g.table), Wrong::Same)
 }
 
@@ -32,7 +32,7 @@ fn are_held<R: Wait>(rt: &R, opened: &mut Opened, rows: &Rows) -> Result<(), Sto
     for f in rows.all() {
         is_held(rt, opened, &f)?;
         for g in rows.all() {
-            are_told(rt, opened, &f, &g)?;
+            are_told(opened, &f, &g)?;
         }
     }
     Ok(())

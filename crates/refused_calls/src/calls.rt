@@ -141,21 +141,14 @@ pub fn table_of<R: Wait>(
 }
 
 /// Whether two rows of a kind have one function.
-pub fn same<R: Wait>(
-    rt: &R,
-    manager: &Manager,
-    session: &mut Session,
-    kind: Kind,
-    f: H,
-    g: H,
-) -> Result<bool, Stop>
+pub fn same(manager: &Manager, session: &mut Session, kind: Kind, f: H, g: H) -> Result<bool, Stop>
     requires own { session.old.manager ≡ manager.now }
     ensures { session.new.manager ≡ session.old.manager }
 {
     if !has_room(session) || !are_two(session, kind, f, g) {
         return Err(Stop::Wrong(Wrong::Rows));
     }
-    Ok(session.same(rt, manager, f, g).value)
+    Ok(session.same(manager, f, g).value)
 }
 
 /// Whether a row is true wherever another is.
@@ -199,14 +192,14 @@ pub fn list<R: Wait>(
 }
 
 /// A further row with the function of a row, for which there is room.
-pub fn copy<R: Wait>(rt: &R, manager: &Manager, session: &mut Session, h: H) -> Result<H, Stop>
+pub fn copy(manager: &Manager, session: &mut Session, h: H) -> Result<H, Stop>
     requires own { session.old.manager ≡ manager.now }
     ensures { session.new.manager ≡ session.old.manager }
 {
     if !has_room(session) || session.spare() == 0 || !session.is_live(h) {
         return Err(Stop::Wrong(Wrong::Rows));
     }
-    Ok(session.copy(rt, manager, h).value)
+    Ok(session.copy(manager, h).value)
 }
 
 /// A row with the function of the cell, for which there is room, and which has the kind of another row.
@@ -237,14 +230,14 @@ pub fn post<R: Wait>(rt: &R, manager: &Manager, session: &mut Session, h: H) -> 
 }
 
 /// Lets a row go.
-pub fn drop_row<R: Wait>(rt: &R, manager: &Manager, session: &mut Session, h: H) -> Result<(), Stop>
+pub fn drop_row(manager: &Manager, session: &mut Session, h: H) -> Result<(), Stop>
     requires own { session.old.manager ≡ manager.now }
     ensures { session.new.manager ≡ session.old.manager }
 {
     if !has_room(session) || !session.is_live(h) {
         return Err(Stop::Wrong(Wrong::Rows));
     }
-    session.drop_row(rt, manager, h);
+    session.drop_row(manager, h);
     Ok(())
 }
 

@@ -118,8 +118,8 @@ impl Opened {
     }
 
     /// Whether two rows of a kind have one function.
-    pub fn same<R: Wait>(&mut self, rt: &R, kind: Kind, f: H, g: H) -> Result<bool, Stop> {
-        same(rt, &self.manager, &mut self.session, kind, f, g)
+    pub fn same(&mut self, kind: Kind, f: H, g: H) -> Result<bool, Stop> {
+        same(&self.manager, &mut self.session, kind, f, g)
     }
 
     /// Whether a row is true wherever another is.
@@ -133,8 +133,8 @@ impl Opened {
     }
 
     /// A further row with the function of a row, for which there is room.
-    pub fn copy<R: Wait>(&mut self, rt: &R, h: H) -> Result<H, Stop> {
-        copy(rt, &self.manager, &mut self.session, h)
+    pub fn copy(&mut self, h: H) -> Result<H, Stop> {
+        copy(&self.manager, &mut self.session, h)
     }
 
     /// A row with the function of the cell, for which there is room.
@@ -148,8 +148,8 @@ impl Opened {
     }
 
     /// Lets a row go.
-    pub fn drop_row<R: Wait>(&mut self, rt: &R, h: H) -> Result<(), Stop> {
-        drop_row(rt, &self.manager, &mut self.session, h)
+    pub fn drop_row(&mut self, h: H) -> Result<(), Stop> {
+        drop_row(&self.manager, &mut self.session, h)
     }
 
     /// Makes room for so many more rows.
@@ -187,7 +187,7 @@ impl Opened {
     /// The function of a row of the session that looks at the board, which lets the row go.
     fn seen<R: Wait>(&mut self, rt: &R, name: H) -> Result<Table, Stop> {
         let table = table_of(rt, &self.manager, &mut self.witness, name)?;
-        drop_row(rt, &self.manager, &mut self.witness, name)?;
+        drop_row(&self.manager, &mut self.witness, name)?;
         Ok(table)
     }
 
@@ -199,7 +199,7 @@ impl Opened {
 
     /// The function of that session's own row, which it copies. It takes no memory.
     pub fn own<R: Wait>(&mut self, rt: &R, own: H) -> Result<Table, Stop> {
-        let name = copy(rt, &self.manager, &mut self.witness, own)?;
+        let name = copy(&self.manager, &mut self.witness, own)?;
         self.seen(rt, name)
     }
 }

@@ -70,7 +70,7 @@ fn is_made<R: Wait>(
     let name = opened.make(rt, operation.making(rows, &[0]))?;
     let table = opened.table_of(rt, name)?;
     is_due(operation.may_make(rows, &table), Wrong::Made)?;
-    opened.drop_row(rt, name)
+    opened.drop_row(name)
 }
 
 /// A new row has the function of one with two others put for variables, and is let go.
@@ -79,15 +79,15 @@ fn is_composed<R: Wait>(rt: &R, opened: &mut Opened, rows: &Rows) -> Result<(), 
     let table = opened.table_of(rt, name)?;
     let due = composed(&rows.f.table, &rows.g.table, &rows.h.table);
     is_due(table == due, Wrong::Made)?;
-    opened.drop_row(rt, name)
+    opened.drop_row(name)
 }
 
 /// A row has the function of another, and is let go.
 fn is_copied<R: Wait>(rt: &R, opened: &mut Opened, rows: &Rows) -> Result<(), Stop> {
-    let name = opened.copy(rt, rows.p.name)?;
+    let name = opened.copy(rows.p.name)?;
     let table = opened.table_of(rt, name)?;
     is_due(table == rows.p.table, Wrong::Made)?;
-    opened.drop_row(rt, name)
+    opened.drop_row(name)
 }
 
 /// A row has the function that was posted, and is let go.
@@ -95,7 +95,7 @@ fn is_fetched<R: Wait>(rt: &R, opened: &mut Opened, known: &Known) -> Result<(),
     let name = opened.fetch(rt, known.plain.f.name)?;
     let table = opened.table_of(rt, name)?;
     is_due(table == known.posted, Wrong::Made)?;
-    opened.drop_row(rt, name)
+    opened.drop_row(name)
 }
 
 /// There is room for as many rows as were asked for.

@@ -1,5 +1,5 @@
 -- Shares and holds that are never there at once.
-use Rattle.std.proofs.Common.{◌≡◌, ◌⊎◌, inl, inr, ℕ, List, length, get_or, set, refl, sym, ◌∙◌}
+use Rattle.std.proofs.Common.{◌≡◌, inl, inr, ℕ, List, get_or, refl, sym, ◌∙◌}
 use Rattle.std.specs.Prelude as std
 use mathlib.Core.Option.{none, some}
 use lib.ListN.{get_elem?}
@@ -16,9 +16,9 @@ use Rattle.seat_guard.specs.Views.{blank, viewed}
 use Rattle.seat_guard.proofs.Keeps.{Sat, St, TheRule}
 use Rattle.seat_guard.proofs.Phases as phases
 
-module _ {S : Type 0} (keeps_it : S → HeldEdge → Type 0) (board : S → List (std.Option HeldEdge)) (counts : S → ℕ × ℕ × ℕ) (count : S → ℕ → ℕ) (orders : S → Orders) where
+module _ {S : Type 0} (keeps_it : S → HeldEdge → Type 0) (board : S → List (std.Option HeldEdge)) (counts : S → ℕ × ℕ × ℕ) (orders : S → Orders) where
   abbrev RuleOf : St S → Type 0
-  RuleOf = TheRule keeps_it board counts count orders
+  RuleOf = TheRule keeps_it board counts orders
 
   -- no table has two seats with such shares and holds
   pub none_meet : (s : St S) → RuleOf s → (i j : ℕ) (v w : View) → (j ≡ i → ⊥) → get_elem? s.views i ≡ some v → get_elem? s.views j ≡ some w → AreApart v.shares w.shares → ⊥

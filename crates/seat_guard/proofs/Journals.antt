@@ -22,21 +22,23 @@ use Rattle.seat_guard.specs.declared.view.Gone.{Gone}
 use Rattle.seat_guard.specs.declared.view.Draws.{Draws}
 use Rattle.seat_guard.specs.declared.view.Leaving.{Leaving}
 use Rattle.seat_guard.specs.Known.{StandsIn, sizes_for}
-use Rattle.seat_guard.specs.Views.{Agrees, told_of, MayTell, stands_for, cell_at, blank, session_of, holding, letting_go, gone_of, with_gone, one_more, orders_of, noting}
-use Rattle.function_laws.specs.SessionEntries.{Each, entries_of, entry}
+use Rattle.seat_guard.specs.Views.{Agrees, told_with, MayTell, stands_for, cell_at, blank, session_of, holding, letting_go, gone_of, with_gone, one_more, orders_of, noting}
+use Rattle.function_laws.specs.SessionEntries.{entries_of, entry}
 use Rattle.function_laws.specs.Sizes.{Orders}
 use Rattle.function_laws.specs.EntryOrders.{EachWith, opening_orders, orders_from}
 use Rattle.seat_guard.specs.Notes.{AreNotedIn}
 use Rattle.seat_guard.specs.Journal.{IsLeftRow, LiveFits, Fits, Journal}
-use Rattle.function_laws.specs.SiftEntries.{Carries, CarriesCall}
 use Rattle.function_laws.specs.Widening.{AgreesAt, at_sizes}
-use Rattle.seat_guard.specs.Sifted.{IsOfOther}
+use Rattle.seat_guard.specs.Finds.{Finds, FindsCall}
+use Rattle.seat_guard.specs.Sifted.{ArePlaced, IsHadAt}
 use Rattle.seat_guard.specs.Rule.{AllBack, RowsStand, Whole}
 use Rattle.function_laws.proofs.SessionEntryLemmas.{put_at, put_here, put_else, entries_same, entries_other}
 use Rattle.function_laws.proofs.ApartLemmas.{after_apart}
-use Rattle.seat_guard.proofs.RowCounts.{at_end, each_append, each_map, each_set, off, not_true}
+use Rattle.seat_guard.proofs.Bools.{by_bool}
+use Rattle.seat_guard.proofs.Lists.{at_end, each_append, each_map, each_set, off, not_true}
 use Rattle.seat_guard.proofs.NoteLemmas.{notes-longer, with-note, with-place}
-use Rattle.seat_guard.proofs.NameSteps.{carries-left, given-after, stand-after}
+use Rattle.seat_guard.proofs.Cells.{after_cells}
+use Rattle.seat_guard.proofs.NameSteps.{finds-left, given-after, stand-after}
 
 module _ (place turn : ℕ) (ds : List Draws) (start : Sizes) (log : List Entry) (table : Table) (r : Journal place turn ds start log table) where
   abbrev pub mine : (id : ℕ) (d : Draws) → get_elem? ds id ≡ some d → d.live ≡ true → LiveFits turn log table r.seat id d
@@ -57,9 +59,9 @@ module _ (place turn : ℕ) (ds : List Draws) (start : Sizes) (log : List Entry)
   held_turn i d at h = (mine i d at ((r.each i d at).holder h)).held h
 
   -- the free turn is taken
-  pub takes_it : (id : ℕ) (d : Draws) (cells : List (std.Option Held)) (others : List Held) (now : Orders) (functions : List Function) → get_elem? ds id ≡ some d → d.live ≡ true → turn ≡ 0 → table.cells ≡ cell_at table.sizes cells → length cells ≡ CELLS → Each (IsOfOther table d.session) others
+  pub takes_it : (id : ℕ) (d : Draws) (cells : List (std.Option Held)) (others : List Held) (now : Orders) (functions : List Function) → get_elem? ds id ≡ some d → d.live ≡ true → turn ≡ 0 → table.cells ≡ cell_at table.sizes cells → length cells ≡ CELLS
       → Journal place (suc d.session) (set ds id (holding d cells others now functions)) start log table
-  takes_it id d cells others now functions at live free board len apart_from =
+  takes_it id d cells others now functions at live free board len =
       let me = mine id d at live in record {
         seat = r.seat;
         legal = r.legal;
@@ -68,10 +70,10 @@ module _ (place turn : ℕ) (ds : List Draws) (start : Sizes) (log : List Entry)
         drawn = r.drawn;
         bounded = r.bounded;
         beyond = r.beyond;
-        carried = r.carried;
+        found = r.found;
         each = each_set (Fits (suc d.session) start log table r.seat) ds id (holding d cells others now functions)
             (λ j e apart here. let f = r.each j e here in record {
-              live = λ l. let g = f.live l in record { seated = g.seated; below = g.below; mine = g.mine; agrees = g.agrees; held = λ h. absurd (let z = g.held h in omega (arith, z, free)); given = g.given; stand = g.stand; others = g.others };
+              live = λ l. let g = f.live l in record { seated = g.seated; below = g.below; mine = g.mine; agrees = g.agrees; held = λ h. absurd (let z = g.held h in omega (arith, z, free)); given = g.given; stand = g.stand };
               closing = f.closing;
               holder = f.holder;
               rowless = f.rowless;
@@ -85,7 +87,6 @@ module _ (place turn : ℕ) (ds : List Draws) (start : Sizes) (log : List Entry)
                 held = λ h. refl;
                 given = me.given;
                 stand = me.stand;
-                others = λ h. apart_from;
               };
               closing = λ c. absurd (true≢false (sym live ∙ ((r.each id d at).closing c).0));
               holder = λ h. live;
@@ -105,7 +106,7 @@ module _ (place turn : ℕ) (ds : List Draws) (start : Sizes) (log : List Entry)
         drawn = r.drawn;
         bounded = r.bounded;
         beyond = r.beyond;
-        carried = r.carried;
+        found = r.found;
         each = each_set (Fits 0 start log table r.seat) ds id (letting_go d leaving)
             (λ j e apart here. let f = r.each j e here in record {
               live = λ l. let g = f.live l in record {
@@ -116,7 +117,6 @@ module _ (place turn : ℕ) (ds : List Draws) (start : Sizes) (log : List Entry)
                 held = λ h. absurd (apart (one_holder j id e d here at h holds));
                 given = g.given;
                 stand = g.stand;
-                others = g.others;
               };
               closing = f.closing;
               holder = f.holder;
@@ -131,7 +131,6 @@ module _ (place turn : ℕ) (ds : List Draws) (start : Sizes) (log : List Entry)
                 held = λ h. absurd (off h);
                 given = me.given;
                 stand = me.stand;
-                others = λ h. absurd (off h);
               };
               closing = λ c. absurd (true≢false (sym live ∙ ((r.each id d at).closing c).0));
               holder = λ h. absurd (off h);
@@ -141,25 +140,23 @@ module _ (place turn : ℕ) (ds : List Draws) (start : Sizes) (log : List Entry)
       }
 
   -- a call draws its place
-  pub draws_it : (id : ℕ) (d : Draws) (x : Telling) → get_elem? ds id ≡ some d → d.holds ≡ true → length d.entries < 2 ^ 48 → MayTell d x → orders_of d ≡ orders_from (opening_orders start) log
-      → Journal (suc (length log)) turn (set ds id (told_of d (length log) x)) start (log ++ entry (length log) d.session x.call x.reply ∷ []) (after table d.session x.call x.reply)
-  draws_it id d x at holds room may now =
-      let live = (r.each id d at).holder holds in
+  pub draws_it : (id : ℕ) (d : Draws) (x : Telling) (orders : Orders) → get_elem? ds id ≡ some d → d.live ≡ true → length d.entries < 2 ^ 48 → MayTell d x → orders ≡ orders_from (opening_orders start) log → (d.holds ≡ true → orders_of d ≡ orders_from (opening_orders start) log)
+      → Journal (suc (length log)) turn (set ds id (told_with orders d (length log) x)) start (log ++ entry (length log) d.session x.call x.reply ∷ []) (after table d.session x.call x.reply)
+  draws_it id d x orders at live room may now held_now =
       let me = mine id d at live in
       let n : ℕ = length log in
       let e : Entry = entry n d.session x.call x.reply in
       let longer : List Entry = log ++ e ∷ [] in
       let u : Table = after table d.session x.call x.reply in
-      let told : Draws = told_of d n x in
+      let told : Draws = told_with orders d n x in
       let says = may.step table me.agrees in
       let len : length longer ≡ suc n = length-append log (e ∷ []) ∙ omega arith in
       let same : entries_of d.session longer ≡ d.entries ++ e ∷ [] = entries_same log d.session e refl ∙ ap (λ l. l ++ e ∷ []) me.mine in
       let other : (p : ℕ) → p ≢ d.session → entries_of p longer ≡ entries_of p log = λ p apart. entries_other log p e (λ is. apart (sym is)) in
       let aside : (p : ℕ) → p ≢ d.session → (u.live p ≡ table.live p) × (u.given p ≡ table.given p) = λ p apart. after_apart table d.session p x.call x.reply may.plain apart in
       let sizes : u.sizes ≡ table.sizes = says.1.sizes_are ∙ sym me.agrees.sizes_are in
-      let carries : CarriesCall table (orders_from (opening_orders start) log) d.session x.call =
-      carries-left d table (orders_from (opening_orders start) log) now me.agrees.sizes_are me.stand (me.others holds) (me.agrees.cells holds).0 me.agrees.live x.call may.carries in
-      let other_rows : (held : Held) → IsOfOther table d.session held → IsOfOther u d.session held = λ held o. (o.0, o.1, o.2, ap (λ (h : Name → std.Option Function). h o.1) (aside o.0 o.2).0 ∙ o.3 ∙ ap (λ (z : Sizes). std.Some (at_sizes z held.function)) (sym sizes)) in
+      let finds : FindsCall table (orders_from (opening_orders start) log) d.session x.call =
+      finds-left d table (orders_from (opening_orders start) log) me.agrees.sizes_are me.agrees.live x.call (λ ordering. by_bool d.holds held_now (λ without. absurd (true≢false (sym ordering ∙ may.orders without)))) may.finds in
       let row_stays : (p : ℕ) → p ≢ d.session → (row : Row) → StandsIn table p row → StandsIn u p row =
       λ p away row is. ap (λ (k : Name → std.Option Function). k row.name) (aside p away).0 ∙ is ∙ ap (λ (z : Sizes). std.Some (at_sizes z row.held.function)) (sym sizes) in
       let rows_stay : (p : ℕ) → p ≢ d.session → (rows : List Row) → AgreesAt table.sizes (stands_for rows) (table.live p) → AgreesAt u.sizes (stands_for rows) (u.live p) =
@@ -174,7 +171,7 @@ module _ (place turn : ℕ) (ds : List Draws) (start : Sizes) (log : List Entry)
             (λ is. let l : length (entries_of p longer) ≡ length d.entries + 1 = ap (λ (q : ℕ). length (entries_of q longer)) is ∙ (ap length same ∙ length-append d.entries (e ∷ [])) in omega (arith, l, room))
             (λ apart. subst (λ (l : List Entry). length l ≤ 2 ^ 48) (sym (other p apart)) (r.bounded p));
         beyond = λ p le. other p (λ is. let b = me.below in omega (arith, b, is, le)) ∙ r.beyond p le;
-        carried = EachWith-append Carries (opening start) (opening_orders start) log (e ∷ []) r.carried (subst (λ (t : Table). Carries t (orders_from (opening_orders start) log) e) (sym r.leaves) carries, tt);
+        found = EachWith-append Finds (opening start) (opening_orders start) log (e ∷ []) r.found (subst (λ (t : Table). Finds t (orders_from (opening_orders start) log) e) (sym r.leaves) finds, tt);
         each = each_set (Fits turn start longer u r.seat) ds id told
             (λ j f apart here. let fits = r.each j f here in record {
               live = λ l. let g = fits.live l in let away : f.session ≢ d.session = λ is. apart (one_seat j id f d g me is) in record {
@@ -185,12 +182,13 @@ module _ (place turn : ℕ) (ds : List Draws) (start : Sizes) (log : List Entry)
                   sizes_are = sizes ∙ g.agrees.sizes_are;
                   live = rows_stay f.session away f.rows g.agrees.live;
                   fresh = λ name le. ap (λ (h : Name → Bool). h name) (aside f.session away).1 ∙ g.agrees.fresh name le;
-                  cells = λ h. absurd (apart (one_holder j id f d here at h holds));
+                  cells = λ h. by_bool d.holds
+                      (λ holds. absurd (apart (one_holder j id f d here at h holds)))
+                      (λ without. let c = g.agrees.cells h in (after_cells table d.session x.call x.reply may.plain (may.board without) ∙ c.0 ∙ ap (λ (z : Sizes). cell_at z f.cells) (sym sizes), c.1));
                 };
                 held = g.held;
                 given = λ name h is. let a = aside f.session away in ap (λ (k : Name → Bool). k name) a.1 ∙ g.given name h (sym (ap (λ (k : Name → std.Option Function). k name) a.0) ∙ is);
                 stand = each_map (StandsIn table f.session) (StandsIn u f.session) (row_stays f.session away) f.rows g.stand;
-                others = λ h. absurd (apart (one_holder j id f d here at h holds));
               };
               closing = λ c. let g = fits.closing c in let k = g.2 in (
                 g.0,
@@ -220,12 +218,11 @@ module _ (place turn : ℕ) (ds : List Draws) (start : Sizes) (log : List Entry)
                 held = me.held;
                 given = given-after d x table may.plain says.0 me.given;
                 stand = stand-after d x table may.plain says.0 says.1 sizes me.given me.stand;
-                others = λ h. each_map (IsOfOther table d.session) (IsOfOther u d.session) other_rows d.others (me.others holds);
               };
               closing = λ c. absurd (true≢false (sym live ∙ ((r.each id d at).closing c).0));
               holder = λ h. live;
               rowless = λ l c. absurd (true≢false (sym live ∙ l));
-              noted = with-place start log d n refl now (subst (Agrees d) (sym r.leaves) me.agrees) (r.each id d at).noted (e ∷ []);
+              noted = with-place start log d n orders refl now (subst (Agrees d) (sym r.leaves) me.agrees) (r.each id d at).noted (e ∷ []);
             });
       }
 
@@ -242,7 +239,7 @@ module _ (place turn : ℕ) (ds : List Draws) (start : Sizes) (log : List Entry)
         drawn = r.drawn;
         bounded = r.bounded;
         beyond = r.beyond;
-        carried = r.carried;
+        found = r.found;
         each = each_set (Fits turn start log table r.seat) ds id (noting d place) (λ j e apart here. r.each j e here) (record {
           live = λ l. record {
             seated = me.seated;
@@ -252,12 +249,11 @@ module _ (place turn : ℕ) (ds : List Draws) (start : Sizes) (log : List Entry)
             held = me.held;
             given = me.given;
             stand = me.stand;
-            others = me.others;
           };
           closing = λ c. absurd (true≢false (sym live ∙ (f.closing c).0));
           holder = f.holder;
           rowless = f.rowless;
-          noted = with-note start log d place r.drawn now (subst (Agrees d) (sym r.leaves) me.agrees) f.noted;
+          noted = with-note start log d place (orders_of d) r.drawn now (subst (Agrees d) (sym r.leaves) me.agrees) f.noted;
         });
       }
 
@@ -274,7 +270,7 @@ module _ (place turn : ℕ) (ds : List Draws) (start : Sizes) (log : List Entry)
       let old : (j : ℕ) (f : Draws) → get_elem? (set ds id (one_more d)) j ≡ some f → Fits turn start log table seat j f =
       each_set (Fits turn start log table seat) ds id (one_more d)
       (λ j f apart here. let g = r.each j f here in record {
-        live = λ l. let h = g.live l in record { seated = put_else r.seat d.given f.session (some n) (aside f.session j h.seated) ∙ h.seated; below = h.below; mine = h.mine; agrees = h.agrees; held = h.held; given = h.given; stand = h.stand; others = h.others };
+        live = λ l. let h = g.live l in record { seated = put_else r.seat d.given f.session (some n) (aside f.session j h.seated) ∙ h.seated; below = h.below; mine = h.mine; agrees = h.agrees; held = h.held; given = h.given; stand = h.stand };
         closing = λ c. absurd (apart ((g.closing c).1 ∙ sym fits.1));
         holder = g.holder;
         rowless = g.rowless;
@@ -309,7 +305,7 @@ module _ (place turn : ℕ) (ds : List Draws) (start : Sizes) (log : List Entry)
         drawn = r.drawn;
         bounded = r.bounded;
         beyond = r.beyond;
-        carried = r.carried;
+        found = r.found;
         each = λ j f here. ⊎_elim (old j f) (λ (t : (j ≡ length (set ds id (one_more d))) × (session_of d ≡ f)).
             subst (λ (y : ℕ × Draws). Fits turn start log table seat y.0 y.1) (λ i. (sym (t.0 ∙ length-set ds id (one_more d)) i, t.1 i)) (record {
               live = λ l. record {
@@ -320,7 +316,6 @@ module _ (place turn : ℕ) (ds : List Draws) (start : Sizes) (log : List Entry)
                 held = λ h. absurd (off h);
                 given = λ name f is. absurd (let a : std.None ≡ std.Some f = sym (ap (λ (h : Name → std.Option Function). h name) fresh.no_row) ∙ is in cc);
                 stand = tt;
-                others = λ h. absurd (off h);
               };
               closing = λ c. absurd (off c);
               holder = λ h. absurd (off h);
@@ -341,7 +336,7 @@ module _ (place turn : ℕ) (ds : List Draws) (start : Sizes) (log : List Entry)
       let given : e.session < d.given = dite (dec_lt e.session d.given) (λ l. l) (λ le. absurd (some-ne-none other (sym them.seated ∙ (k.later e.session (omega (arith, le))).no_seat))) in
       let none_kept : (p : ℕ) → r.seat p ≡ none → seat p ≡ none = λ p a. dite (ℕ_discrete p e.session) (λ same. ap seat same ∙ put_here r.seat e.session none) (λ no-same. put_else r.seat e.session p none no-same ∙ a) in
       let still : (j : ℕ) (f : Draws) → j ≢ other → (f.live ≡ true → LiveFits turn log table r.seat j f) → f.live ≡ true → LiveFits turn log table seat j f =
-      λ j f off_other g l. let h = g l in record { seated = put_else r.seat e.session f.session none (λ same. off_other (one_seat j other f e h them same)) ∙ h.seated; below = h.below; mine = h.mine; agrees = h.agrees; held = h.held; given = h.given; stand = h.stand; others = h.others } in
+      λ j f off_other g l. let h = g l in record { seated = put_else r.seat e.session f.session none (λ same. off_other (one_seat j other f e h them same)) ∙ h.seated; below = h.below; mine = h.mine; agrees = h.agrees; held = h.held; given = h.given; stand = h.stand } in
       record {
         seat = seat;
         legal = r.legal;
@@ -350,7 +345,7 @@ module _ (place turn : ℕ) (ds : List Draws) (start : Sizes) (log : List Entry)
         drawn = r.drawn;
         bounded = r.bounded;
         beyond = r.beyond;
-        carried = r.carried;
+        found = r.found;
         each = each_set (Fits turn start log table seat) (set ds id (with_gone d e)) other blank
             (λ j f off_other here. each_set (λ i y. i ≢ other → Fits turn start log table seat i y) ds id (with_gone d e)
             (λ i y off_id here' off_other'. let g = r.each i y here' in record { live = still i y off_other' g.live; closing = λ c. absurd (off_id ((g.closing c).1 ∙ sym fits.1)); holder = g.holder; rowless = g.rowless; noted = g.noted })
@@ -390,9 +385,9 @@ module _ (place turn : ℕ) (ds : List Draws) (start : Sizes) (log : List Entry)
     drawn = r.drawn;
     bounded = r.bounded;
     beyond = r.beyond;
-    carried = r.carried;
+    found = r.found;
     each = λ j e here. let f = r.each j e here in record {
-      live = λ l. let g = f.live l in record { seated = g.seated; below = g.below; mine = g.mine; agrees = g.agrees; held = λ h. absurd (let z = g.held h in omega (arith, z, free)); given = g.given; stand = g.stand; others = g.others };
+      live = λ l. let g = f.live l in record { seated = g.seated; below = g.below; mine = g.mine; agrees = g.agrees; held = λ h. absurd (let z = g.held h in omega (arith, z, free)); given = g.given; stand = g.stand };
       closing = f.closing;
       holder = f.holder;
       rowless = f.rowless;
@@ -401,15 +396,16 @@ module _ (place turn : ℕ) (ds : List Draws) (start : Sizes) (log : List Entry)
   }
 
   -- what the closing seat is told of the history
-  unfoldable pub whole_of : (id : ℕ) (d : Draws) → get_elem? ds id ≡ some d → d.closing ≡ true → Whole place (sizes_for d.vars d.elements) d.given d.gone
-  whole_of id d at is =
+  unfoldable pub whole_of : (id : ℕ) (d : Draws) → get_elem? ds id ≡ some d → d.closing ≡ true → (AllBack d → ArePlaced (IsHadAt start log) log) → Whole place (sizes_for d.vars d.elements) d.given d.gone
+  whole_of id d at is placed =
       let k = ((r.each id d at).closing is).2 in
       let start_is : sizes_for d.vars d.elements ≡ start = sym k.start_is in record {
         log = log;
         legal = subst (λ (z : Sizes). IsLegal z log) k.start_is r.legal;
         count = sym r.drawn;
         fixed = subst (λ (z : Sizes). (table_after (opening z) log).sizes ≡ z) k.start_is (ap (λ (t : Table). t.sizes) r.leaves ∙ r.fixed);
-        carried = subst (λ (z : Sizes). EachWith Carries (opening z) (opening_orders z) log) k.start_is r.carried;
+        found = subst (λ (z : Sizes). EachWith Finds (opening z) (opening_orders z) log) k.start_is r.found;
+        placed = λ back. subst (λ (z : Sizes). ArePlaced (IsHadAt z log) log) k.start_is (placed back);
         known = λ i g there. sym (k.back i g there).5 ∙ r.fixed ∙ k.start_is;
         each = λ i g there. (k.back i g there).2;
         rows = λ i g there. subst (λ (t : Table). RowsStand t g) (sym (ap (λ (z : Sizes). table_after (opening z) log) start_is ∙ r.leaves)) (k.back i g there).3;
@@ -417,30 +413,15 @@ module _ (place turn : ℕ) (ds : List Draws) (start : Sizes) (log : List Entry)
         noted = λ i g there. subst (λ (z : Sizes). AreNotedIn z log g.session g.noted g.placed) k.start_is (k.back i g there).4;
       }
 
-  -- once all have come back, the other seats have no row
-  pub others_empty : (id : ℕ) (d : Draws) → get_elem? ds id ≡ some d → d.closing ≡ true → AllBack d → (j : ℕ) (e : Draws) → j ≢ id → get_elem? ds j ≡ some e → e.rows ≡ []
-  others_empty id d at is back j e apart here =
-      let fits = (r.each id d at).closing is in
-      let k = fits.2 in
+  -- once all have come back, no seat is live
+  pub none_live : (id : ℕ) (d : Draws) → get_elem? ds id ≡ some d → d.closing ≡ true → AllBack d → (j : ℕ) (e : Draws) → get_elem? ds j ≡ some e → e.live ≡ false
+  none_live id d at is back j e here =
+      let k = ((r.each id d at).closing is).2 in
       let no_seat : (p : ℕ) → r.seat p ≡ none = λ p. dite (dec_lt p d.given)
       (λ below. let b = back p below in ap r.seat (sym b.3) ∙ (k.back b.0 b.1 b.2).1)
       (λ above. (k.later p (omega (arith, above))).no_seat) in
-      let dead : e.live ≡ false = not_true e.live (λ l. some-ne-none j (sym (mine j e here l).seated ∙ no_seat e.session)) in
-      let other : e.closing ≡ false = not_true e.closing (λ c. apart (((r.each j e here).closing c).1 ∙ sym fits.1)) in
-      (r.each j e here).rowless dead other
+      not_true e.live (λ l. some-ne-none j (sym (mine j e here l).seated ∙ no_seat e.session))
 
-  -- the rows of all other seats are rows of other sessions
-  pub rows_apart : (id : ℕ) (d : Draws) → get_elem? ds id ≡ some d → d.live ≡ true → (j : ℕ) (e : Draws) → j ≢ id → get_elem? ds j ≡ some e → Each (λ (row : Row). IsOfOther table d.session row.held) e.rows
-  rows_apart id d at live j e apart here =
-      let me = mine id d at live in
-      let fits = r.each j e here in
-      of (Each (λ (row : Row). IsOfOther table d.session row.held) e.rows) e.live e.closing
-      (λ l. let g = fits.live l in let away : e.session ≢ d.session = λ is. apart (one_seat j id e d g me is) in
-      each_map (StandsIn table e.session) (λ (row : Row). IsOfOther table d.session row.held) (λ row is. (e.session, row.name, away, is)) e.rows g.stand)
-      (λ c. each_map (IsLeftRow table r.seat e.given) (λ (row : Row). IsOfOther table d.session row.held) (λ row a. (a.0, row.name, (λ is. some-ne-none id (sym me.seated ∙ (ap r.seat (sym is) ∙ a.2))), a.3)) e.rows (fits.closing c).2.left)
-      (λ l c. subst (λ (rows : List Row). Each (λ (row : Row). IsOfOther table d.session row.held) rows) (sym (fits.rowless l c)) tt)
-    where
-      of : (P : Type 0) (live closing : Bool) → (live ≡ true → P) → (closing ≡ true → P) → (live ≡ false → closing ≡ false → P) → P
-      of P true closing a b c = a refl
-      of P false true a b c = b refl
-      of P false false a b c = c refl refl
+  -- two live seats of one session are one
+  pub one_session : (i j : ℕ) (d e : Draws) → get_elem? ds i ≡ some d → get_elem? ds j ≡ some e → d.live ≡ true → e.live ≡ true → d.session ≡ e.session → i ≡ j
+  one_session i j d e at there l m is = one_seat i j d e (mine i d at l) (mine j e there m) is

@@ -1,9 +1,8 @@
 -- What becomes of a session's names and rows at its own step.
-use Rattle.std.proofs.Common.{◌≡◌, ◌⊎◌, ℕ, ◌==◌, Bool, true, false, cond, ◌&&◌, ◌||◌, List, [], ◌∷◌, Option, Some, None, option_map, refl, ap, ap₂, sym, subst, ◌∙◌, inl, inr, true≢false, eq-eqb}
+use Rattle.std.proofs.Common.{◌≡◌, ◌⊎◌, ℕ, ◌==◌, Bool, true, false, cond, ◌&&◌, ◌||◌, List, [], ◌∷◌, Some, None, option_map, refl, ap, ap₂, sym, subst, ◌∙◌, inl, inr, true≢false, eq-eqb}
 use Rattle.std.proofs.lemmas.Bool.{eqb-true}
 use Rattle.function_laws.specs.declared.history.Name.{Name}
 use Rattle.function_laws.specs.declared.history.Function.{Function}
-use Rattle.function_laws.specs.declared.history.Sifting.{Sifting}
 use Rattle.function_laws.specs.declared.history.Call.{Call}
 use Rattle.function_laws.specs.declared.history.Call.TheVariants as calls
 use Rattle.function_laws.specs.declared.history.Reply.{Reply}
@@ -20,19 +19,15 @@ use Rattle.seat_guard.specs.declared.view.Change.TheVariants.{Nothing, Adds, Tak
 use Rattle.seat_guard.specs.declared.view.Telling.{Telling}
 use Rattle.seat_guard.specs.declared.view.Draws.{Draws}
 use Rattle.function_laws.specs.Sizes.{Orders}
-use Rattle.function_laws.specs.SiftEntries.{AreOne, CarriesCall, IsAmong, IsOfCell, IsOfRow, IsSiftOf}
+use Rattle.function_laws.specs.SiftEntries.{IsAmong}
 use Rattle.function_laws.proofs.StepLemmas.{chosen-new}
-use Rattle.seat_guard.specs.Known.{StandsIn, known_at, sizes_for}
-use Rattle.seat_guard.specs.Sifted.{IsKnown, IsOfOther, IsSiftBy, MayCarry}
-use Rattle.seat_guard.specs.Views.{Agrees, cell_at, function_in, orders_of, stands_for, without, rows_after, told_of}
-use Rattle.seat_guard.proofs.RowCounts.{each_map, each_both, each_at}
+use Rattle.seat_guard.specs.Known.{StandsIn, sizes_for}
+use Rattle.seat_guard.specs.Finds.{FindsCall, MayFind}
+use Rattle.seat_guard.specs.Views.{Agrees, is_ordering, orders_of, stands_for, without, rows_after, told_of}
+use Rattle.seat_guard.proofs.Bools.{both_true}
+use Rattle.seat_guard.proofs.Lists.{each_map, each_both}
 
-both_true : (x y : Bool) → (x && y) ≡ true → (x ≡ true) × (y ≡ true)
-both_true true true e = (refl, refl)
-both_true true false e = cc
-both_true false y e = cc
-
-same_name-refl : (name : Name) → same_name name name ≡ true
+pub same_name-refl : (name : Name) → same_name name name ≡ true
 same_name-refl name = ap₂ (λ a b. a && b) (eq-eqb name.row name.row refl) (eq-eqb name.generation name.generation refl)
 
 -- a name stays as it was, or goes, or is new
@@ -159,22 +154,6 @@ pub given-after : (d : Draws) (x : Telling) (t : Table) → is_numbered x.reply 
 given-after d x t plain allowed given name f live =
     given-by d.session name t (after t d.session x.call x.reply) (becomes d.session name t x.call x.reply plain allowed) (given name) f live
 
--- what who has the turn knows to be the function of a row or a cell is that of one of the table
-pub known-left : (d : Draws) (t : Table) → t.sizes ≡ sizes_for d.vars d.elements → Each (StandsIn t d.session) d.rows → Each (IsOfOther t d.session) d.others → t.cells ≡ cell_at t.sizes d.cells
-    → (f : Function) → IsKnown d f → IsOfRow t f ⊎ IsOfCell t f
-known-left d t sizes stand others cells f known = by known
-  where
-    -- as the seat knows it, and as it stands in the table
-    there : (g : Function) → AreOne f (known_at d g) → AreOne f (at_sizes t.sizes g)
-    there g one = subst (λ (z : Sizes). AreOne f (at_sizes z g)) (sym sizes) one
-
-    by : IsKnown d f → IsOfRow t f ⊎ IsOfCell t f
-    by (inl (k, row, at, one)) = inl (d.session, row.name, at_sizes t.sizes row.held.function, each_at (StandsIn t d.session) d.rows k row stand at, there row.held.function one)
-    by (inr (inl (k, held, at, one))) =
-        let o = each_at (IsOfOther t d.session) d.others k held others at in inl (o.0, o.1, at_sizes t.sizes held.function, o.3, there held.function one)
-    by (inr (inr (i, held, at, one))) =
-        inr (i, at_sizes t.sizes held.function, ap (λ (h : ℕ → Option Function). h i) cells ∙ ap (λ o. option_map (at_sizes t.sizes) (function_in o)) at, there held.function one)
-
 -- what is among some functions for each row is so for each name
 among-named : (z : Sizes) (functions : List Function) (rows : List Row) → Each (λ (row : Row). IsAmong functions (at_sizes z row.held.function)) rows
     → (name : Name) (f : Function) → option_map (at_sizes z) (stands_for rows name) ≡ Some f → IsAmong functions f
@@ -185,19 +164,18 @@ among-named z functions (row ∷ rows) among name f is = by (same_name name row.
     by true rest at = subst (IsAmong functions) (let e : at_sizes z row.held.function ≡ f = cc in e) among.0
     by false rest at = rest at
 
-module _ (d : Draws) (t : Table) (orders : Orders) (now : orders_of d ≡ orders) (sizes : t.sizes ≡ sizes_for d.vars d.elements) (stand : Each (StandsIn t d.session) d.rows)
-    (others : Each (IsOfOther t d.session) d.others) (cells : t.cells ≡ cell_at t.sizes d.cells) (live : AgreesAt t.sizes (stands_for d.rows) (t.live d.session)) where
-  sift-left : (told : Sifting) → IsSiftBy d told → IsSiftOf t orders d.session told
-  sift-left told by = record {
-    variables_are = by.variables_are ∙ ap (λ (o : Orders). o.variables) now;
-    elements_are = by.elements_are ∙ ap (λ (o : Orders). o.elements) now;
-    apart = by.apart;
-    of_table = each_map (IsKnown d) (λ (f : Function). IsOfRow t f ⊎ IsOfCell t f) (known-left d t sizes stand others cells) told.functions by.known;
-    own = λ name f is. among-named (sizes_for d.vars d.elements) told.functions d.rows by.own name f (ap (λ (z : Sizes). option_map (at_sizes z) (stands_for d.rows name)) (sym sizes) ∙ sym (live name) ∙ is);
-  }
-
-  -- what a call carries by what the seat knows, it carries by the table and the orders
-  pub carries-left : (call : Call) → MayCarry d call → CarriesCall t orders d.session call
-  carries-left (calls.Sift told) by = sift-left told by
-  carries-left (calls.SiftElements told) by = sift-left told by
-  carries-left _ by = tt
+-- what a sift finds by what the seat knows, it finds by the table and the orders
+pub finds-left : (d : Draws) (t : Table) (orders : Orders) → t.sizes ≡ sizes_for d.vars d.elements → AgreesAt t.sizes (stands_for d.rows) (t.live d.session) → (call : Call) → (is_ordering call ≡ true → orders_of d ≡ orders) → MayFind d call → FindsCall t orders d.session call
+finds-left d t orders sizes live (calls.Sift told) now by = record {
+  variables_are = by.variables_are ∙ ap (λ (o : Orders). o.variables) (now refl);
+  elements_are = by.elements_are ∙ ap (λ (o : Orders). o.elements) (now refl);
+  apart = by.apart;
+  own = λ name f is. among-named (sizes_for d.vars d.elements) told.functions d.rows by.own name f (ap (λ (z : Sizes). option_map (at_sizes z) (stands_for d.rows name)) (sym sizes) ∙ sym (live name) ∙ is);
+}
+finds-left d t orders sizes live (calls.SiftElements told) now by = record {
+  variables_are = by.variables_are ∙ ap (λ (o : Orders). o.variables) (now refl);
+  elements_are = by.elements_are ∙ ap (λ (o : Orders). o.elements) (now refl);
+  apart = by.apart;
+  own = λ name f is. among-named (sizes_for d.vars d.elements) told.functions d.rows by.own name f (ap (λ (z : Sizes). option_map (at_sizes z) (stands_for d.rows name)) (sym sizes) ∙ sym (live name) ∙ is);
+}
+finds-left d t orders sizes live _ now by = tt

@@ -9,8 +9,9 @@ use Rattle.function_laws.specs.EntryOrders.{opening_orders, orders_from}
 use Rattle.seat_guard.specs.declared.view.Noted.{Noted}
 use Rattle.seat_guard.specs.declared.view.Draws.{Draws}
 use Rattle.seat_guard.specs.Notes.{AgreesWith, AreNotedIn, IsNotedIn}
-use Rattle.seat_guard.specs.Views.{Agrees, orders_of, note_of}
-use Rattle.seat_guard.proofs.RowCounts.{each_append, each_map}
+use Rattle.function_laws.specs.Sizes.{Orders}
+use Rattle.seat_guard.specs.Views.{Agrees, note_with}
+use Rattle.seat_guard.proofs.Lists.{each_append, each_map}
 
 noted-longer : (start : Sizes) (log more : List Entry) (session : ℕ) (note : Noted) → IsNotedIn start log session note → IsNotedIn start (log ++ more) session note
 noted-longer start log more session note is =
@@ -28,18 +29,18 @@ pub notes-longer : (start : Sizes) (log more : List Entry) (session : ℕ) (note
 notes-longer start log more session notes calls are = record { noted = each-longer start log more session notes are.noted; placed = each-longer start log more session calls are.placed }
 
 -- the whole history's length, what it leaves, and what a seat knows of that
-module _ (start : Sizes) (log : List Entry) (d : Draws) (n : ℕ) (is : n ≡ length log) (now : orders_of d ≡ orders_from (opening_orders start) log)
+module _ (start : Sizes) (log : List Entry) (d : Draws) (n : ℕ) (orders : Orders) (is : n ≡ length log) (now : orders ≡ orders_from (opening_orders start) log)
     (agrees : Agrees d (table_after (opening start) log)) (are : AreNotedIn start log d.session d.noted d.placed) where
-  noted-now : IsNotedIn start log d.session (note_of d n)
+  noted-now : IsNotedIn start log d.session (note_with orders d n)
   noted-now = let all = take_all n log (omega (arith, is)) in record {
     within = omega (arith, is);
     orders_are = ap (orders_from (opening_orders start)) all ∙ sym now;
-    agrees = subst (λ (es : List Entry). AgreesWith d.session (note_of d n) (table_after (opening start) es)) (sym all) (record { sizes_are = agrees.sizes_are; rows_are = agrees.live });
+    agrees = subst (λ (es : List Entry). AgreesWith d.session (note_with orders d n) (table_after (opening start) es)) (sym all) (record { sizes_are = agrees.sizes_are; rows_are = agrees.live });
   }
 
   -- it is noted, or a call is made at it
-  pub with-note : AreNotedIn start log d.session (d.noted ++ note_of d n ∷ []) d.placed
-  with-note = record { noted = each_append (IsNotedIn start log d.session) d.noted (note_of d n ∷ []) are.noted (noted-now, tt); placed = are.placed }
+  pub with-note : AreNotedIn start log d.session (d.noted ++ note_with orders d n ∷ []) d.placed
+  with-note = record { noted = each_append (IsNotedIn start log d.session) d.noted (note_with orders d n ∷ []) are.noted (noted-now, tt); placed = are.placed }
 
-  pub with-place : (more : List Entry) → AreNotedIn start (log ++ more) d.session d.noted (d.placed ++ note_of d n ∷ [])
-  with-place more = notes-longer start log more d.session d.noted _ (record { noted = are.noted; placed = each_append (IsNotedIn start log d.session) d.placed (note_of d n ∷ []) are.placed (noted-now, tt) })
+  pub with-place : (more : List Entry) → AreNotedIn start (log ++ more) d.session d.noted (d.placed ++ note_with orders d n ∷ [])
+  with-place more = notes-longer start log more d.session d.noted _ (record { noted = are.noted; placed = each_append (IsNotedIn start log d.session) d.placed (note_with orders d n ∷ []) are.placed (noted-now, tt) })

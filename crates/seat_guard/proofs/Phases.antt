@@ -7,8 +7,9 @@ use Rattle.seat_guard.specs.declared.view.Share.{Share}
 use Rattle.seat_guard.specs.declared.view.Share.TheVariants.{Nothing, Held, Owed}
 use Rattle.seat_guard.specs.declared.view.Hold.{Hold}
 use Rattle.seat_guard.specs.declared.view.Hold.TheVariants.{Free, Claimed, Holding}
-use Rattle.seat_guard.specs.Phase.{Footing, weight, share, bit, hold, op_weight, op_share, walk_weight, walk_share, order_bit, order_hold, full_bit, full_hold, part, Phase, HasNoShare, total, saw, passed, on, ops_of, walks_of, order_of, full_of}
-use Rattle.seat_guard.proofs.RowCounts.{at_end, each_set}
+use Rattle.seat_guard.specs.Phase.{Footing, weight, share, bit, hold, op_weight, op_share, walk_weight, walk_share, order_bit, order_hold, full_bit, full_hold, part, Phase, HasNoShare, saw, passed, on, ops_of, walks_of, order_of, full_of}
+use Rattle.seat_guard.proofs.Lists.{at_end, each_set}
+use Rattle.seat_guard.specs.Totals.{total}
 use Rattle.seat_guard.proofs.Totals.{total_le, total-append, total-set, total-has, total-two}
 
 hold_bit : (h : Hold) → hold h ≤ bit h
@@ -214,6 +215,15 @@ module _ (n : ℕ) (xs : List Footing) (r : Phase n xs) where
   one_order i j v w apart a b x y =
       let two = total-two order_hold xs i j v w apart a b in let e : order_hold v ≡ 1 = ap hold x in let e' : order_hold w ≡ 1 = ap hold y in
       let h = bounds.3 in let one = r.one in omega (arith, two, e, e', h, one)
+
+  -- who has the full hold has the order
+  pub order_by_full : (id : ℕ) (v : Footing) → get_elem? xs id ≡ some v → v.shares.full ≡ Holding → v.shares.order ≡ Holding
+  order_by_full id v at full = by v.shares.order (let w = r.within id v at in let e : full_bit v ≡ 1 = ap bit full in omega (arith, w, e))
+    where
+      by : (h : Hold) → 0 < hold h → h ≡ Holding
+      by Free lt = absurd (omega (arith, lt))
+      by Claimed lt = absurd (omega (arith, lt))
+      by Holding lt = refl
 
   -- who has a share, nobody holds the order beside
   pub excludes : (i j : ℕ) (v w : Footing) → get_elem? xs i ≡ some v → get_elem? xs j ≡ some w → v.shares.op ≡ Held → w.shares.order ≡ Holding → ⊥

@@ -10,14 +10,13 @@ use Rattle.function_laws.specs.declared.history.Entry.{Entry}
 use Rattle.function_laws.specs.Tables.{Table, Sizes, opening}
 use Rattle.function_laws.specs.Histories.{IsLegal, table_after}
 use Rattle.function_laws.specs.EntryOrders.{EachWith, opening_orders}
-use Rattle.function_laws.specs.SiftEntries.{Carries}
 use Rattle.function_laws.specs.Widening.{AgreesAt}
 use Rattle.function_laws.specs.SessionEntries.{Each, entries_of}
 use Rattle.seat_guard.specs.declared.view.Row.{Row}
 use Rattle.seat_guard.specs.declared.view.Gone.{Gone}
 use Rattle.seat_guard.specs.declared.view.Draws.{Draws}
 use Rattle.seat_guard.specs.Known.{StandsIn, sizes_for}
-use Rattle.seat_guard.specs.Sifted.{IsOfOther}
+use Rattle.seat_guard.specs.Finds.{Finds}
 use Rattle.seat_guard.specs.Notes.{AreNotedIn}
 use Rattle.seat_guard.specs.Views.{Agrees, stands_for}
 
@@ -28,10 +27,9 @@ pub record LiveFits (turn : ℕ) (log : List Entry) (t : Table) (seat : ℕ → 
   pub mine : entries_of d.session log ≡ d.entries
   pub agrees : Agrees d t
   pub held : d.holds ≡ true → turn ≡ suc d.session
-  -- its names were given, each row's stands for the row's function; with the turn, what it knows of others are functions of other sessions' rows
+  -- its names were given, each row's stands for the row's function
   pub given : (name : Name) (f : Function) → t.live d.session name ≡ std.Some f → t.given d.session name ≡ true
   pub stand : Each (StandsIn t d.session) d.rows
-  pub others : d.holds ≡ true → Each (IsOfOther t d.session) d.others
 
 pub record IsUnused (log : List Entry) (t : Table) (seat : ℕ → Option ℕ) (p : ℕ) : Type 0 where
   pub no_seat : seat p ≡ none
@@ -57,7 +55,7 @@ pub record Fits (turn : ℕ) (start : Sizes) (log : List Entry) (t : Table) (sea
   pub rowless : d.live ≡ false → d.closing ≡ false → d.rows ≡ []
   pub noted : AreNotedIn start log d.session d.noted d.placed
 
--- The part of the journal: there is one legal history, whose length is the journal word, and each seat knows its session's entries of it. What it noted at a place, and what there was at the places of its calls, is what the entries below that place leave. What a sift's entry carries is what the entries below it leave.
+-- The part of the journal: there is one legal history, whose length is the journal word, and each seat knows its session's entries of it. What it noted at a place, and what there was at the places of its calls, is what the entries below that place leave.
 pub record Journal (place turn : ℕ) (ds : List Draws) (start : Sizes) (log : List Entry) (table : Table) : Type 0 where
   pub seat : ℕ → Option ℕ
   pub legal : IsLegal start log
@@ -66,6 +64,6 @@ pub record Journal (place turn : ℕ) (ds : List Draws) (start : Sizes) (log : L
   pub drawn : place ≡ length log
   pub bounded : (p : ℕ) → length (entries_of p log) ≤ 2 ^ 48
   pub beyond : (p : ℕ) → MOST_SESSIONS ≤ p → entries_of p log ≡ []
-  -- a sift's entry carries both orders, and functions of rows and cells, as the entries below it leave them
-  pub carried : EachWith Carries (opening start) (opening_orders start) log
+  -- a sift's entry carries both orders as the entries below it leave them, and the functions of its session's rows among others
+  pub found : EachWith Finds (opening start) (opening_orders start) log
   pub each : (id : ℕ) (d : Draws) → get_elem? ds id ≡ some d → Fits turn start log table seat id d

@@ -1,5 +1,5 @@
 -- The part of the phase word: shares and holds, and which of them exclude each other.
-use Rattle.std.specs.Prelude.{◌≡◌, ◌⊎◌, ℕ, suc, ◌+◌, ◌*◌, ◌/◌, ◌%◌, ◌<◌, ◌≤◌, List, [], ◌∷◌}
+use Rattle.std.specs.Prelude.{◌≡◌, ◌⊎◌, ℕ, suc, ◌+◌, ◌*◌, ◌/◌, ◌%◌, ◌<◌, ◌≤◌, List}
 use mathlib.Core.Option.{some}
 use lib.ListN.{get_elem?}
 use Rattle.edge_bits.specs.declared.limits.TheConstants.{MOST_SESSIONS}
@@ -10,11 +10,7 @@ use Rattle.seat_guard.specs.declared.view.Hold.TheVariants.{Free, Claimed, Holdi
 use Rattle.seat_guard.specs.declared.view.Shares.{Shares}
 use Rattle.seat_guard.specs.declared.view.View.{View}
 use Rattle.seat_guard.specs.Allots.{parts_of}
-
--- the sum of f over a list
-abbrev pub total : {A : Type 0} → (A → ℕ) → List A → ℕ
-total f [] = 0
-total f (x ∷ xs) = f x + total f xs
+use Rattle.seat_guard.specs.Totals.{total}
 
 -- a share or its debt; a share; a bit that is claimed or held; a hold
 abbrev pub weight : Share → ℕ

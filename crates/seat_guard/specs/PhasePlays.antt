@@ -5,6 +5,7 @@ use Rattle.seat_guard.specs.declared.view.Share.TheVariants.{Nothing, Held, Owed
 use Rattle.seat_guard.specs.declared.view.Hold.TheVariants.{Free, Claimed, Holding}
 use Rattle.seat_guard.specs.declared.view.Shares.{Shares}
 use Rattle.seat_guard.specs.declared.view.View.{View}
+use Rattle.seat_guard.specs.CountPlays.{counts_without}
 use Rattle.seat_guard.specs.Phase.{ops_of, order_of, passed, saw, walks_of}
 
 module _ {S : Type 0} where
@@ -34,8 +35,9 @@ module _ {S : Type 0} where
   abbrev pub order_looked : Step S → Me S View → ℕ → Me S View → Type 0
   order_looked st m n m' = (ops_of n ≡ 0 → IsWith m (record (saw m.0.shares n) { order = Holding }) m') × (ops_of n ≢ 0 → IsWith m (saw m.0.shares n) m')
 
+  -- what was noted of counts under a hold goes with it
   abbrev pub order_cleared : Step S → Me S View → ℕ → Me S View → Type 0
-  order_cleared st m n m' = IsWith m (record (passed m.0.shares) { order = Free }) m'
+  order_cleared st m n m' = m' ≡ (record m.0 { shares = record (passed m.0.shares) { order = Free }; counts = counts_without m.0.shares.order m.0.counts }, m.1)
 
   -- the holder of the order claims the full bit, which nobody else does
   abbrev pub full_claimed : Step S → Me S View → ℕ → Me S View → Type 0

@@ -9,7 +9,8 @@ use Rattle.seat_guard.specs.declared.seat.WalkShare.{WalkShare}
 use Rattle.seat_guard.specs.declared.seat.OrderHold.{OrderHold}
 use Rattle.seat_guard.specs.declared.seat.FullHold.{FullHold}
 use Rattle.seat_guard.specs.Phase.{HasNoShare, ops_of, order_of, walks_of}
-use Rattle.seat_guard.specs.Passes.{known, in_hand, shares, IsPassOf}
+use Rattle.seat_guard.specs.CountPlays.{counts_without}
+use Rattle.seat_guard.specs.Passes.{known, counts_of, in_hand, shares, IsPassOf}
 
 module _ {S : Type 0} where
   -- a live pass of this table
@@ -22,7 +23,11 @@ module _ {S : Type 0} where
 
   -- only shares change
   abbrev pub Keeps : Pass S → Pass S → Type 0
-  Keeps p q = (known q ≡ known p) × (in_hand q ≡ in_hand p)
+  Keeps p q = (known q ≡ known p) × (in_hand q ≡ in_hand p) × (counts_of q ≡ counts_of p)
+
+  -- shares change, and what was noted of counts under the order hold goes
+  abbrev pub KeepsBut : Pass S → Pass S → Type 0
+  KeepsBut p q = (known q ≡ known p) × (in_hand q ≡ in_hand p) × (counts_of q ≡ counts_without (shares p).order (counts_of p))
 
   -- the seat looked at the phase word meanwhile, and this is what its last look found
   abbrev pub Looked : Pass S → Pass S → ℕ → Type 0

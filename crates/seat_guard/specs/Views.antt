@@ -1,8 +1,10 @@
 -- What a seat knows, when a table of functions agrees with it, and what a call may tell.
-use Rattle.std.specs.Prelude.{◌≡◌, ◌⊎◌, Contains, ℕ, suc, ◌≤◌, if◌then◌else◌, true, false, List, [], ◌∷◌, ◌++◌, length, slice_get, slice_set, Option, Some, None, option_map}
+use Rattle.std.specs.Prelude.{◌≡◌, ◌⊎◌, Contains, ℕ, suc, ◌≤◌, if◌then◌else◌, Bool, true, false, List, [], ◌∷◌, ◌++◌, length, slice_get, Option, Some, None, option_map}
 use Rattle.edge_bits.specs.declared.limits.TheConstants.{CELLS}
 use Rattle.function_laws.specs.declared.history.Name.{Name}
 use Rattle.function_laws.specs.declared.history.Function.{Function}
+use Rattle.function_laws.specs.declared.history.Function.TheVariants.{Bdd}
+use Rattle.function_laws.specs.declared.history.Call.{Call}
 use Rattle.function_laws.specs.declared.history.Call.TheVariants as calls
 use Rattle.function_laws.specs.declared.history.Reply.TheVariants as replies
 use Rattle.function_laws.specs.Tables.{Sizes, Table, same_name}
@@ -15,7 +17,7 @@ use Rattle.function_laws.specs.Widening.{AgreesAt, at_sizes}
 use Rattle.seat_guard.specs.declared.view.Held.{Held}
 use Rattle.seat_guard.specs.declared.view.Row.{Row}
 use Rattle.seat_guard.specs.declared.view.Change.{Change}
-use Rattle.seat_guard.specs.declared.view.Change.TheVariants.{Nothing, Adds, Takes, Posts}
+use Rattle.seat_guard.specs.declared.view.Change.TheVariants.{Nothing, Adds}
 use Rattle.seat_guard.specs.declared.view.Telling.{Telling}
 use Rattle.seat_guard.specs.declared.view.Leaving.{Leaving}
 use Rattle.seat_guard.specs.declared.view.Noted.{Noted}
@@ -24,9 +26,10 @@ use Rattle.seat_guard.specs.declared.view.Draws.{Draws}
 use Rattle.seat_guard.specs.declared.view.View.{View}
 use Rattle.seat_guard.specs.declared.view.Opening.{Opening}
 pub use Rattle.seat_guard.specs.Known.{known_at, sizes_for}
-use Rattle.seat_guard.specs.Sifted.{MayCarry}
-use Rattle.seat_guard.specs.Allots.{HasRoomFor}
+use Rattle.seat_guard.specs.Finds.{MayFind}
 use Rattle.seat_guard.specs.Phase.{no_shares}
+pub use Rattle.seat_guard.specs.Tallies.{cells_after, rows_after, without}
+use Rattle.seat_guard.specs.Tallies.{no_counts}
 
 -- what a name stands for
 abbrev pub stands_for : List Row → Name → Option Function
@@ -36,11 +39,6 @@ stands_for (row ∷ rows) name = if same_name name row.name then Some row.held.f
 -- what a name of its own stands for, with the variables and elements that the seat knows
 abbrev pub known_as : Draws → Name → Option Function
 known_as d name = option_map (known_at d) (stands_for d.rows name)
-
--- the rows but that of a name
-abbrev pub without : Name → List Row → List Row
-without name [] = []
-without name (row ∷ rows) = if same_name row.name name then without name rows else (row ∷ without name rows)
 
 abbrev pub function_in : Option (Option Held) → Option Function
 function_in (Some (Some held)) = Some held.function
@@ -61,55 +59,70 @@ pub record Agrees (d : Draws) (t : Table) : Type 0 where
   pub fresh : (name : Name) → d.adds ≤ name.generation → t.given d.session name ≡ false
   pub cells : d.holds ≡ true → (t.cells ≡ cell_at t.sizes d.cells) × (length d.cells ≡ CELLS)
 
-abbrev pub rows_after : Change → List Row → List Row
-rows_after (Adds row) rows = row ∷ rows
-rows_after (Takes name) rows = without name rows
-rows_after _ rows = rows
-
 abbrev pub adds_after : Change → ℕ → ℕ
 adds_after (Adds row) n = suc n
 adds_after _ n = n
-
-abbrev pub cells_after : Change → List (Option Held) → List (Option Held)
-cells_after (Posts i held) cells = slice_set cells i (Some held)
-cells_after _ cells = cells
 
 -- both orders, as who has the turn knows them
 abbrev pub orders_of : Draws → Orders
 orders_of d = record { variables = d.variable_order; elements = d.element_order }
 
--- it notes what it knows as it has the turn, at the place n
-abbrev pub note_of : Draws → ℕ → Noted
-note_of d n = record { place = n; vars = d.vars; elements = d.elements; rows = d.rows; variable_order = d.variable_order; element_order = d.element_order }
+-- it notes what it knows, with these orders, at the place n
+abbrev pub note_with : Orders → Draws → ℕ → Noted
+note_with orders d n = record { place = n; vars = d.vars; elements = d.elements; rows = d.rows; variable_order = orders.variables; element_order = orders.elements }
 
--- what a seat knows after a call at the place n, with what there was at that place
-abbrev pub told_of : Draws → ℕ → Telling → Draws
-told_of d n x = record d {
+-- and as it has the turn
+abbrev pub note_of : Draws → ℕ → Noted
+note_of d n = note_with (orders_of d) d n
+
+-- what a seat knows after a call at the place n, with what there was at that place: also the orders, which it is told then
+abbrev pub told_with : Orders → Draws → ℕ → Telling → Draws
+told_with orders d n x = record d {
   rows = rows_after x.change d.rows;
   adds = adds_after x.change d.adds;
   cells = cells_after x.change d.cells;
   entries = d.entries ++ entry n d.session x.call x.reply ∷ [];
-  placed = d.placed ++ note_of d n ∷ [];
+  placed = d.placed ++ note_with orders d n ∷ [];
   variable_order = (orders_after (orders_of d) x.call x.reply).variables;
   element_order = (orders_after (orders_of d) x.call x.reply).elements;
 }
 
--- The entry is a step from every table that agrees with the seat, and agrees with what the seat knows then. What a sift carries is what the seat knows. A session has room for the row.
+-- and as it has the turn
+abbrev pub told_of : Draws → ℕ → Telling → Draws
+told_of d n x = told_with (orders_of d) d n x
+
+abbrev pub is_post : Call → Bool
+is_post (calls.Post i a) = true
+is_post call = false
+
+-- the call may change an order
+abbrev pub is_ordering : Call → Bool
+is_ordering (calls.Swap level) = true
+is_ordering (calls.SwapElements level) = true
+is_ordering (calls.Sift told) = true
+is_ordering (calls.SiftElements told) = true
+is_ordering call = false
+
+-- The entry is a step from every table that agrees with the seat, and agrees with what the seat knows then. A sift finds what the seat knows. Who has not the turn posts nothing, and orders nothing.
 pub record MayTell (d : Draws) (x : Telling) : Type 0 where
   pub plain : is_numbered x.reply ≡ false
   pub step : (t : Table) → Agrees d t → IsAllowed t d.session x.call x.reply × Agrees (told_of d 0 x) (after t d.session x.call x.reply)
-  pub carries : MayCarry d x.call
-  pub room : HasRoomFor x.change d.rows
+  pub finds : MayFind d x.call
+  pub board : d.holds ≡ false → is_post x.call ≡ false
+  pub orders : d.holds ≡ false → is_ordering x.call ≡ false
 
 abbrev pub nothing_told : Telling
 nothing_told = record { call = calls.Sweep; reply = replies.Done; change = Nothing }
 
+abbrev pub no_held : Held
+no_held = record { edge = record { index = 0; complement = false }; function = Bdd [] }
+
 abbrev pub nothing_left : Leaving
 nothing_left = record { stored = []; due = None }
 
--- a seat that has nothing of the phase word
+-- a seat that has nothing of the phase word and of the count words
 abbrev pub viewed : Draws → View
-viewed d = record { draws = d; shares = no_shares }
+viewed d = record { draws = d; shares = no_shares; counts = no_counts }
 
 abbrev pub with_draws : View → Draws → View
 with_draws v d = record v { draws = d }
@@ -188,3 +201,7 @@ gone_of d = record { session = d.session; vars = d.vars; elements = d.elements; 
 
 abbrev pub with_gone : Draws → Draws → Draws
 with_gone d e = record d { rows = d.rows ++ e.rows; gone = d.gone ++ gone_of e ∷ [] }
+
+-- the closing seat has nothing of the count words
+abbrev pub joined_with : View → Draws → View
+joined_with v e = record v { draws = with_gone v.draws e; counts = no_counts }

@@ -15,9 +15,6 @@ pub trait Content {
     // How many variables, how many elements, and how many slots.
     ghost counts: { Self → ℕ × ℕ × ℕ };
 
-    // How often a slot is counted.
-    ghost count: { Self → ℕ → ℕ };
-
     // The orders of the variables and of the elements.
     ghost orders: { Self → Orders };
 

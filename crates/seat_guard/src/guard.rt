@@ -1,13 +1,16 @@
 //! The table under the rule.
 ghost use Rattle.std.specs.Prelude.{◌≡◌, ◌+◌, ◌<◌, ◌≤◌, ◌^◌, ℕ, List, [], ◌∷◌, ◌++◌, length, true, false, IfOk, Option, None, Some, All};
-ghost use Rattle.edge_bits.specs.declared.limits.TheConstants.{CELLS, MOST_COUNT};
+ghost use Rattle.edge_bits.specs.declared.limits.TheConstants.{CELLS};
 ghost use Rattle.function_laws.specs.declared.history.Entry.{Entry};
 ghost use Rattle.seat_guard.specs.declared.view.Held.{Held};
-ghost use Rattle.seat_guard.specs.Views.{sizes_for, session_of, holding, letting_go, one_more, with_gone, told_of, noting, AreTold, MayTell};
+ghost use Rattle.function_laws.specs.Sizes.{Orders};
+ghost use Rattle.seat_guard.specs.Moves.{MayMove};
+ghost use Rattle.seat_guard.specs.Tallies.{counts_after, no_counts};
+ghost use Rattle.seat_guard.specs.Views.{sizes_for, session_of, holding, letting_go, one_more, with_gone, told_of, told_with, noting, orders_of, AreTold, MayTell};
 ghost use Rattle.seat_guard.specs.Rule.{AllBack, Ends, Whole};
 ghost use Rattle.seat_guard.specs.Turn.{Serves};
 ghost use Rattle.seat_guard.specs.Phase.{HasNoShare};
-ghost use Rattle.seat_guard.specs.Passes.{known, in_hand, shares, IsPassOf, IsIdle};
+ghost use Rattle.seat_guard.specs.Passes.{known, counts_of, in_hand, shares, HasSettled, IsPassOf, IsIdle};
 
 use crate::content::Content;
 use crate::layout::{JOURNAL, TURN};
@@ -31,6 +34,7 @@ impl<S: Content> Guard<S> {
         ensures closing { IsPassOf self.now pass.new × (known pass.new ≡ one_more (known pass.old)) × (in_hand pass.new ≡ in_hand pass.old) }
         ensures session { IsPassOf self.now result × (known result ≡ session_of (known pass.old)) × (in_hand result ≡ []) }
         ensures unshared { HasNoShare (shares result) }
+        ensures uncounted { (counts_of result ≡ no_counts) × (counts_of pass.new ≡ counts_of pass.old) }
     {
         let seat = self.table.shared.split_seat::<Next>(&mut pass.seat);
         let number = pass.given;
@@ -42,12 +46,13 @@ impl<S: Content> Guard<S> {
         }
     }
 
-    /// Takes a session's seat in.
+    /// Takes a session's seat in, which has raised and owes nothing.
     pub fn join(&self, pass: &mut Pass<S>, other: Pass<S>)
         requires own { IsPassOf self.now pass.old × ((known pass.old).closing ≡ true) }
         requires other { IsIdle self.now other }
         requires unshared { HasNoShare (shares other) }
-        ensures { IsPassOf self.now pass.new × (known pass.new ≡ with_gone (known pass.old) (known other)) × (in_hand pass.new ≡ in_hand pass.old) }
+        requires settled { HasSettled other }
+        ensures { IsPassOf self.now pass.new × (known pass.new ≡ with_gone (known pass.old) (known other)) × (in_hand pass.new ≡ in_hand pass.old) × (counts_of pass.new ≡ no_counts) }
     {
         let Pass {
             seat,
@@ -61,11 +66,10 @@ impl<S: Content> Guard<S> {
     pub fn take<R: Wait>(&self, rt: &R, pass: &mut Pass<S>) -> S
         requires { IsIdle self.now pass.old }
         ensures own { IsPassOf self.now pass.new }
-        ensures took { (others : List Held) × (known pass.new ≡ holding (known pass.old) (S.board result) others (S.orders result) (S.functions result)) × Serves S.keeps S.board S.counts S.count S.orders result (known pass.new) }
+        ensures took { (others : List Held) × (known pass.new ≡ holding (known pass.old) (S.board result) others (S.orders result) (S.functions result)) × Serves S.keeps S.board S.counts S.orders result (known pass.new) (counts_of pass.new) }
         ensures board { length (S.board result) ≡ CELLS }
-        ensures few { (k : ℕ) → S.count result k ≤ MOST_COUNT }
         ensures hand { in_hand pass.new ≡ (0, None) ∷ [] }
-        ensures stands { shares pass.new ≡ shares pass.old }
+        ensures stands { (shares pass.new ≡ shares pass.old) × (counts_of pass.new ≡ counts_of pass.old) }
     {
         let backoff = Backoff::new();
         let turn = u64::from(pass.number) + 1;
@@ -82,13 +86,17 @@ impl<S: Content> Guard<S> {
         unreachable!()
     }
 
-    /// Draws the place of a call.
+    /// Draws the place of a call. What it adds was raised, and becomes a row or a cell; a row or cell that it takes away is owed. Who has not
+    /// the turn is told the orders at this place.
     pub fn place<E: Told>(&self, pass: &mut Pass<S>) -> u64
-        requires own { IsPassOf self.now pass.old × ((known pass.old).holds ≡ true) }
+        requires own { IsPassOf self.now pass.old × ((known pass.old).live ≡ true) }
         requires room { length (known pass.old).entries < 2 ^ 48 }
         requires step { MayTell (known pass.old) E.told }
+        requires moves { MayMove (known pass.old) (counts_of pass.old) E.told }
         ensures own { IsPassOf self.now pass.new × (in_hand pass.new ≡ in_hand pass.old) }
-        ensures drew { known pass.new ≡ told_of (known pass.old) result E.told }
+        ensures drew { (now : Orders) × ((known pass.old).holds ≡ true → now ≡ orders_of (known pass.old)) × (known pass.new ≡ told_with now (known pass.old) result E.told) }
+        ensures held { (known pass.old).holds ≡ true → known pass.new ≡ told_of (known pass.old) result E.told }
+        ensures moved { counts_of pass.new ≡ counts_after E.told.change (known pass.old).cells (known pass.old).rows (counts_of pass.old) }
         ensures stands { shares pass.new ≡ shares pass.old }
         ensures later { All (λ (e : Entry). e.place < result) (known pass.old).entries }
     {
@@ -102,7 +110,7 @@ impl<S: Content> Guard<S> {
         requires own { IsPassOf self.now pass.old × ((known pass.old).holds ≡ true) }
         ensures own { IsPassOf self.now pass.new × (in_hand pass.new ≡ in_hand pass.old) }
         ensures noted { known pass.new ≡ noting (known pass.old) result }
-        ensures stands { shares pass.new ≡ shares pass.old }
+        ensures stands { (shares pass.new ≡ shares pass.old) × (counts_of pass.new ≡ counts_of pass.old) }
         ensures later { All (λ (e : Entry). e.place < result) (known pass.old).entries }
     {
         self.table.shared.load::<Look>(&mut pass.seat, JOURNAL)
@@ -112,13 +120,13 @@ impl<S: Content> Guard<S> {
     pub fn put_back<E: Leaves>(&self, pass: &mut Pass<S>, content: S)
         requires own { IsPassOf self.now pass.old × ((known pass.old).holds ≡ true) }
         requires hand { in_hand pass.old ≡ (0, None) ∷ [] }
-        requires serves { Serves S.keeps S.board S.counts S.count S.orders content (known pass.old) }
+        requires serves { Serves S.keeps S.board S.counts S.orders content (known pass.old) (counts_of pass.old) }
         requires stored { AreTold (known pass.old) E.leaving.stored (S.functions content) }
         requires due { E.leaving.due ≡ S.due content }
         ensures own { IsPassOf self.now pass.new }
         ensures gave { known pass.new ≡ letting_go (known pass.old) E.leaving }
         ensures hand { in_hand pass.new ≡ [] }
-        ensures stands { shares pass.new ≡ shares pass.old }
+        ensures stands { (shares pass.new ≡ shares pass.old) × (counts_of pass.new ≡ counts_of pass.old) }
     {
         match self.table.shared.exchange(&mut pass.seat, 0, Some(content)) {
             None => {}
@@ -141,7 +149,7 @@ impl<S: Content> Guard<S> {
         requires own { IsPassOf self.now pass.old × ((known pass.old).closing ≡ true) × (in_hand pass.old ≡ []) }
         requires back { AllBack (known pass.old) }
         ensures own { IsPassOf self.now pass.new × (known pass.new ≡ known pass.old) }
-        ensures ends { Ends S.keeps S.board S.counts S.count S.orders result (known pass.old) }
+        ensures ends { Ends S.keeps S.board S.counts S.orders result (known pass.old) }
     {
         let backoff = Backoff::new();
         for _ in rt.forever() {

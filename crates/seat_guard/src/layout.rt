@@ -9,5 +9,8 @@ pub const PHASE: usize = 8;
 /// 0, or one more than the number of the session that has the turn.
 pub const TURN: usize = 16;
 
-/// How many words there are.
-pub const WORDS: usize = 17;
+/// The number of sessions that the table was made for. No step stores to it.
+pub const SESSIONS: usize = 24;
+
+/// Behind the others the count words, one for each slot.
+pub const COUNTS: usize = 32;

@@ -1,10 +1,10 @@
 //! Shares and holds of the phase word, each of which owns its session's seat.
-ghost use Rattle.std.specs.Prelude.{◌≡◌, MatchResult};
-ghost use Rattle.seat_guard.specs.declared.view.Hold.TheVariants.{Free};
+ghost use Rattle.std.specs.Prelude.{◌≡◌, MatchResult, []};
+ghost use Rattle.seat_guard.specs.declared.view.Hold.TheVariants.{Free, Holding};
 ghost use Rattle.seat_guard.specs.declared.view.Share.TheVariants.{Nothing};
-ghost use Rattle.seat_guard.specs.Passes.{IsPassOf, shares};
+ghost use Rattle.seat_guard.specs.Passes.{IsPassOf, counts_of, shares};
 ghost use Rattle.seat_guard.specs.Phase.{bit, passed, weight};
-ghost use Rattle.seat_guard.specs.Tokens.{BarsFull, BarsOperations, BarsOrder, BarsWalks, IsFreeOf, IsFullHold, IsHold, IsLiveOf, IsShare, IsWalk, Keeps, Looked};
+ghost use Rattle.seat_guard.specs.Tokens.{BarsFull, BarsOperations, BarsOrder, BarsWalks, IsFreeOf, IsFullHold, IsHold, IsLiveOf, IsShare, IsWalk, Keeps, KeepsBut, Looked};
 
 use crate::content::Content;
 use crate::layout::PHASE;
@@ -123,10 +123,11 @@ impl<S: Content> Guard<S> {
         Err((pass, Busy { phase: found }))
     }
 
-    /// Gives the order hold back.
+    /// Gives the order hold back. No pin is left, and what was noted of counts under the hold goes.
     pub fn order_out(&self, hold: OrderHold<S>) -> Pass<S>
-        requires { IsHold self.now hold }
-        ensures { IsFreeOf self.now result × Keeps hold.pass result }
+        requires hold { IsHold self.now hold }
+        requires pins { (counts_of hold.pass).pins ≡ [] }
+        ensures { IsFreeOf self.now result × KeepsBut hold.pass result }
     {
         let OrderHold { mut pass } = hold;
         self.clear_order(&mut pass);
@@ -135,8 +136,9 @@ impl<S: Content> Guard<S> {
 
     /// Clears the order bit, which the seat has claimed or holds.
     fn clear_order(&self, pass: &mut Pass<S>)
-        requires { IsLiveOf self.now pass.old × (bit (shares pass.old).order ≡ 1) × ((shares pass.old).full ≡ Free) }
-        ensures { IsPassOf self.now pass.new × Keeps pass.old pass.new × (shares pass.new ≡ record (passed (shares pass.old)) { order = Free }) }
+        requires own { IsLiveOf self.now pass.old × (bit (shares pass.old).order ≡ 1) × ((shares pass.old).full ≡ Free) }
+        requires pins { (shares pass.old).order ≡ Holding → (counts_of pass.old).pins ≡ [] }
+        ensures { IsPassOf self.now pass.new × KeepsBut pass.old pass.new × (shares pass.new ≡ record (passed (shares pass.old)) { order = Free }) }
     {
         self.table
             .shared

@@ -12,7 +12,7 @@ pub struct Take;
 impl<S: Content> Play<Option<S>, View> for Take {
     ghost use Rattle.seat_guard.specs.Rule.{took};
 
-    ghost then = { took S.keeps S.board S.counts S.count S.orders S.functions };
+    ghost then = { took S.keeps S.board S.counts S.orders S.functions };
 }
 
 /// It is taken for good, once all sessions have come back.
@@ -21,7 +21,7 @@ pub struct End;
 impl<S: Content> Play<Option<S>, View> for End {
     ghost use Rattle.seat_guard.specs.Rule.{ended};
 
-    ghost then = { ended S.keeps S.board S.counts S.count S.orders };
+    ghost then = { ended S.keeps S.board S.counts S.orders };
 }
 
 /// It is given back, with what was stored meanwhile.
@@ -79,9 +79,9 @@ impl Split<View> for Next {
 pub struct Back;
 
 impl Join<View> for Back {
-    ghost use Rattle.seat_guard.specs.Views.{viewed, with_draws, blank, with_gone};
+    ghost use Rattle.seat_guard.specs.Views.{viewed, blank, joined_with};
 
-    ghost both = { λ v w. with_draws v (with_gone v.draws w.draws) };
+    ghost both = { λ v w. joined_with v w.draws };
 
     ghost spent = { viewed blank };
 }

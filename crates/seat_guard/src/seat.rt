@@ -1,7 +1,7 @@
 //! The types of the table and of a seat.
-ghost use Rattle.std.specs.Prelude.{◌≡◌, ◌<◌};
+ghost use Rattle.std.specs.Prelude.{◌≡◌, ◌+◌, ◌<◌, ◌≤◌};
 ghost use Rattle.edge_bits.specs.declared.limits.TheConstants.{MOST_SESSIONS};
-ghost use Rattle.seat_guard.specs.declared.layout.TheConstants.{WORDS};
+ghost use Rattle.seat_guard.specs.declared.layout.TheConstants.{COUNTS};
 ghost use Rattle.seat_guard.specs.declared.view.Hold.TheVariants.{Holding};
 ghost use Rattle.seat_guard.specs.declared.view.Share.TheVariants as shares;
 
@@ -20,16 +20,17 @@ impl<S: Content> TableRule<Option<S>, View, Opening> for Turns<S> {
     ghost use Rattle.seat_guard.specs.Rule.{Rule};
     ghost use Rattle.seat_guard.specs.Views.{viewed, closing_of};
 
-    ghost holds = { λ _. Rule S.keeps S.board S.counts S.count S.orders };
+    ghost holds = { λ _. Rule S.keeps S.board S.counts S.orders };
 
     ghost first = { λ key. viewed (closing_of key) };
 }
 
-/// The table: a journal word, a phase word, a turn word, and a slot for what all sessions share.
+/// The table: a journal word, a phase word, a turn word, the number of sessions, a count word for each slot of the store, and a slot of
+/// its own for what all sessions share.
 #[derive(Drop)]
 pub struct Guard<S: Content> {
     pub(crate) table: Table<Option<S>, View, Opening, Turns<S>, Global>,
-    ghost sized: { (table.shared.table_id.words ≡ WORDS) × (table.shared.table_id.slots ≡ 1) },
+    ghost sized: { (COUNTS ≤ table.shared.table_id.words) × (table.shared.table_id.slots ≡ 1) },
 }
 
 /// A session's seat, or the closing one, which counts the seats that it has given.
@@ -40,6 +41,7 @@ pub struct Pass<S> {
     pub(crate) given: u32,
     ghost number_is: { (number ≡ seat.me.0.draws.session) × (number < MOST_SESSIONS) },
     ghost given_is: { given ≡ seat.me.0.draws.given },
+    ghost words_are: { seat.table_id.words ≡ COUNTS + seat.me.0.draws.slots },
 }
 
 /// The closing seat, at rest: it may be shared, and takes no step.
@@ -50,6 +52,7 @@ pub struct Rest<S> {
     pub(crate) given: u32,
     ghost number_is: { (number ≡ perch.view.draws.session) × (number < MOST_SESSIONS) },
     ghost given_is: { given ≡ perch.view.draws.given },
+    ghost words_are: { perch.table_id.words ≡ COUNTS + perch.view.draws.slots },
 }
 
 /// An operation share, which owns its session's seat: nobody has the order meanwhile.

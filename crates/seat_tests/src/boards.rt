@@ -1,5 +1,3 @@
-//! What sessions share, in one thread. A call bound to `_permanent` is there for what it tells: where logic one stands.
-
 ghost use Rattle.shared_store.specs.Sharing.{IsNew};
 
 use edge_bits::{Edge, Kind};
@@ -59,25 +57,24 @@ fn fill_cell(rt: &impl Abort, shared: &mut Shared) -> Cell
     let edge = Edge::new(0, false);
     let before = shared.cell(7);
     assert!(rt; before.is_none());
-    let _permanent = shared.store.get_mut().levels(Kind::Bdd);
     shared.set_cell(7, Cell { kind, edge });
     Cell { kind, edge }
 }
 
-/// The cell stands at its place alone, and holds its slot.
-fn is_counted(rt: &impl Abort, shared: &Shared, cell: Cell) {
+/// The cell stands at its place alone.
+fn is_alone(rt: &impl Abort, shared: &Shared, cell: Cell) {
     assert!(rt; shared.cell(7) == Some(cell) && shared.cell(8) == None);
-    assert!(rt; shared.store.get().count_of(0) == 1);
 }
 
-/// A cell holds the slot of what stands in it, through a sweep too.
+/// A cell stands through a sweep too, where nothing is counted.
 #[test]
-fn a_cell_is_counted(rt: HostRuntime) -> Result<(), Fail> {
+fn a_cell_stands(rt: HostRuntime) -> Result<(), Fail> {
     let mut shared = Shared::new(rt.alloc(), 1, 0, 6)?;
     let cell = fill_cell(&rt, &mut shared);
-    is_counted(&rt, &shared, cell);
+    is_alone(&rt, &shared, cell);
+    shared.let_all_go();
     let (shared, swept) = shared.sweep();
     assert!(rt; swept.freed == 0 && swept.in_use == 6);
-    is_counted(&rt, &shared, cell);
+    is_alone(&rt, &shared, cell);
     Ok(())
 }

@@ -1,7 +1,7 @@
 //! Shares and holds of one session, and what two others in threads of their own are given beside them.
 
 ghost use Rattle.std.specs.Prelude.{◌≡◌, ◌≤◌, [], IfOk};
-ghost use Rattle.seat_guard.specs.Tokens.{IsFreeOf};
+ghost use Rattle.seat_tests.specs.Bare.{IsBare};
 
 use crate::turns::Tally;
 use seat_guard::opening::open;
@@ -15,8 +15,8 @@ use std::thread::{Threads, join};
 
 /// Whether there was an operation share for a session. It is given back.
 fn operates(guard: &Guard<Tally>, pass: Pass<Tally>) -> (Pass<Tally>, bool)
-    requires { IsFreeOf guard.now pass }
-    ensures { IsFreeOf guard.now result.0 }
+    requires { IsBare guard.now pass }
+    ensures { IsBare guard.now result.0 }
 {
     match guard.op_in(pass) {
         Ok(share) => (guard.op_out(share), true),
@@ -26,8 +26,8 @@ fn operates(guard: &Guard<Tally>, pass: Pass<Tally>) -> (Pass<Tally>, bool)
 
 /// Whether there was the order for a session. It is given back.
 fn orders(guard: &Guard<Tally>, pass: Pass<Tally>) -> (Pass<Tally>, bool)
-    requires { IsFreeOf guard.now pass }
-    ensures { IsFreeOf guard.now result.0 }
+    requires { IsBare guard.now pass }
+    ensures { IsBare guard.now result.0 }
 {
     match guard.try_order(pass) {
         Ok(hold) => (guard.order_out(hold), true),
@@ -37,8 +37,8 @@ fn orders(guard: &Guard<Tally>, pass: Pass<Tally>) -> (Pass<Tally>, bool)
 
 /// Whether there was a walk share for a session. It is given back.
 fn walks(guard: &Guard<Tally>, pass: Pass<Tally>) -> (Pass<Tally>, bool)
-    requires { IsFreeOf guard.now pass }
-    ensures { IsFreeOf guard.now result.0 }
+    requires { IsBare guard.now pass }
+    ensures { IsBare guard.now result.0 }
 {
     match guard.walk_in(pass) {
         Ok(share) => (guard.walk_out(share), true),
@@ -63,23 +63,23 @@ fn ask_both<R: Threads + Sync>(
     first: Pass<Tally>,
     second: Pass<Tally>,
 ) -> Beside
-    requires first { IsFreeOf guard.now first }
-    requires second { IsFreeOf guard.now second }
-    ensures { IsFreeOf guard.now result.first × IsFreeOf guard.now result.second }
+    requires first { IsBare guard.now first }
+    requires second { IsBare guard.now second }
+    ensures { IsBare guard.now result.first × IsBare guard.now result.second }
 {
     let ((first, operation, order), (second, walk)) = join(
         rt,
         move || -> (Pass<Tally>, bool, bool)
-            requires { IsFreeOf guard.now first }
-            ensures { IsFreeOf guard.entry.now result.0 }
+            requires { IsBare guard.now first }
+            ensures { IsBare guard.entry.now result.0 }
         {
             let (first, operation) = operates(guard, first);
             let (first, order) = orders(guard, first);
             (first, operation, order)
         },
         move || -> (Pass<Tally>, bool)
-            requires { IsFreeOf guard.now second }
-            ensures { IsFreeOf guard.entry.now result.0 }
+            requires { IsBare guard.now second }
+            ensures { IsBare guard.entry.now result.0 }
         { walks(guard, second) },
     );
     Beside {
@@ -99,10 +99,10 @@ fn beside_a_share<R: Abort + Threads + Wait + Sync>(
     first: Pass<Tally>,
     second: Pass<Tally>,
 ) -> (Pass<Tally>, Beside)
-    requires mine { IsFreeOf guard.now mine }
-    requires first { IsFreeOf guard.now first }
-    requires second { IsFreeOf guard.now second }
-    ensures { IsFreeOf guard.now result.0 × IsFreeOf guard.now result.1.first × IsFreeOf guard.now result.1.second }
+    requires mine { IsBare guard.now mine }
+    requires first { IsBare guard.now first }
+    requires second { IsBare guard.now second }
+    ensures { IsBare guard.now result.0 × IsBare guard.now result.1.first × IsBare guard.now result.1.second }
 {
     let share = guard.op_wait(rt, mine);
     let told = ask_both(rt, guard, first, second);
@@ -118,10 +118,10 @@ fn beside_the_holds<R: Abort + Threads + Wait + Sync>(
     first: Pass<Tally>,
     second: Pass<Tally>,
 ) -> (Pass<Tally>, Beside)
-    requires mine { IsFreeOf guard.now mine }
-    requires first { IsFreeOf guard.now first }
-    requires second { IsFreeOf guard.now second }
-    ensures { IsFreeOf guard.now result.0 × IsFreeOf guard.now result.1.first × IsFreeOf guard.now result.1.second }
+    requires mine { IsBare guard.now mine }
+    requires first { IsBare guard.now first }
+    requires second { IsBare guard.now second }
+    ensures { IsBare guard.now result.0 × IsBare guard.now result.1.first × IsBare guard.now result.1.second }
 {
     let order = guard.order_wait(rt, mine);
     let told = ask_both(rt, guard, first, second);
@@ -135,7 +135,7 @@ fn beside_the_holds<R: Abort + Threads + Wait + Sync>(
 
 /// A table of three sessions.
 fn three(alloc: Global) -> Result<(Guard<Tally>, Pass<Tally>, Pass<Tally>, Pass<Tally>), AllocError>
-    ensures { IfOk result (λ r. IsFreeOf r.0 r.1 × IsFreeOf r.0 r.2 × IsFreeOf r.0 r.3) }
+    ensures { IfOk result (λ r. IsBare r.0 r.1 × IsBare r.0 r.2 × IsBare r.0 r.3) }
 {
     let key = Opening {
         vars: 0,

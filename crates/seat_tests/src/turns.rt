@@ -1,7 +1,7 @@
 //! Two sessions, each in a thread, take turns.
 
 ghost use Rattle.std.specs.Prelude.{◌≡◌, ◌+◌, ◌<◌, ◌^◌, ◌≤◌, List, [], length, None, replicate, IfOk};
-ghost use Rattle.seat_guard.specs.Passes.{known, shares, IsIdle};
+ghost use Rattle.seat_guard.specs.Passes.{known, shares, HasSettled, IsIdle};
 ghost use Rattle.seat_guard.specs.Phase.{HasNoShare};
 
 use seat_guard::content::Content;
@@ -31,8 +31,6 @@ impl Content for Tally {
 
     ghost counts = { λ tally. (0, 0, 0) };
 
-    ghost count = { λ tally slot. 0 };
-
     ghost orders = { λ tally. opening_orders (sizes_for 0 0) };
 
     ghost functions = { λ tally. [] };
@@ -44,8 +42,10 @@ impl Content for Tally {
 fn turn<R: Wait>(rt: &R, guard: &Guard<Tally>, pass: &mut Pass<Tally>) -> u64
     requires idle { IsIdle guard.now pass.old }
     requires room { length (known pass.old).entries < 2 ^ 48 }
+    requires settled { HasSettled pass.old }
     ensures idle { IsIdle guard.now pass.new }
     ensures session { (known pass.new).session ≡ (known pass.old).session }
+    ensures settled { HasSettled pass.new }
     ensures stands { shares pass.new ≡ shares pass.old }
     ensures more { length (known pass.new).entries ≡ length (known pass.old).entries + 1 }
 {
@@ -66,7 +66,9 @@ fn turns<R: Wait>(
     requires idle { IsIdle guard.now pass }
     requires new { (known pass).entries ≡ [] }
     requires unshared { HasNoShare (shares pass) }
+    requires settled { HasSettled pass }
     ensures idle { IsIdle guard.now result.0 }
+    ensures settled { HasSettled result.0 }
     ensures unshared { HasNoShare (shares result.0) }
     ensures session { (known result.0).session ≡ (known pass).session }
 {
@@ -105,12 +107,12 @@ fn two<R: Threads + Wait + Sync>(rt: &R, alloc: Global, times: u32) -> Result<To
     let ((first, low), (second, high)) = join(
         rt,
         move || -> (Pass<Tally>, u32)
-            requires { IsIdle shared.now first × ((known first).entries ≡ []) × HasNoShare (shares first) × ((known first).session ≡ 0) }
-            ensures { IsIdle shared.entry.now result.0 × HasNoShare (shares result.0) × ((known result.0).session ≡ 0) }
+            requires { IsIdle shared.now first × ((known first).entries ≡ []) × HasNoShare (shares first) × HasSettled first × ((known first).session ≡ 0) }
+            ensures { IsIdle shared.entry.now result.0 × HasNoShare (shares result.0) × HasSettled result.0 × ((known result.0).session ≡ 0) }
         { turns(rt, shared, first, times) },
         move || -> (Pass<Tally>, u32)
-            requires { IsIdle shared.now second × ((known second).entries ≡ []) × HasNoShare (shares second) × ((known second).session ≡ 1) }
-            ensures { IsIdle shared.entry.now result.0 × HasNoShare (shares result.0) × ((known result.0).session ≡ 1) }
+            requires { IsIdle shared.now second × ((known second).entries ≡ []) × HasNoShare (shares second) × HasSettled second × ((known second).session ≡ 1) }
+            ensures { IsIdle shared.entry.now result.0 × HasNoShare (shares result.0) × HasSettled result.0 × ((known result.0).session ≡ 1) }
         { turns(rt, shared, second, times) },
     );
     guard.join(&mut closing, first);

@@ -159,23 +159,23 @@ pub fn sift_elements<R: Abort + Wait>(
 }
 
 /// Lets a row go.
-pub fn drop_row<R: Abort + Wait>(rt: &R, manager: &Manager, session: &mut Session, h: H)
+pub fn drop_row<R: Abort>(rt: &R, manager: &Manager, session: &mut Session, h: H)
     requires own { session.old.manager ≡ manager.now }
     ensures { (session.new.manager ≡ session.old.manager) × (session.new.number ≡ session.old.number) }
 {
     has_room(rt, session);
     assert!(rt; session.is_live(h));
-    session.drop_row(rt, manager, h);
+    session.drop_row(manager, h);
     assert!(rt; !session.is_live(h));
 }
 
 /// Whether two rows have one function.
-pub fn same<R: Abort + Wait>(rt: &R, manager: &Manager, session: &mut Session, f: H, g: H) -> bool
+pub fn same<R: Abort>(rt: &R, manager: &Manager, session: &mut Session, f: H, g: H) -> bool
     requires own { session.old.manager ≡ manager.now }
     ensures { (session.new.manager ≡ session.old.manager) × (session.new.number ≡ session.old.number) }
 {
     ready(rt, session, f, g);
-    session.same(rt, manager, f, g).value
+    session.same(manager, f, g).value
 }
 
 /// Puts a row's function into a cell.

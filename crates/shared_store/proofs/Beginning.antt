@@ -1,19 +1,17 @@
 -- What all share as it opens.
-use Rattle.std.proofs.Common.{◌≡◌, ℕ, zero, suc, ◌==◌, Bool, false, ◌||◌, List, map, length, replicate, Option, None, get_or, refl, ap, ap₂, sym, subst, ◌∙◌, inl, inr, arith}
+use Rattle.std.proofs.Common.{◌≡◌, ℕ, zero, suc, ◌==◌, Bool, false, ◌||◌, List, map, length, replicate, Option, None, refl, ap, ap₂, sym, subst, ◌∙◌}
 use Rattle.std.specs.List.{list_any}
-use Rattle.std.proofs.lemmas.List.{get_or-replicate, get_or_past, length-map, length-replicate}
+use Rattle.std.proofs.lemmas.List.{length-map, length-replicate}
 use Rattle.std.proofs.lemmas.List.FromFn.{length-range_with_len}
-use Rattle.std.proofs.lemmas.Bool.{cases_lt}
 use Rattle.edge_bits.specs.declared.limits.TheConstants.{CELLS}
 use Rattle.function_laws.specs.SessionEntries.{Each}
-use Rattle.handle_count.specs.CountWords.{count_of}
 use Rattle.node_store.specs.Views.{View}
 use Rattle.node_slots.specs.Stores.{IsOpening, Plain, is_held}
 use Rattle.seat_guard.specs.Views.{cell_in}
 use Rattle.seat_guard.specs.Turn.{IsKeptCell}
 use Rattle.shared_store.specs.declared.shared.Cell.{Cell}
 use Rattle.shared_store.specs.declared.shared.Shared.{Shared}
-use Rattle.shared_store.specs.Sharing.{IsNew, board, count, counts, held_in, keeps, orders, view_of}
+use Rattle.shared_store.specs.Sharing.{IsNew, board, counts, held_in, keeps, orders, view_of}
 
 abbrev pub no_cell : Option Cell
 no_cell = None
@@ -23,7 +21,7 @@ cells_none w zero i = refl
 cells_none w (suc n) zero = refl
 cells_none w (suc n) (suc i) = cells_none w n i
 
-cells_kept : (x : Shared) (w : View) (n : ℕ) → Each (IsKeptCell keeps board counts count orders x) (map (held_in w) (replicate n None))
+cells_kept : (x : Shared) (w : View) (n : ℕ) → Each (IsKeptCell keeps board counts orders x) (map (held_in w) (replicate n None))
 cells_kept x w zero = tt
 cells_kept x w (suc n) = (tt, cells_kept x w n)
 
@@ -34,12 +32,6 @@ none_set (suc n) = none_set n
 pub opening_idle : (vars elements limit : ℕ) (p : Plain) → IsOpening vars elements limit p → is_held p ≡ false
 opening_idle vars elements limit p o = ap₂ (λ (b : Bool) (pins : List ℕ). b || list_any (λ bits. bits == 1) pins) o.sweeping o.pins ∙ none_set limit
 
-zero_at : (n s : ℕ) → get_or (replicate n zero) s zero ≡ zero
-zero_at n s = elim (cases_lt s n) [
-  | inl lt ↦ get_or-replicate n s zero zero lt
-  | inr ge ↦ get_or_past (replicate n zero) s zero (let l = length-replicate n zero in omega (arith, ge, l))
-]
-
 pub cells_many : length (replicate CELLS no_cell) ≡ CELLS
 cells_many = length-replicate CELLS no_cell
 
@@ -48,10 +40,9 @@ new_shared vars elements limit x o cells = record {
   store = o;
   counts_are = λ i. (opened_variables i, opened_elements i, o.slots_are i);
   orders_are = λ i. record { variables = o.variables_at i; elements = o.elements_at i };
-  uncounted = λ k. ap (λ (cs : List ℕ). count_of (get_or cs k 0)) o.counts ∙ ap count_of (zero_at limit k);
   as_many = length-map x.cells.items (held_in (view_of x)) ∙ ap (λ (l : List (Option Cell)). length l) cells ∙ cells_many;
   empty = ap (λ (l : List (Option Cell)). cell_in (map (held_in (view_of x)) l)) cells ∙ (λ k i. cells_none (view_of x) CELLS i k);
-  kept = subst (λ (l : List (Option Cell)). Each (IsKeptCell keeps board counts count orders x) (map (held_in (view_of x)) l)) (sym cells) (cells_kept x (view_of x) CELLS);
+  kept = subst (λ (l : List (Option Cell)). Each (IsKeptCell keeps board counts orders x) (map (held_in (view_of x)) l)) (sym cells) (cells_kept x (view_of x) CELLS);
 }
   where
     opened_variables : (view_of x).vars ≡ vars

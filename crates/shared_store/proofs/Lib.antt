@@ -6,6 +6,7 @@ pub mod Storing
 pub mod Stored
 pub mod Ordered
 pub mod Lasting
+pub mod Found
 pub mod Swept
 pub mod Handed
 pub mod Emptied

@@ -122,7 +122,6 @@ module _ (x y : Shared) (of : IsStore x.store) (of' : IsStore y.store) (order : 
         IsHeldIn-same (view_of x) (view_of y) h (record { vars = vars; elements = elements; content = function-kept h.edge.index some s.0 s.1 ∙ sym s.1 }) held;
     cells = cells;
     counts_are = λ i. (vars i, elements i, (kept.limit ∙ r.is_swept.limit) i);
-    counted = kept.counts ∙ r.is_swept.counts;
   }
 
   -- where there was no room, nothing was stored

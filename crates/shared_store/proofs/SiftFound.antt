@@ -1,11 +1,7 @@
 -- What a sift finds is what the seat which has the turn knows.
 use Rattle.std.proofs.Common.{◌≡◌, inl, inr, ℕ, zero, suc, ◌+◌, ◌==◌, ◌<◌, ◌≤◌, ◌^◌, Bool, true, false, not, cond, List, [], ◌∷◌, ◌++◌, length, map, Option, Some, None, refl, ap, sym, subst, ◌∙◌, arith, eq-eqb, ne_eqb}
-use Rattle.std.specs.Prelude.{slice_get}
 use Rattle.std.specs.List.{filter, range_with_len}
-use mathlib.Core.Option.{some}
-use lib.ListN.{get_elem?}
 use Rattle.std.proofs.lemmas.Bool.{false≢true}
-use Rattle.std.proofs.lemmas.Bool.Decides.{nat_tests}
 use Rattle.edge_bits.specs.declared.edges.Kind.{Kind}
 use Rattle.edge_bits.specs.declared.edges.Kind.TheVariants as kinds
 use Rattle.function_laws.specs.declared.history.Function.{Function}
@@ -39,10 +35,13 @@ use Rattle.seat_guard.specs.declared.view.Draws.{Draws}
 use Rattle.seat_guard.specs.declared.view.Held.{Held}
 use Rattle.seat_guard.specs.declared.view.Row.{Row}
 use Rattle.seat_guard.specs.Known.{known_at, sizes_for}
-use Rattle.seat_guard.specs.Sifted.{IsKnown, IsSiftBy}
-use Rattle.seat_guard.specs.Turn.{IsKeptCell, cells_count, held_count, one_if, row_count}
+use Rattle.seat_guard.specs.Finds.{IsFoundBy}
+use Rattle.seat_guard.specs.Moves.{HasNoted}
+use Rattle.seat_guard.specs.declared.view.Counts.{Counts}
+use Rattle.shared_store.specs.Counted.{AreRead}
+use Rattle.seat_guard.specs.Turn.{one_if, row_count}
 use Rattle.shared_store.specs.declared.shared.Shared.{Shared}
-use Rattle.shared_store.specs.Sharing.{IsHeldIn, Serving, board, count, counts, keeps, kind_of, noted_in, orders, view_of, whole_of}
+use Rattle.shared_store.specs.Sharing.{IsHeldIn, Serving, count, keeps, kind_of, noted_in, view_of, whole_of}
 use Rattle.shared_store.specs.Sifting.{counted_functions, is_counted, sifting_of}
 
 -- as a whole list, what denotes a function is what lists its values
@@ -64,80 +63,36 @@ above : (n : ℕ) → not (n == 0) ≡ true → 0 < n
 above zero e = cc
 above (suc n) e = omega arith
 
--- one that names the number is counted
-found_at : (b : Bool) (k n : ℕ) → (n == k) ≡ b → 0 < one_if b → n ≡ k
-found_at true k n e lt = grind (arith, nat_tests)
-found_at false k n e lt = absurd (omega (arith, lt))
-
-row_found : (k : ℕ) (rows : List Row) → 0 < row_count k rows → (j : ℕ) × (row : Row) × (get_elem? rows j ≡ some row) × (row.held.edge.index ≡ k)
-row_found k [] many = absurd (omega (arith, many))
-row_found k (row ∷ rows) many = by (row.held.edge.index == k) refl (row_found k rows)
-  where
-    by : (b : Bool) → (row.held.edge.index == k) ≡ b → (0 < row_count k rows → (j : ℕ) × (row' : Row) × (get_elem? rows j ≡ some row') × (row'.held.edge.index ≡ k))
-        → (j : ℕ) × (row' : Row) × (get_elem? (row ∷ rows) j ≡ some row') × (row'.held.edge.index ≡ k)
-    by true e later = (zero, row, refl, found_at true k row.held.edge.index e (omega arith))
-    by false e later = let more = later (let n = ap one_if e in omega (arith, many, n)) in (suc more.0, more.1, more.2, more.3)
-
-held_found : (k : ℕ) (held : List Held) → 0 < held_count k held → (j : ℕ) × (h : Held) × (get_elem? held j ≡ some h) × (h.edge.index ≡ k)
-held_found k [] many = absurd (omega (arith, many))
-held_found k (h ∷ held) many = by (h.edge.index == k) refl (held_found k held)
-  where
-    by : (b : Bool) → (h.edge.index == k) ≡ b → (0 < held_count k held → (j : ℕ) × (h' : Held) × (get_elem? held j ≡ some h') × (h'.edge.index ≡ k))
-        → (j : ℕ) × (h' : Held) × (get_elem? (h ∷ held) j ≡ some h') × (h'.edge.index ≡ k)
-    by true e later = (zero, h, refl, found_at true k h.edge.index e (omega arith))
-    by false e later = let more = later (let n = ap one_if e in omega (arith, many, n)) in (suc more.0, more.1, more.2, more.3)
-
-cell_found : (k : ℕ) (cells : List (Option Held)) → 0 < cells_count k cells → (j : ℕ) × (h : Held) × (slice_get cells j ≡ Some (Some h)) × (h.edge.index ≡ k)
-cell_found k [] many = absurd (omega (arith, many))
-cell_found k (None ∷ cells) many = let more = cell_found k cells many in (suc more.0, more.1, more.2, more.3)
-cell_found k (Some h ∷ cells) many = by (h.edge.index == k) refl (cell_found k cells)
-  where
-    by : (b : Bool) → (h.edge.index == k) ≡ b → (0 < cells_count k cells → (j : ℕ) × (h' : Held) × (slice_get cells j ≡ Some (Some h')) × (h'.edge.index ≡ k))
-        → (j : ℕ) × (h' : Held) × (slice_get (Some h ∷ cells) j ≡ Some (Some h')) × (h'.edge.index ≡ k)
-    by true e later = (zero, h, refl, found_at true k h.edge.index e (omega arith))
-    by false e later = let more = later (let n = ap one_if e in omega (arith, many, n)) in (suc more.0, more.1, more.2, more.3)
-
--- what is kept of each is kept of the one at a place
-each_row : (P : Row → Type 0) (rows : List Row) (j : ℕ) (row : Row) → Each P rows → get_elem? rows j ≡ some row → P row
-each_row P [] j row each at = cc
-each_row P (x ∷ rows) zero row each at = let same : x ≡ row = cc in subst P same each.0
-each_row P (x ∷ rows) (suc j) row each at = each_row P rows j row each.1 at
-
-each_held : (P : Held → Type 0) (held : List Held) (j : ℕ) (h : Held) → Each P held → get_elem? held j ≡ some h → P h
-each_held P [] j h each at = cc
-each_held P (x ∷ held) zero h each at = let same : x ≡ h = cc in subst P same each.0
-each_held P (x ∷ held) (suc j) h each at = each_held P held j h each.1 at
-
 module _ (x : Shared) (of : IsStore x.store) where
-  abbrev c : Content
-  c = content_view x.store
+  abbrev content : Content
+  content = content_view x.store
 
   abbrev w : View
   w = view_of x
 
-  sound : IsSound c
+  sound : IsSound content
   sound = settled_sound x.store of
 
   -- a function of the store depends on its variables alone
-  lacks : (s : ℕ) (k : Kind) (f : ℕ → ValueOf k) → c.function s ≡ Some (function_of k f) → (v : ℕ) → IsBeyond k w v → Lacks k f v
+  lacks : (s : ℕ) (k : Kind) (f : ℕ → ValueOf k) → content.function s ≡ Some (function_of k f) → (v : ℕ) → IsBeyond k w v → Lacks k f v
   lacks s kinds.Bdd f is v h = (sound.of_store s kinds.Bdd f is).0 v (subst (λ n. n ≤ v) (sym of.variables_stand.as_many) h)
   lacks s kinds.Add f is v h = (sound.of_store s kinds.Add f is).0 v (subst (λ n. n ≤ v) (sym of.variables_stand.as_many) h)
   lacks s kinds.Zdd f is v h = (sound.of_store s kinds.Zdd f is).0 v (let e = of.elements_stand.as_many in omega (arith, h, e))
 
   -- where two BDDs are complements by their lists, both would be true where all variables are
-  no-complement : (s t : ℕ) (f g : ℕ → Bool) → c.function s ≡ Some (BddFunction f) → c.function t ≡ Some (BddFunction g) → list_of (2 ^ w.vars) f ≡ not_of (list_of (2 ^ w.vars) g) → ⊥
+  no-complement : (s t : ℕ) (f g : ℕ → Bool) → content.function s ≡ Some (BddFunction f) → content.function t ≡ Some (BddFunction g) → list_of (2 ^ w.vars) f ≡ not_of (list_of (2 ^ w.vars) g) → ⊥
   no-complement s t f g fs gt e =
       let same : f ≡ negation g = same-from_lists w.vars f (negation g) (lacks s kinds.Bdd f fs) (λ v le k b. ap not (lacks t kinds.Bdd g gt v le k b)) (e ∙ not_of-list_of (2 ^ w.vars) g) in
-      let n = length c.orders.variables in
+      let n = length content.orders.variables in
       let a = sound.regular s f fs (ones n) (λ v lt. bit-ones n v lt) in
       let b = sound.regular t g gt (ones n) (λ v lt. bit-ones n v lt) in
       false≢true (ap not (sym b) ∙ ap (λ (h : ℕ → Bool). h (ones n)) (sym same) ∙ a)
 
-  same-slot : (s t : ℕ) (k : Kind) (f g : ℕ → ValueOf k) → c.function s ≡ Some (function_of k f) → c.function t ≡ Some (function_of k g) → listed k w f ≡ listed k w g → s ≡ t
+  same-slot : (s t : ℕ) (k : Kind) (f g : ℕ → ValueOf k) → content.function s ≡ Some (function_of k f) → content.function t ≡ Some (function_of k g) → listed k w f ≡ listed k w g → s ≡ t
   same-slot s t k f g fs gt e = sound.apart s t (function_of k f) fs (gt ∙ ap (λ h. Some (function_of k h)) (sym (same-listed k w f g (lacks s k f fs) (lacks t k g gt) e)))
 
   -- slots whose functions are one are one
-  one-slot : (s t : ℕ) (f g : Denoted) → c.function s ≡ Some f → c.function t ≡ Some g → AreOne (whole_of w f) (whole_of w g) → s ≡ t
+  one-slot : (s t : ℕ) (f g : Denoted) → content.function s ≡ Some f → content.function t ≡ Some g → AreOne (whole_of w f) (whole_of w g) → s ≡ t
   one-slot s t (BddFunction f) (BddFunction g) fs gt (inl e) = same-slot s t kinds.Bdd f g fs gt (ap Bdd e)
   one-slot s t (BddFunction f) (BddFunction g) fs gt (inr e) = absurd (no-complement s t f g fs gt e)
   one-slot s t (BddFunction f) (AddFunction g) fs gt e = let z : Bdd (list_of (2 ^ w.vars) f) ≡ Add (list_of (2 ^ w.vars) g) = e in cc
@@ -160,29 +115,29 @@ module _ (x : Shared) (of : IsStore x.store) where
   among-whole h f (g ∷ fs) (inr i) one = inr (among-whole h f fs i one)
 
   -- no two of those of some slots are one
-  apart-with : (s : ℕ) (o : Option Denoted) (rest : List Denoted) → c.function s ≡ o → ((g : Denoted) → In g rest → (t : ℕ) × (s < t) × (c.function t ≡ Some g)) → AreApart (map (whole_of w) rest)
+  apart-with : (s : ℕ) (o : Option Denoted) (rest : List Denoted) → content.function s ≡ o → ((g : Denoted) → In g rest → (t : ℕ) × (s < t) × (content.function t ≡ Some g)) → AreApart (map (whole_of w) rest)
       → AreApart (map (whole_of w) (value_list o ++ rest))
   apart-with s None rest e later h = h
   apart-with s (Some f) rest e later h =
       (each-whole (λ g. AreOne (whole_of w f) g → ⊥) rest (λ g i one. let l = later g i in let same = one-slot s l.0 f g e l.2 one in omega (arith, same, l.1)), h)
 
-  apart-slots : (p : ℕ → Bool) (a n : ℕ) → AreApart (map (whole_of w) (functions_of c.function (filter p (range_with_len a n))))
+  apart-slots : (p : ℕ → Bool) (a n : ℕ) → AreApart (map (whole_of w) (functions_of content.function (filter p (range_with_len a n))))
   unfolding functions_of
   apart-slots p a zero = tt
   apart-slots p a (suc n) = at (p a) (apart-slots p (a + 1) n)
     where
-      at : (b : Bool) → AreApart (map (whole_of w) (functions_of c.function (filter p (range_with_len (a + 1) n))))
-          → AreApart (map (whole_of w) (functions_of c.function (cond b (a ∷ filter p (range_with_len (a + 1) n)) (filter p (range_with_len (a + 1) n)))))
-      at true rest = apart-with a (c.function a) (functions_of c.function (filter p (range_with_len (a + 1) n))) refl
+      at : (b : Bool) → AreApart (map (whole_of w) (functions_of content.function (filter p (range_with_len (a + 1) n))))
+          → AreApart (map (whole_of w) (functions_of content.function (cond b (a ∷ filter p (range_with_len (a + 1) n)) (filter p (range_with_len (a + 1) n)))))
+      at true rest = apart-with a (content.function a) (functions_of content.function (filter p (range_with_len (a + 1) n))) refl
           (λ g i.
-          let z = In-functions c.function g (filter p (range_with_len (a + 1) n)) i in
+          let z = In-functions content.function g (filter p (range_with_len (a + 1) n)) i in
           let r = In-range z.0 (a + 1) n (filter-In p z.0 (range_with_len (a + 1) n) z.1).0 in (z.0, omega (arith, r.0), z.2))
           rest
       at false rest = rest
 
   -- what an edge denotes is one with what its slot denotes
-  edge-one : (h : Held) (s : ℕ) (f : Denoted) → IsHeldIn w h → h.edge.index ≡ s → c.function s ≡ Some f → AreOne (whole_of w f) (noted_in w h.function)
-  edge-one h s f kept at is = by f h.edge.complement (ap (flipped h.edge.complement) (sym is ∙ ap c.function (sym at)) ∙ kept.0.is)
+  edge-one : (h : Held) (s : ℕ) (f : Denoted) → IsHeldIn w h → h.edge.index ≡ s → content.function s ≡ Some f → AreOne (whole_of w f) (noted_in w h.function)
+  edge-one h s f kept at is = by f h.edge.complement (ap (flipped h.edge.complement) (sym is ∙ ap content.function (sym at)) ∙ kept.0.is)
     where
       k : Kind
       k = kind_of h.function
@@ -206,60 +161,52 @@ module _ (x : Shared) (of : IsStore x.store) where
       by (AddFunction f) true e = cc
       by (ZddFamily f) true e = cc
 
-  module _ (d : Draws) (serves : Serving x d) where
+  module _ (d : Draws) (c : Counts) (serves : Serving x d c) (read : AreRead x d c) where
     -- what an edge denotes is as the seat knows it
     known-held : (h : Held) → noted_in w h.function ≡ known_at d h.function
     known-held h = ap (λ (p : ℕ × ℕ × ℕ). at_sizes (sizes_for p.0 p.1) h.function) serves.counts_are
 
-    edge-known : (h : Held) (s : ℕ) (f : Denoted) → keeps x h → h.edge.index ≡ s → c.function s ≡ Some f → AreOne (whole_of w f) (known_at d h.function)
+    edge-known : (h : Held) (s : ℕ) (f : Denoted) → keeps x h → h.edge.index ≡ s → content.function s ≡ Some f → AreOne (whole_of w f) (known_at d h.function)
     edge-known h s f kept at is = subst (AreOne (whole_of w f)) (known-held h) (edge-one h s f kept at is)
 
-    -- each slot that is held is that of a row or of a cell
-    known-slot : (s : ℕ) (f : Denoted) → c.function s ≡ Some f → is_counted x s ≡ true → IsKnown d (whole_of w f)
-    known-slot s f is counted = by (row_count s d.rows) (held_count s d.others) (cells_count s d.cells) refl refl refl
-      where
-        by : (a b e : ℕ) → row_count s d.rows ≡ a → held_count s d.others ≡ b → cells_count s d.cells ≡ e → IsKnown d (whole_of w f)
-        by (suc a) b e ra rb re =
-            let z = row_found s d.rows (omega (arith, ra)) in
-            inl (z.0, z.1, z.2, edge-known z.1.held s f (each_row (λ (row : Row). keeps x row.held) d.rows z.0 z.1 serves.rows_kept z.2) z.3 is)
-        by zero (suc b) e ra rb re =
-            let z = held_found s d.others (omega (arith, rb)) in
-            inr (inl (z.0, z.1, z.2, edge-known z.1 s f (each_held (keeps x) d.others z.0 z.1 serves.others_kept z.2) z.3 is))
-        by zero zero (suc e) ra rb re =
-            let z = cell_found s d.cells (omega (arith, re)) in
-            inr (inr (z.0, z.1, z.2, edge-known z.1 s f (kept d.cells z.0 z.1 serves.cells_kept z.2) z.3 is))
-          where
-            kept : (cells : List (Option Held)) (j : ℕ) (h : Held) → Each (IsKeptCell keeps board counts count orders x) cells → slice_get cells j ≡ Some (Some h) → keeps x h
-            kept [] j h each at = cc
-            kept (None ∷ cells) zero h each at = cc
-            kept (Some g ∷ cells) zero h each at = let same : g ≡ h = cc in subst (keeps x) same each.0
-            kept (o ∷ cells) (suc j) h each at = kept cells j h each.1 at
-        by zero zero zero ra rb re = absurd (let n = serves.counted s in let p = above (count x s) counted in omega (arith, n, p, ra, rb, re))
+    -- what is counted was noted
+    noted-slot : (s : ℕ) (f : Denoted) → content.function s ≡ Some f → is_counted x s ≡ true → s < length x.store.words → HasNoted c (whole_of w f)
+    noted-slot s f is counted inside =
+        let z = (read s f is).some (above (count x s) counted) in (z.noted.0, known_at d z.held.function, z.noted.1, edge-known z.held s f z.kept z.at is)
 
-    -- and each row is one of them
-    own-row : (h : Held) → keeps x h → 0 < count x h.edge.index → IsAmong (map (whole_of w) (counted_functions x)) (known_at d h.function)
+    -- and each row of the seat is one of them
+    own-row : (h : Held) → keeps x h → 0 < row_count h.edge.index d.rows → IsAmong (map (whole_of w) (counted_functions x)) (known_at d h.function)
     own-row h kept many =
-        let s = flipped-some h.edge.complement (c.function h.edge.index) (function_of (kind_of h.function) (values_at (kind_of h.function) w h.edge)) kept.0.is in
+        let s = flipped-some h.edge.complement (content.function h.edge.index) (function_of (kind_of h.function) (values_at (kind_of h.function) w h.edge)) kept.0.is in
         let inside = sound.within h.edge.index (sound.used h.edge.index s.0 s.1) in
         among-whole (known_at d h.function) s.0 (counted_functions x)
-        (functions-In c.function s.0 h.edge.index (filter (is_counted x) (range_with_len 0 c.limit)) (In-filter (is_counted x) h.edge.index (range_with_len 0 c.limit) (range-In h.edge.index 0 c.limit (omega arith) (omega (arith, inside))) (positive (count x h.edge.index) many)) s.1)
+        (functions-In content.function s.0 h.edge.index (filter (is_counted x) (range_with_len 0 content.limit)) (In-filter (is_counted x) h.edge.index (range_with_len 0 content.limit) (range-In h.edge.index 0 content.limit (omega arith) (omega (arith, inside))) (counted-row (count x h.edge.index) refl s.0 s.1)) s.1)
         (edge-known h h.edge.index s.0 kept refl s.1)
+      where
+        counted-row : (n : ℕ) → count x h.edge.index ≡ n → (f : Denoted) → content.function h.edge.index ≡ Some f → is_counted x h.edge.index ≡ true
+        counted-row zero e f is = absurd (let u = ((read h.edge.index f is).none e).rows in omega (arith, u, many))
+        counted-row (suc n) e f is = positive (count x h.edge.index) (omega (arith, e))
 
-    own-rows : (rows : List Row) → Each (λ (row : Row). keeps x row.held) rows → ((k : ℕ) → row_count k rows ≤ count x k) → Each (λ (row : Row). IsAmong (map (whole_of w) (counted_functions x)) (known_at d row.held.function)) rows
+    own-rows : (rows : List Row) → Each (λ (row : Row). keeps x row.held) rows → ((k : ℕ) → row_count k rows ≤ row_count k d.rows) → Each (λ (row : Row). IsAmong (map (whole_of w) (counted_functions x)) (known_at d row.held.function)) rows
     own-rows [] kept few = tt
     own-rows (row ∷ rows) kept few = (
       own-row row.held kept.0 (let f = few row.held.edge.index in let one = ap one_if (eq-eqb row.held.edge.index row.held.edge.index refl) in omega (arith, f, one)),
       own-rows rows kept.1 (λ k. let f = few k in omega (arith, f)),
     )
 
-    -- What a sift finds is what the seat knows: its orders, functions apart, each of a row or a cell, its own rows' among them.
-    pub sift-known : (order : Order) (blocks : List Block) → IsSiftBy d (sifting_of order blocks x)
+    -- What a sift finds is what the seat knows: its orders, functions apart, its own rows' among them.
+    pub sift-known : (order : Order) (blocks : List Block) → IsFoundBy d (sifting_of order blocks x)
     sift-known order blocks = record {
       variables_are = ap (λ (o : Orders). o.variables) serves.orders_are;
       elements_are = ap (λ (o : Orders). o.elements) serves.orders_are;
-      apart = apart-slots (is_counted x) 0 c.limit;
-      known = each-whole (IsKnown d) (counted_functions x) (λ g i.
-          let z = In-functions c.function g (filter (is_counted x) (range_with_len 0 c.limit)) i in
-          known-slot z.0 g z.2 (filter-In (is_counted x) z.0 (range_with_len 0 c.limit) z.1).1);
-      own = own-rows d.rows serves.rows_kept (λ k. let n = serves.counted k in omega (arith, n));
+      apart = apart-slots (is_counted x) 0 content.limit;
+      own = own-rows d.rows serves.rows_kept (λ k. omega arith);
     }
+
+    -- each of them was noted
+    pub sift-noted : Each (HasNoted c) (map (whole_of w) (counted_functions x))
+    sift-noted = each-whole (HasNoted c) (counted_functions x) (λ g i.
+        let z = In-functions content.function g (filter (is_counted x) (range_with_len 0 content.limit)) i in
+        let t = filter-In (is_counted x) z.0 (range_with_len 0 content.limit) z.1 in
+        let inside = In-range z.0 0 content.limit t.0 in
+        noted-slot z.0 g z.2 t.1 (omega (arith, inside)))

@@ -71,7 +71,6 @@ module _ (x y : Shared) (of : IsStore x.store) (of' : IsStore y.store) (order : 
         (record { vars = vars; elements = elements; content = is.function h.edge.index (counted-root order blocks (content_view x.store) (content_view y.store) sifted is h.edge.index some) }) held;
     cells = cells;
     counts_are = λ i. (vars i, elements i, is.limit i);
-    counted = is.counts;
   }
 
 -- each slot that is held keeps its generation

@@ -47,7 +47,6 @@ lasts-swept x y swept of of' is cells = record {
   held = λ h some held. IsHeldIn-same (view_of x) (view_of y) h (record { vars = vars; elements = elements; content = (swept-kept x.store y.store swept of is h.edge.index some).1 }) held;
   cells = cells;
   counts_are = λ i. (vars i, elements i, is.limit i);
-  counted = is.counts;
 }
   where
     vars : (view_of y).vars ≡ (view_of x).vars

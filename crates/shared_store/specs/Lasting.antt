@@ -11,12 +11,11 @@ pub record IsRecounted (old new : Shared) : Type 0 where
   pub orders_are : orders new ≡ orders old
   pub generations : generation new ≡ generation old
 
--- Each slot with a count above 0 keeps its function and its count, and each cell its edge. The orders may change.
+-- Each slot with a count above 0 keeps its function, and each cell its edge. The orders may change.
 pub record Lasts (old new : Shared) : Type 0 where
   pub held : (h : Held) → 0 < count old h.edge.index → keeps old h → keeps new h
   pub cells : new.cells.items ≡ old.cells.items
   pub counts_are : counts new ≡ counts old
-  pub counted : count new ≡ count old
 
 -- each slot with a count above 0 keeps its generation
 abbrev pub KeepsGenerations : Shared → Shared → Type 0

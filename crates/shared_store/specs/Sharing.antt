@@ -1,5 +1,5 @@
 -- What all sessions share, as the rule of their seats sees it.
-use Rattle.std.specs.Prelude.{◌≡◌, ◌==◌, ◌^◌, ℕ, suc, zero, List, [], ◌∷◌, length, map, Option, Some, None, option_map}
+use Rattle.std.specs.Prelude.{◌≡◌, ◌^◌, ℕ, suc, zero, List, [], ◌∷◌, length, map, Option, Some, None, option_map}
 use Rattle.edge_bits.specs.declared.edges.Kind.{Kind}
 use Rattle.edge_bits.specs.declared.edges.Kind.TheVariants as kinds
 use Rattle.edge_bits.specs.declared.limits.TheConstants.{CELLS}
@@ -15,9 +15,10 @@ use Rattle.node_store.specs.Listed.{listed_at}
 use Rattle.node_store.specs.Views.{View, Is}
 use Rattle.node_slots.specs.Stores.{IsOpening, plain_view, count_at, generation_at}
 use Rattle.seat_guard.specs.declared.view.Held.{Held}
+use Rattle.seat_guard.specs.declared.view.Counts.{Counts}
 use Rattle.seat_guard.specs.declared.view.Draws.{Draws}
 use Rattle.seat_guard.specs.Views.{cell_in, sizes_for}
-use Rattle.seat_guard.specs.Turn.{IsKeptCell, Serves, one_if}
+use Rattle.seat_guard.specs.Turn.{IsKeptCell, Serves}
 use Rattle.shared_store.specs.declared.shared.Cell.{Cell}
 use Rattle.shared_store.specs.declared.shared.Shared.{Shared}
 
@@ -56,20 +57,12 @@ board x = map (held_in (view_of x)) x.cells.items
 abbrev pub counts : Shared → ℕ × ℕ × ℕ
 counts x = ((view_of x).vars, (view_of x).elements, (view_of x).slots)
 
+-- how often a slot is counted as the store has it, which is told by the count words before a sweep
 abbrev pub count : Shared → ℕ → ℕ
 count x k = count_at x.store k
 
 abbrev pub orders : Shared → Orders
 orders x = record { variables = x.store.variables_at; elements = x.store.elements_at }
-
--- how often what stands in a cell counts the slot k
-abbrev pub count_in : ℕ → Option Cell → ℕ
-count_in k None = 0
-count_in k (Some cell) = one_if (cell.edge.index == k)
-
-abbrev pub count_at_cell : ℕ → Option (Option Cell) → ℕ
-count_at_cell k None = 0
-count_at_cell k (Some found) = count_in k found
 
 abbrev pub generation : Shared → ℕ → ℕ
 generation x k = generation_at x.store k
@@ -101,15 +94,14 @@ abbrev pub due : Shared → Option Function
 due x = option_map (whole_of (view_of x)) (view_of x).due
 
 -- it keeps all that the seat which has the turn knows
-abbrev pub Serving : Shared → Draws → Type 0
-Serving x d = Serves keeps board counts count orders x d
+abbrev pub Serving : Shared → Draws → Counts → Type 0
+Serving x d c = Serves keeps board counts orders x d c
 
 -- A new one, with all that the opening of a table of seats asks for.
 pub record IsNew (vars elements limit : ℕ) (x : Shared) : Type 0 where
   pub store : IsOpening vars elements limit x.store
   pub counts_are : counts x ≡ (vars, elements, limit)
   pub orders_are : orders x ≡ opening_orders (sizes_for vars elements)
-  pub uncounted : (k : ℕ) → count x k ≡ 0
   pub as_many : length (board x) ≡ CELLS
   pub empty : cell_in (board x) ≡ (λ (i : ℕ). None)
-  pub kept : Each (IsKeptCell keeps board counts count orders x) (board x)
+  pub kept : Each (IsKeptCell keeps board counts orders x) (board x)

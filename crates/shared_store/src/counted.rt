@@ -1,44 +1,46 @@
-//! How often rows and cells hold a slot.
+//! Which slots are counted, as the store has it for a sweep.
 
-ghost use Rattle.std.specs.Prelude.{◌≡◌, ◌+◌, ◌-◌, ◌<◌, ◌^◌, ◌==◌, ℕ, Some};
-ghost use Rattle.node_store.specs.Views.{IsFunction};
-ghost use Rattle.seat_guard.specs.Turn.{one_if};
+ghost use Rattle.std.specs.Prelude.{◌≡◌, ◌≢◌, ◌<◌, ℕ, None};
+ghost use Rattle.node_slots.specs.Stores.{slots};
 ghost use Rattle.shared_store.specs.Lasting.{IsRecounted};
-ghost use Rattle.shared_store.specs.Sharing.{count, count_in, view_of};
+ghost use Rattle.shared_store.specs.Sharing.{count};
 
-use crate::shared::{Cell, Shared};
-use edge_bits::Edge;
+use crate::shared::Shared;
 
 impl Shared {
-    /// One more row or cell holds the slot of an edge, which denotes a function. At most 2^32 - 3 do so far.
-    pub fn raise(&mut self, edge: Edge)
-        requires function { IsFunction (view_of self.old) edge }
-        requires few { count self.old edge.index + 1 < 2 ^ 32 - 1 }
-        ensures count { (k : ℕ) → count self.new k ≡ count self.old k + one_if (edge.index == k) }
+    /// The slot, which has a word, is counted.
+    pub(crate) fn count_in(&mut self, slot: u32)
+        requires { slots self.old.store slot ≡ None → ⊥ }
+        ensures here { 0 < count self.new slot }
+        ensures others { (k : ℕ) → k ≢ slot → count self.new k ≡ count self.old k }
         ensures rest { IsRecounted self.old self.new }
     {
         self.store.tell_sound();
-        self.store.raise(edge.index());
-    }
-
-    /// One row or cell less holds the slot of an edge.
-    pub fn lower(&mut self, edge: Edge)
-        requires { 0 < count self.old edge.index }
-        ensures count { (k : ℕ) → count self.new k + one_if (edge.index == k) ≡ count self.old k }
-        ensures rest { IsRecounted self.old self.new }
-    {
-        self.store.tell_sound();
-        self.store.lower(edge.index());
-    }
-
-    /// One less holds the slot of what stood in a cell.
-    pub(crate) fn let_go(&mut self, old: Option<Cell>)
-        requires { (cell : Cell) → old ≡ Some cell → 0 < count self.old cell.edge.index }
-        ensures count { (k : ℕ) → count self.new k + count_in k old ≡ count self.old k }
-        ensures rest { IsRecounted self.old self.new }
-    {
-        if let Some(cell) = old {
-            self.lower(cell.edge);
+        if self.store.count_of(slot) == 0 {
+            self.store.raise(slot);
         }
+    }
+
+    /// The slot is not counted.
+    pub(crate) fn count_out(&mut self, slot: u32)
+        ensures here { count self.new slot ≡ 0 }
+        ensures others { (k : ℕ) → k ≢ slot → count self.new k ≡ count self.old k }
+        ensures rest { IsRecounted self.old self.new }
+    {
+        for _ in 0..self.store.count_of(slot) {
+            self.store.tell_sound();
+            self.store.lower(slot);
+        }
+    }
+
+    /// No slot is counted: nothing is held any more.
+    pub fn let_all_go(&mut self)
+        ensures none { (k : ℕ) → count self.new k ≡ 0 }
+        ensures rest { IsRecounted self.old self.new }
+    {
+        for slot in 0..self.store.used() {
+            self.count_out(slot);
+        }
+        self.store.tell_sound();
     }
 }

@@ -113,6 +113,27 @@ impl HeapStore {
         self.get().same(f, g)
     }
 
+    /// How many slots there are up to the last that was ever in use: none from there on denotes a function, or is counted.
+    pub(crate) fn used(&self) -> u32
+        ensures within { result ≤ length self.now.words }
+        ensures beyond { (k : ℕ) → result ≤ k → ((plain_view self.now).content k ≡ None) × (count_at self.now k ≡ 0) }
+    {
+        let limit = self.limit();
+        let used = self.get().words().len();
+        if used < limit as usize {
+            used as u32
+        } else {
+            limit
+        }
+    }
+
+    /// How often the store has a slot counted.
+    pub(crate) fn count_of(&self, slot: u32) -> u32
+        ensures { result ≡ count_at self.now slot }
+    {
+        self.get().count_of(slot)
+    }
+
     /// One more row or cell holds the slot, which has a word.
     pub(crate) fn raise(&mut self, slot: u32)
         requires used { slots self.old slot ≡ None → ⊥ }

@@ -10,15 +10,13 @@ use seat_guard::content::Content;
 use std::alloc::Global;
 
 impl Content for Shared {
-    ghost use Rattle.shared_store.specs.Sharing.{keeps, board, counts, count, orders, functions, due};
+    ghost use Rattle.shared_store.specs.Sharing.{keeps, board, counts, orders, functions, due};
 
     ghost keeps = { keeps };
 
     ghost board = { board };
 
     ghost counts = { counts };
-
-    ghost count = { count };
 
     ghost orders = { orders };
 
@@ -40,7 +38,7 @@ fn empty_board(alloc: Global) -> Result<Vec<Option<Cell>>, Memory>
 
 impl Shared {
     /// A store of so many variables and elements, at most `MOST_VARIABLES` and `MOST_ELEMENTS`, with so many slots: 5 and one
-    /// for each variable at least, `MOST_SLOTS` at most. The board is empty, nothing is counted, and both orders are 0, 1, 2, ..
+    /// for each variable at least, `MOST_SLOTS` at most. The board is empty, and both orders are 0, 1, 2, ..
     pub fn new(alloc: Global, vars: u32, elements: u32, limit: u32) -> Result<Shared, Memory>
         requires vars { vars ≤ MOST_VARIABLES }
         requires elements { elements ≤ MOST_ELEMENTS }

@@ -1,10 +1,8 @@
-use Rattle.std.proofs.Common.{◌≡◌, ℕ, true, [], map, length}
-use Rattle.std.specs.Prelude.{vec_capacity}
+use Rattle.std.proofs.Common.{◌≡◌, [], map, true}
 use Rattle.seat_guard.specs.Passes.{IsPassOf, in_hand, known}
-use Rattle.seat_guard.specs.Turn.{row_count}
-use Rattle.dd_session.specs.Managing.{all_live, gone_as}
+use Rattle.dd_session.specs.Managing.{gone_as}
 use Rattle.dd_session.proofs.closing.join_all.Given as goal
 
 abbrev pub invariant-loop-session : goal.invariant-loop-session
 invariant-loop-session l = IsPassOf l.guard l.closing × (in_hand l.closing ≡ []) × ((known l.closing).closing ≡ true) × ((known l.closing).given ≡ (known l.fn.closing).given) × ((known l.closing).vars ≡ (known l.fn.closing).vars) × ((known l.closing).elements ≡ (known l.fn.closing).elements)
-    × ((known l.closing).gone ≡ map gone_as l.yielded) × ((k : ℕ) → all_live k l.ended.items ≡ row_count k (known l.closing).rows) × (length l.ended.items ≡ length l.yielded) × (vec_capacity l.ended ≡ vec_capacity l.fn.ended)
+    × ((known l.closing).gone ≡ map gone_as l.yielded)

@@ -17,7 +17,7 @@ pub leq-told-requires-clause-idle : goal.leq-told-requires-clause-idle
 leq-told-requires-clause-idle g c = idle_still c.args.guard.now c.args.pass c.op_wait-share.result.pass c.requires.idle.0 c.op_wait-share.ensures.0.0.0 c.op_wait-share.ensures.1 c.requires.idle
 
 pub leq-told-requires-clause-keeps : goal.leq-told-requires-clause-keeps
-leq-told-requires-clause-keeps g c = keeps_still c.args.guard.now c.args.pass c.op_wait-share.result.pass c.requires.idle.0 c.op_wait-share.ensures.0.0.0 c.op_wait-share.ensures.1 c.args.book.now c.requires.keeps
+leq-told-requires-clause-keeps g c = keeps_still c.args.guard.now c.args.pass c.op_wait-share.result.pass c.requires.idle.0 c.op_wait-share.ensures.0.0.0 c.op_wait-share.ensures.1.0 c.args.book.now c.requires.keeps
 
 pub leq-told-requires-clause-place : goal.leq-told-requires-clause-place
 leq-told-requires-clause-place g c = subst HasPlace (sym c.op_wait-share.ensures.1.0) c.requires.place
@@ -32,10 +32,10 @@ pub returns-clause-idle : goal.returns-clause-idle
 returns-clause-idle g c = idle_still c.args.guard.now c.leq-told.new.pass c.op_out.result c.leq-told.ensures.idle.0 c.op_out.ensures.0.0.0 c.op_out.ensures.1 c.leq-told.ensures.idle
 
 pub returns-clause-keeps : goal.returns-clause-keeps
-returns-clause-keeps g c = keeps_still c.args.guard.now c.leq-told.new.pass c.op_out.result c.leq-told.ensures.idle.0 c.op_out.ensures.0.0.0 c.op_out.ensures.1 c.leq-told.new.book c.leq-told.ensures.keeps
+returns-clause-keeps g c = keeps_still c.args.guard.now c.leq-told.new.pass c.op_out.result c.leq-told.ensures.idle.0 c.op_out.ensures.0.0.0 c.op_out.ensures.1.0 c.leq-told.new.book c.leq-told.ensures.keeps
 
 pub returns-clause-told : goal.returns-clause-told
-returns-clause-told g c = subst (λ (z : Seen × Seen). MatchResult c.leq-told.result (λ placed. Called z.0 z.1 (calls.Leq c.args.f c.args.g) (replies.Truth placed.value) placed.place) (λ _. IsAsBefore z.0 z.1)) (λ i. (seen_still c.args.guard.now c.args.pass c.op_wait-share.result.pass c.requires.idle.0 c.op_wait-share.ensures.0.0.0 c.op_wait-share.ensures.1 c.args.book.now i, sym (seen_still c.args.guard.now c.leq-told.new.pass c.op_out.result c.leq-told.ensures.idle.0 c.op_out.ensures.0.0.0 c.op_out.ensures.1 c.leq-told.new.book) i)) c.leq-told.ensures.told
+returns-clause-told g c = subst (λ (z : Seen × Seen). MatchResult c.leq-told.result (λ placed. Called z.0 z.1 (calls.Leq c.args.f c.args.g) (replies.Truth placed.value) placed.place) (λ _. IsAsBefore z.0 z.1)) (λ i. (seen_still c.args.guard.now c.args.pass c.op_wait-share.result.pass c.requires.idle.0 c.op_wait-share.ensures.0.0.0 c.op_wait-share.ensures.1.0 c.args.book.now i, sym (seen_still c.args.guard.now c.leq-told.new.pass c.op_out.result c.leq-told.ensures.idle.0 c.op_out.ensures.0.0.0 c.op_out.ensures.1.0 c.leq-told.new.book) i)) c.leq-told.ensures.told
 
 pub returns-clause-stored : goal.returns-clause-stored
-returns-clause-stored g c = subst (λ (z : Seen × Seen). StoresNothing z.0 z.1) (λ i. (seen_still c.args.guard.now c.args.pass c.op_wait-share.result.pass c.requires.idle.0 c.op_wait-share.ensures.0.0.0 c.op_wait-share.ensures.1 c.args.book.now i, sym (seen_still c.args.guard.now c.leq-told.new.pass c.op_out.result c.leq-told.ensures.idle.0 c.op_out.ensures.0.0.0 c.op_out.ensures.1 c.leq-told.new.book) i)) c.leq-told.ensures.stored
+returns-clause-stored g c = subst (λ (z : Seen × Seen). StoresNothing z.0 z.1) (λ i. (seen_still c.args.guard.now c.args.pass c.op_wait-share.result.pass c.requires.idle.0 c.op_wait-share.ensures.0.0.0 c.op_wait-share.ensures.1.0 c.args.book.now i, sym (seen_still c.args.guard.now c.leq-told.new.pass c.op_out.result c.leq-told.ensures.idle.0 c.op_out.ensures.0.0.0 c.op_out.ensures.1.0 c.leq-told.new.book) i)) c.leq-told.ensures.stored

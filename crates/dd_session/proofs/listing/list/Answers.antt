@@ -11,6 +11,7 @@ use Rattle.dd_session.specs.Turns.{Took}
 use Rattle.dd_session.proofs.Calls.{keeps_taken, took_of}
 use Rattle.dd_session.proofs.ListingLaws.{is_listed, keeps_uncalled}
 use Rattle.dd_session.proofs.Turning.{stored_nothing, stores_same}
+use Rattle.dd_session.proofs.Soundness.{sizes_of}
 use Rattle.dd_session.proofs.listing.list.Goals as goal
 
 pub listing_of-requires-clause-tied : goal.listing_of-requires-clause-tied
@@ -30,6 +31,7 @@ returns-in-Ok-clause-keeps g c =
     let left = c.note.ensures.gave.1 in
     let took = c.take-shared.ensures.took.1 in
     keeps_uncalled d (known c.note.new.pass) c.args.book.now c.requires.keeps
+    (ap sizes_of left ∙ ap sizes_of took)
     (ap (λ (z : Draws). z.rows) left ∙ ap (λ (z : Draws). z.rows) took)
     (ap (λ (z : Draws). z.adds) left ∙ ap (λ (z : Draws). z.adds) took)
     (ap (λ (z : Draws). z.entries) left ∙ ap (λ (z : Draws). z.entries) took)
@@ -47,3 +49,14 @@ returns-in-Ok-clause-stored g c = let gave = c.note.ensures.gave in stored_nothi
 
 pub returns-in-Err-clause-stored : goal.returns-in-Err-clause-stored
 returns-in-Err-clause-stored g c = let gave = c.put_back.ensures.gave in stored_nothing (known c.args.pass.now) (known c.take-shared.new.pass) c.take-shared.result (took_of c.take-shared.ensures.took c.take-shared.ensures.board) (known c.put_back.new.pass) c.take-shared.result gave.0 (stores_same c.take-shared.result) (ap (λ (d : Draws). d.stored) gave.1) gave.2 (ap (λ (d : Draws). d.turns) gave.1)
+
+pub returns-in-Err-clause-keeps : goal.returns-in-Err-clause-keeps
+returns-in-Err-clause-keeps g c =
+    let d = known c.args.pass.now in
+    let left = c.put_back.ensures.gave.1 in
+    let took = c.take-shared.ensures.took.1 in
+    keeps_uncalled d (known c.put_back.new.pass) c.args.book.now c.requires.keeps
+    (ap sizes_of left ∙ ap sizes_of took)
+    (ap (λ (z : Draws). z.rows) left ∙ ap (λ (z : Draws). z.rows) took)
+    (ap (λ (z : Draws). z.adds) left ∙ ap (λ (z : Draws). z.adds) took)
+    (ap (λ (z : Draws). z.entries) left ∙ ap (λ (z : Draws). z.entries) took)

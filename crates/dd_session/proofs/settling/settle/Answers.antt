@@ -8,6 +8,9 @@ use Rattle.dd_session.specs.Sessions.{fulls_in}
 use Rattle.dd_session.specs.Requests.{call_of}
 use Rattle.dd_session.proofs.Tellings.{added-told, due_denoted}
 use Rattle.dd_session.proofs.Tying.{tied_same}
+use Rattle.dd_session.proofs.Soundness.{sizes_of, sound_same}
+use Rattle.seat_guard.specs.declared.view.Counts.{Counts}
+use Rattle.dd_session.specs.Turns.{IsSettled}
 use Rattle.dd_session.proofs.settling.settle.Goals as goal
 
 pub returns-in-Err-Memory-clause-keeps : goal.returns-in-Err-Memory-clause-keeps
@@ -17,6 +20,7 @@ returns-in-Err-Memory-clause-keeps c =
     let left = c.put_back.ensures.gave.1 in
     record {
       rows = tied_same d e c.args.book.now.rows c.requires.keeps.rows (ap (λ (z : Draws). z.rows) left) (ap (λ (z : Draws). z.adds) left) (let a = ap (λ (z : Draws). length z.entries) left in omega (arith, a));
+      sound = sound_same d e (ap (λ (z : Draws). z.rows) left) (ap sizes_of left) c.requires.keeps.sound;
       calls = c.requires.keeps.calls ∙ sym (ap (λ (z : Draws). length z.entries) left);
       fulls = c.requires.keeps.fulls ∙ sym (ap (λ (z : Draws). fulls_in z.entries) left);
     }
@@ -35,3 +39,6 @@ be_full-full-requires-clause-numbers c =
     let o = due_denoted c.args.shared due.0 due.1 in
     let slots = ap (λ (p : ℕ × ℕ × ℕ). p.2) c.requires.serves.counts_are in
     subst (λ (n : ℕ). TellsFull d.slots (call_of c.args.request) n 1) (sym (c.in_use-in_use.ensures.full o.0 o.1 ∙ slots)) (c.requires.one d.slots)
+
+pub returns-in-Err-Memory-clause-settles : goal.returns-in-Err-Memory-clause-settles
+returns-in-Err-Memory-clause-settles c = (subst IsSettled (sym c.put_back.ensures.stands.1) c.requires.hold.5, ap (λ (z : Counts). z.zeros) c.put_back.ensures.stands.1)

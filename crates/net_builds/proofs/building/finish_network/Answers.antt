@@ -9,6 +9,7 @@ use Rattle.net_builds.specs.Standings.{Standing}
 use Rattle.net_builds.proofs.BackLemmas.{err_weaker, ok_both, ok_weaker}
 use Rattle.net_builds.proofs.Built.{all_none, all_unsifted, have_rows, leaves_all, refused_all}
 use Rattle.net_builds.proofs.Finishing.{finish_builds, finish_sifted}
+use Rattle.net_builds.proofs.Gathered.{as_many_wanted}
 use Rattle.net_builds.proofs.building.finish_network.Goals as goal
 
 pub let_go_shares-requires : goal.let_go_shares-requires
@@ -56,7 +57,7 @@ returns-clause-sifted g c does =
     let limit = g.H.Host.limit c.args.host.now in
     ok_both (λ found. HandsAndTells c.args.sifts limit Tells c.args.cell (output_functions net) built mid found) (λ _. AreBuilt c.args.shares.now)
     (λ found. (old : List Standing) → AreShared (g.H.Host.tells c.args.host.now) net (length c.args.sessions.now) 0 old built c.args.shares.now → BuildsSifted Tells limit c.args.cell (output_functions net) old new found)
-    (λ found handed done old shared. finish_sifted (g.H.Host.tells c.args.host.now) net (length c.args.sessions.now) c.args.cell Tells c.args.sifts limit found built mid handed does (length net.inputs) old new c.args.shares.now done
+    (λ found handed done old shared. finish_sifted (g.H.Host.tells c.args.host.now) net (length c.args.sessions.now) c.args.cell Tells c.args.sifts limit found built mid handed does (length net.inputs) (omega (arith, as_many_wanted net, may.bounded.some)) old new c.args.shares.now done
     may.counted may.vars shared c.let_go_shares.ensures.gone)
     c.told_unless_stopped-told.result c.told_unless_stopped-told.ensures.told c.told_unless_stopped-told.ensures.done
 

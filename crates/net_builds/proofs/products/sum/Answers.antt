@@ -1,4 +1,4 @@
-use Rattle.std.proofs.Common.{◌≡◌, ◌∙◌, ℕ, Bool, false, IfOk, List, Option, Some, ap, arith, length, refl, subst, sym, take}
+use Rattle.std.proofs.Common.{◌≡◌, ◌∙◌, ℕ, Bool, false, List, Option, Some, ap, arith, length, refl, subst, sym, take}
 use Rattle.std.proofs.Math.Seq.{take-length}
 use Rattle.cover_nets.specs.declared.net.Cube.{Cube}
 use Rattle.function_laws.specs.declared.history.Name.{Name}

@@ -6,7 +6,7 @@ use Rattle.net_jobs.proofs.AnswerLaws.{called_spared}
 use Rattle.net_jobs.proofs.performing.copy.Goals as goal
 
 pub returns-clause-answered : goal.returns-clause-answered
-returns-clause-answered g c =
+returns-clause-answered c =
     let old = c.args.session.now in
     let new = c.copy.new.self in
     let call = calls.Copy c.args.name in

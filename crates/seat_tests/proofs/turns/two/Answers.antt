@@ -15,4 +15,4 @@ take_last-tally-requires-clause-back g c =
     let second : Draws = known c.join-first.result.1.0 in
     let opened = c.split-second.ensures.closing.1 ∙ ap one_more c.split-first.ensures.closing.1 ∙ ap (λ (d : Draws). one_more (one_more d)) c.in_ok-guard.ensures.1 in
     subst AllBack (sym (c.calls-calls.ensures.own.1 ∙ c.join-2.ensures.1 ∙ ap (λ (d : Draws). with_gone d second) c.join.ensures.1))
-    (both_back (known c.split-second.new.pass) first second (ap (λ (d : Draws). d.given) opened) (ap (λ (d : Draws). d.gone) opened) c.join-first.ensures.first.2 c.join-first.ensures.second.2)
+    (both_back (known c.split-second.new.pass) first second (ap (λ (d : Draws). d.given) opened) (ap (λ (d : Draws). d.gone) opened) c.join-first.ensures.first.3 c.join-first.ensures.second.3)

@@ -4,7 +4,7 @@ use Rattle.node_slots.specs.Wholes.{content_view}
 use Rattle.seat_guard.specs.declared.view.Draws.{Draws}
 use Rattle.seat_guard.specs.Passes.{known}
 use Rattle.seat_guard.specs.Rule.{Whole}
-use Rattle.seat_guard.specs.Turn.{row_count}
+use Rattle.node_store.specs.Views.{View}
 use Rattle.seat_guard.specs.Views.{sizes_for}
 use Rattle.shared_store.proofs.Handed.{unpinned}
 use Rattle.dd_session.specs.Managing.{Managed}
@@ -34,14 +34,12 @@ returns-clause-history g c =
     let h = history_of c.args.self d c.calls-calls.result ends.calls c.args.sessions.items vars elements given gone c.requires first ends.whole in record {
       history = h.0;
       swept = record {
-        before = content_view c.let_all_go.new.shared.store;
+        before = content_view c.let_all_go.new.self.store;
         after = content_view c.sweep-shared.result.0.store;
         swept = c.sweep-shared.result.1;
-        unheld = λ k.
-            let a = ends.counted k in let b = c.clear_board.ensures.count k in let e = c.let_all_go.ensures.count k in
-            let r = c.join_all.ensures.rows k in let s = ap (λ (z : Draws). row_count k z.rows) same in omega (arith, a, b, e, r, s);
-        unpinned = unpinned c.let_all_go.new.shared.store c.let_all_go.new.shared.idle;
-        orders_are = c.let_all_go.ensures.orders ∙ c.clear_board.ensures.orders ∙ ends.orders_are ∙ (λ i. orders_from (opening_orders (sizes_for (vars i) (elements i))) (sym h.1 i));
+        unheld = c.let_all_go.ensures.none;
+        unpinned = unpinned c.let_all_go.new.self.store c.let_all_go.new.self.idle;
+        orders_are = c.let_all_go.ensures.rest.orders_are ∙ ends.orders_are ∙ (λ i. orders_from (opening_orders (sizes_for (vars i) (elements i))) (sym h.1 i));
         is_swept = swept_beside _ _ _ c.sweep-shared.ensures.swept;
         left_is = Rattle.std.proofs.Common.refl;
       };
@@ -52,8 +50,6 @@ returns-clause-left g c =
     let same = c.calls-calls.ensures.own.1 in
     let ends = c.take_last-shared.ensures.ends in
     let vars = ap (λ (d : Draws). d.vars) same ∙ c.join_all.ensures.kept.1 ∙ ap (λ (d : Draws). d.vars) c.wake-closing.ensures.1 ∙ ap (λ (m : Managed). m.vars) c.self.view_is in
-    let emptied = c.sweep-shared.ensures.emptied (λ k.
-    let a = ends.counted k in let b = c.clear_board.ensures.count k in let e = c.let_all_go.ensures.count k in
-    let r = c.join_all.ensures.rows k in let s = ap (λ (z : Draws). row_count k z.rows) same in omega (arith, a, b, e, r, s)) in
-    let v = c.let_all_go.ensures.vars ∙ c.clear_board.ensures.vars ∙ ap (λ (p : ℕ × ℕ × ℕ). p.0) ends.counts_are ∙ vars in
+    let emptied = c.sweep-shared.ensures.emptied c.let_all_go.ensures.none in
+    let v = ap (λ (w : View). w.vars) c.let_all_go.ensures.rest.view ∙ ap (λ (p : ℕ × ℕ × ℕ). p.0) ends.counts_are ∙ vars in
     omega (arith, emptied, v)

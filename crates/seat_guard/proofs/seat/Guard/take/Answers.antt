@@ -7,7 +7,7 @@ pub compare_exchange-found-requires : goal.compare_exchange-found-requires
 compare_exchange-found-requires g c = let same = c.loop.invariant.1 in (
   search rules,
   search rules,
-  takes_turn g.S.Content.keeps g.S.Content.board g.S.Content.counts g.S.Content.count g.S.Content.orders g.S.Content.functions _ _ _ _ (ap (λ m. m.0.draws.live) same ∙ c.requires.1) (ap (λ m. m.1) same ∙ c.requires.3) (let n = c.args.pass.now.number_is.0 in let s = ap (λ m. m.0.draws.session) same in omega (arith, n, s)),
+  takes_turn g.S.Content.keeps g.S.Content.board g.S.Content.counts g.S.Content.orders g.S.Content.functions _ _ _ _ (ap (λ m. m.0.draws.live) same ∙ c.requires.1) (ap (λ m. m.1) same ∙ c.requires.3) (let n = c.args.pass.now.number_is.0 in let s = ap (λ m. m.0.draws.session) same in omega (arith, n, s)),
 )
 
 pub exchange-requires : goal.exchange-requires

@@ -9,7 +9,7 @@ pub compare_exchange-found-requires : goal.compare_exchange-found-requires
 compare_exchange-found-requires g c = let same = c.loop.invariant.1 in (
   search rules,
   search rules,
-  takes_last g.S.Content.keeps g.S.Content.board g.S.Content.counts g.S.Content.count g.S.Content.orders _ _ _ (ap (λ m. m.0.draws.closing) same ∙ c.requires.own.1) (ap (λ m. m.1) same ∙ c.requires.own.2) (subst (λ (v : View). AllBack v.draws) (sym (ap (λ m. m.0) same)) c.requires.back),
+  takes_last g.S.Content.keeps g.S.Content.board g.S.Content.counts g.S.Content.orders _ _ _ (ap (λ m. m.0.draws.closing) same ∙ c.requires.own.1) (ap (λ m. m.1) same ∙ c.requires.own.2) (subst (λ (v : View). AllBack v.draws) (sym (ap (λ m. m.0) same)) c.requires.back),
 )
 
 pub exchange-requires : goal.exchange-requires
