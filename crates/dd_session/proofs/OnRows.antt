@@ -58,14 +58,14 @@ has_row d name live = row_at d.rows name (row_held d.rows name) (named_row d nam
 live_known : (d : Draws) (t : Table) (name : Name) (held : Held) → Agrees d t → stands_for d.rows name ≡ Some held.function → t.live d.session name ≡ Some (known_at d held.function)
 live_known d t name held agrees is = agrees.live name ∙ ap (λ (z : Sizes). option_map (at_sizes z) (stands_for d.rows name)) agrees.sizes_are ∙ ap (option_map (known_at d)) is
 
-pub may_copy : (d : Draws) (h name : Name) → (k : Kind) × IsNamed k d.rows h → name.generation ≡ d.adds → MayTell d (alone_telling d.rows (Copied h name))
-may_copy d h name live new =
+pub may_copy : (d : Draws) (h name : Name) (generation : ℕ) → (k : Kind) × IsNamed k d.rows h → name.generation ≡ d.adds → MayTell d (alone_telling d.rows (Copied h name generation))
+may_copy d h name generation live new =
     let held : Held = row_held d.rows h in
     let is : (t : Table) → Agrees d t → outcome t d.session (calls.Copy h) ≡ Some (makes (known_at d held.function)) = λ t agrees. ap (λ o. with_one o makes) (live_known d t h held agrees (named_row d h live).1) in record {
       plain = refl;
       step = λ t agrees. (
         (makes (known_at d held.function), is t agrees, agrees.fresh name (omega (arith, new))),
-        subst (λ (u : Table). Agrees (told_of d 0 (alone_telling d.rows (Copied h name))) u) (sym (ap (with_result t d.session name) (is t agrees))) (agrees_made d t name held (known_at d held.function) (calls.Copy h) (replies.Made name) agrees new refl),
+        subst (λ (u : Table). Agrees (told_of d 0 (alone_telling d.rows (Copied h name generation))) u) (sym (ap (with_result t d.session name) (is t agrees))) (agrees_made d t name held generation (known_at d held.function) (calls.Copy h) (replies.Made name) agrees new refl),
       );
       finds = tt;
       board = λ _. refl;
@@ -118,12 +118,12 @@ may_compare d f g told sound alike is =
 
 -- a telling gives the names that its reply has, and is no refusal
 pub counted_alone : (rows : List Row) (alone : Alone) → names_by (alone_telling rows alone).change ≡ names_in (alone_telling rows alone).reply
-counted_alone rows (Copied h name) = refl
+counted_alone rows (Copied h name generation) = refl
 counted_alone rows (Dropped h) = refl
 counted_alone rows (Compared f g told) = refl
 
 pub not_full : (rows : List Row) (alone : Alone) → is_full (alone_telling rows alone).reply ≡ 0
-not_full rows (Copied h name) = refl
+not_full rows (Copied h name generation) = refl
 not_full rows (Dropped h) = refl
 not_full rows (Compared f g told) = refl
 

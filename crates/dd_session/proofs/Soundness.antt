@@ -23,7 +23,7 @@ use Rattle.seat_guard.specs.Views.{without}
 use Rattle.shared_store.specs.declared.shared.Shared.{Shared}
 use Rattle.shared_store.specs.Sharing.{Serving, keeps, kind_of, view_of}
 use Rattle.shared_store.proofs.Stored.{used_within}
-use Rattle.dd_session.specs.Sessions.{held_as}
+use Rattle.dd_session.specs.Sessions.{held_as, row_in}
 use Rattle.dd_session.specs.Turns.{AreSound}
 
 -- how many variables, elements and slots the seat knows of
@@ -45,25 +45,28 @@ sound_among d e among sizes sound = record {
 pub sound_same : (d e : Draws) → e.rows ≡ d.rows → sizes_of e ≡ sizes_of d → AreSound d → AreSound e
 sound_same d e rows sizes = sound_among d e (λ i row at. (i, row, ap (λ (l : List Row). get_elem? l i) (sym rows) ∙ at, refl)) sizes
 
--- a row that a name finds
-pub row_at : (rows : List Row) (name : Name) (held : Held) → held_as rows name ≡ Some held → (i : ℕ) × (row : Row) × (get_elem? rows i ≡ some row) × (row.held ≡ held)
-row_at [] name held is = absurd (let z : None ≡ Some held = is in cc)
-row_at (row ∷ rows) name held is = by (same_name name row.name) (row_at rows name held) is
+-- the row of a name is one of the rows
+pub row_of : (rows : List Row) (name : Name) (held : Held) → held_as rows name ≡ Some held → (i : ℕ) × (row : Row) × (row_in rows name ≡ Some row) × (get_elem? rows i ≡ some row) × (row.held ≡ held)
+row_of [] name held is = absurd (let z : None ≡ Some held = is in cc)
+row_of (row ∷ rows) name held is = by (same_name name row.name) (row_of rows name held) is
   where
-    by : (b : Bool) → (held_as rows name ≡ Some held → (i : ℕ) × (row : Row) × (get_elem? rows i ≡ some row) × (row.held ≡ held)) → cond b (Some row.held) (held_as rows name) ≡ Some held
-        → (i : ℕ) × (row' : Row) × (get_elem? (row ∷ rows) i ≡ some row') × (row'.held ≡ held)
-    by true rest e = (zero, row, refl, some_same row.held held e)
+    by : (b : Bool) → (held_as rows name ≡ Some held → (i : ℕ) × (r : Row) × (row_in rows name ≡ Some r) × (get_elem? rows i ≡ some r) × (r.held ≡ held)) → cond b (Some row.held) (held_as rows name) ≡ Some held
+        → (i : ℕ) × (r : Row) × (cond b (Some row) (row_in rows name) ≡ Some r) × (get_elem? (row ∷ rows) i ≡ some r) × (r.held ≡ held)
+    by true rest e = (zero, row, refl, refl, some_same row.held held e)
       where
         some_same : (a b : Held) → Some a ≡ Some b → a ≡ b
         some_same a b e = cc
-    by false rest e = let r = rest e in (suc r.0, r.1, r.2, r.3)
+    by false rest e = let r = rest e in (suc r.0, r.1, r.2, r.3, r.4)
+
+pub row_at : (rows : List Row) (name : Name) (held : Held) → held_as rows name ≡ Some held → (i : ℕ) × (row : Row) × (get_elem? rows i ≡ some row) × (row.held ≡ held)
+row_at rows name held is = let r = row_of rows name held is in (r.0, r.1, r.3, r.4)
 
 -- one more of the same edge
-pub sound_copied : (d e : Draws) (name : Name) (held : Held) → (j : ℕ) × (was : Row) × (get_elem? d.rows j ≡ some was) × (was.held ≡ held) → e.rows ≡ record { name = name; held = held } ∷ d.rows → sizes_of e ≡ sizes_of d → AreSound d → AreSound e
-sound_copied d e name held old rows sizes = sound_among d e (λ i row at. by i row (ap (λ (l : List Row). get_elem? l i) (sym rows) ∙ at)) sizes
+pub sound_copied : (d e : Draws) (name : Name) (held : Held) (generation : ℕ) → (j : ℕ) × (was : Row) × (get_elem? d.rows j ≡ some was) × (was.held ≡ held) → e.rows ≡ record { name = name; held = held; generation = generation } ∷ d.rows → sizes_of e ≡ sizes_of d → AreSound d → AreSound e
+sound_copied d e name held generation old rows sizes = sound_among d e (λ i row at. by i row (ap (λ (l : List Row). get_elem? l i) (sym rows) ∙ at)) sizes
   where
-    by : (i : ℕ) (row : Row) → get_elem? (record { name = name; held = held } ∷ d.rows) i ≡ some row → (j : ℕ) × (was : Row) × (get_elem? d.rows j ≡ some was) × (row.held ≡ was.held)
-    by zero row at = let same : record { name = name; held = held } ≡ row = cc in (old.0, old.1, old.2, ap (λ (r : Row). r.held) (sym same) ∙ sym old.3)
+    by : (i : ℕ) (row : Row) → get_elem? (record { name = name; held = held; generation = generation } ∷ d.rows) i ≡ some row → (j : ℕ) × (was : Row) × (get_elem? d.rows j ≡ some was) × (row.held ≡ was.held)
+    by zero row at = let same : record { name = name; held = held; generation = generation } ≡ row = cc in (old.0, old.1, old.2, ap (λ (r : Row). r.held) (sym same) ∙ sym old.3)
     by (suc i) row at = (i, row, at, refl)
 
 -- one less

@@ -77,13 +77,13 @@ none_and : (b : Bool) → (b && false) ≡ false
 none_and true = refl
 none_and false = refl
 
-abbrev pub adds : Call → Reply → Name → Held → Telling
-adds call reply name held = record { call = call; reply = reply; change = Adds (record { name = name; held = held }) }
+abbrev pub adds : Call → Reply → Name → Held → ℕ → Telling
+adds call reply name held generation = record { call = call; reply = reply; change = Adds (record { name = name; held = held; generation = generation }) }
 
 -- a table with one name more agrees with one row more
-pub agrees_made : (d : Draws) (t : Table) (name : Name) (held : Held) (g : Function) (call : Call) (reply : Reply) → Agrees d t → name.generation ≡ d.adds → known_at d held.function ≡ g
-    → Agrees (told_of d 0 (adds call reply name held)) (with_name t d.session name g)
-agrees_made d t name held g call reply agrees is noted = let here = eq-eqb d.session d.session refl in record {
+pub agrees_made : (d : Draws) (t : Table) (name : Name) (held : Held) (generation : ℕ) (g : Function) (call : Call) (reply : Reply) → Agrees d t → name.generation ≡ d.adds → known_at d held.function ≡ g
+    → Agrees (told_of d 0 (adds call reply name held generation)) (with_name t d.session name g)
+agrees_made d t name held generation g call reply agrees is noted = let here = eq-eqb d.session d.session refl in record {
   sizes_are = agrees.sizes_are;
   live = λ other. ap (λ b. cond (b && same_name other name) (Some g) (t.live d.session other)) here ∙ by other (same_name other name);
   fresh = λ other le.
@@ -97,46 +97,46 @@ agrees_made d t name held g call reply agrees is noted = let here = eq-eqb d.ses
     by other false = agrees.live other
 
 -- a call that adds a row
-module _ (d : Draws) (w : View) (r : Request) (name : Name) (cell : Cell) (counts : sizes_in w ≡ (d.vars, d.elements, d.slots)) (new : name.generation ≡ d.adds) (holds : d.holds ≡ true) where
+module _ (d : Draws) (w : View) (r : Request) (name : Name) (cell : Cell) (generation : ℕ) (counts : sizes_in w ≡ (d.vars, d.elements, d.slots)) (new : name.generation ≡ d.adds) (holds : d.holds ≡ true) where
   abbrev held : Held
   held = held_of w cell
 
   noted : known_at d held.function ≡ held.function
   noted = listed-known d w counts cell.kind (values_at cell.kind w cell.edge)
 
-  may_make : Gives d (call_of r) (makes held.function) → MayTell d (adds (call_of r) (replies.Made name) name held)
+  may_make : Gives d (call_of r) (makes held.function) → MayTell d (adds (call_of r) (replies.Made name) name held generation)
   may_make is_outcome = record {
     plain = refl;
     step = λ t agrees. let is = is_outcome t agrees in (
       (makes held.function, is, agrees.fresh name (omega (arith, new))),
-      subst (λ (u : Table). Agrees (told_of d 0 (adds (call_of r) (replies.Made name) name held)) u) (sym (ap (with_result t d.session name) is)) (agrees_made d t name held held.function (call_of r) (replies.Made name) agrees new noted),
+      subst (λ (u : Table). Agrees (told_of d 0 (adds (call_of r) (replies.Made name) name held generation)) u) (sym (ap (with_result t d.session name) is)) (agrees_made d t name held generation held.function (call_of r) (replies.Made name) agrees new noted),
     );
     finds = finds_none d r;
     board = held_free d (is_post (call_of r)) holds;
     orders = held_free d (is_ordering (call_of r)) holds;
   }
 
-  may_fetch : (posted : Bool) → Gives d (call_of r) (fetches held.function posted) → MayTell d (adds (call_of r) (replies.Fetched name posted) name held)
+  may_fetch : (posted : Bool) → Gives d (call_of r) (fetches held.function posted) → MayTell d (adds (call_of r) (replies.Fetched name posted) name held generation)
   may_fetch posted is_outcome = record {
     plain = refl;
     step = λ t agrees. let is = is_outcome t agrees in (
       (fetches held.function posted, is, (agrees.fresh name (omega (arith, new)), refl)),
-      subst (λ (u : Table). Agrees (told_of d 0 (adds (call_of r) (replies.Fetched name posted) name held)) u) (sym (ap (with_result t d.session name) is)) (agrees_made d t name held held.function (call_of r) (replies.Fetched name posted) agrees new noted),
+      subst (λ (u : Table). Agrees (told_of d 0 (adds (call_of r) (replies.Fetched name posted) name held generation)) u) (sym (ap (with_result t d.session name) is)) (agrees_made d t name held generation held.function (call_of r) (replies.Fetched name posted) agrees new noted),
     );
     finds = finds_none d r;
     board = held_free d (is_post (call_of r)) holds;
     orders = held_free d (is_ordering (call_of r)) holds;
   }
 
-pub may_add : (d : Draws) (w : View) (r : Request) (adding : Adding) (name : Name) (cell : Cell) → sizes_in w ≡ (d.vars, d.elements, d.slots) → name.generation ≡ d.adds → d.holds ≡ true → AddsRow d w (call_of r) adding cell
-    → MayTell d (record { call = call_of r; reply = added_as w adding name cell; change = Adds (record { name = name; held = held_of w cell }) })
-may_add d w r Made name cell counts new holds gives = may_make d w r name cell counts new holds gives
-may_add d w r (Taken posted) name cell counts new holds gives = may_fetch d w r name cell counts new holds posted gives
-may_add d w r Chosen name cell counts new holds gives = let held = held_of w cell in record {
+pub may_add : (d : Draws) (w : View) (r : Request) (adding : Adding) (name : Name) (cell : Cell) (generation : ℕ) → sizes_in w ≡ (d.vars, d.elements, d.slots) → name.generation ≡ d.adds → d.holds ≡ true → AddsRow d w (call_of r) adding cell
+    → MayTell d (record { call = call_of r; reply = added_as w adding name cell; change = Adds (record { name = name; held = held_of w cell; generation = generation }) })
+may_add d w r Made name cell generation counts new holds gives = may_make d w r name cell generation counts new holds gives
+may_add d w r (Taken posted) name cell generation counts new holds gives = may_fetch d w r name cell generation counts new holds posted gives
+may_add d w r Chosen name cell generation counts new holds gives = let held = held_of w cell in record {
   plain = refl;
   step = λ t agrees. (
     (gives.outcome, gives.gives t agrees, gives.may t agrees name (agrees.fresh name (omega (arith, new)))),
-    agrees_made d t name held held.function (call_of r) (replies.Chose name held.function) agrees new (noted d w r name cell counts new holds),
+    agrees_made d t name held generation held.function (call_of r) (replies.Chose name held.function) agrees new (noted d w r name cell generation counts new holds),
   );
   finds = finds_none d r;
   board = held_free d (is_post (call_of r)) holds;
@@ -144,9 +144,9 @@ may_add d w r Chosen name cell counts new holds gives = let held = held_of w cel
 }
 
 -- and what the seat then knows
-pub knows_added : (d : Draws) (w : View) (r : Request) (adding : Adding) (name : Name) (cell : Cell) → let x : Telling = record { call = call_of r; reply = added_as w adding name cell; change = Adds (record { name = name; held = held_of w cell }) } in
-    KnowsAs d (told_of d 0 x) (record { name = name; held = held_of w cell } ∷ d.rows) d.cells
-knows_added d w r adding name cell = record {
+pub knows_added : (d : Draws) (w : View) (r : Request) (adding : Adding) (name : Name) (cell : Cell) (generation : ℕ) → let x : Telling = record { call = call_of r; reply = added_as w adding name cell; change = Adds (record { name = name; held = held_of w cell; generation = generation }) } in
+    KnowsAs d (told_of d 0 x) (record { name = name; held = held_of w cell; generation = generation } ∷ d.rows) d.cells
+knows_added d w r adding name cell generation = record {
   rows_are = refl;
   cells_are = refl;
   others_are = refl;
@@ -358,9 +358,9 @@ outcome-of_fetch d i a f o within holds is found t agrees =
 
 -- a telling gives the names that its reply has
 pub counted_answer : (w : View) (answer : Answer) → names_by (change_of w answer) ≡ names_in (reply_of w answer)
-counted_answer w (Added Made name cell) = refl
-counted_answer w (Added Chosen name cell) = refl
-counted_answer w (Added (Taken posted) name cell) = refl
+counted_answer w (Added Made name cell generation) = refl
+counted_answer w (Added Chosen name cell generation) = refl
+counted_answer w (Added (Taken posted) name cell generation) = refl
 counted_answer w (Posted i cell) = refl
 counted_answer w (Truth told) = refl
 counted_answer w (Value x) = refl
@@ -370,9 +370,9 @@ counted_answer w (Unmade unmade.Apart) = refl
 counted_answer w (Full in_use need) = refl
 
 pub is_full-reply : (w : View) (answer : Answer) → is_full (reply_of w answer) ≡ is_refusal answer
-is_full-reply w (Added Made name cell) = refl
-is_full-reply w (Added Chosen name cell) = refl
-is_full-reply w (Added (Taken posted) name cell) = refl
+is_full-reply w (Added Made name cell generation) = refl
+is_full-reply w (Added Chosen name cell generation) = refl
+is_full-reply w (Added (Taken posted) name cell generation) = refl
 is_full-reply w (Posted i cell) = refl
 is_full-reply w (Truth told) = refl
 is_full-reply w (Value x) = refl
@@ -403,7 +403,7 @@ fulls-most [] = omega arith
 fulls-most (e ∷ es) = let a = is_full-most e.reply in let b = fulls-most es in omega (arith, a, b)
 
 pub refusal-most : (answer : Answer) → is_refusal answer ≤ 1
-refusal-most (Added adding name cell) = omega arith
+refusal-most (Added adding name cell generation) = omega arith
 refusal-most (Posted i cell) = omega arith
 refusal-most (Truth told) = omega arith
 refusal-most (Value x) = omega arith
@@ -454,10 +454,10 @@ added-told d d' call Chosen name w place cell told = (listed_at cell.kind w cell
 added-told d d' call (Taken posted) name w place cell told = told
 
 -- and is a row's
-pub is_adding : (w : View) (adding : Adding) (name : Name) (cell : Cell) → IsChangeOf (Adds (record { name = name; held = held_of w cell })) (calls.Sweep) (added_as w adding name cell)
-is_adding w Made name cell = inl refl
-is_adding w Chosen name cell = inr (inl (listed_at cell.kind w cell.edge, refl))
-is_adding w (Taken posted) name cell = inr (inr (posted, refl))
+pub is_adding : (w : View) (adding : Adding) (name : Name) (cell : Cell) (generation : ℕ) → IsChangeOf (Adds (record { name = name; held = held_of w cell; generation = generation })) (calls.Sweep) (added_as w adding name cell)
+is_adding w Made name cell generation = inl refl
+is_adding w Chosen name cell generation = inr (inl (listed_at cell.kind w cell.edge, refl))
+is_adding w (Taken posted) name cell generation = inr (inr (posted, refl))
 
 -- a place that was drawn by a seat whose counts changed meanwhile
 pub added_drew : (p q : Pass Shared) (e : Draws) (y : Shared) (x : Telling) (place : ℕ) → known q ≡ known p → Drew (known q) e y x place → Drew (known p) e y x place

@@ -83,9 +83,9 @@ held-live rows name None e = refl
 held-live rows name (Some h) e = absurd (let z : Some (live_as name h) ≡ None = e in cc)
 
 -- a row more
-pub tied_more : (d e : Draws) (rows rows' : RowMap) (name : Name) (held : Held) → Tied d rows → e.rows ≡ record { name = name; held = held } ∷ d.rows → e.adds ≡ suc d.adds → length e.entries ≡ length d.entries + 1
+pub tied_more : (d e : Draws) (rows rows' : RowMap) (name : Name) (held : Held) (generation : ℕ) → Tied d rows → e.rows ≡ record { name = name; held = held; generation = generation } ∷ d.rows → e.adds ≡ suc d.adds → length e.entries ≡ length d.entries + 1
     → IsWithOne rows.live (live_as name held) rows'.live → All (λ (live : Live). live.name.generation < name.generation) rows.live → rows'.adds ≡ rows.adds + 1 → Tied e rows'
-tied_more d e rows rows' name held tied is adds longer_by one never more =
+tied_more d e rows rows' name held generation tied is adds longer_by one never more =
     let none : find_row rows.live name ≡ None = none-given rows.live name never in
     let fresh : held_as d.rows name ≡ None = held-live d.rows name (held_as d.rows name) (sym (tied.found name) ∙ none) in record {
       adds_are = let a = tied.adds_are in omega (arith, adds, more, a);

@@ -43,7 +43,7 @@ added_as w Chosen name cell = replies.Chose name (listed_at cell.kind w cell.edg
 added_as w (Taken posted) name cell = replies.Fetched name posted
 
 abbrev pub reply_of : View → Answer → Reply
-reply_of w (Added adding name cell) = added_as w adding name cell
+reply_of w (Added adding name cell generation) = added_as w adding name cell
 reply_of w (Posted i cell) = replies.Done
 reply_of w (Truth told) = replies.Truth told
 reply_of w (Value x) = replies.Value x
@@ -52,7 +52,7 @@ reply_of w (Unmade why) = reply_unmade why
 reply_of w (Full in_use need) = replies.Full in_use need
 
 abbrev pub change_of : View → Answer → Change
-change_of w (Added adding name cell) = Adds (record { name = name; held = held_of w cell })
+change_of w (Added adding name cell generation) = Adds (record { name = name; held = held_of w cell; generation = generation })
 change_of w (Posted i cell) = Posts i (held_of w cell)
 change_of w (Truth told) = Nothing
 change_of w (Value x) = Nothing
@@ -73,7 +73,7 @@ row_held rows name = held_or (held_as rows name)
 
 -- what a call on the rows alone tells
 abbrev pub alone_telling : List Row → Alone → Telling
-alone_telling rows (Copied h name) = record { call = calls.Copy h; reply = replies.Made name; change = Adds (record { name = name; held = row_held rows h }) }
+alone_telling rows (Copied h name generation) = record { call = calls.Copy h; reply = replies.Made name; change = Adds (record { name = name; held = row_held rows h; generation = generation }) }
 alone_telling rows (Dropped h) = record { call = calls.DropRow h; reply = replies.Done; change = Takes h }
 alone_telling rows (Compared f g told) = record { call = calls.Same f g; reply = replies.Truth told; change = Nothing }
 

@@ -156,6 +156,15 @@ abbrev pub held_as : List Row → Name → Option Held
 held_as [] name = None
 held_as (row ∷ rows) name = if same_name name row.name then Some row.held else held_as rows name
 
+-- the row of a name
+abbrev pub row_in : List Row → Name → Option Row
+row_in [] name = None
+row_in (row ∷ rows) name = if same_name name row.name then Some row else row_in rows name
+
+-- the name's row leads to this slot, which has this generation
+abbrev pub LeadsTo : List Row → Name → ℕ → ℕ → Type 0
+LeadsTo rows name slot generation = (row : Row) × (row_in rows name ≡ Some row) × (slot ≡ row.held.edge.index) × (generation ≡ row.generation)
+
 abbrev pub edge_or : Option Held → Edge
 edge_or None = record { index = 0; complement = false }
 edge_or (Some held) = held.edge

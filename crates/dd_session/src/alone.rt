@@ -10,7 +10,7 @@ ghost use Rattle.seat_guard.specs.Recounts.{OnlyCounts};
 ghost use Rattle.seat_guard.specs.Tallies.{counts_after, raised_by};
 ghost use Rattle.seat_guard.specs.Views.{MayTell};
 ghost use Rattle.dd_session.specs.Requests.{alone_telling, row_held};
-ghost use Rattle.dd_session.specs.Sessions.{Called, IsNamed, fulls_in};
+ghost use Rattle.dd_session.specs.Sessions.{Called, IsNamed, LeadsTo, fulls_in};
 ghost use Rattle.dd_session.specs.Turns.{AreSound, DrewAlone, HasPlace, IsCalm, IsSettled, Keeps, Tied, seen_of};
 ghost use Rattle.dd_session.specs.Works.{HadNoTurn};
 
@@ -25,8 +25,8 @@ use seat_guard::told::{Raises, Told as Tells};
 use shared_store::Shared;
 use std::marker::Brand;
 
-/// Counts the slot of a row up once more.
-fn raise_row<E: Raises>(guard: &Guard<Shared>, pass: &mut Pass<Shared>, h: Name, edge: Edge)
+/// Counts the slot of a row up once more, and answers its generation.
+fn raise_row<E: Raises>(guard: &Guard<Shared>, pass: &mut Pass<Shared>, h: Name, edge: Edge) -> u32
     requires held { E.held ≡ row_held (known pass.old).rows h }
     requires edge { edge ≡ (row_held (known pass.old).rows h).edge }
     requires own { IsPassOf guard.now pass.old × ((known pass.old).live ≡ true) }
@@ -35,10 +35,10 @@ fn raise_row<E: Raises>(guard: &Guard<Shared>, pass: &mut Pass<Shared>, h: Name,
     requires place { HasPlace (known pass.old) }
     requires settled { IsSettled (counts_of pass.old) }
     ensures own { OnlyCounts guard.now pass.old pass.new }
-    ensures raised { (g : ℕ) × (counts_of pass.new ≡ raised_by (row_held (known pass.old).rows h) g (counts_of pass.old)) }
+    ensures raised { counts_of pass.new ≡ raised_by (row_held (known pass.old).rows h) result (counts_of pass.old) }
 {
     let _ = h;
-    guard.count_up::<E>(pass, edge.index());
+    guard.count_up::<E>(pass, edge.index())
 }
 
 /// Draws the place of a call.
@@ -88,9 +88,10 @@ pub fn copy(
 {
     let kind = kind_at(pass, book, h);
     let edge = edge_at(pass, book, h);
-    raise_row::<Brand>(guard, pass, h, edge);
+    let generation = raise_row::<Brand>(guard, pass, h, edge);
     let name = book.rows.add(kind, edge);
-    let place = draw_alone::<Brand>(guard, pass, book, Alone::Copied(h, name));
+    let copied = Alone::Copied(h, name, generation);
+    let place = draw_alone::<Brand>(guard, pass, book, copied);
     Placed { place, value: name }
 }
 
@@ -118,6 +119,21 @@ pub fn drop_row(
     let place = draw_alone::<Brand>(guard, pass, book, Alone::Dropped(h));
     guard.count_down(pass, edge.index());
     Placed { place, value: () }
+}
+
+/// The slot of a row's edge, and its generation.
+pub fn where_of(guard: &Guard<Shared>, pass: &mut Pass<Shared>, book: &Book, h: Name) -> (u32, u32)
+    requires idle { IsCalm guard.now pass.old }
+    requires keeps { Keeps (known pass.old) book.now }
+    requires live { (k : KindOf) × IsNamed k (known pass.old).rows h }
+    ensures idle { IsCalm guard.now pass.new }
+    ensures stands { shares pass.new ≡ shares pass.old }
+    ensures same { known pass.new ≡ known pass.old }
+    ensures leads { LeadsTo (known pass.old).rows h result.0 result.1 }
+{
+    let slot = edge_at(pass, book, h).index();
+    let generation = guard.generation(pass, slot);
+    (slot, generation)
 }
 
 /// Whether two rows of one kind have one function: they have one edge then.

@@ -5,7 +5,7 @@ ghost use Rattle.edge_bits.specs.declared.edges.Kind.{Kind as KindOf};
 ghost use Rattle.edge_bits.specs.declared.edges.Kind.TheVariants as kinds;
 ghost use Rattle.function_laws.specs.declared.history.Call.TheVariants as calls;
 ghost use Rattle.function_laws.specs.declared.history.Reply.TheVariants as replies;
-ghost use Rattle.dd_session.specs.Sessions.{Called, HasRoom, IsAsBefore, IsLive, IsLiveAs, fulls_in};
+ghost use Rattle.dd_session.specs.Sessions.{Called, HasRoom, IsAsBefore, IsLive, IsLiveAs, LeadsTo, fulls_in};
 ghost use Rattle.dd_session.specs.Listings.{IsListed};
 ghost use Rattle.dd_session.specs.Works.{HadNoTurn, IsSweepAsked, StoresNothing};
 ghost use Rattle.dd_session.specs.Managing.{is_posted};
@@ -82,6 +82,20 @@ impl Session {
         ensures { (k : KindOf) → IsLiveAs k self.now h → result ≡ k }
     {
         self.book.rows.kind(h)
+    }
+
+    /// Where a row leads: the number of its slot, and the slot's generation. Both stay as long as the row is live, whatever other
+    /// calls do. It draws no place.
+    pub fn where_of(&mut self, manager: &Manager, h: H) -> (u32, u32)
+        requires own { self.old.manager ≡ manager.now }
+        requires live { IsLive self.old h }
+        ensures same { self.new ≡ self.old }
+        ensures leads { LeadsTo self.old.rows h result.0 result.1 }
+    {
+        let mut pass = take_seat(&mut self.seat);
+        let place = alone::where_of(&manager.guard, &mut pass, &self.book, h);
+        self.seat = Some(pass);
+        place
     }
 
     /// A further row with the function of a row. There is room for it.

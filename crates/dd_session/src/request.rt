@@ -21,8 +21,8 @@ pub enum Request<'a> {
 /// A call on the rows of a session alone, with its answer.
 #[derive(Clone, Copy)]
 pub enum Alone {
-    /// A row was copied, under this name.
-    Copied(Name, Name),
+    /// A row was copied, under this name. Its slot has this generation.
+    Copied(Name, Name, u32),
     /// The row of this name is gone.
     Dropped(Name),
     /// Two rows were compared.
@@ -43,8 +43,8 @@ pub enum Adding {
 /// What a call is answered.
 #[derive(Clone, Copy)]
 pub enum Answer {
-    /// A new row, under this name.
-    Added(Adding, Name, Cell),
+    /// A new row, under this name. Its slot has this generation.
+    Added(Adding, Name, Cell, u32),
     /// This stands in the cell from now on.
     Posted(u32, Cell),
     Truth(bool),

@@ -27,8 +27,13 @@ use seat_guard::told::Raises;
 use shared_store::{Cell, Shared, put_back};
 use std::marker::Brand;
 
-/// Counts the slot up of what is to be held, under a share or the full hold.
-pub fn raise<E: Raises>(guard: &Guard<Shared>, pass: &mut Pass<Shared>, shared: &Shared, cell: Cell)
+/// Counts the slot up of what is to be held, under a share or the full hold, and answers its generation.
+pub fn raise<E: Raises>(
+    guard: &Guard<Shared>,
+    pass: &mut Pass<Shared>,
+    shared: &Shared,
+    cell: Cell,
+) -> u32
     requires held { E.held ≡ held_of (view_of shared.now) cell }
     requires own { IsPassOf guard.now pass.old × ((known pass.old).live ≡ true) × ((known pass.old).holds ≡ true) }
     requires may { MayCount (shares pass.old) }
@@ -38,10 +43,10 @@ pub fn raise<E: Raises>(guard: &Guard<Shared>, pass: &mut Pass<Shared>, shared: 
     requires is { Is cell.kind (view_of shared.now) cell.edge }
     ensures own { OnlyCounts guard.now pass.old pass.new }
     ensures store { IsStore shared.now.store }
-    ensures raised { (g : ℕ) × (counts_of pass.new ≡ raised_by (held_of (view_of shared.now) cell) g (counts_of pass.old)) }
+    ensures raised { counts_of pass.new ≡ raised_by (held_of (view_of shared.now) cell) result (counts_of pass.old) }
 {
     shared.store.tell_sound();
-    guard.count_up::<E>(pass, cell.edge.index());
+    guard.count_up::<E>(pass, cell.edge.index())
 }
 
 /// A new row of what the cell's edge denotes. There is room for it.
@@ -71,9 +76,9 @@ pub fn add_row(
     ensures spare { book.new.rows.spare + 1 ≡ book.old.rows.spare }
 {
     let Cell { kind, edge } = cell;
-    raise::<Brand>(guard, pass, &shared, Cell { kind, edge });
+    let generation = raise::<Brand>(guard, pass, &shared, Cell { kind, edge });
     let name = book.rows.add(kind, edge);
-    let answer = Answer::Added(adding, name, Cell { kind, edge });
+    let answer = Answer::Added(adding, name, Cell { kind, edge }, generation);
     let place = finish(guard, pass, book, shared, request, answer);
     Placed { place, value: name }
 }

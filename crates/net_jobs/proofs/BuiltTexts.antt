@@ -1,5 +1,5 @@
 -- The text of a network that the sessions of a manager built, and why there is none.
-use Rattle.std.proofs.Common.{◌≡◌, inl, inr, Bool, true, false, if◌then◌else◌, ℕ, suc, ◌+◌, ◌≤◌, List, [], ◌∷◌, ◌++◌, length, map, take, drop, All, Result, Ok, Err, IfErr, IfOk, refl, ap, sym, ◌∙◌, subst, arith}
+use Rattle.std.proofs.Common.{◌≡◌, inl, inr, Bool, true, false, if◌then◌else◌, ℕ, ◌+◌, ◌≤◌, List, [], ◌++◌, length, map, take, drop, All, Result, Ok, Err, IfErr, IfOk, refl, ap, sym, ◌∙◌, subst, arith}
 use Rattle.std.specs.Global.{Vec}
 use Rattle.std.specs.List.{range_with_len}
 use Rattle.std.proofs.lemmas.List.{append_assoc, length-map}
@@ -16,7 +16,6 @@ use Rattle.cover_nets.specs.Networks.{signal_value}
 use Rattle.dd_session.specs.declared.answers.Full.{Full}
 use Rattle.dd_session.specs.Managing.{AreAll, IsHistoryOf, Managed, Seen, opened}
 use Rattle.dddmp_text.specs.Written.{written}
-use Rattle.diagram_dumps.specs.Agreement.{AreSame}
 use Rattle.diagram_dumps.specs.Dumps.{root_value}
 use Rattle.diagram_dumps.specs.Listings.{dump_of}
 use Rattle.diagram_dumps.proofs.Counted.{lines_counted}

@@ -92,7 +92,7 @@ module _ {S : Type 0} (keeps_it : S → HeldEdge → Type 0) (board : S → List
         (subst (λ (l : List Draws). Turn keeps_it board counts orders slots ws.turn home l (set ts id (tally_of (with_counts c))) r.cells r.table (orders_from (opening_orders r.start) r.log)) (sym drawn)
         (turn_tally keeps_it board counts orders slots ws.turn id home ds ts r.cells r.table (orders_from (opening_orders r.start) r.log) v (tally_of (with_counts c)) r.turn here_is tally_is
         (turn_is keeps_it board counts orders slots ws home vs r id v at) (holder keeps_it board counts orders slots ws home vs r id v at) holds_same))
-        counted sifts tied still right_now
+        counted sifts tied still right_now (r.row_generations id v at)
 
     -- what was noted of sifts stays, where what was raised stays raised and no more is owed
     quiet_sifts : (c : Counts) → ((k : ℕ) (x : HeldEdge) → get_elem? v.counts.raised k ≡ some x → (m : ℕ) × (get_elem? c.raised m ≡ some x)) → c.above ≡ v.counts.above
@@ -284,3 +284,4 @@ module _ {S : Type 0} (keeps_it : S → HeldEdge → Type 0) (board : S → List
         (λ k. refl)
         (subst (λ gs. Each (IsOfSlot ws.count w) gs) (sym same.3)
         (each_map (IsOfSlot ws.count v) (IsOfSlot ws.count w) (λ g right named. right (let a : held_count g.slot c.raised ≡ held_count g.slot v.counts.raised = ap (held_count g.slot) same.0 in omega (arith, named, a))) v.counts.generations (r.generations id v at)))
+        (r.row_generations id v at)

@@ -17,13 +17,15 @@ use Rattle.seat_guard.specs.declared.view.Held.{Held}
 use Rattle.seat_guard.specs.declared.view.Hold.TheVariants.{Holding}
 use Rattle.seat_guard.specs.declared.view.Counts.{Counts}
 use Rattle.seat_guard.specs.declared.view.View.{View}
-use Rattle.seat_guard.specs.CountPlays.{IsRecounted, Knows, MayRaise, NamesNone, counted_down, counted_up, found_above, found_zero, looked_at, pinned, sessions_read, unpinned}
+use Rattle.seat_guard.specs.CountPlays.{IsRecounted, Knows, MayRaise, NamesNone, counted_down, counted_up, found_above, found_zero, generation_read, looked_at, pinned, sessions_read, unpinned}
+use Rattle.seat_guard.specs.Generations.{IsOfRow}
 use Rattle.seat_guard.specs.Layout.{words_of}
 use Rattle.seat_guard.specs.Rule.{Parts, tallies_in}
 use Rattle.seat_guard.specs.Tallies.{cells_count, found_at, held_count, lowered_by, pinned_by, raised_by, refs, tally_of, times, unpinned_by}
 use Rattle.seat_guard.proofs.CountParts.{above_part, found_part, lowered_part, pinned_part, raised_part, unpinned_part, zero_part}
 use Rattle.seat_guard.proofs.Keeps.{Sat, St, TheRule, lifts, stays}
 use Rattle.seat_guard.proofs.Layouts.{here_count, set_count}
+use Rattle.seat_guard.proofs.Lists.{each_at}
 use Rattle.seat_guard.proofs.Noting.{counted_is}
 use Rattle.seat_guard.proofs.Tallying.{counts_small}
 use Rattle.seat_guard.proofs.Totals.{total-has}
@@ -209,6 +211,21 @@ module _ {S : Type 0} (keeps_it : S → Held → Type 0) (board : S → List (st
           (λ _ no_pin. absurd (some_pin (ap (λ (i : ℕ). times i me.0.counts.pins) (this_slot j e) ∙ no_pin))),
         )),
       )))
+
+  pub reads_generation : Allows RuleOf slots id me word (λ n. n) (generation_read (step slots word 0 0 none) me)
+  reads_generation s r long at bound = (
+    me.0,
+    keeps,
+    tt,
+    stays keeps_it board counts orders s word id me r at,
+    (
+      refl,
+      λ i row there e.
+          let slot : k ≡ row.held.edge.index = this_slot row.held.edge.index e in
+          let right : IsOfRow (words_of r.slots s.words).count row = each_at (IsOfRow (words_of r.slots s.words).count) me.0.draws.rows i row (r.parts.row_generations id me.0 at) there in
+          subst (λ (x : ℕ). generation_of x ≡ row.generation) (is_count s r at) (subst (λ (j : ℕ). generation_of (count s r at j) ≡ row.generation) (sym slot) right),
+    ),
+  )
 
 module _ {S : Type 0} (keeps_it : S → Held → Type 0) (board : S → List (std.Option Held)) (counts : S → ℕ × ℕ × ℕ) (orders : S → Orders) (slots id : ℕ) (me : Sat S) where
   pub reads_sessions : (me.0.draws.live ≡ true) ⊎ (me.0.draws.closing ≡ true) → Allows (TheRule keeps_it board counts orders) slots id me SESSIONS (λ n. n) (sessions_read (step slots SESSIONS 0 0 none) me)

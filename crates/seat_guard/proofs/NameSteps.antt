@@ -109,7 +109,7 @@ all_named (x ∷ rows) = (
   each_map (IsNamed rows) (IsNamed (x ∷ rows)) (named_later x rows) rows (all_named rows),
 )
 
-each_without : (P : Row → Type 0) (name : Name) (rows : List Row) → Each P rows → Each P (without name rows)
+pub each_without : (P : Row → Type 0) (name : Name) (rows : List Row) → Each P rows → Each P (without name rows)
 each_without P name [] all = tt
 each_without P name (x ∷ rows) all = by (each_without P name rows all.1) (same_name x.name name) refl
   where

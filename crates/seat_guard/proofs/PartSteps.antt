@@ -1,5 +1,5 @@
 -- Each change of a seat keeps the parts of the rule.
-use Rattle.std.proofs.Common.{◌≡◌, ◌≢◌, ◌⊎◌, ℕ, suc, ◌+◌, ◌^◌, ◌<◌, true, List, [], ◌∷◌, ◌++◌, map, length, set, refl, ap, ap₂, sym, subst, ◌∙◌, ⊎_elim, inl, inr, arith, true≢false}
+use Rattle.std.proofs.Common.{◌≡◌, ◌≢◌, ◌⊎◌, ℕ, suc, ◌+◌, ◌^◌, ◌<◌, ◌==◌, cond, true, List, [], ◌∷◌, ◌++◌, map, length, set, refl, ap, ap₂, sym, subst, ◌∙◌, ⊎_elim, inl, inr, arith, true≢false, eq-eqb, eqb-true}
 use Rattle.std.specs.Prelude as std
 use Rattle.std.specs.Prelude.{take, drop}
 use mathlib.Core.Option.{Option, some}
@@ -28,14 +28,15 @@ use Rattle.seat_guard.specs.declared.view.Draws.{Draws}
 use Rattle.seat_guard.specs.declared.view.Leaving.{Leaving}
 use Rattle.seat_guard.specs.declared.view.View.{View}
 use Rattle.seat_guard.specs.Finds.{carried_by}
-use Rattle.seat_guard.specs.Generations.{IsOfSlot, names}
+use Rattle.seat_guard.specs.declared.view.SlotGeneration.{SlotGeneration}
+use Rattle.seat_guard.specs.Generations.{IsOfRow, IsOfSlot, names}
 use Rattle.seat_guard.specs.Journal.{Journal}
 use Rattle.seat_guard.specs.Layout.{Words}
-use Rattle.seat_guard.specs.Moves.{LeavesBoard, MayMove}
+use Rattle.seat_guard.specs.Moves.{HasGeneration, LeavesBoard, MayMove}
 use Rattle.seat_guard.specs.Phase.{Footing, footing_of, HasNoShare, Phase}
 use Rattle.seat_guard.specs.Rule.{AllBack, Ends, Parts, Tied, draws_in, footings_in, tallies_in}
 use Rattle.seat_guard.specs.Sifted.{ArePlaced, Gains, IsAtPlace, IsHadAt, IsPlaced, IsRaised, Loses, Sifts}
-use Rattle.seat_guard.specs.Tallies.{Counted, FitsBoard, HasRaised, Tally, cells_after, counts_after, gained, held_count, lost, row_count, rows_after, tally_after, tally_of}
+use Rattle.seat_guard.specs.Tallies.{Counted, FitsBoard, HasRaised, Tally, cells_after, counts_after, gained, held_count, lost, noted_of, one_if, row_count, rows_after, tally_after, tally_of}
 use Rattle.seat_guard.specs.Turn.{AreSized, IsKeptCell, IsSized, Serves, Turn}
 use Rattle.seat_guard.specs.Views.{cell_at, told_with, MayTell, sizes_for, viewed, blank, holding, letting_go, with_draws, noting}
 use Rattle.seat_guard.proofs.Bools.{by_bool}
@@ -44,6 +45,7 @@ use Rattle.seat_guard.proofs.HeldLists.{lost_same}
 use Rattle.seat_guard.proofs.Journals.{mine, one_holder, one_session, none_live, held_turn, takes_it, gives_it, draws_it, notes_it, turns, whole_of}
 use Rattle.seat_guard.proofs.Lists.{each_map, each_set}
 use Rattle.seat_guard.proofs.Moving.{gains_it, loses_it}
+use Rattle.seat_guard.proofs.NameSteps.{each_without}
 use Rattle.seat_guard.proofs.Sifting.{draws_sifted, steps_same}
 use Rattle.seat_guard.proofs.Tallying.{alone, draws_counts, taken-rows}
 use Rattle.seat_guard.proofs.Turns.{IsHolder, away_with, comes_home, draws_aside, draws_away, finds_it, sized_set, stays_so}
@@ -75,6 +77,26 @@ names_before v w x rows none_raised up k lt =
     by (Posts i held) lt c = omega (arith, lt)
     by (Adds row) lt c = omega (arith, c, lt)
     by (Takes name) lt c = let t = taken-rows k name v.draws.rows in omega (arith, lt, t)
+
+-- what is so of all that was noted, for the generation of a slot
+of_noted : (P : SlotGeneration → Type 0) (k g : ℕ) (xs : List SlotGeneration) → Each P xs → noted_of k xs ≡ std.Some g → P (record { slot = k; generation = g })
+of_noted P k g [] all is = absurd (let a : std.None ≡ std.Some g = is in cc)
+of_noted P k g (x ∷ xs) all is = by_bool (x.slot == k)
+    (λ same. let e : std.Some x.generation ≡ std.Some g = sym (ap (λ b. cond b (std.Some x.generation) (noted_of k xs)) same) ∙ is in
+    subst P (let s = eqb-true x.slot k same in let t : x.generation ≡ g = cc in λ i. record { slot = s i; generation = t i }) all.0)
+    (λ apart. of_noted P k g xs all.1 (sym (ap (λ b. cond b (std.Some x.generation) (noted_of k xs)) apart) ∙ is))
+
+-- the rows after a draw have their slots' generations
+aged_after : (count : ℕ → ℕ) (v : View) (change : Change) → HasRaised change v.draws.cells v.counts → HasGeneration change v.counts → Each (IsOfSlot count v) v.counts.generations → Each (IsOfRow count) v.draws.rows → Each (IsOfRow count) (rows_after change v.draws.rows)
+aged_after count v Nothing up aged noted all = all
+aged_after count v (Posts i held) up aged noted all = all
+aged_after count v (Adds row) up aged noted all = (
+  of_noted (IsOfSlot count v) row.held.edge.index row.generation v.counts.generations noted aged
+      (let a : held_count row.held.edge.index v.counts.raised ≡ held_count row.held.edge.index (row.held ∷ []) = ap (held_count row.held.edge.index) up.0 in
+      let b : one_if (row.held.edge.index == row.held.edge.index) ≡ 1 = ap one_if (eq-eqb row.held.edge.index row.held.edge.index refl) in omega (arith, a, b)),
+  all,
+)
+aged_after count v (Takes name) up aged noted all = each_without (IsOfRow count) name v.draws.rows all
 
 fits_cells : (change : Change) (cells other : List (std.Option Held)) → LeavesBoard change ⊎ (cells ≡ other) → FitsBoard change cells → FitsBoard change other
 fits_cells change cells other (inr same) fits = subst (FitsBoard change) same fits
@@ -145,9 +167,9 @@ module _ {S : Type 0} (keeps_it : S → Held → Type 0) (board : S → List (st
           → Journal new.journal new.turn (set ds id w.draws) r.start log table
           → TurnOf slots new.turn then (set ds id w.draws) (set ts id (tally_of w)) cells table (orders_from (opening_orders r.start) log)
           → Counted new.count cells (set ts id (tally_of w)) → Sifts r.start log (set vs id w) → Tied w
-          → ((k : ℕ) → generation_of (new.count k) ≡ generation_of (ws.count k)) → Each (IsOfSlot new.count w) w.counts.generations
+          → ((k : ℕ) → generation_of (new.count k) ≡ generation_of (ws.count k)) → Each (IsOfSlot new.count w) w.counts.generations → Each (IsOfRow ws.count) w.draws.rows
           → PartsOf slots new then (set vs id w)
-      changed new then log table cells w phase same sized journal turn counted sifts tied still right_now = record {
+      changed new then log table cells w phase same sized journal turn counted sifts tied still right_now aged = record {
         start = r.start;
         sessions = r.sessions;
         log = log;
@@ -159,6 +181,9 @@ module _ {S : Type 0} (keeps_it : S → Held → Type 0) (board : S → List (st
         sifts = sifts;
         generations = each_set (λ _ (u : View). Each (IsOfSlot new.count u) u.counts.generations) vs id w
             (λ i u apart there. each_map (IsOfSlot ws.count u) (IsOfSlot new.count u) (λ g right named_now. still g.slot ∙ right named_now) u.counts.generations (r.generations i u there)) right_now;
+        row_generations = each_set (λ _ (u : View). Each (IsOfRow new.count) u.draws.rows) vs id w
+            (λ i u apart there. each_map (IsOfRow ws.count) (IsOfRow new.count) (λ row right. still row.held.edge.index ∙ right) u.draws.rows (r.row_generations i u there))
+            (each_map (IsOfRow ws.count) (IsOfRow new.count) (λ row right. still row.held.edge.index ∙ right) w.draws.rows aged);
         sized = subst (AreSized slots r.sessions) (sym (map-set (λ (v : View). v.draws) vs id w)) (sized_set slots r.sessions ds id w.draws r.sized sized);
         sessions_are = same ∙ r.sessions_are;
         phase = subst (Phase new.phase) (sym (map-set footing_of vs id w)) phase;
@@ -185,6 +210,7 @@ module _ {S : Type 0} (keeps_it : S → Held → Type 0) (board : S → List (st
           (λ k. ap (λ (f : ℕ → ℕ). generation_of (f k)) count)
           (subst (λ (f : ℕ → ℕ). Each (IsOfSlot f w) v.counts.generations) (sym count)
           (each_map (IsOfSlot ws.count v) (IsOfSlot ws.count w) (λ g right named_now. right (subst (λ (t : Tally). 0 < row_count g.slot t.rows + held_count g.slot t.counts.raised) same_tally named_now)) v.counts.generations (r.generations id v at)))
+          (subst (λ (t : Tally). Each (IsOfRow ws.count) t.rows) (sym same_tally) (r.row_generations id v at))
 
       none_holds : ws.turn ≡ 0 → (i : ℕ) (f : Draws) → get_elem? ds i ≡ some f → f.holds ≡ true → ⊥
       none_holds free i f there held = let a = held_turn ws.journal ws.turn ds r.start r.log r.table j i f there held in omega (arith, a, free)
@@ -268,6 +294,7 @@ module _ {S : Type 0} (keeps_it : S → Held → Type 0) (board : S → List (st
               counted = r.counted;
               sifts = r.sifts;
               generations = r.generations;
+              row_generations = r.row_generations;
               sized = r.sized;
               sessions_are = r.sessions_are;
               phase = r.phase;
@@ -320,6 +347,7 @@ module _ {S : Type 0} (keeps_it : S → Held → Type 0) (board : S → List (st
           (record { unshared = t.unshared; unraised = λ dead. absurd (true≢false (sym live ∙ dead)); zeros = t.zeros; pins = t.pins })
           (λ k. refl)
           (each_map (IsOfSlot ws.count v) (IsOfSlot ws.count w) (λ g right named_now. right (names_before v w x refl refl moves.up.0 g.slot named_now)) v.counts.generations (r.generations id v at))
+          (aged_after ws.count v x.change moves.up moves.aged (r.generations id v at) (r.row_generations id v at))
 
       -- the orders are noted
       pub noted_now : d.holds ≡ true → PartsOf slots ws home (set vs id (with_draws v (noting d ws.journal)))

@@ -25,7 +25,7 @@ use Rattle.seat_guard.specs.declared.view.Draws.{Draws}
 use Rattle.seat_guard.specs.declared.view.View.{View}
 use Rattle.seat_guard.specs.Allots.{parts_of, sessions_of}
 use Rattle.seat_guard.specs.Finds.{carried_by}
-use Rattle.seat_guard.specs.Generations.{IsOfSlot}
+use Rattle.seat_guard.specs.Generations.{IsOfRow, IsOfSlot}
 use Rattle.seat_guard.specs.Journal.{ClosingFits, Fits, IsLeftRow, Journal}
 use Rattle.seat_guard.specs.Layout.{Words}
 use Rattle.seat_guard.specs.Notes.{AreNotedIn}
@@ -130,6 +130,7 @@ module _ {S : Type 0} (keeps_it : S → Held → Type 0) (board : S → List (st
                   (each_set (λ i (u : View). u.draws.live ≡ true → Each (OwesLast r.start r.log u.draws.session) u.counts.owed) vs id a (λ i u _ there. r.sifts.owes i u there) (λ l. absurd (true≢false (sym l ∙ fits.0)))) (λ l. tt);
             };
             generations = each_more (λ _ (u : View). Each (IsOfSlot ws.count u) u.counts.generations) (set vs id a) b (each_set (λ _ (u : View). Each (IsOfSlot ws.count u) u.counts.generations) vs id a (λ i u _ there. r.generations i u there) (r.generations id v at)) tt;
+            row_generations = each_more (λ _ (u : View). Each (IsOfRow ws.count) u.draws.rows) (set vs id a) b (each_set (λ _ (u : View). Each (IsOfRow ws.count) u.draws.rows) vs id a (λ i u _ there. r.row_generations i u there) (r.row_generations id v at)) tt;
             sized = subst (AreSized slots r.sessions) (sym views) (each_more (λ _ (e : Draws). IsSized slots r.sessions e) (set ds id (one_more d)) (session_of d)
                 (sized_set slots r.sessions ds id (one_more d) r.sized (r.sized id d here_is))
                 ((λ _. (r.sized id d here_is).1 is), (λ c. absurd (true≢false (sym c)))));
@@ -220,6 +221,9 @@ module _ {S : Type 0} (keeps_it : S → Held → Type 0) (board : S → List (st
             };
             generations = each_set (λ _ (u : View). Each (IsOfSlot ws.count u) u.counts.generations) (set vs id a) other (viewed blank)
                 (λ i u _ lies. each_set (λ _ (u : View). Each (IsOfSlot ws.count u) u.counts.generations) vs id a (λ i u _ there. r.generations i u there) tt i u lies) tt;
+            row_generations = each_set (λ _ (u : View). Each (IsOfRow ws.count) u.draws.rows) (set vs id a) other (viewed blank)
+                (λ i u _ lies. each_set (λ _ (u : View). Each (IsOfRow ws.count) u.draws.rows) vs id a (λ i u _ there. r.row_generations i u there)
+                (each_append (IsOfRow ws.count) d.rows e.rows (r.row_generations id v at) (r.row_generations other w at_other)) i u lies) tt;
             sized = subst (AreSized slots r.sessions) (sym views) (sized_set slots r.sessions (set ds id (with_gone d e)) other blank
                 (sized_set slots r.sessions ds id (with_gone d e) r.sized (r.sized id d here_is)) ((λ l. absurd (true≢false (sym l))), (λ c. absurd (true≢false (sym c)))));
             sessions_are = r.sessions_are;
@@ -290,6 +294,7 @@ module _ {S : Type 0} (keeps_it : S → Held → Type 0) (board : S → List (st
     counted = counted_one (board x) (tally_of (viewed d)) len (λ k. none_counted k (board x) (λ i. ap (λ (f : ℕ → std.Option Function). f i) empty)) few rows refl (let p = parts_are.0 in let s = parts_are.1 in omega (arith, p, s));
     sifts = record { carried = λ i e at. absurd (some-ne-none e (sym at)); noted = λ i u at l. absurd (true≢false (sym l ∙ only_view i u at (λ u. u.draws.live ≡ false) dead)); owes = λ i u at l. absurd (true≢false (sym l ∙ only_view i u at (λ u. u.draws.live ≡ false) dead)) };
     generations = λ i u at. only_view i u at (λ u. Each (IsOfSlot (λ k. 0) u) u.counts.generations) tt;
+    row_generations = λ i u at. only_view i u at (λ u. Each (IsOfRow (λ k. 0)) u.draws.rows) (subst (λ (l : List Row). Each (IsOfRow (λ k. 0)) l) (sym rows) tt);
     sized = λ j e at. only j e at (IsSized d.slots d.sessions) ((λ _. (refl, refl)), (λ _. (refl, refl)));
     sessions_are = refl;
     phase = phase_starts (footing_of (viewed d)) few no_share;

@@ -75,6 +75,10 @@ module _ {S : Type 0} where
       × (count_of n ≢ 0 → times k m.0.counts.pins ≢ 0 → IsRecounted m (found_at k (generation_of n) m.0.counts) m')
       × (count_of n ≢ 0 → times k m.0.counts.pins ≡ 0 → (held : HeldEdge) × (held.edge.index ≡ k) × (m.0.draws.holds ≡ true → Knows m.0 held) × IsRecounted m (found_above k (generation_of n) m.0.draws held m.0.counts) m')
 
+  -- each row of the seat that names the slot has the generation that is found
+  abbrev pub generation_read : Step S → Me S View → ℕ → Me S View → Type 0
+  generation_read st m n m' = (m' ≡ m) × ((i : ℕ) (row : Row) → get_elem? m.0.draws.rows i ≡ some row → st.word ≡ COUNTS + row.held.edge.index → generation_of n ≡ row.generation)
+
   -- the word that no step stores to
   abbrev pub sessions_read : Step S → Me S View → ℕ → Me S View → Type 0
   sessions_read st m n m' = (m' ≡ m) × (n ≡ m.0.draws.sessions)

@@ -21,7 +21,7 @@ use Rattle.seat_guard.specs.declared.view.Gone.{Gone}
 use Rattle.seat_guard.specs.declared.view.Draws.{Draws}
 use Rattle.seat_guard.specs.declared.view.View.{View}
 use Rattle.seat_guard.specs.Finds.{Finds}
-use Rattle.seat_guard.specs.Generations.{Generations}
+use Rattle.seat_guard.specs.Generations.{Generations, RowGenerations}
 use Rattle.seat_guard.specs.Notes.{AreNotedIn}
 use Rattle.seat_guard.specs.Sifted.{ArePlaced, IsHadAt, Sifts}
 use Rattle.seat_guard.specs.Tallies.{Counted, Tally, counts_after, tally_of, times}
@@ -88,6 +88,7 @@ module _ {S : Type 0} (keeps : S → Held → Type 0) (board : S → List (std.O
     pub counted : Counted ws.count cells (tallies_in vs)
     pub sifts : Sifts start log vs
     pub generations : Generations ws.count vs
+    pub row_generations : RowGenerations ws.count vs
     pub sized : AreSized slots sessions (draws_in vs)
     pub sessions_are : ws.sessions ≡ sessions
     pub phase : Phase ws.phase (footings_in vs)

@@ -147,6 +147,11 @@ abbrev pub retell : ℕ → ℕ → List SlotGeneration → List SlotGeneration
 retell k g [] = record { slot = k; generation = g } ∷ []
 retell k g (x ∷ xs) = if x.slot == k then retell k g xs else (x ∷ retell k g xs)
 
+-- what was noted of a slot's generation
+abbrev pub noted_of : ℕ → List SlotGeneration → std.Option ℕ
+noted_of k [] = std.None
+noted_of k (x ∷ xs) = if x.slot == k then std.Some x.generation else noted_of k xs
+
 -- the first of these that names the slot goes
 abbrev pub paid : ℕ → List Held → List Held
 paid k [] = []

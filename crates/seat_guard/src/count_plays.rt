@@ -52,6 +52,15 @@ impl<S> Play<Option<S>, View> for Unpin {
     ghost then = { unpinned };
 }
 
+/// The generation of a slot is read.
+pub struct ReadGeneration;
+
+impl<S> Play<Option<S>, View> for ReadGeneration {
+    ghost use Rattle.seat_guard.specs.CountPlays.{generation_read};
+
+    ghost then = { generation_read };
+}
+
 /// The number of sessions is read.
 pub struct ReadSessions;
 

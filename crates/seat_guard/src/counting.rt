@@ -1,7 +1,10 @@
 //! Steps on the count words, made on a pass, a share or a hold alike.
 ghost use Rattle.std.specs.Prelude.{◌≡◌, ◌≢◌, ℕ, ◌<◌, ◌+◌, ◌⊎◌, true, length};
 ghost use Rattle.edge_bits.specs.declared.limits.TheConstants.{MOST_ROWS};
+ghost use mathlib.Core.Option.{some};
+ghost use lib.ListN.{get_elem?};
 ghost use Rattle.seat_guard.specs.declared.view.Held.{Held};
+ghost use Rattle.seat_guard.specs.declared.view.Row.{Row};
 ghost use Rattle.seat_guard.specs.declared.view.Hold.TheVariants.{Holding};
 ghost use Rattle.seat_guard.specs.CountPlays.{MayRaise, Knows, NamesNone, found_above, found_zero};
 ghost use Rattle.seat_guard.specs.Passes.{counts_of, known, shares, IsPassOf};
@@ -9,7 +12,7 @@ ghost use Rattle.seat_guard.specs.Recounts.{IsAt, OnlyCounts};
 ghost use Rattle.seat_guard.specs.Tallies.{found_at, held_count, lowered_by, pinned_by, raised_by, times, unpinned_by};
 
 use crate::content::Content;
-use crate::count_plays::{CountDown, CountUp, LookAt, Pin, ReadSessions, Unpin};
+use crate::count_plays::{CountDown, CountUp, LookAt, Pin, ReadGeneration, ReadSessions, Unpin};
 use crate::layout::{COUNTS, SESSIONS};
 use crate::seat::{Guard, Pass};
 use crate::told::Raises;
@@ -89,6 +92,19 @@ impl<S: Content> Guard<S> {
         self.table
             .shared
             .fetch_sub::<Unpin>(&mut pass.seat, COUNTS + slot as usize, 1);
+    }
+
+    /// The generation of a slot: each row of the session that names the slot has it.
+    pub fn generation(&self, pass: &mut Pass<S>, slot: u32) -> u32
+        requires at { IsAt self.now pass.old slot }
+        ensures own { OnlyCounts self.now pass.old pass.new × (counts_of pass.new ≡ counts_of pass.old) }
+        ensures rows { (i : ℕ) (row : Row) → get_elem? (known pass.old).rows i ≡ some row → row.held.edge.index ≡ slot → result ≡ row.generation }
+    {
+        let word = self
+            .table
+            .shared
+            .load::<ReadGeneration>(&mut pass.seat, COUNTS + slot as usize);
+        (word / COUNT) as u32
     }
 
     /// The number of sessions that the table was made for.

@@ -16,4 +16,4 @@ may_sweep d = record {
 }
 
 pub may_move : (d : Draws) (c : Counts) → c.raised ≡ [] → c.owed ≡ [] → MayMove d c nothing_told
-may_move d c raised owed = record { up = (raised, owed, tt); quiet = tt; boardless = λ _. tt; fits = tt; carries = tt }
+may_move d c raised owed = record { up = (raised, owed, tt); aged = tt; quiet = tt; boardless = λ _. tt; fits = tt; carries = tt }

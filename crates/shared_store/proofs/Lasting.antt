@@ -1,5 +1,5 @@
 -- What all sessions hold lasts through a growing operation, and when counts change.
-use Rattle.std.proofs.Common.{◌≡◌, ◌⊎◌, inl, inr, ℕ, zero, suc, ◌+◌, length, ◌<◌, ◌≤◌, ◌==◌, List, [], ◌∷◌, map, Option, Some, None, refl, ap, ap₂, sym, subst, ◌∙◌, arith, eq-eqb}
+use Rattle.std.proofs.Common.{◌≡◌, ◌⊎◌, inl, inr, ℕ, zero, suc, ◌+◌, ◌<◌, ◌≤◌, ◌==◌, List, [], ◌∷◌, map, Option, Some, None, refl, ap, ap₂, sym, subst, ◌∙◌, arith, eq-eqb}
 use Rattle.edge_bits.specs.declared.edges.Kind.{Kind}
 use Rattle.function_laws.specs.declared.history.Function.{Function}
 use Rattle.function_laws.specs.SessionEntries.{Each}
@@ -21,7 +21,6 @@ use Rattle.function_laws.specs.Kinds.{Denoted, function_of}
 use Rattle.node_store.specs.KindLaws.{flipped-some}
 use Rattle.node_slots.specs.Stores.{IsStore}
 use Rattle.shared_store.specs.Counted.{AreRead, IsFound, IsUncounted}
-use Rattle.shared_store.proofs.Stored.{used_within}
 use Rattle.shared_store.proofs.Keeping.{IsHeldIn-same, IsSameAt-grown, kind-listed, listed-noted}
 
 one_same : (k : ℕ) → one_if (k == k) ≡ 1

@@ -1,5 +1,5 @@
 -- A count word that was written changes nothing else.
-use Rattle.std.proofs.Common.{◌≡◌, ℕ, ◌≤◌, length, set, refl, ap, sym, subst, ◌∙◌}
+use Rattle.std.proofs.Common.{◌≡◌, ℕ, set, refl, ap, sym, subst, ◌∙◌}
 use Rattle.std.proofs.lemmas.List.{get_or-set_other}
 use mathlib.Core.Logic.{dite}
 use native.Mathlib.Decide.{ℕ_discrete}
@@ -7,11 +7,7 @@ use Rattle.handle_count.specs.CountWords.{generation_of}
 use Rattle.node_slots.specs.Stores.{Plain, count_at, generation_at, plain_view}
 use Rattle.shared_store.specs.declared.shared.Shared.{Shared}
 use Rattle.shared_store.specs.Sharing.{count, generation, view_of}
-use Rattle.std.proofs.lemmas.List.{get_or_past}
-use Rattle.edge_bits.specs.Words.{unpack_of}
-use Rattle.node_store.specs.Contents.{IsSound}
 use Rattle.node_store.specs.Views.{View}
-use Rattle.node_slots.specs.Wholes.{content_view}
 use Rattle.shared_store.specs.Lasting.{IsRecounted}
 
 pub recounted : (x y : Shared) (s word : ℕ) → y.store ≡ record x.store { counts = set x.store.counts s word } → generation_at y.store s ≡ generation_at x.store s → y.cells.items ≡ x.cells.items → IsRecounted x y

@@ -72,7 +72,7 @@ finish-place-requires-clause-moves g c =
     let s = c.take-shared.ensures.stands.1 in
     let many : length e.cells ≡ 256 = ap (λ (z : Draws). length z.cells) t.is ∙ t.many in
     subst (λ (z : Draws × Held). MayMove z.0 (counts_of c.raise.new.pass) (record { call = calls.Post i c.args.h; reply = replies.Done; change = Posts i z.1 })) (λ j. (sym c.raise.ensures.own.1 j, sym held j))
-    (moves_posted e (counts_of c.take-shared.new.pass) (counts_of c.raise.new.pass) c.raise.ensures.raised.0 i (held_of (view_of x) new) c.args.h (subst IsSettled (sym s) c.requires.idle.4.0) (ap (λ (z : Counts). z.zeros) s ∙ c.requires.idle.4.1) c.raise.ensures.raised.1
+    (moves_posted e (counts_of c.take-shared.new.pass) (counts_of c.raise.new.pass) c.raise.result i (held_of (view_of x) new) c.args.h (subst IsSettled (sym s) c.requires.idle.4.0) (ap (λ (z : Counts). z.zeros) s ∙ c.requires.idle.4.1) c.raise.ensures.raised
     (ap (λ (z : Draws). z.holds) t.is) (let a = c.from-number.ensures in let f = c.ranges.cell.fits in omega (arith, a, f, many)))
 
 pub finish-place-requires-clause-serves : goal.finish-place-requires-clause-serves
@@ -89,7 +89,7 @@ finish-place-requires-clause-serves g c =
     let is = is_kind d e x t c.requires.idle.2 live.0 c.kind_at-kind.result c.args.h c.edge_at-edge.result (c.kind_at-kind.ensures live.0 live.1) (c.edge_at-edge.ensures.edge live.0 live.1) in
     subst (λ (z : Draws). Serving y (told_of z 0 (record { call = calls.Post i c.args.h; reply = replies.Done; change = Posts i (held_of (view_of y) new) })) (counts_after (Posts i (held_of (view_of y) new)) z.cells z.rows (counts_of c.raise.new.pass))) (sym c.raise.ensures.own.1)
     (serves-posted x y c.set_cell.ensures.store e _ (counts_of c.take-shared.new.pass) _ i new c.take-shared.ensures.took.2 (knows_posted e (view_of y) i c.args.h new) (row-kept x new is)
-    (c.set_cell.ensures.cells ∙ ap (λ (n : ℕ). set x.cells.items n (Some new)) (sym c.from-number.ensures)) refl refl (ap (λ (z : Counts). z.zeros) c.raise.ensures.raised.1))
+    (c.set_cell.ensures.cells ∙ ap (λ (n : ℕ). set x.cells.items n (Some new)) (sym c.from-number.ensures)) refl refl (ap (λ (z : Counts). z.zeros) c.raise.ensures.raised))
 
 pub pay-requires-clause-within : goal.pay-requires-clause-within
 pay-requires-clause-within g c = λ cell is.
@@ -126,7 +126,7 @@ returns-clause-idle g c =
     let own = c.pay.ensures.own in
     let paid = c.pay.ensures.paid in
     let moved = c.finish-place.ensures.moved in
-    let raised = c.raise.ensures.raised.1 in
+    let raised = c.raise.ensures.raised in
     let s = c.take-shared.ensures.stands.1 in (
       own.0,
       ap (λ (z : Draws). z.live) own.1 ∙ ap (λ (z : Draws). z.live) left ∙ ap (λ (z : Draws). z.live) c.raise.ensures.own.1 ∙ ap (λ (z : Draws). z.live) t.is ∙ c.requires.idle.1,

@@ -28,4 +28,4 @@ count_up-requires-clause-room g c =
     let r = c.requires.place.0 in omega (arith, a, b, r)
 
 pub returns-clause-raised : goal.returns-clause-raised
-returns-clause-raised g c = (c.count_up.result, c.count_up.ensures.raised ∙ ap (λ (h : Held). raised_by h c.count_up.result (counts_of c.args.pass.now)) c.requires.held)
+returns-clause-raised g c = c.count_up.ensures.raised ∙ ap (λ (h : Held). raised_by h c.count_up.result (counts_of c.args.pass.now)) c.requires.held

@@ -1,4 +1,4 @@
-use Rattle.std.proofs.Common.{◌≡◌, ℕ, ◌<◌, ◌≤◌, length}
+use Rattle.std.proofs.Common.{◌≡◌, ℕ, ◌<◌, ◌≤◌}
 use Rattle.shared_store.specs.Lasting.{IsRecounted}
 use Rattle.shared_store.specs.Sharing.{count}
 use Rattle.shared_store.proofs.shared.Shared.let_all_go.Given as goal
