@@ -1,8 +1,8 @@
 """Plays jobs of 64 sections with every kind of call, and judges each history.
 
-usage: paced.py PACED_RUNS PROGRAM [RUNS]
+usage: paced.py PACED_RUNS PROGRAM [RUNS [copies]]
 
-Each job is made by a seed, which is printed where something is wrong. Some have so few slots that operations and swaps are refused. Three of four are
+With `copies` it is one job, whose sections copy a row, drop it and compare the copy. Else each job is made by a seed, which is printed where something is wrong. Some have so few slots that operations and swaps are refused. Three of four are
 played by PACED_RUNS, at whose gate each thread goes on, yields or sleeps by the seed, and the others by PROGRAM without a gate; both on one, on two or
 on all processors. Each run has 60 seconds.
 """
@@ -102,6 +102,22 @@ def job_of(seed):
     return "\n".join(lines) + "\n"
 
 
+def copies():
+    """The job of sections that only wait to make their first row."""
+    return "\n".join(["vars 1"] + ["session", "a = var 0", "b = copy a", "drop a", "same b b"] * SECTIONS) + "\n"
+
+
+def judge_copies(history):
+    """A legal history of `copies` is as long as this, and each comparison says yes."""
+    judge(copies(), history)
+    lines = history.split("\n")
+    calls, places = lines[:-2], [int(line.split()[0]) for line in lines[:-2]]
+    if places != list(range(5 * SECTIONS)) or lines[-2:] != ["left 6", ""]:
+        raise Illegal(f"{len(calls)} lines, {lines[-2]!r} at the end")
+    if sum(call.endswith(" same b b -> yes") for call in calls) != SECTIONS:
+        raise Illegal("a comparison does not say yes")
+
+
 def played(paced, program, seed, job):
     """The history of one run."""
     words = [paced, str(seed)] if seed % 4 else [program, "play"]
@@ -112,13 +128,16 @@ def played(paced, program, seed, job):
     return run.stdout.decode()
 
 
-def main(paced, program, runs="1000"):
+def main(paced, program, runs="1000", kind=""):
     faults, said = 0, Counter()
     for seed in range(int(runs)):
-        job = job_of(seed)
+        job = copies() if kind == "copies" else job_of(seed)
         try:
             history = played(paced, program, seed, job)
-            judge(job, history)
+            if kind == "copies":
+                judge_copies(history)
+            else:
+                judge(job, history)
         except (Illegal, subprocess.TimeoutExpired) as fault:
             print(f"NO LEGAL HISTORY of seed {seed}: {fault}")
             faults += 1

@@ -2,7 +2,7 @@
 
 usage: sessions.py PROGRAM EXAMPLE..
 
-Each example is played some times, and so is a job of 64 sections with 200 calls each. A comment behind `eval`, `same` or `leq` begins
+Each example is played some times, and so are a job of 64 sections with 200 calls each and one whose sections copy a row, drop it and compare the copy. A comment behind `eval`, `same` or `leq` begins
 with the reply that is due, and one behind an assignment may begin with `overflow` or `full`. Then come jobs of four sections of which two
 exchange levels of both orders and sift them all the time, some of them with so few slots that a swap may be refused, jobs in whose full table a dropped
 number makes room for the last one that is made, and two long jobs of one section: one that makes more dead nodes than there are slots, and
@@ -13,6 +13,7 @@ import subprocess
 import sys
 
 from legal import Illegal, judge
+from paced import copies, judge_copies
 
 RUNS = 100
 SWAP_JOBS = 100
@@ -183,6 +184,12 @@ def main(program, *examples):
                 print(f"NO LEGAL HISTORY of {name}: {fault}")
                 faults += 1
                 break
+    try:
+        for _ in range(RUNS):
+            judge_copies(played(program, copies()))
+    except Illegal as fault:
+        print(f"NO LEGAL HISTORY of copies: {fault}")
+        faults += 1
     for word in ROOMS:
         fault = makes_room(program, word)
         if fault:
@@ -193,7 +200,7 @@ def main(program, *examples):
         if evals(history) != due or " -> full" in history:
             print(f"NOT AS DUE {name}: {evals(history)}, due {due}")
             faults += 1
-    print(f"{len(examples)} examples, {RUNS} runs of 64 sessions, {SWAP_JOBS} jobs with swaps, {len(ROOMS)} full tables and 2 long jobs: {faults} faults")
+    print(f"{len(examples)} examples, 2 jobs of 64 sessions {RUNS} times each, {SWAP_JOBS} jobs with swaps, {len(ROOMS)} full tables and 2 long jobs: {faults} faults")
     return faults > 0
 
 
