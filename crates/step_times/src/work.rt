@@ -4,7 +4,7 @@ ghost use Rattle.std.specs.Prelude.{◌≡◌, ◌+◌, ◌*◌, ◌<◌, ◌≤
 ghost use Rattle.edge_bits.specs.declared.edges.Kind.TheVariants.{Bdd};
 ghost use Rattle.node_store.specs.Views.{Grown, Is};
 
-use edge_bits::Edge;
+use edge_bits::{Edge, Kind, MOST_VARIABLES};
 use ite_core::{and, or};
 use node_store::{Grow, Stop};
 use step_store::Home;
@@ -20,11 +20,23 @@ impl Home<bool> for Here {
     ghost rest = { false };
 }
 
-/// Whether the function of pairs was made, and how many leaves were there at the last round.
+/// What is asked of a store: a function of so many pairs of variables, so many leaves, and so many nodes over so many levels, which lie evenly among
+/// all. Leaves and nodes are asked for in so many rounds.
+#[derive(Clone, Copy, Drop)]
+pub struct Tasks {
+    pub pairs: u32,
+    pub leaves: u32,
+    pub levels: u32,
+    pub nodes: u32,
+    pub rounds: u32,
+}
+
+/// Whether the function of pairs was made, and how many leaves and nodes were there at the last round.
 #[derive(Clone, Copy, Drop)]
 pub struct Done {
     pub pairs: bool,
     pub leaves: u32,
+    pub nodes: u32,
 }
 
 /// The conjunction of two variables.
@@ -52,7 +64,7 @@ fn with_pair<G: Grow>(store: &mut G, f: Edge, x: u32, y: u32) -> Result<Edge, St
 /// The function x0 xK + x1 x(K+1) + ..
 fn function_of_pairs<G: Grow>(store: &mut G, pairs: u32) -> Result<Edge, Stop>
     requires few { pairs ≤ 16 }
-    requires vars { (G.view store.old).vars ≡ 2 * pairs }
+    requires vars { 2 * pairs ≤ (G.view store.old).vars }
     requires some { 0 < pairs }
 {
     let mut sum = both(store, 0, pairs)?;
@@ -73,18 +85,49 @@ fn leaves_there<G: Grow>(store: &mut G, leaves: u32) -> u32 {
     there
 }
 
-/// Makes the function of pairs, if there are any, and asks for the leaves.
-pub fn work<G: Grow>(store: &mut G, pairs: u32, leaves: u32, rounds: u32) -> Done
-    requires few { pairs ≤ 16 }
-    requires vars { (G.view store.old).vars ≡ 2 * pairs }
+/// A node of numbers with two leaves.
+fn node_of<G: Grow>(store: &mut G, var: u32, x: u32, y: u32) -> Result<Edge, Stop>
+    requires var { (var < (G.view store.old).vars) × (var < 1024) }
+    ensures vars { (G.view store.new).vars ≡ (G.view store.old).vars }
 {
-    let made = pairs > 0 && function_of_pairs(store, pairs).is_ok();
+    let hi = store.leaf(i64::from(x))?;
+    let lo = store.leaf(i64::from(y))?;
+    store.make(var, hi, lo)
+}
+
+/// How many nodes at so many variables are there, or had room. The variables lie evenly among all.
+fn nodes_there<G: Grow>(store: &mut G, levels: u32, nodes: u32) -> u32 {
+    let vars = store.levels(Kind::Add);
+    if levels == 0 || levels > vars || vars > MOST_VARIABLES {
+        return 0;
+    }
+    let stride = vars / levels;
     let mut there = 0;
-    for _ in 0..rounds {
-        there = leaves_there(store, leaves);
+    for i in 0..nodes {
+        let var = i % levels * stride;
+        let leaves = i / levels;
+        if var < vars && node_of(store, var, leaves % 512, 512 + leaves / 512).is_ok() {
+            there += 1;
+        }
+    }
+    there
+}
+
+/// Makes the function of pairs, if there are any, and asks for the leaves and the nodes.
+pub fn work<G: Grow>(store: &mut G, asked: Tasks) -> Done
+    requires few { asked.pairs ≤ 16 }
+    requires vars { 2 * asked.pairs ≤ (G.view store.old).vars }
+{
+    let pairs = asked.pairs > 0 && function_of_pairs(store, asked.pairs).is_ok();
+    let mut leaves = 0;
+    let mut nodes = 0;
+    for _ in 0..asked.rounds {
+        leaves = leaves_there(store, asked.leaves);
+        nodes = nodes_there(store, asked.levels, asked.nodes);
     }
     Done {
-        pairs: made,
-        leaves: there,
+        pairs,
+        leaves,
+        nodes,
     }
 }
