@@ -1,0 +1,138 @@
+-- The store of a node or a leaf that also notes its word and what it denotes; the step of a head by what is noted.
+use Rattle.std.proofs.Common.{◌≡◌, ◌≢◌, ℕ, suc, ◌<◌, ◌==◌, true, false, List, ◌∷◌, set, refl, ap, sym, subst, ◌∙◌}
+use Rattle.std.specs.Prelude as std
+use Rattle.std.specs.Prelude.{Some, None}
+use mathlib.Core.Logic.{dite}
+use mathlib.Core.Option.{Option, none, some, some-injective}
+use native.Mathlib.Decide.{ℕ_discrete}
+use lib.ListN.{get_elem?}
+use prog.Atomic.{either}
+use Rattle.atomic_table.specs.Table.{State, Me, Step, step, keeps, Allows}
+use Rattle.atomic_table.proofs.Lists.{set_else}
+use Rattle.edge_bits.specs.Words.{unpack_of}
+use Rattle.function_laws.specs.declared.history.Function.{Function}
+use Rattle.function_laws.specs.Kinds.{Denoted}
+use Rattle.function_laws.specs.SessionEntries.{Each}
+use Rattle.function_laws.specs.EntryOrders.{opening_orders, orders_from}
+use Rattle.node_store.specs.Changes.{put_at}
+use Rattle.node_store.proofs.Rewriting.{put_at-same}
+use Rattle.words_rule.specs.Ordered.{KnowsOrders}
+use Rattle.words_rule.specs.declared.view.Held.{Held}
+use Rattle.words_rule.specs.declared.view.SeenWord.{SeenWord}
+use Rattle.words_rule.specs.declared.view.Hold.TheVariants.{Holding}
+use Rattle.words_rule.specs.declared.view.Job.{Job}
+use Rattle.words_rule.specs.declared.view.View.{View}
+use Rattle.words_rule.specs.Views.{sizes_for, orders_of, told_orders}
+use Rattle.words_rule.specs.Shapes.{shape_in}
+use Rattle.words_rule.specs.Layout.{Shape, Words, words_of, node_at, head_at, head_of, content_of}
+use Rattle.words_rule.specs.Kept.{IsHeldBy, whole_of}
+use Rattle.words_rule.specs.Dues.{slot_of, word_of, job_function}
+use Rattle.words_rule.specs.Hands.{storing}
+use Rattle.words_rule.specs.Plays.{pushed}
+use Rattle.words_rule.specs.Seen.{HasShare, StandsSo}
+use Rattle.words_rule.specs.Rule.{Parts, Rule}
+use Rattle.words_rule.proofs.Layouts.{set_node}
+use Rattle.words_rule.proofs.Lists.{each_set, each_at, set_at}
+use Rattle.words_rule.proofs.Jobs.{function_here}
+use Rattle.words_rule.proofs.Handling.{never as no_some}
+use Rattle.words_rule.proofs.Draws.{by_full, by_pending}
+use Rattle.words_rule.proofs.Handed.{handed, parts_store, stored_function}
+use Rattle.words_rule.proofs.Rewrites.{parts_known}
+use Rattle.words_rule.proofs.Stepping.{shape_is}
+use Rattle.words_rule.proofs.Tabling.{set_set, after_word, pushes_slot, pushed_it}
+
+-- a view with a word and a function more
+abbrev pub noting_slot : View → SeenWord → Held → View
+noting_slot v note held = record v { known = record v.known { words = note ∷ v.known.words; seen = held ∷ v.known.seen } }
+
+abbrev pub edge_at : ℕ → Function → Held
+edge_at s f = record { edge = record { index = s; complement = false }; function = f }
+
+module _ {S : Type 0} (board : S → List (std.Option Held)) (free_slots : S → List ℕ) where
+  abbrev PartsOf : Shape → Words → (ℕ → Option (Option (std.Option S))) → List View → Type 0
+  PartsOf = Parts board free_slots
+
+  abbrev TheRule : State (std.Option S) View → Type 0
+  TheRule = Rule board free_slots
+
+  abbrev Sat : Type 0
+  Sat = Me (std.Option S) View
+
+  module _ (z : Shape) (ws : Words) (home : ℕ → Option (Option (std.Option S))) (vs : List View) (r : PartsOf z ws home vs) (id : ℕ) (v : View) (at : get_elem? vs id ≡ some v) where
+    -- a seat notes of a slot what is true
+    unfoldable pub parts_notes : (note : SeenWord) (held : Held) → StandsSo ws.node v note → IsHeldBy z r.function held → PartsOf z ws home (set vs id (noting_slot v note held))
+    parts_notes note held stands is_held =
+        let w : View = noting_slot v note held in
+        parts_known board free_slots z ws home vs r id v at w.known ws.order r.orders r.pending r.half r.sound r.tables r.positions
+        (record {
+          settled = λ nobody. r.ordered.settled (λ i u there holding. dite (ℕ_discrete i id)
+              (λ same. nobody id w (set_at vs id v w at) (ap (λ (y : View). y.shares.order) (some-injective v u (sym at ∙ (ap (λ j. get_elem? vs j) (sym same) ∙ there))) ∙ holding))
+              (λ apart. nobody i u (set_else vs id i w apart ∙ there) holding));
+          shared = each_set (λ _ (y : View). KnowsOrders r.orders y) vs id w (λ i y apart there. r.ordered.shared i y there) (r.ordered.shared id v at);
+          held = each_set (λ i (u : View). u.shares.order ≡ Holding → (orders_of u.known ≡ r.orders) × (told_orders u.known ≡ orders_from (opening_orders (sizes_for z.variables z.elements)) r.log)) vs id w
+              (λ i u apart there. r.ordered.held i u there) (r.ordered.held id v at);
+        })
+        (by_full (r.half ≡ None) vs id v w at refl r.half_by) (by_pending r.pending vs id v w at refl refl r.pending_by)
+        (record { words = λ has. (stands, (r.seen id v at).words has); held = λ has. (is_held, (r.seen id v at).held has) })
+
+  module _ (z : Shape) (ws : Words) (home : ℕ → Option (Option (std.Option S))) (vs : List View) (r : PartsOf z ws home vs) (id : ℕ) (v : View) (at : get_elem? vs id ≡ some v) where
+    pub notes_orders : (note : SeenWord) (held : Held) (stands : StandsSo ws.node v note) (is_held : IsHeldBy z r.function held) → (parts_notes z ws home vs r id v at note held stands is_held).orders ≡ r.orders
+    unfolding parts_notes parts_known
+    notes_orders note held stands is_held = refl
+
+    pub notes_function : (note : SeenWord) (held : Held) (stands : StandsSo ws.node v note) (is_held : IsHeldBy z r.function held) → (parts_notes z ws home vs r id v at note held stands is_held).function ≡ r.function
+    unfolding parts_notes parts_known
+    notes_function note held stands is_held = refl
+
+  module _ (z : Shape) (ws : Words) (home : ℕ → Option (Option (std.Option S))) (vs : List View) (r : PartsOf z ws home vs) (id : ℕ) (v : View) (at : get_elem? vs id ≡ some v) where
+    -- what is due is stored, and noted
+    pub parts_stored : (job : Job) (bits : ℕ) → bits < 18446744073709551616 → v.hand.taken ≡ Some job → v.hand.loose ≡ None → Each (λ (note : SeenWord). note.slot ≢ slot_of job) v.known.words → unpack_of bits ≡ Some (word_of job)
+        → (f : Function) → whole_of z (job_function (content_of z ws.node r.orders r.function r.half) job) ≡ f
+        → PartsOf z (record ws { node = put_at ws.node (slot_of job) bits }) home (set vs id (noting_slot (handed v (storing job v.hand)) (record { slot = slot_of job; bits = bits }) (edge_at (slot_of job) f)))
+    parts_stored job bits small is none_loose unnoted reads f told =
+        let w1 : View = handed v (storing job v.hand) in
+        let note : SeenWord = record { slot = slot_of job; bits = bits } in
+        let ws1 : Words = record ws { node = put_at ws.node (slot_of job) bits } in
+        let r1 : PartsOf z ws1 home (set vs id w1) = parts_store board free_slots z ws home vs r id v at job bits small is none_loose unnoted reads in
+        subst (λ (l : List View). PartsOf z ws1 home l) (set_set vs id w1 (noting_slot w1 note (edge_at (slot_of job) f)))
+        (parts_notes z ws1 home (set vs id w1) r1 id w1 (set_at vs id v w1 at) note (edge_at (slot_of job) f) (put_at-same ws.node (slot_of job) bits, λ free. absurd (no_some (word_of job) (sym free ∙ reads)))
+        (job_function (content_of z ws.node r.orders r.function r.half) job, ap (λ (g : ℕ → std.Option Denoted). g (slot_of job)) (stored_function board free_slots z ws home vs r id v at job bits small is none_loose unnoted reads) ∙ function_here (content_of z ws.node r.orders r.function r.half) job, told))
+
+  abbrev pub stored_so : Job → ℕ → Function → Step (std.Option S) → Sat → ℕ → Sat → Type 0
+  stored_so job bits f st m n m' = m' ≡ (noting_slot (handed m.0 (storing job m.0.hand)) (record { slot = slot_of job; bits = bits }) (edge_at (slot_of job) f), m.1)
+
+  -- The store of a new node or leaf: its word is noted, and what it denotes.
+  pub stores_job : (slots id : ℕ) (me : Sat) (job : Job) (bits : ℕ) (f : Function) → bits < 18446744073709551616 → me.0.draws.live ≡ true → me.0.hand.taken ≡ Some job → me.0.hand.loose ≡ None → slot_of job < me.0.draws.slots
+      → Each (λ (note : SeenWord). note.slot ≢ slot_of job) me.0.known.words → unpack_of bits ≡ Some (word_of job)
+      → ((s : State (std.Option S) View) (r : TheRule s) → get_elem? s.views id ≡ some me.0 → whole_of r.shape (job_function (content_of r.shape (words_of r.shape s.words).node r.parts.orders r.parts.function r.parts.half) job) ≡ f)
+      → Allows TheRule slots id me (node_at (shape_in me.0.draws) (slot_of job)) (λ _. bits) (stored_so job bits f (step slots (node_at (shape_in me.0.draws) (slot_of job)) bits 0 none) me)
+  stores_job slots id me job bits f fits live taken none_loose inside unnoted reads told s r long at small =
+      let v = me.0 in
+      let z = r.shape in
+      let p = r.parts in
+      let home = λ (k : ℕ). get_elem? s.homes k in
+      let ws = words_of z s.words in
+      let shape = shape_is board free_slots z ws home s.views p id v at live in
+      let below : slot_of job < z.slots = subst (λ (y : Shape). slot_of job < y.slots) (sym shape) inside in
+      let w : View = noting_slot (handed v (storing job v.hand)) (record { slot = slot_of job; bits = bits }) (edge_at (slot_of job) f) in (
+        w,
+        keeps,
+        tt,
+        subst (λ (i : ℕ). TheRule (record { words = set s.words i bits; homes = s.homes; views = set s.views id w })) (ap (λ (y : Shape). node_at y (slot_of job)) shape)
+            (after_word board free_slots s r (node_at z (slot_of job)) bits (set s.views id w) s.homes (record ws { node = put_at ws.node (slot_of job) bits }) refl (set_node z s.words bits (slot_of job) below r.wide)
+            (parts_stored z ws home s.views p id v at job bits fits taken none_loose unnoted reads f (told s r at))),
+        refl,
+      )
+
+  -- The step of a head, where the seat has noted the word of its slot under its share or hold.
+  pub pushes_noted : (slots id : ℕ) (me : Sat) (q link bits k : ℕ) → me.0.draws.live ≡ true → me.0.hand.loose ≡ Some q → me.0.hand.link ≡ Some (record { slot = q; link = link }) → HasShare me.0 → get_elem? me.0.known.words k ≡ some (record { slot = q; bits = bits })
+      → Allows TheRule slots id me (head_at (shape_in me.0.draws) (head_of (shape_in me.0.draws) bits)) (λ n. either (n == link) (suc q) n)
+      (pushed_it board free_slots link (step slots (head_at (shape_in me.0.draws) (head_of (shape_in me.0.draws) bits)) link (suc q) none) me)
+  pushes_noted slots id me q link bits k live loose linked share noted = pushes_slot board free_slots slots id me q link bits live loose linked
+      (λ s r at. (each_at (StandsSo (words_of r.shape s.words).node me.0) me.0.known.words k (record { slot = q; bits = bits }) ((r.parts.seen id me.0 at).words share) noted).0)
+
+  -- the same, with the word's index and the new head as the code has them
+  pub pushes_here : (slots id : ℕ) (me : Sat) (q link bits k word new : ℕ) → word ≡ head_at (shape_in me.0.draws) (head_of (shape_in me.0.draws) bits) → new ≡ suc q → me.0.draws.live ≡ true → me.0.hand.loose ≡ Some q → me.0.hand.link ≡ Some (record { slot = q; link = link }) → HasShare me.0
+      → get_elem? me.0.known.words k ≡ some (record { slot = q; bits = bits }) → Allows TheRule slots id me word (λ n. either (n == link) new n) (pushed (step slots word link new none) me)
+  pushes_here slots id me q link bits k word new at behind live loose linked share noted =
+      subst (λ (y : ℕ × ℕ). Allows TheRule slots id me y.0 (λ n. either (n == link) y.1 n) (pushed (step slots y.0 link y.1 none) me)) (λ i. (sym at i, sym behind i)) (pushes_noted slots id me q link bits k live loose linked share noted)
