@@ -20,8 +20,9 @@ use Rattle.words_rule.specs.declared.view.View.{View}
 use Rattle.words_rule.specs.Shapes.{shape_in}
 use Rattle.words_rule.specs.Layout.{Shape, heads, words_of, turn_at, next_at, head_at}
 use Rattle.words_rule.specs.Chains.{Along, Once}
-use Rattle.words_rule.specs.Hands.{Stands, Owns, without_level}
+use Rattle.words_rule.specs.Hands.{HasLevel, Stands, Owns, without_level}
 use Rattle.words_rule.specs.Rule.{Rule, hands_in}
+use Rattle.words_rule.specs.Plays.{HasLoaded, LeadsOn}
 use Rattle.words_rule.specs.Known.{Own, noted_bits, taken_of, link_of, known_of}
 use Rattle.words_rule.proofs.Layouts.{here_head, here_next}
 use Rattle.words_rule.proofs.Linking.{next_is}
@@ -151,9 +152,8 @@ module _ {S : Type 0} (board : S → List (std.Option Held)) (free_slots : S →
       (y.0, y.1, y.2, y.3, (ap (λ (y : Sat). known_of y.0 o) told, ap (λ (y : Sat). y.1) told))
 
   -- load_head
-  abbrev pub LoadedHead : Own → ℕ → ℕ → Sat → ℕ → Sat → Type 0
-  LoadedHead o head level m n m' = (chain : List ℕ) × (known_of m'.0 o ≡ knowing.handed (known_of m.0 o) (record (known_of m.0 o).hand { walk = Some (record { head = head; level = level; rest = chain }) }))
-      × (n ≡ steps.link_to chain) × IsChain (known_of m.0 o).view.slots chain × (m'.1 ≡ m.1)
+  abbrev pub LoadedHead : ℕ → ℕ → Sat → ℕ → Sat → Type 0
+  LoadedHead = HasLoaded {S = std.Option S}
 
   first : (next : ℕ → ℕ) (link : ℕ) (ss : List ℕ) → Along next link ss → link ≡ steps.link_to ss
   first next link [] a = a
@@ -163,9 +163,9 @@ module _ {S : Type 0} (board : S → List (std.Option Held)) (free_slots : S →
   once_on [] h = h
   once_on (x ∷ xs) h = ((λ again. h.0 (lists_back xs x again)), once_on xs h.1)
 
-  pub step_load_head : (slots id : ℕ) (me : Sat) (o : Own) (head level : ℕ) → me.0.draws.live ≡ true → me.0.shares.op ≡ shares.Held → knowing.HasLevel (known_of me.0 o).hand level → head < (known_of me.0 o).heads
-      → Allows TheRule slots id me (head_at (shape_in me.0.draws) head) (λ n. n) (LoadedHead o head level me)
-  step_load_head slots id me o head level live share has inside s r long at small =
+  pub step_load_head : (slots id : ℕ) (me : Sat) (head level : ℕ) → me.0.draws.live ≡ true → me.0.shares.op ≡ shares.Held → HasLevel me.0.hand level → head < heads (shape_in me.0.draws)
+      → Allows TheRule slots id me (head_at (shape_in me.0.draws) head) (λ n. n) (LoadedHead head level me)
+  step_load_head slots id me head level live share has inside s r long at small =
       let v = me.0 in
       let z = r.shape in
       let p = r.parts in
@@ -187,14 +187,13 @@ module _ {S : Type 0} (board : S → List (std.Option Held)) (free_slots : S →
           shape = z;
           wide = r.wide;
           long = r.long;
-          parts = parts_walk board free_slots z ws home s.views p id v at walk (inl share) live (stands_at v.hand.levels level has) below (sym head_is) refl (λ is. absurd (false_true is));
+          parts = parts_walk board free_slots z ws home s.views p id v at walk (inl share) live has below (sym head_is) refl (λ is. absurd (false_true is));
         }),
         (
           p.chain head,
           refl,
           sym head_is ∙ first ws.next (ws.head head) (p.chain head) (p.linked.chains.along head below),
           record { each = each; few = once_short (p.chain head) v.draws.slots (once_on (p.chain head) (p.linked.chains.once head below)) (λ q there. (each q there).1) },
-          refl,
         ),
       )
     where
@@ -202,12 +201,12 @@ module _ {S : Type 0} (board : S → List (std.Option Held)) (free_slots : S →
       false_true e = cc
 
   -- load_next
-  abbrev pub LoadedNext : Own → ℕ → Sat → ℕ → Sat → Type 0
-  LoadedNext o q m n m' = (m' ≡ m) × ((k : knowing.Walk) (front behind : List ℕ) → (known_of m.0 o).hand.walk ≡ Some k → k.rest ≡ front ++ q ∷ behind → n ≡ steps.link_to behind)
+  abbrev pub LoadedNext : ℕ → Sat → ℕ → Sat → Type 0
+  LoadedNext q m n m' = (m' ≡ m) × LeadsOn q m n
 
-  pub step_load_next : (slots id : ℕ) (me : Sat) (o : Own) (q : ℕ) → me.0.draws.live ≡ true → q < (known_of me.0 o).view.slots
-      → Allows TheRule slots id me (next_at (shape_in me.0.draws) q) (λ x. x) (LoadedNext o q me)
-  step_load_next slots id me o q live inside s r long at small =
+  pub step_load_next : (slots id : ℕ) (me : Sat) (q : ℕ) → me.0.draws.live ≡ true → q < me.0.draws.slots
+      → Allows TheRule slots id me (next_at (shape_in me.0.draws) q) (λ x. x) (LoadedNext q me)
+  step_load_next slots id me q live inside s r long at small =
       let v = me.0 in
       let z = r.shape in
       let p = r.parts in
@@ -224,8 +223,7 @@ module _ {S : Type 0} (board : S → List (std.Option Held)) (free_slots : S →
         (
           refl,
           (λ k front behind its rest.
-              let m = walk_in v.hand.walk k its in
-              let a = next_is z ws.node ws.next ws.head p.on p.chain (hands_in s.views) p.linked id v.hand m.0 front q behind (hand_at board free_slots z ws home s.views p id v at) m.1 (ap (λ (y : knowing.Walk). y.rest) m.2 ∙ rest) in
+              let a = next_is z ws.node ws.next ws.head p.on p.chain (hands_in s.views) p.linked id v.hand k front q behind (hand_at board free_slots z ws home s.views p id v at) its rest in
               sym next_word ∙ first ws.next (ws.next q) behind a.0),
         ),
       )

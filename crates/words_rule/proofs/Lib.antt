@@ -29,6 +29,7 @@ pub mod Freeing
 pub mod Stepping
 pub mod Noting
 pub mod Tabling
+pub mod Working
 pub mod Storing
 pub mod Loosing
 pub mod Looking
@@ -53,3 +54,9 @@ pub mod WalkSteps
 pub mod FreeClauses
 pub mod FirstStands
 pub mod OrderLoads
+pub mod Calls
+pub mod Keeps
+pub mod Learning
+pub mod Entering
+pub mod PhaseSteps
+pub mod CountSteps

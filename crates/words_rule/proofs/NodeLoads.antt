@@ -23,6 +23,7 @@ use Rattle.words_rule.specs.Shapes.{shape_in}
 use Rattle.words_rule.specs.Layout.{Shape, Words, words_of, node_at}
 use Rattle.words_rule.specs.Chains.{Lists}
 use Rattle.words_rule.specs.Rule.{Parts, Rule}
+use Rattle.words_rule.specs.Loads.{LoadedNode, IsSeatOf}
 use Rattle.words_rule.specs.Known.{Own, walk_of, known_of}
 use Rattle.words_rule.proofs.Layouts.{here_node}
 use Rattle.words_rule.proofs.Lists.{set_at}
@@ -53,21 +54,6 @@ walk_in None n e = cc
 
 pub learns_refl : (k : Knowledge) → Learns k k
 learns_refl k = record { kept = Kept-refl k.view; room = refl; words = λ s b is. is; heads = refl }
-
--- what the load of a node word leaves: the clauses learns, hand, meets, used of the step, and what is so of each seat
-pub record LoadedNode (old new : Knowledge) (q n : ℕ) : Type 0 where
-  pub learns : Learns old new
-  pub hand : new.hand ≡ old.hand
-  pub meets : (word : Word) → unpack_of n ≡ Some word → Meets new q n word
-  pub used : IsMet old q → (word : Word) × (unpack_of n ≡ Some word)
-  pub stands : Stands old → Stands new
-
--- the seat is as it was, but for its notes
-pub record IsSeatOf (v u : View) : Type 0 where
-  pub draws : u.draws ≡ v.draws
-  pub shares : u.shares ≡ v.shares
-  pub counts : u.counts ≡ v.counts
-  pub orders : orders_of u.known ≡ orders_of v.known
 
 module _ {S : Type 0} (board : S → List (std.Option Held)) (free_slots : S → List ℕ) where
   abbrev PartsOf : Shape → Words → (ℕ → Option (Option (std.Option S))) → List View → Type 0
@@ -102,6 +88,7 @@ module _ {S : Type 0} (board : S → List (std.Option Held)) (free_slots : S →
       pub parts : PartsOf z ws home (set vs id view)
       pub loaded : LoadedNode K (known_of view o) q (ws.node q)
       pub seat : IsSeatOf v view
+      pub work : view.work ≡ v.work
       pub hands : view.hand ≡ v.hand
 
     -- a word in use is noted, and its children
@@ -126,6 +113,7 @@ module _ {S : Type 0} (board : S → List (std.Option Held)) (free_slots : S →
           };
           seat = record { draws = refl; shares = refl; counts = refl; orders = refl };
           hands = refl;
+          work = refl;
         }
     loads_at q (Inner node) reads few =
         let d = r.sound.denotes q (Inner node, reads) in
@@ -174,15 +162,16 @@ module _ {S : Type 0} (board : S → List (std.Option Held)) (free_slots : S →
           };
           seat = record { draws = refl; shares = refl; counts = refl; orders = refl };
           hands = refl;
+          work = refl;
         }
 
   -- the clauses of load_node, and that the rest of the seat stays
-  abbrev pub loaded_node : Own → ℕ → Step (std.Option S) → Sat → ℕ → Sat → Type 0
-  loaded_node o q st m n m' = (m'.1 ≡ m.1) × (m'.0.hand ≡ m.0.hand) × IsSeatOf m.0 m'.0 × LoadedNode (known_of m.0 o) (known_of m'.0 o) q n
+  abbrev pub LoadedSlot : Own → ℕ → Sat → ℕ → Sat → Type 0
+  LoadedSlot o q m n m' = (m'.1 ≡ m.1) × (m'.0.hand ≡ m.0.hand) × (m'.0.work ≡ m.0.work) × IsSeatOf m.0 m'.0 × LoadedNode (known_of m.0 o) (known_of m'.0 o) q n
 
   -- The load of a node word under an operation share, whether in use or not.
   pub loads_met : (slots id : ℕ) (me : Sat) (o : Own) (q : ℕ) → me.0.draws.live ≡ true → me.0.shares.op ≡ shares.Held → q < me.0.draws.slots → o.fulls < 18446744073709551616
-      → Allows TheRule slots id me (node_at (shape_in me.0.draws) q) (λ x. x) (loaded_node o q (step slots (node_at (shape_in me.0.draws) q) 0 0 none) me)
+      → Allows TheRule slots id me (node_at (shape_in me.0.draws) q) (λ x. x) (LoadedSlot o q me)
   loads_met slots id me o q live share inside few s r long at small =
       let v = me.0 in
       let z = r.shape in
@@ -202,7 +191,7 @@ module _ {S : Type 0} (board : S → List (std.Option Held)) (free_slots : S →
         tt,
         subst (λ (y : List ℕ). TheRule (record { words = y; homes = s.homes; views = set s.views id l.view })) (sym (set-get_or s.words word 0))
             (record { shape = z; wide = r.wide; long = r.long; parts = l.parts }),
-        (refl, l.hands, l.seat, subst (λ (y : ℕ). LoadedNode (known_of v o) (known_of l.view o) q y) is l.loaded),
+        (refl, l.hands, l.work, l.seat, subst (λ (y : ℕ). LoadedNode (known_of v o) (known_of l.view o) q y) is l.loaded),
       ))
       (λ free. (
         v,
@@ -210,6 +199,7 @@ module _ {S : Type 0} (board : S → List (std.Option Held)) (free_slots : S →
         tt,
         stays board free_slots s word id me r at,
         (
+          refl,
           refl,
           refl,
           record { draws = refl; shares = refl; counts = refl; orders = refl },

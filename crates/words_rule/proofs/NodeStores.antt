@@ -1,5 +1,5 @@
 -- The store of a word in the slot that was taken for it, with the clauses of a seat's step.
-use Rattle.std.proofs.Common.{◌≡◌, ◌≢◌, ◌⊎◌, inl, inr, ℕ, zero, suc, ◌<◌, ◌==◌, ◌&&◌, cond, Bool, true, false, List, set, eqb-true, eq-eqb, Some, None, refl, ap, sym, ◌∙◌, subst, arith}
+use Rattle.std.proofs.Common.{◌≡◌, ◌≢◌, ◌⊎◌, inl, inr, ℕ, zero, suc, ◌<◌, ◌==◌, ◌&&◌, cond, Bool, true, false, List, ◌∷◌, set, eqb-true, eq-eqb, Some, None, refl, ap, sym, ◌∙◌, subst, arith}
 use Rattle.std.specs.Prelude as std
 use Rattle.std.specs.Prelude.{if◌then◌else◌}
 use mathlib.Core.Option.{Option, some}
@@ -35,7 +35,8 @@ use Rattle.words_rule.specs.Hands.{storing}
 use Rattle.words_rule.specs.Kept.{whole_of}
 use Rattle.words_rule.specs.Seen.{StandsSo}
 use Rattle.words_rule.specs.Rule.{Parts, Rule}
-use Rattle.words_rule.specs.Known.{Own, denoted_in, noted_bits, noted_function, word_in, met_in, noted_content, taken_of, known_of}
+use Rattle.words_rule.specs.Loads.{IsSeatOf, TakenReads, StoredNode}
+use Rattle.words_rule.specs.Known.{with_made, Own, denoted_in, noted_bits, noted_function, word_in, met_in, noted_content, taken_of, known_of}
 use Rattle.words_rule.proofs.Layouts.{set_node}
 use Rattle.words_rule.proofs.Lists.{set_at, each_map}
 use Rattle.words_rule.proofs.Jobs.{function_here}
@@ -45,9 +46,9 @@ use Rattle.words_rule.proofs.Storing.{noting_slot, edge_at, parts_notes, notes_o
 use Rattle.words_rule.proofs.Tabling.{after_word, set_set}
 use Rattle.words_rule.proofs.Narrowing.{Narrow, is_up, node_values_same}
 use Rattle.words_rule.proofs.Meeting.{no_hold, word_stands, content_true, narrow, decoded}
+use Rattle.words_rule.proofs.Working.{parts_work}
 use Rattle.words_rule.proofs.Standing.{stands_more}
 use Rattle.words_rule.proofs.HandClauses.{some_back}
-use Rattle.words_rule.proofs.StoreClauses.{TakenReads}
 
 never : (word : Word) → ◌≡◌ {A = std.Option Word} None (Some word) → ⊥
 never word e = cc
@@ -57,21 +58,6 @@ some_word a b e = cc
 
 some_denoted : (a b : Denoted) → Some a ≡ Some b → a ≡ b
 some_denoted a b e = cc
-
--- one slot more was made
-abbrev pub with_made : Own → ℕ → Own
-with_made o slot = record o { made = λ t. if t == slot then true else o.made t }
-
--- the clauses of store_node, and what is so of each seat
-pub record StoredNode (old new : Knowledge) (slot bits : ℕ) : Type 0 where
-  pub grows : Grows old new
-  pub hand : new.hand ≡ record old.hand { taken = None; loose = Some slot }
-  pub noted : new.word slot ≡ Some bits
-  pub stored : (word : Word) → unpack_of bits ≡ Some word → HasWord old.view new.view slot word
-  pub made : (s : ℕ) → new.view.made s ≡ true → (old.view.made s ≡ true) ⊎ (slot ≡ s)
-  pub fulls : new.view.fulls ≡ old.view.fulls
-  pub due : new.view.due ≡ old.view.due
-  pub stands : Stands old → Stands new
 
 module _ {S : Type 0} (board : S → List (std.Option Held)) (free_slots : S → List ℕ) where
   abbrev PartsOf : Shape → Words → (ℕ → Option (Option (std.Option S))) → List View → Type 0
@@ -243,7 +229,7 @@ module _ {S : Type 0} (board : S → List (std.Option Held)) (free_slots : S →
 
   -- store_node
   abbrev pub StoredSlot : Own → ℕ → ℕ → Sat → ℕ → Sat → Type 0
-  StoredSlot o slot bits m n m' = StoredNode (known_of m.0 o) (known_of m'.0 (with_made o slot)) slot bits × (m'.1 ≡ m.1) × (m'.0.draws ≡ m.0.draws) × (m'.0.shares ≡ m.0.shares) × (orders_of m'.0.known ≡ orders_of m.0.known)
+  StoredSlot o slot bits m n m' = (m'.1 ≡ m.1) × IsSeatOf m.0 m'.0 × (m'.0.work ≡ record m.0.work { made = slot ∷ m.0.work.made }) × StoredNode (known_of m.0 o) (known_of m'.0 (with_made o slot)) slot bits
 
   pub step_store_node : (slots id : ℕ) (me : Sat) (o : Own) (job : Job) (bits : ℕ) → me.0.draws.live ≡ true → me.0.shares.op ≡ shares.Held → me.0.hand.taken ≡ Some job → (known_of me.0 o).hand.loose ≡ None
       → bits < 18446744073709551616 → slot_of job < me.0.draws.slots → unpack_of bits ≡ Some (word_of job) → o.fulls < 18446744073709551616
@@ -257,19 +243,22 @@ module _ {S : Type 0} (board : S → List (std.Option Held)) (free_slots : S →
       let shape = shape_is board free_slots z ws home s.views p id v at live in
       let below : slot_of job < z.slots = subst (λ (y : Shape). slot_of job < y.slots) (sym shape) inside in
       let on : orders_of v.known ≡ p.orders = p.ordered.shared id v at share in
-      let u : View = v2 z ws home s.views p id v at live share on o job bits fits taken none_loose reads in (
-        u,
+      let u : View = v2 z ws home s.views p id v at live share on o job bits fits taken none_loose reads in
+      let w : View = record u { work = record v.work { made = slot_of job ∷ v.work.made } } in
+      let ws1 : Words = record ws { node = put_at ws.node (slot_of job) bits } in
+      let stored = stored_parts z ws home s.views p id v at live share on o job bits fits taken none_loose reads in (
+        w,
         keeps,
         tt,
-        subst (λ (i : ℕ). TheRule (record { words = set s.words i bits; homes = s.homes; views = set s.views id u })) (ap (λ (y : Shape). node_at y (slot_of job)) shape)
-            (after_word board free_slots s r (node_at z (slot_of job)) bits (set s.views id u) s.homes (record ws { node = put_at ws.node (slot_of job) bits }) refl (set_node z s.words bits (slot_of job) below r.wide)
-            (stored_parts z ws home s.views p id v at live share on o job bits fits taken none_loose reads)),
-        (stored_clauses z ws home s.views p id v at live share on o job bits fits taken none_loose reads few, refl, refl, refl, refl),
+        subst (λ (i : ℕ). TheRule (record { words = set s.words i bits; homes = s.homes; views = set s.views id w })) (ap (λ (y : Shape). node_at y (slot_of job)) shape)
+            (after_word board free_slots s r (node_at z (slot_of job)) bits (set s.views id w) s.homes ws1 refl (set_node z s.words bits (slot_of job) below r.wide)
+            (subst (λ (l : List View). PartsOf z ws1 home l) (set_set s.views id u w) (parts_work board free_slots z ws1 home (set s.views id u) stored id u (set_at s.views id v u at) w.work))),
+        (refl, record { draws = refl; shares = refl; counts = refl; orders = refl }, refl, stored_clauses z ws home s.views p id v at live share on o job bits fits taken none_loose reads few),
       )
 
   -- store_node, by what the hand has taken as the step asks for it
   pub step_store_taken : (slots id : ℕ) (me : Sat) (o : Own) (slot bits : ℕ) → me.0.draws.live ≡ true → me.0.shares.op ≡ shares.Held → (known_of me.0 o).hand.taken ≡ Some (record { slot = slot; bits = bits }) → (known_of me.0 o).hand.loose ≡ None
-      → bits < 18446744073709551616 → slot < (known_of me.0 o).view.slots → TakenReads board free_slots me.0 → o.fulls < 18446744073709551616
+      → bits < 18446744073709551616 → slot < (known_of me.0 o).view.slots → TakenReads me.0 → o.fulls < 18446744073709551616
       → Allows TheRule slots id me (node_at (shape_in me.0.draws) slot) (λ _. bits) (StoredSlot o slot bits me)
   step_store_taken slots id me o slot bits live share taken none_loose fits inside reads few =
       let j = some_back taken_of me.0.hand.taken (record { slot = slot; bits = bits }) taken in

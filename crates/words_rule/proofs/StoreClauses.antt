@@ -29,6 +29,7 @@ use Rattle.words_rule.specs.Chains.{Lists}
 use Rattle.words_rule.specs.Dues.{slot_of, word_of, IsToDo}
 use Rattle.words_rule.specs.Hands.{HasLevel, level_of}
 use Rattle.words_rule.specs.Rule.{Parts, Rule}
+use Rattle.words_rule.specs.Plays.{HasTaken}
 use Rattle.words_rule.specs.Known.{Own, taken_of, known_of}
 use Rattle.words_rule.proofs.Packing.{packs_back}
 use Rattle.words_rule.proofs.Stepping.{shape_is}
@@ -106,17 +107,10 @@ module _ {S : Type 0} (board : S → List (std.Option Held)) (free_slots : S →
           absent = parts_no_leaf board free_slots z ws home vs r id v at m bits x walk none_loose small reads head level others;
         }
 
-  -- what was taken is a word that reads as it is packed
-  abbrev pub TakenReads : View → Type 0
-  TakenReads v = (job : Job) → v.hand.taken ≡ Some job → unpack_of (pack_of (word_of job)) ≡ Some (word_of job)
-
   -- take_slot
-  abbrev pub TookSlot : Own → ℕ → ℕ → Sat → ℕ → Sat → Type 0
-  TookSlot o slot bits m n m' = (known_of m'.0 o ≡ knowing.handed (known_of m.0 o) (record (known_of m.0 o).hand { free = None; taken = Some (record { slot = slot; bits = bits }); link = None })) × (slot < (known_of m.0 o).view.slots) × TakenReads m'.0 × (m'.1 ≡ rest m.1)
-
   pub step_take_slot : (slots id : ℕ) (me : Sat) (o : Own) (slot bits : ℕ) (list : List ℕ) (x : S) (word : Word) → me.0.draws.live ≡ true → me.0.shares.op ≡ shares.Held → me.1 ≡ (1, Some x) ∷ rest me.1
       → (known_of me.0 o).hand.free ≡ Some (slot ∷ list) → free_slots x ≡ list → ((known_of me.0 o).hand.taken ≡ None) × ((known_of me.0 o).hand.loose ≡ None) → bits < 18446744073709551616 → (wanted : IsWanted (known_of me.0 o) bits word)
-      → Allows TheRule slots id me 3 (λ _. 0) (TookSlot o slot bits me)
+      → Allows TheRule slots id me 3 (λ _. 0) (λ _ m. HasTaken bits slot me m)
   step_take_slot slots id me o slot bits list x word live share has free gave calm small wanted s r long at below =
       let v = me.0 in
       let K : Knowledge = known_of v o in
@@ -128,20 +122,21 @@ module _ {S : Type 0} (board : S → List (std.Option Held)) (free_slots : S →
       (λ t r at. wanted_due r.shape (words_of r.shape t.words) (λ (k : ℕ). get_elem? t.homes k) t.views r.parts id v at live share (r.parts.ordered.shared id v at share) o slot bits word wanted small calm.1)
       s r long at below in
       let told = y.4 in
-      let same : taken_of job ≡ record { slot = slot; bits = bits } = λ i. record { slot = slot_is i; bits = (ap pack_of word_is ∙ sym (packs_back bits word small wanted.absent.reads)) i } in (
+      let packs : pack_of (word_of job) ≡ bits = ap pack_of word_is ∙ sym (packs_back bits word small wanted.absent.reads) in (
         y.0,
         y.1,
         y.2,
         y.3,
-        (
-          ap (λ (q : Sat). known_of q.0 o) told ∙ ap (λ (t : Taken). knowing.handed K (record K.hand { free = None; taken = Some t; link = None })) same,
-          (let p = r.parts in
+        record {
+          job = job;
+          is = told;
+          slot_is = slot_is;
+          packs = packs;
+          reads = wanted.absent.reads ∙ ap Some (sym word_is);
+          within = (let p = r.parts in
               let home = λ (k : ℕ). get_elem? s.homes k in
               let shape = shape_is board free_slots r.shape (words_of r.shape s.words) home s.views p id v at live in
               let now = (p.tables.free_held id v.hand (hand_at board free_slots r.shape (words_of r.shape s.words) home s.views p id v at) (slot ∷ list) free).2 in
-              subst (λ (z : Shape). slot < z.slots) shape (p.tables.free_is.free 0 slot (ap (λ (l : List ℕ). get_elem? l 0) (sym now))).0),
-          (λ b its. subst (λ (c : Job). unpack_of (pack_of (word_of c)) ≡ Some (word_of c)) (some_job job b (sym (ap (λ (q : Sat). q.0.hand.taken) told) ∙ its))
-              (ap (λ (x : Word). unpack_of (pack_of x)) word_is ∙ ap unpack_of (sym (packs_back bits word small wanted.absent.reads)) ∙ wanted.absent.reads ∙ ap Some (sym word_is))),
-          ap (λ (q : Sat). q.1) told,
-        ),
+              subst (λ (z : Shape). slot < z.slots) shape (p.tables.free_is.free 0 slot (ap (λ (l : List ℕ). get_elem? l 0) (sym now))).0);
+        },
       )

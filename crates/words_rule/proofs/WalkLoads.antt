@@ -25,25 +25,6 @@ use Rattle.words_rule.specs.Known.{denoted_in, noted_function}
 use Rattle.words_rule.proofs.Narrowing.{Narrow, Known, variable_down, is_down, values_same}
 use Rattle.words_rule.proofs.Opened.{at_edge, leaf_at, opens_leaf}
 
--- what a walk sees: what slots denote, and nothing of levels
-abbrev pub sees_of : View → views.View
-sees_of v = record {
-  vars = v.draws.vars;
-  elements = v.draws.elements;
-  slots = v.draws.slots;
-  content = λ s. option_map (denoted_in v.draws.vars) (noted_function v.known.seen s);
-  level = λ _. 0;
-  top = λ _. 0;
-  made = λ _. false;
-  fulls = 0;
-  due = None;
-  count = λ _. 0;
-  generation = λ _. 0;
-  is_held = false;
-  may_want_memory = false;
-  room = 0;
-}
-
 abbrev pub levelless : Content → views.View
 levelless w = record (view_of w) { level = λ _. 0; top = λ _. 0 }
 

@@ -32,6 +32,7 @@ use Rattle.words_rule.specs.Shapes.{shape_in}
 use Rattle.words_rule.specs.Layout.{Shape, Words, words_of, node_at, content_of}
 use Rattle.words_rule.specs.Kept.{IsHeldBy, whole_of}
 use Rattle.words_rule.specs.Rule.{Parts, Rule}
+use Rattle.words_rule.specs.Loads.{LoadedWord, seeing, sees_of}
 use Rattle.words_rule.specs.Known.{denoted_in, noted_function}
 use Rattle.words_rule.proofs.Layouts.{here_node}
 use Rattle.words_rule.proofs.Lists.{each_set, set_at}
@@ -43,17 +44,7 @@ use Rattle.words_rule.proofs.Decoding.{Beyond, decodes}
 use Rattle.words_rule.proofs.Meeting.{kind_of, seen_true, some_denoted}
 use Rattle.words_rule.proofs.Narrowing.{Narrow, Known, is_up, values_same}
 use Rattle.words_rule.proofs.HandClauses.{some_back}
-use Rattle.words_rule.proofs.WalkLoads.{sees_of, levelless, denotes_to, tells_word, tells_down}
-
--- a view with functions more
-abbrev pub seeing : View → List Held → View
-seeing v l = record v { known = record v.known { seen = l } }
-
--- the clauses kept, used and tells of the load of a word
-pub record LoadedWord (v u : View) (q n : ℕ) : Type 0 where
-  pub kept : Kept (sees_of v) (sees_of u)
-  pub used : (word : Word) × (unpack_of n ≡ Some word)
-  pub tells : (word : Word) → unpack_of n ≡ Some word → (e : Edge) → e.index ≡ q → (k : Kind) → Is k (sees_of v) e → Tells k (sees_of u) e (values_at k (sees_of v) e) (opened_of word e.complement)
+use Rattle.words_rule.proofs.WalkLoads.{levelless, denotes_to, tells_word, tells_down}
 
 module _ {S : Type 0} (board : S → List (std.Option Held)) (free_slots : S → List ℕ) where
   abbrev PartsOf : Shape → Words → (ℕ → Option (Option (std.Option S))) → List View → Type 0
@@ -100,7 +91,7 @@ module _ {S : Type 0} (board : S → List (std.Option Held)) (free_slots : S →
     content_by l t = option_map (denoted_in v.draws.vars) (noted_function l t)
 
     -- what was noted is so
-    list_true : (l : List Held) → Each (IsHeldBy z r.function) l → (t : ℕ) (g : Denoted) → content_by l t ≡ Some g → r.function t ≡ Some g
+    pub list_true : (l : List Held) → Each (IsHeldBy z r.function) l → (t : ℕ) (g : Denoted) → content_by l t ≡ Some g → r.function t ≡ Some g
     list_true l all t g is =
         let x = some_back (denoted_in v.draws.vars) (noted_function l t) g is in
         let held = seen_true (IsHeldBy z r.function) l all t x.0 x.1 in

@@ -68,6 +68,22 @@ pub record Own : Type 0 where
   pub room : ℕ
   pub memo : Bool
 
+-- the slot is one of these
+abbrev pub is_among : List ℕ → ℕ → Bool
+is_among [] t = false
+is_among (s ∷ ss) t = if t == s then true else is_among ss t
+
+-- of a seat with so much room in its scratch
+abbrev pub own_of : View → ℕ → Bool → Own
+own_of v room memo = record { made = is_among v.work.made; fulls = v.work.fulls; due = option_map (denoted_in v.draws.vars) v.work.due; room = room; memo = memo }
+
+abbrev pub own_none : Own
+own_none = record { made = λ s. false; fulls = 0; due = None; room = 0; memo = false }
+
+-- one slot more was made
+abbrev pub with_made : Own → ℕ → Own
+with_made o slot = record o { made = λ t. if t == slot then true else o.made t }
+
 abbrev pub taken_of : Job → Taken
 taken_of job = record { slot = slot_of job; bits = pack_of (word_of job) }
 

@@ -16,7 +16,10 @@ pub mod Seen
 pub mod Generations
 pub mod Rule
 pub mod Openings
-pub mod Plays
 pub mod Passes
 pub mod Walks
 pub mod Known
+pub mod Loads
+pub mod Plays
+pub mod PhasePlays
+pub mod CountPlays

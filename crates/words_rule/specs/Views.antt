@@ -2,6 +2,7 @@
 use Rattle.std.specs.Prelude.{◌≡◌, ℕ, suc, ◌≤◌, Bool, if◌then◌else◌, true, false, List, [], ◌∷◌, ◌++◌, length, slice_get, slice_set, Option, Some, None}
 use Rattle.function_laws.specs.declared.history.Name.{Name}
 use Rattle.function_laws.specs.declared.history.Function.{Function}
+use Rattle.function_laws.specs.declared.history.Function.TheVariants as functions
 use Rattle.function_laws.specs.declared.history.Call.{Call}
 use Rattle.function_laws.specs.declared.history.Call.TheVariants as calls
 use Rattle.function_laws.specs.declared.history.Reply.TheVariants as replies
@@ -20,6 +21,7 @@ use Rattle.words_rule.specs.declared.view.Noted.{Noted}
 use Rattle.words_rule.specs.declared.view.Gone.{Gone}
 use Rattle.words_rule.specs.declared.view.Known.{Known}
 use Rattle.words_rule.specs.declared.view.Draws.{Draws}
+use Rattle.words_rule.specs.declared.view.Work.{Work}
 use Rattle.words_rule.specs.declared.view.Opening.{Opening}
 
 -- n variables and m elements
@@ -145,3 +147,11 @@ gone_of d = record { session = d.session; rows = d.rows; entries = d.entries; no
 
 abbrev pub with_gone : Draws → Draws → Draws
 with_gone d e = record d { rows = d.rows ++ e.rows; gone = d.gone ++ gone_of e ∷ [] }
+
+-- nothing stored, nothing refused
+abbrev pub no_work : Work
+no_work = record { made = []; fulls = 0; due = None }
+
+-- the slot 0, and no values
+abbrev pub no_held : Held
+no_held = record { edge = record { index = 0; complement = false }; function = functions.Bdd [] }

@@ -1,0 +1,56 @@
+//! The board: it is taken, and put back.
+ghost use Rattle.std.specs.Prelude.{◌≡◌, ◌∷◌, true, None, IfSome, IfNone};
+ghost use Rattle.atomic_table.specs.Table.{rest};
+ghost use Rattle.words_rule.specs.Views.{holding, letting_go};
+ghost use Rattle.words_rule.specs.Passes.{me, view, in_hand, IsLiveOf, IsPassOf};
+
+use crate::content::Content;
+use crate::layout::BOARD;
+use crate::plays::{GiveBoard, TakeBoard};
+use crate::seat::{Guard, Pass};
+
+/// The slot in which the board lies.
+const BOARD_SLOT: usize = 0;
+
+impl<S: Content> Guard<S> {
+    /// Takes the board, if it is at home.
+    pub fn take_board(&self, pass: &mut Pass<S>) -> Option<S>
+        requires own { IsLiveOf self.now pass.old }
+        ensures own { IsPassOf self.now pass.new }
+        ensures taken { IfSome result (λ x. (view pass.new ≡ record (view pass.old) { draws = holding (view pass.old).draws (S.board x) }) × (in_hand pass.new ≡ (0, None) ∷ in_hand pass.old)) }
+        ensures missed { IfNone result (me pass.new ≡ me pass.old) }
+    {
+        let mine = u64::from(pass.number) + 1;
+        let found = self
+            .table
+            .shared
+            .compare_exchange::<TakeBoard>(&mut pass.seat, BOARD, 0, mine);
+        if found == 0 {
+            self.table.shared.exchange(&mut pass.seat, BOARD_SLOT, None)
+        } else {
+            None
+        }
+    }
+
+    /// Puts the board back, with the cells that the seat knows.
+    pub fn give_board(&self, pass: &mut Pass<S>, content: S)
+        requires own { IsLiveOf self.now pass.old }
+        requires hand { in_hand pass.old ≡ (0, None) ∷ rest (in_hand pass.old) }
+        requires holds { (view pass.old).draws.holds ≡ true }
+        requires cells { S.board content ≡ (view pass.old).draws.cells }
+        ensures own { IsPassOf self.now pass.new × (in_hand pass.new ≡ rest (in_hand pass.old)) }
+        ensures gave { view pass.new ≡ record (view pass.old) { draws = letting_go (view pass.old).draws } }
+    {
+        match self
+            .table
+            .shared
+            .exchange(&mut pass.seat, BOARD_SLOT, Some(content))
+        {
+            None => {}
+            Some(_) => unreachable!(),
+        }
+        self.table
+            .shared
+            .store::<GiveBoard>(&mut pass.seat, BOARD, 0);
+    }
+}

@@ -1,0 +1,73 @@
+//! Where each word stands.
+ghost use Rattle.std.specs.Prelude.{◌≡◌};
+ghost use Rattle.words_rule.specs.Layout.{count_at, head_at, next_at, node_at, turn_at};
+ghost use Rattle.words_rule.specs.Shapes.{shape_by};
+
+/// The number of calls so far.
+pub(crate) const JOURNAL: usize = 0;
+
+/// The shares and the bits of the holds.
+pub(crate) const PHASE: usize = 1;
+
+/// The turn of the board.
+pub(crate) const BOARD: usize = 2;
+
+/// The turn of the free list.
+pub(crate) const FREE: usize = 3;
+
+/// The turn of the first level.
+const TURNS: usize = 5;
+
+/// How many variables, elements, slots and heads a table has.
+#[derive(Clone, Copy, Drop)]
+pub struct Sizes {
+    pub vars: u32,
+    pub elements: u32,
+    pub slots: u32,
+    pub heads: u32,
+}
+
+/// The turn of a level.
+pub(crate) fn turn(level: u32) -> usize
+    ensures { result ≡ turn_at level }
+{
+    TURNS + level as usize
+}
+
+impl Sizes {
+    /// The first of the words of slots: behind the turns and the orders.
+    fn first(&self) -> usize
+        ensures { result ≡ node_at (shape_by self.now) 0 }
+    {
+        let places = self.vars as usize + self.elements as usize;
+        TURNS + 1 + places * 2
+    }
+
+    /// The node word of a slot.
+    pub(crate) fn node(&self, slot: u32) -> usize
+        ensures { result ≡ node_at (shape_by self.now) slot }
+    {
+        self.first() + slot as usize * 2
+    }
+
+    /// The link from a slot to the next in its chain.
+    pub(crate) fn next(&self, slot: u32) -> usize
+        ensures { result ≡ next_at (shape_by self.now) slot }
+    {
+        self.first() + slot as usize * 2 + 1
+    }
+
+    /// The count word of a slot.
+    pub(crate) fn count(&self, slot: u32) -> usize
+        ensures { result ≡ count_at (shape_by self.now) slot }
+    {
+        self.first() + self.slots as usize * 2 + slot as usize
+    }
+
+    /// A head.
+    pub(crate) fn head(&self, head: u32) -> usize
+        ensures { result ≡ head_at (shape_by self.now) head }
+    {
+        self.first() + self.slots as usize * 3 + head as usize
+    }
+}
