@@ -1,0 +1,13 @@
+use Rattle.std.proofs.Common.{◌≡◌}
+use Rattle.hold_store.proofs.Passing.{IsBefore}
+use Rattle.hold_store.proofs.chains.slot_before.Given as goal
+
+abbrev pub invariant-loop : goal.invariant-loop
+invariant-loop g l = record {
+  own : g.S.Holds.holds l.seat;
+  table : g.S.Holds.table l.seat ≡ g.S.Holds.table l.initial.seat;
+  rest : g.S.Holds.rest l.seat ≡ g.S.Holds.rest l.initial.seat;
+  same : g.S.Holds.known l.seat ≡ g.S.Holds.known l.initial.seat;
+  limit : l.limit ≡ (g.S.Holds.known l.initial.seat).content.limit;
+  passing : IsBefore (g.S.Holds.known l.initial.seat) l.slot l.before l.counter;
+}
