@@ -1,12 +1,12 @@
 -- The steps as a seat calls them: at the index that it has of a word, with what each tells.
-use Rattle.std.proofs.Common.{◌≡◌, ◌≢◌, ℕ, suc, ◌+◌, ◌<◌, ◌==◌, true, false, List, [], ◌∷◌, get_or, Some, None, option_map, refl, ap, sym, ◌∙◌, subst, arith}
+use Rattle.std.proofs.Common.{◌≡◌, ◌≢◌, ℕ, suc, ◌+◌, ◌-◌, ◌<◌, ◌==◌, cond, true, false, List, [], ◌∷◌, get_or, Some, None, option_map, refl, ap, sym, ◌∙◌, subst, arith}
 use Rattle.std.specs.Prelude as std
 use mathlib.Core.Logic.{dite}
 use mathlib.Core.Option.{none, some}
 use native.Mathlib.Decide.{ℕ_discrete}
 use lib.ListN.{get_elem?}
 use prog.Atomic.{either}
-use Rattle.atomic_table.specs.Table.{State, Me, step, rest, carried_after, Allows}
+use Rattle.atomic_table.specs.Table.{State, Me, step, keeps, rest, carried_after, Allows}
 use Rattle.edge_bits.specs.declared.words.Word.{Word}
 use Rattle.function_laws.specs.Kinds.{Denoted}
 use Rattle.step_store.specs.Knowing as knowing
@@ -18,14 +18,22 @@ use Rattle.words_rule.specs.declared.view.Hand.{Hand}
 use Rattle.words_rule.specs.declared.view.Work.{Work}
 use Rattle.words_rule.specs.declared.view.View.{View}
 use Rattle.words_rule.specs.Shapes.{shape_in}
-use Rattle.words_rule.specs.Layout.{Shape, levels, heads, turn_at, node_at, next_at, head_at}
-use Rattle.words_rule.specs.Hands.{HasLevel, Owns, linking, taking, with_level, without_level}
+use Rattle.words_rule.specs.Layout.{Shape, levels, heads, places, words_of, turn_at, order_at, node_at, next_at, head_at}
+use Rattle.words_rule.specs.Hands.{place_of, HasLevel, Owns, linking, taking, with_level, without_level}
 use Rattle.words_rule.specs.Rule.{Rule}
-use Rattle.words_rule.specs.Known.{Own, known_of, taken_of, with_made}
+use Rattle.words_rule.specs.Known.{Own, known_of, own_none, taken_of, with_made}
 use Rattle.words_rule.specs.Loads.{LoadedNode, LoadedWord, StoredNode, TakenReads, sees_of}
-use Rattle.words_rule.specs.Plays.{board_taken, IsHanded, HasLoaded, HasTaken, LeadsOn, turn_taken, turn_given, head_loaded, next_loaded, node_loaded, slot_taken, next_stored, node_stored, free_taken, word_walked}
+use Rattle.words_rule.specs.Plays.{board_taken, level_loaded, IsHanded, HasLoaded, HasTaken, LeadsOn, turn_taken, turn_given, head_loaded, next_loaded, node_loaded, slot_taken, next_stored, node_stored, free_taken, word_walked}
 use Rattle.words_rule.proofs.Boards.{takes_board}
-use Rattle.words_rule.proofs.Tabling.{takes_turn, gives_turn, takes_free_list, stores_next}
+use Rattle.std.proofs.lemmas.Bool.{lt-ltb, le-ltb}
+use Rattle.edge_bits.specs.Permanent.{first_element}
+use Rattle.edge_bits.specs.declared.edges.Kind.{Kind}
+use Rattle.edge_bits.specs.declared.edges.Kind.TheVariants.{Bdd, Add, Zdd}
+use Rattle.node_store.specs.Views.{IsVariable}
+use Rattle.words_rule.proofs.Layouts.{here_order}
+use Rattle.words_rule.proofs.Stepping.{shape_is}
+use Rattle.words_rule.proofs.OrderLoads.{level_word}
+use Rattle.words_rule.proofs.Tabling.{stays, takes_turn, gives_turn, takes_free_list, stores_next}
 use Rattle.words_rule.proofs.HandClauses.{step_load_head, step_load_next}
 use Rattle.words_rule.proofs.StoreClauses.{step_take_slot}
 use Rattle.words_rule.proofs.NodeLoads.{loads_met}
@@ -183,3 +191,30 @@ module _ {S : Type 0} (board : S → List (std.Option Held)) (free_slots : S →
       let n : ℕ = get_or s.words (node_at (shape_in me.0.draws) q) 0 in
       let t = y.4 in
       (y.0, y.1, y.2, y.3, (t.0, t.1, (λ p same. subst (λ (j : ℕ). LoadedWord me.0 y.0 j n) (let e : q ≡ p = omega (arith, same) in e) t.2))))
+
+  -- a level word is within the table
+  pub place_below : (v : View) (k : Kind) (u : ℕ) → IsVariable k (known_of v own_none).view u → place_of (shape_in v.draws) u < places (shape_in v.draws)
+  place_below v Bdd u un = let h = un.0 in let lt = un.1 in let p : place_of (shape_in v.draws) u ≡ u = ap (λ b. cond b u (v.draws.vars + (u - first_element))) (lt-ltb u first_element h) in omega (arith, p, lt)
+  place_below v Add u un = let h = un.0 in let lt = un.1 in let p : place_of (shape_in v.draws) u ≡ u = ap (λ b. cond b u (v.draws.vars + (u - first_element))) (lt-ltb u first_element h) in omega (arith, p, lt)
+  place_below v Zdd u un = let h = un.0 in let lt = un.1 in let p : place_of (shape_in v.draws) u ≡ v.draws.vars + (u - first_element) = ap (λ b. cond b u (v.draws.vars + (u - first_element))) (le-ltb u first_element h) in omega (arith, p, h, lt)
+
+  pub call_load_level : (slots id word : ℕ) (me : Sat) → me.0.draws.live ≡ true → me.0.shares.op ≡ shares.Held → Allows TheRule slots id me word (λ n. n) (level_loaded (step slots word 0 0 none) me)
+  call_load_level slots id word me live share s r long at small =
+      let v = me.0 in
+      let z = r.shape in
+      let p = r.parts in
+      let home = λ (k : ℕ). get_elem? s.homes k in
+      let ws = words_of z s.words in
+      let shape = shape_is board free_slots z ws home s.views p id v at live in (
+        v,
+        keeps,
+        tt,
+        stays board free_slots s word id me r at,
+        (
+          refl,
+          (λ k u un same.
+              let l = level_word board free_slots z ws home s.views p id v at live share own_none k u un in
+              ap (λ (i : ℕ). get_or s.words i 0) (same ∙ ap (λ (y : Shape). order_at y (places y + place_of y u)) (sym shape))
+              ∙ sym (here_order z s.words 0 (places z + place_of z u) (let lt = l.0 in omega (arith, lt))) ∙ l.1),
+        ),
+      )

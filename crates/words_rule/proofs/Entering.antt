@@ -34,7 +34,7 @@ use Rattle.words_rule.specs.Tallies.{tally_of, parts_of}
 use Rattle.words_rule.specs.Seen.{HasShare, StandsSo}
 use Rattle.words_rule.specs.Rule.{Parts, Rule, footings_in}
 use Rattle.words_rule.specs.Known.{Own, known_of, noted_content, own_none}
-use Rattle.words_rule.specs.Loads.{sees_of}
+use Rattle.words_rule.specs.Loads.{IsInside, sees_of}
 use Rattle.words_rule.specs.PhasePlays.{HasEntered, HasSetOut, op_entered, walk_entered}
 use Rattle.words_rule.proofs.Lists.{set_at}
 use Rattle.words_rule.proofs.Layouts.{set_phase}
@@ -157,6 +157,9 @@ module _ {S : Type 0} (board : S → List (std.Option Held)) (free_slots : S →
     pub walk_base : (sees_of walk_view).content base_slot ≡ Some (ZddFamily base)
     walk_base = walk_met base_slot (inl refl) ∙ r.sound.base_family
 
+    pub walk_inside : IsInside walk_view
+    walk_inside s f is = subst (λ (y : Shape). s < y.slots) (shape_is board free_slots z ws home vs r id v at live) (r.sound.within s (r.sound.used s f (list_true board free_slots z ws home vs r id v at live walk_list walk_held s f is)))
+
     pub walk_rows : AreHeldBy (shape_in v.draws) (sees_of walk_view).content v.draws.rows
     walk_rows = subst (λ (y : Shape). AreHeldBy y (sees_of walk_view).content v.draws.rows) (shape_is board free_slots z ws home vs r id v at live)
         (rows_still z r.function (sees_of walk_view).content v.draws.rows (λ s there. walk_met s (inr there)) rows_held)
@@ -235,6 +238,7 @@ module _ {S : Type 0} (board : S → List (std.Option Held)) (free_slots : S →
             work = refl;
             shares = refl;
             stands = walk_base z ws1 home (set s.views id v1) p1 id v1 at1 live;
+            inside = walk_inside z ws1 home (set s.views id v1) p1 id v1 at1 live;
             rows = walk_rows z ws1 home (set s.views id v1) p1 id v1 at1 live;
           }),
           (λ high. absurd (omega (arith, low, high))),

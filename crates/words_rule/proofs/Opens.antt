@@ -108,7 +108,7 @@ module _ {S : Type 0} (board : S → List (std.Option Held)) (free_slots : S →
         function = opening_function n;
         half = None;
         orders = opening_orders start;
-        pending = None;
+        pending = [];
         journal = record {
           seat = λ _. none;
           legal = tt;

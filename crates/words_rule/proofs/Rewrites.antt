@@ -1,5 +1,5 @@
 -- The steps of one swap on words: a node is rewritten in its slot, and the two order words are stored one after the other.
-use Rattle.std.proofs.Common.{◌≡◌, ◌≢◌, ◌⊎◌, ℕ, ◌+◌, ◌-◌, ◌<◌, ◌≤◌, true, cond, List, set, length, get_or, refl, ap, sym, subst, ◌∙◌, inl, inr, ⊎_elim, arith, get_or-set_other, get_or-set_same, length-set}
+use Rattle.std.proofs.Common.{◌≡◌, ◌≢◌, ◌⊎◌, ℕ, ◌+◌, ◌-◌, ◌<◌, ◌≤◌, true, false, Bool, cond, eqb-true, ◌==◌, List, [], ◌∷◌, set, length, get_or, refl, ap, sym, subst, ◌∙◌, inl, inr, ⊎_elim, arith, get_or-set_other, get_or-set_same, length-set}
 use Rattle.std.specs.Prelude as std
 use Rattle.std.specs.Prelude.{Some, None, slice_index}
 use Rattle.std.specs.List.{swap}
@@ -19,7 +19,9 @@ use Rattle.function_laws.specs.declared.orders.Order.TheVariants.{Variables, Ele
 use Rattle.function_laws.specs.Sizes.{Orders, in_order}
 use Rattle.function_laws.specs.Tables.{Sizes}
 use Rattle.function_laws.specs.EntryOrders.{opening_orders, orders_from}
-use Rattle.node_store.specs.Contents.{Content, IsSound, Pair}
+use Rattle.node_store.specs.Contents.{Content, IsOrder, IsSound, Pair}
+use Rattle.node_store.proofs.Exchange.{new_place, place_other}
+use Rattle.function_laws.specs.SiftedOrders as sifted
 use Rattle.node_store.specs.Changes.{put_at, CanRewrite, CanExchange, exchanged, rewritten}
 use Rattle.node_store.proofs.Rewriting.{put_at-same, put_at-other, rewritten_sound}
 use Rattle.node_store.proofs.ExchangeSound.{exchanged_sound}
@@ -35,13 +37,14 @@ use Rattle.words_rule.specs.declared.view.Job.{Job}
 use Rattle.words_rule.specs.declared.view.Hand.{Hand}
 use Rattle.words_rule.specs.declared.view.View.{View}
 use Rattle.words_rule.specs.Views.{sizes_for, orders_of, told_orders}
-use Rattle.words_rule.specs.Layout.{Shape, Words, entry_at, Positions, content_of}
+use Rattle.words_rule.specs.Layout.{Shape, Words, entry_at, item_at, level_entry, places, Positions, content_of}
+use Rattle.words_rule.specs.Chains.{Lists}
 use Rattle.words_rule.specs.Journal.{Journal}
 use Rattle.words_rule.specs.Phase.{Phase, footing_of, hold, bit}
 use Rattle.words_rule.specs.Tallies.{Counted, tally_of}
 use Rattle.words_rule.specs.Kept.{Kept, Board, IsHeldBy}
 use Rattle.words_rule.specs.Ordered.{KnowsOrders, Ordered}
-use Rattle.words_rule.specs.Hands.{place_of, HasLevel, Tables, Linked}
+use Rattle.words_rule.specs.Hands.{place_of, HasLevel, without_level, Tables, Linked}
 use Rattle.words_rule.specs.Seen.{HasShare, KeepsSlots, StandsSo, IsSeen}
 use Rattle.words_rule.specs.Rule.{Parts, Tied, FullHolder, draws_in, footings_in, tallies_in, hands_in}
 use Rattle.words_rule.proofs.Seeing.{seen_other, seen_alone}
@@ -72,68 +75,112 @@ abbrev pub position : Shape → Order → ℕ → ℕ
 position z Variables level = level
 position z Elements level = z.variables + level
 
+-- a variable or element among both, the elements behind the variables
+abbrev pub item : Shape → Order → ℕ → ℕ
+item z Variables u = u
+item z Elements u = z.variables + u
+
+-- the order words that are due once the first of an exchange is stored
+abbrev pub dues_of : Shape → Orders → Order → ℕ → List ℕ
+dues_of z orders which level =
+    (position z which level + 1) ∷ (places z + item z which (slice_index (in_order orders which) level)) ∷ (places z + item z which (slice_index (in_order orders which) (level + 1))) ∷ []
+
+-- a position and a level, as words
+as_item : (z : Shape) (os : Orders) (p : ℕ) → p < places z → entry_at z os p ≡ item_at z os p
+as_item z os p lt = ap (λ b. cond b (item_at z os p) (level_entry z os (p - places z))) (lt-ltb p (places z) lt)
+
+as_level : (z : Shape) (os : Orders) (p : ℕ) → places z ≤ p → entry_at z os p ≡ level_entry z os (p - places z)
+as_level z os p le = ap (λ b. cond b (item_at z os p) (level_entry z os (p - places z))) (le-ltb p (places z) le)
+
+level_first : (z : Shape) (os : Orders) (i : ℕ) → i < z.variables → level_entry z os i ≡ sifted.place_of i os.variables
+level_first z os i lt = ap (λ b. cond b (sifted.place_of i os.variables) (sifted.place_of (i - z.variables) os.elements)) (lt-ltb i z.variables lt)
+
+level_later : (z : Shape) (os : Orders) (i : ℕ) → z.variables ≤ i → level_entry z os i ≡ sifted.place_of (i - z.variables) os.elements
+level_later z os i le = ap (λ b. cond b (sifted.place_of i os.variables) (sifted.place_of (i - z.variables) os.elements)) (le-ltb i z.variables le)
+
+-- who stands at neither of two neighbours keeps its place
+place_kept : (order : List ℕ) (l : ℕ) → IsOrder order → l + 1 < length order → (u : ℕ) → u < length order → u ≢ slice_index order l → u ≢ slice_index order (l + 1) → sifted.place_of u (swap order l (l + 1)) ≡ sifted.place_of u order
+place_kept order l is lt u below a b = new_place order l is lt u below
+    ∙ place_other l (sifted.place_of u order) (λ e. a (sym (is.there u below) ∙ ap (slice_index order) e)) (λ e. b (sym (is.there u below) ∙ ap (slice_index order) e))
+
 module _ (z : Shape) (orders : Orders) (variables_long : length orders.variables ≡ z.variables) (elements_long : length orders.elements ≡ z.elements) (level : ℕ) where
   first : (os : Orders) (p : ℕ) → p < z.variables → entry_at z os p ≡ slice_index os.variables p
-  first os p lt = ap (λ b. cond b (slice_index os.variables p) (slice_index os.elements (p - z.variables))) (lt-ltb p z.variables lt)
+  first os p lt = as_item z os p (omega (arith, lt)) ∙ ap (λ b. cond b (slice_index os.variables p) (slice_index os.elements (p - z.variables))) (lt-ltb p z.variables lt)
 
-  later : (os : Orders) (p : ℕ) → z.variables ≤ p → entry_at z os p ≡ slice_index os.elements (p - z.variables)
-  later os p le = ap (λ b. cond b (slice_index os.variables p) (slice_index os.elements (p - z.variables))) (le-ltb p z.variables le)
+  later : (os : Orders) (p : ℕ) → z.variables ≤ p → p < places z → entry_at z os p ≡ slice_index os.elements (p - z.variables)
+  later os p le below = as_item z os p below ∙ ap (λ b. cond b (slice_index os.variables p) (slice_index os.elements (p - z.variables))) (le-ltb p z.variables le)
 
   -- the exchange changes two positions
   entry_here : (which : Order) → level + 1 < length (in_order orders which) → entry_at z (exchanged orders which level) (position z which level) ≡ entry_at z orders (position z which level + 1)
   entry_here Variables lt = first (exchanged orders Variables level) level (omega (arith, lt, variables_long)) ∙ swapped_at orders.variables level lt ∙ sym (first orders (level + 1) (omega (arith, lt, variables_long)))
-  entry_here Elements lt = later (exchanged orders Elements level) (z.variables + level) (omega arith) ∙ ap (slice_index (swap orders.elements level (level + 1))) (omega arith) ∙ swapped_at orders.elements level lt
-      ∙ ap (slice_index orders.elements) (omega arith) ∙ sym (later orders (z.variables + level + 1) (omega arith))
+  entry_here Elements lt = later (exchanged orders Elements level) (z.variables + level) (omega arith) (omega (arith, lt, elements_long)) ∙ ap (slice_index (swap orders.elements level (level + 1))) (omega arith) ∙ swapped_at orders.elements level lt
+      ∙ ap (slice_index orders.elements) (omega arith) ∙ sym (later orders (z.variables + level + 1) (omega arith) (omega (arith, lt, elements_long)))
 
-  entry_next : (which : Order) → level + 1 < length (in_order orders which) → entry_at z (exchanged orders which level) (position z which level + 1) ≡ entry_at z orders (position z which level)
-  entry_next Variables lt = first (exchanged orders Variables level) (level + 1) (omega (arith, lt, variables_long)) ∙ swapped_next orders.variables level lt ∙ sym (first orders level (omega (arith, lt, variables_long)))
-  entry_next Elements lt = later (exchanged orders Elements level) (z.variables + level + 1) (omega arith) ∙ ap (slice_index (swap orders.elements level (level + 1))) (omega arith) ∙ swapped_next orders.elements level lt
-      ∙ ap (slice_index orders.elements) (omega arith) ∙ sym (later orders (z.variables + level) (omega arith))
-
-  entry_else : (which : Order) → level + 1 < length (in_order orders which) → (p : ℕ) → p ≢ position z which level → p ≢ position z which level + 1 → entry_at z (exchanged orders which level) p ≡ entry_at z orders p
-  entry_else Variables lt p a b = elim (cases_lt p z.variables) [
+  entry_else : (which : Order) → level + 1 < length (in_order orders which) → (p : ℕ) → p < places z → p ≢ position z which level → p ≢ position z which level + 1 → entry_at z (exchanged orders which level) p ≡ entry_at z orders p
+  entry_else Variables lt p below a b = elim (cases_lt p z.variables) [
     | inl low ↦ first (exchanged orders Variables level) p low ∙ swapped_else orders.variables level p lt a b ∙ sym (first orders p low)
-    | inr high ↦ later (exchanged orders Variables level) p high ∙ sym (later orders p high)
+    | inr high ↦ later (exchanged orders Variables level) p high below ∙ sym (later orders p high below)
   ]
-  entry_else Elements lt p a b = elim (cases_lt p z.variables) [
+  entry_else Elements lt p below a b = elim (cases_lt p z.variables) [
     | inl low ↦ first (exchanged orders Elements level) p low ∙ sym (first orders p low)
-    | inr high ↦ later (exchanged orders Elements level) p high ∙ swapped_else orders.elements level (p - z.variables) lt (λ e. a (omega (arith, e, high))) (λ e. b (omega (arith, e, high))) ∙ sym (later orders p high)
+    | inr high ↦ later (exchanged orders Elements level) p high below ∙ swapped_else orders.elements level (p - z.variables) lt (λ e. a (omega (arith, e, high))) (λ e. b (omega (arith, e, high))) ∙ sym (later orders p high below)
+  ]
+
+  -- and two levels
+  level_else : (which : Order) → IsOrder (in_order orders which) → level + 1 < length (in_order orders which) → (i : ℕ) → i < places z → i ≢ item z which (slice_index (in_order orders which) level) → i ≢ item z which (slice_index (in_order orders which) (level + 1))
+      → level_entry z (exchanged orders which level) i ≡ level_entry z orders i
+  level_else Variables is lt i below a b = elim (cases_lt i z.variables) [
+    | inl low ↦ level_first z (exchanged orders Variables level) i low ∙ place_kept orders.variables level is lt i (omega (arith, low, variables_long)) a b ∙ sym (level_first z orders i low)
+    | inr high ↦ level_later z (exchanged orders Variables level) i high ∙ sym (level_later z orders i high)
+  ]
+  level_else Elements is lt i below a b = elim (cases_lt i z.variables) [
+    | inl low ↦ level_first z (exchanged orders Elements level) i low ∙ sym (level_first z orders i low)
+    | inr high ↦ level_later z (exchanged orders Elements level) i high
+        ∙ place_kept orders.elements level is lt (i - z.variables) (omega (arith, high, below, elements_long)) (λ e. a (omega (arith, e, high))) (λ e. b (omega (arith, e, high))) ∙ sym (level_later z orders i high)
   ]
 
   long_after : (which : Order) → (length (exchanged orders which level).variables ≡ z.variables) × (length (exchanged orders which level).elements ≡ z.elements)
   long_after Variables = (length-swap orders.variables level (level + 1) ∙ variables_long, elements_long)
   long_after Elements = (variables_long, length-swap orders.elements level (level + 1) ∙ elements_long)
 
-  -- the first of the two order words is stored, and the other is due
-  pub positions_first : (which : Order) → level + 1 < length (in_order orders which) → (order : ℕ → ℕ) → Positions z order orders None
-      → Positions z (put_at order (position z which level) (entry_at z orders (position z which level + 1))) (exchanged orders which level) (Some (position z which level + 1))
-  positions_first which lt order p = record {
+  -- the first of the order words is stored, and the others are due
+  pub positions_first : (which : Order) → IsOrder (in_order orders which) → level + 1 < length (in_order orders which) → (order : ℕ → ℕ) → Positions z order orders []
+      → Positions z (put_at order (position z which level) (entry_at z orders (position z which level + 1))) (exchanged orders which level) (dues_of z orders which level)
+  positions_first which is lt order p = record {
     variables_long = (long_after which).0;
     elements_long = (long_after which).1;
     at = λ q below not_due. elim (cases_eq q (position z which level)) [
       | inl e ↦ subst (λ (x : ℕ). put_at order (position z which level) (entry_at z orders (position z which level + 1)) x ≡ entry_at z (exchanged orders which level) x) (sym e)
           (put_at-same order (position z which level) (entry_at z orders (position z which level + 1)) ∙ sym (entry_here which lt))
-      | inr ne ↦ put_at-other order (position z which level) q (entry_at z orders (position z which level + 1)) ne ∙ p.at q below (λ e. never e)
-          ∙ sym (entry_else which lt q ne (λ e. not_due (ap Some (sym e))))
+      | inr ne ↦ put_at-other order (position z which level) q (entry_at z orders (position z which level + 1)) ne ∙ p.at q below (λ there. there)
+          ∙ elim (cases_lt q (places z)) [
+            | inl low ↦ sym (entry_else which lt q low ne (λ e. not_due (inl (sym e))))
+            | inr high ↦ as_level z orders q high
+                ∙ sym (level_else which is lt (q - places z) (omega (arith, high, below)) (λ e. not_due (inr (inl (omega (arith, e, high))))) (λ e. not_due (inr (inr (inl (omega (arith, e, high)))))))
+                ∙ sym (as_level z (exchanged orders which level) q high)
+          ]
     ];
   }
-    where
-      never : {q : ℕ} → None ≡ Some q → ⊥
-      never e = cc
 
--- the word that was due is stored
-pub positions_second : (z : Shape) (orders : Orders) (due : ℕ) (order : ℕ → ℕ) → Positions z order orders (Some due) → Positions z (put_at order due (entry_at z orders due)) orders None
-positions_second z orders due order p = record {
+-- what is in a list but for one number
+lists_without : (due q : ℕ) → q ≢ due → (l : List ℕ) → Lists l q → Lists (without_level due l) q
+lists_without due q apart [] there = absurd there
+lists_without due q apart (x ∷ l) there = by (x == due) refl (λ more. lists_without due q apart l more)
+  where
+    by : (b : Bool) → (x == due) ≡ b → (Lists l q → Lists (without_level due l) q) → Lists (without_level due (x ∷ l)) q
+    by true e rest = subst (λ b. Lists (cond b (without_level due l) (x ∷ without_level due l)) q) (sym e) (⊎_elim (λ same. absurd (apart (sym same ∙ eqb-true x due e))) rest there)
+    by false e rest = subst (λ b. Lists (cond b (without_level due l) (x ∷ without_level due l)) q) (sym e) (⊎_elim (λ same. inl same) (λ more. inr (rest more)) there)
+
+-- a word that was due is stored
+pub positions_next : (z : Shape) (orders : Orders) (due : ℕ) (pending : List ℕ) (order : ℕ → ℕ) → Positions z order orders pending → Positions z (put_at order due (entry_at z orders due)) orders (without_level due pending)
+positions_next z orders due pending order p = record {
   variables_long = p.variables_long;
   elements_long = p.elements_long;
   at = λ q below not_due. elim (cases_eq q due) [
     | inl e ↦ subst (λ (x : ℕ). put_at order due (entry_at z orders due) x ≡ entry_at z orders x) (sym e) (put_at-same order due (entry_at z orders due))
-    | inr ne ↦ put_at-other order due q (entry_at z orders due) ne ∙ p.at q below (λ e. ne (same due q e))
+    | inr ne ↦ put_at-other order due q (entry_at z orders due) ne ∙ p.at q below (λ there. not_due (lists_without due q ne pending there))
   ];
 }
-  where
-    same : (a b : ℕ) → Some a ≡ Some b → b ≡ a
-    same a b e = cc
 
 module _ {S : Type 0} (board : S → List (std.Option Held)) (free_slots : S → List ℕ) where
   abbrev PartsOf : Shape → Words → (ℕ → Option (Option (std.Option S))) → List View → Type 0
@@ -212,7 +259,7 @@ module _ {S : Type 0} (board : S → List (std.Option Held)) (free_slots : S →
         }))
 
     -- a step that changes what a seat knows of the orders, and an order word
-    unfoldable pub parts_known : (k : Known) (order : ℕ → ℕ) (orders : Orders) (pending : std.Option ℕ) (half : std.Option Pair)
+    unfoldable pub parts_known : (k : Known) (order : ℕ → ℕ) (orders : Orders) (pending : List ℕ) (half : std.Option Pair)
         → IsSound (content_of z ws.node orders r.function half) → Tables free_slots z (content_of z ws.node orders r.function half) r.on ws.free_turn ws.turn home (hands_in vs)
         → Positions z order orders pending → Ordered orders (orders_from (opening_orders (sizes_for z.variables z.elements)) r.log) (set vs id (record v { known = k }))
         → (half ≡ None) ⊎ FullHolder (set vs id (record v { known = k })) → PendingBy pending (set vs id (record v { known = k })) → IsSeen z ws.node r.function (record v { known = k })
@@ -288,27 +335,31 @@ module _ {S : Type 0} (board : S → List (std.Option Held)) (free_slots : S →
         never : (b : Job) → None ≡ Some b → ⊥
         never b e = cc
 
+    order_is : (which : Order) → IsOrder (in_order r.orders which)
+    order_is Variables = r.sound.variables
+    order_is Elements = r.sound.elements
+
     -- the first order word of an exchange is stored, and the orders are exchanged with it
     pub parts_exchange : (which : Order) (level : ℕ) (can : CanExchange (content_of z ws.node r.orders r.function r.half) which level) (k : Known)
-        → v.shares.full ≡ Holding → v.hand.taken ≡ None → r.pending ≡ None
-        → orders_of k ≡ exchanged r.orders which level → told_orders k ≡ told_orders v.known → k.words ≡ v.known.words → k.seen ≡ v.known.seen → k.pending ≡ Some (position z which level + 1)
+        → v.shares.full ≡ Holding → v.hand.taken ≡ None → r.pending ≡ []
+        → orders_of k ≡ exchanged r.orders which level → told_orders k ≡ told_orders v.known → k.words ≡ v.known.words → k.seen ≡ v.known.seen → k.pending ≡ dues_of z r.orders which level
         → PartsOf z (record ws { order = put_at ws.order (position z which level) (entry_at z r.orders (position z which level + 1)) }) home (set vs id (record v { known = k }))
     parts_exchange which level can k full none_taken settled knows told words seen due =
         let holding = order_by_full full in
         let w : View = record v { known = k } in
-        parts_known k (put_at ws.order (position z which level) (entry_at z r.orders (position z which level + 1))) (exchanged r.orders which level) (Some (position z which level + 1)) None
+        parts_known k (put_at ws.order (position z which level) (entry_at z r.orders (position z which level + 1))) (exchanged r.orders which level) (dues_of z r.orders which level) None
         (exchanged_sound (content_of z ws.node r.orders r.function r.half) r.sound which level can)
         (reordered (exchanged r.orders which level) None (nobody_takes holding none_taken))
-        (positions_first z r.orders r.positions.variables_long r.positions.elements_long level which can.within ws.order (subst (Positions z ws.order r.orders) settled r.positions))
+        (positions_first z r.orders r.positions.variables_long r.positions.elements_long level which (order_is which) can.within ws.order (subst (Positions z ws.order r.orders) settled r.positions))
         (ordered_now k (exchanged r.orders which level) holding knows told)
         (inl refl) (inr ((id, w, set_at vs id v w at, full), due)) (seen_with k words seen)
 
-    -- and the second
-    pub parts_exchanged : (due : ℕ) (k : Known) → v.shares.full ≡ Holding → v.hand.taken ≡ None → r.pending ≡ Some due → orders_of k ≡ r.orders → told_orders k ≡ told_orders v.known → k.words ≡ v.known.words → k.seen ≡ v.known.seen
+    -- and each of the others
+    pub parts_exchanged : (due : ℕ) (k : Known) → v.shares.full ≡ Holding → v.hand.taken ≡ None → orders_of k ≡ r.orders → told_orders k ≡ told_orders v.known → k.words ≡ v.known.words → k.seen ≡ v.known.seen → k.pending ≡ without_level due r.pending
         → PartsOf z (record ws { order = put_at ws.order due (entry_at z r.orders due) }) home (set vs id (record v { known = k }))
-    parts_exchanged due k full none_taken is knows told words seen =
+    parts_exchanged due k full none_taken knows told words seen left =
         let holding = order_by_full full in
         let w : View = record v { known = k } in
-        parts_known k (put_at ws.order due (entry_at z r.orders due)) r.orders None r.half r.sound r.tables
-        (positions_second z r.orders due ws.order (subst (Positions z ws.order r.orders) is r.positions))
-        (ordered_now k r.orders holding knows told) (by_full (r.half ≡ None) vs id v w at refl r.half_by) (inl refl) (seen_with k words seen)
+        parts_known k (put_at ws.order due (entry_at z r.orders due)) r.orders (without_level due r.pending) r.half r.sound r.tables
+        (positions_next z r.orders due r.pending ws.order r.positions)
+        (ordered_now k r.orders holding knows told) (by_full (r.half ≡ None) vs id v w at refl r.half_by) (inr ((id, w, set_at vs id v w at, full), left)) (seen_with k words seen)

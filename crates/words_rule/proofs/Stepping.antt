@@ -102,7 +102,7 @@ module _ {S : Type 0} (board : S → List (std.Option Held)) (free_slots : S →
     orders_kept = refl
 
     -- a step on the phase word that neither gives up an order hold nor takes one
-    pub parts_shares : (x : Shares) (n : ℕ) → Phase n (set (footings_in vs) id (on (footing_of v) x)) → ((x.order ≡ Holding → v.shares.order ≡ Holding) × (v.shares.order ≡ Holding → x.order ≡ Holding)) → (v.shares.full ≡ Holding → (x.full ≡ Holding) ⊎ ((r.half ≡ None) × (r.pending ≡ None)))
+    pub parts_shares : (x : Shares) (n : ℕ) → Phase n (set (footings_in vs) id (on (footing_of v) x)) → ((x.order ≡ Holding → v.shares.order ≡ Holding) × (v.shares.order ≡ Holding → x.order ≡ Holding)) → (v.shares.full ≡ Holding → (x.full ≡ Holding) ⊎ ((r.half ≡ None) × (r.pending ≡ [])))
         → ((IsIdle v.hand → ⊥) → (x.op ≡ shares.Held) ⊎ (x.order ≡ Holding)) → (x.op ≡ shares.Held → (v.shares.op ≡ shares.Held) ⊎ ((v.known.words ≡ []) × (v.known.seen ≡ []) × (orders_of v.known ≡ r.orders))) → (x.walk ≡ shares.Held → (v.shares.walk ≡ shares.Held) ⊎ (HasShare v ⊎ (v.known.seen ≡ []))) → PartsOf z (record ws { phase = n }) home (set vs id (record v { shares = x }))
     parts_shares x n phase order full taken fresh walks =
         let w : View = record v { shares = x } in
@@ -152,12 +152,12 @@ module _ {S : Type 0} (board : S → List (std.Option Held)) (free_slots : S →
                 (λ walking. ⊎_elim (λ was. (r.seen id v at).held (inr was)) (λ (other : HasShare v ⊎ (v.known.seen ≡ [])). ⊎_elim (λ share. (r.seen id v at).held (inl share)) (λ none_seen. subst (Each (IsHeldBy z r.function)) (sym none_seen) tt) other) (walks walking)) all;
           });
           half_by = ⊎_elim (λ none_half. inl none_half) (λ (h : FullHolder vs). dite (ℕ_discrete h.0 id)
-              (λ is. ⊎_elim (λ still. inr (id, w, set_at vs id v w at, still)) (λ (y : (r.half ≡ None) × (r.pending ≡ None)). inl y.0)
+              (λ is. ⊎_elim (λ still. inr (id, w, set_at vs id v w at, still)) (λ (y : (r.half ≡ None) × (r.pending ≡ [])). inl y.0)
               (full (ap (λ (f : View). f.shares.full) (some-injective v h.1 (sym at ∙ (ap (λ i. get_elem? vs i) (sym is) ∙ h.2))) ∙ h.3)))
               (λ apart. inr (h.0, h.1, set_else vs id h.0 w apart ∙ h.2, h.3))) r.half_by;
           pending_by = ⊎_elim (λ p. inl p) (λ (y : (h : FullHolder vs) × (h.1.known.pending ≡ r.pending)). let h = y.0 in dite (ℕ_discrete h.0 id)
               (λ is. let it : v ≡ h.1 = some-injective v h.1 (sym at ∙ (ap (λ i. get_elem? vs i) (sym is) ∙ h.2)) in
-              ⊎_elim (λ still. inr ((id, w, set_at vs id v w at, still), ap (λ (f : View). f.known.pending) it ∙ y.1)) (λ (y : (r.half ≡ None) × (r.pending ≡ None)). inl y.1)
+              ⊎_elim (λ still. inr ((id, w, set_at vs id v w at, still), ap (λ (f : View). f.known.pending) it ∙ y.1)) (λ (y : (r.half ≡ None) × (r.pending ≡ [])). inl y.1)
               (full (ap (λ (f : View). f.shares.full) it ∙ h.3)))
               (λ apart. inr ((h.0, h.1, set_else vs id h.0 w apart ∙ h.2, h.3), y.1))) r.pending_by;
         }
@@ -318,7 +318,7 @@ module _ {S : Type 0} (board : S → List (std.Option Held)) (free_slots : S →
         parts_shares (with_full v.shares Holding ws.phase) ws.phase (full_held ws.phase (footings_in vs) r.phase id (footing_of v) (at_map footing_of vs id v at) claimed none_seen)
         ((λ h. h), λ h. h) (λ f. inl refl) (r.tied id v at).taken (λ held. inl held) (λ was. inl was)
 
-    pub parts_full_out : v.shares.full ≡ Holding → r.half ≡ None → r.pending ≡ None → PartsOf z (record ws { phase = ws.phase - 8589934592 }) home (set vs id (record v { shares = with_full v.shares Free ws.phase }))
+    pub parts_full_out : v.shares.full ≡ Holding → r.half ≡ None → r.pending ≡ [] → PartsOf z (record ws { phase = ws.phase - 8589934592 }) home (set vs id (record v { shares = with_full v.shares Free ws.phase }))
     parts_full_out full none_half none_due =
         parts_shares (with_full v.shares Free ws.phase) (ws.phase - 8589934592) (full_cleared ws.phase (footings_in vs) r.phase id (footing_of v) (at_map footing_of vs id v at) (ap bit full)).1
         ((λ h. h), λ h. h) (λ f. inr (none_half, none_due)) (r.tied id v at).taken (λ held. inl held) (λ was. inl was)

@@ -32,7 +32,7 @@ use Rattle.words_rule.specs.Shapes.{shape_in}
 use Rattle.words_rule.specs.Layout.{Shape, Words, words_of, node_at, content_of}
 use Rattle.words_rule.specs.Kept.{IsHeldBy, whole_of}
 use Rattle.words_rule.specs.Rule.{Parts, Rule}
-use Rattle.words_rule.specs.Loads.{LoadedWord, seeing, sees_of}
+use Rattle.words_rule.specs.Loads.{IsInside, LoadedWord, seeing, sees_of}
 use Rattle.words_rule.specs.Known.{denoted_in, noted_function}
 use Rattle.words_rule.proofs.Layouts.{here_node}
 use Rattle.words_rule.proofs.Lists.{each_set, set_at}
@@ -124,6 +124,9 @@ module _ {S : Type 0} (board : S → List (std.Option Held)) (free_slots : S →
       due = refl;
     }
 
+    inside_by : (l : List Held) → Each (IsHeldBy z r.function) l → IsInside (seeing v l)
+    inside_by l all s f is = subst (λ (y : Shape). s < y.slots) (shape_is board free_slots z ws home vs r id v at live) (r.sound.within s (r.sound.used s f (list_true l all s f is)))
+
     -- what is left
     pub record WalkedAt (q : ℕ) : Type 0 where
       pub list : List Held
@@ -147,6 +150,7 @@ module _ {S : Type 0} (board : S → List (std.Option Held)) (free_slots : S →
       true_still = all;
       loaded = record {
         kept = kept_by v.known.seen (λ t g is. is);
+        inside = inside_by v.known.seen all;
         used = (Leaf x, reads);
         tells = λ word is e at_q k its. subst (λ (y : Word). Tells k (sees_of v) e (values_at k (sees_of v) e) (opened_of y e.complement)) (some_word (Leaf x) word (sym reads ∙ is))
             (told_by all v.known.seen all q (Leaf x) reads (λ c. tt) e at_q k its);
@@ -167,6 +171,7 @@ module _ {S : Type 0} (board : S → List (std.Option Held)) (free_slots : S →
           true_still = all2;
           loaded = record {
             kept = kept_by l2 (λ t g is. list_more l1 all1 node.hi high n.high_is t g (list_more v.known.seen all node.lo.index low.0 low.1 t g is));
+            inside = inside_by l2 all2;
             used = (Inner node, reads);
             tells = λ word is e at_q k its. subst (λ (y : Word). Tells k (sees_of (seeing v l2)) e (values_at k (sees_of v) e) (opened_of y e.complement)) (some_word (Inner node) word (sym reads ∙ is))
                 (told_by all l2 all2 q (Inner node) reads (λ c. ((high, high_has), (low.0, low_has))) e at_q k its);

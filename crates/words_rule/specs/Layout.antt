@@ -4,8 +4,10 @@ use Rattle.edge_bits.specs.Words.{unpack_of}
 use Rattle.edge_bits.specs.Mixing.{scattered}
 use Rattle.function_laws.specs.Kinds.{Denoted}
 use Rattle.function_laws.specs.Sizes.{Orders}
+use Rattle.function_laws.specs.SiftedOrders.{place_of}
 use Rattle.std.specs.Prelude as std
 use Rattle.node_store.specs.Contents.{Content, Pair}
+use Rattle.words_rule.specs.Chains.{Lists}
 
 pub record Shape : Type 0 where
   pub variables : ℕ
@@ -31,7 +33,7 @@ heads z = 2 ^ head_bits 18 z.slots
 abbrev pub head_of : Shape → ℕ → ℕ
 head_of z bits = scattered bits (heads z)
 
--- the words: journal, phase, the turns of the board and of the free list, the number of sessions; turns, orders; node and next word of each slot side by side; counts; heads
+-- the words: journal, phase, the turns of the board and of the free list, the number of sessions; turns; orders and levels; node and next word of each slot side by side; counts; heads
 abbrev pub turn_at : ℕ → ℕ
 turn_at l = 5 + l
 
@@ -39,19 +41,19 @@ abbrev pub order_at : Shape → ℕ → ℕ
 order_at z p = 6 + (z.variables + z.elements) + p
 
 abbrev pub node_at : Shape → ℕ → ℕ
-node_at z s = 6 + (z.variables + z.elements) + (z.variables + z.elements) + s * 2
+node_at z s = 6 + (z.variables + z.elements) + (z.variables + z.elements) + (z.variables + z.elements) + s * 2
 
 abbrev pub next_at : Shape → ℕ → ℕ
-next_at z s = 7 + (z.variables + z.elements) + (z.variables + z.elements) + s * 2
+next_at z s = 7 + (z.variables + z.elements) + (z.variables + z.elements) + (z.variables + z.elements) + s * 2
 
 abbrev pub count_at : Shape → ℕ → ℕ
-count_at z s = 6 + (z.variables + z.elements) + (z.variables + z.elements) + z.slots * 2 + s
+count_at z s = 6 + (z.variables + z.elements) + (z.variables + z.elements) + (z.variables + z.elements) + z.slots * 2 + s
 
 abbrev pub head_at : Shape → ℕ → ℕ
-head_at z h = 6 + (z.variables + z.elements) + (z.variables + z.elements) + z.slots * 3 + h
+head_at z h = 6 + (z.variables + z.elements) + (z.variables + z.elements) + (z.variables + z.elements) + z.slots * 3 + h
 
 abbrev pub word_count : Shape → ℕ
-word_count z = 6 + (z.variables + z.elements) + (z.variables + z.elements) + z.slots * 3 + heads z
+word_count z = 6 + (z.variables + z.elements) + (z.variables + z.elements) + (z.variables + z.elements) + z.slots * 3 + heads z
 
 -- so many words, the first at this index
 abbrev pub area : (ℕ → ℕ) → ℕ → List ℕ → ℕ → ℕ
@@ -76,7 +78,7 @@ words_of z ws = record {
   board_turn = slice_index ws 2;
   free_turn = slice_index ws 3;
   turn = area turn_at (levels z) ws;
-  order = area (order_at z) (places z) ws;
+  order = area (order_at z) (places z + places z) ws;
   node = area (node_at z) z.slots ws;
   count = area (count_at z) z.slots ws;
   next = area (next_at z) z.slots ws;
@@ -84,14 +86,22 @@ words_of z ws = record {
 }
 
 -- what stands at a position of both orders: the elements by their own numbers, behind the variables
-abbrev pub entry_at : Shape → Orders → ℕ → ℕ
-entry_at z orders p = if nat_lt p z.variables then slice_index orders.variables p else slice_index orders.elements (p - z.variables)
+abbrev pub item_at : Shape → Orders → ℕ → ℕ
+item_at z orders p = if nat_lt p z.variables then slice_index orders.variables p else slice_index orders.elements (p - z.variables)
 
--- The order words are the orders, but for the one that is still to be stored.
-pub record Positions (z : Shape) (order : ℕ → ℕ) (orders : Orders) (pending : std.Option ℕ) : Type 0 where
+-- the level of a variable, or of an element behind the variables
+abbrev pub level_entry : Shape → Orders → ℕ → ℕ
+level_entry z orders i = if nat_lt i z.variables then place_of i orders.variables else place_of (i - z.variables) orders.elements
+
+-- the positions, and behind them the levels
+abbrev pub entry_at : Shape → Orders → ℕ → ℕ
+entry_at z orders p = if nat_lt p (places z) then item_at z orders p else level_entry z orders (p - places z)
+
+-- The order words are the orders and the levels in them, but for those that are still to be stored.
+pub record Positions (z : Shape) (order : ℕ → ℕ) (orders : Orders) (pending : List ℕ) : Type 0 where
   pub variables_long : length orders.variables ≡ z.variables
   pub elements_long : length orders.elements ≡ z.elements
-  pub at : (p : ℕ) → p < places z → (pending ≡ std.Some p → ⊥) → order p ≡ entry_at z orders p
+  pub at : (p : ℕ) → p < places z + places z → (Lists pending p → ⊥) → order p ≡ entry_at z orders p
 
 -- the store that the words are, with what each slot denotes
 abbrev pub content_of : Shape → (ℕ → ℕ) → Orders → (ℕ → std.Option Denoted) → std.Option Pair → Content

@@ -1,6 +1,6 @@
+pub mod Chains
 pub mod Layout
 pub mod Shapes
-pub mod Chains
 pub mod Notes
 pub mod Views
 pub mod Journal
@@ -23,3 +23,4 @@ pub mod Loads
 pub mod Plays
 pub mod PhasePlays
 pub mod CountPlays
+pub mod Walkers

@@ -1,9 +1,10 @@
 -- What the load of a node word tells, and the store of one.
-use Rattle.std.specs.Prelude.{◌≡◌, ◌⊎◌, ℕ, true, false, List, Some, None, option_map}
+use Rattle.std.specs.Prelude.{◌≡◌, ◌⊎◌, ℕ, ◌<◌, true, false, List, Some, None, option_map}
 use Rattle.edge_bits.specs.declared.edges.Edge.{Edge}
 use Rattle.edge_bits.specs.declared.edges.Kind.{Kind}
 use Rattle.edge_bits.specs.declared.words.Word.{Word}
 use Rattle.edge_bits.specs.Words.{unpack_of, pack_of}
+use Rattle.function_laws.specs.Kinds.{Denoted}
 use Rattle.node_store.specs.Contents.{opened_of}
 use Rattle.node_store.specs.Views as views
 use Rattle.node_store.specs.Views.{Is, Kept, values_at}
@@ -69,8 +70,13 @@ sees_of v = record {
 abbrev pub seeing : View → List Held → View
 seeing v l = record v { known = record v.known { seen = l } }
 
+-- each slot that it sees is one of the table
+abbrev pub IsInside : View → Type 0
+IsInside v = (s : ℕ) (f : Denoted) → (sees_of v).content s ≡ Some f → s < v.draws.slots
+
 -- a walk's load of a word in use: what the word tells of each edge to its slot
 pub record LoadedWord (v u : View) (q n : ℕ) : Type 0 where
   pub kept : Kept (sees_of v) (sees_of u)
+  pub inside : IsInside u
   pub used : (word : Word) × (unpack_of n ≡ Some word)
   pub tells : (word : Word) → unpack_of n ≡ Some word → (e : Edge) → e.index ≡ q → (k : Kind) → Is k (sees_of v) e → Tells k (sees_of u) e (values_at k (sees_of v) e) (opened_of word e.complement)

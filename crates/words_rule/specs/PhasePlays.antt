@@ -15,7 +15,7 @@ use Rattle.words_rule.specs.Shapes.{shape_in}
 use Rattle.words_rule.specs.Phase.{order_of, ops_of, walks_of, with_op, with_walk, with_order, with_full}
 use Rattle.words_rule.specs.Kept.{IsHeldBy}
 use Rattle.words_rule.specs.Known.{Own, known_of, noted_content}
-use Rattle.words_rule.specs.Loads.{sees_of}
+use Rattle.words_rule.specs.Loads.{IsInside, sees_of}
 
 -- what it noted of nodes goes
 abbrev pub forgetting : View → View
@@ -39,6 +39,7 @@ pub record HasSetOut (v u : View) (x : Shares) : Type 0 where
   pub work : u.work ≡ v.work
   pub shares : u.shares ≡ x
   pub stands : (sees_of u).content base_slot ≡ Some (ZddFamily base)
+  pub inside : IsInside u
   pub rows : Each (λ (row : Row). IsHeldBy (shape_in v.draws) (sees_of u).content row.held) v.draws.rows
 
 module _ {S : Type 0} where

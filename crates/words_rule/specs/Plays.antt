@@ -1,9 +1,12 @@
 -- What steps tell.
-use Rattle.std.specs.Prelude.{◌≡◌, ◌≢◌, List, ℕ, ◌<◌, ◌≤◌, ◌++◌, ◌∷◌, Some, None, false}
+use Rattle.std.specs.Prelude.{◌≡◌, ◌≢◌, List, ℕ, ◌+◌, ◌<◌, ◌≤◌, ◌++◌, ◌∷◌, Some, None, false}
 use Rattle.std.specs.Prelude as std
 use Rattle.atomic_table.specs.Table.{Me, Step, rest}
 use Rattle.edge_bits.specs.Words.{unpack_of, pack_of}
 use Rattle.function_laws.specs.declared.history.Function.{Function}
+use Rattle.edge_bits.specs.declared.edges.Kind.{Kind}
+use Rattle.node_store.specs.Contents.{level_of}
+use Rattle.node_store.specs.Views.{IsVariable}
 use Rattle.step_store.specs.Chains.{link_to}
 use Rattle.step_store.specs.Knowing.{IsChain, risen}
 use Rattle.words_rule.specs.declared.view.Held.{Held}
@@ -12,13 +15,13 @@ use Rattle.words_rule.specs.declared.view.Job.{Job}
 use Rattle.words_rule.specs.declared.view.Walk.{Walk}
 use Rattle.words_rule.specs.declared.view.Hand.{Hand}
 use Rattle.words_rule.specs.declared.view.View.{View}
-use Rattle.words_rule.specs.Views.{holding, letting_go}
-use Rattle.words_rule.specs.Layout.{turn_at, node_at, next_at, head_at}
+use Rattle.words_rule.specs.Views.{holding, letting_go, orders_of}
+use Rattle.words_rule.specs.Layout.{places, turn_at, order_at, node_at, next_at, head_at}
 use Rattle.words_rule.specs.Shapes.{shape_in}
 use Rattle.words_rule.specs.Phase.{with_op}
 use Rattle.words_rule.specs.Dues.{slot_of, word_of}
-use Rattle.words_rule.specs.Hands.{linking, pushing, taking, with_level, without_level}
-use Rattle.words_rule.specs.Known.{Own, known_of, with_made}
+use Rattle.words_rule.specs.Hands.{place_of, linking, pushing, taking, with_level, without_level}
+use Rattle.words_rule.specs.Known.{Own, known_of, own_none, with_made}
 use Rattle.words_rule.specs.Loads.{IsSeatOf, LoadedNode, LoadedWord, StoredNode, seeing}
 
 module _ {S : Type 0} where
@@ -59,6 +62,11 @@ module _ {S : Type 0} where
 
   abbrev pub node_loaded : Own → Step S → Me S View → ℕ → Me S View → Type 0
   node_loaded o st m n m' = (m'.1 ≡ m.1) × (m'.0.hand ≡ m.0.hand) × (m'.0.work ≡ m.0.work) × IsSeatOf m.0 m'.0 × ((q : ℕ) → st.word ≡ node_at (shape_in m.0.draws) q → LoadedNode (known_of m.0 o) (known_of m'.0 o) q n)
+
+  -- the level word of a variable or an element
+  abbrev pub level_loaded : Step S → Me S View → ℕ → Me S View → Type 0
+  level_loaded st m n m' = (m' ≡ m)
+      × ((k : Kind) (u : ℕ) → IsVariable k (known_of m.0 own_none).view u → st.word ≡ order_at (shape_in m.0.draws) (places (shape_in m.0.draws) + place_of (shape_in m.0.draws) u) → n ≡ level_of (orders_of m.0.known) u)
 
   -- the first free slot was taken for a word of these bits
   pub record HasTaken (bits slot : ℕ) (m m' : Me S View) : Type 0 where

@@ -1,7 +1,10 @@
 //! Where each word stands.
-ghost use Rattle.std.specs.Prelude.{◌≡◌};
-ghost use Rattle.words_rule.specs.Layout.{count_at, head_at, next_at, node_at, turn_at};
+ghost use Rattle.std.specs.Prelude.{◌≡◌, ◌+◌};
+ghost use Rattle.words_rule.specs.Layout.{count_at, head_at, next_at, node_at, order_at, places, turn_at};
+ghost use Rattle.words_rule.specs.Hands.{place_of};
 ghost use Rattle.words_rule.specs.Shapes.{shape_by};
+
+use edge_bits::FIRST_ELEMENT;
 
 /// The number of calls so far.
 pub(crate) const JOURNAL: usize = 0;
@@ -35,12 +38,25 @@ pub(crate) fn turn(level: u32) -> usize
 }
 
 impl Sizes {
-    /// The first of the words of slots: behind the turns and the orders.
+    /// The first of the words of slots: behind the turns, the orders and the levels.
     fn first(&self) -> usize
         ensures { result ≡ node_at (shape_by self.now) 0 }
     {
         let places = self.vars as usize + self.elements as usize;
-        TURNS + 1 + places * 2
+        TURNS + 1 + places * 3
+    }
+
+    /// The level word of a variable or an element.
+    pub(crate) fn level(&self, var: u32) -> usize
+        ensures { result ≡ order_at (shape_by self.now) (places (shape_by self.now) + place_of (shape_by self.now) var) }
+    {
+        let places = self.vars as usize + self.elements as usize;
+        let place = if var < FIRST_ELEMENT {
+            var as usize
+        } else {
+            self.vars as usize + (var - FIRST_ELEMENT) as usize
+        };
+        TURNS + 1 + places * 2 + place
     }
 
     /// The node word of a slot.
