@@ -1,21 +1,17 @@
 -- The steps as a seat calls them: at the index that it has of a word, with what each tells.
-use Rattle.std.proofs.Common.{◌≡◌, ◌≢◌, ℕ, suc, ◌+◌, ◌-◌, ◌<◌, ◌==◌, cond, true, false, List, [], ◌∷◌, get_or, Some, None, option_map, refl, ap, sym, ◌∙◌, subst, arith}
+use Rattle.std.proofs.Common.{◌≡◌, ◌≢◌, ℕ, suc, ◌+◌, ◌-◌, ◌<◌, ◌==◌, cond, true, List, ◌∷◌, get_or, Some, None, option_map, refl, ap, sym, ◌∙◌, subst, arith}
 use Rattle.std.specs.Prelude as std
 use mathlib.Core.Logic.{dite}
-use mathlib.Core.Option.{none, some}
+use mathlib.Core.Option.{none}
 use native.Mathlib.Decide.{ℕ_discrete}
 use lib.ListN.{get_elem?}
 use prog.Atomic.{either}
 use Rattle.atomic_table.specs.Table.{State, Me, step, keeps, rest, carried_after, Allows}
 use Rattle.edge_bits.specs.declared.words.Word.{Word}
 use Rattle.function_laws.specs.Kinds.{Denoted}
-use Rattle.step_store.specs.Knowing as knowing
 use Rattle.step_store.specs.Knowing.{IsWanted}
-use Rattle.step_store.specs.declared.hand.Taken.{Taken}
 use Rattle.words_rule.specs.declared.view.Held.{Held}
 use Rattle.words_rule.specs.declared.view.Share.TheVariants as shares
-use Rattle.words_rule.specs.declared.view.Hand.{Hand}
-use Rattle.words_rule.specs.declared.view.Work.{Work}
 use Rattle.words_rule.specs.declared.view.View.{View}
 use Rattle.words_rule.specs.Shapes.{shape_in}
 use Rattle.words_rule.specs.Layout.{Shape, levels, heads, places, words_of, turn_at, order_at, node_at, next_at, head_at}
@@ -23,7 +19,7 @@ use Rattle.words_rule.specs.Hands.{place_of, HasLevel, Owns, linking, taking, wi
 use Rattle.words_rule.specs.Rule.{Rule}
 use Rattle.words_rule.specs.Known.{Own, known_of, own_none, taken_of, with_made}
 use Rattle.words_rule.specs.Loads.{LoadedNode, LoadedWord, StoredNode, TakenReads, sees_of}
-use Rattle.words_rule.specs.Plays.{board_taken, level_loaded, IsHanded, HasLoaded, HasTaken, LeadsOn, turn_taken, turn_given, head_loaded, next_loaded, node_loaded, slot_taken, next_stored, node_stored, free_taken, word_walked}
+use Rattle.words_rule.specs.Plays.{board_taken, level_loaded, HasLoaded, HasTaken, LeadsOn, turn_taken, turn_given, head_loaded, next_loaded, node_loaded, slot_taken, next_stored, node_stored, free_taken, word_walked}
 use Rattle.words_rule.proofs.Boards.{takes_board}
 use Rattle.std.proofs.lemmas.Bool.{lt-ltb, le-ltb}
 use Rattle.edge_bits.specs.Permanent.{first_element}

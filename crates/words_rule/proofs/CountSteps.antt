@@ -1,5 +1,5 @@
 -- Whole steps on count words.
-use Rattle.std.proofs.Common.{◌≡◌, ◌≢◌, ◌⊎◌, ⊎_elim, ℕ, zero, suc, ◌+◌, ◌-◌, ◌*◌, ◌%◌, ◌^◌, ◌<◌, ◌≤◌, ◌==◌, true, List, [], ◌∷◌, set, get_or, refl, ap, sym, ◌∙◌, subst, arith, eq-eqb, Some, None}
+use Rattle.std.proofs.Common.{◌≡◌, ◌≢◌, ⊎_elim, ℕ, zero, suc, ◌+◌, ◌-◌, ◌%◌, ◌^◌, ◌<◌, ◌≤◌, ◌==◌, true, List, [], ◌∷◌, set, get_or, refl, ap, sym, ◌∙◌, subst, arith, eq-eqb}
 use Rattle.std.specs.Prelude as std
 use mathlib.Core.Logic.{dite}
 use mathlib.Core.Option.{Option, none, some, some-ne-none, some-injective}
@@ -8,7 +8,6 @@ use lib.ListN.{get_elem?}
 use Rattle.atomic_table.specs.Table.{State, Me, step, keeps, Allows}
 use Rattle.atomic_table.proofs.Lists.{at_map}
 use Rattle.function_laws.specs.Kinds.{Denoted, flipped}
-use Rattle.function_laws.specs.SessionEntries.{Each}
 use Rattle.handle_count.specs.CountWords.{count_of, generation_of}
 use Rattle.node_store.specs.KindLaws.{flipped-some}
 use Rattle.node_store.specs.Changes.{put_at}
@@ -21,7 +20,7 @@ use Rattle.words_rule.specs.declared.view.View.{View}
 use Rattle.words_rule.specs.Shapes.{shape_in}
 use Rattle.words_rule.specs.Layout.{Shape, Words, words_of, count_at}
 use Rattle.words_rule.specs.Kept.{IsHeldBy, whole_of}
-use Rattle.words_rule.specs.Tallies.{Tally, held_count, lifted, one_if, refs, row_count, size, tally_of, times, total}
+use Rattle.words_rule.specs.Tallies.{held_count, lifted, one_if, refs, row_count, size, tally_of, times}
 use Rattle.words_rule.specs.CountPlays.{HasRow, MayRaise, others_of, counted_up, counted_down, pinned, unpinned}
 use Rattle.words_rule.specs.Rule.{Parts, Rule, tallies_in}
 use Rattle.words_rule.specs.Known.{noted_content, own_none}

@@ -1,5 +1,5 @@
 -- A seat that takes an operation share or a walk share learns what its rows' edges denote, and of the slots that are told by their number.
-use Rattle.std.proofs.Common.{◌≡◌, ◌⊎◌, inl, inr, ℕ, suc, ◌+◌, ◌-◌, ◌%◌, ◌^◌, ◌<◌, ◌≤◌, cond, true, List, [], ◌∷◌, ◌++◌, set, get_or, length, Some, None, refl, ap, sym, ◌∙◌, subst, arith}
+use Rattle.std.proofs.Common.{◌≡◌, ◌⊎◌, inl, inr, ℕ, ◌+◌, ◌-◌, ◌%◌, ◌^◌, ◌<◌, ◌≤◌, cond, true, List, [], ◌∷◌, ◌++◌, set, get_or, length, Some, None, refl, ap, sym, ◌∙◌, subst, arith}
 use Rattle.std.specs.Prelude as std
 use Rattle.std.proofs.lemmas.Bool.{cases_lt}
 use mathlib.Core.Logic.{dite}
@@ -11,7 +11,6 @@ use Rattle.atomic_table.proofs.Lists.{at_map}
 use Rattle.edge_bits.specs.declared.words.Word.{Word}
 use Rattle.edge_bits.specs.declared.words.Word.TheVariants.{Leaf}
 use Rattle.edge_bits.specs.Permanent.{base_slot}
-use Rattle.edge_bits.specs.Words.{unpack_of}
 use Rattle.function_laws.specs.Families.{base}
 use Rattle.function_laws.specs.Kinds.{Denoted, BddFunction, ZddFamily, flipped}
 use Rattle.function_laws.specs.SessionEntries.{Each}
@@ -22,20 +21,19 @@ use Rattle.step_store.specs.Knowing.{Stands}
 use Rattle.words_rule.specs.declared.view.Held.{Held}
 use Rattle.words_rule.specs.declared.view.Row.{Row}
 use Rattle.words_rule.specs.declared.view.Draws.{Draws}
-use Rattle.words_rule.specs.declared.view.SeenWord.{SeenWord}
 use Rattle.words_rule.specs.declared.view.Share.TheVariants as shares
 use Rattle.words_rule.specs.declared.view.View.{View}
 use Rattle.words_rule.specs.Shapes.{shape_in}
 use Rattle.words_rule.specs.Layout.{Shape, Words, words_of}
 use Rattle.words_rule.specs.Chains.{Lists}
-use Rattle.words_rule.specs.Kept.{IsHeldBy, whole_of}
-use Rattle.words_rule.specs.Phase.{footing_of, with_op, with_walk}
+use Rattle.words_rule.specs.Kept.{IsHeldBy}
+use Rattle.words_rule.specs.Phase.{with_op, with_walk}
 use Rattle.words_rule.specs.Tallies.{tally_of, parts_of}
 use Rattle.words_rule.specs.Seen.{HasShare, StandsSo}
 use Rattle.words_rule.specs.Rule.{Parts, Rule, footings_in}
 use Rattle.words_rule.specs.Known.{Own, known_of, noted_content, own_none}
 use Rattle.words_rule.specs.Loads.{IsInside, sees_of}
-use Rattle.words_rule.specs.PhasePlays.{HasEntered, HasSetOut, op_entered, walk_entered}
+use Rattle.words_rule.specs.PhasePlays.{op_entered, walk_entered}
 use Rattle.words_rule.proofs.Lists.{set_at}
 use Rattle.words_rule.proofs.Layouts.{set_phase}
 use Rattle.words_rule.proofs.Phases.{small_word}

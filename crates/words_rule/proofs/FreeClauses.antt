@@ -1,5 +1,5 @@
 -- The free list is given back, empty, and what was due is noted, with the clauses of a seat's step.
-use Rattle.std.proofs.Common.{◌≡◌, ℕ, true, List, [], ◌∷◌, set, Some, None, refl, ap, sym, ◌∙◌, subst}
+use Rattle.std.proofs.Common.{◌≡◌, ℕ, true, List, [], ◌∷◌, Some, ap, sym, ◌∙◌, subst}
 use Rattle.std.specs.Prelude as std
 use mathlib.Core.Option.{none}
 use Rattle.atomic_table.specs.Table.{State, Me, rest, step, stepped, Allows}
@@ -13,11 +13,10 @@ use Rattle.node_store.specs.Views.{CanMake, node_values, values_at}
 use Rattle.node_store.proofs.Parting.{same_kind}
 use Rattle.step_store.specs.declared.job.Job as steps
 use Rattle.step_store.specs.declared.job.Job.TheVariants as jobs
-use Rattle.step_store.specs.Knowing.{Knowledge, IsDue, MayMake, risen}
+use Rattle.step_store.specs.Knowing.{IsDue, MayMake, risen}
 use Rattle.words_rule.specs.declared.view.Held.{Held}
 use Rattle.words_rule.specs.declared.view.View.{View}
 use Rattle.words_rule.specs.Rule.{Rule}
-use Rattle.words_rule.specs.Known.{Own, known_of}
 use Rattle.words_rule.specs.Plays.{empty_given}
 use Rattle.words_rule.proofs.Lists.{set_at}
 use Rattle.words_rule.proofs.Tabling.{gives_free_list, set_set}

@@ -1,5 +1,5 @@
 -- Steps on turns, heads, links and the free list, with the clauses of a seat's steps.
-use Rattle.std.proofs.Common.{◌≡◌, ◌≢◌, ⊎_elim, inl, inr, ℕ, zero, suc, ◌<◌, ◌≤◌, ◌==◌, cond, Bool, true, false, List, [], ◌∷◌, ◌++◌, set, get_or, eqb-true, Some, None, refl, ap, sym, ◌∙◌, subst, arith}
+use Rattle.std.proofs.Common.{◌≡◌, ◌≢◌, ⊎_elim, inl, inr, ℕ, zero, suc, ◌<◌, ◌≤◌, ◌==◌, cond, Bool, true, false, List, [], ◌∷◌, set, get_or, eqb-true, Some, None, refl, ap, sym, ◌∙◌, subst, arith}
 use Rattle.std.specs.Prelude as std
 use mathlib.Core.Option.{some}
 use lib.ListN.{get_elem?}
@@ -30,7 +30,7 @@ use Rattle.words_rule.proofs.Handed.{handed, hand_at, parts_walk}
 use Rattle.words_rule.proofs.Stepping.{shape_is}
 use Rattle.words_rule.proofs.Tabling.{stays, takes_turn, gives_turn, takes_free_list, stores_next}
 use Rattle.words_rule.proofs.Storing.{pushes_noted}
-use Rattle.words_rule.proofs.NodeLoads.{lists_back, walk_in}
+use Rattle.words_rule.proofs.NodeLoads.{lists_back}
 
 pub stands_at : (l : List ℕ) (s : ℕ) → steps.Lists l s → Stands l s
 stands_at [] s h = absurd h

@@ -1,10 +1,10 @@
 -- The load of a node word, with the clauses of a seat's step.
 use Rattle.std.proofs.Common.{◌≡◌, ⊎_elim, inl, inr, ℕ, ◌<◌, true, List, [], ◌∷◌, set, get_or, Some, None, refl, ap, sym, ◌∙◌, subst}
 use Rattle.std.specs.Prelude as std
-use mathlib.Core.Option.{Option, none, some}
+use mathlib.Core.Option.{Option, some}
 use lib.ListN.{get_elem?}
 use lib.Seq.{set-get_or}
-use Rattle.atomic_table.specs.Table.{State, Me, Step, step, keeps, Allows}
+use Rattle.atomic_table.specs.Table.{State, Me, keeps, Allows}
 use Rattle.edge_bits.specs.declared.words.Word.{Word}
 use Rattle.edge_bits.specs.declared.words.Word.TheVariants.{Inner, Leaf}
 use Rattle.edge_bits.specs.Words.{unpack_of}

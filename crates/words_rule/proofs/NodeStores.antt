@@ -19,7 +19,7 @@ use Rattle.node_store.specs.Views.{Grown, Is, node_values, values_at}
 use Rattle.node_store.specs.ViewLaws.{Denotes-node}
 use Rattle.node_store.proofs.Parting.{same_kind}
 use Rattle.step_store.specs.declared.hand.Taken.{Taken}
-use Rattle.step_store.specs.Knowing.{Knowledge, Grows, HasWord, Stands}
+use Rattle.step_store.specs.Knowing.{Knowledge, HasWord}
 use Rattle.words_rule.specs.declared.view.Held.{Held}
 use Rattle.words_rule.specs.declared.view.SeenWord.{SeenWord}
 use Rattle.words_rule.specs.declared.view.Share.TheVariants as shares

@@ -1,5 +1,5 @@
 -- Whole steps on the phase word.
-use Rattle.std.proofs.Common.{◌≡◌, ◌⊎◌, ⊎_elim, ℕ, ◌+◌, ◌-◌, ◌%◌, ◌^◌, ◌<◌, true, List, [], set, get_or, Some, None, refl, ap, sym, ◌∙◌, subst, arith}
+use Rattle.std.proofs.Common.{◌≡◌, ◌⊎◌, ⊎_elim, ℕ, ◌+◌, ◌-◌, ◌%◌, ◌^◌, ◌<◌, true, List, [], set, get_or, refl, ap, sym, ◌∙◌, subst, arith}
 use Rattle.std.specs.Prelude as std
 use Rattle.std.specs.Int.Bits.{bit_and, bit_or, bit_xor}
 use mathlib.Core.Logic.{dite}
@@ -17,7 +17,7 @@ use Rattle.words_rule.specs.declared.view.View.{View}
 use Rattle.words_rule.specs.Views.{orders_of, told_orders}
 use Rattle.words_rule.specs.Layout.{Shape, Words, words_of}
 use Rattle.words_rule.specs.Hands.{IsIdle}
-use Rattle.words_rule.specs.Phase.{Footing, bit, footing_of, full_of, op_weight, ops_of, order_bit, order_of, full_bit, walk_weight, walks_of, weight, with_full, with_op, with_order, with_walk}
+use Rattle.words_rule.specs.Phase.{bit, footing_of, op_weight, ops_of, order_of, walk_weight, walks_of, weight, with_full, with_op, with_order, with_walk}
 use Rattle.words_rule.specs.PhasePlays.{forgetting, full_claimed, full_looked, full_unclaimed, op_left, order_claimed, order_left, order_looked, order_unclaimed, walk_left}
 use Rattle.words_rule.specs.Rule.{Parts, Rule, footings_in}
 use Rattle.words_rule.proofs.Lists.{set_at}

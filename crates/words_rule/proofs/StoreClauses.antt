@@ -13,7 +13,6 @@ use Rattle.node_store.specs.Contents.{Content}
 use Rattle.node_store.specs.Views.{IsProper}
 use Rattle.node_slots.proofs.Answering.{value_fits}
 use Rattle.step_store.specs.Chains as steps
-use Rattle.step_store.specs.declared.hand.Taken.{Taken}
 use Rattle.step_store.specs.Knowing as knowing
 use Rattle.step_store.specs.Knowing.{Knowledge, IsWanted, MayStore}
 use Rattle.words_rule.specs.declared.view.Held.{Held}

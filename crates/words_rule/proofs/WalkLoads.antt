@@ -1,5 +1,5 @@
 -- The load of a node word in a walk, in the middle of a swap too, with the clauses of a walk's step.
-use Rattle.std.proofs.Common.{◌≡◌, ℕ, not, Bool, true, false, Some, None, option_map, ap, sym, ◌∙◌, subst}
+use Rattle.std.proofs.Common.{◌≡◌, ℕ, not, Bool, true, false, Some, ap, sym, ◌∙◌, subst}
 use Rattle.edge_bits.specs.declared.edges.Edge.{Edge}
 use Rattle.edge_bits.specs.declared.edges.Kind.{Kind}
 use Rattle.edge_bits.specs.declared.edges.Kind.TheVariants.{Bdd, Add, Zdd}
@@ -20,8 +20,6 @@ use Rattle.node_store.specs.ViewLaws.{values_at-is, Is-from, Denotes-flip}
 use Rattle.node_store.proofs.Parting.{same_kind, same_values}
 use Rattle.node_slots.proofs.Flips.{unflip, not-injective}
 use Rattle.step_store.specs.Walking.{Tells, IsJoined}
-use Rattle.words_rule.specs.declared.view.View.{View}
-use Rattle.words_rule.specs.Known.{denoted_in, noted_function}
 use Rattle.words_rule.proofs.Narrowing.{Narrow, Known, variable_down, is_down, values_same}
 use Rattle.words_rule.proofs.Opened.{at_edge, leaf_at, opens_leaf}
 

@@ -11,7 +11,6 @@ use Rattle.function_laws.specs.EntryOrders.{opening_orders, orders_from}
 use Rattle.words_rule.specs.Generations.{IsOfSlot}
 use Rattle.words_rule.specs.declared.view.Held.{Held}
 use Rattle.words_rule.specs.declared.view.Draws.{Draws}
-use Rattle.words_rule.specs.declared.view.Hand.{Hand}
 use Rattle.words_rule.specs.declared.view.View.{View}
 use Rattle.words_rule.specs.declared.view.Work.{Work}
 use Rattle.words_rule.specs.Views.{sizes_for}

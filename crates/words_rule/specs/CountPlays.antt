@@ -3,7 +3,7 @@ use Rattle.std.specs.Prelude.{◌≡◌, ◌⊎◌, ℕ, List, [], ◌∷◌}
 use mathlib.Core.Option.{some}
 use lib.ListN.{get_elem?}
 use Rattle.atomic_table.specs.Table.{Me, Step}
-use Rattle.handle_count.specs.CountWords.{count_of, generation_of}
+use Rattle.handle_count.specs.CountWords.{generation_of}
 use Rattle.words_rule.specs.declared.view.Held.{Held as HeldEdge}
 use Rattle.words_rule.specs.declared.view.Row.{Row}
 use Rattle.words_rule.specs.declared.view.Share.TheVariants.{Held}

@@ -1,5 +1,5 @@
 -- A seat with a walk share, as a walk sees it.
-use Rattle.std.specs.Prelude.{◌≡◌, ℕ, ◌<◌, Some}
+use Rattle.std.specs.Prelude.{◌≡◌, ◌<◌, Some}
 use Rattle.atomic_table.specs.Seated.{TableId}
 use Rattle.edge_bits.specs.Permanent.{base_slot}
 use Rattle.function_laws.specs.Families.{base}

@@ -1,9 +1,4 @@
 //! A seat with a walk share, as what a walk asks for.
-ghost use Rattle.std.specs.Prelude.{◌≡◌, MatchResult};
-ghost use Rattle.words_rule.specs.declared.view.Share.TheVariants.{Held, Nothing};
-ghost use Rattle.words_rule.specs.Phase.{with_walk};
-ghost use Rattle.words_rule.specs.Passes.{view, in_hand, IsLiveOf, IsPassOf};
-ghost use Rattle.words_rule.specs.Walkers.{IsWalker, besides_of};
 
 use crate::content::Content;
 use crate::seat::{Guard, Pass};

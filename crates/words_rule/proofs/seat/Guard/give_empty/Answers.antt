@@ -1,7 +1,6 @@
-use Rattle.std.proofs.Common.{rules, ◌≡◌, ◌∷◌, Some, ap, sym, ◌∙◌, arith}
+use Rattle.std.proofs.Common.{rules, ◌∷◌, Some, ap, sym, ◌∙◌, arith}
 use Rattle.atomic_table.specs.Table.{rest}
 use Rattle.words_rule.proofs.FreeClauses.{step_give_empty}
-use Rattle.words_rule.proofs.Keeps.{keeps_number, keeps_sizes, keeps_words}
 use Rattle.words_rule.proofs.seat.Guard.give_empty.Goals as goal
 
 pub store-requires : goal.store-requires

@@ -1,6 +1,4 @@
-use Rattle.std.proofs.Common.{rules, ◌≡◌, ap, sym, ◌∙◌, arith}
-use Rattle.words_rule.specs.Layout.{turn_at}
-use Rattle.words_rule.specs.declared.view.Draws.{Draws}
+use Rattle.std.proofs.Common.{rules, ap, ◌∙◌, arith}
 use Rattle.words_rule.proofs.Calls.{call_give_turn}
 use Rattle.words_rule.proofs.Keeps.{keeps_number, keeps_sizes, keeps_words}
 use Rattle.words_rule.proofs.seat.Guard.give_turn.Goals as goal

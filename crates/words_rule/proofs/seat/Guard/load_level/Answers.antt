@@ -1,4 +1,4 @@
-use Rattle.std.proofs.Common.{rules, ◌≡◌, ◌+◌, ap, sym, ◌∙◌, arith}
+use Rattle.std.proofs.Common.{rules, ◌≡◌, ◌+◌, ap, ◌∙◌, arith}
 use Rattle.words_rule.specs.Layout.{order_at, places}
 use Rattle.words_rule.specs.Hands.{place_of}
 use Rattle.words_rule.proofs.Calls.{call_load_level, place_below}

@@ -1,6 +1,5 @@
-use Rattle.std.proofs.Common.{rules, ◌≡◌, ap, sym, ◌∙◌, arith}
+use Rattle.std.proofs.Common.{rules, ap, ◌∙◌, arith}
 use Rattle.words_rule.specs.Layout.{node_at}
-use Rattle.words_rule.specs.declared.view.Draws.{Draws}
 use Rattle.words_rule.proofs.Calls.{call_load_node}
 use Rattle.words_rule.proofs.Keeps.{keeps_number, keeps_sizes, keeps_words}
 use Rattle.words_rule.proofs.seat.Guard.load_node.Goals as goal

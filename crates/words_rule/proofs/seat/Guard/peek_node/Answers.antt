@@ -1,4 +1,4 @@
-use Rattle.std.proofs.Common.{◌≡◌, ap, ◌∙◌, arith}
+use Rattle.std.proofs.Common.{ap, ◌∙◌, arith}
 use Rattle.words_rule.specs.Layout.{node_at}
 use Rattle.words_rule.proofs.seat.Guard.peek_node.Goals as goal
 

@@ -1,4 +1,4 @@
-use Rattle.std.proofs.Common.{◌≡◌, ap, ◌∙◌, arith}
+use Rattle.std.proofs.Common.{ap, arith}
 use Rattle.words_rule.proofs.seat.Guard.peek_turn.Goals as goal
 
 pub peek-requires : goal.peek-requires

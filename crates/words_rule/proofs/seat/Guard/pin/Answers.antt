@@ -1,6 +1,5 @@
-use Rattle.std.proofs.Common.{rules, ◌≡◌, ap, sym, ◌∙◌, arith, subst}
+use Rattle.std.proofs.Common.{rules, ◌≡◌, ap, ◌∙◌, arith}
 use Rattle.words_rule.specs.Layout.{count_at}
-use Rattle.words_rule.specs.Shapes.{shape_in}
 use Rattle.words_rule.proofs.CountSteps.{pins_slot}
 use Rattle.words_rule.proofs.Keeps.{keeps_number, keeps_sizes, keeps_words}
 use Rattle.words_rule.proofs.seat.Guard.pin.Goals as goal

@@ -1,7 +1,6 @@
-use Rattle.std.proofs.Common.{rules, ◌≡◌, ◌∷◌, Some, ap, sym, ◌∙◌, arith}
+use Rattle.std.proofs.Common.{rules, ◌∷◌, Some, ap, sym, ◌∙◌, arith}
 use Rattle.atomic_table.specs.Table.{rest}
 use Rattle.words_rule.proofs.Calls.{call_take_board}
-use Rattle.words_rule.proofs.Keeps.{keeps_number, keeps_sizes, keeps_words}
 use Rattle.words_rule.proofs.seat.Guard.take_board.Goals as goal
 
 pub compare_exchange-found-requires : goal.compare_exchange-found-requires

@@ -1,6 +1,4 @@
-use Rattle.std.proofs.Common.{rules, ◌≡◌, ap, sym, ◌∙◌, arith, eqb-true, eq-eqb, true≢false}
-use Rattle.words_rule.specs.Layout.{turn_at}
-use Rattle.words_rule.specs.declared.view.Draws.{Draws}
+use Rattle.std.proofs.Common.{rules, ap, sym, ◌∙◌, arith, eqb-true, eq-eqb, true≢false}
 use Rattle.words_rule.proofs.Calls.{call_take_turn}
 use Rattle.words_rule.proofs.Keeps.{keeps_number, keeps_sizes, keeps_words}
 use Rattle.words_rule.proofs.seat.Guard.take_turn.Goals as goal
