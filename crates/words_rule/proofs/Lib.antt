@@ -60,3 +60,4 @@ pub mod Learning
 pub mod Entering
 pub mod PhaseSteps
 pub mod CountSteps
+pub mod Waits

@@ -24,3 +24,4 @@ pub mod Plays
 pub mod PhasePlays
 pub mod CountPlays
 pub mod Walkers
+pub mod Tokens

@@ -18,13 +18,13 @@ use crate::phase_plays::{
 use crate::seat::{Guard, Pass};
 
 /// A walk share, in the phase word; an operation share is 1.
-const WALK: u64 = 1 << 16;
+pub(crate) const WALK: u64 = 1 << 16;
 
 /// The order bit.
-const ORDER: u64 = 1 << 32;
+pub(crate) const ORDER: u64 = 1 << 32;
 
 /// The full bit.
-const FULL: u64 = 1 << 33;
+pub(crate) const FULL: u64 = 1 << 33;
 
 impl<S: Content> Guard<S> {
     /// Takes an operation share where the word before, which it answers, has neither bit; else it is owed. With the share the seat

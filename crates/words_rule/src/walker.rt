@@ -1,7 +1,15 @@
 //! A seat with a walk share, as what a walk asks for.
+ghost use Rattle.std.specs.Prelude.{◌≡◌, Some};
+ghost use Rattle.edge_bits.specs.Permanent.{base_slot};
+ghost use Rattle.function_laws.specs.Families.{base};
+ghost use Rattle.function_laws.specs.Kinds.{ZddFamily};
+ghost use Rattle.words_rule.specs.Loads.{IsInside, sees_of};
+ghost use Rattle.words_rule.specs.Passes.{view};
+ghost use Rattle.words_rule.specs.Tokens.{IsWalk};
+ghost use Rattle.words_rule.specs.Walkers.{IsWalker};
 
 use crate::content::Content;
-use crate::seat::{Guard, Pass};
+use crate::seat::{Guard, Pass, WalkShare};
 use crate::view::Besides;
 use step_store::Walks;
 
@@ -36,4 +44,21 @@ impl<'a, S: Content> Walks for Walker<'a, S> {
     }
 
     ghost stands = { walker_stands };
+}
+
+impl<S: Content> Guard<S> {
+    /// The seat of a walk share, as what a walk asks for.
+    pub fn walker<'a>(&'a self, share: WalkShare<S>) -> Walker<'a, S>
+        requires own { IsWalk self.now share }
+        requires base { (sees_of (view share.pass)).content base_slot ≡ Some (ZddFamily base) }
+        requires inside { IsInside (view share.pass) }
+        ensures { IsWalker result × (result.pass ≡ share.pass) }
+    {
+        let WalkShare { pass } = share;
+        Walker {
+            guard: self,
+            pass,
+            loads: 0,
+        }
+    }
 }
