@@ -5,3 +5,7 @@ pub mod NodeSteps
 pub mod Orders
 pub mod Finding
 pub mod Walked
+pub mod Adding
+pub mod Wholes
+pub mod Calls
+pub mod Seeking

@@ -2,9 +2,14 @@
 #![tactic(auto)]
 
 mod chains;
+pub mod held_words;
+pub mod holding;
 pub mod holds;
+mod node_counts;
 mod nodes;
 mod placing;
 mod turns;
+mod word_table;
 
+pub use holding::{HolderRoom, Holding};
 pub use holds::Holds;

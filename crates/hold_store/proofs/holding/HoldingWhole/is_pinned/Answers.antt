@@ -1,0 +1,15 @@
+use Rattle.std.proofs.Common.{refl, subst}
+use Rattle.node_store.specs.Changes.{After}
+use Rattle.hold_store.specs.Held.{ZeroStays}
+use Rattle.hold_store.specs.Noted.{content_of}
+use Rattle.hold_store.proofs.Calls as calls
+use Rattle.hold_store.proofs.holding.HoldingWhole.is_pinned.Goals as goal
+
+pub returns-clause-after : goal.returns-clause-after
+returns-clause-after g c =
+    let s = c.self.inside in
+    let k = g.S.Holds.known s.seat in
+    let is = c.self.invariant.3 in
+    let stands = g.met.S.Holds.stands s.seat c.self.invariant.0 in
+    subst (λ x. After ZeroStays (content_of (g.S.Holds.known x.0) x.1 x.2) (content_of (g.S.Holds.known x.0) x.1 x.2)) c.self.view_is
+    (calls.next_becomes k s.words s.notes s.sweeping is k s.notes stands refl refl refl is.noted.linked).after

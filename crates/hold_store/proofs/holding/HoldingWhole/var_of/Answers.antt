@@ -1,0 +1,23 @@
+use Rattle.std.proofs.Common.{refl, ◌∙◌, subst}
+use Rattle.node_store.specs.Changes.{After}
+use Rattle.hold_store.specs.Held.{ZeroStays}
+use Rattle.hold_store.specs.Noted.{content_of}
+use Rattle.hold_store.proofs.Calls as calls
+use Rattle.hold_store.proofs.holding.HoldingWhole.var_of.Goals as goal
+
+pub invariant_of-self : goal.invariant_of-self
+invariant_of-self g c =
+    let s = c.self.inside in
+    let k = g.S.Holds.known s.seat in
+    let is = c.self.invariant.3 in
+    let stands = g.met.S.Holds.stands s.seat c.self.invariant.0 in
+    (c.var_at.ensures.own, c.var_at.ensures.home.0 ∙ c.self.invariant.1, c.var_at.ensures.home.1 ∙ c.self.invariant.2, calls.next k s.words s.notes s.sweeping is (g.S.Holds.known c.var_at.new.seat) s.notes c.var_at.ensures.same refl refl is.noted.linked)
+
+pub returns-clause-after : goal.returns-clause-after
+returns-clause-after g c =
+    let s = c.self.inside in
+    let k = g.S.Holds.known s.seat in
+    let is = c.self.invariant.3 in
+    let stands = g.met.S.Holds.stands s.seat c.self.invariant.0 in
+    subst (λ x. After ZeroStays (content_of (g.S.Holds.known x.0) x.1 x.2) (content_of (g.S.Holds.known c.var_at.new.seat) s.notes.marks s.sweeping)) c.self.view_is
+    (calls.next_becomes k s.words s.notes s.sweeping is (g.S.Holds.known c.var_at.new.seat) s.notes stands c.var_at.ensures.same refl refl is.noted.linked).after
