@@ -1,12 +1,11 @@
 -- A held store after a slot was marked or pinned, or a sweep began or ended.
-use Rattle.std.proofs.Common.{◌≡◌, ℕ, zero, ◌<◌, inl, inr, Bool, true, false, List, length, set, replicate, Option, Some, None, refl, ap, sym, ◌∙◌, subst, arith}
+use Rattle.std.proofs.Common.{◌≡◌, ℕ, zero, ◌<◌, inl, inr, Bool, true, false, List, length, set, replicate, Some, None, refl, ap, sym, ◌∙◌, subst, arith}
 use Rattle.std.proofs.lemmas.Bool.{cases_lt}
 use Rattle.std.specs.Prelude.{◌==◌, if◌then◌else◌}
 use Rattle.std.proofs.lemmas.List.{length-set, length-replicate, get_or_past}
 use Rattle.node_store.specs.Contents.{IsUsed}
 use Rattle.node_store.specs.Changes.{After, with_mark, with_pin}
 use Rattle.node_store.proofs.Marking.{held_sound}
-use Rattle.edge_bits.specs.declared.words.Word.{Word}
 use Rattle.held_slots.specs.Linked.{IsLinkedTo}
 use Rattle.held_slots.specs.Notes.{Chain, Notes, flag}
 use Rattle.node_slots.specs.Stores.{slots, count_at, generation_at, is_set}

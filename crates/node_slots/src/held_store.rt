@@ -5,7 +5,7 @@ ghost use Rattle.std.specs.List.{swap};
 ghost use Rattle.node_slots.specs.Stores.{AreInverse};
 
 use crate::count_table::CountTable;
-use crate::node_table::{NodeTable, next_number};
+use crate::node_table::{NodeTable, next_number, pack};
 use crate::plain_store::{only_child, opened};
 use computed_cache::Memo;
 use edge_bits::{Edge, FIRST_ELEMENT, MOST_LEVELS, Node, Word, unpack};
@@ -227,13 +227,13 @@ impl Whole for HeldStore {
         if let Some(child) = only_child(var, hi, lo) {
             return child;
         }
-        let node = Node {
+        let word = Word::Inner(Node {
             var: var as u16,
             hi: hi.index(),
             lo: flip_if(lo, hi.complement()),
-        };
+        });
         self.notes.prepare(self.nodes.words(), var);
-        match self.nodes.place(Word::Inner(node)) {
+        match self.nodes.place(pack(&word), word) {
             Some(slot) => {
                 self.notes.added(slot, var);
                 Edge::new(slot, hi.complement())

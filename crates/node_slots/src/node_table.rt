@@ -46,7 +46,7 @@ impl Model for NodeTable {
 }
 
 /// The bits of a word that is used again.
-fn pack(word: &Word) -> u64
+pub(crate) fn pack(word: &Word) -> u64
     requires { IsInRange word.now }
     ensures layout { result ≡ pack_of word.now }
     ensures reads_back { unpack_of result ≡ Some word.now }
@@ -204,13 +204,15 @@ impl NodeTable {
         self.table.words()
     }
 
-    /// The slot where a word stands, or comes to stand where a slot is free.
-    pub fn place(&mut self, word: Word) -> Option<u32>
+    /// The slot where a word stands, or comes to stand where a slot is free. Who has the word has its bits too: they are told beside it, so
+    /// that they need not be read from memory to look for them.
+    pub fn place(&mut self, bits: u64, word: Word) -> Option<u32>
         requires range { IsInRange word }
+        requires layout { bits ≡ pack_of word }
+        requires reads_back { unpack_of bits ≡ Some word }
         ensures placed { IfSome result (IsPlaced self.old self.new word) }
         ensures full { IfNone result (HasNoPlace self.old self.new word) }
     {
-        let bits = pack(&word);
         if let Some(slot) = self.table.find(bits) {
             return Some(slot);
         }

@@ -11,7 +11,7 @@ ghost use Rattle.node_store.specs.Contents.{opened_of};
 
 use crate::count_table::CountTable;
 use crate::held_store::HeldStore;
-use crate::node_table::NodeTable;
+use crate::node_table::{NodeTable, pack};
 use computed_cache::Memo;
 use edge_bits::{
     EMPTY_SLOT, Edge, FIRST_ELEMENT, FIRST_PROJECTION, Kind, MOST_ELEMENTS, MOST_SLOTS,
@@ -165,12 +165,12 @@ impl Grow for PlainStore {
         if let Some(child) = only_child(var, hi, lo) {
             return Ok(child);
         }
-        let node = Node {
+        let word = Word::Inner(Node {
             var: var as u16,
             hi: hi.index(),
             lo: flip_if(lo, hi.complement()),
-        };
-        match self.nodes.place(Word::Inner(node)) {
+        });
+        match self.nodes.place(pack(&word), word) {
             Some(slot) => Ok(Edge::new(slot, hi.complement())),
             None => {
                 self.fulls = risen(fulls);
@@ -195,7 +195,8 @@ impl Grow for PlainStore {
         ensures counted { IsErrOf result Stop.Full → (plain_view self.new).fulls ≡ min ((plain_view self.old).fulls + 1) (2 ^ 64 - 1) }
         ensures uncounted { OnOk result ((plain_view self.new).fulls ≡ (plain_view self.old).fulls) }
     {
-        match self.nodes.place(Word::Leaf(value)) {
+        let word = Word::Leaf(value);
+        match self.nodes.place(pack(&word), word) {
             Some(slot) => Ok(Edge::new(slot, false)),
             None => {
                 self.fulls = risen(self.fulls);
@@ -279,7 +280,7 @@ impl PlainStore {
     ghost use Rattle.edge_bits.specs.Reading.{DenotesBdd, DenotesAdd, DenotesZdd};
     ghost use Rattle.node_store.specs.Views.{AreTwo, Denotes, IsVariable, values_at};
     ghost use Rattle.function_laws.specs.Kinds.{Denoted};
-    ghost use Rattle.computed_cache.specs.Entries.{kept_at};
+    ghost use Rattle.computed_cache.specs.Entries.{kept_at, places};
     ghost use Rattle.node_store.specs.Contents.{IsSound, is_leaf, is_node_of as is_node_in, nodes_of as nodes_at, used_slots};
     ghost use Rattle.node_store.specs.Changes.{IsLeastFrom, with_mark, with_pin};
     ghost use Rattle.node_slots.specs.Stores.{IsStore, plain_view, count_at, generation_at, in_use, is_set, slots, IsOpening, IsUnknown};
@@ -288,13 +289,32 @@ impl PlainStore {
     ghost use Rattle.node_slots.specs.Counts.{IsFreed, IsRecounted, IsUnnamed};
     ghost use Rattle.node_slots.specs.Taking.{nodes_of};
 
-    /// A store of so many variables and elements, at most `MOST_VARIABLES` and `MOST_ELEMENTS`, with so many slots: 5 and one for each variable at least, `MOST_SLOTS` at most. Both orders are 0, 1, 2, ..
+    /// A store of so many variables and elements, at most `MOST_VARIABLES` and `MOST_ELEMENTS`, with so many slots: 5 and one for each variable at least, `MOST_SLOTS` at most. Both orders are 0, 1, 2, .. It remembers as many answers as suit its slots.
     pub fn new(alloc: Global, vars: u32, elements: u32, limit: u32) -> Result<PlainStore, Memory>
         requires vars { vars ≤ MOST_VARIABLES }
         requires elements { elements ≤ MOST_ELEMENTS }
         requires least { 5 + vars ≤ limit }
         requires most { limit ≤ MOST_SLOTS }
         ensures { IfOk result (IsOpening vars elements limit) }
+    {
+        PlainStore::remembering(alloc, vars, elements, limit, remembered(limit))
+    }
+
+    /// A store as `new` makes it that has room for so many answers of operations, at least one.
+    pub fn remembering(
+        alloc: Global,
+        vars: u32,
+        elements: u32,
+        limit: u32,
+        entries: u32,
+    ) -> Result<PlainStore, Memory>
+        requires vars { vars ≤ MOST_VARIABLES }
+        requires elements { elements ≤ MOST_ELEMENTS }
+        requires least { 5 + vars ≤ limit }
+        requires most { limit ≤ MOST_SLOTS }
+        requires entries { 0 < entries }
+        ensures opening { IfOk result (IsOpening vars elements limit) }
+        ensures remembers { IfOk result (λ s. places s.memo ≡ entries) }
     {
         let variable_levels = ascending(alloc, vars)?;
         let element_levels = ascending(alloc, elements)?;
@@ -303,7 +323,7 @@ impl PlainStore {
         let nodes = NodeTable::new(alloc, vars, limit)?;
         let counts = CountTable::new(alloc, limit)?;
         let notes = SlotNotes::new(alloc, limit)?;
-        let memo = Memo::new(alloc, remembered(limit))?;
+        let memo = Memo::new(alloc, entries)?;
         Ok(PlainStore {
             alloc,
             variable_levels,

@@ -26,14 +26,15 @@ edge_of s b = record { index = s; complement = b }
 pub returns-in-Some : goal.returns-in-Some
 returns-in-Some c = λ k can. child_added (the_view c.self.inside) c.args.self.now c.self.view_is c.self.invariant k c.args.var c.args.hi c.args.lo c.in-Some.child can c.in-Some.ensures.child
 
-pub overflow_cast-node : goal.overflow_cast-node
-overflow_cast-node c =
+pub overflow_cast-word : goal.overflow_cast-word
+overflow_cast-word c =
     let small = variable_fits (the_view c.self.inside) c.args.self.now c.self.view_is c.self.invariant c.requires.0 c.args.var c.args.hi c.args.lo c.requires.1 in omega arith
 
-pub place-requires : goal.place-requires
-place-requires c = record {
-  range = rw c.index.ensures (added_fits (the_view c.self.inside) c.args.self.now c.self.view_is c.self.invariant c.requires.0 c.args.var c.args.hi c.args.lo c.requires.1 c.flip_if.result (c.flip_if.ensures ∙ ap (λ b. flip_if b c.args.lo) c.complement.ensures));
-}
+pub pack-requires : goal.pack-requires
+pack-requires c = rw c.index.ensures (added_fits (the_view c.self.inside) c.args.self.now c.self.view_is c.self.invariant c.requires.0 c.args.var c.args.hi c.args.lo c.requires.1 c.flip_if.result (c.flip_if.ensures ∙ ap (λ b. flip_if b c.args.lo) c.complement.ensures))
+
+pub place-requires-clause-range : goal.place-requires-clause-range
+place-requires-clause-range c = rw c.index.ensures (added_fits (the_view c.self.inside) c.args.self.now c.self.view_is c.self.invariant c.requires.0 c.args.var c.args.hi c.args.lo c.requires.1 c.flip_if.result (c.flip_if.ensures ∙ ap (λ b. flip_if b c.args.lo) c.complement.ensures))
 
 pub unreachable-requires : goal.unreachable-requires
 unreachable-requires c = no_place (the_view c.self.inside) c.args.self.now c.self.view_is c.self.invariant c.args.var c.args.hi c.args.lo c.requires c.in_default.ensures.none

@@ -26,20 +26,25 @@ returns-in-Some-clause-exactly c =
     let k = c.requires.0 in let m = c.requires.1 in
     child_known k c.args.self.now c.args.var c.args.hi c.args.lo c.in-Some.child m (child_answer (the_view c.self.inside) c.args.self.now c.self.view_is c.self.invariant k c.args.var c.args.hi c.args.lo c.in-Some.child m c.in-Some.ensures.child)
 
-pub overflow_cast-node : goal.overflow_cast-node
-overflow_cast-node c =
+pub overflow_cast-word : goal.overflow_cast-word
+overflow_cast-word c =
     let small = variable_small (the_view c.self.inside) c.args.self.now c.self.view_is c.self.invariant c.requires.0 c.args.var c.requires.1.in_range in omega arith
 
-pub place-requires : goal.place-requires
-place-requires c =
-    let q = the_view c.self.inside in let k = c.requires.0 in let m = c.requires.1 in
-    record {
-      range = (
-        variable_small q c.args.self.now c.self.view_is c.self.invariant k c.args.var m.in_range,
-        rw c.index.ensures (index_small q c.args.self.now c.self.view_is c.self.invariant k c.args.hi m.hi_is),
-        rw c.flip_if.ensures (index_small q c.args.self.now c.self.view_is c.self.invariant k c.args.lo m.lo_is),
-      );
-    }
+pub pack-requires : goal.pack-requires
+pack-requires c =
+    let q = the_view c.self.inside in let k = c.requires.0 in let m = c.requires.1 in (
+      variable_small q c.args.self.now c.self.view_is c.self.invariant k c.args.var m.in_range,
+      rw c.index.ensures (index_small q c.args.self.now c.self.view_is c.self.invariant k c.args.hi m.hi_is),
+      rw c.flip_if.ensures (index_small q c.args.self.now c.self.view_is c.self.invariant k c.args.lo m.lo_is),
+    )
+
+pub place-requires-clause-range : goal.place-requires-clause-range
+place-requires-clause-range c =
+    let q = the_view c.self.inside in let k = c.requires.0 in let m = c.requires.1 in (
+      variable_small q c.args.self.now c.self.view_is c.self.invariant k c.args.var m.in_range,
+      rw c.index.ensures (index_small q c.args.self.now c.self.view_is c.self.invariant k c.args.hi m.hi_is),
+      rw c.flip_if.ensures (index_small q c.args.self.now c.self.view_is c.self.invariant k c.args.lo m.lo_is),
+    )
 
 stored : (c : After-new) → (k : Kind) → CanMake k (plain_view c.args.self.now) c.args.var c.args.hi c.args.lo
     → Stored k c.args.self.now (with_words (the_view c.self.inside) c.place.new.self) c.new.result (node_values k (plain_view c.args.self.now) c.args.var c.args.hi c.args.lo)

@@ -1,7 +1,6 @@
-use Rattle.std.proofs.Common.{refl, arith}
-use Rattle.std.proofs.lemmas.Grind.{common_steps}
+use Rattle.std.proofs.Common.{refl}
 use Rattle.node_slots.proofs.Opening.{IsStore-new}
-use Rattle.node_slots.proofs.plain_store.PlainStore.new.Goals as goal
+use Rattle.node_slots.proofs.plain_store.PlainStore.remembering.Goals as goal
 
 pub invariant_of-result : goal.invariant_of-result
 invariant_of-result c =
@@ -23,6 +22,3 @@ invariant_of-result c =
       due = refl;
       memo = c.in_ok-memo.ensures.empty;
     })
-
-pub new-requires-4 : goal.new-requires-4
-new-requires-4 c = grind (arith, common_steps)
