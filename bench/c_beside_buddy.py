@@ -12,11 +12,11 @@ import sys
 import tempfile
 
 RUNS = 15
-# Sizes of the tables, the library's and BuDDy's: nodes, and with BuDDy also remembered results. First as in beside_buddy.sh; then BuDDy's as
-# its own example of the program has them, and the library's near the least that serves.
+# Sizes of the tables, the library's and BuDDy's: nodes, and remembered results. First as in beside_buddy.sh; then BuDDy's as its own example
+# of the program has them, and the library's near the least that serves; then the library's as it chooses how many it remembers.
 PROGRAMS = [
-    (["queens", "8"], [("2000000", ["2000000", "65536"]), ("65536", ["16384", "10000"])]),
-    (["adder", "256"], [("2000000", ["2000000", "65536"]), ("400000", ["500", "1000"])]),
+    (["queens", "8"], [(["2000000", "65536"], ["2000000", "65536"]), (["65536", "8192"], ["16384", "10000"]), (["65536", "0"], ["16384", "10000"])]),
+    (["adder", "256"], [(["2000000", "65536"], ["2000000", "65536"]), (["400000", "1000"], ["500", "1000"]), (["400000", "0"], ["500", "1000"])]),
 ]
 
 
@@ -34,12 +34,12 @@ def run(words):
 
 def main():
     with_dd, with_buddy = sys.argv[1:]
-    print(f"{'program':<12}{'opened':<10}{'BuDDy opened':<16}{'dd s':>8}{'BuDDy s':>9}{'ratio':>7}{'of thirds':>13}{'with count':>12}{'BuDDy':>8}{'whole':>8}{'BuDDy':>8}{'MB':>6}{'BuDDy':>7}")
+    print(f"{'program':<12}{'opened':<16}{'BuDDy opened':<16}{'dd s':>8}{'BuDDy s':>9}{'ratio':>7}{'of thirds':>13}{'with count':>12}{'BuDDy':>8}{'whole':>8}{'BuDDy':>8}{'MB':>6}{'BuDDy':>7}")
     for program, openings in PROGRAMS:
-        for slots, sizes in openings:
+        for own, sizes in openings:
             ours, others = [], []
             for _ in range(RUNS):
-                ours.append(run([with_dd, *program, slots]))
+                ours.append(run([with_dd, *program, *own]))
                 others.append(run([with_buddy, *program, *sizes]))
             if len({found[2] for found in ours + others}) != 1:
                 sys.exit(f"{program}: they find different things")
@@ -47,7 +47,7 @@ def main():
             operations, both, whole = lambda r: r[0], lambda r: r[0] + r[1], lambda r: r[3]
             third = RUNS // 3
             ratios = [least(ours[i:i + third], operations) / least(others[i:i + third], operations) for i in range(0, RUNS, third)]
-            print(f"{' '.join(program):<12}{slots:<10}{' '.join(sizes):<16}{least(ours, operations):>8.4f}{least(others, operations):>9.4f}{least(ours, operations) / least(others, operations):>7.2f}"
+            print(f"{' '.join(program):<12}{' '.join(own):<16}{' '.join(sizes):<16}{least(ours, operations):>8.4f}{least(others, operations):>9.4f}{least(ours, operations) / least(others, operations):>7.2f}"
                   f"{f'{min(ratios):.2f} to {max(ratios):.2f}':>13}{least(ours, both):>12.4f}{least(others, both):>8.4f}{least(ours, whole):>8.3f}{least(others, whole):>8.3f}"
                   f"{max(r[4] for r in ours):>6.0f}{max(r[4] for r in others):>7.0f}", flush=True)
 

@@ -6,7 +6,7 @@
  *   adder N    the sum of two numbers of N bits and that of the exchanged numbers, as BuDDy's example has sums, compared bit by bit
  *
  * It prints the seconds of processor time of the operations, those of the count or the comparison, and what was found. NODES is how many
- * slots the table may have, with BuDDy how many it has from the first, and CACHE, for BuDDy alone, how many results are remembered. */
+ * slots the table may have, with BuDDy how many it has from the first, and CACHE how many results are remembered. */
 #include <stdint.h>
 #include <stdio.h>
 #include <stdlib.h>
@@ -41,8 +41,7 @@ static void close_all(void) { bdd_done(); }
 typedef dd function;
 static dd_manager *m;
 static void open_for(int variables, int nodes, int cache) {
-    (void)cache;
-    m = dd_open(1, (uint32_t)variables, 0, (uint32_t)nodes);
+    m = dd_open_remembering(1, (uint32_t)variables, 0, (uint32_t)nodes, (uint32_t)cache);
     if (!m) exit(1);
 }
 #define MADE(CALL) \

@@ -127,16 +127,16 @@ class Header:
 
     def __init__(self, room, library):
         self.functions = functions_of((EXAMPLES / "dd.h").read_text())
-        names = ["dd_open", "dd_close", *self.functions]
+        names = ["dd_open_remembering", "dd_close", *self.functions]
         text = '#include "dd.h"\n' + "".join(f"void *const at_{name} = (void *){name};\n" for name in names)
         make(library, room / "shared", "in_python")
         heap = room / "shared/heap.o"
         made = compiled(room, "header.so", text, "-shared", "-fPIC", library, heap)
         self.shared = ctypes.CDLL(str(made)) if made else None
         if made:
-            self.open = ctypes.CFUNCTYPE(c_void_p, *4 * [c_uint32])(self.at("dd_open"))
+            self.open = ctypes.CFUNCTYPE(c_void_p, *5 * [c_uint32])(self.at("dd_open_remembering"))
             self.close = ctypes.CFUNCTYPE(None, c_void_p)(self.at("dd_close"))
-            self.m = self.open(77, VARIABLES, ELEMENTS, SLOTS)
+            self.m = self.open(77, VARIABLES, ELEMENTS, SLOTS, 0)
         self.called, self.made = set(), []
 
     def at(self, name):

@@ -52,7 +52,7 @@ typedef struct {
 extern "C" {
 #endif
 size_t dd_size(void);
-void dd_init(dd_manager *m, uint32_t number, uint32_t variables, uint32_t elements, uint32_t slots);
+void dd_init(dd_manager *m, uint32_t number, uint32_t variables, uint32_t elements, uint32_t slots, uint32_t remembered);
 dd_answer dd_call(dd_manager *m, dd_request request);
 #ifdef __cplusplus
 }
@@ -71,17 +71,23 @@ static inline dd_status dd_ask(dd_manager *m, uint32_t call, dd f, dd g, dd h, u
 /* ---- opening and closing */
 
 /* A manager with a number of the program's choice, by which its handles are told from another's; with at most 1,024 variables and 1,024
- * elements, and 5 + variables to 8,388,607 node slots. Answers are remembered in a table of as many entries as there are slots (from 65,536 to
- * 1,048,576), so with many more slots than a program needs it runs slower. Both orders are 0, 1, 2, .. NULL where it cannot be made. */
-static inline dd_manager *dd_open(uint32_t number, uint32_t variables, uint32_t elements, uint32_t slots) {
+ * elements, 5 + variables to 8,388,607 node slots, and a table of so many answers of operations, of 16 bytes each (the size of CUDD's and of
+ * BuDDy's cache; 0 for as many as there are slots, from 65,536 to 1,048,576). A table that lies in the processor's cache is fast, and one that
+ * is too small makes operations do again what they did. Both orders are 0, 1, 2, .. NULL where it cannot be made. */
+static inline dd_manager *dd_open_remembering(uint32_t number, uint32_t variables, uint32_t elements, uint32_t slots, uint32_t remembered) {
     dd_manager *m = (dd_manager *)malloc(dd_size());
     if (!m) return NULL;
-    dd_init(m, number, variables, elements, slots);
+    dd_init(m, number, variables, elements, slots, remembered);
     if (dd_ask(m, 0, DD_NONE, DD_NONE, DD_NONE, 0, 0, NULL, NULL) == DD_CLOSED) {
         free(m);
         return NULL;
     }
     return m;
+}
+
+/* The same with as many answers as suit the slots. With many more slots than a program needs it runs slower. */
+static inline dd_manager *dd_open(uint32_t number, uint32_t variables, uint32_t elements, uint32_t slots) {
+    return dd_open_remembering(number, variables, elements, slots, 0);
 }
 
 /* Frees all that the manager has. No handle of it is live any more. */

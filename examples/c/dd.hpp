@@ -84,7 +84,8 @@ class Manager {
     std::shared_ptr<dd_manager> m;
 
 public:
-    Manager(uint32_t variables, uint32_t elements, uint32_t slots) : m(dd_open(opened++, variables, elements, slots), dd_close) {
+    Manager(uint32_t variables, uint32_t elements, uint32_t slots, uint32_t remembered = 0)
+        : m(dd_open_remembering(opened++, variables, elements, slots, remembered), dd_close) {
         if (!m) throw Refused(DD_CLOSED);
     }
     Function one() const { return Function(m, dd_one); }

@@ -29,7 +29,7 @@ class Answer(ctypes.Structure):
 
 library = ctypes.CDLL(os.environ.get("LIBDD", str(pathlib.Path(__file__).resolve().parent / "out/libdd.so")))
 library.dd_size.restype, library.dd_size.argtypes = ctypes.c_size_t, []
-library.dd_init.restype, library.dd_init.argtypes = None, [ctypes.c_void_p, u32, u32, u32, u32]
+library.dd_init.restype, library.dd_init.argtypes = None, [ctypes.c_void_p, u32, u32, u32, u32, u32]
 library.dd_call.restype, library.dd_call.argtypes = Answer, [ctypes.c_void_p, Request]
 NONE = Handle(2**32 - 1, 2**32 - 1, 2**64 - 1)
 
@@ -41,10 +41,10 @@ class Refused(Exception):
 class Manager:
     opened = itertools.count()
 
-    def __init__(self, variables, elements, slots):
+    def __init__(self, variables, elements, slots, remembered=0):
         memory = ctypes.create_string_buffer(library.dd_size() + 15)
         at = ctypes.addressof(memory) + 15 & ~15
-        library.dd_init(at, next(self.opened) % 2**32, *(min(number, 2**32 - 1) for number in (variables, elements, slots)))
+        library.dd_init(at, next(self.opened) % 2**32, *(min(number, 2**32 - 1) for number in (variables, elements, slots, remembered)))
         self.memory, self.at = memory, at
         self.call(CLEAR)
 

@@ -30,7 +30,7 @@ static void close_twice(void) {
     dd_manager *m = (dd_manager *)malloc(dd_size());
     dd f, out;
     if (!m) exit(1);
-    dd_init(m, 5, 2, 0, 100);
+    dd_init(m, 5, 2, 0, 100, 0);
     if (dd_var(m, 0, &f)) exit(1);
     tell("a manager is closed", dd_ask(m, 60, f, f, f, 0, 0, NULL, NULL), DD_OK);
     tell("and used", dd_not(m, f, &out), DD_CLOSED);

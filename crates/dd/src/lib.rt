@@ -32,7 +32,8 @@ pub unsafe extern "C" fn dd_call(m: *mut Opaque, request: Request) -> Answer
 }
 
 /// Makes a manager in the memory at a pointer, where `dd_size` bytes are free for it: with its number, at most 1,024 variables and 1,024
-/// elements, and 5 + variables to 8,388,607 slots. Where these are out of range, or memory is wanting, it is a closed one.
+/// elements, and 5 + variables to 8,388,607 slots, and with room for so many answers of operations, or with 0 for as many as suit its slots.
+/// Where these are out of range, or memory is wanting, it is a closed one.
 #[unsafe(no_mangle)]
 pub unsafe extern "C" fn dd_init(
     alloc: Global,
@@ -41,13 +42,14 @@ pub unsafe extern "C" fn dd_init(
     vars: u32,
     elements: u32,
     limit: u32,
+    remembered: u32,
 )
     requires* { sem 𝓛 (room_at manager_row m) }
-    ensures* { ∃ₛ (λ (now : ManagerValue). sem 𝓛 (lies_at manager_row full_share m now) ∗ ⌜ IsFresh number vars elements limit now ⌝) }
+    ensures* { ∃ₛ (λ (now : ManagerValue). sem 𝓛 (lies_at manager_row full_share m now) ∗ ⌜ IsFresh number vars elements limit remembered now ⌝) }
 {
     std::ptr::write(
         m as *mut Manager,
-        fresh(alloc, number, vars, elements, limit),
+        fresh(alloc, number, vars, elements, limit, remembered),
     );
 }
 

@@ -1,6 +1,7 @@
 -- What a call leaves of a manager, and when each status comes.
-use Rattle.std.specs.Prelude.{IfSome, ◌≡◌, ◌+◌, ◌≤◌, ℕ, pos, [], Option, Some, None}
+use Rattle.std.specs.Prelude.{IfSome, ◌≡◌, ◌+◌, ◌<◌, ◌≤◌, ℕ, pos, [], Option, Some, None}
 use Rattle.edge_bits.specs.declared.limits.TheConstants.{MOST_ELEMENTS, MOST_SLOTS, MOST_VARIABLES}
+use Rattle.computed_cache.specs.Entries.{places}
 use Rattle.dead_sweep.specs.declared.sweeping.Swept.{Swept}
 use Rattle.dead_sweep.specs.Swept.{IsSwept}
 use Rattle.node_slots.specs.Held.{Alone}
@@ -73,8 +74,9 @@ pub record CanOpen (vars elements limit : ℕ) : Type 0 where
   pub most : limit ≤ MOST_SLOTS
 
 -- A manager as it is opened: it has its number, and nothing is listed. Where it is open the numbers are in range, and it has no row, and a
--- store of so many variables, elements and slots.
-pub record IsFresh (number vars elements limit : ℕ) (m : Manager) : Type 0 where
+-- store of so many variables, elements and slots, with room for so many answers of operations where that is told.
+pub record IsFresh (number vars elements limit remembered : ℕ) (m : Manager) : Type 0 where
   pub is_number : m.number ≡ number
   pub lists : AreClear m.lists
   pub rows : IfSome m.rows (λ rows. CanOpen vars elements limit × IsOpening vars elements limit rows.store × (rows.rows.live ≡ []))
+  pub remembers : 0 < remembered → IfSome m.rows (λ rows. places rows.store.memo ≡ remembered)

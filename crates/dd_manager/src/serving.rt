@@ -1,6 +1,7 @@
 //! A manager, and one call on it.
 
-ghost use Rattle.std.specs.Prelude.{◌≡◌, [], Err, IfSome, IsErrOf, None, Some};
+ghost use Rattle.std.specs.Prelude.{◌≡◌, ◌<◌, [], Err, IfSome, IsErrOf, None, Some};
+ghost use Rattle.computed_cache.specs.Entries.{places};
 ghost use Rattle.dd_manager.specs.declared.requests.Asked.TheVariants as asked;
 ghost use Rattle.dd_manager.specs.Answers.{IsAnswerOf};
 ghost use Rattle.dd_manager.specs.Makings.{MakesAs, MakesBy};
@@ -227,8 +228,15 @@ pub fn serve(manager: &mut Manager, request: Request) -> Answer
 }
 
 /// A store with no rows, where the numbers are in range.
-fn opened(alloc: Global, vars: u32, elements: u32, limit: u32) -> Option<RowStore>
-    ensures { IfSome result (λ rows. CanOpen vars elements limit × IsOpening vars elements limit rows.store × (rows.rows.live ≡ [])) }
+fn opened(
+    alloc: Global,
+    vars: u32,
+    elements: u32,
+    limit: u32,
+    remembered: u32,
+) -> Option<RowStore>
+    ensures opening { IfSome result (λ rows. CanOpen vars elements limit × IsOpening vars elements limit rows.store × (rows.rows.live ≡ [])) }
+    ensures remembers { 0 < remembered → IfSome result (λ rows. places rows.store.memo ≡ remembered) }
 {
     if vars > MOST_VARIABLES || elements > MOST_ELEMENTS || limit > MOST_SLOTS {
         return None;
@@ -236,18 +244,26 @@ fn opened(alloc: Global, vars: u32, elements: u32, limit: u32) -> Option<RowStor
     if limit < 5 + vars {
         return None;
     }
-    match RowStore::new(alloc, vars, elements, limit) {
+    let entries = if remembered == 0 { None } else { Some(remembered) };
+    match RowStore::new(alloc, vars, elements, limit, entries) {
         Ok(rows) => Some(rows),
         Err(_) => None,
     }
 }
 
-/// A manager with a number, of so many variables and elements, with so many slots. It is closed where these are out of range, or where
-/// memory is wanting.
-pub fn fresh(alloc: Global, number: u32, vars: u32, elements: u32, limit: u32) -> Manager
-    ensures { IsFresh number vars elements limit result }
+/// A manager with a number, of so many variables and elements, with so many slots, which remembers so many answers of operations, or with 0
+/// as many as suit its slots. It is closed where variables, elements or slots are out of range, or where memory is wanting.
+pub fn fresh(
+    alloc: Global,
+    number: u32,
+    vars: u32,
+    elements: u32,
+    limit: u32,
+    remembered: u32,
+) -> Manager
+    ensures { IsFresh number vars elements limit remembered result }
 {
-    let rows = opened(alloc, vars, elements, limit);
+    let rows = opened(alloc, vars, elements, limit, remembered);
     Manager {
         number,
         rows,

@@ -10,8 +10,8 @@ use std::test::Fail;
 /// Names that are dropped, made up, of another manager, or of another kind.
 #[test]
 fn wrong_names(rt: HostRuntime) -> Result<(), Fail> {
-    let mut m = fresh(rt.alloc(), 7, 3, 3, 64);
-    let mut other = fresh(rt.alloc(), 8, 3, 3, 64);
+    let mut m = fresh(rt.alloc(), 7, 3, 3, 64, 0);
+    let mut other = fresh(rt.alloc(), 8, 3, 3, 64, 0);
     let a = ask_number(&mut m, VAR, 0);
     let b = ask_number(&mut m, VAR, 1);
     let p = ask_number(&mut m, SINGLE, 0);
@@ -40,7 +40,7 @@ fn wrong_names(rt: HostRuntime) -> Result<(), Fail> {
 /// Numbers of variables, elements and leaves that are out of range, and calls that there are not.
 #[test]
 fn wrong_numbers(rt: HostRuntime) -> Result<(), Fail> {
-    let mut m = fresh(rt.alloc(), 7, 3, 3, 64);
+    let mut m = fresh(rt.alloc(), 7, 3, 3, 64, 0);
     let none = nothing();
     assert!(rt; ask_number(&mut m, VAR, 3).status == 7);
     assert!(rt; ask_number(&mut m, SINGLE, 3).status == 7);
@@ -57,7 +57,7 @@ fn wrong_numbers(rt: HostRuntime) -> Result<(), Fail> {
 /// A sum out of range, bounds that are apart, and a table in which no slot is free.
 #[test]
 fn nothing_made(rt: HostRuntime) -> Result<(), Fail> {
-    let mut m = fresh(rt.alloc(), 7, 2, 4, 10);
+    let mut m = fresh(rt.alloc(), 7, 2, 4, 10, 0);
     let none = nothing();
     let most = ask(&mut m, NUMBER, &none, &none, 0, (1 << 46) - 1);
     let one = ask(&mut m, NUMBER, &none, &none, 0, 1);
@@ -79,12 +79,12 @@ fn nothing_made(rt: HostRuntime) -> Result<(), Fail> {
 /// A manager that is closed, and one that was never open.
 #[test]
 fn closed(rt: HostRuntime) -> Result<(), Fail> {
-    let mut m = fresh(rt.alloc(), 7, 3, 0, 64);
+    let mut m = fresh(rt.alloc(), 7, 3, 0, 64, 0);
     assert!(rt; ask_number(&mut m, VAR, 0).status == 0);
     assert!(rt; ask_number(&mut m, CLOSE, 0).status == 0);
     assert!(rt; ask_number(&mut m, VAR, 0).status == 9);
     assert!(rt; ask_number(&mut m, CLOSE, 0).status == 9);
-    let mut none = fresh(rt.alloc(), 7, 2000, 0, 64);
+    let mut none = fresh(rt.alloc(), 7, 2000, 0, 64, 0);
     assert!(rt; ask_number(&mut none, VAR, 0).status == 9);
     Ok(())
 }

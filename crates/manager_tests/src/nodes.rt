@@ -10,7 +10,7 @@ use std::test::Fail;
 /// x0 and x1 is x1 where x0 is 1, and 0 elsewhere; the complement of x0 is 0 where x0 is 1.
 #[test]
 fn down_a_conjunction(rt: HostRuntime) -> Result<(), Fail> {
-    let mut m = fresh(rt.alloc(), 7, 3, 2, 64);
+    let mut m = fresh(rt.alloc(), 7, 3, 2, 64, 0);
     let a = ask_number(&mut m, VAR, 0);
     let b = ask_number(&mut m, VAR, 1);
     let zero = ask_number(&mut m, ZERO, 0);
@@ -39,7 +39,7 @@ fn down_a_conjunction(rt: HostRuntime) -> Result<(), Fail> {
 /// The sets of {{0}, {1}} with 0 leave the empty set, and those without it {1}.
 #[test]
 fn down_a_family(rt: HostRuntime) -> Result<(), Fail> {
-    let mut m = fresh(rt.alloc(), 7, 3, 2, 64);
+    let mut m = fresh(rt.alloc(), 7, 3, 2, 64, 0);
     let p = ask_number(&mut m, SINGLE, 0);
     let q = ask_number(&mut m, SINGLE, 1);
     let base = ask_number(&mut m, BASE, 0);
@@ -59,7 +59,7 @@ fn down_a_family(rt: HostRuntime) -> Result<(), Fail> {
 /// The three kinds, and the leaf of a number.
 #[test]
 fn kinds(rt: HostRuntime) -> Result<(), Fail> {
-    let mut m = fresh(rt.alloc(), 7, 3, 2, 64);
+    let mut m = fresh(rt.alloc(), 7, 3, 2, 64, 0);
     let none = nothing();
     let a = ask_number(&mut m, VAR, 2);
     let least = ask(&mut m, NUMBER, &none, &none, 0, -(1 << 46));

@@ -10,7 +10,7 @@ use std::test::Fail;
 /// A swap of the levels 0 and 1 of the variables: x1 is above x0 then, x2 and the elements stand where they stood, and the functions stay.
 #[test]
 fn swapped(rt: HostRuntime) -> Result<(), Fail> {
-    let mut m = fresh(rt.alloc(), 7, 3, 2, 64);
+    let mut m = fresh(rt.alloc(), 7, 3, 2, 64, 0);
     let a = ask_number(&mut m, VAR, 0);
     let b = ask_number(&mut m, VAR, 1);
     let both = ask_two(&mut m, AND, &a, &b);
@@ -35,7 +35,7 @@ fn swapped(rt: HostRuntime) -> Result<(), Fail> {
 /// The same of the elements.
 #[test]
 fn elements_swapped(rt: HostRuntime) -> Result<(), Fail> {
-    let mut m = fresh(rt.alloc(), 7, 1, 3, 64);
+    let mut m = fresh(rt.alloc(), 7, 1, 3, 64, 0);
     let p = ask_number(&mut m, SINGLE, 1);
     let q = ask_number(&mut m, SINGLE, 2);
     let either = ask_two(&mut m, UNION, &p, &q);
@@ -56,7 +56,7 @@ fn elements_swapped(rt: HostRuntime) -> Result<(), Fail> {
 /// left where a variable is 1, and where it is 0. So a sift leaves 5 + 4 + 3 slots in use.
 #[test]
 fn sifted(rt: HostRuntime) -> Result<(), Fail> {
-    let mut m = fresh(rt.alloc(), 7, 4, 0, 64);
+    let mut m = fresh(rt.alloc(), 7, 4, 0, 64, 0);
     let a = ask_number(&mut m, VAR, 0);
     let b = ask_number(&mut m, VAR, 1);
     let c = ask_number(&mut m, VAR, 2);
@@ -78,7 +78,7 @@ fn sifted(rt: HostRuntime) -> Result<(), Fail> {
 /// A table of 8 slots that is full of 5 constants, 2 variables and x0 and x1: no slot is free for a swap, which asks for some.
 #[test]
 fn no_room(rt: HostRuntime) -> Result<(), Fail> {
-    let mut m = fresh(rt.alloc(), 7, 2, 0, 8);
+    let mut m = fresh(rt.alloc(), 7, 2, 0, 8, 0);
     let a = ask_number(&mut m, VAR, 0);
     let b = ask_number(&mut m, VAR, 1);
     let both = ask_two(&mut m, AND, &a, &b);

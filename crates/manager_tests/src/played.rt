@@ -10,7 +10,7 @@ use std::test::Fail;
 /// A conjunction is the same both ways, and the complement of the disjunction of complements.
 #[test]
 fn conjunctions(rt: HostRuntime) -> Result<(), Fail> {
-    let mut m = fresh(rt.alloc(), 7, 3, 0, 64);
+    let mut m = fresh(rt.alloc(), 7, 3, 0, 64, 0);
     let a = ask_number(&mut m, VAR, 0);
     let b = ask_number(&mut m, VAR, 1);
     let there = ask_two(&mut m, AND, &a, &b);
@@ -29,7 +29,7 @@ fn conjunctions(rt: HostRuntime) -> Result<(), Fail> {
 /// The variables that were marked are quantified: for some value of x0, x0 and x1 is x1; for some of both it is 1.
 #[test]
 fn quantified(rt: HostRuntime) -> Result<(), Fail> {
-    let mut m = fresh(rt.alloc(), 7, 3, 0, 64);
+    let mut m = fresh(rt.alloc(), 7, 3, 0, 64, 0);
     let a = ask_number(&mut m, VAR, 0);
     let b = ask_number(&mut m, VAR, 1);
     let both = ask_two(&mut m, AND, &a, &b);
@@ -49,7 +49,7 @@ fn quantified(rt: HostRuntime) -> Result<(), Fail> {
 /// Sums of numbers, and unions of families.
 #[test]
 fn numbers_and_families(rt: HostRuntime) -> Result<(), Fail> {
-    let mut m = fresh(rt.alloc(), 7, 2, 2, 64);
+    let mut m = fresh(rt.alloc(), 7, 2, 2, 64, 0);
     let none = nothing();
     let two = ask(&mut m, NUMBER, &none, &none, 0, 2);
     let three = ask(&mut m, NUMBER, &none, &none, 0, 3);
@@ -68,7 +68,7 @@ fn numbers_and_families(rt: HostRuntime) -> Result<(), Fail> {
 /// A row may be copied and let go; when all are gone a sweep leaves the permanent slots, 5 and one for each variable.
 #[test]
 fn rows_go(rt: HostRuntime) -> Result<(), Fail> {
-    let mut m = fresh(rt.alloc(), 7, 3, 0, 64);
+    let mut m = fresh(rt.alloc(), 7, 3, 0, 64, 0);
     let a = ask_number(&mut m, VAR, 0);
     let b = ask_number(&mut m, VAR, 1);
     let both = ask_two(&mut m, AND, &a, &b);

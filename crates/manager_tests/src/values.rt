@@ -10,7 +10,7 @@ use std::test::Fail;
 /// x0 and x1 is 1 where both bits are; 7 + x1 is 8 where the second bit is 1; {{0}, {1}} has {1} and not {0, 1}.
 #[test]
 fn values(rt: HostRuntime) -> Result<(), Fail> {
-    let mut m = fresh(rt.alloc(), 7, 3, 2, 64);
+    let mut m = fresh(rt.alloc(), 7, 3, 2, 64, 0);
     let none = nothing();
     let a = ask_number(&mut m, VAR, 0);
     let b = ask_number(&mut m, VAR, 1);
@@ -42,7 +42,7 @@ fn values(rt: HostRuntime) -> Result<(), Fail> {
 /// x0 and x1 implies x0, and x0 does not imply it.
 #[test]
 fn implications(rt: HostRuntime) -> Result<(), Fail> {
-    let mut m = fresh(rt.alloc(), 7, 3, 2, 64);
+    let mut m = fresh(rt.alloc(), 7, 3, 2, 64, 0);
     let a = ask_number(&mut m, VAR, 0);
     let b = ask_number(&mut m, VAR, 1);
     let both = ask_two(&mut m, AND, &a, &b);
@@ -61,7 +61,7 @@ fn implications(rt: HostRuntime) -> Result<(), Fail> {
 /// x1 put for x0 and x0 for x1 at once makes x1 and not x0 of x0 and not x1.
 #[test]
 fn exchanged(rt: HostRuntime) -> Result<(), Fail> {
-    let mut m = fresh(rt.alloc(), 7, 3, 0, 64);
+    let mut m = fresh(rt.alloc(), 7, 3, 0, 64, 0);
     let a = ask_number(&mut m, VAR, 0);
     let b = ask_number(&mut m, VAR, 1);
     let not_a = ask_one(&mut m, NOT, &a);
@@ -83,8 +83,8 @@ fn exchanged(rt: HostRuntime) -> Result<(), Fail> {
 /// Of what is put: a variable twice, one that there is not, a function of another kind or manager, one that is dropped, and too many.
 #[test]
 fn wrong_pairs(rt: HostRuntime) -> Result<(), Fail> {
-    let mut m = fresh(rt.alloc(), 7, 3, 2, 64);
-    let mut other = fresh(rt.alloc(), 8, 3, 2, 64);
+    let mut m = fresh(rt.alloc(), 7, 3, 2, 64, 0);
+    let mut other = fresh(rt.alloc(), 8, 3, 2, 64, 0);
     let a = ask_number(&mut m, VAR, 0);
     let b = ask_number(&mut m, VAR, 1);
     let p = ask_number(&mut m, SINGLE, 0);

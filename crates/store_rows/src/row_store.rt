@@ -1,6 +1,7 @@
 //! A store, and rows that hold its functions.
 
-ghost use Rattle.std.specs.Prelude.{◌≡◌, ◌+◌, ◌<◌, ◌≤◌, ◌↔◌, ℕ, map, All, IfOk, OnErr, IsTrue, [], None};
+ghost use Rattle.std.specs.Prelude.{◌≡◌, ◌+◌, ◌<◌, ◌≤◌, ◌↔◌, ℕ, map, All, IfOk, IfSome, OnErr, IsTrue, [], None};
+ghost use Rattle.computed_cache.specs.Entries.{places};
 ghost use Rattle.edge_bits.specs.declared.edges.Kind.{Kind as KindOf};
 ghost use Rattle.edge_bits.specs.declared.edges.Kind.TheVariants as kinds;
 ghost use Rattle.function_laws.specs.Kinds.{ValueOf};
@@ -39,17 +40,48 @@ impl Model for RowStore {
     ghost invariant = { λ s. IsRowStore (record { store = s.store; rows = s.rows; made = s.made }) };
 }
 
+/// A store with room for so many answers, or for as many as suit its slots.
+fn opened(
+    alloc: Global,
+    vars: u32,
+    elements: u32,
+    limit: u32,
+    entries: Option<u32>,
+) -> Result<PlainStore, Memory>
+    requires vars { vars ≤ MOST_VARIABLES }
+    requires elements { elements ≤ MOST_ELEMENTS }
+    requires least { 5 + vars ≤ limit }
+    requires most { limit ≤ MOST_SLOTS }
+    requires entries { IfSome entries (λ n. 0 < n) }
+    ensures opening { IfOk result (IsOpening vars elements limit) }
+    ensures remembers { IfSome entries (λ n. IfOk result (λ s. places s.memo ≡ n)) }
+{
+    match entries {
+        Some(n) => PlainStore::remembering(alloc, vars, elements, limit, n),
+        None => PlainStore::new(alloc, vars, elements, limit),
+    }
+}
+
 impl RowStore {
     /// A store of so many variables and elements, at most `MOST_VARIABLES` and `MOST_ELEMENTS`, with so many slots: 5 and one for each
-    /// variable at least, `MOST_SLOTS` at most. Both orders are 0, 1, 2, .., and there is no row.
-    pub fn new(alloc: Global, vars: u32, elements: u32, limit: u32) -> Result<RowStore, Memory>
+    /// variable at least, `MOST_SLOTS` at most. Both orders are 0, 1, 2, .., and there is no row. It remembers so many answers of operations,
+    /// at least one, or as many as suit the slots where no number is told.
+    pub fn new(
+        alloc: Global,
+        vars: u32,
+        elements: u32,
+        limit: u32,
+        entries: Option<u32>,
+    ) -> Result<RowStore, Memory>
         requires vars { vars ≤ MOST_VARIABLES }
         requires elements { elements ≤ MOST_ELEMENTS }
         requires least { 5 + vars ≤ limit }
         requires most { limit ≤ MOST_SLOTS }
-        ensures { IfOk result (λ s. IsOpening vars elements limit s.store × (s.rows.live ≡ [])) }
+        requires entries { IfSome entries (λ n. 0 < n) }
+        ensures opening { IfOk result (λ s. IsOpening vars elements limit s.store × (s.rows.live ≡ [])) }
+        ensures remembers { IfSome entries (λ n. IfOk result (λ s. places s.store.memo ≡ n)) }
     {
-        let store = PlainStore::new(alloc, vars, elements, limit)?;
+        let store = opened(alloc, vars, elements, limit, entries)?;
         let rows = Rows::new(alloc);
         Ok(RowStore {
             alloc,
