@@ -36,9 +36,9 @@ use Rattle.words_rule.proofs.NodeLoads.{loads_met}
 use Rattle.words_rule.proofs.NodeStores.{step_store_taken}
 use Rattle.words_rule.proofs.WalkSteps.{step_load_word}
 
-module _ {S : Type 0} (board : S → List (std.Option Held)) (free_slots : S → List ℕ) where
+module _ {S : Type 0} (board : S → List (std.Option Held)) (free_slots : S → List ℕ) (memo : S → List ℕ) where
   abbrev TheRule : State (std.Option S) View → Type 0
-  TheRule = Rule board free_slots
+  TheRule = Rule board free_slots memo
 
   abbrev Sat : Type 0
   Sat = Me (std.Option S) View
@@ -47,7 +47,7 @@ module _ {S : Type 0} (board : S → List (std.Option Held)) (free_slots : S →
       → Allows TheRule slots id me word (λ n. either (n == 0) new n) (turn_taken (step slots word 0 new none) me)
   call_take_turn slots id word me l new is live inside nonzero = subst (λ (w : ℕ). Allows TheRule slots id me w (λ n. either (n == 0) new n) (turn_taken (step slots w 0 new none) me)) (sym is)
       (λ s r long at small.
-      let x = takes_turn board free_slots slots id me l new live inside nonzero s r long at small in
+      let x = takes_turn board free_slots memo slots id me l new live inside nonzero s r long at small in
       let t = x.4 in
       let n : ℕ = get_or s.words (turn_at l) 0 in (
         x.0,
@@ -67,7 +67,7 @@ module _ {S : Type 0} (board : S → List (std.Option Held)) (free_slots : S →
       → Allows TheRule slots id me word (λ _. 0) (λ _. turn_given (step slots word 0 0 none) me 0)
   call_give_turn slots id word me l is live inside has calm = subst (λ (w : ℕ). Allows TheRule slots id me w (λ _. 0) (λ _. turn_given (step slots w 0 0 none) me 0)) (sym is)
       (λ s r long at small.
-      let x = gives_turn board free_slots slots id me l live inside has (λ b its. absurd (no_some b (sym calm.0 ∙ its))) calm.1 s r long at small in (
+      let x = gives_turn board free_slots memo slots id me l live inside has (λ b its. absurd (no_some b (sym calm.0 ∙ its))) calm.1 s r long at small in (
         x.0,
         x.1,
         x.2,
@@ -85,7 +85,7 @@ module _ {S : Type 0} (board : S → List (std.Option Held)) (free_slots : S →
       → Allows TheRule slots id me word (λ n. n) (head_loaded level (step slots word 0 0 none) me)
   call_load_head slots id word me head level is live share has inside = subst (λ (w : ℕ). Allows TheRule slots id me w (λ n. n) (head_loaded level (step slots w 0 0 none) me)) (sym is)
       (λ s r long at small.
-      let x = step_load_head board free_slots slots id me head level live share has inside s r long at small in
+      let x = step_load_head board free_slots memo slots id me head level live share has inside s r long at small in
       let n : ℕ = get_or s.words (head_at (shape_in me.0.draws) head) 0 in (
         x.0,
         x.1,
@@ -101,7 +101,7 @@ module _ {S : Type 0} (board : S → List (std.Option Held)) (free_slots : S →
       → Allows TheRule slots id me word (λ n. n) (next_loaded (step slots word 0 0 none) me)
   call_load_next slots id word me q is live inside = subst (λ (w : ℕ). Allows TheRule slots id me w (λ n. n) (next_loaded (step slots w 0 0 none) me)) (sym is)
       (λ s r long at small.
-      let x = step_load_next board free_slots slots id me q live inside s r long at small in
+      let x = step_load_next board free_slots memo slots id me q live inside s r long at small in
       let n : ℕ = get_or s.words (next_at (shape_in me.0.draws) q) 0 in
       (x.0, x.1, x.2, x.3, (x.4.0, (λ p same. subst (λ (j : ℕ). LeadsOn j me n) (let e : q ≡ p = omega (arith, same) in e) x.4.1))))
 
@@ -109,14 +109,14 @@ module _ {S : Type 0} (board : S → List (std.Option Held)) (free_slots : S →
       → Allows TheRule slots id me word (λ n. n) (node_loaded o (step slots word 0 0 none) me)
   call_load_node slots id word me o q is live share inside few = subst (λ (w : ℕ). Allows TheRule slots id me w (λ n. n) (node_loaded o (step slots w 0 0 none) me)) (sym is)
       (λ s r long at small.
-      let x = loads_met board free_slots slots id me o q live share inside few s r long at small in
+      let x = loads_met board free_slots memo slots id me o q live share inside few s r long at small in
       let n : ℕ = get_or s.words (node_at (shape_in me.0.draws) q) 0 in
       let t = x.4 in
       (x.0, x.1, x.2, x.3, (t.0, t.1, t.2, t.3, (λ p same. subst (λ (j : ℕ). LoadedNode (known_of me.0 o) (known_of x.0 o) j n) (let e : q ≡ p = omega (arith, same) in e) t.4))))
 
   pub call_take_free : (slots id : ℕ) (me : Sat) (new : ℕ) → me.0.draws.live ≡ true → new ≢ 0 → Allows TheRule slots id me 3 (λ n. either (n == 0) new n) (free_taken free_slots (step slots 3 0 new none) me)
   call_take_free slots id me new live nonzero s r long at small =
-      let x = takes_free_list board free_slots slots id me new live nonzero s r long at small in
+      let x = takes_free_list board free_slots memo slots id me new live nonzero s r long at small in
       let t = x.4 in
       let n : ℕ = get_or s.words 3 0 in
       (x.0, x.1, x.2, x.3, (dite (ℕ_discrete n 0) (λ hit. ap (λ (y : Sat). y.0.draws) (t.0 hit).1) (λ miss. ap (λ (y : Sat). y.0.draws) (t.1 miss)), t.0, t.1))
@@ -125,7 +125,7 @@ module _ {S : Type 0} (board : S → List (std.Option Held)) (free_slots : S →
       → me.0.hand.free ≡ Some (slot ∷ list) → free_slots x ≡ list → (me.0.hand.taken ≡ None) × (me.0.hand.loose ≡ None) → bits < 18446744073709551616 → IsWanted (known_of me.0 o) bits word
       → Allows TheRule slots id me 3 (λ _. 0) (λ _. slot_taken bits (step slots 3 0 0 none) me 0)
   call_take_slot slots id me o bits slot list x word live share has free gave calm small wanted s r long at below =
-      let y = step_take_slot board free_slots slots id me o slot bits list x word live share has free gave (ap (option_map taken_of) calm.0, calm.1) small wanted s r long at below in
+      let y = step_take_slot board free_slots memo slots id me o slot bits list x word live share has free gave (ap (option_map taken_of) calm.0, calm.1) small wanted s r long at below in
       (y.0, y.1, y.2, y.3, (λ q other its. subst (λ (p : ℕ). HasTaken bits p me (y.0, carried_after me.1 y.1)) (first slot q list other (sym free ∙ its)) y.4))
     where
       first : (a b : ℕ) (xs ys : List ℕ) → Some (a ∷ xs) ≡ Some (b ∷ ys) → a ≡ b
@@ -144,13 +144,13 @@ module _ {S : Type 0} (board : S → List (std.Option Held)) (free_slots : S →
 
   pub call_take_board : (slots id : ℕ) (me : Sat) (new : ℕ) → new ≡ suc me.0.draws.session → me.0.draws.live ≡ true
       → Allows TheRule slots id me 2 (λ n. either (n == 0) new n) (board_taken board (step slots 2 0 new none) me)
-  call_take_board slots id me new is live = subst (λ (k : ℕ). Allows TheRule slots id me 2 (λ n. either (n == 0) k n) (board_taken board (step slots 2 0 k none) me)) (sym is) (takes_board board free_slots slots id me live)
+  call_take_board slots id me new is live = subst (λ (k : ℕ). Allows TheRule slots id me 2 (λ n. either (n == 0) k n) (board_taken board (step slots 2 0 k none) me)) (sym is) (takes_board board free_slots memo slots id me live)
 
   pub call_store_next : (slots id word : ℕ) (me : Sat) (q x : ℕ) → word ≡ next_at (shape_in me.0.draws) q → me.0.draws.live ≡ true → Owns me.0.hand q → q < me.0.draws.slots
       → Allows TheRule slots id me word (λ _. x) (λ _. next_stored (step slots word x 0 none) me x)
   call_store_next slots id word me q x is live own inside = subst (λ (w : ℕ). Allows TheRule slots id me w (λ _. x) (λ _. next_stored (step slots w x 0 none) me x)) (sym is)
       (λ s r long at small.
-      let y = stores_next board free_slots slots id me q x live own inside s r long at small in (
+      let y = stores_next board free_slots memo slots id me q x live own inside s r long at small in (
         y.0,
         y.1,
         y.2,
@@ -166,7 +166,7 @@ module _ {S : Type 0} (board : S → List (std.Option Held)) (free_slots : S →
       → Allows TheRule slots id me word (λ _. bits) (λ _. node_stored o (step slots word bits 0 none) me bits)
   call_store_node slots id word me o slot bits is live share taken none_loose fits inside reads few = subst (λ (w : ℕ). Allows TheRule slots id me w (λ _. bits) (λ _. node_stored o (step slots w bits 0 none) me bits)) (sym is)
       (λ s r long at small.
-      let y = step_store_taken board free_slots slots id me o slot bits live share taken none_loose fits inside reads few s r long at small in
+      let y = step_store_taken board free_slots memo slots id me o slot bits live share taken none_loose fits inside reads few s r long at small in
       let t = y.4 in (
         y.0,
         y.1,
@@ -183,7 +183,7 @@ module _ {S : Type 0} (board : S → List (std.Option Held)) (free_slots : S →
       → Allows TheRule slots id me word (λ n. n) (word_walked (step slots word 0 0 none) me)
   call_load_word slots id word me q is live inside met share = subst (λ (w : ℕ). Allows TheRule slots id me w (λ n. n) (word_walked (step slots w 0 0 none) me)) (sym is)
       (λ s r long at small.
-      let y = step_load_word board free_slots slots id me q live inside met share s r long at small in
+      let y = step_load_word board free_slots memo slots id me q live inside met share s r long at small in
       let n : ℕ = get_or s.words (node_at (shape_in me.0.draws) q) 0 in
       let t = y.4 in
       (y.0, y.1, y.2, y.3, (t.0, t.1, (λ p same. subst (λ (j : ℕ). LoadedWord me.0 y.0 j n) (let e : q ≡ p = omega (arith, same) in e) t.2))))
@@ -201,15 +201,15 @@ module _ {S : Type 0} (board : S → List (std.Option Held)) (free_slots : S →
       let p = r.parts in
       let home = λ (k : ℕ). get_elem? s.homes k in
       let ws = words_of z s.words in
-      let shape = shape_is board free_slots z ws home s.views p id v at live in (
+      let shape = shape_is board free_slots memo z ws home s.views p id v at live in (
         v,
         keeps,
         tt,
-        stays board free_slots s word id me r at,
+        stays board free_slots memo s word id me r at,
         (
           refl,
           (λ k u un same.
-              let l = level_word board free_slots z ws home s.views p id v at live share own_none k u un in
+              let l = level_word board free_slots memo z ws home s.views p id v at live share own_none k u un in
               ap (λ (i : ℕ). get_or s.words i 0) (same ∙ ap (λ (y : Shape). order_at y (places y + place_of y u)) (sym shape))
               ∙ sym (here_order z s.words 0 (places z + place_of z u) (let lt = l.0 in omega (arith, lt))) ∙ l.1),
         ),

@@ -50,12 +50,12 @@ counted_row k (x ∷ rows) zero row at is =
     let e : one_if (x.held.edge.index == k) ≡ 1 = ap one_if (eq-eqb x.held.edge.index k (ap (λ (y : Row). y.held.edge.index) (some-injective x row at) ∙ is)) in omega (arith, e)
 counted_row k (x ∷ rows) (suc j) row at is = let later = counted_row k rows j row at is in omega (arith, later)
 
-module _ {S : Type 0} (board : S → List (std.Option Held)) (free_slots : S → List ℕ) (slots id : ℕ) (me : Me (std.Option S) View) (live : me.0.draws.live ≡ true) where
+module _ {S : Type 0} (board : S → List (std.Option Held)) (free_slots : S → List ℕ) (memo : S → List ℕ) (slots id : ℕ) (me : Me (std.Option S) View) (live : me.0.draws.live ≡ true) where
   abbrev PartsOf : Shape → Words → (ℕ → Option (Option (std.Option S))) → List View → Type 0
-  PartsOf = Parts board free_slots
+  PartsOf = Parts board free_slots memo
 
   abbrev TheRule : State (std.Option S) View → Type 0
-  TheRule = Rule board free_slots
+  TheRule = Rule board free_slots memo
 
   module _ (s : State (std.Option S) View) (r : TheRule s) (at : get_elem? s.views id ≡ some me.0) (k : ℕ) (inside : k < me.0.draws.slots) where
     abbrev ws : Words
@@ -71,7 +71,7 @@ module _ {S : Type 0} (board : S → List (std.Option Held)) (free_slots : S →
     n = get_or s.words word 0
 
     shape : r.shape ≡ shape_in me.0.draws
-    shape = shape_is board free_slots r.shape ws home s.views r.parts id me.0 at live
+    shape = shape_is board free_slots memo r.shape ws home s.views r.parts id me.0 at live
 
     below : k < r.shape.slots
     below = subst (λ (y : Shape). k < y.slots) (sym shape) inside
@@ -87,7 +87,7 @@ module _ {S : Type 0} (board : S → List (std.Option Held)) (free_slots : S →
 
     -- the count word becomes new, and the view this
     ends : (new : ℕ) (w : View) → PartsOf r.shape (record ws { count = put_at ws.count k new }) home (set s.views id w) → TheRule (record { words = set s.words word new; homes = s.homes; views = set s.views id w })
-    ends new w parts = after_word board free_slots s r word new (set s.views id w) s.homes (record ws { count = put_at ws.count k new }) refl
+    ends new w parts = after_word board free_slots memo s r word new (set s.views id w) s.homes (record ws { count = put_at ws.count k new }) refl
         (ap (λ i. words_of r.shape (set s.words i new)) (sym word_is) ∙ set_count r.shape s.words new k below r.wide) parts
 
     -- its count and generation then, and those of the others
@@ -115,9 +115,9 @@ module _ {S : Type 0} (board : S → List (std.Option Held)) (free_slots : S →
   noted_held s r at share held is =
       let ws = words_of r.shape s.words in
       let home = λ (k : ℕ). get_elem? s.homes k in
-      let shape = shape_is board free_slots r.shape ws home s.views r.parts id me.0 at live in
+      let shape = shape_is board free_slots memo r.shape ws home s.views r.parts id me.0 at live in
       let f = flipped-some held.edge.complement ((noted_content me.0).function held.edge.index) is.0 is.1 in
-      let c = content_true board free_slots r.shape ws home s.views r.parts id me.0 at live share (r.parts.ordered.shared id me.0 at share) own_none held.edge.index f.0 f.1 in
+      let c = content_true board free_slots memo r.shape ws home s.views r.parts id me.0 at live share (r.parts.ordered.shared id me.0 at share) own_none held.edge.index f.0 f.1 in
       (is.0, ap (λ (x : std.Option Denoted). flipped held.edge.complement x) (c.3 ∙ sym f.1) ∙ is.1, ap (λ (y : Shape). whole_of y is.0) shape ∙ is.2)
 
   pub raises_slot : (word : ℕ) (held : Held) → word ≡ count_at (shape_in me.0.draws) held.edge.index → held.edge.index < me.0.draws.slots → size (tally_of me.0) < 2 ^ 25 → MayRaise me.0 held
@@ -133,11 +133,11 @@ module _ {S : Type 0} (board : S → List (std.Option Held)) (free_slots : S →
       let gen : generation_of (count k) ≡ generation_of x = ap generation_of (put_at-same (ws s r at k inside).count k new) ∙ up_generation x small (few s r at k inside) in
       let w : View = record me.0 { counts = lifted held (generation_of x) me.0.counts } in
       let parts = ⊎_elim
-      (λ (row : HasRow me.0.draws.rows held). parts_raise_row board free_slots r.shape (ws s r at k inside) (home s r at k inside) s.views r.parts id me.0 at held count live
+      (λ (row : HasRow me.0.draws.rows held). parts_raise_row board free_slots memo r.shape (ws s r at k inside) (home s r at k inside) s.views r.parts id me.0 at held count live
       (counted_row k me.0.draws.rows row.0 row.1 row.2 (ap (λ (y : Held). y.edge.index) row.3)) room
       (subst (IsHeldBy r.shape r.parts.function) row.3 (each_at (λ (y : Row). IsHeldBy r.shape r.parts.function y.held) me.0.draws.rows row.0 row.1 (r.parts.kept.each id (tally_of me.0) (at_map tally_of s.views id me.0 at)).rows row.2))
       up (others s r at k inside new) same)
-      (λ by_share. parts_raise board free_slots r.shape (ws s r at k inside) (home s r at k inside) s.views r.parts id me.0 at held count live by_share.0 room (noted_held s r at by_share.0 held by_share.1) up (others s r at k inside new) same) may in (
+      (λ by_share. parts_raise board free_slots memo r.shape (ws s r at k inside) (home s r at k inside) s.views r.parts id me.0 at held count live by_share.0 room (noted_held s r at by_share.0 held by_share.1) up (others s r at k inside new) same) may in (
         w,
         keeps,
         tt,
@@ -160,7 +160,7 @@ module _ {S : Type 0} (board : S → List (std.Option Held)) (free_slots : S →
         w,
         keeps,
         tt,
-        ends s r at k inside new w (parts_lower board free_slots r.shape (ws s r at k inside) (home s r at k inside) s.views r.parts id me.0 at held rest count live owes down (others s r at k inside new) (still s r at k inside new (down_generation x small some_one))),
+        ends s r at k inside new w (parts_lower board free_slots memo r.shape (ws s r at k inside) (home s r at k inside) s.views r.parts id me.0 at held rest count live owes down (others s r at k inside new) (still s r at k inside new (down_generation x small some_one))),
         ap (λ (l : List Held). (record me.0 { counts = record me.0.counts { owed = l } }, me.1)) (ap others_of (sym owes)),
       ))
 
@@ -175,7 +175,7 @@ module _ {S : Type 0} (board : S → List (std.Option Held)) (free_slots : S →
         w,
         keeps,
         tt,
-        ends s r at k inside new w (parts_pin board free_slots r.shape (ws s r at k inside) (home s r at k inside) s.views r.parts id me.0 at k (put_at (ws s r at k inside).count k new) live holding once up (others s r at k inside new)
+        ends s r at k inside new w (parts_pin board free_slots memo r.shape (ws s r at k inside) (home s r at k inside) s.views r.parts id me.0 at k (put_at (ws s r at k inside).count k new) live holding once up (others s r at k inside new)
             (still s r at k inside new (up_generation x small (few s r at k inside)))),
         (λ j same. ap (λ (i : ℕ). (record me.0 { counts = record me.0.counts { pins = i ∷ me.0.counts.pins } }, me.1)) (let e : k ≡ j = omega (arith, same) in e)),
       ))
@@ -193,7 +193,7 @@ module _ {S : Type 0} (board : S → List (std.Option Held)) (free_slots : S →
         w,
         keeps,
         tt,
-        ends s r at k inside new w (parts_unpin board free_slots r.shape (ws s r at k inside) (home s r at k inside) s.views r.parts id me.0 at k rest (put_at (ws s r at k inside).count k new) holding pins down (others s r at k inside new)
+        ends s r at k inside new w (parts_unpin board free_slots memo r.shape (ws s r at k inside) (home s r at k inside) s.views r.parts id me.0 at k rest (put_at (ws s r at k inside).count k new) holding pins down (others s r at k inside new)
             (still s r at k inside new (down_generation x small some_one))),
         ap (λ (l : List ℕ). (record me.0 { counts = record me.0.counts { pins = l } }, me.1)) (ap others_of (sym pins)),
       ))

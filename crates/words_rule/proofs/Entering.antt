@@ -68,12 +68,12 @@ rows_still z function notes [] same all = tt
 rows_still z function notes (row ∷ rows) same all =
     ((all.0.0, ap (λ (x : std.Option Denoted). flipped row.held.edge.complement x) (same row.held.edge.index (inl refl)) ∙ all.0.1, all.0.2), rows_still z function notes rows (λ s there. same s (inr there)) all.1)
 
-module _ {S : Type 0} (board : S → List (std.Option Held)) (free_slots : S → List ℕ) where
+module _ {S : Type 0} (board : S → List (std.Option Held)) (free_slots : S → List ℕ) (memo : S → List ℕ) where
   abbrev PartsOf : Shape → Words → (ℕ → Option (Option (std.Option S))) → List View → Type 0
-  PartsOf = Parts board free_slots
+  PartsOf = Parts board free_slots memo
 
   abbrev TheRule : State (std.Option S) View → Type 0
-  TheRule = Rule board free_slots
+  TheRule = Rule board free_slots memo
 
   abbrev Sat : Type 0
   Sat = Me (std.Option S) View
@@ -105,26 +105,26 @@ module _ {S : Type 0} (board : S → List (std.Option Held)) (free_slots : S →
     op_held = each_held z r.function op_slots op_have
 
     pub op_parts : PartsOf z ws home (set vs id op_view)
-    op_parts = parts_noting board free_slots z ws home vs r id v at (words_at ws.node op_slots) (held_at z r.function op_slots op_have) (λ has. op_words) (λ has. op_held)
+    op_parts = parts_noting board free_slots memo z ws home vs r id v at (words_at ws.node op_slots) (held_at z r.function op_slots op_have) (λ has. op_words) (λ has. op_held)
 
     op_function : op_parts.function ≡ r.function
     unfolding op_parts
-    op_function = noting_function board free_slots z ws home vs r id v at (words_at ws.node op_slots) (held_at z r.function op_slots op_have) (λ has. op_words) (λ has. op_held)
+    op_function = noting_function board free_slots memo z ws home vs r id v at (words_at ws.node op_slots) (held_at z r.function op_slots op_have) (λ has. op_words) (λ has. op_held)
 
     op_met : (s : ℕ) → Lists op_slots s → (g : Denoted) × ((noted_content op_view).function s ≡ Some g)
     op_met s there = let k = met_here v.draws.vars z ws.node r.function op_slots op_have s there in (k.0, k.1)
 
     pub op_stands : v.shares.op ≡ shares.Held → (o : Own) → o.fulls < 18446744073709551616 → Stands (known_of op_view o)
-    op_stands share o few = stands_first board free_slots z ws home (set vs id op_view) op_parts id op_view (set_at vs id v op_view at) live share o
-        (λ s lt. op_met s (lists_left (below (5 + z.variables)) (rows_at v.draws.rows) s (lists_below (5 + z.variables) s (subst (λ (y : Shape). s < 5 + y.variables) (sym (shape_is board free_slots z ws home vs r id v at live)) lt)))) few
+    op_stands share o few = stands_first board free_slots memo z ws home (set vs id op_view) op_parts id op_view (set_at vs id v op_view at) live share o
+        (λ s lt. op_met s (lists_left (below (5 + z.variables)) (rows_at v.draws.rows) s (lists_below (5 + z.variables) s (subst (λ (y : Shape). s < 5 + y.variables) (sym (shape_is board free_slots memo z ws home vs r id v at live)) lt)))) few
 
     pub op_rows : v.shares.op ≡ shares.Held → AreHeldBy (shape_in v.draws) (noted_content op_view).function v.draws.rows
-    op_rows share = subst (λ (y : Shape). AreHeldBy y (noted_content op_view).function v.draws.rows) (shape_is board free_slots z ws home vs r id v at live)
+    op_rows share = subst (λ (y : Shape). AreHeldBy y (noted_content op_view).function v.draws.rows) (shape_is board free_slots memo z ws home vs r id v at live)
         (rows_still z r.function (noted_content op_view).function v.draws.rows
         (λ s there.
         let at1 = set_at vs id v op_view at in
         let g = op_met s (lists_right (below (5 + z.variables)) (rows_at v.draws.rows) s there) in
-        let c = content_true board free_slots z ws home (set vs id op_view) op_parts id op_view at1 live share (op_parts.ordered.shared id op_view at1 share) own_none s g.0 g.1 in
+        let c = content_true board free_slots memo z ws home (set vs id op_view) op_parts id op_view at1 live share (op_parts.ordered.shared id op_view at1 share) own_none s g.0 g.1 in
         g.1 ∙ sym c.3 ∙ ap (λ (f : ℕ → std.Option Denoted). f s) op_function)
         rows_held)
 
@@ -145,27 +145,27 @@ module _ {S : Type 0} (board : S → List (std.Option Held)) (free_slots : S →
     walk_held = each_held z r.function walk_slots walk_have
 
     pub walk_parts : PartsOf z ws home (set vs id walk_view)
-    walk_parts = parts_noting board free_slots z ws home vs r id v at v.known.words walk_list (λ has. (r.seen id v at).words has) (λ has. walk_held)
+    walk_parts = parts_noting board free_slots memo z ws home vs r id v at v.known.words walk_list (λ has. (r.seen id v at).words has) (λ has. walk_held)
 
     walk_met : (s : ℕ) → Lists walk_slots s → (sees_of walk_view).content s ≡ r.function s
     walk_met s there =
         let k = met_here v.draws.vars z ws.node r.function walk_slots walk_have s there in
-        k.2 ∙ sym (list_true board free_slots z ws home vs r id v at live walk_list walk_held s k.0 k.2)
+        k.2 ∙ sym (list_true board free_slots memo z ws home vs r id v at live walk_list walk_held s k.0 k.2)
 
     pub walk_base : (sees_of walk_view).content base_slot ≡ Some (ZddFamily base)
     walk_base = walk_met base_slot (inl refl) ∙ r.sound.base_family
 
     pub walk_inside : IsInside walk_view
-    walk_inside s f is = subst (λ (y : Shape). s < y.slots) (shape_is board free_slots z ws home vs r id v at live) (r.sound.within s (r.sound.used s f (list_true board free_slots z ws home vs r id v at live walk_list walk_held s f is)))
+    walk_inside s f is = subst (λ (y : Shape). s < y.slots) (shape_is board free_slots memo z ws home vs r id v at live) (r.sound.within s (r.sound.used s f (list_true board free_slots memo z ws home vs r id v at live walk_list walk_held s f is)))
 
     pub walk_rows : AreHeldBy (shape_in v.draws) (sees_of walk_view).content v.draws.rows
-    walk_rows = subst (λ (y : Shape). AreHeldBy y (sees_of walk_view).content v.draws.rows) (shape_is board free_slots z ws home vs r id v at live)
+    walk_rows = subst (λ (y : Shape). AreHeldBy y (sees_of walk_view).content v.draws.rows) (shape_is board free_slots memo z ws home vs r id v at live)
         (rows_still z r.function (sees_of walk_view).content v.draws.rows (λ s there. walk_met s (inr there)) rows_held)
 
   pub enters_share : (slots id : ℕ) (me : Sat) → me.0.draws.live ≡ true → me.0.shares.op ≡ shares.Nothing → me.0.known.words ≡ [] → me.0.known.seen ≡ []
       → Allows TheRule slots id me 1 (λ n. (n + 1) % 2 ^ 64) (op_entered (step slots 1 1 0 none) me)
   enters_share slots id me live free unnoted unseen s r long at small =
-      let x = takes_share board free_slots slots id me live free unnoted unseen s r long at small in
+      let x = takes_share board free_slots memo slots id me live free unnoted unseen s r long at small in
       let n : ℕ = get_or s.words 1 0 in
       let v : View = x.0 in
       let s1 : State (std.Option S) View = stepped s 1 ((n + 1) % 2 ^ 64) id me.1 v x.1 in
@@ -216,11 +216,11 @@ module _ {S : Type 0} (board : S → List (std.Option Held)) (free_slots : S →
       let has_part : 0 < parts_of v.draws = let e : parts_of v.draws ≡ 1 = ap (λ b. cond b 1 (cond v.draws.closing ((64 - v.draws.given) + length v.draws.gone) 0)) live in omega (arith, e) in
       let words : words_of z (set s.words 1 ((n + 65536) % 2 ^ 64)) ≡ ws1 = set_phase z s.words ((n + 65536) % 2 ^ 64) (let l = r.wide in omega (arith, l)) ∙ ap (λ (k : ℕ). record ws { phase = k }) next in
       let end : (u : View) → PartsOf z ws1 home (set s.views id u) → TheRule (record { words = set s.words 1 ((n + 65536) % 2 ^ 64); homes = s.homes; views = set s.views id u }) =
-      λ u parts. after_word board free_slots s r 1 ((n + 65536) % 2 ^ 64) (set s.views id u) s.homes ws1 refl words parts in
+      λ u parts. after_word board free_slots memo s r 1 ((n + 65536) % 2 ^ 64) (set s.views id u) s.homes ws1 refl words parts in
       dite (dec_lt n 8589934592)
       (λ low.
       let v1 : View = record v { shares = with_walk v.shares shares.Held n } in
-      let p1 : PartsOf z ws1 home (set s.views id v1) = parts_walk_in board free_slots z ws home s.views p id v at has_part free low unseen in
+      let p1 : PartsOf z ws1 home (set s.views id v1) = parts_walk_in board free_slots memo z ws home s.views p id v at has_part free low unseen in
       let at1 = set_at s.views id v v1 at in
       let u : View = walk_view z ws1 home (set s.views id v1) p1 id v1 at1 live in (
         u,
@@ -243,4 +243,4 @@ module _ {S : Type 0} (board : S → List (std.Option Held)) (free_slots : S →
         ),
       ))
       (λ no_low. let u : View = record v { shares = with_walk v.shares shares.Owed n } in
-      (u, keeps, tt, end u (parts_walk_owed board free_slots z ws home s.views p id v at has_part free), (refl, (λ low. absurd (no_low low)), (λ _. refl))))
+      (u, keeps, tt, end u (parts_walk_owed board free_slots memo z ws home s.views p id v at has_part free), (refl, (λ low. absurd (no_low low)), (λ _. refl))))

@@ -36,8 +36,8 @@ few_bits (suc k) slots = by (nat_lt (2 ^ head_bits k slots * 2) slots) (few_bits
     by true le = omega (arith, le)
     by false le = omega (arith, le)
 
-module _ {S : Type 0} (board : S → List (std.Option Held)) (free_slots : S → List ℕ) where
-  module _ (z : Shape) (ws : Words) (home : ℕ → Option (Option (std.Option S))) (vs : List View) (r : Parts board free_slots z ws home vs) (id : ℕ) (v : View) (at : get_elem? vs id ≡ some v)
+module _ {S : Type 0} (board : S → List (std.Option Held)) (free_slots : S → List ℕ) (memo : S → List ℕ) where
+  module _ (z : Shape) (ws : Words) (home : ℕ → Option (Option (std.Option S))) (vs : List View) (r : Parts board free_slots memo z ws home vs) (id : ℕ) (v : View) (at : get_elem? vs id ≡ some v)
       (live : v.draws.live ≡ std.true) (share : v.shares.op ≡ shares.Held) (o : Own) where
     abbrev w : Content
     w = content_of z ws.node r.orders r.function r.half
@@ -48,8 +48,8 @@ module _ {S : Type 0} (board : S → List (std.Option Held)) (free_slots : S →
     pub stands_first : ((s : ℕ) → s < 5 + v.draws.vars → Has K.view s) → o.fulls < 18446744073709551616 → Stands K
     stands_first has few =
         let on = r.ordered.shared id v at share in
-        let n = narrow board free_slots z ws home vs r id v at live share on o in
-        let shape = shape_is board free_slots z ws home vs r id v at live in
+        let n = narrow board free_slots memo z ws home vs r id v at live share on o in
+        let shape = shape_is board free_slots memo z ws home vs r id v at live in
         let vars_is : z.variables ≡ v.draws.vars = ap (λ (y : Shape). y.variables) shape in
         let low : (s : ℕ) → s < 5 → Has K.view s = λ s lt. has s (omega (arith, lt)) in
         let content : (s : ℕ) → s < 5 → K.view.content s ≡ r.function s = λ s lt. sym (content_same n s (low s lt)) in
@@ -80,7 +80,7 @@ module _ {S : Type 0} (board : S → List (std.Option Held)) (free_slots : S →
           canonical = λ j e f is its same.
               let once = edge_once w r.sound e f (function_of j (values_at j K.view e)) (denotes_up n j e (values_at j K.view e) is).is
               ((denotes_up n j f (values_at j K.view f) its).is ∙ ap (λ (x : ℕ → ValueOf j). Some (function_of j x)) (sym same)) in edge_is e f once.0 once.1;
-          within = λ s f is. (let c = content_true board free_slots z ws home vs r id v at live share on o s f is in subst (λ (y : Shape). s < y.slots) shape (r.sound.within s (r.sound.used s f c.3)));
+          within = λ s f is. (let c = content_true board free_slots memo z ws home vs r id v at live share on o s f is in subst (λ (y : Shape). s < y.slots) shape (r.sound.within s (r.sound.used s f c.3)));
           few_variables = subst (λ (x : ℕ). x ≤ first_element) n.vars r.sound.few_variables;
           few_elements = subst (λ (x : ℕ). x ≤ first_element) n.elements r.sound.few_elements;
           few_slots = subst (λ (y : Shape). y.slots < 8388608) shape (let f = r.sound.few_slots in omega (arith, f));

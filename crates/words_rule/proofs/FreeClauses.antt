@@ -36,9 +36,9 @@ is_due w new (jobs.Node v hi lo) may is = λ k can.
     is ∙ ap (λ (j : Kind). Some (function_of j (node_values j w v hi lo))) same
 is_due w new (jobs.Leaf x) may is = is
 
-module _ {S : Type 0} (board : S → List (std.Option Held)) (free_slots : S → List ℕ) where
+module _ {S : Type 0} (board : S → List (std.Option Held)) (free_slots : S → List ℕ) (memo : S → List ℕ) where
   abbrev TheRule : State (std.Option S) View → Type 0
-  TheRule = Rule board free_slots
+  TheRule = Rule board free_slots memo
 
   abbrev Sat : Type 0
   Sat = Me (std.Option S) View
@@ -47,8 +47,8 @@ module _ {S : Type 0} (board : S → List (std.Option Held)) (free_slots : S →
   pub step_give_empty : (slots id : ℕ) (me : Sat) (x : S) (due : std.Option Function) → me.0.draws.live ≡ true → me.1 ≡ (1, Some x) ∷ rest me.1 → me.0.hand.free ≡ Some [] → free_slots x ≡ []
       → Allows TheRule slots id me 3 (λ _. 0) (empty_given due (step slots 3 0 0 none) me)
   step_give_empty slots id me x due live has free gave s r long at small =
-      let y = gives_free_list board free_slots slots id me [] x live has free gave s r long at small in
+      let y = gives_free_list board free_slots memo slots id me [] x live has free gave s r long at small in
       let u : View = y.0 in
       let w : View = record u { work = record me.0.work { fulls = risen me.0.work.fulls; due = due } } in
       let s1 : State (std.Option S) View = stepped s 3 0 id me.1 u y.1 in
-      (w, y.1, y.2, subst (λ (l : List View). TheRule (record { words = s1.words; homes = s1.homes; views = l })) (set_set s.views id u w) (rule_work board free_slots s1 id u (set_at s.views id me.0 u at) w.work y.3), ap (λ (q : Sat). (record q.0 { work = w.work }, q.1)) y.4)
+      (w, y.1, y.2, subst (λ (l : List View). TheRule (record { words = s1.words; homes = s1.homes; views = l })) (set_set s.views id u w) (rule_work board free_slots memo s1 id u (set_at s.views id me.0 u at) w.work y.3), ap (λ (q : Sat). (record q.0 { work = w.work }, q.1)) y.4)

@@ -1,5 +1,5 @@
 -- A slot is freed under the full hold.
-use Rattle.std.proofs.Common.{◌≡◌, ◌≢◌, ℕ, ◌+◌, ◌<◌, ◌==◌, List, length, [], ◌∷◌, set, refl, ap, sym, subst, ◌∙◌, inr, arith, eq-eqb}
+use Rattle.std.proofs.Common.{◌≡◌, ◌≢◌, ℕ, ◌+◌, ◌<◌, ◌==◌, List, length, [], ◌∷◌, set, refl, ap, sym, subst, ◌∙◌, inr, arith, eq-eqb, true}
 use Rattle.std.specs.Prelude as std
 use Rattle.std.specs.Prelude.{Some, None}
 use mathlib.Core.Option.{Option, some}
@@ -15,7 +15,7 @@ use Rattle.edge_bits.specs.declared.edges.Kind.{Kind}
 use Rattle.edge_bits.specs.declared.edges.Kind.TheVariants.{Bdd, Add, Zdd}
 use Rattle.std.specs.Prelude.{cond, Bool, true, false}
 use Rattle.function_laws.specs.SessionEntries.{Each}
-use Rattle.node_store.specs.Contents.{Content, IsSound, projection_node}
+use Rattle.node_store.specs.Contents.{Content, IsSound, projection_node, view_of}
 use Rattle.edge_bits.specs.declared.words.Word.TheVariants.{Inner}
 use Rattle.node_store.specs.Changes.{put_at, CanFree, without}
 use Rattle.node_store.proofs.Rewriting.{put_at-same, put_at-other}
@@ -41,6 +41,7 @@ use Rattle.words_rule.proofs.Layouts.{content_set}
 use Rattle.words_rule.proofs.Draws.{by_full}
 use Rattle.words_rule.proofs.Handed.{handed, parts_hand}
 use Rattle.words_rule.proofs.Rewrites.{order_by_full, nobody_takes, nobody_keeps}
+use Rattle.words_rule.proofs.Remembering.{remembered_still}
 
 -- generations are no matter of this part
 pub sound_whatever : (w : Content) (g : ℕ → ℕ) → IsSound w → IsSound (record w { generation = g })
@@ -126,17 +127,17 @@ module _ (w : Content) (sound : IsSound w) where
       let n = sound.nodes s (projection_node v) d.0 word d.1 in
       d.1 ∙ ap std.Some (n.is ∙ projected v n.kind n.high n.low (sym sound.logic_one ∙ n.high_is) (ap (flipped true) (sym sound.logic_one) ∙ n.low_is))
 
-module _ {S : Type 0} (board : S → List (std.Option Held)) (free_slots : S → List ℕ) where
+module _ {S : Type 0} (board : S → List (std.Option Held)) (free_slots : S → List ℕ) (memo : S → List ℕ) where
   abbrev PartsOf : Shape → Words → (ℕ → Option (Option (std.Option S))) → List View → Type 0
-  PartsOf = Parts board free_slots
+  PartsOf = Parts board free_slots memo
 
-  -- the free store: the slot is on no chain, its count was found at 0 under the hold, and this seat has none of it; no node names it
+  -- the free store: the computed table is in hand, the slot is on no chain, its count was found at 0 under the hold, and this seat has none of it; no node names it
   pub parts_free : (z : Shape) (ws : Words) (home : ℕ → Option (Option (std.Option S))) (vs : List View) (r : PartsOf z ws home vs) (id : ℕ) (v : View) → get_elem? vs id ≡ some v
       → (s bits : ℕ) (list : List ℕ) → bits < 18446744073709551616 → CanFree (content_of z ws.node r.orders r.function r.half) s
-      → v.shares.full ≡ Holding → v.hand.taken ≡ None → v.hand.loose ≡ Some s → v.hand.free ≡ Some list
+      → v.shares.full ≡ Holding → v.hand.memo ≡ true → v.hand.taken ≡ None → v.hand.loose ≡ Some s → v.hand.free ≡ Some list
       → 0 < times s v.counts.zeros → refs s (tally_of v) ≡ 0 → Each (λ (note : SeenWord). note.slot ≢ s) v.known.words → Each (λ (held : Held). held.edge.index ≢ s) v.known.seen → unpack_of bits ≡ None
       → PartsOf z (record ws { node = put_at ws.node s bits }) home (set vs id (handed v (freeing s list v.hand)))
-  parts_free z ws home vs r id v at s bits list small can full none_taken loose free zeros mine unnoted unseen reads =
+  parts_free z ws home vs r id v at s bits list small can full has_memo none_taken loose free zeros mine unnoted unseen reads =
       let w : Content = content_of z ws.node r.orders r.function r.half in
       let h : Hand = freeing s list v.hand in
       let nd : ℕ → ℕ = put_at ws.node s bits in
@@ -146,10 +147,10 @@ module _ {S : Type 0} (board : S → List (std.Option Held)) (free_slots : S →
       let t = r.tied id v at in
       let hand_at = at_map (λ (u : View). u.hand) vs id v at in
       let own = r.tables.loosened id v.hand hand_at s loose in
-      let holding = order_by_full board free_slots z ws home vs r id v at full in
+      let holding = order_by_full board free_slots memo z ws home vs r id v at full in
       let linked = words_it z ws.node ws.next ws.head r.on r.chain (hands_in vs) r.linked s bits small own.1 in
       let zero_now : count_of (ws.count s) ≡ 0 = r.counts.still id (tally_of v) (at_map tally_of vs id v at) s zeros ∙ mine in
-      parts_hand board free_slots z ws home vs r id v at h ws.free_turn ws.turn nd ws.next ws.head home function r.half r.on r.chain refl
+      parts_hand board free_slots memo z ws home vs r id v at h ws.free_turn ws.memo_turn ws.turn nd ws.next ws.head home function r.half r.on r.chain refl
       (kept_freed z r.function s ws.count r.cells (tallies_in vs) r.counts zero_now
       (λ u lt same.
       let within : u < length r.orders.variables = subst (λ (n : ℕ). u < n) (sym r.positions.variables_long) lt in
@@ -158,13 +159,14 @@ module _ {S : Type 0} (board : S → List (std.Option Held)) (free_slots : S →
       can.spare (inr (u, within, ap w.word (sym at_s) ∙ there.1)))
       r.kept)
       (subst IsSound (sym content) (sound_whatever (without w s) w.generation (freed_sound w r.sound s can)))
+      (remembered_still memo (view_of w) (view_of (content_of z nd r.orders function r.half)) ws.memo_turn (home 2) (home 2) (hands_in vs) id v.hand h hand_at (inr (r.remembered.held id v.hand hand_at has_memo).1) refl refl r.remembered)
       (subst (λ (c : Content). Tables free_slots z c r.on ws.free_turn ws.turn home (set (hands_in vs) id h)) (sym content)
       (frees_it free_slots z w r.on ws.free_turn ws.turn home (hands_in vs) r.tables id v.hand hand_at s new list loose free (r.sound.within s (own.2.0, own.2.1)) (put_at-same w.word s None) (λ q ne. put_at-other w.word s q None ne)
-      (nobody_takes board free_slots z ws home vs r id v at holding none_taken)))
+      (nobody_takes board free_slots memo z ws home vs r id v at holding none_taken)))
       (hand_links z nd ws.next ws.head r.on r.chain (hands_in vs) linked id h (λ k its. absurd (no_some k its)) (linked.walks id v.hand hand_at) (r.linked.wholes id v.hand hand_at))
       (record { zeros = t.zeros; pins = t.pins; taken = λ _. inr holding; alone = t.alone; dead = λ gone. absurd (no_some list (sym (t.dead gone).4 ∙ free)) })
       (by_full (r.half ≡ None) vs id v (handed v h) at refl r.half_by)
-      (seen_alone z ws.node r.function vs r.seen id (handed v h) nd function (nobody_keeps board free_slots z ws home vs r id v at full) (record {
+      (seen_alone z ws.node r.function vs r.seen id (handed v h) nd function (nobody_keeps board free_slots memo z ws home vs r id v at full) (record {
         words = λ has. each_both (λ (note : SeenWord). note.slot ≢ s) (StandsSo ws.node v) (StandsSo nd (handed v h)) (λ note off st. (put_at-other ws.node s note.slot bits off ∙ st.0, st.1)) v.known.words unnoted ((r.seen id v at).words has);
         held = λ has. each_both (λ (held : Held). held.edge.index ≢ s) (IsHeldBy z r.function) (IsHeldBy z function) (λ held off is. still z r.function s held off is) v.known.seen unseen ((r.seen id v at).held has);
       }))

@@ -65,9 +65,9 @@ pub record OnlyHand (v u : View) : Type 0 where
 pub same_view : {v u : View} → u ≡ v → OnlyHand v u
 same_view e = record { draws = ap (λ (x : View). x.draws) e; shares = ap (λ (x : View). x.shares) e; counts = ap (λ (x : View). x.counts) e; known = ap (λ (x : View). x.known) e }
 
-module _ {S : Type 0} (board : S → List (std.Option Held)) (free_slots : S → List ℕ) where
+module _ {S : Type 0} (board : S → List (std.Option Held)) (free_slots : S → List ℕ) (memo : S → List ℕ) where
   abbrev TheRule : State (std.Option S) View → Type 0
-  TheRule = Rule board free_slots
+  TheRule = Rule board free_slots memo
 
   abbrev Sat : Type 0
   Sat = Me (std.Option S) View
@@ -79,7 +79,7 @@ module _ {S : Type 0} (board : S → List (std.Option Held)) (free_slots : S →
 
   pub step_take_turn : (slots id : ℕ) (me : Sat) (o : Own) (l new : ℕ) → me.0.draws.live ≡ true → l < knowing.turns (known_of me.0 o).view → new ≢ 0
       → Allows TheRule slots id me (turn_at l) (λ n. either (n == 0) new n) (TookTurn o l me)
-  step_take_turn slots id me o l new live inside nonzero s r long at small = let x = takes_turn board free_slots slots id me l new live inside nonzero s r long at small in let told = x.4 in let n : ℕ = get_or s.words (turn_at l) 0 in (
+  step_take_turn slots id me o l new live inside nonzero s r long at small = let x = takes_turn board free_slots memo slots id me l new live inside nonzero s r long at small in let told = x.4 in let n : ℕ = get_or s.words (turn_at l) 0 in (
     x.0,
     x.1,
     x.2,
@@ -105,7 +105,7 @@ module _ {S : Type 0} (board : S → List (std.Option Held)) (free_slots : S →
   pub step_give_turn : (slots id : ℕ) (me : Sat) (o : Own) (l : ℕ) → me.0.draws.live ≡ true → l < knowing.turns (known_of me.0 o).view → knowing.HasLevel (known_of me.0 o).hand l
       → ((known_of me.0 o).hand.taken ≡ None) × ((known_of me.0 o).hand.loose ≡ None) → Allows TheRule slots id me (turn_at l) (λ _. 0) (GaveTurn o l me)
   step_give_turn slots id me o l live inside has calm s r long at small =
-      let x = gives_turn board free_slots slots id me l live inside (stands_at me.0.hand.levels l has) (λ b its. absurd (no_some b (sym (none_back taken_of me.0.hand.taken calm.0) ∙ its))) calm.1 s r long at small in let told = x.4 in (
+      let x = gives_turn board free_slots memo slots id me l live inside (stands_at me.0.hand.levels l has) (λ b its. absurd (no_some b (sym (none_back taken_of me.0.hand.taken calm.0) ∙ its))) calm.1 s r long at small in let told = x.4 in (
         x.0,
         x.1,
         x.2,
@@ -125,7 +125,7 @@ module _ {S : Type 0} (board : S → List (std.Option Held)) (free_slots : S →
 
   pub step_take_free : (slots id : ℕ) (me : Sat) (o : Own) (new : ℕ) → me.0.draws.live ≡ true → new ≢ 0
       → Allows TheRule slots id me 3 (λ n. either (n == 0) new n) (TookFree o me)
-  step_take_free slots id me o new live nonzero s r long at small = let x = takes_free_list board free_slots slots id me new live nonzero s r long at small in let told = x.4 in (
+  step_take_free slots id me o new live nonzero s r long at small = let x = takes_free_list board free_slots memo slots id me new live nonzero s r long at small in let told = x.4 in (
     x.0,
     x.1,
     x.2,
@@ -148,7 +148,7 @@ module _ {S : Type 0} (board : S → List (std.Option Held)) (free_slots : S →
 
   pub step_store_next : (slots id : ℕ) (me : Sat) (o : Own) (q x : ℕ) → me.0.draws.live ≡ true → knowing.Owns (known_of me.0 o).hand q → q < (known_of me.0 o).view.slots
       → Allows TheRule slots id me (next_at (shape_in me.0.draws) q) (λ _. x) (StoredNext o q x me)
-  step_store_next slots id me o q x live own inside s r long at small = let y = stores_next board free_slots slots id me q x live (owns_back me o q own) inside s r long at small in let told = y.4 in
+  step_store_next slots id me o q x live own inside s r long at small = let y = stores_next board free_slots memo slots id me q x live (owns_back me o q own) inside s r long at small in let told = y.4 in
       (y.0, y.1, y.2, y.3, (ap (λ (y : Sat). known_of y.0 o) told, ap (λ (y : Sat). y.1) told))
 
   -- load_head
@@ -171,7 +171,7 @@ module _ {S : Type 0} (board : S → List (std.Option Held)) (free_slots : S →
       let p = r.parts in
       let home = λ (k : ℕ). get_elem? s.homes k in
       let ws = words_of z s.words in
-      let shape = shape_is board free_slots z ws home s.views p id v at live in
+      let shape = shape_is board free_slots memo z ws home s.views p id v at live in
       let below : head < heads z = subst (λ (y : Shape). head < heads y) (sym shape) inside in
       let word : ℕ = head_at (shape_in v.draws) head in
       let n : ℕ = get_or s.words word 0 in
@@ -187,7 +187,7 @@ module _ {S : Type 0} (board : S → List (std.Option Held)) (free_slots : S →
           shape = z;
           wide = r.wide;
           long = r.long;
-          parts = parts_walk board free_slots z ws home s.views p id v at walk (inl share) live has below (sym head_is) refl (λ is. absurd (false_true is));
+          parts = parts_walk board free_slots memo z ws home s.views p id v at walk (inl share) live has below (sym head_is) refl (λ is. absurd (false_true is));
         }),
         (
           p.chain head,
@@ -212,18 +212,18 @@ module _ {S : Type 0} (board : S → List (std.Option Held)) (free_slots : S →
       let p = r.parts in
       let home = λ (k : ℕ). get_elem? s.homes k in
       let ws = words_of z s.words in
-      let shape = shape_is board free_slots z ws home s.views p id v at live in
+      let shape = shape_is board free_slots memo z ws home s.views p id v at live in
       let below : q < z.slots = subst (λ (y : Shape). q < y.slots) (sym shape) inside in
       let word : ℕ = next_at (shape_in v.draws) q in
       let next_word : ws.next q ≡ get_or s.words word 0 = here_next z s.words 0 q below ∙ ap (λ (y : Shape). get_or s.words (next_at y q) 0) shape in (
         v,
         keeps,
         tt,
-        stays board free_slots s word id me r at,
+        stays board free_slots memo s word id me r at,
         (
           refl,
           (λ k front behind its rest.
-              let a = next_is z ws.node ws.next ws.head p.on p.chain (hands_in s.views) p.linked id v.hand k front q behind (hand_at board free_slots z ws home s.views p id v at) its rest in
+              let a = next_is z ws.node ws.next ws.head p.on p.chain (hands_in s.views) p.linked id v.hand k front q behind (hand_at board free_slots memo z ws home s.views p id v at) its rest in
               sym next_word ∙ first ws.next (ws.next q) behind a.0),
         ),
       )
@@ -252,7 +252,7 @@ module _ {S : Type 0} (board : S → List (std.Option Held)) (free_slots : S →
       let j = some_back link_of v.hand.link (record { slot = q; next = link }) linked in
       let it : v.hand.link ≡ Some (record { slot = q; link = link }) = j.1 ∙ ap (λ (y : declared.Link). Some (record { slot = y.slot; link = y.next })) j.2 in
       subst (λ (h : ℕ). Allows TheRule slots id me (head_at (shape_in v.draws) h) (λ n. either (n == link) (suc q) n) (PushedHead o link me)) (sym noted.2)
-      (λ s r long at small. let x = pushes_noted board free_slots slots id me q link noted.0 k.0 live loose it (inl share) k.1 s r long at small in let told = x.4 in (
+      (λ s r long at small. let x = pushes_noted board free_slots memo slots id me q link noted.0 k.0 live loose it (inl share) k.1 s r long at small in let told = x.4 in (
         x.0,
         x.1,
         x.2,

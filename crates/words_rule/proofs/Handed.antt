@@ -15,7 +15,7 @@ use Rattle.function_laws.specs.Sizes.{Orders}
 use Rattle.function_laws.specs.SessionEntries.{Each}
 use Rattle.function_laws.specs.Tables.{Sizes}
 use Rattle.function_laws.specs.EntryOrders.{opening_orders, orders_from}
-use Rattle.node_store.specs.Contents.{Content, IsSound, Pair, constant_value}
+use Rattle.node_store.specs.Contents.{Content, IsSound, Pair, constant_value, view_of}
 use Rattle.std.proofs.lemmas.Bool.{cases_lt}
 use Rattle.node_store.specs.Changes.{put_at}
 use Rattle.node_store.proofs.Rewriting.{put_at-other}
@@ -55,6 +55,8 @@ use Rattle.words_rule.proofs.Handling.{never as no_some, some_same, owned_off, o
 use Rattle.words_rule.proofs.Packing.{packs_back}
 use Rattle.words_rule.proofs.Linking.{hand_links, links_it, words_it, head_within, heads_it, unheads_it, unlinks_it, head_loaded, absent_on}
 use Rattle.words_rule.proofs.Draws.{frame, by_full, by_pending}
+use Rattle.words_rule.specs.Remembered.{Remembered}
+use Rattle.words_rule.proofs.Remembering.{remembered_still}
 
 abbrev pub handed : View → Hand → View
 handed v h = record v { hand = h }
@@ -78,17 +80,24 @@ idle_of u t none_has = (is_none u.hand.taken refl (λ x its. none_has (t.taken (
     is_none None e refuse = e
     is_none (Some x) e refuse = absurd (refuse x e)
 
-module _ {S : Type 0} (board : S → List (std.Option Held)) (free_slots : S → List ℕ) where
+module _ {S : Type 0} (board : S → List (std.Option Held)) (free_slots : S → List ℕ) (memo : S → List ℕ) where
   abbrev PartsOf : Shape → Words → (ℕ → Option (Option (std.Option S))) → List View → Type 0
-  PartsOf = Parts board free_slots
+  PartsOf = Parts board free_slots memo
 
   module _ (z : Shape) (ws : Words) (home : ℕ → Option (Option (std.Option S))) (vs : List View) (r : PartsOf z ws home vs) (id : ℕ) (v : View) (at : get_elem? vs id ≡ some v) where
+    -- the computed table stays where it is, as functions are added
+    pub remembered_here : (h : Hand) → h.memo ≡ v.hand.memo → (home' : ℕ → Option (Option (std.Option S))) → home' 2 ≡ home 2 → (nd : ℕ → ℕ) (function : ℕ → std.Option Denoted) (half : std.Option Pair)
+        → ((s : ℕ) (f : Denoted) → r.function s ≡ Some f → function s ≡ Some f) → Remembered memo (view_of (content_of z nd r.orders function half)) ws.memo_turn (home' 2) (set (hands_in vs) id h)
+    remembered_here h flag home' same nd function half grows =
+        remembered_still memo (view_of (content_of z ws.node r.orders r.function r.half)) (view_of (content_of z nd r.orders function half)) ws.memo_turn (home 2) (home' 2) (hands_in vs) id v.hand h (at_map (λ (u : View). u.hand) vs id v at)
+        (inl (record { vars = refl; elements = refl; level = refl; content = λ s f these is. grows s f is })) same flag r.remembered
+
     -- the other parts stand by their frames
-    pub parts_hand : (h : Hand) (ft : ℕ) (tn nd nx hd : ℕ → ℕ) (home' : ℕ → Option (Option (std.Option S))) (function : ℕ → std.Option Denoted) (half : std.Option Pair) (on : ℕ → Bool) (chain : ℕ → List ℕ) → home' 0 ≡ home 0
-        → Kept z function r.cells (tallies_in vs) → IsSound (content_of z nd r.orders function half)
+    pub parts_hand : (h : Hand) (ft mt : ℕ) (tn nd nx hd : ℕ → ℕ) (home' : ℕ → Option (Option (std.Option S))) (function : ℕ → std.Option Denoted) (half : std.Option Pair) (on : ℕ → Bool) (chain : ℕ → List ℕ) → home' 0 ≡ home 0
+        → Kept z function r.cells (tallies_in vs) → IsSound (content_of z nd r.orders function half) → Remembered memo (view_of (content_of z nd r.orders function half)) mt (home' 2) (set (hands_in vs) id h)
         → Tables free_slots z (content_of z nd r.orders function half) on ft tn home' (set (hands_in vs) id h) → Linked z nd nx hd on chain (set (hands_in vs) id h)
-        → Tied (handed v h) → (half ≡ None) ⊎ FullHolder (set vs id (handed v h)) → AreSeen z nd function (set vs id (handed v h)) → PartsOf z (record ws { free_turn = ft; turn = tn; node = nd; next = nx; head = hd }) home' (set vs id (handed v h))
-    parts_hand h ft tn nd nx hd home' function half on chain same kept sound tables linked tied half_by seen =
+        → Tied (handed v h) → (half ≡ None) ⊎ FullHolder (set vs id (handed v h)) → AreSeen z nd function (set vs id (handed v h)) → PartsOf z (record ws { free_turn = ft; memo_turn = mt; turn = tn; node = nd; next = nx; head = hd }) home' (set vs id (handed v h))
+    parts_hand h ft mt tn nd nx hd home' function half on chain same kept sound remembered tables linked tied half_by seen =
         let w = handed v h in
         let start : Sizes = sizes_for z.variables z.elements in
         let drawn : draws_in (set vs id w) ≡ draws_in vs = frame (λ (v : View). v.draws) vs id v w at refl in
@@ -107,6 +116,7 @@ module _ {S : Type 0} (board : S → List (std.Option Held)) (free_slots : S →
           on_board = subst (λ (y : Option (Option (std.Option S)) × List Draws). Board board ws.board_turn y.0 y.1 r.table r.cells) (λ i. (sym same i, sym drawn i)) r.on_board;
           ordered = ordered_same r.orders (orders_from (opening_orders start) r.log) vs id v w at refl refl r.ordered;
           sound = sound;
+          remembered = subst (Remembered memo (view_of (content_of z nd r.orders function half)) mt (home' 2)) (sym (map-set (λ (v : View). v.hand) vs id w)) remembered;
           tables = subst (Tables free_slots z (content_of z nd r.orders function half) on ft tn home') (sym (map-set (λ (v : View). v.hand) vs id w)) tables;
           linked = subst (Linked z nd nx hd on chain) (sym (map-set (λ (v : View). v.hand) vs id w)) linked;
           sifts = steps_same start r.log vs r.sifts id v w at refl refl refl;
@@ -187,9 +197,9 @@ module _ {S : Type 0} (board : S → List (std.Option Held)) (free_slots : S →
         ] in
         let content : content_of z nd r.orders function r.half ≡ done w due = content_done z ws.node r.orders r.function r.half due bits reads in
         let t = r.tied id v at in
-        parts_hand g ws.free_turn ws.turn nd ws.next ws.head home function r.half r.on r.chain refl
+        parts_hand g ws.free_turn ws.memo_turn ws.turn nd ws.next ws.head home function r.half r.on r.chain refl
         (kept_grows z r.function function r.cells (tallies_in vs) (λ s f e. job_kept w r.sound due taken s f e) r.kept)
-        (subst IsSound (sym content) (job_sound w r.sound due taken))
+        (subst IsSound (sym content) (job_sound w r.sound due taken)) (remembered_here g refl home refl nd function r.half (λ s f e. job_kept w r.sound due taken s f e))
         (subst (λ (c : Content). Tables free_slots z c r.on ws.free_turn ws.turn home (set (hands_in vs) id g)) (sym content)
         (stores_it free_slots z w r.on ws.free_turn ws.turn home (hands_in vs) r.tables id v.hand hand_at due (done w due) (word_of due) is none_loose off above refl (job_here w r.sound due taken) (job_other w r.sound due taken)
         (λ i h b apart there its other_var other_slot was. others_work w r.sound z (others_settled due is i h b apart there its) due b taken other_var other_slot was)))
@@ -220,7 +230,7 @@ module _ {S : Type 0} (board : S → List (std.Option Held)) (free_slots : S →
     parts_link s x own =
         let g : Hand = linking s x v.hand in
         let t = r.tied id v at in
-        parts_hand g ws.free_turn ws.turn ws.node (put_at ws.next s x) ws.head home r.function r.half r.on r.chain refl r.kept r.sound
+        parts_hand g ws.free_turn ws.memo_turn ws.turn ws.node (put_at ws.next s x) ws.head home r.function r.half r.on r.chain refl r.kept r.sound (remembered_here g refl home refl ws.node r.function r.half (λ s f is. is))
         (hands_it free_slots z (content_of z ws.node r.orders r.function r.half) r.on ws.free_turn ws.turn home (hands_in vs) r.tables id v.hand hand_at g refl refl refl refl (r.tables.walking id v.hand hand_at))
         (links_it z ws.node ws.next ws.head r.on r.chain (hands_in vs) r.linked id v.hand s x hand_at (own_off s own) (own_alone s own))
         (record { zeros = t.zeros; pins = t.pins; taken = t.taken; alone = t.alone; dead = t.dead })
@@ -235,7 +245,7 @@ module _ {S : Type 0} (board : S → List (std.Option Held)) (free_slots : S →
         let t = r.tied id v at in
         let mine = r.tables.loosened id v.hand hand_at s loose in
         let busy : IsIdle v.hand → ⊥ = λ idle. no_some s (sym idle.1 ∙ loose) in
-        parts_hand g ws.free_turn ws.turn ws.node ws.next (put_at ws.head (head_of z (ws.node s)) (suc s)) home r.function r.half (put_at r.on s true) (put_at r.chain (head_of z (ws.node s)) (s ∷ r.chain (head_of z (ws.node s)))) refl r.kept r.sound
+        parts_hand g ws.free_turn ws.memo_turn ws.turn ws.node ws.next (put_at ws.head (head_of z (ws.node s)) (suc s)) home r.function r.half (put_at r.on s true) (put_at r.chain (head_of z (ws.node s)) (s ∷ r.chain (head_of z (ws.node s)))) refl r.kept r.sound (remembered_here g refl home refl ws.node r.function r.half (λ s f is. is))
         (pushes_it free_slots z w r.on ws.free_turn ws.turn home (hands_in vs) r.tables id v.hand hand_at s loose)
         (heads_it z ws.node ws.next ws.head r.on r.chain (hands_in vs) r.linked id v.hand s link mine.2.0 hand_at loose linked mine.1 (r.tables.high s id mine.0) mine.2.1 (head_within z (ws.node s)) found
         (λ i h apart there n walk.
@@ -256,7 +266,7 @@ module _ {S : Type 0} (board : S → List (std.Option Held)) (free_slots : S →
     parts_walk n share live level lt link rest whole =
         let g : Hand = record v.hand { walk = Some n } in
         let t = r.tied id v at in
-        parts_hand g ws.free_turn ws.turn ws.node ws.next ws.head home r.function r.half r.on r.chain refl r.kept r.sound
+        parts_hand g ws.free_turn ws.memo_turn ws.turn ws.node ws.next ws.head home r.function r.half r.on r.chain refl r.kept r.sound (remembered_here g refl home refl ws.node r.function r.half (λ s f is. is))
         (hands_it free_slots z (content_of z ws.node r.orders r.function r.half) r.on ws.free_turn ws.turn home (hands_in vs) r.tables id v.hand hand_at g refl refl refl refl (λ m its. subst (λ (m : Walk). HasLevel v.hand m.level) (some_same n m its) level))
         (head_loaded z ws.node ws.next ws.head r.on r.chain (hands_in vs) r.linked id g n (r.linked.links id v.hand hand_at) refl lt link rest)
         (record { zeros = t.zeros; pins = t.pins; taken = λ _. share; alone = λ m its is. whole (ap (λ (m : Walk). m.whole) (some_same n m its) ∙ is); dead = λ gone. absurd (true≢false (sym live ∙ gone)) })
@@ -277,7 +287,7 @@ module _ {S : Type 0} (board : S → List (std.Option Held)) (free_slots : S →
       unlinked_with nx hd chain is_on linked =
           let g : Hand = loosening s v.hand in
           let t = r.tied id v at in
-          parts_hand g ws.free_turn ws.turn ws.node nx hd home r.function r.half (put_at r.on s false) chain refl r.kept r.sound
+          parts_hand g ws.free_turn ws.memo_turn ws.turn ws.node nx hd home r.function r.half (put_at r.on s false) chain refl r.kept r.sound (remembered_here g refl home refl ws.node r.function r.half (λ s f is. is))
           (loosens_it free_slots z (content_of z ws.node r.orders r.function r.half) r.on ws.free_turn ws.turn home (hands_in vs) r.tables id v.hand hand_at s word none_loose is_on (r.linked.used s is_on).0 reads level)
           linked
           (record { zeros = t.zeros; pins = t.pins; taken = λ _. inr (t.alone n walk whole); alone = λ m its. absurd (no_some m its); dead = λ gone. absurd (no_some n (sym (t.dead gone).2.2 ∙ walk)) })

@@ -23,7 +23,7 @@ use Rattle.words_rule.specs.declared.view.Counts.{Counts}
 use Rattle.words_rule.specs.declared.view.Draws.{Draws}
 use Rattle.words_rule.specs.declared.view.View.{View}
 use Rattle.words_rule.specs.Views.{sizes_for, orders_of, told_orders}
-use Rattle.words_rule.specs.Layout.{Shape, Words}
+use Rattle.words_rule.specs.Layout.{Shape, Words, content_of}
 use Rattle.words_rule.specs.Journal.{Journal}
 use Rattle.words_rule.specs.Phase.{Phase, footing_of, hold, bit, on, with_order, order_bit, ops_of}
 use Rattle.words_rule.specs.Tallies.{Counted, Tally, tally_of, times}
@@ -40,10 +40,12 @@ use Rattle.words_rule.proofs.Phases.{one_order, order_held, order_cleared}
 use Rattle.words_rule.proofs.Tallying.{recounts, total-two}
 use Rattle.words_rule.proofs.Sifting.{steps_same, steps_quiet}
 use Rattle.words_rule.proofs.Draws.{frame, PendingBy}
+use Rattle.node_store.specs.Contents.{view_of}
+use Rattle.words_rule.specs.Remembered.{Remembered}
 
-module _ {S : Type 0} (board : S → List (std.Option Held)) (free_slots : S → List ℕ) where
+module _ {S : Type 0} (board : S → List (std.Option Held)) (free_slots : S → List ℕ) (memo : S → List ℕ) where
   abbrev PartsOf : Shape → Words → (ℕ → Option (Option (std.Option S))) → List View → Type 0
-  PartsOf = Parts board free_slots
+  PartsOf = Parts board free_slots memo
 
   module _ (z : Shape) (ws : Words) (home : ℕ → Option (Option (std.Option S))) (vs : List View) (r : PartsOf z ws home vs) (id : ℕ) (v : View) (at : get_elem? vs id ≡ some v) where
     -- a step that changes shares, what is known of the orders, and the notes of counts
@@ -75,6 +77,7 @@ module _ {S : Type 0} (board : S → List (std.Option Held)) (free_slots : S →
           positions = r.positions;
           ordered = ordered;
           sound = r.sound;
+          remembered = subst (Remembered memo (view_of (content_of z ws.node r.orders r.function r.half)) ws.memo_turn (home 2)) (sym (frame (λ (v : View). v.hand) vs id v w at refl)) r.remembered;
           tables = subst (Tables free_slots z _ r.on ws.free_turn ws.turn home) (sym (frame (λ (v : View). v.hand) vs id v w at refl)) r.tables;
           linked = subst (Linked z ws.node ws.next ws.head r.on r.chain) (sym (frame (λ (v : View). v.hand) vs id v w at refl)) r.linked;
           sifts = sifts;

@@ -102,16 +102,16 @@ pub all_both : (function : ℕ → std.Option Denoted) (l m : List ℕ) → AllH
 all_both function [] m a b = b
 all_both function (s ∷ l) m a b = (a.0, all_both function l m a.1 b)
 
-module _ {S : Type 0} (board : S → List (std.Option Held)) (free_slots : S → List ℕ) where
+module _ {S : Type 0} (board : S → List (std.Option Held)) (free_slots : S → List ℕ) (memo : S → List ℕ) where
   abbrev PartsOf : Shape → Words → (ℕ → Option (Option (std.Option S))) → List View → Type 0
-  PartsOf = Parts board free_slots
+  PartsOf = Parts board free_slots memo
 
   module _ (z : Shape) (ws : Words) (home : ℕ → Option (Option (std.Option S))) (vs : List View) (r : PartsOf z ws home vs) (id : ℕ) (v : View) (at : get_elem? vs id ≡ some v) where
     -- a seat has other notes, which are true where its share or hold lets them stand
     unfoldable pub parts_noting : (words : List SeenWord) (seen : List Held) → (HasShare v → Each (StandsSo ws.node v) words) → (KeepsSlots v → Each (IsHeldBy z r.function) seen) → PartsOf z ws home (set vs id (with_notes v words seen))
     parts_noting words seen stand is_held =
         let w : View = with_notes v words seen in
-        parts_known board free_slots z ws home vs r id v at w.known ws.order r.orders r.pending r.half r.sound r.tables r.positions
+        parts_known board free_slots memo z ws home vs r id v at w.known ws.order r.orders r.pending r.half r.sound r.remembered r.tables r.positions
         (record {
           settled = λ nobody. r.ordered.settled (λ i u there holding. dite (ℕ_discrete i id)
               (λ same. nobody id w (set_at vs id v w at) (ap (λ (y : View). y.shares.order) (some-injective v u (sym at ∙ (ap (λ j. get_elem? vs j) (sym same) ∙ there))) ∙ holding))

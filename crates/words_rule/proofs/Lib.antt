@@ -19,6 +19,7 @@ pub mod Phases
 pub mod Pinning
 pub mod Sifting
 pub mod Keeping
+pub mod Remembering
 pub mod Draws
 pub mod Handed
 pub mod Opening
@@ -55,6 +56,7 @@ pub mod FreeClauses
 pub mod FirstStands
 pub mod OrderLoads
 pub mod Calls
+pub mod Memos
 pub mod Keeps
 pub mod Learning
 pub mod Entering

@@ -43,12 +43,12 @@ noting_word v note = record v { known = record v.known { words = note ∷ v.know
 abbrev pub AllElse : View → List ℕ → ℕ → Type 0
 AllElse v rest bits = (s : ℕ) → Lists rest s → (k b : ℕ) × (get_elem? v.known.words k ≡ some (record { slot = s; bits = b })) × (b ≢ bits)
 
-module _ {S : Type 0} (board : S → List (std.Option Held)) (free_slots : S → List ℕ) where
+module _ {S : Type 0} (board : S → List (std.Option Held)) (free_slots : S → List ℕ) (memo : S → List ℕ) where
   abbrev PartsOf : Shape → Words → (ℕ → Option (Option (std.Option S))) → List View → Type 0
-  PartsOf = Parts board free_slots
+  PartsOf = Parts board free_slots memo
 
   abbrev TheRule : State (std.Option S) View → Type 0
-  TheRule = Rule board free_slots
+  TheRule = Rule board free_slots memo
 
   abbrev Sat : Type 0
   Sat = Me (std.Option S) View
@@ -58,7 +58,7 @@ module _ {S : Type 0} (board : S → List (std.Option Held)) (free_slots : S →
     pub parts_saw : (note : SeenWord) → StandsSo ws.node v note → PartsOf z ws home (set vs id (noting_word v note))
     parts_saw note stands =
         let w : View = noting_word v note in
-        parts_known board free_slots z ws home vs r id v at w.known ws.order r.orders r.pending r.half r.sound r.tables r.positions
+        parts_known board free_slots memo z ws home vs r id v at w.known ws.order r.orders r.pending r.half r.sound r.remembered r.tables r.positions
         (record {
           settled = λ nobody. r.ordered.settled (λ i u there holding. dite (ℕ_discrete i id)
               (λ same. nobody id w (set_at vs id v w at) (ap (λ (y : View). y.shares.order) (some-injective v u (sym at ∙ (ap (λ j. get_elem? vs j) (sym same) ∙ there))) ∙ holding))
@@ -73,7 +73,7 @@ module _ {S : Type 0} (board : S → List (std.Option Held)) (free_slots : S →
     -- a walk whose slots were all loaded and have other words: the node is absent, as IsDue asks
     pub parts_absent_noted : (n : Walk) (bits : ℕ) (node : Node) → HasShare v → v.hand.walk ≡ Some n → v.hand.loose ≡ None → bits < 18446744073709551616 → unpack_of bits ≡ std.Some (Inner node) → head_of z bits ≡ n.head → place_of z node.var ≡ n.level → AllElse v n.rest bits
         → (s : ℕ) → (content_of z ws.node r.orders r.function r.half).word s ≡ Some (Inner node) → ⊥
-    parts_absent_noted n bits node share walk none_loose small reads head level all = parts_no_node board free_slots z ws home vs r id v at n bits node walk none_loose small reads head level
+    parts_absent_noted n bits node share walk none_loose small reads head level all = parts_no_node board free_slots memo z ws home vs r id v at n bits node walk none_loose small reads head level
         (λ s there same. let a = all s there in
         let stands = each_at (StandsSo ws.node v) v.known.words a.0 (record { slot = s; bits = a.1 }) ((r.seen id v at).words share) a.2 in a.3 (sym stands.0 ∙ same))
 
@@ -89,7 +89,7 @@ module _ {S : Type 0} (board : S → List (std.Option Held)) (free_slots : S →
       let p = r.parts in
       let home = λ (k : ℕ). get_elem? s.homes k in
       let ws = words_of z s.words in
-      let shape = shape_is board free_slots z ws home s.views p id v at live in
+      let shape = shape_is board free_slots memo z ws home s.views p id v at live in
       let below : q < z.slots = subst (λ (y : Shape). q < y.slots) (sym shape) inside in
       let word : ℕ = node_at (shape_in v.draws) q in
       let n : ℕ = get_or s.words word 0 in
@@ -104,7 +104,7 @@ module _ {S : Type 0} (board : S → List (std.Option Held)) (free_slots : S →
             (record { shape = z; wide = r.wide; long = r.long; parts = parts_saw z ws home s.views p id v at (record { slot = q; bits = n }) (is, λ free. absurd (no_some x (sym free ∙ used))) }),
         ((λ _ _. refl), (λ free. absurd (no_some x (sym free ∙ used)))),
       ))
-      (λ free. (v, keeps, tt, stays board free_slots s word id me r at, ((λ x used. absurd (no_some x (sym free ∙ used))), (λ _. refl))))
+      (λ free. (v, keeps, tt, stays board free_slots memo s word id me r at, ((λ x used. absurd (no_some x (sym free ∙ used))), (λ _. refl))))
     where
       by_word : {P : Type 0} (n : ℕ) (o : std.Option Word) → unpack_of n ≡ o → ((x : Word) → unpack_of n ≡ Some x → P) → (unpack_of n ≡ None → P) → P
       by_word n (std.Some x) e used free = used x e

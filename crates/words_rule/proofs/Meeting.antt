@@ -100,9 +100,9 @@ abbrev pub AreKnown : views.View → Word → Type 0
 AreKnown k (Inner node) = Has k node.hi × Has k node.lo.index
 AreKnown k (Leaf x) = Unit {0}
 
-module _ {S : Type 0} (board : S → List (std.Option Held)) (free_slots : S → List ℕ) where
+module _ {S : Type 0} (board : S → List (std.Option Held)) (free_slots : S → List ℕ) (memo : S → List ℕ) where
   abbrev PartsOf : Shape → Words → (ℕ → Option (Option (std.Option S))) → List View → Type 0
-  PartsOf = Parts board free_slots
+  PartsOf = Parts board free_slots memo
 
   module _ (z : Shape) (ws : Words) (home : ℕ → Option (Option (std.Option S))) (vs : List View) (r : PartsOf z ws home vs) (id : ℕ) (v : View) (at : get_elem? vs id ≡ some v)
       (live : v.draws.live ≡ true) (share : v.shares.op ≡ shares.Held) (orders_noted : orders_of v.known ≡ r.orders) (o : Own) where
@@ -138,14 +138,14 @@ module _ {S : Type 0} (board : S → List (std.Option Held)) (free_slots : S →
     content_true s f is =
         let x = both_noted v.draws.vars (noted_bits v.known.words s) (noted_function v.known.seen s) f is in
         let held = seen_true (IsHeldBy z r.function) v.known.seen ((r.seen id v at).held (inl (inl share))) s x.1 x.3 in
-        let shape = shape_is board free_slots z ws home vs r id v at live in
+        let shape = shape_is board free_slots memo z ws home vs r id v at live in
         let same : f ≡ held.0 = sym x.4 ∙ ap (λ n. denoted_in n x.1) (ap (λ (y : Shape). y.variables) (sym shape)) ∙ ap (denoted_in z.variables) (sym held.2) ∙ decoded s held.0 held.1 in
         (x.0, x.2, (word_stands s x.0 x.2).0, held.1 ∙ ap Some (sym same))
 
     -- what the seat knows is so of the store
     pub narrow : Narrow K.view (view_of w)
     narrow =
-        let shape = shape_is board free_slots z ws home vs r id v at live in record {
+        let shape = shape_is board free_slots memo z ws home vs r id v at live in record {
           vars = r.positions.variables_long ∙ ap (λ (y : Shape). y.variables) shape;
           elements = r.positions.elements_long ∙ ap (λ (y : Shape). y.elements) shape;
           level = ap level_of (sym orders_noted);
@@ -164,7 +164,7 @@ module _ {S : Type 0} (board : S → List (std.Option Held)) (free_slots : S →
     meets q bits word noted reads has children =
         let stands = word_stands q bits noted in
         let word_is : w.word q ≡ Some word = ap unpack_of stands.0 ∙ reads in
-        let settled = settled_by board free_slots z ws home vs r id v at share in
+        let settled = settled_by board free_slots memo z ws home vs r id v at share in
         let k = kind_of has.0 in
         let f_is = (content_true q has.0 has.1).3 in record {
           noted = noted;

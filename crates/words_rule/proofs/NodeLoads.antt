@@ -55,12 +55,12 @@ walk_in None n e = cc
 pub learns_refl : (k : Knowledge) → Learns k k
 learns_refl k = record { kept = Kept-refl k.view; room = refl; words = λ s b is. is; heads = refl }
 
-module _ {S : Type 0} (board : S → List (std.Option Held)) (free_slots : S → List ℕ) where
+module _ {S : Type 0} (board : S → List (std.Option Held)) (free_slots : S → List ℕ) (memo : S → List ℕ) where
   abbrev PartsOf : Shape → Words → (ℕ → Option (Option (std.Option S))) → List View → Type 0
-  PartsOf = Parts board free_slots
+  PartsOf = Parts board free_slots memo
 
   abbrev TheRule : State (std.Option S) View → Type 0
-  TheRule = Rule board free_slots
+  TheRule = Rule board free_slots memo
 
   abbrev Sat : Type 0
   Sat = Me (std.Option S) View
@@ -74,12 +74,12 @@ module _ {S : Type 0} (board : S → List (std.Option Held)) (free_slots : S →
     pub met_used : (q : ℕ) → IsMet K q → (word : Word) × (unpack_of (ws.node q) ≡ Some word)
     met_used q met = ⊎_elim
         (λ (c : (f : Denoted) × (K.view.content q ≡ Some f)).
-        let t = content_true board free_slots z ws home vs r id v at live share orders_noted o q c.0 c.1 in
-        let u = word_stands board free_slots z ws home vs r id v at live share orders_noted o q t.0 t.1 in (u.1, ap unpack_of u.0 ∙ u.2))
+        let t = content_true board free_slots memo z ws home vs r id v at live share orders_noted o q c.0 c.1 in
+        let u = word_stands board free_slots memo z ws home vs r id v at live share orders_noted o q t.0 t.1 in (u.1, ap unpack_of u.0 ∙ u.2))
         (λ (c : (n : knowing.Walk) × (K.hand.walk ≡ Some n) × steps.Lists n.rest q).
         let m = walk_in v.hand.walk c.0 c.1 in
         let there : Lists m.0.rest q = lists_back m.0.rest q (subst (λ (n : knowing.Walk). steps.Lists n.rest q) (sym m.2) c.2) in
-        let u = r.linked.used q ((r.linked.walks id v.hand (hand_at board free_slots z ws home vs r id v at) m.0 m.1).1.all_on q there) in (u.1, u.2))
+        let u = r.linked.used q ((r.linked.walks id v.hand (hand_at board free_slots memo z ws home vs r id v at) m.0 m.1).1.all_on q there) in (u.1, u.2))
         met
 
     -- what is left, as parts and as clauses
@@ -95,21 +95,21 @@ module _ {S : Type 0} (board : S → List (std.Option Held)) (free_slots : S →
     pub loads_at : (q : ℕ) (word : Word) → unpack_of (ws.node q) ≡ Some word → K.view.fulls < 18446744073709551616 → LoadedAt q
     loads_at q (Leaf x) reads few =
         let d = r.sound.denotes q (Leaf x, reads) in
-        let p1 = noticed_parts board free_slots z ws home vs r id v at live share orders_noted o q (Leaf x) reads d.0 d.1 in
-        let e1 = noticed_orders board free_slots z ws home vs r id v at live share orders_noted o q (Leaf x) reads d.0 d.1 in
-        let v1 : View = noticing board free_slots z ws home vs r id v at live share orders_noted o q d.0 in
-        let l1 = noticed_learns board free_slots z ws home vs r id v at live share orders_noted o q (Leaf x) reads d.0 d.1 in
+        let p1 = noticed_parts board free_slots memo z ws home vs r id v at live share orders_noted o q (Leaf x) reads d.0 d.1 in
+        let e1 = noticed_orders board free_slots memo z ws home vs r id v at live share orders_noted o q (Leaf x) reads d.0 d.1 in
+        let v1 : View = noticing board free_slots memo z ws home vs r id v at live share orders_noted o q d.0 in
+        let l1 = noticed_learns board free_slots memo z ws home vs r id v at live share orders_noted o q (Leaf x) reads d.0 d.1 in
         let at1 = set_at vs id v v1 at in record {
           view = v1;
           parts = p1;
           loaded = record {
             learns = l1;
             hand = refl;
-            meets = λ word is. meets board free_slots z ws home (set vs id v1) p1 id v1 at1 live share (orders_noted ∙ sym e1) o q (ws.node q) word
-                (noticed_here board free_slots z ws home vs r id v at live share orders_noted o q (Leaf x) reads d.0 d.1) is (noticed_has board free_slots z ws home vs r id v at live share orders_noted o q (Leaf x) reads d.0 d.1)
+            meets = λ word is. meets board free_slots memo z ws home (set vs id v1) p1 id v1 at1 live share (orders_noted ∙ sym e1) o q (ws.node q) word
+                (noticed_here board free_slots memo z ws home vs r id v at live share orders_noted o q (Leaf x) reads d.0 d.1) is (noticed_has board free_slots memo z ws home vs r id v at live share orders_noted o q (Leaf x) reads d.0 d.1)
                 (subst (AreKnown (known_of v1 o).view) (some_word (Leaf x) word (sym reads ∙ is)) tt);
             used = λ met. (Leaf x, reads);
-            stands = λ st. stands_more board free_slots z ws home (set vs id v1) p1 id v1 at1 live share (orders_noted ∙ sym e1) o K st l1.kept.grown refl few;
+            stands = λ st. stands_more board free_slots memo z ws home (set vs id v1) p1 id v1 at1 live share (orders_noted ∙ sym e1) o K st l1.kept.grown refl few;
           };
           seat = record { draws = refl; shares = refl; counts = refl; orders = refl };
           hands = refl;
@@ -121,30 +121,30 @@ module _ {S : Type 0} (board : S → List (std.Option Held)) (free_slots : S →
         let high_used = r.sound.used node.hi (function_of n.kind n.high) n.high_is in
         let low_f = flipped-some node.lo.complement (r.function node.lo.index) (function_of n.kind n.low) n.low_is in
         let low_used = r.sound.used node.lo.index low_f.0 low_f.1 in
-        let p1 = noticed_parts board free_slots z ws home vs r id v at live share orders_noted o node.lo.index low_used.0 low_used.1 low_f.0 low_f.1 in
-        let e1 = noticed_orders board free_slots z ws home vs r id v at live share orders_noted o node.lo.index low_used.0 low_used.1 low_f.0 low_f.1 in
-        let v1 : View = noticing board free_slots z ws home vs r id v at live share orders_noted o node.lo.index low_f.0 in
+        let p1 = noticed_parts board free_slots memo z ws home vs r id v at live share orders_noted o node.lo.index low_used.0 low_used.1 low_f.0 low_f.1 in
+        let e1 = noticed_orders board free_slots memo z ws home vs r id v at live share orders_noted o node.lo.index low_used.0 low_used.1 low_f.0 low_f.1 in
+        let v1 : View = noticing board free_slots memo z ws home vs r id v at live share orders_noted o node.lo.index low_f.0 in
         let vs1 : List View = set vs id v1 in
         let at1 = set_at vs id v v1 at in
-        let l1 : Learns K (known_of v1 o) = noticed_learns board free_slots z ws home vs r id v at live share orders_noted o node.lo.index low_used.0 low_used.1 low_f.0 low_f.1 in
-        let low_has = noticed_has board free_slots z ws home vs r id v at live share orders_noted o node.lo.index low_used.0 low_used.1 low_f.0 low_f.1 in
+        let l1 : Learns K (known_of v1 o) = noticed_learns board free_slots memo z ws home vs r id v at live share orders_noted o node.lo.index low_used.0 low_used.1 low_f.0 low_f.1 in
+        let low_has = noticed_has board free_slots memo z ws home vs r id v at live share orders_noted o node.lo.index low_used.0 low_used.1 low_f.0 low_f.1 in
         let on1 = orders_noted ∙ sym e1 in
         let d2 = p1.sound.denotes node.hi high_used in
-        let p2 = noticed_parts board free_slots z ws home vs1 p1 id v1 at1 live share on1 o node.hi high_used.0 high_used.1 d2.0 d2.1 in
-        let e2 = noticed_orders board free_slots z ws home vs1 p1 id v1 at1 live share on1 o node.hi high_used.0 high_used.1 d2.0 d2.1 in
-        let v2 : View = noticing board free_slots z ws home vs1 p1 id v1 at1 live share on1 o node.hi d2.0 in
+        let p2 = noticed_parts board free_slots memo z ws home vs1 p1 id v1 at1 live share on1 o node.hi high_used.0 high_used.1 d2.0 d2.1 in
+        let e2 = noticed_orders board free_slots memo z ws home vs1 p1 id v1 at1 live share on1 o node.hi high_used.0 high_used.1 d2.0 d2.1 in
+        let v2 : View = noticing board free_slots memo z ws home vs1 p1 id v1 at1 live share on1 o node.hi d2.0 in
         let vs2 : List View = set vs1 id v2 in
         let at2 = set_at vs1 id v1 v2 at1 in
-        let l2 : Learns (known_of v1 o) (known_of v2 o) = noticed_learns board free_slots z ws home vs1 p1 id v1 at1 live share on1 o node.hi high_used.0 high_used.1 d2.0 d2.1 in
-        let high_has = noticed_has board free_slots z ws home vs1 p1 id v1 at1 live share on1 o node.hi high_used.0 high_used.1 d2.0 d2.1 in
+        let l2 : Learns (known_of v1 o) (known_of v2 o) = noticed_learns board free_slots memo z ws home vs1 p1 id v1 at1 live share on1 o node.hi high_used.0 high_used.1 d2.0 d2.1 in
+        let high_has = noticed_has board free_slots memo z ws home vs1 p1 id v1 at1 live share on1 o node.hi high_used.0 high_used.1 d2.0 d2.1 in
         let on2 = on1 ∙ sym e2 in
         let d3 = p2.sound.denotes q (Inner node, reads) in
-        let p3 = noticed_parts board free_slots z ws home vs2 p2 id v2 at2 live share on2 o q (Inner node) reads d3.0 d3.1 in
-        let e3 = noticed_orders board free_slots z ws home vs2 p2 id v2 at2 live share on2 o q (Inner node) reads d3.0 d3.1 in
-        let v3 : View = noticing board free_slots z ws home vs2 p2 id v2 at2 live share on2 o q d3.0 in
+        let p3 = noticed_parts board free_slots memo z ws home vs2 p2 id v2 at2 live share on2 o q (Inner node) reads d3.0 d3.1 in
+        let e3 = noticed_orders board free_slots memo z ws home vs2 p2 id v2 at2 live share on2 o q (Inner node) reads d3.0 d3.1 in
+        let v3 : View = noticing board free_slots memo z ws home vs2 p2 id v2 at2 live share on2 o q d3.0 in
         let vs3 : List View = set vs2 id v3 in
         let at3 = set_at vs2 id v2 v3 at2 in
-        let l3 : Learns (known_of v2 o) (known_of v3 o) = noticed_learns board free_slots z ws home vs2 p2 id v2 at2 live share on2 o q (Inner node) reads d3.0 d3.1 in
+        let l3 : Learns (known_of v2 o) (known_of v3 o) = noticed_learns board free_slots memo z ws home vs2 p2 id v2 at2 live share on2 o q (Inner node) reads d3.0 d3.1 in
         let learns : Learns K (known_of v3 o) = learns_trans l1 (learns_trans l2 l3) in
         let low_is = l3.kept.grown.content node.lo.index low_has.0 (l2.kept.grown.content node.lo.index low_has.0 low_has.1) in
         let high_is = l3.kept.grown.content node.hi high_has.0 high_has.1 in
@@ -154,11 +154,11 @@ module _ {S : Type 0} (board : S → List (std.Option Held)) (free_slots : S →
           loaded = record {
             learns = learns;
             hand = refl;
-            meets = λ word is. meets board free_slots z ws home vs3 p3 id v3 at3 live share (on2 ∙ sym e3) o q (ws.node q) word
-                (noticed_here board free_slots z ws home vs2 p2 id v2 at2 live share on2 o q (Inner node) reads d3.0 d3.1) is (noticed_has board free_slots z ws home vs2 p2 id v2 at2 live share on2 o q (Inner node) reads d3.0 d3.1)
+            meets = λ word is. meets board free_slots memo z ws home vs3 p3 id v3 at3 live share (on2 ∙ sym e3) o q (ws.node q) word
+                (noticed_here board free_slots memo z ws home vs2 p2 id v2 at2 live share on2 o q (Inner node) reads d3.0 d3.1) is (noticed_has board free_slots memo z ws home vs2 p2 id v2 at2 live share on2 o q (Inner node) reads d3.0 d3.1)
                 (subst (AreKnown (known_of v3 o).view) (some_word (Inner node) word (sym reads ∙ is)) ((high_has.0, high_is), (low_has.0, low_is)));
             used = λ met. (Inner node, reads);
-            stands = λ st. stands_more board free_slots z ws home vs3 p3 id v3 at3 live share (on2 ∙ sym e3) o K st learns.kept.grown refl few;
+            stands = λ st. stands_more board free_slots memo z ws home vs3 p3 id v3 at3 live share (on2 ∙ sym e3) o K st learns.kept.grown refl few;
           };
           seat = record { draws = refl; shares = refl; counts = refl; orders = refl };
           hands = refl;
@@ -178,7 +178,7 @@ module _ {S : Type 0} (board : S → List (std.Option Held)) (free_slots : S →
       let p = r.parts in
       let home = λ (k : ℕ). get_elem? s.homes k in
       let ws = words_of z s.words in
-      let shape = shape_is board free_slots z ws home s.views p id v at live in
+      let shape = shape_is board free_slots memo z ws home s.views p id v at live in
       let below : q < z.slots = subst (λ (y : Shape). q < y.slots) (sym shape) inside in
       let word : ℕ = node_at (shape_in v.draws) q in
       let n : ℕ = get_or s.words word 0 in
@@ -197,7 +197,7 @@ module _ {S : Type 0} (board : S → List (std.Option Held)) (free_slots : S →
         v,
         keeps,
         tt,
-        stays board free_slots s word id me r at,
+        stays board free_slots memo s word id me r at,
         (
           refl,
           refl,

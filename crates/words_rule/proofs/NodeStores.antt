@@ -59,12 +59,12 @@ some_word a b e = cc
 some_denoted : (a b : Denoted) → Some a ≡ Some b → a ≡ b
 some_denoted a b e = cc
 
-module _ {S : Type 0} (board : S → List (std.Option Held)) (free_slots : S → List ℕ) where
+module _ {S : Type 0} (board : S → List (std.Option Held)) (free_slots : S → List ℕ) (memo : S → List ℕ) where
   abbrev PartsOf : Shape → Words → (ℕ → Option (Option (std.Option S))) → List View → Type 0
-  PartsOf = Parts board free_slots
+  PartsOf = Parts board free_slots memo
 
   abbrev TheRule : State (std.Option S) View → Type 0
-  TheRule = Rule board free_slots
+  TheRule = Rule board free_slots memo
 
   abbrev Sat : Type 0
   Sat = Me (std.Option S) View
@@ -100,21 +100,21 @@ module _ {S : Type 0} (board : S → List (std.Option Held)) (free_slots : S →
     K' = known_of v2 (with_made o slot)
 
     work : IsWork w job
-    work = (r.tables.taken id v.hand (hand_at board free_slots z ws home vs r id v at) job is).1
+    work = (r.tables.taken id v.hand (hand_at board free_slots memo z ws home vs r id v at) job is).1
 
     unnoted : Each (λ (note : SeenWord). note.slot ≢ slot) v.known.words
     unnoted = each_map (StandsSo ws.node v) (λ (note : SeenWord). note.slot ≢ slot)
-        (λ note st same. no_hold board free_slots z ws home vs r id v at live share orders_noted o (st.1 (ap unpack_of (sym st.0 ∙ ap ws.node same) ∙ work.free)))
+        (λ note st same. no_hold board free_slots memo z ws home vs r id v at live share orders_noted o (st.1 (ap unpack_of (sym st.0 ∙ ap ws.node same) ∙ work.free)))
         v.known.words ((r.seen id v at).words (inl share))
 
     abbrev p1 : PartsOf z ws' home (set vs id v1)
-    p1 = parts_store board free_slots z ws home vs r id v at job bits small is none_loose unnoted reads
+    p1 = parts_store board free_slots memo z ws home vs r id v at job bits small is none_loose unnoted reads
 
     at1 : get_elem? (set vs id v1) id ≡ some v1
     at1 = set_at vs id v v1 at
 
     function_at_slot : p1.function slot ≡ Some jf
-    function_at_slot = ap (λ (g : ℕ → std.Option Denoted). g slot) (stored_function board free_slots z ws home vs r id v at job bits small is none_loose unnoted reads) ∙ function_here w job
+    function_at_slot = ap (λ (g : ℕ → std.Option Denoted). g slot) (stored_function board free_slots memo z ws home vs r id v at job bits small is none_loose unnoted reads) ∙ function_here w job
 
     note_stands : StandsSo ws'.node v1 note
     note_stands = (put_at-same ws.node slot bits, λ free. absurd (never (word_of job) (sym free ∙ reads)))
@@ -123,23 +123,23 @@ module _ {S : Type 0} (board : S → List (std.Option Held)) (free_slots : S →
     vs2 = set (set vs id v1) id v2
 
     p2 : PartsOf z ws' home vs2
-    p2 = parts_notes board free_slots z ws' home (set vs id v1) p1 id v1 at1 note (edge_at slot (whole_of z jf)) note_stands (jf, function_at_slot, refl)
+    p2 = parts_notes board free_slots memo z ws' home (set vs id v1) p1 id v1 at1 note (edge_at slot (whole_of z jf)) note_stands (jf, function_at_slot, refl)
 
     at2 : get_elem? vs2 id ≡ some v2
     at2 = set_at (set vs id v1) id v1 v2 at1
 
     orders2 : orders_of v2.known ≡ p2.orders
     unfolding p2
-    orders2 = orders_noted ∙ sym (stored_orders board free_slots z ws home vs r id v at job bits small is none_loose unnoted reads)
-        ∙ sym (notes_orders board free_slots z ws' home (set vs id v1) p1 id v1 at1 note (edge_at slot (whole_of z jf)) note_stands (jf, function_at_slot, refl))
+    orders2 = orders_noted ∙ sym (stored_orders board free_slots memo z ws home vs r id v at job bits small is none_loose unnoted reads)
+        ∙ sym (notes_orders board free_slots memo z ws' home (set vs id v1) p1 id v1 at1 note (edge_at slot (whole_of z jf)) note_stands (jf, function_at_slot, refl))
 
     function2 : p2.function slot ≡ Some jf
     unfolding p2
-    function2 = ap (λ (g : ℕ → std.Option Denoted). g slot) (notes_function board free_slots z ws' home (set vs id v1) p1 id v1 at1 note (edge_at slot (whole_of z jf)) note_stands (jf, function_at_slot, refl)) ∙ function_at_slot
+    function2 = ap (λ (g : ℕ → std.Option Denoted). g slot) (notes_function board free_slots memo z ws' home (set vs id v1) p1 id v1 at1 note (edge_at slot (whole_of z jf)) note_stands (jf, function_at_slot, refl)) ∙ function_at_slot
 
     content_decoded : denoted_in v.draws.vars (whole_of z jf) ≡ jf
-    content_decoded = ap (λ n. denoted_in n (whole_of z jf)) (ap (λ (y : Shape). y.variables) (sym (shape_is board free_slots z ws home vs r id v at live)))
-        ∙ decoded board free_slots z ws' home vs2 p2 id v2 at2 live share orders2 (with_made o slot) slot jf function2
+    content_decoded = ap (λ n. denoted_in n (whole_of z jf)) (ap (λ (y : Shape). y.variables) (sym (shape_is board free_slots memo z ws home vs r id v at live)))
+        ∙ decoded board free_slots memo z ws' home vs2 p2 id v2 at2 live share orders2 (with_made o slot) slot jf function2
 
     here : (slot == slot) ≡ true
     here = eq-eqb slot slot refl
@@ -154,7 +154,7 @@ module _ {S : Type 0} (board : S → List (std.Option Held)) (free_slots : S →
         by : (c : Bool) → (slot == t) ≡ c → (slot == t) ≡ false
         by false e = e
         by true e =
-            let u = word_stands board free_slots z ws home vs r id v at live share orders_noted o t b noted in
+            let u = word_stands board free_slots memo z ws home vs r id v at live share orders_noted o t b noted in
             absurd (never u.1 (sym work.free ∙ ap (λ x. unpack_of (ws.node x)) (eqb-true slot t e) ∙ ap unpack_of u.0 ∙ u.2))
 
     words_kept : (t b : ℕ) → K.word t ≡ Some b → K'.word t ≡ Some b
@@ -166,9 +166,9 @@ module _ {S : Type 0} (board : S → List (std.Option Held)) (free_slots : S →
       elements = refl;
       slots = refl;
       level = refl;
-      content = λ t g its. (let c = content_true board free_slots z ws home vs r id v at live share orders_noted o t g its in
+      content = λ t g its. (let c = content_true board free_slots memo z ws home vs r id v at live share orders_noted o t g its in
           ap (λ c. met_in v.draws.vars (cond c (Some bits) (noted_bits v.known.words t)) (cond (c && true) (Some (whole_of z jf)) (noted_function v.known.seen t))) (other t c.0 c.1) ∙ its);
-      top = λ t g its. (let c = content_true board free_slots z ws home vs r id v at live share orders_noted o t g its in tops t c.0 c.1);
+      top = λ t g its. (let c = content_true board free_slots memo z ws home vs r id v at live share orders_noted o t g its in tops t c.0 c.1);
       made = λ t its. still t its (t == slot);
       fulls = omega arith;
       counts = refl;
@@ -191,7 +191,7 @@ module _ {S : Type 0} (board : S → List (std.Option Held)) (free_slots : S →
     has_word = by job work content_here
       where
         n : Narrow K.view (view_of w)
-        n = narrow board free_slots z ws home vs r id v at live share orders_noted o
+        n = narrow board free_slots memo z ws home vs r id v at live share orders_noted o
 
         one_kind : (due : Due) → IsDue w due → (k : Kind) → Is k (view_of w) due.hi → due_function w due ≡ function_of k (node_values k (view_of w) due.var due.hi due.lo)
         one_kind due is_due k his =
@@ -217,7 +217,7 @@ module _ {S : Type 0} (board : S → List (std.Option Held)) (free_slots : S →
       made = λ t its. by t (t == slot) refl its;
       fulls = refl;
       due = refl;
-      stands = λ st. stands_more board free_slots z ws' home vs2 p2 id v2 at2 live share orders2 (with_made o slot) K st grown refl few;
+      stands = λ st. stands_more board free_slots memo z ws' home vs2 p2 id v2 at2 live share orders2 (with_made o slot) K st grown refl few;
     }
       where
         by : (t : ℕ) (c : Bool) → (t == slot) ≡ c → cond (t == slot) true (o.made t) ≡ true → (o.made t ≡ true) ⊎ (slot ≡ t)
@@ -240,7 +240,7 @@ module _ {S : Type 0} (board : S → List (std.Option Held)) (free_slots : S →
       let p = r.parts in
       let home = λ (k : ℕ). get_elem? s.homes k in
       let ws = words_of z s.words in
-      let shape = shape_is board free_slots z ws home s.views p id v at live in
+      let shape = shape_is board free_slots memo z ws home s.views p id v at live in
       let below : slot_of job < z.slots = subst (λ (y : Shape). slot_of job < y.slots) (sym shape) inside in
       let on : orders_of v.known ≡ p.orders = p.ordered.shared id v at share in
       let u : View = v2 z ws home s.views p id v at live share on o job bits fits taken none_loose reads in
@@ -251,8 +251,8 @@ module _ {S : Type 0} (board : S → List (std.Option Held)) (free_slots : S →
         keeps,
         tt,
         subst (λ (i : ℕ). TheRule (record { words = set s.words i bits; homes = s.homes; views = set s.views id w })) (ap (λ (y : Shape). node_at y (slot_of job)) shape)
-            (after_word board free_slots s r (node_at z (slot_of job)) bits (set s.views id w) s.homes ws1 refl (set_node z s.words bits (slot_of job) below r.wide)
-            (subst (λ (l : List View). PartsOf z ws1 home l) (set_set s.views id u w) (parts_work board free_slots z ws1 home (set s.views id u) stored id u (set_at s.views id v u at) w.work))),
+            (after_word board free_slots memo s r (node_at z (slot_of job)) bits (set s.views id w) s.homes ws1 refl (set_node z s.words bits (slot_of job) below r.wide)
+            (subst (λ (l : List View). PartsOf z ws1 home l) (set_set s.views id u w) (parts_work board free_slots memo z ws1 home (set s.views id u) stored id u (set_at s.views id v u at) w.work))),
         (refl, record { draws = refl; shares = refl; counts = refl; orders = refl }, refl, stored_clauses z ws home s.views p id v at live share on o job bits fits taken none_loose reads few),
       )
 

@@ -34,9 +34,9 @@ learns_trans x y = record {
   heads = y.heads ∙ x.heads;
 }
 
-module _ {S : Type 0} (board : S → List (std.Option Held)) (free_slots : S → List ℕ) where
+module _ {S : Type 0} (board : S → List (std.Option Held)) (free_slots : S → List ℕ) (memo : S → List ℕ) where
   abbrev PartsOf : Shape → Words → (ℕ → Option (Option (std.Option S))) → List View → Type 0
-  PartsOf = Parts board free_slots
+  PartsOf = Parts board free_slots memo
 
   module _ (z : Shape) (ws : Words) (home : ℕ → Option (Option (std.Option S))) (vs : List View) (r : PartsOf z ws home vs) (id : ℕ) (v : View) (at : get_elem? vs id ≡ some v)
       (live : v.draws.live ≡ true) (share : v.shares.op ≡ shares.Held) (orders_noted : orders_of v.known ≡ r.orders) (o : Own) where
@@ -57,20 +57,20 @@ module _ {S : Type 0} (board : S → List (std.Option Held)) (free_slots : S →
       K' = known_of v' o
 
       pub noticed_parts : PartsOf z ws home (set vs id v')
-      noticed_parts = parts_notes board free_slots z ws home vs r id v at (record { slot = s; bits = ws.node s }) (edge_at s (whole_of z f)) (refl, λ free. absurd (never word (sym free ∙ reads))) (f, f_is, refl)
+      noticed_parts = parts_notes board free_slots memo z ws home vs r id v at (record { slot = s; bits = ws.node s }) (edge_at s (whole_of z f)) (refl, λ free. absurd (never word (sym free ∙ reads))) (f, f_is, refl)
 
       pub noticed_orders : noticed_parts.orders ≡ r.orders
       unfolding noticed_parts parts_notes parts_known
       noticed_orders = refl
 
       content_here : denoted_in v.draws.vars (whole_of z f) ≡ f
-      content_here = ap (λ n. denoted_in n (whole_of z f)) (ap (λ (y : Shape). y.variables) (sym (shape_is board free_slots z ws home vs r id v at live))) ∙ decoded board free_slots z ws home vs r id v at live share orders_noted o s f f_is
+      content_here = ap (λ n. denoted_in n (whole_of z f)) (ap (λ (y : Shape). y.variables) (sym (shape_is board free_slots memo z ws home vs r id v at live))) ∙ decoded board free_slots memo z ws home vs r id v at live share orders_noted o s f f_is
 
       words_kept : (t b : ℕ) → K.word t ≡ Some b → K'.word t ≡ Some b
       words_kept t b is = by (s == t) refl
         where
           by : (c : Bool) → (s == t) ≡ c → cond (s == t) (Some (ws.node s)) (noted_bits v.known.words t) ≡ Some b
-          by true e = ap (λ c. cond c (Some (ws.node s)) (noted_bits v.known.words t)) e ∙ ap (λ x. Some (ws.node x)) (eqb-true s t e) ∙ ap Some (word_stands board free_slots z ws home vs r id v at live share orders_noted o t b is).0
+          by true e = ap (λ c. cond c (Some (ws.node s)) (noted_bits v.known.words t)) e ∙ ap (λ x. Some (ws.node x)) (eqb-true s t e) ∙ ap Some (word_stands board free_slots memo z ws home vs r id v at live share orders_noted o t b is).0
           by false e = ap (λ c. cond c (Some (ws.node s)) (noted_bits v.known.words t)) e ∙ is
 
       content_kept : (t : ℕ) (g : Denoted) → K.view.content t ≡ Some g → K'.view.content t ≡ Some g
@@ -78,7 +78,7 @@ module _ {S : Type 0} (board : S → List (std.Option Held)) (free_slots : S →
         where
           by : (c : Bool) → (s == t) ≡ c → met_in v.draws.vars (cond (s == t) (Some (ws.node s)) (noted_bits v.known.words t)) (cond ((s == t) && true) (Some (whole_of z f)) (noted_function v.known.seen t)) ≡ Some g
           by true e =
-              let g_is = (content_true board free_slots z ws home vs r id v at live share orders_noted o t g is).3 in
+              let g_is = (content_true board free_slots memo z ws home vs r id v at live share orders_noted o t g is).3 in
               let same : f ≡ g = some_denoted f g (sym f_is ∙ ap r.function (eqb-true s t e) ∙ g_is) in
               ap (λ c. met_in v.draws.vars (cond c (Some (ws.node s)) (noted_bits v.known.words t)) (cond (c && true) (Some (whole_of z f)) (noted_function v.known.seen t))) e ∙ ap Some (content_here ∙ same)
           by false e = ap (λ c. met_in v.draws.vars (cond c (Some (ws.node s)) (noted_bits v.known.words t)) (cond (c && true) (Some (whole_of z f)) (noted_function v.known.seen t))) e ∙ is
@@ -104,7 +104,7 @@ module _ {S : Type 0} (board : S → List (std.Option Held)) (free_slots : S →
             slots = refl;
             level = refl;
             content = content_kept;
-            top = λ t g is. (let c = content_true board free_slots z ws home vs r id v at live share orders_noted o t g is in tops t c.0 c.1);
+            top = λ t g is. (let c = content_true board free_slots memo z ws home vs r id v at live share orders_noted o t g is in tops t c.0 c.1);
             made = λ t is. is;
             fulls = omega arith;
             counts = refl;

@@ -91,8 +91,8 @@ used_opening_on n (suc (suc (suc (suc (suc v))))) word le is = elim (cases_lt v 
   | inr le' ↦ absurd (no_some word (sym (ap (λ b. cond b (Some (Inner (projection_node v))) None) (le-ltb v n le')) ∙ is))
 ]
 
-module _ {S : Type 0} (board : S → List (std.Option Held)) (free_slots : S → List ℕ) where
-  pub opens : (key : Opening) (ws : Words) (home : ℕ → Option (Option (std.Option S))) → IsNewTable board free_slots (shape_of key) ws home → Parts board free_slots (shape_of key) ws home (first_view key ∷ [])
+module _ {S : Type 0} (board : S → List (std.Option Held)) (free_slots : S → List ℕ) (memo : S → List ℕ) where
+  pub opens : (key : Opening) (ws : Words) (home : ℕ → Option (Option (std.Option S))) → IsNewTable board free_slots memo (shape_of key) ws home → Parts board free_slots memo (shape_of key) ws home (first_view key ∷ [])
   opens key ws home new =
       let z = shape_of key in
       let n : ℕ = key.vars in let m : ℕ = key.elements in
@@ -153,6 +153,11 @@ module _ {S : Type 0} (board : S → List (std.Option Held)) (free_slots : S →
           held = λ id f at. only v id f at (λ _ (f : View). f.shares.order ≡ Holding → (orders_of f.known ≡ opening_orders start) × (told_orders f.known ≡ opening_orders start)) (λ h. absurd (let e : 0 ≡ 1 = ap hold h in omega (arith, e)));
         };
         sound = subst IsSound (sym content) (opening_sound n m key.slots new.few new.few_elements new.room new.few_slots);
+        remembered = record {
+          holder = none;
+          at_home = λ _. (refl, new.at_memo, new.memo_home, (new.some_places, λ i kept is. absurd (no_some kept (sym (new.blank i) ∙ is))));
+          held = λ id h at. only v.hand id h at (λ (i : ℕ) (h : Hand). h.memo ≡ true → (none ≡ some i) × (ws.memo_turn ≢ 0)) (λ has. absurd (true≢false (sym has)));
+        };
         tables = subst (λ (c : Content). Tables free_slots z c (opening_on n) ws.free_turn ws.turn home (v.hand ∷ [])) (sym content) (record {
           free_now = free_slots new.at_free;
           free_holder = none;
@@ -220,6 +225,6 @@ module _ {S : Type 0} (board : S → List (std.Option Held)) (free_slots : S →
       used (suc (suc (suc (suc (suc v))))) lt e = let c : Some (Inner (projection_node v)) ≡ None = sym (word_high key.vars v (omega (arith, lt))) ∙ e in cc
 
   -- the table as it is made
-  pub starts : (key : Opening) (words : List ℕ) (homes : List (Option (std.Option S))) → length words ≡ word_count (shape_of key) → length homes ≡ 2
-      → IsNewTable board free_slots (shape_of key) (words_of (shape_of key) words) (λ (k : ℕ). get_elem? homes k) → Rule board free_slots (record { words = words; homes = homes; views = first_view key ∷ [] })
+  pub starts : (key : Opening) (words : List ℕ) (homes : List (Option (std.Option S))) → length words ≡ word_count (shape_of key) → length homes ≡ 3
+      → IsNewTable board free_slots memo (shape_of key) (words_of (shape_of key) words) (λ (k : ℕ). get_elem? homes k) → Rule board free_slots memo (record { words = words; homes = homes; views = first_view key ∷ [] })
   starts key words homes wide long new = record { shape = shape_of key; wide = wide; long = long; parts = opens key (words_of (shape_of key) words) (λ (k : ℕ). get_elem? homes k) new }

@@ -29,19 +29,19 @@ use Rattle.words_rule.proofs.Rewrites.{order_by_full}
 use Rattle.words_rule.proofs.Narrowing.{variable_up, level_same}
 use Rattle.words_rule.proofs.Meeting.{narrow}
 
-module _ {S : Type 0} (board : S → List (std.Option Held)) (free_slots : S → List ℕ) where
-  module _ (z : Shape) (ws : Words) (home : ℕ → Option (Option (std.Option S))) (vs : List View) (r : Parts board free_slots z ws home vs) (id : ℕ) (v : View) (at : get_elem? vs id ≡ some v)
+module _ {S : Type 0} (board : S → List (std.Option Held)) (free_slots : S → List ℕ) (memo : S → List ℕ) where
+  module _ (z : Shape) (ws : Words) (home : ℕ → Option (Option (std.Option S))) (vs : List View) (r : Parts board free_slots memo z ws home vs) (id : ℕ) (v : View) (at : get_elem? vs id ≡ some v)
       (live : v.draws.live ≡ std.true) (share : v.shares.op ≡ shares.Held) (o : Own) where
     -- beside an operation share no order word is due
     pub none_pending : r.pending ≡ []
     none_pending = ⊎_elim (λ none_due. none_due) (λ (y : (h : FullHolder vs) × (h.1.known.pending ≡ r.pending)). let h = y.0 in
-        absurd (excludes ws.phase (footings_in vs) r.phase id h.0 (footing_of v) (footing_of h.1) (at_map footing_of vs id v at) (at_map footing_of vs h.0 h.1 h.2) share (order_by_full board free_slots z ws home vs r h.0 h.1 h.2 h.3))) r.pending_by
+        absurd (excludes ws.phase (footings_in vs) r.phase id h.0 (footing_of v) (footing_of h.1) (at_map footing_of vs id v at) (at_map footing_of vs h.0 h.1 h.2) share (order_by_full board free_slots memo z ws home vs r h.0 h.1 h.2 h.3))) r.pending_by
 
     -- a position that has the variable or element is its level
     pub level_there : (k : Kind) (u p : ℕ) → IsVariable k (known_of v o).view u → p < length (order_at k r.orders) → slice_index (order_at k r.orders) p ≡ own k u → (known_of v o).view.level u ≡ p
     level_there k u p un lt is =
         let on = r.ordered.shared id v at share in
-        let n = narrow board free_slots z ws home vs r id v at live share on o in
+        let n = narrow board free_slots memo z ws home vs r id v at live share on o in
         let w = content_of z ws.node r.orders r.function r.half in
         sym (level_same n u) ∙ level-own k w u (variable_up n k u un) ∙ ap (λ (x : ℕ). place_of x (order_at k r.orders)) (sym is) ∙ (orders_are w r.sound k).once p lt
 
@@ -49,7 +49,7 @@ module _ {S : Type 0} (board : S → List (std.Option Held)) (free_slots : S →
     pub level_word : (k : Kind) (u : ℕ) → IsVariable k (known_of v o).view u → (hands.place_of z u < places z) × (ws.order (places z + hands.place_of z u) ≡ (known_of v o).view.level u)
     level_word k u un =
         let on = r.ordered.shared id v at share in
-        let n = narrow board free_slots z ws home vs r id v at live share on o in
+        let n = narrow board free_slots memo z ws home vs r id v at live share on o in
         let i : ℕ = hands.place_of z u in
         let e = by k (variable_up n k u un) in (
           e.0,

@@ -19,7 +19,7 @@ use Rattle.function_laws.specs.declared.orders.Order.TheVariants.{Variables, Ele
 use Rattle.function_laws.specs.Sizes.{Orders, in_order}
 use Rattle.function_laws.specs.Tables.{Sizes}
 use Rattle.function_laws.specs.EntryOrders.{opening_orders, orders_from}
-use Rattle.node_store.specs.Contents.{Content, IsOrder, IsSound, Pair}
+use Rattle.node_store.specs.Contents.{Content, IsOrder, IsSound, Pair, view_of}
 use Rattle.node_store.proofs.Exchange.{new_place, place_other}
 use Rattle.function_laws.specs.SiftedOrders as sifted
 use Rattle.node_store.specs.Changes.{put_at, CanRewrite, CanExchange, exchanged, rewritten}
@@ -55,7 +55,9 @@ use Rattle.words_rule.proofs.Layouts.{content_set}
 use Rattle.words_rule.proofs.Handling.{rewrites_it, hands_it}
 use Rattle.words_rule.proofs.Linking.{words_it, hand_links}
 use Rattle.words_rule.proofs.Draws.{frame, by_full, PendingBy}
-use Rattle.words_rule.proofs.Handed.{handed, parts_hand}
+use Rattle.words_rule.proofs.Handed.{handed, parts_hand, remembered_here}
+use Rattle.words_rule.specs.Remembered.{Remembered}
+use Rattle.words_rule.proofs.Remembering.{remembered_away}
 
 -- two neighbours exchanged
 swapped_at : (xs : List ℕ) (l : ℕ) → l + 1 < length xs → slice_index (swap xs l (l + 1)) l ≡ slice_index xs (l + 1)
@@ -182,9 +184,9 @@ positions_next z orders due pending order p = record {
   ];
 }
 
-module _ {S : Type 0} (board : S → List (std.Option Held)) (free_slots : S → List ℕ) where
+module _ {S : Type 0} (board : S → List (std.Option Held)) (free_slots : S → List ℕ) (memo : S → List ℕ) where
   abbrev PartsOf : Shape → Words → (ℕ → Option (Option (std.Option S))) → List View → Type 0
-  PartsOf = Parts board free_slots
+  PartsOf = Parts board free_slots memo
 
   module _ (z : Shape) (ws : Words) (home : ℕ → Option (Option (std.Option S))) (vs : List View) (r : PartsOf z ws home vs) (id : ℕ) (v : View) (at : get_elem? vs id ≡ some v) where
     -- who has the full hold has the order hold
@@ -246,8 +248,9 @@ module _ {S : Type 0} (board : S → List (std.Option Held)) (free_slots : S →
         let tables = rewrites_it free_slots z w r.on ws.free_turn ws.turn home (hands_in vs) r.tables id h hand_at s (rewritten w s x hi lo) (Inner (record { var = x; hi = hi.index; lo = lo })) loose
         (put_at-same w.word s (Some (Inner (record { var = x; hi = hi.index; lo = lo })))) (λ q ne. put_at-other w.word s q (Some (Inner (record { var = x; hi = hi.index; lo = lo }))) ne) to (nobody_takes (order_by_full full) none_taken) in
         let linked = words_it z ws.node ws.next ws.head r.on r.chain (hands_in vs) r.linked s bits small off in
-        parts_hand board free_slots z ws home vs r id v at h ws.free_turn ws.turn nd ws.next ws.head home r.function half r.on r.chain refl r.kept
+        parts_hand board free_slots memo z ws home vs r id v at h ws.free_turn ws.memo_turn ws.turn nd ws.next ws.head home r.function half r.on r.chain refl r.kept
         (subst IsSound (sym content) (rewritten_sound w r.sound k s x hi lo can))
+        (remembered_here board free_slots memo z ws home vs r id v at h refl home refl nd r.function half (λ q f is. is))
         (subst (λ (c : Content). Tables free_slots z c r.on ws.free_turn ws.turn home (set (hands_in vs) id h)) (sym content)
         (hands_it free_slots z (rewritten w s x hi lo) r.on ws.free_turn ws.turn home (hands_in vs) tables id h hand_at h refl refl refl refl (r.tables.walking id h hand_at)))
         (hand_links z nd ws.next ws.head r.on r.chain (hands_in vs) linked id h (r.linked.links id h hand_at) (linked.walks id h hand_at) (r.linked.wholes id h hand_at))
@@ -260,11 +263,11 @@ module _ {S : Type 0} (board : S → List (std.Option Held)) (free_slots : S →
 
     -- a step that changes what a seat knows of the orders, and an order word
     unfoldable pub parts_known : (k : Known) (order : ℕ → ℕ) (orders : Orders) (pending : List ℕ) (half : std.Option Pair)
-        → IsSound (content_of z ws.node orders r.function half) → Tables free_slots z (content_of z ws.node orders r.function half) r.on ws.free_turn ws.turn home (hands_in vs)
+        → IsSound (content_of z ws.node orders r.function half) → Remembered memo (view_of (content_of z ws.node orders r.function half)) ws.memo_turn (home 2) (hands_in vs) → Tables free_slots z (content_of z ws.node orders r.function half) r.on ws.free_turn ws.turn home (hands_in vs)
         → Positions z order orders pending → Ordered orders (orders_from (opening_orders (sizes_for z.variables z.elements)) r.log) (set vs id (record v { known = k }))
         → (half ≡ None) ⊎ FullHolder (set vs id (record v { known = k })) → PendingBy pending (set vs id (record v { known = k })) → IsSeen z ws.node r.function (record v { known = k })
         → PartsOf z (record ws { order = order }) home (set vs id (record v { known = k }))
-    parts_known k order orders pending half sound tables positions ordered half_by pending_by is_seen =
+    parts_known k order orders pending half sound remembered tables positions ordered half_by pending_by is_seen =
         let w : View = record v { known = k } in
         let start : Sizes = sizes_for z.variables z.elements in
         let drawn : draws_in (set vs id w) ≡ draws_in vs = frame (λ (v : View). v.draws) vs id v w at refl in
@@ -287,6 +290,7 @@ module _ {S : Type 0} (board : S → List (std.Option Held)) (free_slots : S →
           positions = positions;
           ordered = ordered;
           sound = sound;
+          remembered = subst (Remembered memo (view_of (content_of z ws.node orders r.function half)) ws.memo_turn (home 2)) (sym (frame (λ (v : View). v.hand) vs id v w at refl)) remembered;
           tables = subst (Tables free_slots z (content_of z ws.node orders r.function half) r.on ws.free_turn ws.turn home) (sym (frame (λ (v : View). v.hand) vs id v w at refl)) tables;
           linked = subst (Linked z ws.node ws.next ws.head r.on r.chain) (sym (frame (λ (v : View). v.hand) vs id v w at refl)) r.linked;
           sifts = steps_same start r.log vs r.sifts id v w at refl refl refl;
@@ -339,16 +343,17 @@ module _ {S : Type 0} (board : S → List (std.Option Held)) (free_slots : S →
     order_is Variables = r.sound.variables
     order_is Elements = r.sound.elements
 
-    -- the first order word of an exchange is stored, and the orders are exchanged with it
+    -- the first order word of an exchange is stored, with the computed table in hand, and the orders are exchanged with it
     pub parts_exchange : (which : Order) (level : ℕ) (can : CanExchange (content_of z ws.node r.orders r.function r.half) which level) (k : Known)
-        → v.shares.full ≡ Holding → v.hand.taken ≡ None → r.pending ≡ []
+        → v.shares.full ≡ Holding → v.hand.memo ≡ true → v.hand.taken ≡ None → r.pending ≡ []
         → orders_of k ≡ exchanged r.orders which level → told_orders k ≡ told_orders v.known → k.words ≡ v.known.words → k.seen ≡ v.known.seen → k.pending ≡ dues_of z r.orders which level
         → PartsOf z (record ws { order = put_at ws.order (position z which level) (entry_at z r.orders (position z which level + 1)) }) home (set vs id (record v { known = k }))
-    parts_exchange which level can k full none_taken settled knows told words seen due =
+    parts_exchange which level can k full has_memo none_taken settled knows told words seen due =
         let holding = order_by_full full in
         let w : View = record v { known = k } in
         parts_known k (put_at ws.order (position z which level) (entry_at z r.orders (position z which level + 1))) (exchanged r.orders which level) (dues_of z r.orders which level) None
         (exchanged_sound (content_of z ws.node r.orders r.function r.half) r.sound which level can)
+        (remembered_away memo (view_of (content_of z ws.node r.orders r.function r.half)) (view_of (content_of z ws.node (exchanged r.orders which level) r.function None)) ws.memo_turn (home 2) (hands_in vs) (r.remembered.held id v.hand (at_map (λ (u : View). u.hand) vs id v at) has_memo).1 r.remembered)
         (reordered (exchanged r.orders which level) None (nobody_takes holding none_taken))
         (positions_first z r.orders r.positions.variables_long r.positions.elements_long level which (order_is which) can.within ws.order (subst (Positions z ws.order r.orders) settled r.positions))
         (ordered_now k (exchanged r.orders which level) holding knows told)
@@ -360,6 +365,6 @@ module _ {S : Type 0} (board : S → List (std.Option Held)) (free_slots : S →
     parts_exchanged due k full none_taken knows told words seen left =
         let holding = order_by_full full in
         let w : View = record v { known = k } in
-        parts_known k (put_at ws.order due (entry_at z r.orders due)) r.orders (without_level due r.pending) r.half r.sound r.tables
+        parts_known k (put_at ws.order due (entry_at z r.orders due)) r.orders (without_level due r.pending) r.half r.sound r.remembered r.tables
         (positions_next z r.orders due r.pending ws.order r.positions)
         (ordered_now k r.orders holding knows told) (by_full (r.half ≡ None) vs id v w at refl r.half_by) (inr ((id, w, set_at vs id v w at, full), left)) (seen_with k words seen)

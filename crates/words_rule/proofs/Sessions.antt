@@ -46,6 +46,8 @@ use Rattle.words_rule.proofs.Lists.{at_end, each_set, each_map, each_append}
 use Rattle.words_rule.proofs.Journals.{splits_it, joins_it}
 use Rattle.words_rule.proofs.Tallying.{total-set}
 use Rattle.words_rule.proofs.Sifting.{quiet}
+use Rattle.node_store.specs.Contents.{view_of}
+use Rattle.words_rule.specs.Remembered.{Remembered}
 
 total-append : {A : Type 0} (f : A → ℕ) (xs : List A) (b : A) → total f (xs ++ b ∷ []) ≡ total f xs + f b
 total-append f [] b = omega arith
@@ -105,9 +107,9 @@ counted_more count cells ts r id t a b at same less sessions pins zeros none_b s
 nothing_held : operation.Nothing ≡ operation.Held → ⊥
 nothing_held e = cc
 
-module _ {S : Type 0} (board : S → List (std.Option Held)) (free_slots : S → List ℕ) where
+module _ {S : Type 0} (board : S → List (std.Option Held)) (free_slots : S → List ℕ) (memo : S → List ℕ) where
   abbrev PartsOf : Shape → Words → (ℕ → Option (Option (std.Option S))) → List View → Type 0
-  PartsOf = Parts board free_slots
+  PartsOf = Parts board free_slots memo
 
   -- the next session gets a seat of its own
   pub parts_split : (z : Shape) (ws : Words) (home : ℕ → Option (Option (std.Option S))) (vs : List View) (r : PartsOf z ws home vs) (id : ℕ) (d : Draws) → get_elem? vs id ≡ some (bare d) → d.closing ≡ true → d.given < 64
@@ -164,6 +166,11 @@ module _ {S : Type 0} (board : S → List (std.Option Held)) (free_slots : S →
               (λ h. absurd (free_not h));
         };
         sound = r.sound;
+        remembered = subst (Remembered memo (view_of (content_of z ws.node r.orders r.function r.half)) ws.memo_turn (home 2)) (sym (mapped (λ (v : View). v.hand) ∙ ap (λ l. l ++ b.hand ∷ []) (set_again (hands_in vs) id a.hand (at_map (λ (v : View). v.hand) vs id (bare d) at)))) (record {
+          holder = r.remembered.holder;
+          at_home = r.remembered.at_home;
+          held = each_more (λ i (h : Hand). h.memo ≡ true → (r.remembered.holder ≡ some i) × (ws.memo_turn ≢ 0)) (hands_in vs) b.hand r.remembered.held (λ has. absurd (true≢false (sym has)));
+        });
         tables = subst (Tables free_slots z (content_of z ws.node r.orders r.function r.half) r.on ws.free_turn ws.turn home) (sym (mapped (λ (v : View). v.hand) ∙ ap (λ l. l ++ b.hand ∷ []) (set_again (hands_in vs) id a.hand (at_map (λ (v : View). v.hand) vs id (bare d) at)))) (let t = r.tables in record {
           free_now = t.free_now;
           free_holder = t.free_holder;
@@ -245,7 +252,7 @@ module _ {S : Type 0} (board : S → List (std.Option Held)) (free_slots : S →
       stays dead own most f p = record { place = p.place; within = p.within; later = p.later; is = quiet (sizes_for z.variables z.elements) r.log vs (set vs id (bare (one_more d)) ++ bare (session_of d) ∷ []) p.place f (raised dead (drop p.place r.log) f) p.is }
 
   -- as the table asks for it
-  pub splits : (id : ℕ) (v : View) → v ≡ bare v.draws → v.draws.closing ≡ true → v.draws.given < 64 → Splits (Rule board free_slots) id v (bare (one_more v.draws)) (bare (session_of v.draws))
+  pub splits : (id : ℕ) (v : View) → v ≡ bare v.draws → v.draws.closing ≡ true → v.draws.given < 64 → Splits (Rule board free_slots memo) id v (bare (one_more v.draws)) (bare (session_of v.draws))
   splits id v is closing room s r at = record {
     shape = r.shape;
     wide = r.wide;
@@ -306,11 +313,11 @@ rows-append : (k : ℕ) (xs ys : List Row) → row_count k (xs ++ ys) ≡ row_co
 rows-append k [] ys = omega arith
 rows-append k (x ∷ xs) ys = let r = rows-append k xs ys in omega (arith, r)
 
-module _ {S : Type 0} (board : S → List (std.Option Held)) (free_slots : S → List ℕ) where
+module _ {S : Type 0} (board : S → List (std.Option Held)) (free_slots : S → List ℕ) (memo : S → List ℕ) where
   -- a session's seat is taken in
-  pub parts_join : (z : Shape) (ws : Words) (home : ℕ → Option (Option (std.Option S))) (vs : List View) (r : Parts board free_slots z ws home vs) (id other : ℕ) (d e : Draws) → get_elem? vs id ≡ some (bare d) → ¬ (other ≡ id)
+  pub parts_join : (z : Shape) (ws : Words) (home : ℕ → Option (Option (std.Option S))) (vs : List View) (r : Parts board free_slots memo z ws home vs) (id other : ℕ) (d e : Draws) → get_elem? vs id ≡ some (bare d) → ¬ (other ≡ id)
       → get_elem? (set vs id (bare (with_gone d e))) other ≡ some (bare e) → d.closing ≡ true → e.live ≡ true → e.holds ≡ false
-      → Parts board free_slots z ws home (set (set vs id (bare (with_gone d e))) other (bare blank))
+      → Parts board free_slots memo z ws home (set (set vs id (bare (with_gone d e))) other (bare blank))
   parts_join z ws home vs r id other d e at apart there closing live free =
       let a = bare (with_gone d e) in
       let b = bare blank in
@@ -371,6 +378,7 @@ module _ {S : Type 0} (board : S → List (std.Option Held)) (free_slots : S →
               (λ h. absurd (free_not h));
         };
         sound = r.sound;
+        remembered = subst (Remembered memo (view_of (content_of z ws.node r.orders r.function r.half)) ws.memo_turn (home 2)) (sym (mapped (λ (v : View). v.hand) ∙ ap (λ l. set l other b.hand) (set_again (hands_in vs) id a.hand (at_map (λ (v : View). v.hand) vs id (bare d) at)) ∙ set_again (hands_in vs) other b.hand (at_map (λ (v : View). v.hand) vs other (bare e) at_other))) r.remembered;
         tables = subst (Tables free_slots z (content_of z ws.node r.orders r.function r.half) r.on ws.free_turn ws.turn home) (sym (mapped (λ (v : View). v.hand) ∙ ap (λ l. set l other b.hand) (set_again (hands_in vs) id a.hand (at_map (λ (v : View). v.hand) vs id (bare d) at)) ∙ set_again (hands_in vs) other b.hand (at_map (λ (v : View). v.hand) vs other (bare e) at_other))) r.tables;
         linked = subst (Linked z ws.node ws.next ws.head r.on r.chain) (sym (mapped (λ (v : View). v.hand) ∙ ap (λ l. set l other b.hand) (set_again (hands_in vs) id a.hand (at_map (λ (v : View). v.hand) vs id (bare d) at)) ∙ set_again (hands_in vs) other b.hand (at_map (λ (v : View). v.hand) vs other (bare e) at_other))) r.linked;
         sifts = record {
@@ -428,7 +436,7 @@ module _ {S : Type 0} (board : S → List (std.Option Held)) (free_slots : S →
 
   -- as the table asks for it
   pub joins : (id : ℕ) (v : View) (other : ℕ) (w : View) → v ≡ bare v.draws → w ≡ bare w.draws → v.draws.closing ≡ true → w.draws.live ≡ true → w.draws.holds ≡ false
-      → Joins (Rule board free_slots) id v other w (bare (with_gone v.draws w.draws)) (bare blank)
+      → Joins (Rule board free_slots memo) id v other w (bare (with_gone v.draws w.draws)) (bare blank)
   joins id v other w is_v is_w closing live free s r at apart there = record {
     shape = r.shape;
     wide = r.wide;

@@ -22,8 +22,8 @@ use Rattle.words_rule.proofs.Stepping.{shape_is}
 use Rattle.words_rule.proofs.Narrowing.{denotes_up}
 use Rattle.words_rule.proofs.Meeting.{content_true, narrow}
 
-module _ {S : Type 0} (board : S → List (std.Option Held)) (free_slots : S → List ℕ) where
-  module _ (z : Shape) (ws : Words) (home : ℕ → Option (Option (std.Option S))) (vs : List View) (r : Parts board free_slots z ws home vs) (id : ℕ) (v : View) (at : get_elem? vs id ≡ some v)
+module _ {S : Type 0} (board : S → List (std.Option Held)) (free_slots : S → List ℕ) (memo : S → List ℕ) where
+  module _ (z : Shape) (ws : Words) (home : ℕ → Option (Option (std.Option S))) (vs : List View) (r : Parts board free_slots memo z ws home vs) (id : ℕ) (v : View) (at : get_elem? vs id ≡ some v)
       (live : v.draws.live ≡ std.true) (share : v.shares.op ≡ shares.Held) (orders_noted : orders_of v.known ≡ r.orders) (o : Own) where
     abbrev w : Content
     w = content_of z ws.node r.orders r.function r.half
@@ -33,14 +33,14 @@ module _ {S : Type 0} (board : S → List (std.Option Held)) (free_slots : S →
 
     pub stands_more : (a : Knowledge) → Stands a → Grown a.view K.view → K.heads ≡ a.heads → K.view.fulls < 18446744073709551616 → Stands K
     stands_more a st g heads few =
-        let n = narrow board free_slots z ws home vs r id v at live share orders_noted o in
-        let shape = shape_is board free_slots z ws home vs r id v at live in record {
+        let n = narrow board free_slots memo z ws home vs r id v at live share orders_noted o in
+        let shape = shape_is board free_slots memo z ws home vs r id v at live in record {
           permanent = Permanent-grown g st.permanent;
           projections = λ u lt. IsProjection-grown g (st.projections u (subst (λ (x : ℕ). u < x) g.vars lt));
           canonical = λ j e f is its same.
               let once = edge_once w r.sound e f (function_of j (values_at j K.view e)) (denotes_up n j e (values_at j K.view e) is).is
               ((denotes_up n j f (values_at j K.view f) its).is ∙ ap (λ (x : ℕ → ValueOf j). Some (function_of j x)) (sym same)) in edge_is e f once.0 once.1;
-          within = λ s f is. (let c = content_true board free_slots z ws home vs r id v at live share orders_noted o s f is in subst (λ (y : Shape). s < y.slots) shape (r.sound.within s (r.sound.used s f c.3)));
+          within = λ s f is. (let c = content_true board free_slots memo z ws home vs r id v at live share orders_noted o s f is in subst (λ (y : Shape). s < y.slots) shape (r.sound.within s (r.sound.used s f c.3)));
           few_variables = subst (λ (x : ℕ). x ≤ first_element) (sym g.vars) st.few_variables;
           few_elements = subst (λ (x : ℕ). x ≤ first_element) (sym g.elements) st.few_elements;
           few_slots = subst (λ (x : ℕ). x < 8388608) (sym g.slots) st.few_slots;

@@ -29,7 +29,7 @@ use Rattle.words_rule.specs.declared.view.Draws.{Draws}
 use Rattle.words_rule.specs.declared.view.View.{View}
 use Rattle.words_rule.specs.Views.{sizes_for, orders_of, told_orders}
 use Rattle.words_rule.specs.Shapes.{shape_in}
-use Rattle.words_rule.specs.Layout.{Shape, Words, words_of, count_at}
+use Rattle.words_rule.specs.Layout.{Shape, Words, words_of, count_at, content_of}
 use Rattle.words_rule.specs.Journal.{Journal}
 use Rattle.words_rule.specs.Phase.{Phase, footing_of, on, weight, bit, with_op, with_walk, with_order, with_full, order_of, walks_of}
 use Rattle.words_rule.specs.Tallies.{Counted, Tally, tally_of, size, sessions_of, parts_of, row_count, cells_count, times, one_if, lifted}
@@ -49,6 +49,8 @@ use Rattle.words_rule.proofs.Sifting.{steps_same, steps_quiet, stays_placed}
 use Rattle.words_rule.proofs.Layouts.{set_phase, set_count, here_count}
 use Rattle.words_rule.proofs.Draws.{frame, by_full, by_pending}
 use Rattle.words_rule.proofs.Handed.{ordered_same}
+use Rattle.node_store.specs.Contents.{view_of}
+use Rattle.words_rule.specs.Remembered.{Remembered}
 
 walk_nothing : shares.Nothing ≡ shares.Held → ⊥
 walk_nothing e = cc
@@ -65,12 +67,12 @@ set_twice (x ∷ xs) (suc i) a b = ap (λ (l : List _). x ∷ l) (set_twice xs i
 abbrev pub with_orders : Orders → View → View
 with_orders orders v = record v { known = record v.known { variable_order = orders.variables; element_order = orders.elements } }
 
-module _ {S : Type 0} (board : S → List (std.Option Held)) (free_slots : S → List ℕ) where
+module _ {S : Type 0} (board : S → List (std.Option Held)) (free_slots : S → List ℕ) (memo : S → List ℕ) where
   abbrev PartsOf : Shape → Words → (ℕ → Option (Option (std.Option S))) → List View → Type 0
-  PartsOf = Parts board free_slots
+  PartsOf = Parts board free_slots memo
 
   abbrev TheRule : State (std.Option S) View → Type 0
-  TheRule = Rule board free_slots
+  TheRule = Rule board free_slots memo
 
   module _ (z : Shape) (ws : Words) (home : ℕ → Option (Option (std.Option S))) (vs : List View) (r : PartsOf z ws home vs) (id : ℕ) (v : View) (at : get_elem? vs id ≡ some v) where
     -- a session's view has the shape
@@ -85,7 +87,7 @@ module _ {S : Type 0} (board : S → List (std.Option Held)) (free_slots : S →
     pub parts_orders : PartsOf z ws home (set vs id (with_orders r.orders v))
     parts_orders =
         let u : View = with_orders r.orders v in
-        parts_known board free_slots z ws home vs r id v at u.known ws.order r.orders r.pending r.half r.sound r.tables r.positions
+        parts_known board free_slots memo z ws home vs r id v at u.known ws.order r.orders r.pending r.half r.sound r.remembered r.tables r.positions
         (record {
           settled = λ nobody. r.ordered.settled (λ i f there holding. dite (ℕ_discrete i id)
               (λ same. nobody id u (set_at vs id v u at) (ap (λ (y : View). y.shares.order) (some-injective v f (sym at ∙ (ap (λ j. get_elem? vs j) (sym same) ∙ there))) ∙ holding))
@@ -135,6 +137,7 @@ module _ {S : Type 0} (board : S → List (std.Option Held)) (free_slots : S →
                 (λ holding. r.ordered.held id v at (order.0 holding));
           };
           sound = r.sound;
+          remembered = subst (Remembered memo (view_of (content_of z ws.node r.orders r.function r.half)) ws.memo_turn (home 2)) (sym (frame (λ (v : View). v.hand) vs id v w at refl)) r.remembered;
           tables = subst (Tables free_slots z _ r.on ws.free_turn ws.turn home) (sym (frame (λ (v : View). v.hand) vs id v w at refl)) r.tables;
           linked = subst (Linked z ws.node ws.next ws.head r.on r.chain) (sym (frame (λ (v : View). v.hand) vs id v w at refl)) r.linked;
           sifts = steps_same start r.log vs r.sifts id v w at refl refl refl;
@@ -189,6 +192,7 @@ module _ {S : Type 0} (board : S → List (std.Option Held)) (free_slots : S →
           positions = r.positions;
           ordered = ordered_same r.orders (orders_from (opening_orders start) r.log) vs id v w at refl refl r.ordered;
           sound = r.sound;
+          remembered = subst (Remembered memo (view_of (content_of z ws.node r.orders r.function r.half)) ws.memo_turn (home 2)) (sym (frame (λ (v : View). v.hand) vs id v w at refl)) r.remembered;
           tables = subst (Tables free_slots z _ r.on ws.free_turn ws.turn home) (sym (frame (λ (v : View). v.hand) vs id v w at refl)) r.tables;
           linked = subst (Linked z ws.node ws.next ws.head r.on r.chain) (sym (frame (λ (v : View). v.hand) vs id v w at refl)) r.linked;
           sifts = sifts;

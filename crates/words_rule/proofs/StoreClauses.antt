@@ -59,12 +59,12 @@ pub level_is_turn : (v : View) (o : Own) (word : Word) → level_of (shape_in v.
 level_is_turn v o (Inner node) = refl
 level_is_turn v o (Leaf x) = refl
 
-module _ {S : Type 0} (board : S → List (std.Option Held)) (free_slots : S → List ℕ) where
+module _ {S : Type 0} (board : S → List (std.Option Held)) (free_slots : S → List ℕ) (memo : S → List ℕ) where
   abbrev PartsOf : Shape → Words → (ℕ → Option (Option (std.Option S))) → List View → Type 0
-  PartsOf = Parts board free_slots
+  PartsOf = Parts board free_slots memo
 
   abbrev TheRule : State (std.Option S) View → Type 0
-  TheRule = Rule board free_slots
+  TheRule = Rule board free_slots memo
 
   abbrev Sat : Type 0
   Sat = Me (std.Option S) View
@@ -81,29 +81,29 @@ module _ {S : Type 0} (board : S → List (std.Option Held)) (free_slots : S →
     pub wanted_due : (slot bits : ℕ) (word : Word) (wanted : IsWanted K bits word) → bits < 18446744073709551616 → v.hand.loose ≡ None → IsToDo w (job_for K slot word wanted.may)
     wanted_due slot bits word wanted small none_loose =
         let a = wanted.absent in
-        let shape = shape_is board free_slots z ws home vs r id v at live in
+        let shape = shape_is board free_slots memo z ws home vs r id v at live in
         let m = walk_in v.hand.walk a.walk a.is in
         let head : head_of z bits ≡ m.0.head = ap (λ (y : Shape). head_of y bits) shape ∙ sym a.head ∙ ap (λ (n : knowing.Walk). n.head) (sym m.2) in
         let level : level_of z word ≡ m.0.level = ap (λ (y : Shape). level_of y word) shape ∙ level_is_turn v o word ∙ sym a.level ∙ ap (λ (n : knowing.Walk). n.level) (sym m.2) in
         let others : (s : ℕ) → Lists m.0.rest s → ws.node s ≢ bits = λ s there same.
         let b = a.others s (subst (λ (n : knowing.Walk). steps.Lists n.rest s) m.2 (lists_on m.0.rest s there)) in
-        b.2 (sym (word_stands board free_slots z ws home vs r id v at live share orders_noted o s b.0 b.1).0 ∙ same) in
+        b.2 (sym (word_stands board free_slots memo z ws home vs r id v at live share orders_noted o s b.0 b.1).0 ∙ same) in
         by word wanted.may a.reads m.0 m.1 head level others
       where
         by : (word : Word) (may : MayStore K.view word) → unpack_of bits ≡ Some word → (m : Walk) → v.hand.walk ≡ Some m → head_of z bits ≡ m.head → level_of z word ≡ m.level → ((s : ℕ) → Lists m.rest s → ws.node s ≢ bits) → IsToDo w (job_for K slot word may)
         by (Inner node) may reads m walk head level others =
-            let n = narrow board free_slots z ws home vs r id v at live share orders_noted o in
+            let n = narrow board free_slots memo z ws home vs r id v at live share orders_noted o in
             let c = may.1 in record {
               can = can_up n may.0 node.var (plain node.hi) node.lo c;
               plain = refl;
               proper = subst (λ (y : (ℕ → ValueOf may.0) × (ℕ → ValueOf may.0)). IsProper may.0 y.0 y.1)
                   (λ i. (sym (values_same n may.0 (plain node.hi) c.hi_is) i, sym (values_same n may.0 node.lo c.lo_is) i)) may.2;
-              absent = parts_no_node board free_slots z ws home vs r id v at m bits node walk none_loose small reads head level others;
-              way = inl (settled_by board free_slots z ws home vs r id v at share);
+              absent = parts_no_node board free_slots memo z ws home vs r id v at m bits node walk none_loose small reads head level others;
+              way = inl (settled_by board free_slots memo z ws home vs r id v at share);
             }
         by (Leaf x) may reads m walk head level others = record {
           value = value_fits x may;
-          absent = parts_no_leaf board free_slots z ws home vs r id v at m bits x walk none_loose small reads head level others;
+          absent = parts_no_leaf board free_slots memo z ws home vs r id v at m bits x walk none_loose small reads head level others;
         }
 
   -- take_slot
@@ -116,7 +116,7 @@ module _ {S : Type 0} (board : S → List (std.Option Held)) (free_slots : S →
       let job : Job = job_for K slot word wanted.may in
       let slot_is : slot_of job ≡ slot = job_slot K slot word wanted.may in
       let word_is : word_of job ≡ word = job_word K slot word wanted.may in
-      let y = takes_slot board free_slots slots id me job list x live has (inl share) (free ∙ ap (λ (q : ℕ). Some (q ∷ list)) (sym slot_is)) (none_back taken_of v.hand.taken calm.0)
+      let y = takes_slot board free_slots memo slots id me job list x live has (inl share) (free ∙ ap (λ (q : ℕ). Some (q ∷ list)) (sym slot_is)) (none_back taken_of v.hand.taken calm.0)
       (subst (λ (l : ℕ). HasLevel v.hand l) (sym (level_is_turn v o word) ∙ ap (level_of (shape_in v.draws)) (sym word_is)) (stands_at v.hand.levels (knowing.turn_of K.view word) wanted.turn)) gave
       (λ t r at. wanted_due r.shape (words_of r.shape t.words) (λ (k : ℕ). get_elem? t.homes k) t.views r.parts id v at live share (r.parts.ordered.shared id v at share) o slot bits word wanted small calm.1)
       s r long at below in
@@ -134,8 +134,8 @@ module _ {S : Type 0} (board : S → List (std.Option Held)) (free_slots : S →
           reads = wanted.absent.reads ∙ ap Some (sym word_is);
           within = (let p = r.parts in
               let home = λ (k : ℕ). get_elem? s.homes k in
-              let shape = shape_is board free_slots r.shape (words_of r.shape s.words) home s.views p id v at live in
-              let now = (p.tables.free_held id v.hand (hand_at board free_slots r.shape (words_of r.shape s.words) home s.views p id v at) (slot ∷ list) free).2 in
+              let shape = shape_is board free_slots memo r.shape (words_of r.shape s.words) home s.views p id v at live in
+              let now = (p.tables.free_held id v.hand (hand_at board free_slots memo r.shape (words_of r.shape s.words) home s.views p id v at) (slot ∷ list) free).2 in
               subst (λ (z : Shape). slot < z.slots) shape (p.tables.free_is.free 0 slot (ap (λ (l : List ℕ). get_elem? l 0) (sym now))).0);
         },
       )

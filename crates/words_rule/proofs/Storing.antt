@@ -48,12 +48,12 @@ noting_slot v note held = record v { known = record v.known { words = note ∷ v
 abbrev pub edge_at : ℕ → Function → Held
 edge_at s f = record { edge = record { index = s; complement = false }; function = f }
 
-module _ {S : Type 0} (board : S → List (std.Option Held)) (free_slots : S → List ℕ) where
+module _ {S : Type 0} (board : S → List (std.Option Held)) (free_slots : S → List ℕ) (memo : S → List ℕ) where
   abbrev PartsOf : Shape → Words → (ℕ → Option (Option (std.Option S))) → List View → Type 0
-  PartsOf = Parts board free_slots
+  PartsOf = Parts board free_slots memo
 
   abbrev TheRule : State (std.Option S) View → Type 0
-  TheRule = Rule board free_slots
+  TheRule = Rule board free_slots memo
 
   abbrev Sat : Type 0
   Sat = Me (std.Option S) View
@@ -63,7 +63,7 @@ module _ {S : Type 0} (board : S → List (std.Option Held)) (free_slots : S →
     unfoldable pub parts_notes : (note : SeenWord) (held : Held) → StandsSo ws.node v note → IsHeldBy z r.function held → PartsOf z ws home (set vs id (noting_slot v note held))
     parts_notes note held stands is_held =
         let w : View = noting_slot v note held in
-        parts_known board free_slots z ws home vs r id v at w.known ws.order r.orders r.pending r.half r.sound r.tables r.positions
+        parts_known board free_slots memo z ws home vs r id v at w.known ws.order r.orders r.pending r.half r.sound r.remembered r.tables r.positions
         (record {
           settled = λ nobody. r.ordered.settled (λ i u there holding. dite (ℕ_discrete i id)
               (λ same. nobody id w (set_at vs id v w at) (ap (λ (y : View). y.shares.order) (some-injective v u (sym at ∙ (ap (λ j. get_elem? vs j) (sym same) ∙ there))) ∙ holding))
@@ -93,10 +93,10 @@ module _ {S : Type 0} (board : S → List (std.Option Held)) (free_slots : S →
         let w1 : View = handed v (storing job v.hand) in
         let note : SeenWord = record { slot = slot_of job; bits = bits } in
         let ws1 : Words = record ws { node = put_at ws.node (slot_of job) bits } in
-        let r1 : PartsOf z ws1 home (set vs id w1) = parts_store board free_slots z ws home vs r id v at job bits small is none_loose unnoted reads in
+        let r1 : PartsOf z ws1 home (set vs id w1) = parts_store board free_slots memo z ws home vs r id v at job bits small is none_loose unnoted reads in
         subst (λ (l : List View). PartsOf z ws1 home l) (set_set vs id w1 (noting_slot w1 note (edge_at (slot_of job) f)))
         (parts_notes z ws1 home (set vs id w1) r1 id w1 (set_at vs id v w1 at) note (edge_at (slot_of job) f) (put_at-same ws.node (slot_of job) bits, λ free. absurd (no_some (word_of job) (sym free ∙ reads)))
-        (job_function (content_of z ws.node r.orders r.function r.half) job, ap (λ (g : ℕ → std.Option Denoted). g (slot_of job)) (stored_function board free_slots z ws home vs r id v at job bits small is none_loose unnoted reads) ∙ function_here (content_of z ws.node r.orders r.function r.half) job, told))
+        (job_function (content_of z ws.node r.orders r.function r.half) job, ap (λ (g : ℕ → std.Option Denoted). g (slot_of job)) (stored_function board free_slots memo z ws home vs r id v at job bits small is none_loose unnoted reads) ∙ function_here (content_of z ws.node r.orders r.function r.half) job, told))
 
   abbrev pub stored_so : Job → ℕ → Function → Step (std.Option S) → Sat → ℕ → Sat → Type 0
   stored_so job bits f st m n m' = m' ≡ (noting_slot (handed m.0 (storing job m.0.hand)) (record { slot = slot_of job; bits = bits }) (edge_at (slot_of job) f), m.1)
@@ -112,14 +112,14 @@ module _ {S : Type 0} (board : S → List (std.Option Held)) (free_slots : S →
       let p = r.parts in
       let home = λ (k : ℕ). get_elem? s.homes k in
       let ws = words_of z s.words in
-      let shape = shape_is board free_slots z ws home s.views p id v at live in
+      let shape = shape_is board free_slots memo z ws home s.views p id v at live in
       let below : slot_of job < z.slots = subst (λ (y : Shape). slot_of job < y.slots) (sym shape) inside in
       let w : View = noting_slot (handed v (storing job v.hand)) (record { slot = slot_of job; bits = bits }) (edge_at (slot_of job) f) in (
         w,
         keeps,
         tt,
         subst (λ (i : ℕ). TheRule (record { words = set s.words i bits; homes = s.homes; views = set s.views id w })) (ap (λ (y : Shape). node_at y (slot_of job)) shape)
-            (after_word board free_slots s r (node_at z (slot_of job)) bits (set s.views id w) s.homes (record ws { node = put_at ws.node (slot_of job) bits }) refl (set_node z s.words bits (slot_of job) below r.wide)
+            (after_word board free_slots memo s r (node_at z (slot_of job)) bits (set s.views id w) s.homes (record ws { node = put_at ws.node (slot_of job) bits }) refl (set_node z s.words bits (slot_of job) below r.wide)
             (parts_stored z ws home s.views p id v at job bits fits taken none_loose unnoted reads f (told s r at))),
         refl,
       )
@@ -127,8 +127,8 @@ module _ {S : Type 0} (board : S → List (std.Option Held)) (free_slots : S →
   -- The step of a head, where the seat has noted the word of its slot under its share or hold.
   pub pushes_noted : (slots id : ℕ) (me : Sat) (q link bits k : ℕ) → me.0.draws.live ≡ true → me.0.hand.loose ≡ Some q → me.0.hand.link ≡ Some (record { slot = q; link = link }) → HasShare me.0 → get_elem? me.0.known.words k ≡ some (record { slot = q; bits = bits })
       → Allows TheRule slots id me (head_at (shape_in me.0.draws) (head_of (shape_in me.0.draws) bits)) (λ n. either (n == link) (suc q) n)
-      (pushed_it board free_slots link (step slots (head_at (shape_in me.0.draws) (head_of (shape_in me.0.draws) bits)) link (suc q) none) me)
-  pushes_noted slots id me q link bits k live loose linked share noted = pushes_slot board free_slots slots id me q link bits live loose linked
+      (pushed_it board free_slots memo link (step slots (head_at (shape_in me.0.draws) (head_of (shape_in me.0.draws) bits)) link (suc q) none) me)
+  pushes_noted slots id me q link bits k live loose linked share noted = pushes_slot board free_slots memo slots id me q link bits live loose linked
       (λ s r at. (each_at (StandsSo (words_of r.shape s.words).node me.0) me.0.known.words k (record { slot = q; bits = bits }) ((r.parts.seen id me.0 at).words share) noted).0)
 
   -- the same, with the word's index and the new head as the code has them

@@ -33,7 +33,7 @@ use Rattle.words_rule.proofs.Linking.{hand_links, head_within, next_is}
 use Rattle.words_rule.specs.Chains.{Along}
 use Rattle.words_rule.proofs.Lists.{set_at}
 use Rattle.words_rule.proofs.Draws.{by_full}
-use Rattle.words_rule.proofs.Handed.{handed, parts_hand, seen_here, hand_at, parts_store, parts_link, parts_push, parts_walk}
+use Rattle.words_rule.proofs.Handed.{handed, parts_hand, remembered_here, seen_here, hand_at, parts_store, parts_link, parts_push, parts_walk}
 use Rattle.words_rule.proofs.Stepping.{shape_is}
 
 abbrev pub is_holding : Hold → Bool
@@ -45,12 +45,12 @@ set_set [] i a b = refl
 set_set (x ∷ xs) zero a b = refl
 set_set (x ∷ xs) (suc i) a b = ap (λ (l : List _). x ∷ l) (set_set xs i a b)
 
-module _ {S : Type 0} (board : S → List (std.Option Held)) (free_slots : S → List ℕ) where
+module _ {S : Type 0} (board : S → List (std.Option Held)) (free_slots : S → List ℕ) (memo : S → List ℕ) where
   abbrev PartsOf : Shape → Words → (ℕ → Option (Option (std.Option S))) → List View → Type 0
-  PartsOf = Parts board free_slots
+  PartsOf = Parts board free_slots memo
 
   abbrev TheRule : State (std.Option S) View → Type 0
-  TheRule = Rule board free_slots
+  TheRule = Rule board free_slots memo
 
   abbrev Sat : Type 0
   Sat = Me (std.Option S) View
@@ -81,7 +81,7 @@ module _ {S : Type 0} (board : S → List (std.Option Held)) (free_slots : S →
       let p = r.parts in
       let home = λ (k : ℕ). get_elem? s.homes k in
       let ws = words_of z s.words in
-      let shape = shape_is board free_slots z ws home s.views p id v at live in
+      let shape = shape_is board free_slots memo z ws home s.views p id v at live in
       let below : l < levels z = subst (λ (y : Shape). l < levels y) (sym shape) inside in
       let n : ℕ = get_or s.words (turn_at l) 0 in
       let turn_is : ws.turn l ≡ n = here_turn z s.words 0 l below in
@@ -89,12 +89,13 @@ module _ {S : Type 0} (board : S → List (std.Option Held)) (free_slots : S →
       (λ hit.
       let h : Hand = with_level l v.hand in
       let t = p.tied id v at in
-      let at_hand = hand_at board free_slots z ws home s.views p id v at in
-      let parts = parts_hand board free_slots z ws home s.views p id v at h ws.free_turn (put_at ws.turn l new) ws.node ws.next ws.head home p.function p.half p.on p.chain refl p.kept p.sound
+      let at_hand = hand_at board free_slots memo z ws home s.views p id v at in
+      let parts = parts_hand board free_slots memo z ws home s.views p id v at h ws.free_turn ws.memo_turn (put_at ws.turn l new) ws.node ws.next ws.head home p.function p.half p.on p.chain refl p.kept p.sound
+      (remembered_here board free_slots memo z ws home s.views p id v at h refl home refl ws.node p.function p.half (λ s f is. is))
       (takes_level free_slots z (content_of z ws.node p.orders p.function p.half) p.on ws.free_turn ws.turn home (hands_in s.views) p.tables id v.hand at_hand l new below (turn_is ∙ hit) nonzero)
       (hand_links z ws.node ws.next ws.head p.on p.chain (hands_in s.views) p.linked id h (p.linked.links id v.hand at_hand) (p.linked.walks id v.hand at_hand) (p.linked.wholes id v.hand at_hand))
       (record { zeros = t.zeros; pins = t.pins; taken = t.taken; alone = t.alone; dead = λ gone. absurd (true≢false (sym live ∙ gone)) })
-      (by_full (p.half ≡ None) s.views id v (handed v h) at refl p.half_by) (seen_here board free_slots z ws home s.views p id v at h) in (
+      (by_full (p.half ≡ None) s.views id v (handed v h) at refl p.half_by) (seen_here board free_slots memo z ws home s.views p id v at h) in (
         handed v h,
         keeps,
         tt,
@@ -123,21 +124,22 @@ module _ {S : Type 0} (board : S → List (std.Option Held)) (free_slots : S →
       let p = r.parts in
       let home = λ (k : ℕ). get_elem? s.homes k in
       let ws = words_of z s.words in
-      let shape = shape_is board free_slots z ws home s.views p id v at live in
+      let shape = shape_is board free_slots memo z ws home s.views p id v at live in
       let below : l < levels z = subst (λ (y : Shape). l < levels y) (sym shape) inside in
       let calm : Hand = record v.hand { walk = None } in
       let h : Hand = record v.hand { levels = without_level l v.hand.levels; walk = None } in
       let w = content_of z ws.node p.orders p.function p.half in
       let t = p.tied id v at in
-      let at_hand = hand_at board free_slots z ws home s.views p id v at in
+      let at_hand = hand_at board free_slots memo z ws home s.views p id v at in
       let still = hands_it free_slots z w p.on ws.free_turn ws.turn home (hands_in s.views) p.tables id v.hand at_hand calm refl refl refl refl (λ n its. absurd (no_some n its)) in
-      let parts = parts_hand board free_slots z ws home s.views p id v at h ws.free_turn (put_at ws.turn l 0) ws.node ws.next ws.head home p.function p.half p.on p.chain refl p.kept p.sound
+      let parts = parts_hand board free_slots memo z ws home s.views p id v at h ws.free_turn ws.memo_turn (put_at ws.turn l 0) ws.node ws.next ws.head home p.function p.half p.on p.chain refl p.kept p.sound
+      (remembered_here board free_slots memo z ws home s.views p id v at h refl home refl ws.node p.function p.half (λ s f is. is))
       (subst (Tables free_slots z w p.on ws.free_turn (put_at ws.turn l 0) home) (set_set (hands_in s.views) id calm h)
       (puts_level free_slots z w p.on ws.free_turn ws.turn home (set (hands_in s.views) id calm) still id calm (set_at (hands_in s.views) id v.hand calm at_hand) l has
       (λ b its. subst (λ (y : Shape). level_of y (word_of b) ≢ l) (sym shape) (off_taken b its)) (λ q word its. absurd (no_some q (sym none_loose ∙ its))) (λ n its. absurd (no_some n its))))
       (hand_links z ws.node ws.next ws.head p.on p.chain (hands_in s.views) p.linked id h (p.linked.links id v.hand at_hand) (λ n its. absurd (no_some n its)) (λ n its. absurd (no_some n its)))
       (record { zeros = t.zeros; pins = t.pins; taken = λ busy. t.taken (λ idle. busy (idle.0, idle.1, refl)); alone = λ n its. absurd (no_some n its); dead = λ gone. absurd (true≢false (sym live ∙ gone)) })
-      (by_full (p.half ≡ None) s.views id v (handed v h) at refl p.half_by) (seen_here board free_slots z ws home s.views p id v at h) in (
+      (by_full (p.half ≡ None) s.views id v (handed v h) at refl p.half_by) (seen_here board free_slots memo z ws home s.views p id v at h) in (
         handed v h,
         keeps,
         tt,
@@ -165,14 +167,15 @@ module _ {S : Type 0} (board : S → List (std.Option Held)) (free_slots : S →
       let h : Hand = record v.hand { free = Some (free_slots x) } in
       let hs = set s.homes 1 none in
       let t = p.tied id v at in
-      let at_hand = hand_at board free_slots z ws home s.views p id v at in
-      let parts = parts_hand board free_slots z ws home s.views p id v at h new ws.turn ws.node ws.next ws.head (λ k. get_elem? hs k) p.function p.half p.on p.chain
+      let at_hand = hand_at board free_slots memo z ws home s.views p id v at in
+      let parts = parts_hand board free_slots memo z ws home s.views p id v at h new ws.memo_turn ws.turn ws.node ws.next ws.head (λ k. get_elem? hs k) p.function p.half p.on p.chain
       (set_else s.homes 1 0 none (λ e. omega (arith, e))) p.kept p.sound
+      (remembered_here board free_slots memo z ws home s.views p id v at h refl (λ k. get_elem? hs k) (set_else s.homes 1 2 none (λ e. omega (arith, e))) ws.node p.function p.half (λ s f is. is))
       (subst (λ (l : List ℕ). Tables free_slots z (content_of z ws.node p.orders p.function p.half) p.on new ws.turn (λ k. get_elem? hs k) (set (hands_in s.views) id (record v.hand { free = Some l }))) (sym y.3)
       (takes_free free_slots z (content_of z ws.node p.orders p.function p.half) p.on ws.free_turn ws.turn home (hands_in s.views) p.tables id v.hand at_hand new (λ k. get_elem? hs k) hit nonzero))
       (hand_links z ws.node ws.next ws.head p.on p.chain (hands_in s.views) p.linked id h (p.linked.links id v.hand at_hand) (p.linked.walks id v.hand at_hand) (p.linked.wholes id v.hand at_hand))
       (record { zeros = t.zeros; pins = t.pins; taken = t.taken; alone = t.alone; dead = λ gone. absurd (true≢false (sym live ∙ gone)) })
-      (by_full (p.half ≡ None) s.views id v (handed v h) at refl p.half_by) (seen_here board free_slots z ws home s.views p id v at h) in (
+      (by_full (p.half ≡ None) s.views id v (handed v h) at refl p.half_by) (seen_here board free_slots memo z ws home s.views p id v at h) in (
         handed v h,
         takes 1 (Some x),
         y.2,
@@ -202,18 +205,19 @@ module _ {S : Type 0} (board : S → List (std.Option Held)) (free_slots : S →
       let p = r.parts in
       let home = λ (k : ℕ). get_elem? s.homes k in
       let ws = words_of z s.words in
-      let shape = shape_is board free_slots z ws home s.views p id v at live in
+      let shape = shape_is board free_slots memo z ws home s.views p id v at live in
       let h : Hand = taking due v.hand in
       let hs = set s.homes 1 (some (Some x)) in
       let t = p.tied id v at in
-      let at_hand = hand_at board free_slots z ws home s.views p id v at in
-      let parts = parts_hand board free_slots z ws home s.views p id v at h 0 ws.turn ws.node ws.next ws.head (λ k. get_elem? hs k) p.function p.half p.on p.chain
+      let at_hand = hand_at board free_slots memo z ws home s.views p id v at in
+      let parts = parts_hand board free_slots memo z ws home s.views p id v at h 0 ws.memo_turn ws.turn ws.node ws.next ws.head (λ k. get_elem? hs k) p.function p.half p.on p.chain
       (set_else s.homes 1 0 (some (Some x)) (λ e. omega (arith, e))) p.kept p.sound
+      (remembered_here board free_slots memo z ws home s.views p id v at h refl (λ k. get_elem? hs k) (set_else s.homes 1 2 (some (Some x)) (λ e. omega (arith, e))) ws.node p.function p.half (λ s f is. is))
       (puts_free free_slots z (content_of z ws.node p.orders p.function p.half) p.on ws.free_turn ws.turn home (hands_in s.views) p.tables id v.hand at_hand
       due list (λ k. get_elem? hs k) x free none_taken (is_due s r at) (subst (λ (y : Shape). HasLevel v.hand (level_of y (word_of due))) (sym shape) level) refl gave (set_here s.homes 1 (some (Some x)) (let e = r.long in omega (arith, e))))
       (hand_links z ws.node ws.next ws.head p.on p.chain (hands_in s.views) p.linked id h (λ k its. absurd (no_some k its)) (p.linked.walks id v.hand at_hand) (p.linked.wholes id v.hand at_hand))
       (record { zeros = t.zeros; pins = t.pins; taken = λ _. share; alone = t.alone; dead = λ gone. absurd (true≢false (sym live ∙ gone)) })
-      (by_full (p.half ≡ None) s.views id v (handed v h) at refl p.half_by) (seen_here board free_slots z ws home s.views p id v at h) in (
+      (by_full (p.half ≡ None) s.views id v (handed v h) at refl p.half_by) (seen_here board free_slots memo z ws home s.views p id v at h) in (
         handed v h,
         gives,
         tt,
@@ -237,14 +241,15 @@ module _ {S : Type 0} (board : S → List (std.Option Held)) (free_slots : S →
       let h : Hand = record v.hand { free = None } in
       let hs = set s.homes 1 (some (Some x)) in
       let t = p.tied id v at in
-      let at_hand = hand_at board free_slots z ws home s.views p id v at in
-      let parts = parts_hand board free_slots z ws home s.views p id v at h 0 ws.turn ws.node ws.next ws.head (λ k. get_elem? hs k) p.function p.half p.on p.chain
+      let at_hand = hand_at board free_slots memo z ws home s.views p id v at in
+      let parts = parts_hand board free_slots memo z ws home s.views p id v at h 0 ws.memo_turn ws.turn ws.node ws.next ws.head (λ k. get_elem? hs k) p.function p.half p.on p.chain
       (set_else s.homes 1 0 (some (Some x)) (λ e. omega (arith, e))) p.kept p.sound
+      (remembered_here board free_slots memo z ws home s.views p id v at h refl (λ k. get_elem? hs k) (set_else s.homes 1 2 (some (Some x)) (λ e. omega (arith, e))) ws.node p.function p.half (λ s f is. is))
       (puts_back free_slots z (content_of z ws.node p.orders p.function p.half) p.on ws.free_turn ws.turn home (hands_in s.views) p.tables id v.hand at_hand list (λ k. get_elem? hs k) x free gave
       (set_here s.homes 1 (some (Some x)) (let e = r.long in omega (arith, e))))
       (hand_links z ws.node ws.next ws.head p.on p.chain (hands_in s.views) p.linked id h (p.linked.links id v.hand at_hand) (p.linked.walks id v.hand at_hand) (p.linked.wholes id v.hand at_hand))
       (record { zeros = t.zeros; pins = t.pins; taken = t.taken; alone = t.alone; dead = λ gone. absurd (true≢false (sym live ∙ gone)) })
-      (by_full (p.half ≡ None) s.views id v (handed v h) at refl p.half_by) (seen_here board free_slots z ws home s.views p id v at h) in (
+      (by_full (p.half ≡ None) s.views id v (handed v h) at refl p.half_by) (seen_here board free_slots memo z ws home s.views p id v at h) in (
         handed v h,
         gives,
         tt,
@@ -265,7 +270,7 @@ module _ {S : Type 0} (board : S → List (std.Option Held)) (free_slots : S →
       let p = r.parts in
       let home = λ (k : ℕ). get_elem? s.homes k in
       let ws = words_of z s.words in
-      let shape = shape_is board free_slots z ws home s.views p id v at live in
+      let shape = shape_is board free_slots memo z ws home s.views p id v at live in
       let below : (slot_of due) < z.slots = subst (λ (y : Shape). (slot_of due) < y.slots) (sym shape) inside in
       let w : View = handed v (storing due v.hand) in (
         w,
@@ -273,7 +278,7 @@ module _ {S : Type 0} (board : S → List (std.Option Held)) (free_slots : S →
         tt,
         subst (λ (i : ℕ). TheRule (record { words = set s.words i bits; homes = s.homes; views = set s.views id w })) (ap (λ (y : Shape). node_at y (slot_of due)) shape)
             (after_word s r (node_at z (slot_of due)) bits (set s.views id w) s.homes (record ws { node = put_at ws.node (slot_of due) bits }) refl (set_node z s.words bits (slot_of due) below r.wide)
-            (parts_store board free_slots z ws home s.views p id v at due bits fits taken none_loose unnoted reads)),
+            (parts_store board free_slots memo z ws home s.views p id v at due bits fits taken none_loose unnoted reads)),
         refl,
       )
 
@@ -289,14 +294,14 @@ module _ {S : Type 0} (board : S → List (std.Option Held)) (free_slots : S →
       let p = r.parts in
       let home = λ (k : ℕ). get_elem? s.homes k in
       let ws = words_of z s.words in
-      let shape = shape_is board free_slots z ws home s.views p id v at live in
+      let shape = shape_is board free_slots memo z ws home s.views p id v at live in
       let below : q < z.slots = subst (λ (y : Shape). q < y.slots) (sym shape) inside in
       let w : View = handed v (linking q x v.hand) in (
         w,
         keeps,
         tt,
         subst (λ (i : ℕ). TheRule (record { words = set s.words i x; homes = s.homes; views = set s.views id w })) (ap (λ (y : Shape). next_at y q) shape)
-            (after_word s r (next_at z q) x (set s.views id w) s.homes (record ws { next = put_at ws.next q x }) refl (set_next z s.words x q below r.wide) (parts_link board free_slots z ws home s.views p id v at q x own)),
+            (after_word s r (next_at z q) x (set s.views id w) s.homes (record ws { next = put_at ws.next q x }) refl (set_next z s.words x q below r.wide) (parts_link board free_slots memo z ws home s.views p id v at q x own)),
         refl,
       )
 
@@ -314,7 +319,7 @@ module _ {S : Type 0} (board : S → List (std.Option Held)) (free_slots : S →
       let p = r.parts in
       let home = λ (k : ℕ). get_elem? s.homes k in
       let ws = words_of z s.words in
-      let shape = shape_is board free_slots z ws home s.views p id v at live in
+      let shape = shape_is board free_slots memo z ws home s.views p id v at live in
       let is : ws.node q ≡ bits = node_is s r at in
       let word : ℕ = head_at (shape_in v.draws) (head_of (shape_in v.draws) bits) in
       let word_is : head_at z (head_of z (ws.node q)) ≡ word = λ i. head_at (shape i) (head_of (shape i) (is i)) in
@@ -330,7 +335,7 @@ module _ {S : Type 0} (board : S → List (std.Option Held)) (free_slots : S →
         subst (λ b. TheRule (stepped s word (either b (suc q) n) id me.1 w keeps)) (sym (eq-eqb n link hit))
             (subst (λ (i : ℕ). TheRule (record { words = set s.words i (suc q); homes = s.homes; views = set s.views id w })) word_is
             (after_word s r (head_at z (head_of z (ws.node q))) (suc q) (set s.views id w) s.homes (record ws { head = put_at ws.head (head_of z (ws.node q)) (suc q) }) refl (set_head z s.words (suc q) (head_of z (ws.node q)) below r.wide)
-            (parts_push board free_slots z ws home s.views p id v at q link loose linked (head_is ∙ hit)))),
+            (parts_push board free_slots memo z ws home s.views p id v at q link loose linked (head_is ∙ hit)))),
         ((λ _. refl), (λ miss. absurd (miss hit))),
       ))
       (λ miss. (
@@ -358,11 +363,11 @@ module _ {S : Type 0} (board : S → List (std.Option Held)) (free_slots : S →
       let p = r.parts in
       let home = λ (k : ℕ). get_elem? s.homes k in
       let ws = words_of z s.words in
-      let shape = shape_is board free_slots z ws home s.views p id v at live in
+      let shape = shape_is board free_slots memo z ws home s.views p id v at live in
       let below : q < z.slots = subst (λ (y : Shape). q < y.slots) (sym shape) inside in
       let word : ℕ = next_at (shape_in v.draws) q in
       let next_word : ws.next q ≡ get_or s.words word 0 = here_next z s.words 0 q below ∙ ap (λ (y : Shape). get_or s.words (next_at y q) 0) shape in
-      let k = next_is z ws.node ws.next ws.head p.on p.chain (hands_in s.views) p.linked id v.hand n front q ss (hand_at board free_slots z ws home s.views p id v at) walk rest_is in
+      let k = next_is z ws.node ws.next ws.head p.on p.chain (hands_in s.views) p.linked id v.hand n front q ss (hand_at board free_slots memo z ws home s.views p id v at) walk rest_is in
       (v, keeps, tt, stays s word id me r at, (refl, sym next_word ∙ first ws.next (ws.next q) ss k.0))
     where
       first : (next : ℕ → ℕ) (link : ℕ) (ss : List ℕ) → Along next link ss → link ≡ link_to ss
@@ -381,7 +386,7 @@ module _ {S : Type 0} (board : S → List (std.Option Held)) (free_slots : S →
       let p = r.parts in
       let home = λ (k : ℕ). get_elem? s.homes k in
       let ws = words_of z s.words in
-      let shape = shape_is board free_slots z ws home s.views p id v at live in
+      let shape = shape_is board free_slots memo z ws home s.views p id v at live in
       let below : head < heads z = subst (λ (y : Shape). head < heads y) (sym shape) inside in
       let word : ℕ = head_at (shape_in v.draws) head in
       let n : ℕ = get_or s.words word 0 in
@@ -395,7 +400,7 @@ module _ {S : Type 0} (board : S → List (std.Option Held)) (free_slots : S →
           shape = z;
           wide = r.wide;
           long = r.long;
-          parts = parts_walk board free_slots z ws home s.views p id v at walk share live has below (sym head_is) refl (is_held v.shares.order);
+          parts = parts_walk board free_slots memo z ws home s.views p id v at walk share live has below (sym head_is) refl (is_held v.shares.order);
         }),
         (p.chain head, refl),
       )

@@ -46,12 +46,12 @@ use Rattle.words_rule.proofs.Narrowing.{Narrow, Known, is_up, values_same}
 use Rattle.words_rule.proofs.HandClauses.{some_back}
 use Rattle.words_rule.proofs.WalkLoads.{levelless, denotes_to, tells_word, tells_down}
 
-module _ {S : Type 0} (board : S → List (std.Option Held)) (free_slots : S → List ℕ) where
+module _ {S : Type 0} (board : S → List (std.Option Held)) (free_slots : S → List ℕ) (memo : S → List ℕ) where
   abbrev PartsOf : Shape → Words → (ℕ → Option (Option (std.Option S))) → List View → Type 0
-  PartsOf = Parts board free_slots
+  PartsOf = Parts board free_slots memo
 
   abbrev TheRule : State (std.Option S) View → Type 0
-  TheRule = Rule board free_slots
+  TheRule = Rule board free_slots memo
 
   abbrev Sat : Type 0
   Sat = Me (std.Option S) View
@@ -64,7 +64,7 @@ module _ {S : Type 0} (board : S → List (std.Option Held)) (free_slots : S →
     pub parts_seeing : (l : List Held) → Each (IsHeldBy z r.function) l → PartsOf z ws home (set vs id (seeing v l))
     parts_seeing l all =
         let u : View = seeing v l in
-        parts_known board free_slots z ws home vs r id v at u.known ws.order r.orders r.pending r.half r.sound r.tables r.positions
+        parts_known board free_slots memo z ws home vs r id v at u.known ws.order r.orders r.pending r.half r.sound r.remembered r.tables r.positions
         (record {
           settled = λ nobody. r.ordered.settled (λ i f there holding. dite (ℕ_discrete i id)
               (λ same. nobody id u (set_at vs id v u at) (ap (λ (y : View). y.shares.order) (some-injective v f (sym at ∙ (ap (λ j. get_elem? vs j) (sym same) ∙ there))) ∙ holding))
@@ -84,7 +84,7 @@ module _ {S : Type 0} (board : S → List (std.Option Held)) (free_slots : S →
     back : (s : ℕ) (f : Denoted) → r.function s ≡ Some f → denoted_in v.draws.vars (whole_of z f) ≡ f
     back s f is =
         let k = kind_of f in
-        ap (λ n. denoted_in n (whole_of z f)) (ap (λ (y : Shape). y.variables) (sym (shape_is board free_slots z ws home vs r id v at live)))
+        ap (λ n. denoted_in n (whole_of z f)) (ap (λ (y : Shape). y.variables) (sym (shape_is board free_slots memo z ws home vs r id v at live)))
         ∙ ap (λ (x : Denoted). denoted_in z.variables (whole_of z x)) k.2 ∙ decodes z k.0 k.1 (λ u h. (r.sound.of_store s k.0 k.1 (is ∙ ap Some k.2)).0 u (longer k.0 u h)) ∙ sym k.2
 
     abbrev content_by : List Held → ℕ → std.Option Denoted
@@ -108,7 +108,7 @@ module _ {S : Type 0} (board : S → List (std.Option Held)) (free_slots : S →
         by false e = ap (λ c. option_map (denoted_in v.draws.vars) (cond (c && true) (Some (whole_of z f)) (noted_function l t))) e ∙ is
 
     narrow_by : (l : List Held) → Each (IsHeldBy z r.function) l → Narrow (sees_of (seeing v l)) (levelless w)
-    narrow_by l all = let shape = shape_is board free_slots z ws home vs r id v at live in record {
+    narrow_by l all = let shape = shape_is board free_slots memo z ws home vs r id v at live in record {
       vars = r.positions.variables_long ∙ ap (λ (y : Shape). y.variables) shape;
       elements = r.positions.elements_long ∙ ap (λ (y : Shape). y.elements) shape;
       level = refl;
@@ -125,7 +125,7 @@ module _ {S : Type 0} (board : S → List (std.Option Held)) (free_slots : S →
     }
 
     inside_by : (l : List Held) → Each (IsHeldBy z r.function) l → IsInside (seeing v l)
-    inside_by l all s f is = subst (λ (y : Shape). s < y.slots) (shape_is board free_slots z ws home vs r id v at live) (r.sound.within s (r.sound.used s f (list_true l all s f is)))
+    inside_by l all s f is = subst (λ (y : Shape). s < y.slots) (shape_is board free_slots memo z ws home vs r id v at live) (r.sound.within s (r.sound.used s f (list_true l all s f is)))
 
     -- what is left
     pub record WalkedAt (q : ℕ) : Type 0 where
@@ -190,7 +190,7 @@ module _ {S : Type 0} (board : S → List (std.Option Held)) (free_slots : S →
       let p = r.parts in
       let home = λ (k : ℕ). get_elem? s.homes k in
       let ws = words_of z s.words in
-      let shape = shape_is board free_slots z ws home s.views p id v at live in
+      let shape = shape_is board free_slots memo z ws home s.views p id v at live in
       let below : q < z.slots = subst (λ (y : Shape). q < y.slots) (sym shape) inside in
       let word : ℕ = node_at (shape_in v.draws) q in
       let n : ℕ = get_or s.words word 0 in

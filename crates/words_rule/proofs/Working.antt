@@ -26,10 +26,12 @@ use Rattle.words_rule.proofs.Lists.{each_set}
 use Rattle.words_rule.proofs.Sifting.{steps_same}
 use Rattle.words_rule.proofs.Draws.{frame, by_full, by_pending}
 use Rattle.words_rule.proofs.Handed.{ordered_same}
+use Rattle.node_store.specs.Contents.{view_of}
+use Rattle.words_rule.specs.Remembered.{Remembered}
 
-module _ {S : Type 0} (board : S → List (std.Option Held)) (free_slots : S → List ℕ) where
+module _ {S : Type 0} (board : S → List (std.Option Held)) (free_slots : S → List ℕ) (memo : S → List ℕ) where
   abbrev PartsOf : Shape → Words → (ℕ → Option (Option (std.Option S))) → List View → Type 0
-  PartsOf = Parts board free_slots
+  PartsOf = Parts board free_slots memo
 
   pub parts_work : (z : Shape) (ws : Words) (home : ℕ → Option (Option (std.Option S))) (vs : List View) (r : PartsOf z ws home vs) (id : ℕ) (v : View) → get_elem? vs id ≡ some v → (x : Work)
       → PartsOf z ws home (set vs id (record v { work = x }))
@@ -54,6 +56,7 @@ module _ {S : Type 0} (board : S → List (std.Option Held)) (free_slots : S →
         on_board = subst (λ (ds : List Draws). Board board ws.board_turn (home 0) ds r.table r.cells) (sym drawn) r.on_board;
         ordered = ordered_same r.orders (orders_from (opening_orders start) r.log) vs id v w at refl refl r.ordered;
         sound = r.sound;
+        remembered = subst (Remembered memo (view_of (content_of z ws.node r.orders r.function r.half)) ws.memo_turn (home 2)) (sym hands) r.remembered;
         tables = subst (Tables free_slots z (content_of z ws.node r.orders r.function r.half) r.on ws.free_turn ws.turn home) (sym hands) r.tables;
         linked = subst (Linked z ws.node ws.next ws.head r.on r.chain) (sym hands) r.linked;
         sifts = steps_same start r.log vs r.sifts id v w at refl refl refl;
@@ -68,8 +71,8 @@ module _ {S : Type 0} (board : S → List (std.Option Held)) (free_slots : S →
         generations = each_set (λ _ (u : View). Each (IsOfSlot ws.count u) u.counts.generations) vs id w (λ i u apart there. r.generations i u there) (r.generations id v at);
       }
 
-  pub rule_work : (s : State (std.Option S) View) (id : ℕ) (v : View) → get_elem? s.views id ≡ some v → (x : Work) → Rule board free_slots s
-      → Rule board free_slots (record { words = s.words; homes = s.homes; views = set s.views id (record v { work = x }) })
+  pub rule_work : (s : State (std.Option S) View) (id : ℕ) (v : View) → get_elem? s.views id ≡ some v → (x : Work) → Rule board free_slots memo s
+      → Rule board free_slots memo (record { words = s.words; homes = s.homes; views = set s.views id (record v { work = x }) })
   rule_work s id v at x r = record {
     shape = r.shape;
     wide = r.wide;

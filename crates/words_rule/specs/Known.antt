@@ -60,13 +60,12 @@ noted_content v = record {
   half = None;
 }
 
--- What no part of the rule speaks of: fields of the seat's view that its own steps alone change, the scratch beside it, and whether it has the memo.
+-- What no part of the rule speaks of: fields of the seat's view that its own steps alone change, and the scratch beside it.
 pub record Own : Type 0 where
   pub made : ℕ → Bool
   pub fulls : ℕ
   pub due : Option Denoted
   pub room : ℕ
-  pub memo : Bool
 
 -- the slot is one of these
 abbrev pub is_among : List ℕ → ℕ → Bool
@@ -74,11 +73,11 @@ is_among [] t = false
 is_among (s ∷ ss) t = if t == s then true else is_among ss t
 
 -- of a seat with so much room in its scratch
-abbrev pub own_of : View → ℕ → Bool → Own
-own_of v room memo = record { made = is_among v.work.made; fulls = v.work.fulls; due = option_map (denoted_in v.draws.vars) v.work.due; room = room; memo = memo }
+abbrev pub own_of : View → ℕ → Own
+own_of v room = record { made = is_among v.work.made; fulls = v.work.fulls; due = option_map (denoted_in v.draws.vars) v.work.due; room = room }
 
 abbrev pub own_none : Own
-own_none = record { made = λ s. false; fulls = 0; due = None; room = 0; memo = false }
+own_none = record { made = λ s. false; fulls = 0; due = None; room = 0 }
 
 -- one slot more was made
 abbrev pub with_made : Own → ℕ → Own
@@ -93,15 +92,15 @@ link_of k = record { slot = k.slot; next = k.link }
 abbrev pub walk_of : Walk → knowing.Walk
 walk_of n = record { head = n.head; level = n.level; rest = n.rest }
 
-abbrev pub hand_of : Hand → Bool → knowing.Hand
-hand_of h memo = record {
+abbrev pub hand_of : Hand → knowing.Hand
+hand_of h = record {
   levels = h.levels;
   free = h.free;
   taken = option_map taken_of h.taken;
   loose = h.loose;
   link = option_map link_of h.link;
   walk = option_map walk_of h.walk;
-  memo = memo;
+  memo = h.memo;
 }
 
 abbrev pub known_of : View → Own → Knowledge
@@ -109,5 +108,5 @@ known_of v o = record {
   view = record (view_of (noted_content v)) { vars = v.draws.vars; elements = v.draws.elements; made = o.made; fulls = o.fulls; due = o.due; room = o.room };
   word = noted_bits v.known.words;
   heads = heads (shape_in v.draws);
-  hand = hand_of v.hand o.memo;
+  hand = hand_of v.hand;
 }

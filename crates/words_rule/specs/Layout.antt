@@ -33,27 +33,27 @@ heads z = 2 ^ head_bits 18 z.slots
 abbrev pub head_of : Shape → ℕ → ℕ
 head_of z bits = scattered bits (heads z)
 
--- the words: journal, phase, the turns of the board and of the free list, the number of sessions; turns; orders and levels; node and next word of each slot side by side; counts; heads
+-- the words: journal, phase, the turns of the board and of the free list, the number of sessions, the turn of the computed table; turns; orders and levels; node and next word of each slot side by side; counts; heads
 abbrev pub turn_at : ℕ → ℕ
-turn_at l = 5 + l
+turn_at l = 6 + l
 
 abbrev pub order_at : Shape → ℕ → ℕ
-order_at z p = 6 + (z.variables + z.elements) + p
+order_at z p = 7 + (z.variables + z.elements) + p
 
 abbrev pub node_at : Shape → ℕ → ℕ
-node_at z s = 6 + (z.variables + z.elements) + (z.variables + z.elements) + (z.variables + z.elements) + s * 2
+node_at z s = 7 + (z.variables + z.elements) + (z.variables + z.elements) + (z.variables + z.elements) + s * 2
 
 abbrev pub next_at : Shape → ℕ → ℕ
-next_at z s = 7 + (z.variables + z.elements) + (z.variables + z.elements) + (z.variables + z.elements) + s * 2
+next_at z s = 8 + (z.variables + z.elements) + (z.variables + z.elements) + (z.variables + z.elements) + s * 2
 
 abbrev pub count_at : Shape → ℕ → ℕ
-count_at z s = 6 + (z.variables + z.elements) + (z.variables + z.elements) + (z.variables + z.elements) + z.slots * 2 + s
+count_at z s = 7 + (z.variables + z.elements) + (z.variables + z.elements) + (z.variables + z.elements) + z.slots * 2 + s
 
 abbrev pub head_at : Shape → ℕ → ℕ
-head_at z h = 6 + (z.variables + z.elements) + (z.variables + z.elements) + (z.variables + z.elements) + z.slots * 3 + h
+head_at z h = 7 + (z.variables + z.elements) + (z.variables + z.elements) + (z.variables + z.elements) + z.slots * 3 + h
 
 abbrev pub word_count : Shape → ℕ
-word_count z = 6 + (z.variables + z.elements) + (z.variables + z.elements) + (z.variables + z.elements) + z.slots * 3 + heads z
+word_count z = 7 + (z.variables + z.elements) + (z.variables + z.elements) + (z.variables + z.elements) + z.slots * 3 + heads z
 
 -- so many words, the first at this index
 abbrev pub area : (ℕ → ℕ) → ℕ → List ℕ → ℕ → ℕ
@@ -64,6 +64,7 @@ pub record Words : Type 0 where
   pub phase : ℕ
   pub board_turn : ℕ
   pub free_turn : ℕ
+  pub memo_turn : ℕ
   pub turn : ℕ → ℕ
   pub order : ℕ → ℕ
   pub node : ℕ → ℕ
@@ -77,6 +78,7 @@ words_of z ws = record {
   phase = slice_index ws 1;
   board_turn = slice_index ws 2;
   free_turn = slice_index ws 3;
+  memo_turn = slice_index ws 5;
   turn = area turn_at (levels z) ws;
   order = area (order_at z) (places z + places z) ws;
   node = area (node_at z) z.slots ws;

@@ -7,6 +7,7 @@ pub mod Journal
 pub mod Tallies
 pub mod Dues
 pub mod Hands
+pub mod Remembered
 pub mod Phase
 pub mod Kept
 pub mod Ordered

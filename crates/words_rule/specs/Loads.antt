@@ -15,7 +15,8 @@ use Rattle.words_rule.specs.declared.view.Job.{Job}
 use Rattle.words_rule.specs.declared.view.View.{View}
 use Rattle.words_rule.specs.Views.{orders_of}
 use Rattle.words_rule.specs.Dues.{word_of}
-use Rattle.words_rule.specs.Known.{denoted_in, noted_function}
+use Rattle.words_rule.specs.Known.{Own, denoted_in, known_of, noted_function}
+use Rattle.words_rule.specs.Remembered.{AreAnswers}
 
 -- the seat is as it was, but for its notes and what it has in hand
 pub record IsSeatOf (v u : View) : Type 0 where
@@ -31,6 +32,15 @@ pub record LoadedNode (old new : Knowledge) (q n : ℕ) : Type 0 where
   pub meets : (word : Word) → unpack_of n ≡ Some word → Meets new q n word
   pub used : IsMet old q → (word : Word) × (unpack_of n ≡ Some word)
   pub stands : Stands old → Stands new
+
+-- Who takes the computed table learns what each of its entries says.
+pub record LearntMemo (o : Own) (memo : List ℕ) (v u : View) : Type 0 where
+  pub seat : IsSeatOf v u
+  pub hand : u.hand ≡ record v.hand { memo = true }
+  pub work : u.work ≡ v.work
+  pub learns : Learns (known_of v o) (known_of u o)
+  pub stands : Stands (known_of v o) → Stands (known_of u o)
+  pub holds : AreAnswers (known_of u o).view memo
 
 -- what was taken for a word reads as it is packed
 abbrev pub TakenReads : View → Type 0

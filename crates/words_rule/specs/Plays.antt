@@ -22,7 +22,7 @@ use Rattle.words_rule.specs.Phase.{with_op}
 use Rattle.words_rule.specs.Dues.{slot_of, word_of}
 use Rattle.words_rule.specs.Hands.{place_of, linking, pushing, taking, with_level, without_level}
 use Rattle.words_rule.specs.Known.{Own, known_of, own_none, with_made}
-use Rattle.words_rule.specs.Loads.{IsSeatOf, LoadedNode, LoadedWord, StoredNode, seeing}
+use Rattle.words_rule.specs.Loads.{IsSeatOf, LearntMemo, LoadedNode, LoadedWord, StoredNode, seeing}
 
 module _ {S : Type 0} where
   -- an operation share: it is held, or there was a bit
@@ -109,3 +109,11 @@ module _ {S : Type 0} where
 module _ {S : Type 0} (free_slots : S → List ℕ) where
   abbrev pub free_taken : Step (std.Option S) → Me (std.Option S) View → ℕ → Me (std.Option S) View → Type 0
   free_taken st m n m' = (m'.0.draws ≡ m.0.draws) × (n ≡ 0 → (x : S) × (m' ≡ (record m.0 { hand = record m.0.hand { free = Some (free_slots x) } }, (1, Some x) ∷ m.1))) × (n ≢ 0 → m' ≡ m)
+
+module _ {S : Type 0} (memo : S → List ℕ) where
+  abbrev pub memo_taken : Own → Step (std.Option S) → Me (std.Option S) View → ℕ → Me (std.Option S) View → Type 0
+  memo_taken o st m n m' = (m'.0.draws ≡ m.0.draws) × (n ≡ 0 → (x : S) × LearntMemo o (memo x) m.0 m'.0 × (m'.1 ≡ (2, Some x) ∷ m.1)) × (n ≢ 0 → m' ≡ m)
+
+module _ {S : Type 0} where
+  abbrev pub memo_given : Step (std.Option S) → Me (std.Option S) View → ℕ → Me (std.Option S) View → Type 0
+  memo_given st m n m' = m' ≡ (record m.0 { hand = record m.0.hand { memo = false } }, rest m.1)

@@ -18,8 +18,11 @@ pub(crate) const BOARD: usize = 2;
 /// The turn of the free list.
 pub(crate) const FREE: usize = 3;
 
+/// The turn of the computed table.
+pub(crate) const MEMO: usize = 5;
+
 /// The turn of the first level.
-const TURNS: usize = 5;
+const TURNS: usize = 6;
 
 /// How many variables, elements, slots and heads a table has.
 #[derive(Clone, Copy, Drop)]

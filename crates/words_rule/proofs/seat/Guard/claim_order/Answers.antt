@@ -7,7 +7,7 @@ use Rattle.words_rule.proofs.Keeps.{keeps_number, keeps_sizes, keeps_words}
 use Rattle.words_rule.proofs.seat.Guard.claim_order.Goals as goal
 
 pub fetch_or-requires : goal.fetch_or-requires
-fetch_or-requires g c = (search rules, (let w = c.args.pass.now.words_are in let s = ap (λ i. i.words) c.requires.own.0 in omega (arith, w, s)), order_claims g.S.Content.board g.S.Content.free_slots _ _ _ c.requires.own.1 c.requires.free)
+fetch_or-requires g c = (search rules, (let w = c.args.pass.now.words_are in let s = ap (λ i. i.words) c.requires.own.0 in omega (arith, w, s)), order_claims g.S.Content.board g.S.Content.free_slots g.S.Content.memo _ _ _ c.requires.own.1 c.requires.free)
 
 pub invariant_of-pass : goal.invariant_of-pass
 invariant_of-pass g c = let p = c.args.pass.now in let d : c.fetch_or.new.seat.me.0.draws ≡ p.seat.me.0.draws = let t = c.fetch_or.ensures.2 in dite (ℕ_discrete (order_of c.fetch_or.result) 0) (λ hit. ap (λ m. m.0.draws) (t.0 hit)) (λ miss. ap (λ m. m.0.draws) (t.1 miss)) in record {

@@ -5,7 +5,7 @@ use Rattle.words_rule.proofs.Keeps.{keeps_number, keeps_sizes, keeps_words}
 use Rattle.words_rule.proofs.seat.Guard.enter_operation.Goals as goal
 
 pub fetch_add-requires : goal.fetch_add-requires
-fetch_add-requires g c = (search rules, (let w = c.args.pass.now.words_are in let s = ap (λ i. i.words) c.requires.own.0 in omega (arith, w, s)), enters_share g.S.Content.board g.S.Content.free_slots _ _ _ c.requires.own.1 c.requires.free c.requires.unnoted.0 c.requires.unnoted.1)
+fetch_add-requires g c = (search rules, (let w = c.args.pass.now.words_are in let s = ap (λ i. i.words) c.requires.own.0 in omega (arith, w, s)), enters_share g.S.Content.board g.S.Content.free_slots g.S.Content.memo _ _ _ c.requires.own.1 c.requires.free c.requires.unnoted.0 c.requires.unnoted.1)
 
 pub invariant_of-pass : goal.invariant_of-pass
 invariant_of-pass g c = let p = c.args.pass.now in let d : c.fetch_add.new.seat.me.0.draws ≡ p.seat.me.0.draws = elim (cases_lt c.fetch_add.result 4294967296) [

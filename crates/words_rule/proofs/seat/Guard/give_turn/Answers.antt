@@ -4,7 +4,7 @@ use Rattle.words_rule.proofs.Keeps.{keeps_number, keeps_sizes, keeps_words}
 use Rattle.words_rule.proofs.seat.Guard.give_turn.Goals as goal
 
 pub store-requires : goal.store-requires
-store-requires g c = (search rules, (let w = c.args.pass.now.words_are in let s = ap (λ i. i.words) c.requires.own.0 in let l = c.requires.within in let a = c.turn.ensures in omega (arith, w, s, l, a)), call_give_turn g.S.Content.board g.S.Content.free_slots _ _ _ _ c.args.level c.turn.ensures c.requires.own.1 c.requires.within c.requires.has c.requires.calm)
+store-requires g c = (search rules, (let w = c.args.pass.now.words_are in let s = ap (λ i. i.words) c.requires.own.0 in let l = c.requires.within in let a = c.turn.ensures in omega (arith, w, s, l, a)), call_give_turn g.S.Content.board g.S.Content.free_slots g.S.Content.memo _ _ _ _ c.args.level c.turn.ensures c.requires.own.1 c.requires.within c.requires.has c.requires.calm)
 
 pub invariant_of-pass : goal.invariant_of-pass
 invariant_of-pass g c = let p = c.args.pass.now in let d = c.store.ensures.2.0.0 in record {

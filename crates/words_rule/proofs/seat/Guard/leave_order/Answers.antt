@@ -4,7 +4,7 @@ use Rattle.words_rule.proofs.Keeps.{keeps_number, keeps_sizes, keeps_words}
 use Rattle.words_rule.proofs.seat.Guard.leave_order.Goals as goal
 
 pub fetch_and-requires : goal.fetch_and-requires
-fetch_and-requires g c = (search rules, (let w = c.args.pass.now.words_are in let s = ap (λ i. i.words) c.requires.own.0 in omega (arith, w, s)), order_leaves g.S.Content.board g.S.Content.free_slots _ _ _ c.requires.own.1 c.requires.hold.0 c.requires.hold.1 c.requires.hold.2 c.requires.idle c.requires.pins c.requires.told)
+fetch_and-requires g c = (search rules, (let w = c.args.pass.now.words_are in let s = ap (λ i. i.words) c.requires.own.0 in omega (arith, w, s)), order_leaves g.S.Content.board g.S.Content.free_slots g.S.Content.memo _ _ _ c.requires.own.1 c.requires.hold.0 c.requires.hold.1 c.requires.hold.2 c.requires.idle c.requires.pins c.requires.told)
 
 pub invariant_of-pass : goal.invariant_of-pass
 invariant_of-pass g c = let p = c.args.pass.now in let d = ap (λ m. m.0.draws) c.fetch_and.ensures.2 in record {

@@ -5,7 +5,7 @@ use Rattle.words_rule.proofs.Keeps.{keeps_number, keeps_sizes, keeps_words}
 use Rattle.words_rule.proofs.seat.Guard.load_head.Goals as goal
 
 pub load-requires : goal.load-requires
-load-requires g c = let is = (c.head-word.ensures ∙ ap (λ z. head_at z c.args.head) c.args.pass.now.sizes_are) in (search rules, (let w = c.args.pass.now.words_are in let s = ap (λ i. i.words) c.requires.own.0 in let l = c.requires.within in let a = is in omega (arith, w, s, l, a)), call_load_head g.S.Content.board g.S.Content.free_slots _ _ _ _ c.args.head g.E.Level.level is c.requires.own.1 c.requires.share c.requires.has c.requires.within)
+load-requires g c = let is = (c.head-word.ensures ∙ ap (λ z. head_at z c.args.head) c.args.pass.now.sizes_are) in (search rules, (let w = c.args.pass.now.words_are in let s = ap (λ i. i.words) c.requires.own.0 in let l = c.requires.within in let a = is in omega (arith, w, s, l, a)), call_load_head g.S.Content.board g.S.Content.free_slots g.S.Content.memo _ _ _ _ c.args.head g.E.Level.level is c.requires.own.1 c.requires.share c.requires.has c.requires.within)
 
 pub invariant_of-pass : goal.invariant_of-pass
 invariant_of-pass g c = let p = c.args.pass.now in let d = c.load.ensures.2.0.0 in record {

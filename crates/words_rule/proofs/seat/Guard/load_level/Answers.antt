@@ -8,8 +8,8 @@ use Rattle.words_rule.proofs.seat.Guard.load_level.Goals as goal
 pub load-requires : goal.load-requires
 load-requires g c = let is = (c.level-word.ensures ∙ ap (λ z. order_at z (places z + place_of z c.args.var)) c.args.pass.now.sizes_are) in (
   search rules,
-  (let w = c.args.pass.now.words_are in let s = ap (λ i. i.words) c.requires.own.0 in let l = place_below g.S.Content.board g.S.Content.free_slots c.args.pass.now.seat.me.0 c.requires.var.0 c.args.var c.requires.var.1 in omega (arith, w, s, l, is)),
-  call_load_level g.S.Content.board g.S.Content.free_slots _ _ _ c.args.pass.now.seat.me c.requires.own.1 c.requires.share,
+  (let w = c.args.pass.now.words_are in let s = ap (λ i. i.words) c.requires.own.0 in let l = place_below g.S.Content.board g.S.Content.free_slots g.S.Content.memo c.args.pass.now.seat.me.0 c.requires.var.0 c.args.var c.requires.var.1 in omega (arith, w, s, l, is)),
+  call_load_level g.S.Content.board g.S.Content.free_slots g.S.Content.memo _ _ _ c.args.pass.now.seat.me c.requires.own.1 c.requires.share,
 )
 
 pub invariant_of-pass : goal.invariant_of-pass

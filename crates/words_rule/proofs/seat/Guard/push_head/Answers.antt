@@ -11,7 +11,7 @@ pub compare_exchange-requires : goal.compare_exchange-requires
 compare_exchange-requires g c = let is = (c.head-word.ensures ∙ ap (λ z. head_at z c.args.head) c.args.pass.now.sizes_are) in (
   search rules,
   (let w = c.args.pass.now.words_are in let s = ap (λ i. i.words) c.requires.own.0 in let l = c.requires.within in omega (arith, w, s, l, is)),
-  pushes_here g.S.Content.board g.S.Content.free_slots _ _ _ c.args.slot c.args.link c.requires.noted.0 c.requires.noted.1 _ _ (is ∙ ap (head_at (shape_in c.args.pass.now.seat.me.0.draws)) c.requires.noted.3) (omega arith) c.requires.own.1 c.requires.loose c.requires.linked c.requires.share c.requires.noted.2,
+  pushes_here g.S.Content.board g.S.Content.free_slots g.S.Content.memo _ _ _ c.args.slot c.args.link c.requires.noted.0 c.requires.noted.1 _ _ (is ∙ ap (head_at (shape_in c.args.pass.now.seat.me.0.draws)) c.requires.noted.3) (omega arith) c.requires.own.1 c.requires.loose c.requires.linked c.requires.share c.requires.noted.2,
 )
 
 pub invariant_of-pass : goal.invariant_of-pass

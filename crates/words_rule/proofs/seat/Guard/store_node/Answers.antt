@@ -5,7 +5,7 @@ use Rattle.words_rule.proofs.Keeps.{keeps_number, keeps_sizes, keeps_words}
 use Rattle.words_rule.proofs.seat.Guard.store_node.Goals as goal
 
 pub store-requires : goal.store-requires
-store-requires g c = let is = (c.node-word.ensures ∙ ap (λ z. node_at z c.args.slot) c.args.pass.now.sizes_are) in (search rules, (let w = c.args.pass.now.words_are in let s = ap (λ i. i.words) c.requires.own.0 in let l = c.requires.within in let a = is in omega (arith, w, s, l, a)), call_store_node g.S.Content.board g.S.Content.free_slots _ _ _ _ g.E.Beside.own c.args.slot c.args.bits is c.requires.own.1 c.requires.share c.requires.taken c.requires.calm (search rules) c.requires.within c.requires.reads c.requires.few)
+store-requires g c = let is = (c.node-word.ensures ∙ ap (λ z. node_at z c.args.slot) c.args.pass.now.sizes_are) in (search rules, (let w = c.args.pass.now.words_are in let s = ap (λ i. i.words) c.requires.own.0 in let l = c.requires.within in let a = is in omega (arith, w, s, l, a)), call_store_node g.S.Content.board g.S.Content.free_slots g.S.Content.memo _ _ _ _ g.E.Beside.own c.args.slot c.args.bits is c.requires.own.1 c.requires.share c.requires.taken c.requires.calm (search rules) c.requires.within c.requires.reads c.requires.few)
 
 pub invariant_of-pass : goal.invariant_of-pass
 invariant_of-pass g c = let p = c.args.pass.now in let d = c.store.ensures.2.1.draws in record {

@@ -4,7 +4,7 @@ use Rattle.words_rule.proofs.Keeps.{keeps_number, keeps_sizes, keeps_words}
 use Rattle.words_rule.proofs.seat.Guard.take_turn.Goals as goal
 
 pub compare_exchange-found-requires : goal.compare_exchange-found-requires
-compare_exchange-found-requires g c = (search rules, (let w = c.args.pass.now.words_are in let s = ap (λ i. i.words) c.requires.own.0 in let l = c.requires.within in let a = c.turn.ensures in omega (arith, w, s, l, a)), call_take_turn g.S.Content.board g.S.Content.free_slots _ _ _ _ c.args.level _ c.turn.ensures c.requires.own.1 c.requires.within (λ e. omega (arith, e)))
+compare_exchange-found-requires g c = (search rules, (let w = c.args.pass.now.words_are in let s = ap (λ i. i.words) c.requires.own.0 in let l = c.requires.within in let a = c.turn.ensures in omega (arith, w, s, l, a)), call_take_turn g.S.Content.board g.S.Content.free_slots g.S.Content.memo _ _ _ _ c.args.level _ c.turn.ensures c.requires.own.1 c.requires.within (λ e. omega (arith, e)))
 
 pub invariant_of-pass : goal.invariant_of-pass
 invariant_of-pass g c = let p = c.args.pass.now in let d = c.compare_exchange-found.ensures.2.0.0 in record {

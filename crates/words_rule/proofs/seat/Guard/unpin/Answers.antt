@@ -5,7 +5,7 @@ use Rattle.words_rule.proofs.Keeps.{keeps_number, keeps_sizes, keeps_words}
 use Rattle.words_rule.proofs.seat.Guard.unpin.Goals as goal
 
 pub fetch_sub-requires : goal.fetch_sub-requires
-fetch_sub-requires g c = let is = (c.count-word.ensures ∙ ap (λ z. count_at z c.args.slot) c.args.pass.now.sizes_are) in (search rules, (let w = c.args.pass.now.words_are in let s = ap (λ i. i.words) c.requires.own.0 in let l = c.requires.within in omega (arith, w, s, l, is)), unpins_slot g.S.Content.board g.S.Content.free_slots _ _ c.args.pass.now.seat.me c.requires.own.1 _ c.args.slot c.requires.pinned.0 is c.requires.within c.requires.hold c.requires.pinned.1)
+fetch_sub-requires g c = let is = (c.count-word.ensures ∙ ap (λ z. count_at z c.args.slot) c.args.pass.now.sizes_are) in (search rules, (let w = c.args.pass.now.words_are in let s = ap (λ i. i.words) c.requires.own.0 in let l = c.requires.within in omega (arith, w, s, l, is)), unpins_slot g.S.Content.board g.S.Content.free_slots g.S.Content.memo _ _ c.args.pass.now.seat.me c.requires.own.1 _ c.args.slot c.requires.pinned.0 is c.requires.within c.requires.hold c.requires.pinned.1)
 
 pub invariant_of-pass : goal.invariant_of-pass
 invariant_of-pass g c = let p = c.args.pass.now in let d : c.fetch_sub.new.seat.me.0.draws ≡ p.seat.me.0.draws = ap (λ m. m.0.draws) c.fetch_sub.ensures.2 in record {

@@ -1,0 +1,15 @@
+use Rattle.std.proofs.Common.{rules, ◌∷◌, Some, ap, sym, ◌∙◌, arith, subst}
+use Rattle.atomic_table.specs.Table.{rest}
+use Rattle.words_rule.specs.declared.view.View.{View}
+use Rattle.words_rule.specs.Remembered.{AreAnswers}
+use Rattle.words_rule.specs.Known.{known_of}
+use Rattle.words_rule.proofs.Memos.{gives_memo}
+use Rattle.words_rule.proofs.seat.Guard.give_memo.Goals as goal
+
+pub store-requires : goal.store-requires
+store-requires g c = let now = c.exchange.ensures.3 in let view = ap (λ m. m.0) now in (
+  search rules,
+  (let w = c.args.pass.now.words_are in let s = ap (λ i. i.words) c.requires.own.0 in omega (arith, w, s)),
+  gives_memo g.S.Content.board g.S.Content.free_slots g.S.Content.memo _ _ c.exchange.new.seat.me g.E.Beside.own c.args.content (ap (λ v. v.draws.live) view ∙ c.requires.own.1) (ap (λ v. v.shares.op) view ∙ c.requires.share) (ap (λ m. m.1) now ∙ ap (λ l. (2, Some c.args.content) ∷ l) (sym (ap (λ m. rest m.1) now)))
+      (ap (λ v. v.hand.memo) view ∙ c.requires.has) (subst (λ (v : View). AreAnswers (known_of v g.E.Beside.own).view (g.S.Content.memo c.args.content)) (sym view) c.requires.holds),
+)
