@@ -44,7 +44,7 @@ use Rattle.words_rule.specs.Ordered.{KnowsOrders, Ordered}
 use Rattle.words_rule.specs.Dues.{slot_of, word_of, IsToDo, IsWork}
 use Rattle.words_rule.specs.Hands.{place_of, level_of, level_if, HasLevel, Owns, IsIdle, Tables, Linked, storing, linking, pushing, loosening}
 use Rattle.words_rule.specs.Seen.{StandsSo, AreSeen}
-use Rattle.words_rule.specs.Rule.{Parts, Tied, FullHolder, draws_in, footings_in, tallies_in, hands_in}
+use Rattle.words_rule.specs.Rule.{Parts, Tied, HalfHolder, draws_in, footings_in, tallies_in, hands_in}
 use Rattle.words_rule.proofs.Seeing.{seen_other, seen_store}
 use Rattle.words_rule.proofs.Lists.{each_set, each_map, each_both, set_at, map_at}
 use Rattle.words_rule.proofs.Phases.{excludes, one_order}
@@ -96,7 +96,7 @@ module _ {S : Type 0} (board : S → List (std.Option Held)) (free_slots : S →
     pub parts_hand : (h : Hand) (ft mt : ℕ) (tn nd nx hd : ℕ → ℕ) (home' : ℕ → Option (Option (std.Option S))) (function : ℕ → std.Option Denoted) (half : std.Option Pair) (on : ℕ → Bool) (chain : ℕ → List ℕ) → home' 0 ≡ home 0
         → Kept z function r.cells (tallies_in vs) → IsSound (content_of z nd r.orders function half) → Remembered memo (view_of (content_of z nd r.orders function half)) mt (home' 2) (set (hands_in vs) id h)
         → Tables free_slots z (content_of z nd r.orders function half) on ft tn home' (set (hands_in vs) id h) → Linked z nd nx hd on chain (set (hands_in vs) id h)
-        → Tied (handed v h) → (half ≡ None) ⊎ FullHolder (set vs id (handed v h)) → AreSeen z nd function (set vs id (handed v h)) → PartsOf z (record ws { free_turn = ft; memo_turn = mt; turn = tn; node = nd; next = nx; head = hd }) home' (set vs id (handed v h))
+        → Tied (handed v h) → (half ≡ None) ⊎ HalfHolder half (set vs id (handed v h)) → AreSeen z nd function (set vs id (handed v h)) → PartsOf z (record ws { free_turn = ft; memo_turn = mt; turn = tn; node = nd; next = nx; head = hd }) home' (set vs id (handed v h))
     parts_hand h ft mt tn nd nx hd home' function half on chain same kept sound remembered tables linked tied half_by seen =
         let w = handed v h in
         let start : Sizes = sizes_for z.variables z.elements in
@@ -137,7 +137,7 @@ module _ {S : Type 0} (board : S → List (std.Option Held)) (free_slots : S →
 
     -- who has an operation share, beside it no swap is half made
     pub settled_by : v.shares.op ≡ shares.Held → r.half ≡ None
-    settled_by held = ⊎_elim (λ none_half. none_half) (λ (h : (i : ℕ) × (f : View) × (get_elem? vs i ≡ some f) × (f.shares.full ≡ Holding)).
+    settled_by held = ⊎_elim (λ none_half. none_half) (λ (y : HalfHolder r.half vs). let h = y.0 in
         let there : get_elem? (footings_in vs) h.0 ≡ some (footing_of h.1) = at_map footing_of vs h.0 h.1 h.2 in
         let one : bit h.1.shares.full ≡ 1 = ap bit h.3 in
         let w = r.phase.within h.0 (footing_of h.1) there in

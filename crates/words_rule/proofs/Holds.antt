@@ -32,7 +32,7 @@ use Rattle.words_rule.specs.Ordered.{KnowsOrders, Ordered}
 use Rattle.words_rule.specs.Hands.{Tables, Linked, IsIdle}
 use Rattle.words_rule.specs.Sifted.{Sifts}
 use Rattle.words_rule.specs.Seen.{KeepsSlots, StandsSo, IsSeen}
-use Rattle.words_rule.specs.Rule.{Parts, Tied, FullHolder, draws_in, footings_in, tallies_in}
+use Rattle.words_rule.specs.Rule.{Parts, Tied, FullHolder, HalfHolder, draws_in, footings_in, tallies_in}
 use Rattle.words_rule.proofs.Seeing.{seen_other}
 use Rattle.words_rule.proofs.Handling.{never as no_some}
 use Rattle.words_rule.proofs.Lists.{each_set, set_at, each_map}
@@ -49,11 +49,11 @@ module _ {S : Type 0} (board : S → List (std.Option Held)) (free_slots : S →
 
   module _ (z : Shape) (ws : Words) (home : ℕ → Option (Option (std.Option S))) (vs : List View) (r : PartsOf z ws home vs) (id : ℕ) (v : View) (at : get_elem? vs id ≡ some v) where
     -- a step that changes shares, what is known of the orders, and the notes of counts
-    parts_any : (x : Shares) (k : Known) (c : Counts) (n : ℕ) → Phase n (set (footings_in vs) id (on (footing_of v) x))
+    pub parts_any : (x : Shares) (k : Known) (c : Counts) (n : ℕ) → Phase n (set (footings_in vs) id (on (footing_of v) x))
         → Ordered r.orders (orders_from (opening_orders (sizes_for z.variables z.elements)) r.log) (set vs id (record v { shares = x; known = k; counts = c }))
         → Counted ws.count r.cells (set (tallies_in vs) id (tally_of (record v { shares = x; known = k; counts = c }))) → KeepsTally z r.function (tally_of (record v { shares = x; known = k; counts = c }))
         → Tied (record v { shares = x; known = k; counts = c }) → Sifts (sizes_for z.variables z.elements) r.log (set vs id (record v { shares = x; known = k; counts = c }))
-        → (r.half ≡ None) ⊎ FullHolder (set vs id (record v { shares = x; known = k; counts = c })) → PendingBy r.pending (set vs id (record v { shares = x; known = k; counts = c })) → IsSeen z ws.node r.function (record v { shares = x; known = k; counts = c }) → Each (IsOfSlot ws.count (record v { shares = x; known = k; counts = c })) c.generations
+        → (r.half ≡ None) ⊎ HalfHolder r.half (set vs id (record v { shares = x; known = k; counts = c })) → PendingBy r.pending (set vs id (record v { shares = x; known = k; counts = c })) → IsSeen z ws.node r.function (record v { shares = x; known = k; counts = c }) → Each (IsOfSlot ws.count (record v { shares = x; known = k; counts = c })) c.generations
         → PartsOf z (record ws { phase = n }) home (set vs id (record v { shares = x; known = k; counts = c }))
     parts_any x k c n phase ordered counted keeps_it tied sifts half_by pending_by is_seen right_now =
         let w : View = record v { shares = x; known = k; counts = c } in
@@ -132,7 +132,7 @@ module _ {S : Type 0} (board : S → List (std.Option Held)) (free_slots : S →
         (r.kept.each id (tally_of v) tally_at)
         (record { zeros = λ k zeros. refl; pins = λ k pins. refl; taken = λ busy. inr refl; alone = λ n walk whole. refl; dead = t.dead })
         (steps_same start r.log vs r.sifts id v w at refl refl refl)
-        (⊎_elim (λ none_half. inl none_half) (λ h. absurd (not_full nobody h)) r.half_by)
+        (⊎_elim (λ none_half. inl none_half) (λ (y : HalfHolder r.half vs). absurd (not_full nobody y.0)) r.half_by)
         (⊎_elim (λ none_due. inl none_due) (λ (y : (h : FullHolder vs) × (h.1.known.pending ≡ r.pending)). absurd (not_full nobody y.0)) r.pending_by)
         (record { words = λ _. each_map (λ (note : SeenWord). ws.node note.slot ≡ note.bits) (StandsSo ws.node w) (λ note is. (is, λ _. refl)) k.words words; held = λ _. seen }) (r.generations id v at)
 
@@ -165,7 +165,7 @@ module _ {S : Type 0} (board : S → List (std.Option Held)) (free_slots : S →
         (record { rows = kept.rows; raised = kept.raised; owed = kept.owed })
         (record { zeros = λ k zeros. absurd (omega (arith, zeros)); pins = λ k pins. absurd (let e : times k v.counts.pins ≡ 0 = ap (times k) unpinned in omega (arith, e, pins)); taken = λ busy. absurd (busy idle); alone = λ n walk whole. absurd (no_some n (sym idle.2 ∙ walk)); dead = t.dead })
         (steps_quiet start r.log vs r.sifts id v w at refl refl (λ j y e. (j, e)) (λ l. tt) (λ l. r.sifts.owes id v at l))
-        (⊎_elim (λ none_half. inl none_half) (λ f. absurd (no_full_holder f)) r.half_by)
+        (⊎_elim (λ none_half. inl none_half) (λ (y : HalfHolder r.half vs). absurd (no_full_holder y.0)) r.half_by)
         (⊎_elim (λ none_due. inl none_due) (λ (y : (h : FullHolder vs) × (h.1.known.pending ≡ r.pending)). absurd (no_full_holder y.0)) r.pending_by)
         (record { words = λ has. absurd (no_share has); held = λ (has : KeepsSlots w). ⊎_elim (λ share. absurd (no_share share)) (λ _. (r.seen id v at).held (inl (inr holding))) has }) (r.generations id v at)
       where

@@ -24,6 +24,7 @@ pub mod Draws
 pub mod Handed
 pub mod Opening
 pub mod Opens
+pub mod NewTables
 pub mod Retelling
 pub mod Rewrites
 pub mod Freeing
@@ -36,6 +37,8 @@ pub mod Loosing
 pub mod Looking
 pub mod Holds
 pub mod Sessions
+pub mod Resting
+pub mod Closes
 pub mod Walking
 pub mod Boards
 pub mod Seeing
@@ -61,5 +64,6 @@ pub mod Keeps
 pub mod Learning
 pub mod Entering
 pub mod PhaseSteps
+pub mod FullSteps
 pub mod CountSteps
 pub mod Waits

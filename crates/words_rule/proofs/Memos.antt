@@ -1,5 +1,5 @@
 -- The computed table is taken, with all that it tells, and put back.
-use Rattle.std.proofs.Common.{Bool, false, ◌≡◌, ◌≢◌, ⊎_elim, inl, inr, ℕ, zero, suc, ◌<◌, ◌==◌, true, true≢false, List, [], ◌∷◌, set, get_or, Some, None, refl, ap, sym, ◌∙◌, subst, arith, length-set, eq-eqb, ne_eqb}
+use Rattle.std.proofs.Common.{Bool, false, ◌≡◌, ◌≢◌, inl, inr, ℕ, zero, suc, ◌<◌, ◌==◌, true, true≢false, List, [], ◌∷◌, set, get_or, Some, None, refl, ap, sym, ◌∙◌, subst, arith, length-set, eq-eqb, ne_eqb}
 use Rattle.std.specs.Prelude as std
 use Rattle.std.proofs.lemmas.Bool.{cases_eq}
 use mathlib.Core.Logic.{dite}
@@ -24,13 +24,11 @@ use Rattle.words_rule.specs.declared.view.View.{View}
 use Rattle.words_rule.specs.Views.{orders_of}
 use Rattle.words_rule.specs.Layout.{Shape, Words, content_of, words_of}
 use Rattle.words_rule.specs.Chains.{Lists}
-use Rattle.words_rule.specs.Hands.{Tables, Linked}
 use Rattle.words_rule.specs.Kept.{IsHeldBy}
 use Rattle.words_rule.specs.Remembered.{AreAnswers, Remembered}
-use Rattle.words_rule.specs.Rule.{Parts, Rule, Tied, hands_in}
+use Rattle.words_rule.specs.Rule.{Parts, Rule, hands_in}
 use Rattle.words_rule.specs.Seen.{StandsSo}
 use Rattle.words_rule.specs.Known.{Own, known_of, noted_content, word_in}
-use Rattle.words_rule.specs.Loads.{LearntMemo}
 use Rattle.words_rule.specs.Plays.{memo_taken, memo_given}
 use Rattle.words_rule.proofs.Boards.{tables_home}
 use Rattle.words_rule.proofs.Draws.{by_full}

@@ -34,10 +34,10 @@ place_ascending k (suc n) (suc j) lt =
 abbrev behind : ℕ → ℕ
 behind v = suc (suc (suc (suc (suc v))))
 
-place_of-range : (n j : ℕ) → j < n → place_of j (range_with_len 0 n) ≡ j
+pub place_of-range : (n j : ℕ) → j < n → place_of j (range_with_len 0 n) ≡ j
 place_of-range n j lt = ap (λ (x : ℕ). place_of x (range_with_len 0 n)) (omega arith) ∙ place_ascending 0 n j lt
 
-slice-range : (n j : ℕ) → j < n → slice_index (range_with_len 0 n) j ≡ j
+pub slice-range : (n j : ℕ) → j < n → slice_index (range_with_len 0 n) j ≡ j
 slice-range n j lt = let e = get_or-range_with_len 0 n j 0 lt in e ∙ omega arith
 
 order_ascending : (n : ℕ) → IsOrder (range_with_len 0 n)

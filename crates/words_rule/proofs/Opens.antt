@@ -60,7 +60,7 @@ only x zero y at P p = subst (P 0) (some-injective x y at) p
 only x (suc j) y at P p = absurd (some-ne-none y (sym at))
 
 -- the words of slots behind the projections are of free slots
-word_behind : (n s : ℕ) → 5 + n ≤ s → opening_word n s ≡ None
+pub word_behind : (n s : ℕ) → 5 + n ≤ s → opening_word n s ≡ None
 word_behind n zero le = absurd (omega (arith, le))
 word_behind n (suc zero) le = absurd (omega (arith, le))
 word_behind n (suc (suc zero)) le = absurd (omega (arith, le))

@@ -17,42 +17,42 @@ use Rattle.words_rule.specs.declared.view.View.{View}
 use Rattle.words_rule.specs.Views.{orders_of, told_orders}
 use Rattle.words_rule.specs.Layout.{Shape, Words, words_of}
 use Rattle.words_rule.specs.Hands.{IsIdle}
-use Rattle.words_rule.specs.Phase.{bit, footing_of, op_weight, ops_of, order_of, walk_weight, walks_of, weight, with_full, with_op, with_order, with_walk}
-use Rattle.words_rule.specs.PhasePlays.{forgetting, full_claimed, full_looked, full_unclaimed, op_left, order_claimed, order_left, order_looked, order_unclaimed, walk_left}
+use Rattle.words_rule.specs.Phase.{bit, footing_of, op_weight, ops_of, order_of, walk_weight, weight, with_full, with_op, with_order, with_walk}
+use Rattle.words_rule.specs.PhasePlays.{forgetting, full_claimed, full_unclaimed, op_left, order_claimed, order_left, order_looked, order_unclaimed, walk_left}
 use Rattle.words_rule.specs.Rule.{Parts, Rule, footings_in}
 use Rattle.words_rule.proofs.Lists.{set_at}
 use Rattle.words_rule.proofs.Layouts.{set_phase}
 use Rattle.words_rule.proofs.Phases as phases
-use Rattle.words_rule.proofs.Stepping.{parts_op_out, parts_op_debt, parts_walk_out, parts_walk_debt, parts_claim, parts_unclaim, parts_full_claim, parts_full_hold, parts_full_unclaim}
+use Rattle.words_rule.proofs.Stepping.{parts_op_out, parts_op_debt, parts_walk_out, parts_walk_debt, parts_claim, parts_unclaim, parts_full_claim, parts_full_unclaim}
 use Rattle.words_rule.proofs.Holds.{parts_hold, parts_unhold}
 use Rattle.words_rule.proofs.Tabling.{after_word, set_set, stays}
 use Rattle.words_rule.proofs.Learning.{parts_noting}
 
 module _ {S : Type 0} (board : S → List (std.Option Held)) (free_slots : S → List ℕ) (memo : S → List ℕ) (slots id : ℕ) (me : Me (std.Option S) View) (live : me.0.draws.live ≡ true) where
-  abbrev PartsOf : Shape → Words → (ℕ → Option (Option (std.Option S))) → List View → Type 0
+  abbrev pub PartsOf : Shape → Words → (ℕ → Option (Option (std.Option S))) → List View → Type 0
   PartsOf = Parts board free_slots memo
 
-  abbrev TheRule : State (std.Option S) View → Type 0
+  abbrev pub TheRule : State (std.Option S) View → Type 0
   TheRule = Rule board free_slots memo
 
   module _ (s : State (std.Option S) View) (r : TheRule s) (at : get_elem? s.views id ≡ some me.0) where
-    abbrev n : ℕ
+    abbrev pub n : ℕ
     n = get_or s.words 1 0
 
-    abbrev ws : Words
+    abbrev pub ws : Words
     ws = words_of r.shape s.words
 
-    abbrev home : ℕ → Option (Option (std.Option S))
+    abbrev pub home : ℕ → Option (Option (std.Option S))
     home = λ k. get_elem? s.homes k
 
-    here : get_elem? (footings_in s.views) id ≡ some (footing_of me.0)
+    pub here : get_elem? (footings_in s.views) id ≡ some (footing_of me.0)
     here = at_map footing_of s.views id me.0 at
 
-    low : n < 17179869184
+    pub low : n < 17179869184
     low = phases.small_word n (footings_in s.views) r.parts.phase
 
     -- the word becomes m, and the view this
-    ends : (m new : ℕ) → new ≡ m → (w : View) → PartsOf r.shape (record ws { phase = m }) home (set s.views id w) → TheRule (record { words = set s.words 1 new; homes = s.homes; views = set s.views id w })
+    pub ends : (m new : ℕ) → new ≡ m → (w : View) → PartsOf r.shape (record ws { phase = m }) home (set s.views id w) → TheRule (record { words = set s.words 1 new; homes = s.homes; views = set s.views id w })
     ends m new is w parts = after_word board free_slots memo s r 1 new (set s.views id w) s.homes (record ws { phase = m }) refl
         (set_phase r.shape s.words new (let l = r.wide in omega (arith, l)) ∙ ap (λ (k : ℕ). record ws { phase = k }) is) parts
 
@@ -142,19 +142,6 @@ module _ {S : Type 0} (board : S → List (std.Option Held)) (free_slots : S →
       let w : View = record me.0 { shares = with_full me.0.shares Claimed k } in
       let out = phases.full_claimed k (footings_in s.views) r.parts.phase id (footing_of me.0) (here s r at) holding free in
       (w, keeps, tt, ends s r at (k + 8589934592) (bit_xor k 8589934592) (xor_clear k (low s r at) out.0) w (parts_full_claim board free_slots memo r.shape (ws s r at) (home s r at) s.views r.parts id me.0 at holding free), refl)
-
-  pub full_looks : me.0.shares.full ≡ Claimed → Allows TheRule slots id me 1 (λ k. k) (full_looked (step slots 1 0 0 none) me)
-  full_looks claim s r long at small =
-      let k : ℕ = n s r at in
-      dite (ℕ_discrete (walks_of k) 0)
-      (λ none_seen. let w : View = record me.0 { shares = with_full me.0.shares Holding k } in (
-        w,
-        keeps,
-        tt,
-        ends s r at k k refl w (parts_full_hold board free_slots memo r.shape (ws s r at) (home s r at) s.views r.parts id me.0 at claim none_seen),
-        ((λ _. refl), (λ some_seen. absurd (some_seen none_seen))),
-      ))
-      (λ some_seen. (me.0, keeps, tt, stays board free_slots memo s 1 id me r at, ((λ none_seen. absurd (some_seen none_seen)), (λ _. refl))))
 
   pub full_unclaims : me.0.shares.full ≡ Claimed → Allows TheRule slots id me 1 (λ k. bit_xor k 8589934592) (full_unclaimed (step slots 1 8589934592 0 none) me)
   full_unclaims claim s r long at small =

@@ -46,7 +46,9 @@ use Rattle.words_rule.specs.Kept.{Kept, Board, IsHeldBy}
 use Rattle.words_rule.specs.Ordered.{KnowsOrders, Ordered}
 use Rattle.words_rule.specs.Hands.{place_of, HasLevel, without_level, Tables, Linked}
 use Rattle.words_rule.specs.Seen.{HasShare, KeepsSlots, StandsSo, IsSeen}
-use Rattle.words_rule.specs.Rule.{Parts, Tied, FullHolder, draws_in, footings_in, tallies_in, hands_in}
+use Rattle.words_rule.specs.declared.view.Neighbours.{Neighbours}
+use Rattle.words_rule.specs.Halves.{half_in}
+use Rattle.words_rule.specs.Rule.{Parts, Tied, HalfHolder, draws_in, footings_in, tallies_in, hands_in}
 use Rattle.words_rule.proofs.Seeing.{seen_other, seen_alone}
 use Rattle.words_rule.proofs.Lists.{each_set, set_at, map_at, each_both}
 use Rattle.words_rule.proofs.Phases.{excludes, excludes_full, one_order}
@@ -234,9 +236,9 @@ module _ {S : Type 0} (board : S → List (std.Option Held)) (free_slots : S →
     -- a node is rewritten in its slot under the full hold, on no chain, the turns of both levels in hand: each slot keeps its function
     pub parts_rewrite : (k : Kind) (s x : ℕ) (hi lo : Edge) (can : CanRewrite k (content_of z ws.node r.orders r.function r.half) s x hi lo) (bits : ℕ) → bits < 18446744073709551616
         → v.shares.full ≡ Holding → v.hand.taken ≡ None → v.hand.loose ≡ Some s → HasLevel v.hand (place_of z x) → Each (λ (note : SeenWord). note.slot ≢ s) v.known.words
-        → unpack_of bits ≡ Some (Inner (record { var = x; hi = hi.index; lo = lo }))
+        → unpack_of bits ≡ Some (Inner (record { var = x; hi = hi.index; lo = lo })) → half_in v.known ≡ (rewritten (content_of z ws.node r.orders r.function r.half) s x hi lo).half
         → PartsOf z (record ws { node = put_at ws.node s bits }) home (set vs id (handed v v.hand))
-    parts_rewrite k s x hi lo can bits small full none_taken loose to unnoted reads =
+    parts_rewrite k s x hi lo can bits small full none_taken loose to unnoted reads noted =
         let w : Content = content_of z ws.node r.orders r.function r.half in
         let h : Hand = v.hand in
         let nd : ℕ → ℕ = put_at ws.node s bits in
@@ -255,7 +257,7 @@ module _ {S : Type 0} (board : S → List (std.Option Held)) (free_slots : S →
         (hands_it free_slots z (rewritten w s x hi lo) r.on ws.free_turn ws.turn home (hands_in vs) tables id h hand_at h refl refl refl refl (r.tables.walking id h hand_at)))
         (hand_links z nd ws.next ws.head r.on r.chain (hands_in vs) linked id h (r.linked.links id h hand_at) (linked.walks id h hand_at) (r.linked.wholes id h hand_at))
         (record { zeros = t.zeros; pins = t.pins; taken = t.taken; alone = t.alone; dead = t.dead })
-        (inr (id, handed v h, set_at vs id v (handed v h) at, full))
+        (inr ((id, handed v h, set_at vs id v (handed v h) at, full), noted))
         (seen_alone z ws.node r.function vs r.seen id (handed v h) nd r.function (nobody_keeps full) (record {
           words = λ has. each_both (λ (note : SeenWord). note.slot ≢ s) (StandsSo ws.node v) (StandsSo nd (handed v h)) (λ note off st. (put_at-other ws.node s note.slot bits off ∙ st.0, st.1)) v.known.words unnoted ((r.seen id v at).words has);
           held = (r.seen id v at).held;
@@ -265,7 +267,7 @@ module _ {S : Type 0} (board : S → List (std.Option Held)) (free_slots : S →
     unfoldable pub parts_known : (k : Known) (order : ℕ → ℕ) (orders : Orders) (pending : List ℕ) (half : std.Option Pair)
         → IsSound (content_of z ws.node orders r.function half) → Remembered memo (view_of (content_of z ws.node orders r.function half)) ws.memo_turn (home 2) (hands_in vs) → Tables free_slots z (content_of z ws.node orders r.function half) r.on ws.free_turn ws.turn home (hands_in vs)
         → Positions z order orders pending → Ordered orders (orders_from (opening_orders (sizes_for z.variables z.elements)) r.log) (set vs id (record v { known = k }))
-        → (half ≡ None) ⊎ FullHolder (set vs id (record v { known = k })) → PendingBy pending (set vs id (record v { known = k })) → IsSeen z ws.node r.function (record v { known = k })
+        → (half ≡ None) ⊎ HalfHolder half (set vs id (record v { known = k })) → PendingBy pending (set vs id (record v { known = k })) → IsSeen z ws.node r.function (record v { known = k })
         → PartsOf z (record ws { order = order }) home (set vs id (record v { known = k }))
     parts_known k order orders pending half sound remembered tables positions ordered half_by pending_by is_seen =
         let w : View = record v { known = k } in
@@ -360,11 +362,11 @@ module _ {S : Type 0} (board : S → List (std.Option Held)) (free_slots : S →
         (inl refl) (inr ((id, w, set_at vs id v w at, full), due)) (seen_with k words seen)
 
     -- and each of the others
-    pub parts_exchanged : (due : ℕ) (k : Known) → v.shares.full ≡ Holding → v.hand.taken ≡ None → orders_of k ≡ r.orders → told_orders k ≡ told_orders v.known → k.words ≡ v.known.words → k.seen ≡ v.known.seen → k.pending ≡ without_level due r.pending
+    pub parts_exchanged : (due : ℕ) (k : Known) → v.shares.full ≡ Holding → v.hand.taken ≡ None → orders_of k ≡ r.orders → told_orders k ≡ told_orders v.known → k.words ≡ v.known.words → k.seen ≡ v.known.seen → k.half ≡ v.known.half → k.pending ≡ without_level due r.pending
         → PartsOf z (record ws { order = put_at ws.order due (entry_at z r.orders due) }) home (set vs id (record v { known = k }))
-    parts_exchanged due k full none_taken knows told words seen left =
+    parts_exchanged due k full none_taken knows told words seen same_half left =
         let holding = order_by_full full in
         let w : View = record v { known = k } in
         parts_known k (put_at ws.order due (entry_at z r.orders due)) r.orders (without_level due r.pending) r.half r.sound r.remembered r.tables
         (positions_next z r.orders due r.pending ws.order r.positions)
-        (ordered_now k r.orders holding knows told) (by_full (r.half ≡ None) vs id v w at refl r.half_by) (inr ((id, w, set_at vs id v w at, full), left)) (seen_with k words seen)
+        (ordered_now k r.orders holding knows told) (by_full (r.half ≡ None) vs id v w at (ap (λ (n : std.Option Neighbours). (v.shares, n)) same_half) r.half_by) (inr ((id, w, set_at vs id v w at, full), left)) (seen_with k words seen)

@@ -40,7 +40,7 @@ use Rattle.words_rule.specs.Dues.{slot_of, word_of, IsWork}
 use Rattle.words_rule.specs.Hands.{level_of, HasLevel, Owns, IsLoose, level_in, Tables, Linked}
 use Rattle.words_rule.specs.Sifted.{IsRaised, IsPlaced, OwesLast, carried_by}
 use Rattle.words_rule.specs.Seen.{IsSeen}
-use Rattle.words_rule.specs.Rule.{Parts, Rule, Tied, FullHolder, draws_in, footings_in, tallies_in, hands_in, bare}
+use Rattle.words_rule.specs.Rule.{Parts, Rule, Tied, FullHolder, HalfHolder, draws_in, footings_in, tallies_in, hands_in, bare}
 use Rattle.words_rule.proofs.Handling.{never as no_some}
 use Rattle.words_rule.proofs.Lists.{at_end, each_set, each_map, each_append}
 use Rattle.words_rule.proofs.Journals.{splits_it, joins_it}
@@ -213,7 +213,7 @@ module _ {S : Type 0} (board : S → List (std.Option Held)) (free_slots : S →
             (λ _. r.sized id (bare d) at (inr closing));
         generations = each_more (λ _ (u : View). Each (IsOfSlot ws.count u) u.counts.generations) (set vs id a) b (each_set (λ _ (u : View). Each (IsOfSlot ws.count u) u.counts.generations) vs id a (λ i u _ there. r.generations i u there) tt) tt;
         seen = each_more (λ _ (u : View). IsSeen z ws.node r.function u) (set vs id a) b (each_set (λ _ (u : View). IsSeen z ws.node r.function u) vs id a (λ i u _ there. r.seen i u there) (record { words = λ _. tt; held = λ _. tt })) (record { words = λ _. tt; held = λ _. tt });
-        half_by = ⊎_elim (λ none_half. inl none_half) (λ (h : FullHolder vs). inr (longer h)) r.half_by;
+        half_by = ⊎_elim (λ none_half. inl none_half) (λ (y : HalfHolder r.half vs). inr (longer_half y)) r.half_by;
         pending_by = ⊎_elim (λ none_due. inl none_due) (λ (y : (h : FullHolder vs) × (h.1.known.pending ≡ r.pending)). inr (longer_due y)) r.pending_by;
       }
     where
@@ -233,10 +233,10 @@ module _ {S : Type 0} (board : S → List (std.Option Held)) (free_slots : S →
       bare_tied e = record { zeros = λ k zeros. absurd (omega (arith, zeros)); pins = λ k pins. absurd (omega (arith, pins)); taken = λ busy. absurd (busy (refl, refl, refl)); alone = λ n walk whole. absurd (no_some n walk); dead = λ _. (refl, refl, (refl, refl, refl), refl, refl) }
 
       -- this seat holds nothing
-      longer : (h : FullHolder vs) → FullHolder (set vs id (bare (one_more d)) ++ bare (session_of d) ∷ [])
-      longer h = dite (ℕ_discrete h.0 id)
-          (λ same. absurd (free_not (ap (λ (y : View). y.shares.full) (some-injective (bare d) h.1 (sym at ∙ (ap (λ j. get_elem? vs j) (sym same) ∙ h.2))) ∙ h.3)))
-          (λ apart. (h.0, h.1, at_longer (set vs id (bare (one_more d))) (bare (session_of d) ∷ []) h.0 h.1 (set_else vs id h.0 (bare (one_more d)) apart ∙ h.2), h.3))
+      longer_half : HalfHolder r.half vs → HalfHolder r.half (set vs id (bare (one_more d)) ++ bare (session_of d) ∷ [])
+      longer_half y = dite (ℕ_discrete y.0.0 id)
+          (λ same. absurd (free_not (ap (λ (u : View). u.shares.full) (some-injective (bare d) y.0.1 (sym at ∙ (ap (λ j. get_elem? vs j) (sym same) ∙ y.0.2))) ∙ y.0.3)))
+          (λ apart. ((y.0.0, y.0.1, at_longer (set vs id (bare (one_more d))) (bare (session_of d) ∷ []) y.0.0 y.0.1 (set_else vs id y.0.0 (bare (one_more d)) apart ∙ y.0.2), y.0.3), y.1))
 
       longer_due : (h : FullHolder vs) × (h.1.known.pending ≡ r.pending) → (h : FullHolder (set vs id (bare (one_more d)) ++ bare (session_of d) ∷ [])) × (h.1.known.pending ≡ r.pending)
       longer_due y = dite (ℕ_discrete y.0.0 id)
@@ -396,7 +396,8 @@ module _ {S : Type 0} (board : S → List (std.Option Held)) (free_slots : S →
             (⊎_elim (λ l. absurd (true≢false (sym l))) (λ c. absurd (true≢false (sym c))));
         generations = each_set (λ _ (u : View). Each (IsOfSlot ws.count u) u.counts.generations) (set vs id a) other b (λ i u _ lies. each_set (λ _ (u : View). Each (IsOfSlot ws.count u) u.counts.generations) vs id a (λ i u _ there. r.generations i u there) tt i u lies) tt;
         seen = each_set (λ _ (u : View). IsSeen z ws.node r.function u) (set vs id a) other b (λ i u _ lies. each_set (λ _ (u : View). IsSeen z ws.node r.function u) vs id a (λ i u _ there. r.seen i u there) (record { words = λ _. tt; held = λ _. tt }) i u lies) (record { words = λ _. tt; held = λ _. tt });
-        half_by = ⊎_elim (λ none_half. inl none_half) (λ (h : FullHolder vs). inr (h.0, h.1, left h.0 h.1 h.2 (λ is. free_not (sym (ap (λ (y : View). y.shares.full) is) ∙ h.3)) (λ is. free_not (sym (ap (λ (y : View). y.shares.full) is) ∙ h.3)) at_other, h.3)) r.half_by;
+        half_by = ⊎_elim (λ none_half. inl none_half) (λ (y : HalfHolder r.half vs). let h = y.0 in
+            inr ((h.0, h.1, left h.0 h.1 h.2 (λ is. free_not (sym (ap (λ (y : View). y.shares.full) is) ∙ h.3)) (λ is. free_not (sym (ap (λ (y : View). y.shares.full) is) ∙ h.3)) at_other, h.3), y.1)) r.half_by;
         pending_by = ⊎_elim (λ none_due. inl none_due) (λ (y : (h : FullHolder vs) × (h.1.known.pending ≡ r.pending)). let h = y.0 in
             inr ((h.0, h.1, left h.0 h.1 h.2 (λ is. free_not (sym (ap (λ (y : View). y.shares.full) is) ∙ h.3)) (λ is. free_not (sym (ap (λ (y : View). y.shares.full) is) ∙ h.3)) at_other, h.3), y.1)) r.pending_by;
       }

@@ -37,7 +37,8 @@ use Rattle.words_rule.specs.Kept.{IsHeldBy, KeepsTally, Kept, Board}
 use Rattle.words_rule.specs.Hands.{Tables, Linked, IsIdle}
 use Rattle.words_rule.specs.Sifted.{IsPlaced, OwesLast, Sifts}
 use Rattle.words_rule.specs.Seen.{HasShare, KeepsSlots, StandsSo}
-use Rattle.words_rule.specs.Rule.{Parts, Rule, Tied, FullHolder, draws_in, footings_in, tallies_in}
+use Rattle.words_rule.specs.Halves.{half_in}
+use Rattle.words_rule.specs.Rule.{Parts, Rule, Tied, FullHolder, HalfHolder, draws_in, footings_in, tallies_in}
 use Rattle.words_rule.specs.Plays.{shared}
 use Rattle.words_rule.proofs.Seeing.{seen_other}
 use Rattle.words_rule.proofs.Lists.{each_set, set_at, map_at, each_map}
@@ -154,10 +155,11 @@ module _ {S : Type 0} (board : S → List (std.Option Held)) (free_slots : S →
                 (λ holding. (r.seen id v at).held (inl (inr (order.0 holding)))) has)
                 (λ walking. ⊎_elim (λ was. (r.seen id v at).held (inr was)) (λ (other : HasShare v ⊎ (v.known.seen ≡ [])). ⊎_elim (λ share. (r.seen id v at).held (inl share)) (λ none_seen. subst (Each (IsHeldBy z r.function)) (sym none_seen) tt) other) (walks walking)) all;
           });
-          half_by = ⊎_elim (λ none_half. inl none_half) (λ (h : FullHolder vs). dite (ℕ_discrete h.0 id)
-              (λ is. ⊎_elim (λ still. inr (id, w, set_at vs id v w at, still)) (λ (y : (r.half ≡ None) × (r.pending ≡ [])). inl y.0)
-              (full (ap (λ (f : View). f.shares.full) (some-injective v h.1 (sym at ∙ (ap (λ i. get_elem? vs i) (sym is) ∙ h.2))) ∙ h.3)))
-              (λ apart. inr (h.0, h.1, set_else vs id h.0 w apart ∙ h.2, h.3))) r.half_by;
+          half_by = ⊎_elim (λ none_half. inl none_half) (λ (y : HalfHolder r.half vs). let h = y.0 in dite (ℕ_discrete h.0 id)
+              (λ is. let it : v ≡ h.1 = some-injective v h.1 (sym at ∙ (ap (λ i. get_elem? vs i) (sym is) ∙ h.2)) in
+              ⊎_elim (λ still. inr ((id, w, set_at vs id v w at, still), ap (λ (f : View). half_in f.known) it ∙ y.1)) (λ (y : (r.half ≡ None) × (r.pending ≡ [])). inl y.0)
+              (full (ap (λ (f : View). f.shares.full) it ∙ h.3)))
+              (λ apart. inr ((h.0, h.1, set_else vs id h.0 w apart ∙ h.2, h.3), y.1))) r.half_by;
           pending_by = ⊎_elim (λ p. inl p) (λ (y : (h : FullHolder vs) × (h.1.known.pending ≡ r.pending)). let h = y.0 in dite (ℕ_discrete h.0 id)
               (λ is. let it : v ≡ h.1 = some-injective v h.1 (sym at ∙ (ap (λ i. get_elem? vs i) (sym is) ∙ h.2)) in
               ⊎_elim (λ still. inr ((id, w, set_at vs id v w at, still), ap (λ (f : View). f.known.pending) it ∙ y.1)) (λ (y : (r.half ≡ None) × (r.pending ≡ [])). inl y.1)

@@ -15,6 +15,7 @@ pub mod Sifted
 pub mod Moves
 pub mod Seen
 pub mod Generations
+pub mod Halves
 pub mod Rule
 pub mod Openings
 pub mod Passes
@@ -26,3 +27,7 @@ pub mod PhasePlays
 pub mod CountPlays
 pub mod Walkers
 pub mod Tokens
+pub mod Holds
+pub mod Beginnings
+pub mod Closings
+pub mod Endings

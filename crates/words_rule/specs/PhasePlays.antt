@@ -1,5 +1,5 @@
 -- What steps on the phase word tell.
-use Rattle.std.specs.Prelude.{◌≡◌, ◌≢◌, ◌<◌, ◌≤◌, ℕ, List, [], Some}
+use Rattle.std.specs.Prelude.{◌≡◌, ◌≢◌, ◌<◌, ◌≤◌, ℕ, List, [], None, Some}
 use Rattle.atomic_table.specs.Table.{Me, Step}
 use Rattle.edge_bits.specs.Permanent.{base_slot}
 use Rattle.function_laws.specs.Families.{base}
@@ -7,6 +7,7 @@ use Rattle.function_laws.specs.Kinds.{ZddFamily}
 use Rattle.function_laws.specs.SessionEntries.{Each}
 use Rattle.step_store.specs.Knowing.{Stands}
 use Rattle.words_rule.specs.declared.view.Hold.TheVariants.{Free, Claimed, Holding}
+use Rattle.words_rule.specs.declared.view.Known.{Known}
 use Rattle.words_rule.specs.declared.view.Row.{Row}
 use Rattle.words_rule.specs.declared.view.Share.TheVariants.{Nothing, Held, Owed}
 use Rattle.words_rule.specs.declared.view.Shares.{Shares}
@@ -20,6 +21,10 @@ use Rattle.words_rule.specs.Loads.{IsInside, sees_of}
 -- what it noted of nodes goes
 abbrev pub forgetting : View → View
 forgetting v = record v { known = record v.known { words = []; seen = [] } }
+
+-- it knows that no swap is half made, and no order word is due
+abbrev pub unswapped : Known → Known
+unswapped k = record k { half = None; pending = [] }
 
 -- A seat that took an operation share: it knows the slots that are told by their number, the projections, and what its rows' edges denote.
 pub record HasEntered (v u : View) (x : Shares) : Type 0 where
@@ -85,7 +90,11 @@ module _ {S : Type 0} where
   full_claimed st m n m' = IsWith m (with_full m.0.shares Claimed n) m'
 
   abbrev pub full_looked : Step S → Me S View → ℕ → Me S View → Type 0
-  full_looked st m n m' = (walks_of n ≡ 0 → IsWith m (with_full m.0.shares Holding n) m') × (walks_of n ≢ 0 → m' ≡ m)
+  full_looked st m n m' = (walks_of n ≡ 0 → m' ≡ (record m.0 { shares = with_full m.0.shares Holding n; known = unswapped m.0.known }, m.1)) × (walks_of n ≢ 0 → m' ≡ m)
 
   abbrev pub full_unclaimed : Step S → Me S View → ℕ → Me S View → Type 0
   full_unclaimed st m n m' = IsWith m (with_full m.0.shares Free n) m'
+
+  -- the hold is given up
+  abbrev pub full_left : Step S → Me S View → ℕ → Me S View → Type 0
+  full_left st m n m' = IsWith m (with_full m.0.shares Free n) m'

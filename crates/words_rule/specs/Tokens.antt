@@ -1,8 +1,16 @@
 -- What contracts say of shares that own their session's seat.
-use Rattle.std.specs.Prelude.{◌≡◌, ◌≢◌, ◌⊎◌, ◌<◌, ◌≤◌, ℕ, []}
+use Rattle.std.specs.Prelude.{◌≡◌, ◌≢◌, ◌⊎◌, ◌<◌, ◌≤◌, ℕ, [], Some}
 use Rattle.words_rule.specs.declared.view.Hold.TheVariants.{Free}
 use Rattle.words_rule.specs.declared.view.Share.TheVariants.{Held, Nothing}
+use Rattle.edge_bits.specs.Permanent.{base_slot}
+use Rattle.function_laws.specs.Families.{base}
+use Rattle.function_laws.specs.Kinds.{ZddFamily}
+use Rattle.function_laws.specs.SessionEntries.{Each}
+use Rattle.words_rule.specs.declared.view.Row.{Row}
 use Rattle.words_rule.specs.declared.view.View.{View}
+use Rattle.words_rule.specs.Shapes.{shape_in}
+use Rattle.words_rule.specs.Kept.{IsHeldBy}
+use Rattle.words_rule.specs.Loads.{IsInside, sees_of}
 use Rattle.words_rule.specs.declared.seat.Pass.{Pass}
 use Rattle.words_rule.specs.declared.seat.Guard.{Guard}
 use Rattle.words_rule.specs.declared.seat.OpShare.{OpShare}
@@ -71,6 +79,9 @@ module _ {S : Type 0} where
   -- the same after a wait, which took it and gave it back before
   abbrev pub Begins : Pass S → Pass S → Type 0
   Begins p q = Keeps p q × ((o : Own) → o.fulls < 18446744073709551616 → Stands (known_of (view q) o))
+
+  abbrev pub SetsBegun : Pass S → Pass S → Type 0
+  SetsBegun p q = Keeps p q × ((sees_of (view q)).content base_slot ≡ Some (ZddFamily base)) × IsInside (view q) × Each (λ (row : Row). IsHeldBy (shape_in (view p).draws) (sees_of (view q)).content row.held) (view p).draws.rows
 
 -- the phase word bars an operation share: it has the order bit or the full bit; and a walk share: it has the full bit
 abbrev pub BarsOperations : ℕ → Type 0

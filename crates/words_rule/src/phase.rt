@@ -1,19 +1,19 @@
 //! Shares and holds of the phase word, step by step.
-ghost use Rattle.std.specs.Prelude.{List, ℕ, [], ◌≡◌, ◌≢◌, ◌<◌, ◌≤◌, ◌⊎◌};
+ghost use Rattle.std.specs.Prelude.{List, ℕ, None, [], ◌≡◌, ◌≢◌, ◌<◌, ◌≤◌, ◌⊎◌};
 ghost use Rattle.words_rule.specs.declared.view.Hold.TheVariants.{Free, Claimed, Holding};
 ghost use Rattle.words_rule.specs.declared.view.Share.TheVariants.{Nothing, Held, Owed};
 ghost use Rattle.words_rule.specs.Views.{orders_of, told_orders};
 ghost use Rattle.words_rule.specs.Hands.{IsIdle};
 ghost use Rattle.words_rule.specs.Phase.{order_of, ops_of, walks_of, with_op, with_walk, with_order, with_full};
-ghost use Rattle.words_rule.specs.PhasePlays.{HasEntered, HasSetOut, forgetting};
+ghost use Rattle.words_rule.specs.PhasePlays.{HasEntered, HasSetOut, forgetting, unswapped};
 ghost use Rattle.words_rule.specs.Seen.{HasShare};
 ghost use Rattle.words_rule.specs.Passes.{me, view, in_hand, IsLiveOf, IsPassOf};
 
 use crate::content::Content;
 use crate::layout::PHASE;
 use crate::phase_plays::{
-    ClaimFull, ClaimOrder, EnterOperation, EnterWalk, LeaveOperation, LeaveOrder, LeaveWalk,
-    LookFull, LookOrder, UnclaimFull, UnclaimOrder,
+    ClaimFull, ClaimOrder, EnterOperation, EnterWalk, LeaveFull, LeaveOperation, LeaveOrder,
+    LeaveWalk, LookFull, LookOrder, UnclaimFull, UnclaimOrder,
 };
 use crate::seat::{Guard, Pass};
 
@@ -146,12 +146,13 @@ impl<S: Content> Guard<S> {
             .fetch_xor::<ClaimFull>(&mut pass.seat, PHASE, FULL)
     }
 
-    /// Looks at the word, which it answers: where it shows no walk share, the claim is the full hold.
+    /// Looks at the word, which it answers: where it shows no walk share, the claim is the full hold, and the seat knows that no swap is
+    /// half made.
     pub fn look_full(&self, pass: &mut Pass<S>) -> u64
         requires own { IsLiveOf self.now pass.old }
         requires claim { (view pass.old).shares.full ≡ Claimed }
         ensures own { IsPassOf self.now pass.new × (in_hand pass.new ≡ in_hand pass.old) }
-        ensures holds { walks_of result ≡ 0 → view pass.new ≡ record (view pass.old) { shares = with_full (view pass.old).shares Holding result } }
+        ensures holds { walks_of result ≡ 0 → view pass.new ≡ record (view pass.old) { shares = with_full (view pass.old).shares Holding result; known = unswapped (view pass.old).known } }
         ensures missed { walks_of result ≢ 0 → view pass.new ≡ view pass.old }
     {
         self.table.shared.load::<LookFull>(&mut pass.seat, PHASE)
@@ -167,5 +168,17 @@ impl<S: Content> Guard<S> {
         self.table
             .shared
             .fetch_xor::<UnclaimFull>(&mut pass.seat, PHASE, FULL)
+    }
+    /// Gives the full hold up, and keeps the order; answers the word before. No swap is half made, and no order word is due.
+    pub fn leave_full(&self, pass: &mut Pass<S>) -> u64
+        requires own { IsLiveOf self.now pass.old }
+        requires hold { (view pass.old).shares.full ≡ Holding }
+        requires done { ((view pass.old).known.half ≡ None) × ((view pass.old).known.pending ≡ []) }
+        ensures own { IsPassOf self.now pass.new × (in_hand pass.new ≡ in_hand pass.old) }
+        ensures left { view pass.new ≡ record (view pass.old) { shares = with_full (view pass.old).shares Free result } }
+    {
+        self.table
+            .shared
+            .fetch_xor::<LeaveFull>(&mut pass.seat, PHASE, FULL)
     }
 }

@@ -101,3 +101,12 @@ impl<S> Play<Option<S>, View> for UnclaimFull {
 
     ghost then = { full_unclaimed };
 }
+
+/// The full hold is given up.
+pub struct LeaveFull;
+
+impl<S> Play<Option<S>, View> for LeaveFull {
+    ghost use Rattle.words_rule.specs.PhasePlays.{full_left};
+
+    ghost then = { full_left };
+}

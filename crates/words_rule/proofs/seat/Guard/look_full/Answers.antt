@@ -2,7 +2,7 @@ use Rattle.std.proofs.Common.{rules, ◌≡◌, ap, ◌∙◌, arith}
 use mathlib.Core.Logic.{dite}
 use native.Mathlib.Decide.{ℕ_discrete}
 use Rattle.words_rule.specs.Phase.{walks_of}
-use Rattle.words_rule.proofs.PhaseSteps.{full_looks}
+use Rattle.words_rule.proofs.FullSteps.{full_looks}
 use Rattle.words_rule.proofs.Keeps.{keeps_number, keeps_sizes, keeps_words}
 use Rattle.words_rule.proofs.seat.Guard.look_full.Goals as goal
 
