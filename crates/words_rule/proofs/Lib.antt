@@ -66,4 +66,5 @@ pub mod Entering
 pub mod PhaseSteps
 pub mod FullSteps
 pub mod CountSteps
+pub mod CountLoads
 pub mod Waits

@@ -22,9 +22,11 @@ pub mod Passes
 pub mod Walks
 pub mod Known
 pub mod Loads
+pub mod Refusals
 pub mod Plays
 pub mod PhasePlays
 pub mod CountPlays
+pub mod CountLoads
 pub mod Walkers
 pub mod Tokens
 pub mod Holds

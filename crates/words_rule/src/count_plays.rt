@@ -42,3 +42,12 @@ impl<S> Play<Option<S>, View> for Unpin {
 
     ghost then = { unpinned };
 }
+
+/// A count is loaded, under the order hold.
+pub struct LoadCount;
+
+impl<S> Play<Option<S>, View> for LoadCount {
+    ghost use Rattle.words_rule.specs.CountLoads.{count_loaded};
+
+    ghost then = { count_loaded };
+}

@@ -2,12 +2,13 @@
 ghost use Rattle.std.specs.Prelude.{List, ◌≡◌, ◌<◌, ◌^◌, ◌∷◌, ℕ};
 ghost use Rattle.words_rule.specs.declared.view.Held.{Held};
 ghost use Rattle.words_rule.specs.declared.view.Hold.TheVariants.{Holding};
+ghost use Rattle.words_rule.specs.CountLoads.{HasCounted};
 ghost use Rattle.words_rule.specs.CountPlays.{MayRaise, others_of};
 ghost use Rattle.words_rule.specs.Tallies.{lifted, size, tally_of, times};
 ghost use Rattle.words_rule.specs.Passes.{view, in_hand, IsLiveOf, IsPassOf};
 
 use crate::content::Content;
-use crate::count_plays::{CountDown, CountUp, Pin, Unpin};
+use crate::count_plays::{CountDown, CountUp, LoadCount, Pin, Unpin};
 use crate::seat::{Guard, Pass};
 use crate::told::Raises;
 
@@ -74,5 +75,19 @@ impl<S: Content> Guard<S> {
         self.table
             .shared
             .fetch_sub::<Unpin>(&mut pass.seat, word, 1);
+    }
+
+    /// The count of a slot, under the order hold. Where it is 0 nothing that the seat has names the slot, and it stays so but for what
+    /// the seat itself does. Where it is not, and the seat has not pinned the slot, what the slot denotes is noted.
+    pub fn load_count(&self, pass: &mut Pass<S>, slot: u32) -> u32
+        requires own { IsLiveOf self.now pass.old }
+        requires within { slot < (view pass.old).draws.slots }
+        requires hold { (view pass.old).shares.order ≡ Holding }
+        ensures own { IsPassOf self.now pass.new × (in_hand pass.new ≡ in_hand pass.old) }
+        ensures counted { HasCounted slot result (view pass.old) (view pass.new) }
+    {
+        let word = pass.sizes.count(slot);
+        let found = self.table.shared.load::<LoadCount>(&mut pass.seat, word);
+        (found % COUNT) as u32
     }
 }
