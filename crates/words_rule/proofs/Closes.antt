@@ -1,5 +1,5 @@
 -- What the closing seat is told of the history, and of the store.
-use Rattle.std.proofs.Common.{◌≡◌, inl, inr, ⊎_elim, ℕ, true, false, List, [], refl, ap, sym, subst, ◌∙◌, arith, true≢false}
+use Rattle.std.proofs.Common.{◌≡◌, inl, inr, ⊎_elim, ℕ, true, false, List, [], length, refl, ap, sym, subst, ◌∙◌, arith, true≢false}
 use Rattle.std.specs.Prelude as std
 use Rattle.std.specs.Prelude.{Some, None, take, drop, slice_index}
 use Rattle.node_store.specs.Contents.{Content, IsSound, view_of}
@@ -143,6 +143,10 @@ module _ {S : Type 0} (board : S → List (std.Option Held)) (free_slots : S →
     subst (λ (x : List ℕ × List View). Rule board free_slots memo (record { words = x.0; homes = s.homes; views = x.1 })) (λ k. (sym (set-get_or s.words 0 0) k, sym (set_again s.views id me.0 at) k)) r,
     (refl, λ is. whole_of r.shape (words_of r.shape s.words) (λ (k : ℕ). get_elem? s.homes k) s.views r.parts id me.0 at is),
   )
+
+  -- it has three slots
+  pub three_slots : (id : ℕ) (v : View) (words : List ℕ) (slots : List (std.Option S)) → Final (Seen (Rule board free_slots memo) id v) words slots → length slots ≡ 3
+  three_slots id v words slots f = sym f.3 ∙ f.1.0.long
 
   -- the last state of a table, which the closing seat knows
   pub ends_of : (id : ℕ) (d : Draws) (v : View) (words : List ℕ) (slots : List (std.Option S)) → v.draws ≡ d → d.closing ≡ true → AreBack d.given d.gone → Final (Seen (Rule board free_slots memo) id v) words slots → Ends board free_slots memo words slots d

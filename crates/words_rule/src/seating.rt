@@ -1,9 +1,11 @@
 //! Sessions get seats of the closing one, and give them back.
 ghost use Rattle.std.specs.Prelude.{◌≡◌, ◌<◌, ◌≤◌, [], true};
+ghost use Rattle.words_rule.specs.Layout.{word_count};
+ghost use Rattle.words_rule.specs.Shapes.{shape_in};
 ghost use Rattle.words_rule.specs.Views.{one_more, session_of, sizes_for, with_gone};
 ghost use Rattle.words_rule.specs.Rule.{bare};
 ghost use Rattle.words_rule.specs.Passes.{in_hand, view, IsLiveOf};
-ghost use Rattle.std.specs.Slots.{IsFull, slots_items};
+ghost use Rattle.std.specs.Slots.{IsFull, slots_items, slots_len};
 ghost use Rattle.words_rule.specs.Endings.{AreBack, Ends, IsSettled, Whole};
 ghost use Rattle.words_rule.specs.Closings.{IsClosingOf, known};
 
@@ -64,6 +66,7 @@ impl<S: Content> Guard<S> {
         requires own { IsClosingOf self closing }
         requires back { AreBack (known closing).given (known closing).gone }
         ensures full { IsFull result.words × IsFull result.slots }
+        ensures counts { (slots_len result.words ≡ word_count (shape_in (known closing))) × (slots_len result.slots ≡ 3) }
         ensures ends { Ends S.board S.free_slots S.memo (slots_items result.words) (slots_items result.slots) (known closing) }
     {
         let Guard { table } = self;
