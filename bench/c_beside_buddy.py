@@ -13,10 +13,10 @@ import tempfile
 
 RUNS = 15
 # Sizes of the tables, the library's and BuDDy's: nodes, and remembered results. First as in beside_buddy.sh; then BuDDy's as its own example
-# of the program has them, and the library's near the least that serves; then the library's as it chooses how many it remembers.
+# of the program has them, and the library's near the least that serves.
 PROGRAMS = [
-    (["queens", "8"], [(["2000000", "65536"], ["2000000", "65536"]), (["65536", "8192"], ["16384", "10000"]), (["65536", "0"], ["16384", "10000"])]),
-    (["adder", "256"], [(["2000000", "65536"], ["2000000", "65536"]), (["400000", "1000"], ["500", "1000"]), (["400000", "0"], ["500", "1000"])]),
+    (["queens", "8"], [(["2000000", "65536"], ["2000000", "65536"]), (["65536", "8192"], ["16384", "10000"])]),
+    (["adder", "256"], [(["2000000", "65536"], ["2000000", "65536"]), (["400000", "1000"], ["500", "1000"])]),
 ]
 
 

@@ -136,7 +136,7 @@ class Header:
         if made:
             self.open = ctypes.CFUNCTYPE(c_void_p, *5 * [c_uint32])(self.at("dd_open_remembering"))
             self.close = ctypes.CFUNCTYPE(None, c_void_p)(self.at("dd_close"))
-            self.m = self.open(77, VARIABLES, ELEMENTS, SLOTS, 0)
+            self.m = self.open(77, VARIABLES, ELEMENTS, SLOTS, 1000)
         self.called, self.made = set(), []
 
     def at(self, name):

@@ -85,9 +85,10 @@ static inline dd_manager *dd_open_remembering(uint32_t number, uint32_t variable
     return m;
 }
 
-/* The same with as many answers as suit the slots. With many more slots than a program needs it runs slower. */
+/* The same with an answer for eight slots, but 8,192 at least (BuDDy's manual advises one for ten). With many more slots than a program needs
+ * it runs slower. */
 static inline dd_manager *dd_open(uint32_t number, uint32_t variables, uint32_t elements, uint32_t slots) {
-    return dd_open_remembering(number, variables, elements, slots, 0);
+    return dd_open_remembering(number, variables, elements, slots, slots / 8 < 8192 ? 8192 : slots / 8);
 }
 
 /* Frees all that the manager has. No handle of it is live any more. */

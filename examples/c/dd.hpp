@@ -83,11 +83,14 @@ class Manager {
     inline static std::atomic<uint32_t> opened{0};
     std::shared_ptr<dd_manager> m;
 
-public:
-    Manager(uint32_t variables, uint32_t elements, uint32_t slots, uint32_t remembered = 0)
-        : m(dd_open_remembering(opened++, variables, elements, slots, remembered), dd_close) {
+    explicit Manager(dd_manager *made) : m(made, dd_close) {
         if (!m) throw Refused(DD_CLOSED);
     }
+
+public:
+    Manager(uint32_t variables, uint32_t elements, uint32_t slots) : Manager(dd_open(opened++, variables, elements, slots)) {}
+    Manager(uint32_t variables, uint32_t elements, uint32_t slots, uint32_t remembered)
+        : Manager(dd_open_remembering(opened++, variables, elements, slots, remembered)) {}
     Function one() const { return Function(m, dd_one); }
     Function zero() const { return Function(m, dd_zero); }
     Function var(uint32_t v) const { return Function(m, dd_var, v); }

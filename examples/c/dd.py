@@ -41,7 +41,9 @@ class Refused(Exception):
 class Manager:
     opened = itertools.count()
 
-    def __init__(self, variables, elements, slots, remembered=0):
+    def __init__(self, variables, elements, slots, remembered=None):
+        if remembered is None:
+            remembered = max(slots // 8, 8192)
         memory = ctypes.create_string_buffer(library.dd_size() + 15)
         at = ctypes.addressof(memory) + 15 & ~15
         library.dd_init(at, next(self.opened) % 2**32, *(min(number, 2**32 - 1) for number in (variables, elements, slots, remembered)))
