@@ -28,7 +28,7 @@ use Rattle.edge_bits.specs.declared.edges.Kind.TheVariants.{Bdd, Add, Zdd}
 use Rattle.node_store.specs.Views.{IsVariable}
 use Rattle.words_rule.proofs.Layouts.{here_order}
 use Rattle.words_rule.proofs.Stepping.{shape_is}
-use Rattle.words_rule.proofs.OrderLoads.{level_word}
+use Rattle.words_rule.proofs.OrderLoads.{level_few, level_word}
 use Rattle.words_rule.proofs.Tabling.{stays, takes_turn, gives_turn, takes_free_list, stores_next}
 use Rattle.words_rule.proofs.HandClauses.{step_load_head, step_load_next}
 use Rattle.words_rule.proofs.StoreClauses.{step_take_slot}
@@ -210,7 +210,8 @@ module _ {S : Type 0} (board : S → List (std.Option Held)) (free_slots : S →
           refl,
           (λ k u un same.
               let l = level_word board free_slots memo z ws home s.views p id v at live share own_none k u un in
-              ap (λ (i : ℕ). get_or s.words i 0) (same ∙ ap (λ (y : Shape). order_at y (places y + place_of y u)) (sym shape))
-              ∙ sym (here_order z s.words 0 (places z + place_of z u) (let lt = l.0 in omega (arith, lt))) ∙ l.1),
+              let is = ap (λ (i : ℕ). get_or s.words i 0) (same ∙ ap (λ (y : Shape). order_at y (places y + place_of y u)) (sym shape))
+              ∙ sym (here_order z s.words 0 (places z + place_of z u) (let lt = l.0 in omega (arith, lt))) ∙ l.1 in
+              let lt = level_few board free_slots memo z ws home s.views p id v at live share own_none k u un in (is, omega (arith, is, lt))),
         ),
       )

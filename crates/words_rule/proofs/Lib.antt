@@ -68,3 +68,4 @@ pub mod FullSteps
 pub mod CountSteps
 pub mod CountLoads
 pub mod Waits
+pub mod Steppers

@@ -1,5 +1,5 @@
 -- The load of an order word under an operation share: what stands at a position, and so the level of what stands there.
-use Rattle.std.proofs.Common.{◌≡◌, ⊎_elim, ℕ, ◌+◌, ◌-◌, ◌<◌, cond, List, [], length, ap, sym, ◌∙◌, subst, arith}
+use Rattle.std.proofs.Common.{◌≡◌, ⊎_elim, ℕ, ◌+◌, ◌-◌, ◌<◌, cond, List, [], length, ap, sym, ◌∙◌, subst, arith, ◌≤◌}
 use Rattle.std.specs.Prelude as std
 use Rattle.std.specs.Prelude.{slice_index}
 use Rattle.std.proofs.lemmas.Bool.{lt-ltb, le-ltb}
@@ -10,8 +10,8 @@ use Rattle.edge_bits.specs.Permanent.{first_element}
 use Rattle.edge_bits.specs.Reading.{element_of}
 use Rattle.edge_bits.specs.declared.edges.Kind.{Kind}
 use Rattle.edge_bits.specs.declared.edges.Kind.TheVariants.{Bdd, Add, Zdd}
-use Rattle.node_store.specs.Contents.{Content, view_of}
-use Rattle.node_store.specs.Views.{IsVariable}
+use Rattle.node_store.specs.Contents.{Content, view_of, IsSound}
+use Rattle.node_store.specs.Views.{IsVariable, levels}
 use Rattle.node_store.proofs.Ordering.{order_at, level-own, orders_are}
 use Rattle.function_laws.proofs.LackingParts.{own}
 use Rattle.function_laws.specs.SiftedOrders.{place_of}
@@ -28,6 +28,7 @@ use Rattle.words_rule.proofs.Phases.{excludes}
 use Rattle.words_rule.proofs.Rewrites.{order_by_full}
 use Rattle.words_rule.proofs.Narrowing.{variable_up, level_same}
 use Rattle.words_rule.proofs.Meeting.{narrow}
+use Rattle.words_rule.proofs.Opened.{within_levels}
 
 module _ {S : Type 0} (board : S → List (std.Option Held)) (free_slots : S → List ℕ) (memo : S → List ℕ) where
   module _ (z : Shape) (ws : Words) (home : ℕ → Option (Option (std.Option S))) (vs : List View) (r : Parts board free_slots memo z ws home vs) (id : ℕ) (v : View) (at : get_elem? vs id ≡ some v)
@@ -44,6 +45,20 @@ module _ {S : Type 0} (board : S → List (std.Option Held)) (free_slots : S →
         let n = narrow board free_slots memo z ws home vs r id v at live share on o in
         let w = content_of z ws.node r.orders r.function r.half in
         sym (level_same n u) ∙ level-own k w u (variable_up n k u un) ∙ ap (λ (x : ℕ). place_of x (order_at k r.orders)) (sym is) ∙ (orders_are w r.sound k).once p lt
+
+    -- a level is below the number of levels, of which there are few
+    pub level_few : (k : Kind) (u : ℕ) → IsVariable k (known_of v o).view u → (known_of v o).view.level u < first_element
+    level_few k u un =
+        let w = content_of z ws.node r.orders r.function r.half in
+        let n = narrow board free_slots memo z ws home vs r id v at live share (r.ordered.shared id v at share) o in
+        let same = level_same n u in
+        let lt = within_levels w r.sound k u (variable_up n k u un) in
+        let most = levels_few w r.sound k in omega (arith, same, lt, most)
+      where
+        levels_few : (w : Content) → IsSound w → (k : Kind) → levels k (view_of w) ≤ first_element
+        levels_few w sound Bdd = sound.few_variables
+        levels_few w sound Add = sound.few_variables
+        levels_few w sound Zdd = sound.few_elements
 
     -- a variable's or an element's level word is its level
     pub level_word : (k : Kind) (u : ℕ) → IsVariable k (known_of v o).view u → (hands.place_of z u < places z) × (ws.order (places z + hands.place_of z u) ≡ (known_of v o).view.level u)

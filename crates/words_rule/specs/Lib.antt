@@ -33,3 +33,4 @@ pub mod Holds
 pub mod Beginnings
 pub mod Closings
 pub mod Endings
+pub mod Steppers

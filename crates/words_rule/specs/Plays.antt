@@ -23,6 +23,7 @@ use Rattle.words_rule.specs.Dues.{slot_of, word_of}
 use Rattle.words_rule.specs.Hands.{place_of, linking, pushing, taking, with_level, without_level}
 use Rattle.words_rule.specs.Known.{Own, known_of, own_none, with_made}
 use Rattle.words_rule.specs.Loads.{IsSeatOf, LearntMemo, LoadedNode, LoadedWord, StoredNode, seeing}
+use Rattle.edge_bits.specs.Permanent.{first_element}
 
 module _ {S : Type 0} where
   -- an operation share: it is held, or there was a bit
@@ -66,7 +67,7 @@ module _ {S : Type 0} where
   -- the level word of a variable or an element
   abbrev pub level_loaded : Step S → Me S View → ℕ → Me S View → Type 0
   level_loaded st m n m' = (m' ≡ m)
-      × ((k : Kind) (u : ℕ) → IsVariable k (known_of m.0 own_none).view u → st.word ≡ order_at (shape_in m.0.draws) (places (shape_in m.0.draws) + place_of (shape_in m.0.draws) u) → n ≡ level_of (orders_of m.0.known) u)
+      × ((k : Kind) (u : ℕ) → IsVariable k (known_of m.0 own_none).view u → st.word ≡ order_at (shape_in m.0.draws) (places (shape_in m.0.draws) + place_of (shape_in m.0.draws) u) → (n ≡ level_of (orders_of m.0.known) u) × (n < first_element))
 
   -- the first free slot was taken for a word of these bits
   pub record HasTaken (bits slot : ℕ) (m m' : Me S View) : Type 0 where

@@ -1,6 +1,6 @@
 //! The computed table: it is taken, and put back.
 ghost use Rattle.std.specs.Prelude.{◌≡◌, ◌<◌, ◌∷◌, true, false, None, IfSome, IfNone};
-ghost use Rattle.atomic_table.specs.Table.{rest};
+ghost use Rattle.atomic_table.specs.Table.{rest, turned};
 ghost use Rattle.words_rule.specs.declared.view.Share.TheVariants.{Held};
 ghost use Rattle.words_rule.specs.Known.{known_of};
 ghost use Rattle.words_rule.specs.Loads.{LearntMemo};
@@ -15,6 +15,16 @@ use crate::told::Beside;
 
 /// The slot in which the computed table lies.
 const MEMO_SLOT: usize = 2;
+
+impl<S> Pass<S> {
+    /// The slot that was taken last goes behind the others that are in hand.
+    pub fn turn(&mut self)
+        ensures same { (self.new.seat.table_id ≡ self.old.seat.table_id) × (view self.new ≡ view self.old) }
+        ensures turned { in_hand self.new ≡ turned (in_hand self.old) }
+    {
+        self.seat.turn();
+    }
+}
 
 impl<S: Content> Guard<S> {
     /// Takes the computed table, if it is at home. What each of its entries says holds in what the seat knows then.

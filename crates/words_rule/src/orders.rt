@@ -1,5 +1,6 @@
 //! Loads of order words.
-ghost use Rattle.std.specs.Prelude.{◌≡◌};
+ghost use Rattle.std.specs.Prelude.{◌≡◌, ◌<◌};
+ghost use Rattle.edge_bits.specs.Permanent.{first_element};
 ghost use Rattle.edge_bits.specs.declared.edges.Kind.{Kind};
 ghost use Rattle.node_store.specs.Contents.{level_of};
 ghost use Rattle.node_store.specs.Views.{IsVariable};
@@ -21,6 +22,7 @@ impl<S: Content> Guard<S> {
         ensures own { IsPassOf self.now pass.new }
         ensures same { me pass.new ≡ me pass.old }
         ensures level { result ≡ level_of (orders_of (view pass.old).known) var }
+        ensures few { result < first_element }
     {
         let word = pass.sizes.level(var);
         self.table.shared.load::<LoadLevel>(&mut pass.seat, word)

@@ -21,4 +21,7 @@ invariant_of-pass g c = let p = c.args.pass.now in let d : c.load.new.seat.me.0.
 }
 
 pub returns-clause-level : goal.returns-clause-level
-returns-clause-level g c = c.load.ensures.2.1 c.requires.var.0 c.args.var c.requires.var.1 (c.level-word.ensures ∙ ap (λ z. order_at z (places z + place_of z c.args.var)) c.args.pass.now.sizes_are)
+returns-clause-level g c = (c.load.ensures.2.1 c.requires.var.0 c.args.var c.requires.var.1 (c.level-word.ensures ∙ ap (λ z. order_at z (places z + place_of z c.args.var)) c.args.pass.now.sizes_are)).0
+
+pub returns-clause-few : goal.returns-clause-few
+returns-clause-few g c = (c.load.ensures.2.1 c.requires.var.0 c.args.var c.requires.var.1 (c.level-word.ensures ∙ ap (λ z. order_at z (places z + place_of z c.args.var)) c.args.pass.now.sizes_are)).1
