@@ -15,6 +15,7 @@ use Rattle.step_store.specs.Knowing.{Knowledge, IsChain, Stands, Walk, turns}
 use Rattle.words_rule.specs.declared.seat.Guard.{Guard}
 use Rattle.words_rule.specs.declared.seat.Pass.{Pass}
 use Rattle.words_rule.specs.declared.stepper.Stepper.{Stepper}
+use Rattle.words_rule.specs.declared.view.Besides.{Besides}
 use Rattle.words_rule.specs.declared.view.Hold.TheVariants.{Free}
 use Rattle.words_rule.specs.declared.view.Share.TheVariants.{Held, Nothing}
 use Rattle.words_rule.specs.declared.view.View.{View}
@@ -22,10 +23,24 @@ use Rattle.words_rule.specs.Known.{known_of, own_of}
 use Rattle.words_rule.specs.Loads.{TakenReads}
 use Rattle.words_rule.specs.Passes.{view, in_hand, IsLiveOf}
 use Rattle.words_rule.specs.Remembered.{AreAnswers}
+use Rattle.words_rule.specs.Views.{blank}
 
 -- what it knows, with room for so many levels in the scratch beside it
 abbrev pub knows : View → ℕ → Knowledge
 knows v room = known_of v (own_of v room)
+
+abbrev pub no_besides : Besides
+no_besides = record {
+  words = 0;
+  slots = 0;
+  views_name = 0;
+  atom = 0;
+  block = 0;
+  offset = 0;
+  slot_names = [];
+  draws = blank;
+  counts = record { raised = []; owed = []; pins = []; zeros = []; above = []; generations = [] };
+}
 
 -- what it has in hand is of the table
 pub record LiesWithin (k : Knowledge) : Type 0 where

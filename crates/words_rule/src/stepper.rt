@@ -15,7 +15,7 @@ use edge_bits::Edge;
 use node_store::{Key, Stack};
 use std::alloc::Global;
 use std::marker::Brand;
-use step_store::{Job, Steps};
+use step_store::{Home, Job, Steps};
 
 /// A seat with an operation share at its table: the free list and the computed table, where it has them in hand, and the scratch beside it.
 #[derive(Drop)]
@@ -26,6 +26,15 @@ pub struct Stepper<'a, S: Shelf> {
     pub(crate) free: Option<S>,
     pub(crate) memo: Option<S>,
     pub(crate) scratch: Option<Stack>,
+}
+
+/// No table, and nothing known.
+impl Home<Besides> for Brand {
+    ghost use Rattle.words_rule.specs.Steppers.{no_besides};
+
+    ghost number = { 0 };
+
+    ghost rest = { no_besides };
 }
 
 /// A link that was peeked at, which may be any.
