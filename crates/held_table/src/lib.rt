@@ -1,0 +1,7 @@
+//! A table of words with one user, who holds it: for tests, and to be timed.
+#![tactic(auto)]
+
+mod holds;
+pub mod table;
+
+pub use table::HeldTable;
