@@ -13,7 +13,7 @@ import sys
 MOST, MOST_IN_LIBRARY = 10, 5
 LIBRARY = {"dd", "dd_manager", "store_rows", "manager_tests"}
 COMMANDS = {"Or": "or", "Xor": "xor", "Min": "min", "Max": "max", "Threshold": "threshold", "Plus": "plus", "Minus": "minus", "Times": "times", "Union": "union", "Meet": "meet", "Diff": "diff"}
-TESTS = {"hit_tests", "store_tests", "seat_tests", "session_tests", "refused_calls", "truth_lists", "row_tests", "run_tests", "reader_rows"}
+TESTS = {"hit_tests", "store_tests", "seat_tests", "word_tests", "session_tests", "refused_calls", "truth_lists", "row_tests", "run_tests", "reader_rows"}
 OPERATORS = {"node_store", "ite_core", "add_ops", "zdd_ops", "quantify_ops"}
 OTHERS = re.compile(r"proofs/Rows|net_jobs/.*([Hh]osting|HostLaws)")
 IMPORT = re.compile(r"(pub )?(ghost )?use ")
