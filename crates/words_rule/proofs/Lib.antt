@@ -64,6 +64,7 @@ pub mod Keeps
 pub mod Learning
 pub mod Entering
 pub mod PhaseSteps
+pub mod Aparts
 pub mod FullSteps
 pub mod CountSteps
 pub mod CountLoads

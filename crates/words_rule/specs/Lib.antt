@@ -29,6 +29,7 @@ pub mod CountPlays
 pub mod CountLoads
 pub mod Walkers
 pub mod Tokens
+pub mod Aparts
 pub mod Holds
 pub mod Beginnings
 pub mod Closings
