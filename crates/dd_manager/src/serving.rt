@@ -228,13 +228,7 @@ pub fn serve(manager: &mut Manager, request: Request) -> Answer
 }
 
 /// A store with no rows, where the numbers are in range.
-fn opened(
-    alloc: Global,
-    vars: u32,
-    elements: u32,
-    limit: u32,
-    remembered: u32,
-) -> Option<RowStore>
+fn opened(alloc: Global, vars: u32, elements: u32, limit: u32, remembered: u32) -> Option<RowStore>
     ensures opening { IfSome result (λ rows. CanOpen vars elements limit × IsOpening vars elements limit rows.store × (rows.rows.live ≡ [])) }
     ensures remembers { 0 < remembered → IfSome result (λ rows. places rows.store.memo ≡ remembered) }
 {
@@ -244,7 +238,11 @@ fn opened(
     if limit < 5 + vars {
         return None;
     }
-    let entries = if remembered == 0 { None } else { Some(remembered) };
+    let entries = if remembered == 0 {
+        None
+    } else {
+        Some(remembered)
+    };
     match RowStore::new(alloc, vars, elements, limit, entries) {
         Ok(rows) => Some(rows),
         Err(_) => None,
