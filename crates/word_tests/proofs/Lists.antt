@@ -1,11 +1,15 @@
--- An empty board, and the free slots in a row.
-use Rattle.std.proofs.Common.{◌≡◌, ℕ, zero, suc, ◌+◌, ◌-◌, ◌<◌, ◌≤◌, None, replicate, refl, sym, ap, ◌∙◌, arith}
+-- An empty board, the free slots in a row, and two sessions that have come back.
+use Rattle.std.proofs.Common.{◌≡◌, ℕ, zero, suc, ◌+◌, ◌-◌, ◌<◌, ◌≤◌, List, [], ◌∷◌, ◌++◌, None, replicate, inl, inr, Bool, true, false, length, set, get_or, get_or-set_same, get_or-set_other, refl, sym, ap, ◌∙◌, subst, arith}
+use Rattle.std.proofs.lemmas.Bool.{cases_eq}
 use Rattle.std.specs.List.{range_with_len}
 use mathlib.Core.Option.{some, some-injective, some-ne-none}
 use lib.ListN.{get_elem?}
+use Rattle.words_rule.specs.declared.view.Gone.{Gone}
+use Rattle.words_rule.specs.declared.view.Draws.{Draws}
+use Rattle.words_rule.specs.Endings.{AreBack}
 use Rattle.words_rule.specs.Layout.{Shape}
 use Rattle.words_rule.specs.Openings.{AreFree}
-use Rattle.words_rule.specs.Views.{cell_in}
+use Rattle.words_rule.specs.Views.{cell_in, gone_of, with_gone}
 
 pub none_in : (n i : ℕ) → cell_in (replicate n None) i ≡ None
 none_in zero i = refl
@@ -29,3 +33,22 @@ free_range z room = record {
   all = λ s le lt. let n : ℕ = z.slots - (5 + z.variables) in let j : ℕ = s - (5 + z.variables) in
       (j, in_range (5 + z.variables) n j (omega (arith, le, lt)) ∙ ap some (let e : 5 + z.variables + j ≡ s = omega (arith, le) in e));
 }
+
+pub both_back : (d e f : Draws) → d.given ≡ 2 → d.gone ≡ [] → e.session ≡ 0 → f.session ≡ 1 → (g : Draws) → with_gone (with_gone d e) f ≡ g → AreBack g.given g.gone
+both_back d e f given gone first second g same = subst (λ (x : Draws). AreBack x.given x.gone) same back
+  where
+    back : AreBack d.given (with_gone (with_gone d e) f).gone
+    back zero lt = (0, gone_of e, ap (λ (l : List Gone). get_elem? ((l ++ gone_of e ∷ []) ++ gone_of f ∷ []) 0) gone, first)
+    back (suc zero) lt = (1, gone_of f, ap (λ (l : List Gone). get_elem? ((l ++ gone_of e ∷ []) ++ gone_of f ∷ []) 1) gone, second)
+    back (suc (suc p)) lt = absurd (omega (arith, lt, given))
+
+-- one place more is empty
+pub emptied_more : (fs gs : List Bool) (i n m : ℕ) → gs ≡ set fs i false → m ≡ n → i < length fs → ((k : ℕ) → i ≤ k → k < n → get_or fs k false ≡ true) → ((k : ℕ) → k < i → get_or fs k false ≡ false)
+    → ((k : ℕ) → i + 1 ≤ k → k < m → get_or gs k false ≡ true) × ((k : ℕ) → k < i + 1 → get_or gs k false ≡ false)
+emptied_more fs gs i n m same many within full empty = (
+  λ k le lt. ap (λ l. get_or l k false) same ∙ get_or-set_other fs i k false false (λ e. omega (arith, e, le)) ∙ full k (omega (arith, le)) (omega (arith, lt, many)),
+  λ k lt. ap (λ l. get_or l k false) same ∙ elim (cases_eq k i) [
+    | inl e ↦ ap (λ j. get_or (set fs i false) j false) e ∙ get_or-set_same fs i false false within
+    | inr ne ↦ get_or-set_other fs i k false false ne ∙ empty k (omega (arith, lt, ne))
+  ],
+)

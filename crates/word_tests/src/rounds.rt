@@ -4,6 +4,8 @@ ghost use Rattle.std.specs.Prelude.{◌≡◌, ◌+◌, ◌<◌, ◌^◌, ◌≤
 ghost use Rattle.function_laws.specs.declared.history.Function.{Function};
 ghost use Rattle.words_rule.specs.declared.view.Hold.TheVariants.{Holding};
 ghost use Rattle.words_rule.specs.Passes.{in_hand, view, IsLiveOf, IsPassOf};
+ghost use Rattle.words_rule.specs.Closings.{IsClosingOf, known};
+ghost use Rattle.words_rule.specs.Endings.{AreBack};
 ghost use Rattle.word_tests.specs.Tidy.{IsTidy};
 
 use crate::lots::{Lot, opened};
@@ -14,6 +16,7 @@ use std::process::Abort;
 use std::sync::Wait;
 use std::test::Fail;
 use std::thread::{Threads, join};
+use words_rule::closing::Closing;
 use words_rule::seat::{Guard, Pass};
 use words_rule::view::Opening;
 
@@ -85,12 +88,29 @@ fn rounds<R: Wait>(rt: &R, guard: &Guard<Lot>, pass: Pass<Lot>, times: u32) -> (
     (mine, above, counted)
 }
 
-/// How many calls there were, how often a place was above the one before, and how often a slot was counted.
+/// How many calls there were, how often a place was above the one before, how often a slot was counted, and the word of shares and holds at the end.
 #[derive(Drop)]
 struct Told {
     calls: u64,
     above: (u32, u32),
     counted: (u64, u64),
+    phase: u64,
+}
+
+/// Closes the table, and answers its word of shares and holds.
+fn finish(guard: Guard<Lot>, closing: Closing<Lot>) -> u64
+    requires own { IsClosingOf guard closing }
+    requires back { AreBack (known closing).given (known closing).gone }
+{
+    let mut closed = guard.close(closing);
+    let phase = closed.word(1);
+    let mut i = 0;
+    while i < closed.slot_count() {
+        drop(closed.take(i));
+        i += 1;
+    }
+    closed.free();
+    phase
 }
 
 /// Two sessions, each in a thread with so many rounds.
@@ -119,18 +139,21 @@ fn two<R: Threads + Wait + Sync>(rt: &R, alloc: Global, times: u32) -> Result<To
     guard.join(&mut closing, first);
     guard.join(&mut closing, second);
     let calls = guard.calls(&mut closing);
+    let phase = finish(guard, closing);
     Ok(Told {
         calls,
         above: (low, high),
         counted: (few, many),
+        phase,
     })
 }
 
-/// All calls are told, the places of each session rise, and nothing was counted.
+/// All calls are told, the places of each session rise, nothing was counted, and no share or hold is left.
 fn is_whole(rt: &impl Abort, told: &Told) {
     assert!(rt; told.calls == 4_000);
     assert!(rt; told.above == (2_000, 2_000));
     assert!(rt; told.counted == (0, 0));
+    assert!(rt; told.phase == 0);
 }
 
 /// No place is drawn twice, and the order goes back and forth.
