@@ -1,6 +1,9 @@
 -- An empty board, the free slots in a row, and two sessions that have come back.
-use Rattle.std.proofs.Common.{◌≡◌, ℕ, zero, suc, ◌+◌, ◌-◌, ◌<◌, ◌≤◌, List, [], ◌∷◌, ◌++◌, None, replicate, inl, inr, Bool, true, false, length, set, get_or, get_or-set_same, get_or-set_other, refl, sym, ap, ◌∙◌, subst, arith}
-use Rattle.std.proofs.lemmas.Bool.{cases_eq}
+use Rattle.std.proofs.Common.{◌≡◌, ℕ, zero, suc, ◌+◌, ◌-◌, ◌<◌, ◌≤◌, List, [], ◌∷◌, ◌++◌, None, replicate, inl, inr, Bool, true, false, length, set, get_or, get_or-set_same, get_or-set_other, refl, sym, ap, ◌∙◌, subst, arith, true≢false}
+use Rattle.std.specs.Prelude.{nat_lt}
+use Rattle.std.proofs.lemmas.Bool.{cases_eq, cases_lt, le-ltb}
+use Rattle.atomic_table.specs.Seated.{TableId}
+use Rattle.words_rule.specs.declared.view.Besides.{Besides}
 use Rattle.std.specs.List.{range_with_len}
 use mathlib.Core.Option.{some, some-injective, some-ne-none}
 use lib.ListN.{get_elem?}
@@ -52,3 +55,26 @@ emptied_more fs gs i n m same many within full empty = (
     | inr ne ↦ get_or-set_other fs i k false false ne ∙ empty k (omega (arith, lt, ne))
   ],
 )
+
+-- the first free slot, where there is one
+pub first_free : (first end : ℕ) → first < end → range_with_len first (end - first) ≡ first ∷ range_with_len (first + 1) (end - (first + 1))
+first_free first end lt = let n : ℕ = end - (first + 1) in ap (range_with_len first) (let e : end - first ≡ suc n = omega (arith, lt) in e)
+
+pub none_free : (first end : ℕ) → end ≤ first → range_with_len first (end - first) ≡ []
+none_free first end le = ap (range_with_len first) (let e : end - first ≡ 0 = omega (arith, le) in e)
+
+pub some_free : (first end slot : ℕ) (list : List ℕ) → range_with_len first (end - first) ≡ slot ∷ list → first < end
+some_free first end slot list is = elim (cases_lt first end) [
+  | inl lt ↦ lt
+  | inr le ↦ (let e : [] ≡ slot ∷ list = sym (none_free first end le) ∙ is in cc)
+]
+
+-- which table it is, by what stays
+abbrev pub table_in : Besides → TableId
+table_in b = record { words = b.words; slots = b.slots; views_name = b.views_name; atom = b.atom; block = b.block; offset = b.offset; slot_names = b.slot_names }
+
+pub told_free : (first end : ℕ) → nat_lt first end ≡ true → (slot : ℕ) × (list : List ℕ) × (range_with_len first (end - first) ≡ slot ∷ list)
+told_free first end is = elim (cases_lt first end) [
+  | inl lt ↦ (first, range_with_len (first + 1) (end - (first + 1)), first_free first end lt)
+  | inr le ↦ absurd (true≢false (sym is ∙ le-ltb first end le))
+]

@@ -1,10 +1,11 @@
 //! Seats at one table of words in threads of their own, and the widest table.
 #![tactic(auto)]
 
-#[cfg(test)]
-mod lots;
+pub mod lots;
 #[cfg(test)]
 mod rounds;
+#[cfg(test)]
+mod seated;
 #[cfg(test)]
 mod tokens;
 #[cfg(test)]

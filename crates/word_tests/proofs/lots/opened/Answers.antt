@@ -1,3 +1,4 @@
+use Rattle.std.proofs.Common.{◌≡◌}
 use Rattle.words_rule.specs.Openings.{shape_of}
 use Rattle.word_tests.proofs.Lists.{free_range, none_in}
 use Rattle.word_tests.proofs.lots.opened.Goals as goal
